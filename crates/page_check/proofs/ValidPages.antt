@@ -91,3 +91,57 @@ lower_of_valid page valid = lower_by (is_all_zero page) (is_sane (header_of page
 pub line_pointer_fits : (page : List ℕ) (index : ℕ) → IsValid page → index < count_of page → 24 + 4 * index + 4 ≤ 8192
 unfolding count_of
 line_pointer_fits page index valid below = omega (arith, lower_of_valid page valid)
+
+-- PostgreSQL calls a page new where its upper is 0 (`PageIsNew`); a valid one is then all zeros
+new_by : (zeros sane : Bool) (page : List ℕ) → is_all_zero page ≡ zeros → is_sane (header_of page) ≡ sane
+    → IsValid page → (header_of page).upper ≡ 0 → verdict_of page ≡ Zero
+new_by true sane page none is valid new = verdict_of-zero page none
+new_by false true page some is valid new = absurd (sane_upper (header_of page) is new)
+new_by false false page some is valid new = absurd (valid (verdict_of-bad page some is))
+
+pub verdict_of-new : (page : List ℕ) → IsValid page → (header_of page).upper ≡ 0 → verdict_of page ≡ Zero
+verdict_of-new page valid new = new_by (is_all_zero page) (is_sane (header_of page)) page refl refl valid new
+
+-- and sane where it is not
+used_by : (zeros sane : Bool) (page : List ℕ) → is_all_zero page ≡ zeros → is_sane (header_of page) ≡ sane
+    → IsValid page → (header_of page).upper ≢ 0 → verdict_of page ≡ Sane
+used_by true sane page none is valid used = absurd (used (zero_upper page none))
+used_by false true page some is valid used = verdict_of-sane page is
+used_by false false page some is valid used = absurd (valid (verdict_of-bad page some is))
+
+pub verdict_of-used : (page : List ℕ) → IsValid page → (header_of page).upper ≢ 0 → verdict_of page ≡ Sane
+verdict_of-used page valid used = used_by (is_all_zero page) (is_sane (header_of page)) page refl refl valid used
+
+-- what a verdict says of the page
+zero_by : (zeros sane : Bool) (page : List ℕ) → is_all_zero page ≡ zeros → is_sane (header_of page) ≡ sane
+    → verdict_of page ≡ Zero → is_all_zero page ≡ true
+zero_by true sane page none is so = none
+zero_by false true page some is so = (let other = verdict_of-sane page is in cc)
+zero_by false false page some is so = (let other = verdict_of-bad page some is in cc)
+
+pub is_all_zero-verdict : (page : List ℕ) → verdict_of page ≡ Zero → is_all_zero page ≡ true
+is_all_zero-verdict page so = zero_by (is_all_zero page) (is_sane (header_of page)) page refl refl so
+
+sane_by : (zeros sane : Bool) (page : List ℕ) → is_all_zero page ≡ zeros → is_sane (header_of page) ≡ sane
+    → verdict_of page ≡ Sane → is_sane (header_of page) ≡ true
+sane_by true sane page none is so = (let other = verdict_of-zero page none in cc)
+sane_by false true page some is so = is
+sane_by false false page some is so = (let other = verdict_of-bad page some is in cc)
+
+pub is_sane-verdict : (page : List ℕ) → verdict_of page ≡ Sane → is_sane (header_of page) ≡ true
+is_sane-verdict page sane = sane_by (is_all_zero page) (is_sane (header_of page)) page refl refl sane
+
+-- all fields of a page of zeros are 0, and it has no line pointers
+pub header_of-zero : (page : List ℕ) → is_all_zero page ≡ true
+    → ((header_of page).lower ≡ 0) × ((header_of page).upper ≡ 0) × ((header_of page).special ≡ 0)
+unfolding header_of
+header_of-zero page zeros = (zero_u16 page 12 zeros, zero_u16 page 14 zeros, zero_u16 page 16 zeros)
+
+pub count_of-zero : (page : List ℕ) → is_all_zero page ≡ true → count_of page ≡ 0
+unfolding count_of
+count_of-zero page zeros = omega (arith, (header_of-zero page zeros).0)
+
+-- the bounds of a sane header end with the page
+pub sane_bounds : (header : PageHeader) → is_sane header ≡ true
+    → (header.lower ≤ 8192) × (header.upper ≤ 8192) × (header.special ≤ 8192)
+sane_bounds header sane = (sane_lower header sane, grind (arith, nat_tests), grind (arith, nat_tests))
