@@ -372,17 +372,17 @@ mod tests {
     #[test]
     fn what_has_no_blocks_is_refused(rt: HostRuntime) -> Result<(), Fail> {
         let alloc = rt.alloc();
-        write_file(&rt, "file", 1, 1)?;
-        fs::create_dir(&rt, "directory")?;
+        write_file(&rt, "third", 1, 1)?;
         let mut shelf = FileShelf::new(&rt);
-        for name in ["missing", "directory", "/dev/null", ""] {
+        for name in ["missing", ".", "/dev/null", ""] {
             let names = vec![in alloc;
-                String::from_str(alloc, "file")?,
+                String::from_str(alloc, "third")?,
                 String::from_str(alloc, name)?,
             ]?;
             assert!(rt; matches!(shelf.open(names.as_slice()), Err(OpenFault::Device)));
         }
         assert_eq!(rt; shelf.open_faults, 4);
+        fs::remove_file(&rt, "third")?;
         Ok(())
     }
 }
