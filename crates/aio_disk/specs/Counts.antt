@@ -1,9 +1,9 @@
 -- Counts of faults, of reads and of the like. The code keeps each in 64 bits, and it stays at its last value once it is there.
-use Rattle.std.specs.Prelude.{◌≡◌, ℕ, ◌+◌, ◌-◌, ◌^◌, ◌≤◌, ◌<◌, min, Result, OnErr}
+use Rattle.std.specs.Prelude.{◌≡◌, ℕ, ◌+◌, ◌-◌, ◌^◌, ◌≤◌, ◌<◌, min, max, Result, OnErr}
 
--- the count with so many more
+-- the count with so many more: it never falls, and stays where it is once it is at its last value
 abbrev pub raised_by : ℕ → ℕ → ℕ
-raised_by more before = min (before + more) (2 ^ 64 - 1)
+raised_by more before = max before (min (before + more) (2 ^ 64 - 1))
 
 -- the count has risen, or stands at its last value
 abbrev pub Rose : ℕ → ℕ → Type 0
