@@ -8,7 +8,7 @@ use std::marker::Model;
 /// The blocks first, first + 1 and so on.
 #[derive(Drop)]
 pub struct Range {
-    // One more than the last block that was given; beyond every block after block 2^32 - 1.
+    // The block to give next, where one is left; 2^32 after the greatest block.
     next: u64,
     count: u32,
 }

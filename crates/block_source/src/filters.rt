@@ -17,7 +17,7 @@ impl Accepts for Brand {
     ghost accepts = { λ _. true };
 }
 
-/// The blocks of another source that a test accepts, with their data.
+/// The blocks of another source that a test accepts, with their data. `K` says which these are.
 #[derive(Drop)]
 pub struct Filtered<S, F, K> {
     pub inner: S,
@@ -26,7 +26,8 @@ pub struct Filtered<S, F, K> {
 }
 
 impl<S, F: Fn(u32) -> bool, K: Accepts> Filtered<S, F, K> {
-    /// The blocks of `inner` that `keep` accepts.
+    /// The blocks of `inner` that `keep` accepts. `keep` may be called with each block, and its
+    /// contract states one answer for it, the one of `K`.
     pub fn new(inner: S, keep: F) -> Filtered<S, F, K>
         requires { Decides F.Fn keep K.accepts }
         ensures inner { result.inner ≡ inner }

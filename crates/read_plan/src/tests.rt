@@ -32,7 +32,7 @@ fn runs_of(alloc: Global, mut plan: Plan, blocks: &[u32]) -> Result<Vec<Run>, Al
 }
 
 #[test]
-fn a_run_of_combine_blocks_is_flushed(rt: HostRuntime) -> Result<(), Fail> {
+fn a_run_of_combine_blocks_is_flushed(rt: HostRuntime) {
     let mut plan = Plan::new(4, 16, 64, false);
     let flush = Offer::Flush(Run { first: 5, count: 4 });
     let table = [
@@ -49,7 +49,6 @@ fn a_run_of_combine_blocks_is_flushed(rt: HostRuntime) -> Result<(), Fail> {
     assert_eq!(rt; plan.pending(), last);
     assert_eq!(rt; plan.take_pending(), last);
     assert_eq!(rt; plan.pending(), None);
-    Ok(())
 }
 
 #[test]
