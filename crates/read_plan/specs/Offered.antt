@@ -8,8 +8,8 @@ use Rattle.read_plan.specs.Plans.{Planned}
 use Rattle.read_plan.specs.Runs.{AreRuns, Continues, one_block}
 
 -- the pending run before and after a block was offered, by the answer: it is flushed only where it
--- has `combine` blocks or the block is not its neighbour (after read_stream_start_pending_read and
--- its caller in read_stream.c)
+-- has `combine` blocks or the block is not its neighbour (after read_stream_look_ahead of
+-- read_stream.c)
 abbrev pub Offers : ℕ → Option Run → ℕ → Offer → Option Run → Type 0
 Offers combine None block Start after = after ≡ Some (one_block block)
 Offers combine None block Extended after = ⊥
