@@ -71,7 +71,6 @@ impl MemDisk {
         ensures length { IfOk result (λ n.
             n ≡ blocks_of (told_in self.old.steady.relations) relation) }
         ensures counted { self.new ≡ with_length_call self.old result }
-        ensures later { self.old.length_faults ≤ self.new.length_faults }
     {
         self.length_count = self.length_count.saturating_add(1);
         if self
@@ -105,7 +104,6 @@ impl MemDisk {
             → IfOk result (λ n. 0 < n) }
         ensures read { self.new
             ≡ with_scripted_read self.old relation first (length pages.old) result }
-        ensures later { self.old.faults ≤ self.new.faults }
     {
         let read = self.disk.next_read();
         if self.shared_script.fails_read(self.disk.number(), read) {

@@ -129,7 +129,6 @@ impl MemShelf {
             ⊎ OneMissing self.old.steady.files (map string_bytes names.now) }
         ensures counted { IsErrOf result Device → self.new ≡ with_failed_open self.old }
         ensures memory { IsErrOf result Memory → self.new ≡ self.old }
-        ensures later { self.old.steady.open_faults ≤ self.new.steady.open_faults }
     {
         let open = self.open_count.saturating_add(1);
         if self.shared_script.fails_open(open) {
@@ -155,9 +154,7 @@ impl MemShelf {
 
     /// Takes a disk back, as [`Shelf::take_back`] does, and adds its reads to the log.
     pub fn take_back(&mut self, disk: MemDisk)
-        ensures back { self.new ≡ with_mem_disk_back self.old disk }
-        ensures length_faults { self.old.length_faults ≤ self.new.length_faults }
-        ensures faults { self.old.faults ≤ self.new.faults }
+        ensures { self.new ≡ with_mem_disk_back self.old disk }
     {
         let (disk, length_faults, faults) = disk.into_parts();
         if length_faults > 0 {

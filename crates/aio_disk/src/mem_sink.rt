@@ -67,7 +67,6 @@ impl MemSink {
         ensures device { IsErrOf result Device → IfSome (next_cut self.old) (λ n.
             self.new ≡ with_failed_write self.old (take n bytes.now)) }
         ensures memory { IsErrOf result Memory → self.new ≡ self.old }
-        ensures later { self.old.faults ≤ self.new.faults }
     {
         let number = self.write_count.saturating_add(1);
         match find_cut(self.fail_list.as_slice(), number) {

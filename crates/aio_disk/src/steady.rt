@@ -212,7 +212,6 @@ impl SteadyShelf {
             → OneMissing self.old.files (map string_bytes names.now) }
         ensures counted { IsErrOf result Device → self.new ≡ with_open_fault self.old }
         ensures memory { IsErrOf result Memory → self.new ≡ self.old }
-        ensures later { self.old.open_faults ≤ self.new.open_faults }
     {
         let Ok(found) = find_files(self.alloc, self.named_files.as_slice(), names) else {
             return Err(OpenFault::Memory);
@@ -236,8 +235,7 @@ impl SteadyShelf {
 
     /// Counts an open that failed.
     pub(crate) fn count_open_fault(&mut self)
-        ensures counted { self.new ≡ with_open_fault self.old }
-        ensures later { self.old.open_faults ≤ self.new.open_faults }
+        ensures { self.new ≡ with_open_fault self.old }
     {
         self.open_fault_count = self.open_fault_count.saturating_add(1);
     }
