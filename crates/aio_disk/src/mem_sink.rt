@@ -1,5 +1,5 @@
 //! A sink in memory.
-ghost use Rattle.std.specs.Prelude.{◌≡◌, ◌≤◌, take, Some, IfSome, OnOk, IsErrOf, IsNone, IsSome};
+ghost use Rattle.std.specs.Prelude.{◌≡◌, take, Some, IfSome, OnOk, IsErrOf, IsNone, IsSome};
 ghost use Rattle.aio_disk.specs.declared.fault.WriteFault.TheVariants.{Device, Memory};
 ghost use Rattle.aio_disk.specs.MemSink.{fresh_sink, cut_of, next_cut, with_write};
 ghost use Rattle.aio_disk.specs.MemSink.{with_failed_write};
