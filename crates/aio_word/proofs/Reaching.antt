@@ -1,5 +1,5 @@
 -- The first machine's lists stand for its words, and so do those of each machine that comes from it.
-use Rattle.std.proofs.Common.{◌≡◌, ◌≢◌, ℕ, zero, suc, ◌+◌, ◌*◌, ◌^◌, ◌<◌, ◌≤◌, ◌==◌, Bool, true, false, List, [], ◌∷◌, sum_by, replicate, refl, sym, ap, ◌∙◌, subst, ⊎_elim, arith, nat_lt, le_refl}
+use Rattle.std.proofs.Common.{◌≡◌, ℕ, zero, suc, ◌+◌, ◌*◌, ◌^◌, ◌<◌, ◌≤◌, ◌==◌, Bool, List, [], ◌∷◌, sum_by, replicate, refl, sym, ap, ◌∙◌, subst, ⊎_elim, arith, nat_lt, le_refl}
 use Rattle.std.proofs.lemmas.Bool.Decides.{nat_tests}
 use Rattle.std.proofs.lemmas.List.Sums.{sum_by-cons}
 use mathlib.Core.Logic.{dite}
@@ -14,10 +14,11 @@ use Rattle.aio_word.specs.declared.Known.{Known}
 use Rattle.aio_word.specs.declared.State.{State}
 use Rattle.aio_word.specs.Words.{IsDone, IsEnded, place_in, place_of}
 use Rattle.aio_word.specs.Events.{Machine, Reached, start, next, first_machine, first_word, handles, actors, times, ref}
-use Rattle.aio_word.specs.Stands.{IsIn, one_if, total, stands, seen_of, known_by, numbered_from, ListStands, MachineStands, AtMoment}
+use Rattle.aio_word.specs.Stands.{IsIn, one_if, total, stands, seen_of, known_by, numbered_from, HandleStands, ListStands, MachineStands, AtMoment}
 use Rattle.aio_word.specs.Ranked.{is_due, HandleRanked}
 use Rattle.aio_word.proofs.Plain.{plain}
 use Rattle.aio_word.proofs.Machines.{machine-keeps, get-at}
+use Rattle.aio_word.proofs.Due.{one-if-le, one-if-no}
 
 at-replicate : {A : Type 0} (n i : ℕ) (x y : A) → get_elem? (replicate n x) i ≡ some y → x ≡ y
 at-replicate zero i x y e = absurd (some-ne-none y (sym e))
@@ -46,13 +47,6 @@ none-new c h n a (suc k) =
     let cons : sum_by f (known_by c a [] ∷ lists c (a + 1) k) ≡ f (known_by c a []) + sum_by f (lists c (a + 1) k) = sum_by-cons f (known_by c a []) (lists c (a + 1) k) in
     let goal : sum_by f (known_by c a [] ∷ lists c (a + 1) k) ≡ 0 = omega arith in goal
 
-one-if-no : (a b : ℕ) → a ≢ b → one_if (a == b) ≡ 0
-one-if-no a b h = grind (arith, nat_tests)
-
-one-if-le : (b : Bool) → one_if b ≤ 1
-one-if-le true = omega arith
-one-if-le false = omega arith
-
 number-above : (c : Config) (n a k : ℕ) → n < a → sum_by (λ (p : Known). one_if (p.number == n)) (lists c a k) ≡ 0
 number-above c n a zero lt = refl
 number-above c n a (suc k) lt =
@@ -71,8 +65,8 @@ numbered c n a (suc k) =
     (λ e. let none' : sum_by f (lists c (a + 1) k) ≡ 0 = number-above c n (a + 1) k (omega arith) in omega arith)
     (λ ne. let no : f (known_by c a []) ≡ 0 = one-if-no a n ne in let rest : sum_by f (lists c (a + 1) k) ≤ 1 = numbered c n (a + 1) k in omega arith)
 
-not-due : (s n : ℕ) → one_if (is_due s (8 * s + 0) n) ≡ 0
-not-due s n = grind (arith, nat_tests)
+none-due : (s n : ℕ) → one_if (is_due s (8 * s + 0) n) ≡ 0
+none-due s n = grind (arith, nat_tests)
 
 pub first-stands : (c : Config) → c.start < 2 ^ 58 → MachineStands c (first_machine c)
 first-stands c small =
@@ -81,7 +75,7 @@ first-stands c small =
       lawful = record { bound = small; claim = refl; class = refl };
       begun = le_refl c.start;
       last = λ _. refl;
-      counted = λ n. none-new c h n 0 (actors c) ∙ sym (not-due c.start n);
+      counted = λ n. none-new c h n 0 (actors c) ∙ sym (none-due c.start n);
       claimed = λ p i g. let r = new-in c 0 (actors c) p i in subst (λ (z : Known). (times h (8 * g + 4) z.marks ≤ times h (8 * g + 3) z.marks) × (times h (8 * g + 5) z.marks ≤ times h (8 * g + 3) z.marks)) r.is (le_refl 0, le_refl 0);
       classed = λ p i m class j _ _ _. let r = new-in c 0 (actors c) p i in absurd (subst (λ (z : Known). IsIn m z.marks) (sym r.is) j);
       agreed = λ p q i i' m n one other j _ _ _ _ _ _. let r = new-in c 0 (actors c) p i in absurd (subst (λ (z : Known). IsIn m z.marks) (sym r.is) j);
@@ -114,10 +108,13 @@ ended-place CompletedLocal b e = omega arith
 less : (a b : ℕ) → a < b → one_if (nat_lt a b) ≡ 1
 less a b h = grind (arith, nat_tests)
 
--- where the word of a moment says that an incarnation is done, its Shared mark stands once in a list
-pub shared-stands : (c : Config) (p : Known) (h : ℕ) (w : Word) (g : ℕ) (t : AtMoment c p h w) → c.start ≤ g → IsDone w g → stands (ref h g) kind.Shared t.parts ≡ 1
-shared-stands c p h w g t lo done =
-    let s = t.stands.each_handle h w (get-at t.machine.words h w t.word) in ⊎_elim
+-- where the word of a handle says that an incarnation is done, its Shared mark stands once
+pub done-shared : (c : Config) (parts : List Known) (h : ℕ) (w : Word) (g : ℕ) → HandleStands c parts h w → c.start ≤ g → IsDone w g → stands (ref h g) kind.Shared parts ≡ 1
+done-shared c parts h w g s lo done = ⊎_elim
     (λ lt. s.over g lo lt kind.Shared)
-    (λ (same, ended). subst (λ (z : ℕ). stands (ref h z) kind.Shared t.parts ≡ 1) same (s.now kind.Shared ∙ less 5 (place_of w) (ended-place w.state w.claimed ended)))
+    (λ (same, ended). subst (λ (z : ℕ). stands (ref h z) kind.Shared parts ≡ 1) same (s.now kind.Shared ∙ less 5 (place_of w) (ended-place w.state w.claimed ended)))
     done
+
+-- the same at a moment
+pub shared-stands : (c : Config) (p : Known) (h : ℕ) (w : Word) (g : ℕ) (t : AtMoment c p h w) → c.start ≤ g → IsDone w g → stands (ref h g) kind.Shared t.parts ≡ 1
+shared-stands c p h w g t lo done = done-shared c t.parts h w g (t.stands.each_handle h w (get-at t.machine.words h w t.word)) lo done

@@ -1,5 +1,5 @@
 -- The totals of a table that was closed, counted over lives.
-use Rattle.std.specs.Prelude.{ℕ, ◌+◌, ◌-◌, cond, nat_lt, List, sum_by}
+use Rattle.std.specs.Prelude.{ℕ, ◌-◌, cond, nat_lt, List, sum_by}
 use Rattle.aio_word.specs.declared.Config.{Config}
 use Rattle.aio_word.specs.declared.Word.{Word}
 use Rattle.aio_word.specs.declared.Known.{Known}

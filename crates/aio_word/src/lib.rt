@@ -11,7 +11,7 @@
 //! event and every state.
 //!
 //! The states and their order are those of PostgreSQL's `aio_internal.h`. PostgreSQL keeps state
-//! and generation as two fields: the encoding is this project's own. So are the moments at which a
+//! and generation as two fields: the packing is this project's own. So are the moments at which a
 //! generation rises (reclaim alone), at which a wait reference can be had (from Defined on), and at
 //! which a handle becomes CompletedLocal (once its owner has taken the result).
 #![tactic(auto)]
@@ -19,8 +19,16 @@
 use std::collections::LinkedList;
 
 mod encoding;
+mod laws;
+#[cfg(test)]
+mod tests;
 
 pub use encoding::{done, pack, place, unpack};
+pub use laws::{
+    claimed_once, done_where_shared, each_mark_is_the_next_one, every_reached_machine_stands,
+    over_has_each_mark_once, pairs_and_ranks_agree, reclaimed_before_the_next, shared_then_taken,
+    step_keeps_stands, totals_agree,
+};
 
 /// The state of a handle, after `PgAioHandleState` of `aio_internal.h`.
 #[derive(Clone, Copy, Debug, PartialEq, Eq)]
