@@ -1,5 +1,6 @@
 -- What the lists say of the lives of a handle, in plain words.
-use Rattle.std.proofs.Common.{◌≡◌, ℕ, zero, suc, ◌+◌, ◌*◌, ◌<◌, ◌≤◌, ◌↔◌, List, [], ◌∷◌, length, refl, ◌∙◌, subst, arith, Some, slice_get}
+use Rattle.std.proofs.Common.{◌≡◌, ℕ, ◌+◌, ◌*◌, ◌<◌, ◌≤◌, ◌↔◌, List, length, get_or, refl, ◌∙◌, subst, arith, Some, slice_get}
+use Rattle.std.proofs.lemmas.Option.{slice_get-get_or}
 use mathlib.Core.Logic.{dite}
 use native.Mathlib.Decide.{dec_le}
 use Rattle.aio_word.specs.declared.Config.{Config}
@@ -10,7 +11,7 @@ use Rattle.aio_word.specs.declared.Known.{Known}
 use Rattle.aio_word.specs.declared.WaitRef.{WaitRef}
 use Rattle.aio_word.specs.declared.Word.{Word}
 use Rattle.aio_word.specs.Words.{IsDone, rank_of}
-use Rattle.aio_word.specs.Events.{handles, order, is_mark, times, ref, a_local}
+use Rattle.aio_word.specs.Events.{handles, order, is_mark, times, ref, a_local, first_word}
 use Rattle.aio_word.specs.Stands.{one_if, total, stands, Stands}
 use Rattle.aio_word.specs.Ranked.{is_due, HandleRanked}
 use Rattle.aio_word.proofs.Owners.{counting, is-that, order-small}
@@ -25,11 +26,6 @@ due-earlier s r g i j le small = dite (dec_le (one_if (is_due s r (8 * g + j))) 
     (λ some. let d = due-true s r (8 * g + j) (omega arith) in let lo = d.0 in let hi = d.1 in
     let one = due-one s r (8 * g + i) (omega arith) (omega arith) in let le' = one-if-le (is_due s r (8 * g + j)) in omega arith)
 
-has-word : (words : List Word) (h : ℕ) → h < length words → (w : Word) × (slice_get words h ≡ Some w)
-has-word [] h lt = absurd (omega arith)
-has-word (w ∷ words) zero lt = (w, refl)
-has-word (w ∷ words) (suc h) lt = has-word words h (omega arith)
-
 module _ (c : Config) (words : List Word) (parts : List Known) (s : Stands c words parts) where
   at-handle : (h : ℕ) (w : Word) → slice_get words h ≡ Some w → HandleRanked c parts h w
   at-handle h w e = ranked-handle c parts h w (s.each_handle h w (get-at words h w e))
@@ -43,7 +39,7 @@ module _ (c : Config) (words : List Word) (parts : List Known) (s : Stands c wor
 
   -- where a mark stands its handle has a word
   word-of : (h n : ℕ) → 0 < total h n parts → (w : Word) × (slice_get words h ≡ Some w)
-  word-of h n more = let lt = in-range h n more in let wide = s.wide in has-word words h (omega arith)
+  word-of h n more = let lt = in-range h n more in let wide = s.wide in (get_or words h (first_word c), slice_get-get_or words h (first_word c) (omega arith))
 
   pub mark-once : (t : WaitRef) (k : Kind) → stands t k parts ≤ 1
   mark-once t k = let n : ℕ = 8 * t.generation + order k in dite (dec_le (total t.handle n parts) 0) (λ none. omega arith)

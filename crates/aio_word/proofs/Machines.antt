@@ -44,10 +44,10 @@ pub record Moved (c : Config) (m : Machine) (e : Event) (m' : Machine) : Type 0 
   pub row : after w e.step ≡ Some w'
   pub is : m' ≡ record { words = set m.words e.handle w'; lists = set m.lists e.actor (noted marks e.handle e.generation (leaves w.class e.step)) }
 
-same-nat : (a b : ℕ) → (a == b) ≡ true → a ≡ b
+pub same-nat : (a b : ℕ) → (a == b) ≡ true → a ≡ b
 same-nat a b h = grind (arith, nat_tests)
 
-when-true : {A : Type 0} (b : Bool) (x : Option A) (y : A) → cond b x None ≡ Some y → (b ≡ true) × (x ≡ Some y)
+pub when-true : {A : Type 0} (b : Bool) (x : Option A) (y : A) → cond b x None ≡ Some y → (b ≡ true) × (x ≡ Some y)
 when-true true x y e = (refl, e)
 when-true false x y e = absurd (cc)
 
@@ -79,7 +79,7 @@ pub record Placed (c : Config) (n : ℕ) (lists : List (List Mark)) (actor : ℕ
   pub now : numbered_from c n lists ≡ front ++ known_by c (n + actor) marks ∷ back
   pub then : (l : List Mark) → numbered_from c n (set lists actor l) ≡ front ++ known_by c (n + actor) l ∷ back
 
-placed : (c : Config) (n : ℕ) (lists : List (List Mark)) (actor : ℕ) (marks : List Mark) → slice_get lists actor ≡ Some marks → Placed c n lists actor marks
+pub placed : (c : Config) (n : ℕ) (lists : List (List Mark)) (actor : ℕ) (marks : List Mark) → slice_get lists actor ≡ Some marks → Placed c n lists actor marks
 placed c n [] actor marks e = absurd (cc)
 placed c n (x ∷ xs) zero marks e = record {
   front = [];
@@ -157,7 +157,7 @@ claimed-of : (h g g' : ℕ) (ms : List Mark) → g' ≡ g → nat_lt 0 (times h 
 claimed-of h g g' ms e t = let x : 0 < times h (8 * g + 3) ms = grind (arith, nat_tests) in subst (λ (z : ℕ). 0 < times h (8 * z + 3) ms) (sym e) x
 
 -- no handle of the actor is out
-none-out : (c : Config) (actor n : ℕ) (ws : List Word) → has_out_from c actor n ws ≡ false → (i : ℕ) (w : Word) → get_elem? ws i ≡ some w → owner c (n + i) ≡ actor → w.state ≡ HandedOut → ⊥
+pub none-out : (c : Config) (actor n : ℕ) (ws : List Word) → has_out_from c actor n ws ≡ false → (i : ℕ) (w : Word) → get_elem? ws i ≡ some w → owner c (n + i) ≡ actor → w.state ≡ HandedOut → ⊥
 none-out c actor n [] h i w at own out = some-ne-none w (sym at)
 none-out c actor n (v ∷ ws) h zero w at own out =
     let e : v ≡ w = some-injective v w at in

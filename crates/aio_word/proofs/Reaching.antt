@@ -20,7 +20,7 @@ use Rattle.aio_word.proofs.Plain.{plain}
 use Rattle.aio_word.proofs.Machines.{machine-keeps, get-at}
 use Rattle.aio_word.proofs.Due.{one-if-le, one-if-no}
 
-at-replicate : {A : Type 0} (n i : ℕ) (x y : A) → get_elem? (replicate n x) i ≡ some y → x ≡ y
+pub at-replicate : {A : Type 0} (n i : ℕ) (x y : A) → get_elem? (replicate n x) i ≡ some y → x ≡ y
 at-replicate zero i x y e = absurd (some-ne-none y (sym e))
 at-replicate (suc n) zero x y e = some-injective x y e
 at-replicate (suc n) (suc i) x y e = at-replicate n i x y e
