@@ -16,6 +16,9 @@ use aio_word::{Class, Config, Event, State, Step, Word, pack};
 use std::alloc::{AllocError, Global};
 use std::marker::Model;
 
+#[cfg(test)]
+mod tests;
+
 /// The machine. Contracts see its numbers, its words and its lists of marks.
 #[derive(Drop)]
 pub struct Machine {

@@ -32,6 +32,14 @@ impl Marks {
         }
     }
 
+    /// The marks as a slice.
+    #[cfg(test)]
+    pub(crate) fn marks(&self) -> &[Mark]
+        ensures { result.now ≡ self.now }
+    {
+        self.inner.as_slice()
+    }
+
     fn push(&mut self, mark: Mark) -> Result<(), AllocError>
         ensures ok { OnOk result (self.new ≡ self.old ++ mark ∷ []) }
         ensures err { OnErr result (self.new ≡ self.old) }
