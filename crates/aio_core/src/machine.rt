@@ -1,6 +1,7 @@
 //! The machine of a program.
 
-ghost use Rattle.std.specs.Prelude.{◌≡◌, ◌<◌, ◌≤◌, ◌^◌, ℕ, IfOk, IfErr, IfSome, OnOk, Some, length, slice_get};
+ghost use Rattle.std.specs.Prelude.{◌≡◌, ◌<◌, ◌≤◌, ◌^◌, ℕ, IfOk, IfErr, IfSome, OnOk, Some};
+ghost use Rattle.std.specs.Prelude.{length, slice_get};
 ghost use Rattle.aio_word.specs.Events.{Machine as MachineState, stepped, has_out_from};
 ghost use Rattle.aio_word.specs.Stands.{MachineStands};
 ghost use Rattle.aio_word.specs.Words.{IsLawful, packed};
@@ -35,9 +36,13 @@ impl Model for Machine {
 
     ghost Value = { Running };
 
-    ghost view = { λ m. record { config = m.config; machine = record { words = m.words.items; lists = m.lists.items } } };
+    ghost view = { λ m. record {
+      config = m.config;
+      machine = record { words = m.words.items; lists = m.lists.items };
+    } };
 
-    ghost invariant = { λ m. IsKept m.config record { words = m.words.items; lists = m.lists.items } m.last_claimers.items };
+    ghost invariant = { λ m. IsKept m.config record { words = m.words.items; lists = m.lists.items }
+        m.last_claimers.items };
 }
 
 impl Machine {
@@ -92,7 +97,8 @@ impl Machine {
     /// Makes the event, where it is allowed; else the machine stays as it is.
     pub fn step(&mut self, event: Event) -> Result<(), StepRefusal>
         ensures config { self.new.config ≡ self.old.config }
-        ensures made { OnOk result (stepped self.old.config self.old.machine event ≡ Some self.new.machine) }
+        ensures made { OnOk result
+            (stepped self.old.config self.old.machine event ≡ Some self.new.machine) }
         ensures stands { MachineStands self.new.config self.new.machine }
         ensures refused { IfErr result (λ e. self.new ≡ self.old) }
         ensures cause { IfErr result (λ e. IsCause self.old.config self.old.machine event e) }
@@ -128,9 +134,11 @@ impl Machine {
     /// Makes the events in order, up to the first one that is refused.
     pub fn run(&mut self, events: &[Event]) -> Result<(), RunRefusal>
         ensures config { self.new.config ≡ self.old.config }
-        ensures made { OnOk result (after_all self.old.config self.old.machine events.now ≡ Some self.new.machine) }
+        ensures made { OnOk result
+            (after_all self.old.config self.old.machine events.now ≡ Some self.new.machine) }
         ensures stands { MachineStands self.new.config self.new.machine }
-        ensures cause { IfErr result (IsRunCause self.old.config self.old.machine self.new.machine events.now) }
+        ensures cause { IfErr result
+            (IsRunCause self.old.config self.old.machine self.new.machine events.now) }
     {
         self.keeps();
         for i in 0..events.len() {

@@ -1,6 +1,7 @@
 //! The lists of marks.
 
-ghost use Rattle.std.specs.Prelude.{◌≡◌, ◌<◌, ℕ, List, [], ◌∷◌, ◌++◌, IfOk, OnOk, OnErr, length, replicate, slice_get};
+ghost use Rattle.std.specs.Prelude.{◌≡◌, ◌<◌, ℕ, List, [], ◌∷◌, ◌++◌, IfOk, OnOk, OnErr};
+ghost use Rattle.std.specs.Prelude.{length, replicate, slice_get};
 ghost use Rattle.aio_word.specs.declared.Mark.{Mark};
 ghost use Rattle.aio_core.specs.Allowed.{noted_in};
 
@@ -69,7 +70,9 @@ pub(crate) fn note(
     kind: Option<Kind>,
 ) -> Result<(), AllocError>
     requires { actor < length lists.old }
-    ensures ok { OnOk result (lists.new ≡ noted_in lists.old actor handle generation kind (slice_get lists.old actor)) }
+    ensures ok { OnOk result
+        (lists.new
+        ≡ noted_in lists.old actor handle generation kind (slice_get lists.old actor)) }
     ensures err { OnErr result (lists.new ≡ lists.old) }
 {
     match kind {

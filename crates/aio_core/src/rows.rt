@@ -1,7 +1,7 @@
 //! What each step does to a word, and which mark it leaves.
 
 ghost use Rattle.std.specs.Prelude.{◌≡◌, ◌<◌, ◌^◌, ℕ};
-ghost use Rattle.aio_word.specs.Events.{after as word_after, leaves};
+ghost use Rattle.aio_word.specs.Events.{after as word_after, leaves, word_in as plain_word};
 
 use aio_word::{Class, Kind, State, Step, Word};
 
@@ -54,7 +54,7 @@ pub(crate) fn after(word: &Word, step: Step) -> Option<Word>
 }
 
 fn word_in(state: State, claimed: bool, class: Class, generation: u64) -> Word
-    ensures { result ≡ record { state = state; claimed = claimed; class = class; generation = generation } }
+    ensures { result ≡ plain_word state claimed class generation }
 {
     Word {
         state,

@@ -6,11 +6,12 @@ use native.Mathlib.Decide.{ℕ_discrete, dec_le}
 use Rattle.aio_word.specs.declared.Config.{Config}
 use Rattle.aio_word.specs.declared.Kind.{Kind}
 use Rattle.aio_word.specs.declared.Kind.TheVariants as kind
+use Rattle.aio_word.specs.declared.Mark.{Mark}
 use Rattle.aio_word.specs.declared.Word.{Word}
 use Rattle.aio_word.specs.declared.Known.{Known}
 use Rattle.aio_word.specs.Words.{IsNotAbove, place_of, rank_of}
-use Rattle.aio_word.specs.Events.{order, an_io, a_local}
-use Rattle.aio_word.specs.Stands.{one_if, total, seen_of, HandleStands, Stands}
+use Rattle.aio_word.specs.Events.{order, an_io, a_local, mark_at, ref}
+use Rattle.aio_word.specs.Stands.{IsIn, one_if, total, seen_of, HandleStands, Stands}
 use Rattle.aio_word.specs.Ranked.{is_due, HandleRanked, Ranked}
 use Rattle.aio_word.proofs.Steps.{place-small}
 use Rattle.aio_word.proofs.Owners.{order-small}
@@ -45,6 +46,10 @@ pair-of n G p small le = dite (dec_le G (n / 8)) (λ above. inr (omega arith, om
 rank-of : (n G p : ℕ) → IsNotAbove (n / 8) (n % 8) G p → n ≤ 8 * G + p
 rank-of n G p h = ⊎_elim (λ lt. omega arith) (λ (same, le). omega arith) h
 
+-- a mark, by its parts
+that-mark : (m : Mark) (h g : ℕ) (k : Kind) → m.handle ≡ h → m.generation ≡ g → m.kind ≡ k → m ≡ mark_at (ref h g) k
+that-mark m h g k eh eg ek = λ i. mark_at (ref (eh i) (eg i)) (ek i)
+
 pub plain-handle : (c : Config) (parts : List Known) (h : ℕ) (w : Word) → HandleRanked c parts h w → HandleStands c parts h w
 plain-handle c parts h w s = record {
   lawful = s.lawful;
@@ -54,8 +59,8 @@ plain-handle c parts h w s = record {
   now = λ k. s.counted (8 * w.generation + order k) ∙ due-now c.start w.generation (place_of w) (order k) s.begun;
   none = λ g o k. s.counted (8 * g + order k) ∙ due-none c.start g w.generation (place_of w) (order k) o (order-small k) (place-small w.state w.claimed);
   claimed = s.claimed;
-  classed = s.classed;
-  agreed = s.agreed;
+  classed = λ p i class j. s.classed p i (mark_at (ref h w.generation) (kind.Io class)) class j refl refl refl;
+  agreed = λ p q i j g ended taken m n. s.agreed p q i j (mark_at (ref h g) (kind.Io ended)) (mark_at (ref h g) (kind.Local taken)) ended taken m n refl refl refl refl refl;
   seen = λ p i. pair-of (seen_of p h) w.generation (place_of w) (place-small w.state w.claimed) (s.seen p i);
 }
 
@@ -81,8 +86,10 @@ ranked-handle c parts h w s = record {
   counted = λ n. let e : 8 * (n / 8) + n % 8 ≡ n = omega arith in
       subst (λ (z : ℕ). total h z parts ≡ one_if (is_due c.start (rank_of w) z)) e (ranked-at c parts h w s (n / 8) (n % 8) (omega arith));
   claimed = s.claimed;
-  classed = s.classed;
-  agreed = s.agreed;
+  classed = λ p i m class j eh eg ek. s.classed p i class (subst (λ (z : Mark). IsIn z p.marks) (that-mark m h w.generation (kind.Io class) eh eg ek) j);
+  agreed = λ p q i i' m n one other j j' eh eh' eg ek ek'. s.agreed p q i i' m.generation one other
+      (subst (λ (z : Mark). IsIn z p.marks) (that-mark m h m.generation (kind.Io one) eh refl ek) j)
+      (subst (λ (z : Mark). IsIn z q.marks) (that-mark n h m.generation (kind.Local other) eh' (sym eg) ek') j');
   seen = λ p i. rank-of (seen_of p h) w.generation (place_of w) (s.seen p i);
 }
 

@@ -1,5 +1,9 @@
--- The machine of handles: which events are allowed, and what each does to its word and to the list of its actor. The states are those of aio_internal.h; that Local means that the owner has taken the result, and that Reclaim alone raises the generation, are this project's own choices.
-use Rattle.std.specs.Prelude.{◌≡◌, ℕ, ◌+◌, ◌*◌, ◌/◌, Bool, true, false, cond, not, ◌&&◌, ◌||◌, ◌==◌, nat_lt, List, [], ◌∷◌, ◌++◌, count_by, replicate, Option, Some, None, slice_get, slice_set}
+-- The machine of handles: which events are allowed, and what each does to its word and to the list
+-- of its actor. The states are those of aio_internal.h. That Local means that the owner has taken
+-- the result, and that Reclaim alone raises the generation, are this project's own choices.
+use Rattle.std.specs.Prelude.{◌≡◌, ℕ, ◌+◌, ◌*◌, ◌/◌, Bool, true, false, cond, not}
+use Rattle.std.specs.Prelude.{◌&&◌, ◌||◌, ◌==◌, nat_lt, List, [], ◌∷◌, ◌++◌, count_by, replicate}
+use Rattle.std.specs.Prelude.{Option, Some, None, slice_get, slice_set}
 use Rattle.aio_word.specs.declared.Config.{Config}
 use Rattle.aio_word.specs.declared.State.{State}
 use Rattle.aio_word.specs.declared.State.TheVariants as state
@@ -54,6 +58,10 @@ times handle rank marks = count_by (is_mark handle rank) marks
 abbrev pub ref : ℕ → ℕ → WaitRef
 ref handle generation = record { handle = handle; generation = generation }
 
+-- the mark of this kind of an incarnation
+abbrev pub mark_at : WaitRef → Kind → Mark
+mark_at t k = record { handle = t.handle; generation = t.generation; kind = k }
+
 -- how often a list has the mark of this kind of an incarnation, whatever its class
 abbrev pub at : WaitRef → Kind → List Mark → ℕ
 at t k marks = times t.handle (8 * t.generation + order k) marks
@@ -75,7 +83,12 @@ lives handle marks = count_by (λ m. (m.handle == handle) && (order m.kind == 7)
 
 -- the word with these parts
 abbrev pub word_in : State → Bool → Class → ℕ → Word
-word_in s claimed class generation = record { state = s; claimed = claimed; class = class; generation = generation }
+word_in s claimed class generation = record {
+  state = s;
+  claimed = claimed;
+  class = class;
+  generation = generation;
+}
 
 -- the word, where the test holds
 abbrev pub given : Bool → Word → Option Word
@@ -85,18 +98,28 @@ given b w = cond b (Some w) None
 abbrev pub is : Word → State → Bool
 is w s = number_of_state w.state == number_of_state s
 
--- the word after the step, where the state before has the step: from which state, under which condition, to which state
+-- the word after the step, where the state before has the step
 abbrev pub after : Word → Step → Option Word
-after w step.HandOut = given (is w state.Idle && nat_lt w.generation last_generation) (word_in state.HandedOut false Unended w.generation)
+after w step.HandOut =
+    given (is w state.Idle && nat_lt w.generation last_generation)
+    (word_in state.HandedOut false Unended w.generation)
 after w step.Release = given (is w state.HandedOut) (word_in state.Idle false Unended w.generation)
-after w step.Define = given (is w state.HandedOut) (word_in state.Defined false Unended w.generation)
+after w step.Define =
+    given (is w state.HandedOut) (word_in state.Defined false Unended w.generation)
 after w step.Stage = given (is w state.Defined) (word_in state.Staged false Unended w.generation)
 after w step.Submit = given (is w state.Staged) (word_in state.Submitted false Unended w.generation)
-after w step.Claim = given (is w state.Submitted && not w.claimed) (word_in state.Submitted true Unended w.generation)
-after w (step.Io class) = given (is w state.Submitted && (w.claimed && not (number_of_class class == 0))) (word_in state.CompletedIo true class w.generation)
-after w step.Shared = given (is w state.CompletedIo) (word_in state.CompletedShared false w.class w.generation)
-after w step.Local = given (is w state.CompletedShared) (word_in state.CompletedLocal false w.class w.generation)
-after w step.Reclaim = given (is w state.CompletedLocal) (word_in state.Idle false Unended (w.generation + 1))
+after w step.Claim =
+    given (is w state.Submitted && not w.claimed)
+    (word_in state.Submitted true Unended w.generation)
+after w (step.Io class) =
+    given (is w state.Submitted && (w.claimed && not (number_of_class class == 0)))
+    (word_in state.CompletedIo true class w.generation)
+after w step.Shared =
+    given (is w state.CompletedIo) (word_in state.CompletedShared false w.class w.generation)
+after w step.Local =
+    given (is w state.CompletedShared) (word_in state.CompletedLocal false w.class w.generation)
+after w step.Reclaim =
+    given (is w state.CompletedLocal) (word_in state.Idle false Unended (w.generation + 1))
 
 -- the mark that the step appends, by the class of the word before
 abbrev pub leaves : Class → Step → Option Kind
@@ -111,7 +134,8 @@ leaves class step.Shared = Some kind.Shared
 leaves class step.Local = Some (kind.Local class)
 leaves class step.Reclaim = Some kind.Reclaimed
 
--- whether an actor with these marks may make the step on the incarnation: Claim any actor, Io and Shared the claimer, all others the owner
+-- whether an actor with these marks may make the step on the incarnation: Claim any actor, Io and
+-- Shared the claimer, all others the owner
 abbrev pub may : Config → ℕ → List Mark → ℕ → ℕ → Step → Bool
 may c actor marks handle generation step.Claim = nat_lt actor (actors c)
 may c actor marks handle generation (step.Io class) = has_claimed handle generation marks
@@ -121,7 +145,7 @@ may c actor marks handle generation _ = actor == owner c handle
 -- the list with the mark, if there is one
 abbrev pub noted : List Mark → ℕ → ℕ → Option Kind → List Mark
 noted marks handle generation None = marks
-noted marks handle generation (Some k) = marks ++ record { handle = handle; generation = generation; kind = k } ∷ []
+noted marks handle generation (Some k) = marks ++ mark_at (ref handle generation) k ∷ []
 
 -- a state of the machine: the word of each handle, and the list of marks of each actor
 pub record Machine : Type 0 where
@@ -131,7 +155,8 @@ pub record Machine : Type 0 where
 -- whether a handle of the actor, from this one on, is handed out
 abbrev pub has_out_from : Config → ℕ → ℕ → List Word → Bool
 has_out_from c actor handle [] = false
-has_out_from c actor handle (w ∷ ws) = ((owner c handle == actor) && is w state.HandedOut) || has_out_from c actor (handle + 1) ws
+has_out_from c actor handle (w ∷ ws) =
+    ((owner c handle == actor) && is w state.HandedOut) || has_out_from c actor (handle + 1) ws
 
 -- a handle is handed out only to an owner that has none handed out
 abbrev pub is_free : Config → ℕ → List Word → Step → Bool
@@ -141,14 +166,21 @@ is_free c actor words _ = true
 -- the machine with the word and the list after the event
 abbrev pub replaced : Machine → Event → List Mark → Word → Option Word → Option Machine
 replaced m e marks w None = None
-replaced m e marks w (Some w') = Some record { words = slice_set m.words e.handle w'; lists = slice_set m.lists e.actor (noted marks e.handle e.generation (leaves w.class e.step)) }
+replaced m e marks w (Some w') = Some record {
+  words = slice_set m.words e.handle w';
+  lists = slice_set m.lists e.actor (noted marks e.handle e.generation (leaves w.class e.step));
+}
 
 -- the machine after the event, by the word of its handle and the list of its actor
 abbrev pub on_word : Config → Machine → Event → Option Word → Option (List Mark) → Option Machine
-on_word c m e (Some w) (Some marks) = cond ((w.generation == e.generation) && (may c e.actor marks e.handle e.generation e.step && is_free c e.actor m.words e.step)) (replaced m e marks w (after w e.step)) None
+on_word c m e (Some w) (Some marks) = cond
+    ((w.generation == e.generation)
+    && (may c e.actor marks e.handle e.generation e.step && is_free c e.actor m.words e.step))
+    (replaced m e marks w (after w e.step)) None
 on_word c m e _ _ = None
 
--- the machine after the event, where it is allowed: handle and actor are in range, the generation is the word's, and the step's condition holds
+-- the machine after the event, where it is allowed: handle and actor are in range, the generation
+-- is the word's, and the step's condition holds
 abbrev pub stepped : Config → Machine → Event → Option Machine
 stepped c m e = on_word c m e (slice_get m.words e.handle) (slice_get m.lists e.actor)
 
@@ -158,9 +190,13 @@ first_word c = word_in state.Idle false Unended c.start
 
 -- all handles Idle at the first generation, and no marks
 abbrev pub first_machine : Config → Machine
-first_machine c = record { words = replicate (handles c) (first_word c); lists = replicate (actors c) [] }
+first_machine c = record {
+  words = replicate (handles c) (first_word c);
+  lists = replicate (actors c) [];
+}
 
 -- the machines that come from the first one by allowed events
 pub data Reached (c : Config) : Machine → Type 0 where
   start : Reached c (first_machine c)
-  next : (m : Machine) (e : Event) (m' : Machine) → Reached c m → stepped c m e ≡ Some m' → Reached c m'
+  next : (m : Machine) (e : Event) (m' : Machine)
+      → Reached c m → stepped c m e ≡ Some m' → Reached c m'

@@ -1,5 +1,14 @@
--- The lists of marks stand for the words, in six parts: (a) words are lawful, and no two actors have one number; (b) each generation that is over has each mark of a life exactly once, the current one its first marks, no other any; (c) each mark stands in the list of the actor that makes it, in the life's order; (d) classes agree; (e) each owner has at most one handle handed out; (f) nobody has seen more than the word's pair of generation and place. It counts marks over all lists and knows no protocol.
-use Rattle.std.specs.Prelude.{◌≡◌, ℕ, ◌+◌, ◌/◌, ◌%◌, ◌<◌, ◌≤◌, ◌⊎◌, Bool, cond, ◌==◌, nat_lt, List, [], ◌∷◌, length, sum_by, Some, None, slice_get, slice_index_or}
+-- The lists of marks stand for the words, in six parts.
+--   (a) Words are lawful, and no two actors have one number.
+--   (b) Each generation that is over has each mark of a life exactly once, the current one its
+--       first marks and no other, and no other generation any.
+--   (c) Each mark stands in the list of the actor that makes it, in the order of the life.
+--   (d) The classes of a life agree.
+--   (e) No owner has two handles handed out.
+--   (f) Nobody has seen more than the word's pair of generation and place.
+-- This counts marks over all lists, and knows no protocol.
+use Rattle.std.specs.Prelude.{◌≡◌, ℕ, ◌+◌, ◌/◌, ◌%◌, ◌<◌, ◌≤◌, ◌⊎◌, Bool, cond, ◌==◌, nat_lt}
+use Rattle.std.specs.Prelude.{List, [], ◌∷◌, length, sum_by, Some, None, slice_get, slice_index_or}
 use mathlib.Core.Option.{some}
 use lib.ListN.{get_elem?}
 use Rattle.std.specs.List.{AllPairs}
@@ -13,7 +22,8 @@ use Rattle.aio_word.specs.declared.Mark.{Mark}
 use Rattle.aio_word.specs.declared.Known.{Known}
 use Rattle.aio_word.specs.declared.WaitRef.{WaitRef}
 use Rattle.aio_word.specs.Words.{IsLawful, IsNotAbove, last_generation, place_of}
-use Rattle.aio_word.specs.Events.{Machine, Reached, handles, actors, owner, order, rank_of_mark, times, at, an_io, ref}
+use Rattle.aio_word.specs.Events.{Machine, Reached, handles, actors, owner}
+use Rattle.aio_word.specs.Events.{order, rank_of_mark, times, at, an_io, ref, mark_at}
 
 -- 1 where the test holds, else 0
 abbrev pub one_if : Bool → ℕ
@@ -50,20 +60,28 @@ pub record HandleStands (c : Config) (parts : List Known) (handle : ℕ) (w : Wo
   pub begun : c.start ≤ w.generation
   pub last : w.generation ≡ last_generation → w.state ≡ Idle
   -- (b) each generation that is over has each mark of a life once
-  pub over : (g : ℕ) → c.start ≤ g → g < w.generation → (k : Kind) → stands (ref handle g) k parts ≡ 1
-  -- the word's generation has the first marks once each, as many as the place says
-  pub now : (k : Kind) → stands (ref handle w.generation) k parts ≡ one_if (nat_lt (order k) (place_of w))
-  -- no other generation has a mark
-  pub none : (g : ℕ) → (g < c.start) ⊎ (w.generation < g) → (k : Kind) → stands (ref handle g) k parts ≡ 0
+  pub over : (g : ℕ) → c.start ≤ g → g < w.generation
+      → (k : Kind) → stands (ref handle g) k parts ≡ 1
+  -- (b) the word's generation has the first marks once each, as many as the place says
+  pub now : (k : Kind)
+      → stands (ref handle w.generation) k parts ≡ one_if (nat_lt (order k) (place_of w))
+  -- (b) no other generation has a mark
+  pub none : (g : ℕ) → (g < c.start) ⊎ (w.generation < g)
+      → (k : Kind) → stands (ref handle g) k parts ≡ 0
   -- (c) Claimed, Io and Shared of one incarnation stand in one list
-  pub claimed : (p : Known) → IsIn p parts → (g : ℕ) → (at (ref handle g) an_io p.marks ≤ at (ref handle g) kind.Claimed p.marks) × (at (ref handle g) kind.Shared p.marks ≤ at (ref handle g) kind.Claimed p.marks)
-  -- (d) an Io mark of the word's generation has the word's class
-  pub classed : (p : Known) → IsIn p parts → (m : Mark) (class : Class) → IsIn m p.marks → m.handle ≡ handle → m.generation ≡ w.generation → m.kind ≡ kind.Io class → class ≡ w.class
-  -- a Local mark has the class of its incarnation's Io mark
-  pub agreed : (p q : Known) → IsIn p parts → IsIn q parts → (m n : Mark) (one other : Class) → IsIn m p.marks → IsIn n q.marks → m.handle ≡ handle → n.handle ≡ handle → m.generation ≡ n.generation
-      → m.kind ≡ kind.Io one → n.kind ≡ kind.Local other → one ≡ other
+  pub claimed : (p : Known) → IsIn p parts → (g : ℕ)
+      → (at (ref handle g) an_io p.marks ≤ at (ref handle g) kind.Claimed p.marks)
+      × (at (ref handle g) kind.Shared p.marks ≤ at (ref handle g) kind.Claimed p.marks)
+  -- (d) the class of an Io mark of the word's generation is the word's
+  pub classed : (p : Known) → IsIn p parts → (class : Class)
+      → IsIn (mark_at (ref handle w.generation) (kind.Io class)) p.marks → class ≡ w.class
+  -- (d) the class of a Local mark is that of its incarnation's Io mark
+  pub agreed : (p q : Known) → IsIn p parts → IsIn q parts → (g : ℕ) (ended taken : Class)
+      → IsIn (mark_at (ref handle g) (kind.Io ended)) p.marks
+      → IsIn (mark_at (ref handle g) (kind.Local taken)) q.marks → ended ≡ taken
   -- (f) the pair that an actor has seen is not above the word's
-  pub seen : (p : Known) → IsIn p parts → IsNotAbove (seen_of p handle / 8) (seen_of p handle % 8) w.generation (place_of w)
+  pub seen : (p : Known) → IsIn p parts
+      → IsNotAbove (seen_of p handle / 8) (seen_of p handle % 8) w.generation (place_of w)
 
 -- one list by itself: what (b) and (c) say of it
 pub record ListStands (c : Config) (p : Known) : Type 0 where
@@ -82,11 +100,20 @@ pub record Stands (c : Config) (words : List Word) (parts : List Known) : Type 0
   pub each_handle : (h : ℕ) (w : Word) → get_elem? words h ≡ some w → HandleStands c parts h w
   pub each_list : (p : Known) → IsIn p parts → ListStands c p
   -- (e) no owner has two handles handed out
-  pub one_out : (h i : ℕ) (v w : Word) → get_elem? words h ≡ some v → get_elem? words i ≡ some w → v.state ≡ HandedOut → w.state ≡ HandedOut → owner c h ≡ owner c i → h ≡ i
+  pub one_out : (h i : ℕ) (v w : Word) → get_elem? words h ≡ some v → get_elem? words i ≡ some w
+      → v.state ≡ HandedOut → w.state ≡ HandedOut → owner c h ≡ owner c i → h ≡ i
 
 -- an actor of the machine, which keeps no record of what it has seen
 abbrev pub known_by : Config → ℕ → List Mark → Known
-known_by c n marks = record { config = c; number = n; marks = marks; out = None; seen = []; looks = []; aims = [] }
+known_by c n marks = record {
+  config = c;
+  number = n;
+  marks = marks;
+  out = None;
+  seen = [];
+  looks = [];
+  aims = [];
+}
 
 -- the lists of the machine under the numbers of their actors
 abbrev pub numbered_from : Config → ℕ → List (List Mark) → List Known
@@ -104,7 +131,8 @@ pub record IsMachine (c : Config) (m : Machine) (ws : List Word) (parts : List K
   pub lists : (p : Known) → IsIn p parts → slice_get m.lists p.number ≡ Some p.marks
   pub all : length m.lists ≡ actors c
 
--- a moment at which the actor's knowledge is p and the word of the handle is w: a state of the machine, for whose words the lists stand
+-- a moment at which the actor's knowledge is p and the word of the handle is w: a state of the
+-- machine, for whose words the lists stand
 pub record AtMoment (c : Config) (p : Known) (h : ℕ) (w : Word) : Type 0 where
   pub machine : Machine
   pub parts : List Known

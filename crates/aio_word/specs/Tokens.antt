@@ -8,12 +8,14 @@ use Rattle.aio_word.specs.declared.Kind.{Kind}
 use Rattle.aio_word.specs.declared.Kind.TheVariants as kind
 use Rattle.aio_word.specs.Words.{number_of_class}
 use Rattle.aio_word.specs.Events.{times, at, an_io, a_local, order}
+pub use Rattle.aio_word.specs.Events.{mark_at}
 use Rattle.aio_word.specs.Stands.{IsIn, seen_of}
 
 -- defined by this actor, and not staged, submitted, taken or reclaimed
 pub record IsDefined (p : Known) (t : WaitRef) : Type 0 where
   pub since : 0 < at t kind.Defined p.marks
-  pub until : at t kind.Staged p.marks + at t kind.Submitted p.marks + at t a_local p.marks + at t kind.Reclaimed p.marks ≡ 0
+  pub until : at t kind.Staged p.marks + at t kind.Submitted p.marks + at t a_local p.marks
+      + at t kind.Reclaimed p.marks ≡ 0
 
 -- staged by this actor, and not submitted, taken or reclaimed
 pub record IsStaged (p : Known) (t : WaitRef) : Type 0 where
@@ -37,20 +39,17 @@ pub record IsClaimed (p : Known) (t : WaitRef) : Type 0 where
 
 -- executed by this actor with that class, and not completed
 pub record IsExecuted (class : Class) (p : Known) (t : WaitRef) : Type 0 where
-  pub since : IsIn record { handle = t.handle; generation = t.generation; kind = kind.Io class } p.marks
+  pub since : IsIn (mark_at t (kind.Io class)) p.marks
   pub until : at t kind.Shared p.marks ≡ 0
 
--- the mark of this kind of an incarnation
-abbrev pub mark_at : WaitRef → Kind → Mark
-mark_at t k = record { handle = t.handle; generation = t.generation; kind = k }
-
--- the actor has seen the incarnation done: it has seen its handle at the place of CompletedShared, or later
+-- the actor has seen the incarnation done: its handle at CompletedShared (place 6) or later
 abbrev pub IsSeenDone : Known → WaitRef → Type 0
 IsSeenDone p t = 8 * t.generation + 6 ≤ seen_of p t.handle
 
 -- how many marks of an incarnation the list has of those that an owner makes
 abbrev pub owned : WaitRef → List Mark → ℕ
-owned t ms = at t kind.Defined ms + at t kind.Staged ms + at t kind.Submitted ms + at t a_local ms + at t kind.Reclaimed ms
+owned t ms = at t kind.Defined ms + at t kind.Staged ms + at t kind.Submitted ms + at t a_local ms
+    + at t kind.Reclaimed ms
 
 -- how many it has of those that a claimer makes
 abbrev pub worked : WaitRef → List Mark → ℕ
@@ -77,7 +76,7 @@ io_marks ms = count_by is_io ms
 abbrev pub failed_marks : List Mark → ℕ
 failed_marks ms = count_by (λ m. is_failed m.kind) ms
 
--- marks of incarnations that were taken up, each claimed, executed and completed: as many of each, and no owner's mark
+-- marks of incarnations that were taken up, each claimed, executed and completed
 pub record Took (more : List Mark) : Type 0 where
   pub owners : (t : WaitRef) → owned t more ≡ 0
   pub io : (t : WaitRef) → at t an_io more ≡ at t kind.Claimed more

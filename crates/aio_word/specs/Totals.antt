@@ -11,8 +11,10 @@ incarnations c words = sum_by (λ (w : Word). w.generation - c.start) words
 
 -- how many incarnations the backends have claimed
 abbrev pub by_backends : Config → List Known → ℕ
-by_backends c parts = sum_by (λ (p : Known). cond (nat_lt p.number c.backends) (claimed_marks p.marks) 0) parts
+by_backends c parts =
+    sum_by (λ (p : Known). cond (nat_lt p.number c.backends) (claimed_marks p.marks) 0) parts
 
 -- how many the runners have claimed
 abbrev pub by_runners : Config → List Known → ℕ
-by_runners c parts = sum_by (λ (p : Known). cond (nat_lt p.number c.backends) 0 (claimed_marks p.marks)) parts
+by_runners c parts =
+    sum_by (λ (p : Known). cond (nat_lt p.number c.backends) 0 (claimed_marks p.marks)) parts

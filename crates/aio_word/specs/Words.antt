@@ -1,7 +1,9 @@
--- The word of a handle as a number, the place of its generation in a life, and when an incarnation is done.
+-- The word of a handle as a number, the place of its generation in a life, and when an incarnation
+-- is done.
 use Rattle.std.specs.Prelude.{◌≡◌, ◌≢◌, ℕ, ◌+◌, ◌*◌, ◌^◌, ◌<◌, ◌≤◌, ◌⊎◌, Bool, true, false, cond}
 use Rattle.aio_word.specs.declared.State.{State}
-use Rattle.aio_word.specs.declared.State.TheVariants.{Idle, HandedOut, Defined, Staged, Submitted, CompletedIo, CompletedShared, CompletedLocal}
+use Rattle.aio_word.specs.declared.State.TheVariants.{Idle, HandedOut, Defined, Staged, Submitted}
+use Rattle.aio_word.specs.declared.State.TheVariants.{CompletedIo, CompletedShared, CompletedLocal}
 use Rattle.aio_word.specs.declared.Class.{Class}
 use Rattle.aio_word.specs.declared.Class.TheVariants.{Unended, Whole, Short, Failed}
 use Rattle.aio_word.specs.declared.Word.{Word}
@@ -47,9 +49,16 @@ pub record IsLawful (w : Word) : Type 0 where
   pub claim : ClaimFits w.state w.claimed
   pub class : ClassFits w.state w.class
 
--- the word as a number: state in bits 0 to 2, claim in bit 3, class in bits 4 and 5, generation from bit 6 on; this project's own packing
+-- the word as a number: state in bits 0 to 2, claim in bit 3, class in bits 4 and 5, generation
+-- from bit 6 on; this packing is the project's own
 abbrev pub packed : Word → ℕ
-packed w = number_of_state w.state + 8 * cond w.claimed 1 0 + 16 * number_of_class w.class + 64 * w.generation
+packed w =
+    number_of_state w.state + 8 * cond w.claimed 1 0 + 16 * number_of_class w.class
+    + 64 * w.generation
+
+-- no lawful word packs to the number
+abbrev pub IsOfNoWord : ℕ → Type 0
+IsOfNoWord number = (w : Word) → IsLawful w → packed w ≢ number
 
 -- how many marks of a life an incarnation has in this state
 abbrev pub place_in : State → Bool → ℕ
@@ -72,7 +81,7 @@ rank_of w = 8 * w.generation + place_of w
 
 -- a pair of generation and place is not above another one: the generation is compared first
 abbrev pub IsNotAbove : ℕ → ℕ → ℕ → ℕ → Type 0
-IsNotAbove generation place other_generation other_place = (generation < other_generation) ⊎ ((generation ≡ other_generation) × (place ≤ other_place))
+IsNotAbove g p g' p' = (g < g') ⊎ ((g ≡ g') × (p ≤ p'))
 
 -- the states of an incarnation whose result is there for everyone
 abbrev pub IsEnded : State → Type 0
@@ -80,6 +89,7 @@ IsEnded CompletedShared = Unit {0}
 IsEnded CompletedLocal = Unit {0}
 IsEnded _ = ⊥
 
--- the handle's incarnation of that generation is done, by this word: the word is past it, or has it completed (pgaio_wref_check_done in aio.c)
+-- the handle's incarnation of that generation is done, by this word: the word is past it, or has it
+-- completed (pgaio_wref_check_done in aio.c)
 abbrev pub IsDone : Word → ℕ → Type 0
 IsDone w generation = (generation < w.generation) ⊎ ((w.generation ≡ generation) × IsEnded w.state)

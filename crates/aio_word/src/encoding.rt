@@ -3,7 +3,8 @@
 
 ghost use Rattle.std.specs.Prelude.{◌≡◌, ◌≢◌, ◌<◌, ◌^◌, ℕ, IfOk, IfErr, IsTrue, ◌↔◌};
 ghost use Rattle.aio_word.specs.declared.Word.{Word};
-ghost use Rattle.aio_word.specs.Words.{IsLawful, ClaimFits, ClassFits, packed, place_of, IsDone, number_of_state, number_of_class};
+ghost use Rattle.aio_word.specs.Words.{IsLawful, ClaimFits, ClassFits, packed, place_of, IsDone};
+ghost use Rattle.aio_word.specs.Words.{IsOfNoWord, number_of_state, number_of_class};
 
 use crate::{BadWord, Class, State, WaitRef, Word};
 
@@ -135,7 +136,7 @@ fn parts_of(number: u64) -> Word
 pub fn unpack(number: u64) -> Result<Word, BadWord>
     ensures ok { IfOk result (λ w. IsLawful w × (packed w ≡ number)) }
     ensures only { IfOk result (λ w. (v : Word) → IsLawful v → packed v ≡ number → v ≡ w) }
-    ensures err { IfErr result (λ e. (e.0 ≡ number) × ((w : Word) → IsLawful w → packed w ≢ number)) }
+    ensures err { IfErr result (λ e. (e.0 ≡ number) × IsOfNoWord number) }
 {
     let word = parts_of(number);
     if claim_fits(word.state, word.claimed) && class_fits(word.state, word.class) {

@@ -12,7 +12,8 @@ ghost use Rattle.aio_word.specs.declared.Step.{Step};
 ghost use Rattle.aio_word.specs.declared.WaitRef.{WaitRef};
 ghost use Rattle.aio_word.specs.declared.Word.{Word};
 ghost use Rattle.aio_word.specs.Words.{IsDone, IsLawful, last_generation, place_of, rank_of};
-ghost use Rattle.aio_word.specs.Events.{Machine, Reached, stepped, order, ref, a_local, leaves, after as word_after};
+ghost use Rattle.aio_word.specs.Events.{Machine, Reached, stepped, order, ref, a_local, leaves};
+ghost use Rattle.aio_word.specs.Events.{after as word_after};
 ghost use Rattle.aio_word.specs.Stands.{MachineStands, Stands, stands};
 ghost use Rattle.aio_word.specs.Ranked.{Ranked};
 ghost use Rattle.aio_word.specs.Totals.{incarnations, by_backends, by_runners};
@@ -63,7 +64,8 @@ pub fn shared_then_taken()
     ensures once { (c : Config) (words : List Word) (parts : List Known) (t : WaitRef)
         → Stands c words parts → 0 < stands t a_local parts
         → (stands t kind.Shared parts ≡ 1) × (stands t a_local parts ≡ 1) }
-    ensures earlier { (c : Config) (words : List Word) (parts : List Known) (t : WaitRef) (earlier later : Kind)
+    ensures earlier { (c : Config) (words : List Word) (parts : List Known)
+        (t : WaitRef) (earlier later : Kind)
         → Stands c words parts → order earlier ≤ order later
         → stands t later parts ≤ stands t earlier parts }
 {}
