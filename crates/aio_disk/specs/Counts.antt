@@ -1,0 +1,21 @@
+-- Counts of faults, of reads and of the like. The code keeps each in 64 bits, and it stays at its last value once it is there.
+use Rattle.std.specs.Prelude.{◌≡◌, ℕ, ◌+◌, ◌-◌, ◌^◌, ◌≤◌, ◌<◌, min, max, Result, OnErr}
+
+-- the count with so many more: it never falls, and stays where it is once it is at its last value
+abbrev pub raised_by : ℕ → ℕ → ℕ
+raised_by more before = max before (min (before + more) (2 ^ 64 - 1))
+
+-- the count has risen, or stands at its last value
+abbrev pub Rose : ℕ → ℕ → Type 0
+Rose before now = raised_by 1 before ≤ now
+
+-- the count did not fall, and an error comes only where it rose
+pub record HasCause {T E : Type 0} (before now : ℕ) (result : Result T E) : Type 0 where
+  pub later : before ≤ now
+  pub failed : OnErr result (Rose before now)
+
+-- the count rose where another is above 0, and stayed where that is 0
+pub record RisesBy (other before now : ℕ) : Type 0 where
+  pub later : before ≤ now
+  pub risen : 0 < other → Rose before now
+  pub stays : other ≡ 0 → now ≡ before

@@ -1,0 +1,19 @@
+-- What a disk answers, where it tells its contents.
+use Rattle.std.specs.Prelude.{◌≡◌, ℕ, ◌-◌, ◌≤◌, ◌<◌, List, map, take, length, Option, Result, IfSome, IfOk}
+use Rattle.std.specs.List.{range_with_len}
+use Rattle.page_check.specs.Told.{Told, blocks_of, page_of}
+
+-- the first n of the pages are those of the blocks from `first` on, and n is 0 exactly where the relation ends at or before `first`
+pub record ReadsPages (told : Told) (relation first n : ℕ) (pages : List (List ℕ)) : Type 0 where
+  pub within : n ≤ blocks_of told relation - first
+  pub some : first < blocks_of told relation → 0 < n
+  pub told_pages : take n pages ≡ map (page_of told relation) (range_with_len first n)
+
+-- a length that was answered is the told one
+abbrev pub AnswersLength : {E : Type 0} → Option Told → ℕ → Result ℕ E → Type 0
+AnswersLength told relation result = IfOk result (λ n. IfSome told (λ t. n ≡ blocks_of t relation))
+
+-- no more pages were read than asked for, and those that were are the told ones
+abbrev pub AnswersPages : {E : Type 0} → Option Told → ℕ → ℕ → Result ℕ E → List (List ℕ) → Type 0
+AnswersPages told relation first result pages =
+    IfOk result (λ n. (n ≤ length pages) × IfSome told (λ t. ReadsPages t relation first n pages))

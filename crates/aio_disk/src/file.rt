@@ -1,0 +1,388 @@
+//! Real files as disks.
+ghost use Rattle.std.specs.Prelude.{◌≡◌, ◌≤◌, ◌<◌, ◌^◌, None, length, IfOk};
+
+use crate::{DeviceFault, Disk, OpenFault, Shelf};
+use page_check::{PAGE_SIZE, Page};
+use std::fs::{self, File, FileType};
+use std::io::{self, Seek, SeekFrom};
+use std::os::unix::fs::{FileExt, FileTypeExt};
+use std::rt::Files;
+
+/// How many blocks one system call reads at most.
+const RUN: usize = 16;
+
+/// Relation files that are open for reading, and room for one run of blocks. It does not tell what
+/// they hold.
+#[derive(Drop)]
+pub struct FileDisk {
+    files: Vec<File>,
+    buffer: Vec<u8>,
+    faults: u64,
+    length_faults: u64,
+    reads: u64,
+}
+
+// How many whole blocks a file has, by its end (`FileSize` of `fd.c`).
+fn file_blocks(mut file: &File) -> io::Result<u32> {
+    let blocks = file.seek(SeekFrom::End(0))? / PAGE_SIZE as u64;
+    Ok(blocks.min(u64::from(u32::MAX)) as u32)
+}
+
+// Reads until the bytes hold at least one whole block, or to the file's end, and says how many bytes.
+fn read_some(file: &File, offset: u64, bytes: &mut [u8]) -> io::Result<usize>
+    requires { offset < 2 ^ 62 }
+    ensures { IfOk result (λ n. n ≤ length bytes.new) }
+{
+    let mut done = 0;
+    for _ in 0..u64::MAX {
+        if done >= bytes.len().min(PAGE_SIZE) {
+            return Ok(done);
+        }
+        match file.read_at(&mut bytes[done..], offset + done as u64) {
+            Ok(0) => return Ok(done),
+            Ok(n) => done += n,
+            Err(e) if e.kind() == io::ErrorKind::Interrupted => {}
+            Err(e) => return Err(e),
+        }
+    }
+    Ok(done)
+}
+
+// Reads one block in place, and says how many whole blocks that gave.
+fn read_block(file: &File, block: u64, page: &mut Page) -> io::Result<usize>
+    requires { block < 2 ^ 33 }
+    ensures { IfOk result (λ n. n ≤ 1) }
+{
+    let got = read_some(file, block * PAGE_SIZE as u64, page.bytes_mut())?;
+    Ok(got / PAGE_SIZE)
+}
+
+// Reads a run of blocks by way of the buffer, and says how many.
+fn read_run(file: &File, block: u64, buffer: &mut [u8], pages: &mut [Page]) -> io::Result<usize>
+    requires { block < 2 ^ 33 }
+    ensures { IfOk result (λ n. n ≤ length pages.new) }
+{
+    let room = pages.len().min(buffer.len() / PAGE_SIZE);
+    let bytes = &mut buffer[..room * PAGE_SIZE];
+    let got = read_some(file, block * PAGE_SIZE as u64, bytes)?;
+    let count = got / PAGE_SIZE;
+    for index in 0..count {
+        let start = index * PAGE_SIZE;
+        pages[index]
+            .bytes_mut()
+            .copy_from_slice(&bytes[start..start + PAGE_SIZE]);
+    }
+    Ok(count)
+}
+
+// Reads run by run, and says how many blocks. It ends at a run that is not whole, and at a fault
+// behind a whole block.
+fn read_runs(file: &File, first: u32, buffer: &mut [u8], pages: &mut [Page]) -> io::Result<usize>
+    requires { length pages.old ≤ 128 }
+    ensures { IfOk result (λ n. n ≤ length pages.new) }
+{
+    let mut done = 0;
+    for start in (0..pages.len()).step_by(RUN) {
+        let end = pages.len().min(start + RUN);
+        match read_run(
+            file,
+            u64::from(first) + start as u64,
+            buffer,
+            &mut pages[start..end],
+        ) {
+            Ok(count) => done = start + count,
+            Err(_) if start > 0 => return Ok(done),
+            Err(e) => return Err(e),
+        }
+        if done < end {
+            return Ok(done);
+        }
+    }
+    Ok(done)
+}
+
+// Reads whole blocks, and says how many.
+fn read_blocks(file: &File, first: u32, buffer: &mut [u8], pages: &mut [Page]) -> io::Result<usize>
+    requires { length pages.old ≤ 128 }
+    ensures { IfOk result (λ n. n ≤ length pages.new) }
+{
+    match pages {
+        [page] => read_block(file, u64::from(first), page),
+        _ => read_runs(file, first, buffer, pages),
+    }
+}
+
+impl Disk for FileDisk {
+    ghost relations = { λ disk. length disk.files.items };
+
+    ghost told = { λ _. None };
+
+    ghost faults = { λ disk. disk.faults };
+
+    ghost length_faults = { λ disk. disk.length_faults };
+
+    ghost reads = { λ disk. disk.reads };
+
+    fn blocks(&mut self, relation: u32) -> Result<u32, DeviceFault> {
+        match file_blocks(&self.files[relation as usize]) {
+            Ok(blocks) => Ok(blocks),
+            Err(_) => {
+                self.length_faults = self.length_faults.saturating_add(1);
+                Err(DeviceFault)
+            }
+        }
+    }
+
+    /// Reads in place where one page is asked for, and else by runs of up to 16 blocks, each of them
+    /// one system call. After a fault behind a whole block it answers the pages before it.
+    fn read(&mut self, relation: u32, first: u32, pages: &mut [Page]) -> Result<u32, DeviceFault> {
+        self.reads = self.reads.saturating_add(1);
+        let buffer = self.buffer.as_mut_slice();
+        match read_blocks(&self.files[relation as usize], first, buffer, pages) {
+            Ok(count) => Ok(count as u32),
+            Err(_) => {
+                self.faults = self.faults.saturating_add(1);
+                Err(DeviceFault)
+            }
+        }
+    }
+}
+
+// Whether what is opened can be read by blocks.
+fn has_blocks(kind: FileType) -> bool {
+    kind.is_file() || kind.is_block_device()
+}
+
+// Opens a regular file or a block device, and nothing else. What the name stands for is looked at
+// before it is opened too, since to open a FIFO is to wait for its writer.
+fn open_file<R: Files<File = File>>(rt: &R, name: &str) -> io::Result<File> {
+    if !has_blocks(fs::metadata(rt, name)?.file_type()) {
+        return Err(io::Error::from(io::ErrorKind::InvalidInput));
+    }
+    let file = File::open(rt, name)?;
+    if !has_blocks(file.metadata()?.file_type()) {
+        return Err(io::Error::from(io::ErrorKind::InvalidInput));
+    }
+    Ok(file)
+}
+
+// Opens the files of these names in their order.
+fn open_files<R: Files<File = File> + AllocGlobal>(
+    rt: &R,
+    names: &[String],
+) -> Result<Vec<File>, OpenFault>
+    ensures { IfOk result (λ files. length files.items ≡ length names.now) }
+{
+    let mut files = Vec::new(rt.alloc());
+    for name in names {
+        match open_file(rt, name.as_str()) {
+            Ok(file) => files.push(file).map_err(|_| OpenFault::Memory)?,
+            Err(e) if e.kind() == io::ErrorKind::OutOfMemory => return Err(OpenFault::Memory),
+            Err(_) => return Err(OpenFault::Device),
+        }
+    }
+    Ok(files)
+}
+
+/// Opens real files for reading. It does not tell what they hold.
+#[derive(Drop)]
+pub struct FileShelf<'r, R: Files<File = File> + AllocGlobal> {
+    rt: &'r R,
+    open_faults: u64,
+    length_faults: u64,
+    faults: u64,
+    reads: u64,
+}
+
+impl<'r, R: Files<File = File> + AllocGlobal> FileShelf<'r, R> {
+    /// A shelf over the files of the system.
+    pub fn new(rt: &'r R) -> Self
+        ensures told { ⟦<FileShelf<'r, R> as Shelf>⟧.told result ≡ None }
+        ensures open_faults { ⟦<FileShelf<'r, R> as Shelf>⟧.open_faults result ≡ 0 }
+        ensures length_faults { ⟦<FileShelf<'r, R> as Shelf>⟧.length_faults result ≡ 0 }
+        ensures faults { ⟦<FileShelf<'r, R> as Shelf>⟧.faults result ≡ 0 }
+        ensures reads { ⟦<FileShelf<'r, R> as Shelf>⟧.reads result ≡ 0 }
+    {
+        FileShelf {
+            rt,
+            open_faults: 0,
+            length_faults: 0,
+            faults: 0,
+            reads: 0,
+        }
+    }
+}
+
+impl<R: Files<File = File> + AllocGlobal> Shelf for FileShelf<'_, R> {
+    type Disk = FileDisk;
+
+    ghost told = { λ _. None };
+
+    ghost open_faults = { λ shelf. shelf.open_faults };
+
+    ghost length_faults = { λ shelf. shelf.length_faults };
+
+    ghost faults = { λ shelf. shelf.faults };
+
+    ghost reads = { λ shelf. shelf.reads };
+
+    /// A name that is not there, and one of a directory or of anything else that is neither a regular
+    /// file nor a block device, is a device fault.
+    fn open(&mut self, names: &[String]) -> Result<FileDisk, OpenFault> {
+        let Ok(buffer) = vec![in self.rt.alloc(); 0u8; RUN * PAGE_SIZE] else {
+            return Err(OpenFault::Memory);
+        };
+        match open_files(self.rt, names) {
+            Ok(files) => Ok(FileDisk {
+                files,
+                buffer,
+                faults: 0,
+                length_faults: 0,
+                reads: 0,
+            }),
+            Err(OpenFault::Memory) => Err(OpenFault::Memory),
+            Err(OpenFault::Device) => {
+                self.open_faults = self.open_faults.saturating_add(1);
+                Err(OpenFault::Device)
+            }
+        }
+    }
+
+    fn take_back(&mut self, disk: FileDisk) {
+        self.reads = self.reads.saturating_add(disk.reads);
+        self.faults = self.faults.saturating_add(u64::from(disk.faults > 0));
+        self.length_faults = self
+            .length_faults
+            .saturating_add(u64::from(disk.length_faults > 0));
+    }
+}
+
+#[cfg(test)]
+mod tests {
+    use super::*;
+    use std::alloc::{AllocError, Global};
+    use std::process::Abort;
+    use std::test::Fail;
+
+    // Writes a file of blocks, each filled with a byte of its own from `byte` on, and then a part of
+    // a block.
+    fn write_file<R: Files<File = File> + AllocGlobal>(
+        rt: &R,
+        name: &str,
+        byte: u8,
+        blocks: u8,
+    ) -> Result<(), Fail> {
+        let mut bytes = Vec::new(rt.alloc());
+        for block in 0..blocks {
+            bytes.extend_from_slice(&[byte.wrapping_add(block); PAGE_SIZE])?;
+        }
+        bytes.extend_from_slice(b"part of a block")?;
+        fs::write(rt, name, bytes.as_slice())?;
+        Ok(())
+    }
+
+    fn zeroed_pages(alloc: Global, count: usize) -> Result<Vec<Page>, AllocError> {
+        let mut pages = Vec::new(alloc);
+        for _ in 0..count {
+            pages.push(Page::zeroed(alloc)?)?;
+        }
+        Ok(pages)
+    }
+
+    // The byte that fills the page.
+    fn filling(page: &Page) -> Option<u8> {
+        let byte = page.bytes().first().copied()?;
+        page.bytes()
+            .iter()
+            .all(|other| *other == byte)
+            .then_some(byte)
+    }
+
+    // Reads, and says what fills each page that was read.
+    fn read<R: Abort + AllocGlobal>(
+        rt: &R,
+        disk: &mut FileDisk,
+        relation: u32,
+        first: u32,
+        count: usize,
+    ) -> Result<Vec<Option<u8>>, Fail> {
+        let alloc = rt.alloc();
+        let mut pages = zeroed_pages(alloc, count)?;
+        assert!(rt; (relation as usize) < disk.files.len());
+        assert!(rt; 0 < pages.len() && pages.len() <= 128);
+        let answered = disk
+            .read(relation, first, pages.as_mut_slice())
+            .ok()
+            .ok_or("a fault")?;
+        let mut fillings = Vec::new(alloc);
+        for page in &pages[..answered as usize] {
+            fillings.push(filling(page))?;
+        }
+        Ok(fillings)
+    }
+
+    #[test]
+    fn two_files_are_two_relations(rt: HostRuntime) -> Result<(), Fail> {
+        let alloc = rt.alloc();
+        write_file(&rt, "first", 1, 3)?;
+        write_file(&rt, "second", 101, 20)?;
+        let names = vec![in alloc;
+            String::from_str(alloc, "first")?,
+            String::from_str(alloc, "second")?,
+        ]?;
+        let mut shelf = FileShelf::new(&rt);
+        let mut disk = shelf.open(names.as_slice()).ok().ok_or("no disk")?;
+        assert_eq!(rt; disk.files.len(), 2);
+        assert_eq!(rt; disk.blocks(0).ok(), Some(3));
+        assert_eq!(rt; disk.blocks(1).ok(), Some(20));
+
+        // Three pages of relation 1, more than one run of blocks, and one page in place.
+        let three = [Some(103), Some(104), Some(105)];
+        assert_eq!(rt; read(&rt, &mut disk, 1, 2, 3)?.as_slice(), three.as_slice());
+        let all = read(&rt, &mut disk, 1, 0, 20)?;
+        assert_eq!(rt; all.len(), 20);
+        assert_eq!(rt;
+            &all[14..18],
+            [Some(115), Some(116), Some(117), Some(118)].as_slice()
+        );
+        assert_eq!(rt;
+            read(&rt, &mut disk, 0, 1, 1)?.as_slice(),
+            [Some(2)].as_slice()
+        );
+
+        // At the end, where a part of a block stands, and past it.
+        assert_eq!(rt;
+            read(&rt, &mut disk, 0, 2, 3)?.as_slice(),
+            [Some(3)].as_slice()
+        );
+        assert_eq!(rt; read(&rt, &mut disk, 1, 1, 128)?.len(), 19);
+        assert_eq!(rt; read(&rt, &mut disk, 0, 3, 3)?.len(), 0);
+        assert_eq!(rt; read(&rt, &mut disk, 0, 3, 1)?.len(), 0);
+        assert_eq!(rt; read(&rt, &mut disk, 0, u32::MAX, 128)?.len(), 0);
+
+        shelf.take_back(disk);
+        assert_eq!(rt; shelf.reads, 8);
+        assert_eq!(rt;
+            (shelf.open_faults, shelf.length_faults, shelf.faults),
+            (0, 0, 0)
+        );
+        Ok(())
+    }
+
+    #[test]
+    fn what_has_no_blocks_is_refused(rt: HostRuntime) -> Result<(), Fail> {
+        let alloc = rt.alloc();
+        write_file(&rt, "third", 1, 1)?;
+        let mut shelf = FileShelf::new(&rt);
+        for name in ["missing", ".", "/dev/null", ""] {
+            let names = vec![in alloc;
+                String::from_str(alloc, "third")?,
+                String::from_str(alloc, name)?,
+            ]?;
+            assert!(rt; matches!(shelf.open(names.as_slice()), Err(OpenFault::Device)));
+        }
+        assert_eq!(rt; shelf.open_faults, 4);
+        fs::remove_file(&rt, "third")?;
+        Ok(())
+    }
+}

@@ -1,0 +1,351 @@
+//! Shelves in memory whose disks do not fail.
+ghost use Rattle.std.specs.Prelude.{◌≡◌, ◌≤◌, ◌<◌, ◌-◌, min, length, map, take, Some, None, IfOk, OnOk, IsErrOf, string_bytes};
+ghost use Rattle.std.specs.List.{range_with_len};
+ghost use Rattle.page_check.specs.Told.{told_in, blocks_of, page_of, relation_of};
+ghost use Rattle.aio_disk.specs.declared.fault.OpenFault.TheVariants.{Device, Memory};
+ghost use Rattle.aio_disk.specs.Shelf.{AllThere, OneMissing, file_of};
+ghost use Rattle.aio_disk.specs.Steady.{fresh_shelf, next_disk, with_disk, with_open_fault, with_disk_back, with_read};
+
+use crate::read_log::ReadLog;
+use crate::shared::{NamedFile, SharedBytes, copy_blocks, find_files, share_files, whole_blocks};
+use crate::{DeviceFault, Disk, OpenFault, ReadEntry, Shelf};
+use page_check::Page;
+use std::alloc::{AllocError, Global};
+use std::marker::Model;
+
+/// A disk of a [`SteadyShelf`].
+#[derive(Drop)]
+pub struct SteadyDisk {
+    number: u32,
+    files: Vec<SharedBytes>,
+    read_count: u64,
+    read_log: ReadLog,
+}
+
+impl Model for SteadyDisk {
+    ghost use Rattle.aio_disk.specs.Steady.{SteadyDiskState};
+
+    ghost Value = { SteadyDiskState };
+
+    ghost view = { λ disk. record {
+      number = disk.number;
+      relations = disk.files.items;
+      reads = disk.read_count;
+      log = disk.read_log;
+    } };
+}
+
+impl SteadyDisk {
+    /// How many blocks the relation has.
+    pub(crate) fn length(&self, relation: u32) -> u32
+        requires { relation < length self.now.relations }
+        ensures { result ≡ blocks_of (told_in self.now.relations) relation }
+    {
+        whole_blocks(self.files[relation as usize].as_slice())
+    }
+
+    /// Reads pages, and no more than `most`, and says how many.
+    pub(crate) fn read_up_to(
+        &mut self,
+        relation: u32,
+        first: u32,
+        most: u32,
+        pages: &mut [Page],
+    ) -> u32
+        requires relation { relation < length self.old.relations }
+        requires few { length pages.old ≤ 128 }
+        ensures count { result ≡ min (blocks_of (told_in self.old.relations) relation - first)
+            (min most (length pages.old)) }
+        ensures pages { take result pages.new
+            ≡ map (page_of (told_in self.old.relations) relation) (range_with_len first result) }
+        ensures read { self.new ≡ with_read self.old (record {
+          disk = self.old.number;
+          relation = relation;
+          first = first;
+          asked = length pages.old;
+          answered = Some result;
+        }) }
+    {
+        let count = copy_blocks(self.files[relation as usize].as_slice(), first, most, pages);
+        let asked = pages.len() as u32;
+        self.note(relation, first, asked, Some(count));
+        count
+    }
+
+    /// Counts a read, and adds it to the log.
+    pub(crate) fn note(&mut self, relation: u32, first: u32, asked: u32, answered: Option<u32>)
+        ensures { self.new ≡ with_read self.old (record {
+          disk = self.old.number;
+          relation = relation;
+          first = first;
+          asked = asked;
+          answered = answered;
+        }) }
+    {
+        self.read_count = self.read_count.saturating_add(1);
+        self.read_log.add(ReadEntry {
+            disk: self.number,
+            relation,
+            first,
+            asked,
+            answered,
+        });
+    }
+}
+
+impl Disk for SteadyDisk {
+    ghost relations = { λ disk. length disk.relations };
+
+    ghost told = { λ disk. Some (told_in disk.relations) };
+
+    ghost faults = { λ disk. 0 };
+
+    ghost length_faults = { λ disk. 0 };
+
+    ghost reads = { λ disk. disk.reads };
+
+    fn blocks(&mut self, relation: u32) -> Result<u32, DeviceFault> {
+        Ok(self.length(relation))
+    }
+
+    fn read(&mut self, relation: u32, first: u32, pages: &mut [Page]) -> Result<u32, DeviceFault> {
+        Ok(self.read_up_to(relation, first, u32::MAX, pages))
+    }
+}
+
+/// A shelf in memory whose disks do not fail: made by [`MemShelf::steady`](crate::MemShelf::steady).
+#[derive(Drop)]
+pub struct SteadyShelf {
+    alloc: Global,
+    named_files: Vec<NamedFile>,
+    disk_count: u32,
+    open_fault_count: u64,
+    read_count: u64,
+    read_log: ReadLog,
+}
+
+impl Model for SteadyShelf {
+    ghost use Rattle.aio_disk.specs.Steady.{SteadyShelfState};
+
+    ghost Value = { SteadyShelfState };
+
+    ghost view = { λ shelf. record {
+      files = shelf.named_files.items;
+      disks = shelf.disk_count;
+      open_faults = shelf.open_fault_count;
+      reads = shelf.read_count;
+      log = shelf.read_log;
+    } };
+}
+
+impl SteadyShelf {
+    pub(crate) fn new(
+        alloc: Global,
+        files: Vec<(String, Vec<u8>)>,
+        log_room: usize,
+    ) -> Result<SteadyShelf, AllocError>
+        ensures { IfOk result (λ shelf. shelf ≡ fresh_shelf (map file_of files.items) log_room) }
+    {
+        Ok(SteadyShelf {
+            alloc,
+            named_files: share_files(alloc, files)?,
+            disk_count: 0,
+            open_fault_count: 0,
+            read_count: 0,
+            read_log: ReadLog::with_room(alloc, log_room)?,
+        })
+    }
+
+    /// The reads of all disks that were taken back, disk by disk in the order of taking back, each
+    /// disk's in their own order. Those past the room that the shelf was made with are left out.
+    pub fn log(&self) -> &[ReadEntry]
+        ensures { result.now ≡ self.now.log.entries }
+    {
+        self.read_log.entries()
+    }
+
+    /// Opens a disk, as [`Shelf::open`] does: a device fault comes exactly where a name is missing.
+    pub fn open(&mut self, names: &[String]) -> Result<SteadyDisk, OpenFault>
+        ensures all_there { OnOk result (AllThere self.old.files (map string_bytes names.now)) }
+        ensures disk { IfOk result (λ disk. disk ≡ next_disk self.old (map string_bytes names.now)) }
+        ensures opened { OnOk result (self.new ≡ with_disk self.old) }
+        ensures missing { IsErrOf result Device → OneMissing self.old.files (map string_bytes names.now) }
+        ensures counted { IsErrOf result Device → self.new ≡ with_open_fault self.old }
+        ensures memory { IsErrOf result Memory → self.new ≡ self.old }
+        ensures later { self.old.open_faults ≤ self.new.open_faults }
+    {
+        let Ok(found) = find_files(self.alloc, self.named_files.as_slice(), names) else {
+            return Err(OpenFault::Memory);
+        };
+        let Some(files) = found else {
+            self.open_fault_count = self.open_fault_count.saturating_add(1);
+            return Err(OpenFault::Device);
+        };
+        let Ok(read_log) = ReadLog::with_room(self.alloc, self.read_log.room()) else {
+            return Err(OpenFault::Memory);
+        };
+        let number = self.disk_count;
+        self.disk_count = self.disk_count.saturating_add(1);
+        Ok(SteadyDisk {
+            number,
+            files,
+            read_count: 0,
+            read_log,
+        })
+    }
+
+    /// Takes a disk back, as [`Shelf::take_back`] does, and adds its reads to the log.
+    pub fn take_back(&mut self, disk: SteadyDisk)
+        ensures { self.new ≡ with_disk_back self.old disk }
+    {
+        self.read_count = self.read_count.saturating_add(disk.read_count);
+        self.read_log.add_all(disk.read_log.entries());
+    }
+}
+
+impl Shelf for SteadyShelf {
+    type Disk = SteadyDisk;
+
+    ghost told = { λ shelf. Some shelf.files };
+
+    ghost open_faults = { λ shelf. shelf.open_faults };
+
+    ghost length_faults = { λ shelf. 0 };
+
+    ghost faults = { λ shelf. 0 };
+
+    ghost reads = { λ shelf. shelf.reads };
+
+    fn open(&mut self, names: &[String]) -> Result<SteadyDisk, OpenFault> {
+        SteadyShelf::open(self, names)
+    }
+
+    fn take_back(&mut self, disk: SteadyDisk) {
+        SteadyShelf::take_back(self, disk);
+    }
+}
+
+#[cfg(test)]
+mod tests {
+    use super::*;
+    use crate::MemShelf;
+    use std::process::Abort;
+    use std::test::Fail;
+
+    // Opens a disk for both files of the shelf, in the other order.
+    fn open<R: Abort + AllocGlobal>(rt: &R, shelf: &mut SteadyShelf) -> Result<SteadyDisk, Fail>
+        ensures { IfOk result (λ disk. length disk.relations ≡ 2) }
+    {
+        let alloc = rt.alloc();
+        let names = vec![in alloc;
+            String::from_str(alloc, "two")?,
+            String::from_str(alloc, "none")?,
+        ]?;
+        let disk = shelf.open(names.as_slice()).ok().ok_or("no disk")?;
+        assert_eq!(rt; disk.files.len(), 2);
+        Ok(disk)
+    }
+
+    // A shelf with one file of two blocks and one of less than a block.
+    fn two_files<R: Abort + AllocGlobal>(rt: &R, log_room: usize) -> Result<SteadyShelf, Fail> {
+        let alloc = rt.alloc();
+        let mut two = vec![in alloc; 1u8; 8192]?;
+        two.extend_from_slice(&[2; 8192])?;
+        let files = vec![in alloc;
+            (String::from_str(alloc, "none")?, vec![in alloc; 7u8; 8191]?),
+            (String::from_str(alloc, "two")?, two),
+        ]?;
+        assert!(rt; crate::have_distinct_names(files.as_slice()));
+        Ok(MemShelf::steady(alloc, files, log_room)?)
+    }
+
+    // Reads one page through any disk, and gives its first byte.
+    fn first_byte<D: Disk>(mut disk: D, block: u32, page: Page) -> Option<u8>
+        requires { 0 < D.relations disk }
+    {
+        let mut pages = [page];
+        match disk.read(0, block, &mut pages) {
+            Ok(1) => pages[0].bytes().first().copied(),
+            _ => None,
+        }
+    }
+
+    #[test]
+    fn disks_share_the_told_pages(rt: HostRuntime) -> Result<(), Fail> {
+        let alloc = rt.alloc();
+        let mut shelf = two_files(&rt, 0)?;
+        let mut disk = open(&rt, &mut shelf)?;
+        let mut other = open(&rt, &mut shelf)?;
+        assert_eq!(rt;
+            (disk.blocks(0).ok(), disk.blocks(1).ok()),
+            (Some(2), Some(0))
+        );
+        assert_eq!(rt; first_byte(&mut disk, 0, Page::zeroed(alloc)?), Some(1));
+        assert_eq!(rt; first_byte(other, 1, Page::zeroed(alloc)?), Some(2));
+        Ok(())
+    }
+
+    #[test]
+    fn disks_taken_back_add_their_reads(rt: HostRuntime) -> Result<(), Fail> {
+        let alloc = rt.alloc();
+        let mut shelf = two_files(&rt, 3)?;
+        let mut first = open(&rt, &mut shelf)?;
+        let mut second = open(&rt, &mut shelf)?;
+        let mut pages = vec![in alloc;
+            Page::zeroed(alloc)?,
+            Page::zeroed(alloc)?,
+            Page::zeroed(alloc)?,
+        ]?;
+        for block in 0..4 {
+            assert!(rt; pages.len() == 3);
+            assert!(rt; first.files.len() == 2);
+            assert!(rt; first.read(0, block, pages.as_mut_slice()).is_ok());
+        }
+        assert!(rt; second.read(1, 0, pages.as_mut_slice()).is_ok());
+
+        // The room of three ends the log within the reads of the first disk, which was taken back last.
+        shelf.take_back(second);
+        shelf.take_back(first);
+        assert_eq!(rt; shelf.read_count, 5);
+        let entry = |disk, relation, first, answered| ReadEntry {
+            disk,
+            relation,
+            first,
+            asked: 3,
+            answered: Some(answered),
+        };
+        let log = [entry(1, 1, 0, 0), entry(0, 0, 0, 2), entry(0, 0, 1, 1)];
+        assert_eq!(rt; shelf.log(), log.as_slice());
+        Ok(())
+    }
+
+    #[test]
+    fn a_missing_name_is_a_device_fault(rt: HostRuntime) -> Result<(), Fail> {
+        let alloc = rt.alloc();
+        let mut shelf = two_files(&rt, 0)?;
+        let names = vec![in alloc;
+            String::from_str(alloc, "two")?,
+            String::from_str(alloc, "three")?,
+        ]?;
+        assert!(rt; matches!(shelf.open(names.as_slice()), Err(OpenFault::Device)));
+        assert_eq!(rt; shelf.open_fault_count, 1);
+        Ok(())
+    }
+
+    #[test]
+    fn a_name_given_twice_is_seen(rt: HostRuntime) -> Result<(), Fail> {
+        let alloc = rt.alloc();
+        for (last, distinct) in [("a", false), ("b", false), ("c", true)] {
+            let mut files = Vec::new(alloc);
+            for name in ["a", "b", last] {
+                files.push((String::from_str(alloc, name)?, Vec::new(alloc)))?;
+            }
+            assert_eq!(rt;
+                crate::have_distinct_names(files.as_slice()),
+                distinct,
+                "at {last}"
+            );
+        }
+        Ok(())
+    }
+}

@@ -1,0 +1,4 @@
+pub mod Items
+pub mod Texts
+pub mod LineCounts
+pub mod FirstLines

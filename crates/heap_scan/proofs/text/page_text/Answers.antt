@@ -1,0 +1,22 @@
+use Rattle.std.proofs.Common.{arith}
+use Rattle.heap_scan.proofs.LineCounts.{new_is_one_line, lines_of_valid}
+use Rattle.heap_scan.proofs.FirstLines.{telling_of_valid}
+use Rattle.heap_scan.proofs.text.page_text.Goals as goal
+
+pub returns-in_err-text-clause-new : goal.returns-in_err-text-clause-new
+returns-in_err-text-clause-new c = new_is_one_line _ _ _
+
+pub returns-in_err-text-clause-lines : goal.returns-in_err-text-clause-lines
+returns-in_err-text-clause-lines c = lines_of_valid _ _ _ c.requires
+
+pub returns-in_err-text-clause-telling : goal.returns-in_err-text-clause-telling
+returns-in_err-text-clause-telling c = telling_of_valid _ _ _ (omega arith) (omega arith) c.requires
+
+pub returns-clause-new : goal.returns-clause-new
+returns-clause-new c = new_is_one_line _ _ _
+
+pub returns-clause-lines : goal.returns-clause-lines
+returns-clause-lines c = lines_of_valid _ _ _ c.requires
+
+pub returns-clause-telling : goal.returns-clause-telling
+returns-clause-telling c = telling_of_valid _ _ _ (omega arith) (omega arith) c.requires

@@ -1,0 +1,81 @@
+//! Texts of worked pages.
+use crate::page_text;
+use page_check::{Page, Verdict, check};
+use std::alloc::{AllocError, Global};
+use std::test::Fail;
+
+// A page of zeros with lower, upper and special, and these bytes behind the header.
+fn page_of(alloc: Global, bounds: (u16, u16, u16), items: &[u8]) -> Result<Page, AllocError> {
+    let mut page = Page::zeroed(alloc)?;
+    let bytes = page.bytes_mut();
+    let (lower, upper, special) = bounds;
+    for (offset, field) in [(12usize, lower), (14, upper), (16, special)] {
+        for (place, byte) in bytes.iter_mut().skip(offset).zip(&field.to_le_bytes()) {
+            *place = *byte;
+        }
+    }
+    for (place, byte) in bytes.iter_mut().skip(24).zip(items) {
+        *place = *byte;
+    }
+    Ok(page)
+}
+
+// The text of a page of relation 7 at block 1234567, or none where it is not valid.
+fn text_of(alloc: Global, page: &Page) -> Result<Vec<u8>, AllocError> {
+    let mut out = Vec::new(alloc);
+    if check(page) != Verdict::Bad {
+        page_text(7, 1234567, page, &mut out)?;
+    }
+    Ok(out)
+}
+
+#[test]
+fn worked_texts(rt: HostRuntime) -> Result<(), Fail> {
+    let alloc = rt.alloc();
+    let rows: [((u16, u16, u16), &[u8], &str); 5] = [
+        (
+            (24, 8192, 8192),
+            &[],
+            "page 7 1234567 lower 24 upper 8192 special 8192 items 0\n",
+        ),
+        ((0, 0, 0), &[], "page 7 1234567 new\n"),
+        (
+            (20, 8184, 8184),
+            &[],
+            "page 7 1234567 lower 20 upper 8184 special 8184 items 0\n",
+        ),
+        (
+            (36, 8152, 8192),
+            &[0xd8, 0x9f, 0x50, 0, 5, 0, 1, 0, 0, 0x80, 1, 0],
+            "page 7 1234567 lower 36 upper 8152 special 8192 items 3\n\
+             item 1 normal 8152 40\nitem 2 redirect 5 0\nitem 3 dead 0 0\n",
+        ),
+        (
+            (30, 8192, 8192),
+            &[],
+            "page 7 1234567 lower 30 upper 8192 special 8192 items 1\nitem 1 unused 0 0\n",
+        ),
+    ];
+    for (bounds, items, text) in rows {
+        let out = text_of(alloc, &page_of(alloc, bounds, items)?)?;
+        assert_eq!(rt; out.as_slice(), text.as_bytes());
+    }
+    Ok(())
+}
+
+// The most line pointers that a page can have, behind what the vector held before.
+#[test]
+fn items_up_to_2042(rt: HostRuntime) -> Result<(), Fail> {
+    let alloc = rt.alloc();
+    let page = page_of(alloc, (8192, 8192, 8192), &[])?;
+    let mut wanted = String::from_str(alloc, "before\n")?;
+    wanted.push_str("page 0 0 lower 8192 upper 8192 special 8192 items 2042\n")?;
+    for number in 1..2043 {
+        writeln!(wanted, "item {number} unused 0 0")?;
+    }
+    let mut out = Vec::from_slice(alloc, b"before\n")?;
+    assert!(rt; check(&page) == Verdict::Sane);
+    page_text(0, 0, &page, &mut out)?;
+    assert_eq!(rt; out.as_slice(), wanted.as_str().as_bytes());
+    Ok(())
+}

@@ -1,0 +1,6 @@
+pub mod Bytes
+pub mod Zeros
+pub mod ValidPages
+pub mod SynchronousReads
+pub mod AnswersInOrder
+pub mod Rows

@@ -1,0 +1,89 @@
+-- What one thread's synchronous reads give for a list of blocks.
+use Rattle.std.specs.Prelude.{ℕ, Bool, true, false, nat_le, if◌then◌else◌, List, [], map, take, slice_get}
+use Rattle.std.specs.Prelude.{Option, Some, None}
+use Rattle.std.specs.List.{prefix_len}
+use Rattle.page_check.specs.declared.verdict.Verdict.{Verdict}
+use Rattle.page_check.specs.declared.verdict.Verdict.TheVariants.{Zero, Sane, Bad}
+use Rattle.page_check.specs.Verdict.{verdict_of}
+use Rattle.page_check.specs.Told.{Told, blocks_of, page_of}
+
+-- a block that is asked for, with the data that the asker keeps for it (`per_buffer_data` of `read_stream.h`)
+pub record Entry (P : Type 0) : Type 0 where
+  pub relation : ℕ
+  pub block : ℕ
+  pub per_buffer_data : P
+
+-- a page that was given for an entry
+pub record Given (P : Type 0) : Type 0 where
+  pub entry : Entry P
+  pub page : List ℕ
+
+-- how a list of entries ends: behind its last page, or at a block that has none to give
+pub data Ending : Type 0 where
+  End : Ending
+  Invalid : (block : ℕ) → Ending
+  PastEnd : (block : ℕ) → Ending
+  Unread : (block : ℕ) → Ending
+
+-- what one read of one block gives: its page, or that the page is Bad, or that there is no such block
+pub data Found : Type 0 where
+  Page : (bytes : List ℕ) → Found
+  Damaged : Found
+  Absent : Found
+
+-- the page, where the verdict on it is not Bad
+abbrev pub found_by : Verdict → List ℕ → Found
+found_by Bad page = Damaged
+found_by Zero page = Page page
+found_by Sane page = Page page
+
+unfoldable pub found_at : Told → ℕ → ℕ → Found
+found_at told relation block =
+    if nat_le (blocks_of told relation) block then Absent
+    else found_by (verdict_of (page_of told relation block)) (page_of told relation block)
+
+abbrev pub is_page : Found → Bool
+is_page (Page bytes) = true
+is_page Damaged = false
+is_page Absent = false
+
+abbrev pub page_in : Found → List ℕ
+page_in (Page bytes) = bytes
+page_in Damaged = []
+page_in Absent = []
+
+-- where a list ends, by what was found at its entry of this block
+abbrev pub ending_in : Found → ℕ → Ending
+ending_in (Page bytes) block = End
+ending_in Damaged block = Invalid block
+ending_in Absent block = PastEnd block
+
+module _ {P : Type 0} where
+  abbrev pub found_for : Told → Entry P → Found
+  found_for told e = found_at told e.relation e.block
+
+  abbrev pub can_read : Told → Entry P → Bool
+  can_read told e = is_page (found_for told e)
+
+  abbrev pub given_for : Told → Entry P → Given P
+  given_for told e = record { entry = e; page = page_in (found_for told e) }
+
+  -- how many entries stand before the first that gives no page
+  unfoldable pub read_count : Told → List (Entry P) → ℕ
+  read_count told entries = prefix_len (can_read told) entries
+
+  -- the pages of these entries
+  abbrev pub pages_of : Told → List (Entry P) → List (Given P)
+  pages_of told entries = map (given_for told) (take (read_count told entries) entries)
+
+  -- the first entry that gives no page, if there is one
+  abbrev pub stop_of : Told → List (Entry P) → Option (Entry P)
+  stop_of told entries = slice_get entries (read_count told entries)
+
+  abbrev pub ending_at : Told → Option (Entry P) → Ending
+  ending_at told None = End
+  ending_at told (Some e) = ending_in (found_for told e) e.block
+
+  -- and how the list ends there
+  abbrev pub ending_of : Told → List (Entry P) → Ending
+  ending_of told entries = ending_at told (stop_of told entries)
