@@ -13,8 +13,11 @@ EndedWhole t p q = Grows p q (mark_at t (kind.Io Whole) ∷ mark_at t kind.Share
 
 -- no life was begun or ended
 abbrev pub IsAmidLives : Known → Known → Type 0
-IsAmidLives p q = (t : WaitRef) → (at t kind.Defined q.marks ≡ at t kind.Defined p.marks) × (at t kind.Reclaimed q.marks ≡ at t kind.Reclaimed p.marks)
+IsAmidLives p q = (t : WaitRef) → (at t kind.Defined q.marks ≡ at t kind.Defined p.marks)
+    × (at t kind.Reclaimed q.marks ≡ at t kind.Reclaimed p.marks)
 
 -- the life of u alone was begun, and none was ended
 abbrev pub Begins : WaitRef → Known → Known → Type 0
-Begins u p q = (t : WaitRef) → (at t kind.Defined q.marks ≡ at t kind.Defined p.marks + at t kind.Defined (mark_at u kind.Defined ∷ [])) × (at t kind.Reclaimed q.marks ≡ at t kind.Reclaimed p.marks)
+Begins u p q = (t : WaitRef)
+    → (at t kind.Defined q.marks ≡ at t kind.Defined p.marks + at t kind.Defined
+    (mark_at u kind.Defined ∷ [])) × (at t kind.Reclaimed q.marks ≡ at t kind.Reclaimed p.marks)

@@ -77,7 +77,8 @@ fn end_whole<W: World>(
     mut claimed: Claimed<Note, W>,
 )
     requires table { IsOf table.now actor.old }
-    requires token { IsClaimed actor.old.known claimed.0 × IsIn (claimed.0, []) actor.old.known.aims }
+    requires token { IsClaimed actor.old.known claimed.0
+        × IsIn (claimed.0, []) actor.old.known.aims }
     requires record { claimed.1.label ≡ bound claimed.0.handle claimed.0.generation }
     ensures same { IsSame actor.old actor.new }
     ensures marks { EndedWhole claimed.0 actor.old.known actor.new.known }
@@ -126,8 +127,15 @@ fn last<W: World>(
 ) -> Option<Actor<Note, W>>
     requires { AreNew table.now 0 actors.old.items }
     ensures left { AreNew table.now 0 actors.new.items }
-    ensures number { 0 < length actors.old.items → length actors.new.items + 1 ≡ length actors.old.items }
-    ensures actor { IfSome result (λ a. a ≡ record { table = table.now.table; config = table.now.config; known = newcomer table.now.config (length actors.new.items) }) }
+    ensures number { 0 < length actors.old.items
+        → length actors.new.items + 1 ≡ length actors.old.items }
+    ensures actor { IfSome result
+        (λ a. a ≡ record {
+          table = table.now.table;
+          config = table.now.config;
+          known =
+              newcomer table.now.config (length actors.new.items);
+        }) }
 {
     match actors.pop() {
         Some(actor) => Some(actor),
