@@ -1,12 +1,12 @@
 //! Whole lives of handles, refusals, stale references, and callers that keep several tokens.
-ghost use Rattle.std.specs.Prelude.{◌≡◌, ◌+◌, ◌<◌, [], IsTrue, IfSome, Some, None, length};
+ghost use Rattle.std.specs.Prelude.{◌≡◌, ◌+◌, ◌<◌, [], IsTrue, IfOk, IfSome, Some, None, length};
 ghost use Rattle.aio_word.specs.Events.{actors as actors_of};
 ghost use Rattle.aio_word.specs.Stands.{IsIn};
 ghost use Rattle.aio_word.specs.Tokens.{IsInFlight, IsClaimed};
 ghost use Rattle.aio_handle.specs.Labels.{bound};
 ghost use Rattle.aio_handle.specs.Ruled.{newcomer};
 ghost use Rattle.aio_handle.specs.Closing.{IsAtRest, AreOver};
-ghost use Rattle.aio_handle.specs.Trials.{EndedWhole, Begins, IsAmidLives};
+ghost use Rattle.aio_handle.specs.Trials.{EndedWhole, Begins, IsAmidLives, EndsLife, AreHandedIn};
 ghost use Rattle.aio_handle.specs.Shown.{IsOf, IsSame, AreNew};
 
 use crate::{
@@ -17,6 +17,7 @@ use page_check::World;
 use std::alloc::{AllocError, Global};
 use std::marker::{Brand, PhantomData};
 use std::sync::Wait;
+use std::thread::{Threads, join};
 
 /// A record that reads nothing.
 #[derive(Drop)]
@@ -272,6 +273,26 @@ fn the_last_generation_is_not_given(rt: HostRuntime) -> Result<(), AllocError> {
     Ok(())
 }
 
+/// The result of an I/O is taken and its handle reclaimed, where it has ended.
+fn take_back<W: World>(
+    table: &Table<Note, W>,
+    actor: &mut Actor<Note, W>,
+    token: InFlight<W>,
+) -> bool
+    requires table { IsOf table.now actor.old }
+    requires token { IsInFlight actor.old.known token }
+    ensures same { IsSame actor.old actor.new }
+    ensures number { actor.new.known.number ≡ actor.old.known.number }
+    ensures ended { IsTrue result → EndsLife token actor.old.known actor.new.known }
+{
+    let Take::Ready(mut local) = table.try_take(actor, token) else {
+        return false;
+    };
+    local.record_mut().label.settled = true;
+    table.reclaim(actor, local);
+    true
+}
+
 /// One whole life of a handle that was acquired, by the actor alone.
 fn live_on<W: World>(
     table: &Table<Note, W>,
@@ -290,12 +311,7 @@ fn live_on<W: World>(
         return false;
     };
     end_whole(table, actor, claimed);
-    let Take::Ready(mut local) = table.try_take(actor, token) else {
-        return false;
-    };
-    local.record_mut().label.settled = true;
-    table.reclaim(actor, local);
-    true
+    take_back(table, actor, token)
 }
 
 /// The same, where it has a handle that is free.
@@ -313,24 +329,43 @@ fn live<W: World>(table: &Table<Note, W>, actor: &mut Actor<Note, W>) -> bool
     live_on(table, actor, token)
 }
 
-/// Closes a table of one actor, and answers how many incarnations there were, and how many of
-/// them a backend claimed.
-fn close_one<W: World>(
-    table: Table<Note, W>,
-    mut actors: Vec<Actor<Note, W>>,
+/// No actor is handed in yet.
+fn nobody<W: World>(table: &Table<Note, W>, alloc: Global) -> Vec<Actor<Note, W>>
+    ensures all { AreHandedIn table.now result.items }
+    ensures count { length result.items ≡ 0 }
+{
+    let _ = table;
+    Vec::new(alloc)
+}
+
+/// Hands an actor in, which is at rest.
+fn hand_in<W: World>(
+    table: &Table<Note, W>,
+    actors: &mut Vec<Actor<Note, W>>,
     actor: Actor<Note, W>,
-) -> Result<(u128, u128), AllocError>
-    requires table { IsOf table actor }
-    requires alone { (actors_of table.config ≡ 1) × (actors.items ≡ []) }
+) -> Result<(), AllocError>
+    requires table { IsOf table.now actor }
     requires rests { IsAtRest actor.known }
+    requires others { AreHandedIn table.now actors.old.items }
+    ensures all { IfOk result (λ _. AreHandedIn table.now actors.new.items) }
+    ensures count { IfOk result (λ _. length actors.new.items ≡ length actors.old.items + 1) }
 {
     actors.push(actor)?;
+    Ok(())
+}
+
+/// Closes a table whose actors are handed in, and answers how many incarnations there were, and
+/// how many of them the backends and the runners have claimed.
+fn closed<W: World>(table: Table<Note, W>, actors: Vec<Actor<Note, W>>) -> (u128, u128, u128)
+    requires all { AreHandedIn table actors.items }
+    requires count { length actors.items ≡ actors_of table.config }
+{
     let totals = table.close(actors);
-    Ok((totals.incarnations(), totals.by_backends()))
+    (totals.incarnations(), totals.by_backends(), totals.by_runners())
 }
 
 /// Acquire, release, acquire, a refusal, and a whole life of what was acquired.
-fn lived_once<W: World>(alloc: Global) -> Result<Option<(AcquireRefusal, (u128, u128))>, AllocError>
+fn lived_once<W: World>(alloc: Global) -> Result<Option<(AcquireRefusal, (u128, u128, u128))>, AllocError>
     requires { W.handles ≡ 1 }
 {
     let (table, mut actors) = Table::<Note, W>::open(alloc, 1, 1, 0, 0)?;
@@ -350,7 +385,9 @@ fn lived_once<W: World>(alloc: Global) -> Result<Option<(AcquireRefusal, (u128, 
     if !live_on(&table, &mut actor, token) {
         return Ok(None);
     }
-    Ok(Some((refusal, close_one(table, actors, actor)?)))
+    let mut all = nobody(&table, alloc);
+    hand_in(&table, &mut all, actor)?;
+    Ok(Some((refusal, closed(table, all))))
 }
 
 #[test]
@@ -359,14 +396,14 @@ fn a_life_is_counted_once(rt: HostRuntime) -> Result<(), AllocError> {
         panic!(&rt; "a handle is free")
     };
     assert!(&rt; matches!(refusal, AcquireRefusal::OneIsOut));
-    assert!(&rt; totals == (1, 1));
+    assert!(&rt; totals == (1, 1, 0));
     Ok(())
 }
 
 /// The last life of a handle, and the refusal after it.
 fn lived_to_the_end<W: World>(
     alloc: Global,
-) -> Result<Option<(AcquireRefusal, (u128, u128))>, AllocError>
+) -> Result<Option<(AcquireRefusal, (u128, u128, u128))>, AllocError>
     requires { W.handles ≡ 1 }
 {
     let (table, mut actors) = Table::<Note, W>::open(alloc, 1, 1, 0, (1 << 58) - 2)?;
@@ -379,7 +416,9 @@ fn lived_to_the_end<W: World>(
     let Err(refusal) = table.acquire(&mut actor) else {
         return Ok(None);
     };
-    Ok(Some((refusal, close_one(table, actors, actor)?)))
+    let mut all = nobody(&table, alloc);
+    hand_in(&table, &mut all, actor)?;
+    Ok(Some((refusal, closed(table, all))))
 }
 
 #[test]
@@ -388,7 +427,7 @@ fn one_life_before_the_last_generation(rt: HostRuntime) -> Result<(), AllocError
         panic!(&rt; "a handle is free")
     };
     assert!(&rt; matches!(refusal, AcquireRefusal::NoneFree));
-    assert!(&rt; totals == (1, 1));
+    assert!(&rt; totals == (1, 1, 0));
     Ok(())
 }
 
@@ -456,5 +495,92 @@ fn stale_reference(rt: HostRuntime) -> Result<(), AllocError> {
     assert!(&rt; stale.checks == [true, false, false]);
     assert!(&rt; stale.claims == [false, true, false]);
     assert!(&rt; stale.early);
+    Ok(())
+}
+
+/// Claims the I/O and ends it, where nobody has claimed it before.
+fn claimed_and_ended<W: World>(
+    table: &Table<Note, W>,
+    mut actor: Actor<Note, W>,
+    reference: WaitRef,
+) -> (Actor<Note, W>, bool)
+    requires table { IsOf table.now actor }
+    requires range { reference.handle < W.handles }
+    requires rests { IsAtRest actor.known }
+    ensures table { IsOf table.now result.0 }
+    ensures rests { IsAtRest result.0.known }
+{
+    match table.claim(&mut actor, reference) {
+        Some(claimed) => {
+            end_whole(table, &mut actor, claimed);
+            (actor, true)
+        }
+        None => (actor, false),
+    }
+}
+
+/// What came of one I/O that two actors tried to claim at once.
+#[derive(Drop)]
+struct Raced {
+    first: bool,
+    second: bool,
+    totals: (u128, u128, u128),
+}
+
+fn race<W: World + Send + Sync, T: Threads + Sync>(
+    rt: &T,
+    alloc: Global,
+) -> Result<Option<Raced>, AllocError>
+    requires { W.handles ≡ 8 }
+{
+    let (table, mut actors) = Table::<Note, W>::open(alloc, 2, 4, 1, 0)?;
+    let Some(runner) = last(&table, &mut actors) else {
+        return Ok(None);
+    };
+    let Some(other) = last(&table, &mut actors) else {
+        return Ok(None);
+    };
+    let Some(mut owner) = last(&table, &mut actors) else {
+        return Ok(None);
+    };
+    let Ok(token) = table.acquire(&mut owner) else {
+        return Ok(None);
+    };
+    let token = submitted(&table, &mut owner, token);
+    let reference = token.reference();
+    let shared = &table;
+    let ((runner, first), (other, second)) = join(
+        rt,
+        || -> (Actor<Note, W>, bool)
+            requires { IsOf shared.now runner × IsAtRest runner.known × (reference.handle < W.handles) }
+            ensures { IsOf shared.now result.0 × IsAtRest result.0.known }
+        { claimed_and_ended(shared, runner, reference) },
+        || -> (Actor<Note, W>, bool)
+            requires { IsOf shared.now other × IsAtRest other.known × (reference.handle < W.handles) }
+            ensures { IsOf shared.now result.0 × IsAtRest result.0.known }
+        { claimed_and_ended(shared, other, reference) },
+    );
+    if !take_back(&table, &mut owner, token) {
+        return Ok(None);
+    }
+    let mut all = nobody(&table, alloc);
+    hand_in(&table, &mut all, owner)?;
+    hand_in(&table, &mut all, other)?;
+    hand_in(&table, &mut all, runner)?;
+    Ok(Some(Raced {
+        first,
+        second,
+        totals: closed(table, all),
+    }))
+}
+
+#[test]
+fn one_of_two_claims_at_once_wins(rt: HostRuntime) -> Result<(), AllocError> {
+    let Some(raced) = race::<Brand, _>(&rt, rt.alloc())? else {
+        panic!(&rt; "a handle is free")
+    };
+    let (incarnations, by_backends, by_runners) = raced.totals;
+    assert!(&rt; raced.first != raced.second);
+    assert!(&rt; incarnations == 1 && by_backends + by_runners == 1);
     Ok(())
 }
