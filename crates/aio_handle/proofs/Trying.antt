@@ -1,5 +1,5 @@
 -- What the tests' calls do to the lives of an actor's handles.
-use Rattle.std.proofs.Common.{◌≡◌, ◌≢◌, ℕ, ◌+◌, ◌*◌, ◌<◌, ◌≤◌, ◌==◌, ◌&&◌, List, [], ◌∷◌, sum_by, refl, ap, ◌∙◌, subst, inr, ⊎_elim, map, arith, ◌++◌, sym, length, get_or, length-append}
+use Rattle.std.proofs.Common.{◌≡◌, ◌≢◌, ℕ, ◌+◌, ◌*◌, ◌<◌, ◌≤◌, ◌==◌, ◌&&◌, List, [], ◌∷◌, sum_by, refl, ap, ◌∙◌, subst, inr, ⊎_elim, map, arith, ◌++◌, sym, length, get_or, length-append, None}
 use Rattle.std.proofs.lemmas.List.Sums.{sum_by-cons}
 use Rattle.aio_word.specs.declared.Class.{Class}
 use Rattle.aio_word.specs.declared.Step.{Step as Event}
@@ -20,7 +20,7 @@ use Rattle.aio_word.proofs.Parts.{in-append}
 use mathlib.Core.Logic.{dite}
 use native.Mathlib.Decide.{ℕ_discrete}
 use Rattle.aio_handle.specs.Shown.{Named, Standing, IsOf, known_in}
-use Rattle.aio_handle.specs.Trials.{IsAmidLives, Begins, EndsLife, AreHandedIn}
+use Rattle.aio_handle.specs.Trials.{IsAmidLives, Begins, EndsLife, IsLaunched, AreHandedIn}
 use Rattle.aio_handle.proofs.Tokening.{counts-apart}
 use Rattle.aio_handle.proofs.Growing.{same-place}
 
@@ -102,3 +102,18 @@ handed-in t xs ys x e a of rest = subst (λ (z : List Standing). AreHandedIn t z
 
 pub none-handed-in : (t : Named) (xs : List Standing) → xs ≡ [] → AreHandedIn t xs
 none-handed-in t xs e = subst (λ (z : List Standing). AreHandedIn t z) (sym e) record { of = λ k d lt. absurd (omega arith); quiet = λ p i. absurd i }
+
+-- what was launched and taken back leaves the actor at rest
+pub rests-launched : (u v : WaitRef) (q s : Known) → IsLaunched u q → v ≡ u → EndsLife v q s → IsAtRest s
+rests-launched u v q s l e ended = (
+  ended.out ∙ l.out,
+  over-again u l.before q q s l.over l.begins (λ t. (refl, refl)) (subst (λ (x : WaitRef). EndsLife x q s) e ended),
+)
+
+pub launches : (u v : WaitRef) (p q r : Known) (h g : ℕ) (aim : List ℕ) → AreOver p → Made event.HandOut h (idle g) (handed g) aim p q → Begins u q r → r.out ≡ None → v ≡ u → IsLaunched v r
+launches u v p q r h g aim over m b out e = record {
+  out = out;
+  before = q;
+  over = λ t. subst (λ (x : Known). at t kind.Defined x.marks ≤ at t kind.Reclaimed x.marks) (sym m.is) (over t);
+  begins = subst (λ (x : WaitRef). Begins x q r) (sym e) b;
+}

@@ -1,8 +1,8 @@
 -- What the calls of the tests do.
-use Rattle.std.specs.Prelude.{◌≡◌, ◌+◌, List, [], ◌∷◌, map}
+use Rattle.std.specs.Prelude.{◌≡◌, ◌+◌, List, [], ◌∷◌, map, None}
 use Rattle.std.specs.List.{All}
 use Rattle.aio_handle.specs.Shown.{Named, Standing, IsOf, known_in}
-use Rattle.aio_handle.specs.Closing.{IsQuiet}
+use Rattle.aio_handle.specs.Closing.{AreOver, IsQuiet}
 use Rattle.aio_word.specs.declared.WaitRef.{WaitRef}
 use Rattle.aio_word.specs.declared.Known.{Known}
 use Rattle.aio_word.specs.declared.Class.TheVariants.{Whole}
@@ -31,6 +31,13 @@ pub record EndsLife (u : WaitRef) (p q : Known) : Type 0 where
   pub lives : (t : WaitRef) → (at t kind.Defined q.marks ≡ at t kind.Defined p.marks)
       × (at t kind.Reclaimed q.marks ≡ at t kind.Reclaimed p.marks
       + at t kind.Reclaimed (mark_at u kind.Reclaimed ∷ []))
+
+-- the life of u was begun by an actor that was at rest
+pub record IsLaunched (u : WaitRef) (q : Known) : Type 0 where
+  pub out : q.out ≡ None
+  pub before : Known
+  pub over : AreOver before
+  pub begins : Begins u before q
 
 -- actors of this table that are at rest
 pub record AreHandedIn (table : Named) (actors : List Standing) : Type 0 where

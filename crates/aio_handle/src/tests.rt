@@ -6,7 +6,7 @@ ghost use Rattle.aio_word.specs.Tokens.{IsInFlight, IsClaimed};
 ghost use Rattle.aio_handle.specs.Labels.{bound};
 ghost use Rattle.aio_handle.specs.Ruled.{newcomer};
 ghost use Rattle.aio_handle.specs.Closing.{IsAtRest, AreOver};
-ghost use Rattle.aio_handle.specs.Trials.{EndedWhole, Begins, IsAmidLives, EndsLife, AreHandedIn};
+ghost use Rattle.aio_handle.specs.Trials.{EndedWhole, Begins, IsAmidLives, EndsLife, IsLaunched, AreHandedIn};
 ghost use Rattle.aio_handle.specs.Shown.{IsOf, IsSame, AreNew};
 
 use crate::{
@@ -498,6 +498,22 @@ fn stale_reference(rt: HostRuntime) -> Result<(), AllocError> {
     Ok(())
 }
 
+/// An I/O of a handle that is free, up to submit.
+fn launched<W: World>(table: &Table<Note, W>, actor: &mut Actor<Note, W>) -> Option<InFlight<W>>
+    requires table { IsOf table.now actor.old }
+    requires backend { actor.old.known.number < table.now.config.backends }
+    requires rests { IsAtRest actor.old.known }
+    ensures same { IsSame actor.old actor.new }
+    ensures number { actor.new.known.number ≡ actor.old.known.number }
+    ensures token { IfSome result (λ t. IsInFlight actor.new.known t) }
+    ensures launched { IfSome result (λ t. IsLaunched t actor.new.known) }
+{
+    match table.acquire(actor) {
+        Ok(token) => Some(submitted(table, actor, token)),
+        Err(_) => None,
+    }
+}
+
 /// Claims the I/O and ends it, where nobody has claimed it before.
 fn claimed_and_ended<W: World>(
     table: &Table<Note, W>,
@@ -543,21 +559,20 @@ fn race<W: World + Send + Sync, T: Threads + Sync>(
     let Some(mut owner) = last(&table, &mut actors) else {
         return Ok(None);
     };
-    let Ok(token) = table.acquire(&mut owner) else {
+    let Some(token) = launched(&table, &mut owner) else {
         return Ok(None);
     };
-    let token = submitted(&table, &mut owner, token);
     let reference = token.reference();
     let shared = &table;
     let ((runner, first), (other, second)) = join(
         rt,
         || -> (Actor<Note, W>, bool)
             requires { IsOf shared.now runner × IsAtRest runner.known × (reference.handle < W.handles) }
-            ensures { IsOf shared.now result.0 × IsAtRest result.0.known }
+            ensures { IsOf shared.entry.now result.0 × IsAtRest result.0.known }
         { claimed_and_ended(shared, runner, reference) },
         || -> (Actor<Note, W>, bool)
             requires { IsOf shared.now other × IsAtRest other.known × (reference.handle < W.handles) }
-            ensures { IsOf shared.now result.0 × IsAtRest result.0.known }
+            ensures { IsOf shared.entry.now result.0 × IsAtRest result.0.known }
         { claimed_and_ended(shared, other, reference) },
     );
     if !take_back(&table, &mut owner, token) {
