@@ -599,3 +599,73 @@ fn one_of_two_claims_at_once_wins(rt: HostRuntime) -> Result<(), AllocError> {
     assert!(&rt; incarnations == 1 && by_backends + by_runners == 1);
     Ok(())
 }
+
+/// So many whole lives of the actor's handles, one after the other.
+fn lives<W: World>(
+    table: &Table<Note, W>,
+    mut actor: Actor<Note, W>,
+    count: u32,
+) -> Option<Actor<Note, W>>
+    requires table { IsOf table.now actor }
+    requires backend { actor.known.number < table.now.config.backends }
+    requires rests { IsAtRest actor.known }
+    ensures table { IfSome result (λ a. IsOf table.now a) }
+    ensures rests { IfSome result (λ a. IsAtRest a.known) }
+{
+    for n in 0..count {
+        if !live(table, &mut actor) {
+            return None;
+        }
+    }
+    Some(actor)
+}
+
+/// Two backends that live so many lives each at once, and the totals.
+fn beside<W: World + Send + Sync, T: Threads + Sync>(
+    rt: &T,
+    alloc: Global,
+    count: u32,
+) -> Result<Option<(u128, u128, u128)>, AllocError>
+    requires { W.handles ≡ 8 }
+{
+    let (table, mut actors) = Table::<Note, W>::open(alloc, 2, 4, 0, 0)?;
+    let Some(other) = last(&table, &mut actors) else {
+        return Ok(None);
+    };
+    let Some(one) = last(&table, &mut actors) else {
+        return Ok(None);
+    };
+    let shared = &table;
+    let (one, other) = join(
+        rt,
+        || -> Option<Actor<Note, W>>
+            requires { IsOf shared.now one × (one.known.number < shared.now.config.backends)
+                × IsAtRest one.known }
+            ensures { IfSome result (λ a. IsOf shared.entry.now a × IsAtRest a.known) }
+        { lives(shared, one, count) },
+        || -> Option<Actor<Note, W>>
+            requires { IsOf shared.now other × (other.known.number < shared.now.config.backends)
+                × IsAtRest other.known }
+            ensures { IfSome result (λ a. IsOf shared.entry.now a × IsAtRest a.known) }
+        { lives(shared, other, count) },
+    );
+    let Some(one) = one else {
+        return Ok(None);
+    };
+    let Some(other) = other else {
+        return Ok(None);
+    };
+    let mut all = nobody(&table, alloc);
+    hand_in(&table, &mut all, one)?;
+    hand_in(&table, &mut all, other)?;
+    Ok(Some(closed(table, all)))
+}
+
+#[test]
+fn totals_are_exact_beside_each_other(rt: HostRuntime) -> Result<(), AllocError> {
+    let Some(totals) = beside::<Brand, _>(&rt, rt.alloc(), 10_000)? else {
+        panic!(&rt; "a handle is free")
+    };
+    assert!(&rt; totals == (20_000, 20_000, 0));
+    Ok(())
+}
