@@ -15,8 +15,7 @@ ghost use Rattle.aio_handle.specs.Closing.{Ends, IsExecutedIn};
 pub fn each_claim_was_executed()
     ensures { (c : Config) (parts : List Known) → Ends c parts → (p : Known) → IsIn p parts
         → io_marks p.marks ≡ claimed_marks p.marks }
-{
-}
+{}
 
 /// At every moment, an I/O whose result was taken was executed by one actor, and ended with the
 /// class of the Local mark: a failed result has a failed execution.
@@ -24,5 +23,4 @@ pub fn each_result_was_executed()
     ensures { (c : Config) (words : List Word) (parts : List Known) → Stands c words parts
         → (p : Known) → IsIn p parts → (t : WaitRef) (class : Class)
         → IsIn (mark_at t (kind.Local class)) p.marks → IsExecutedIn parts t class }
-{
-}
+{}

@@ -1,4 +1,20 @@
-//! The shared table of I/O handles.
+//! The table of I/O handles that all backends and runners of a scan share (`aio_internal.h` of
+//! PostgreSQL: the states and generations of handles). It has no lock.
+//!
+//! Each handle has one word and one slot. A backend acquires one of its handles, defines an I/O by
+//! a record, stages and submits it; any actor may claim it, execute it and send the record home;
+//! the owner takes the result and reclaims the handle, which then has the next generation. The
+//! packing of the word and the moments at which a generation rises are this project's own.
+//!
+//! # What the contracts mean
+//!
+//! Contracts see an actor as what it knows: the list of marks that its events left, its looks at
+//! words, the greatest pair of generation and place that it has seen of each handle, the handle
+//! that it has handed out, and the aims of its I/Os. Each call says what it does to that, by one
+//! equation, and hands out the moment at which it did so: a state that the machine of handles
+//! reaches, for whose words the lists of all actors stand. So whatever holds of every state of the
+//! machine holds between any two steps of any threads. A token says where its incarnation stands
+//! in its actor's list, and each call asks for that and gives it on.
 #![tactic(auto)]
 
 mod actor;

@@ -361,11 +361,17 @@ fn closed<W: World>(table: Table<Note, W>, actors: Vec<Actor<Note, W>>) -> (u128
     requires count { length actors.items ≡ actors_of table.config }
 {
     let totals = table.close(actors);
-    (totals.incarnations(), totals.by_backends(), totals.by_runners())
+    (
+        totals.incarnations(),
+        totals.by_backends(),
+        totals.by_runners(),
+    )
 }
 
 /// Acquire, release, acquire, a refusal, and a whole life of what was acquired.
-fn lived_once<W: World>(alloc: Global) -> Result<Option<(AcquireRefusal, (u128, u128, u128))>, AllocError>
+fn lived_once<W: World>(
+    alloc: Global,
+) -> Result<Option<(AcquireRefusal, (u128, u128, u128))>, AllocError>
     requires { W.handles ≡ 1 }
 {
     let (table, mut actors) = Table::<Note, W>::open(alloc, 1, 1, 0, 0)?;
@@ -594,9 +600,8 @@ fn one_of_two_claims_at_once_wins(rt: HostRuntime) -> Result<(), AllocError> {
     let Some(raced) = race::<Brand, _>(&rt, rt.alloc())? else {
         panic!(&rt; "a handle is free")
     };
-    let (incarnations, by_backends, by_runners) = raced.totals;
     assert!(&rt; raced.first != raced.second);
-    assert!(&rt; incarnations == 1 && by_backends + by_runners == 1);
+    assert!(&rt; raced.totals == (1, 0, 1) || raced.totals == (1, 1, 0));
     Ok(())
 }
 

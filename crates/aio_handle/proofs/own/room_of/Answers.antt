@@ -9,7 +9,9 @@ record Greatest (own : List OwnHandle) (n greatest : ℕ) : Type 0 where
   each : (k : ℕ) → k < n → (own_at own k).generation ≤ greatest
   one : (k : ℕ) × (k < length own) × ((own_at own k).generation ≡ greatest)
 
-one-more : (own : List OwnHandle) (n greatest new : ℕ) → n < length own → new ≡ max greatest (own_at own n).generation → Greatest own n greatest → Greatest own (n + 1) new
+one-more : (own : List OwnHandle) (n greatest new : ℕ) → n < length own
+    → new ≡ max greatest (own_at own n).generation → Greatest own n greatest
+    → Greatest own (n + 1) new
 one-more own n greatest new lt is g = record {
   each = λ k less. dite (ℕ_discrete k n)
       (λ e. subst (λ (z : ℕ). (own_at own z).generation ≤ new) (sym e) (omega arith))

@@ -11,7 +11,10 @@ returns-in-Some-clause-rests g c =
     let r : Known = c.end_whole.new.actor.known in
     let claim = c.in-Some.ensures.won.1 in (
       c.end_whole.ensures.marks.out ∙ (ap (λ (x : Known). x.out) claim.is ∙ c.requires.rests.0),
-      over-amid p r c.requires.rests.1 (amid-then p q r (amid event.Claim _ _ _ _ p q claim (omega arith) (omega arith)) c.end_whole.ensures.lives),
+      over-amid p r c.requires.rests.1
+          (amid-then p q r
+          (amid event.Claim _ _ _ _ p q claim (omega arith)
+          (omega arith)) c.end_whole.ensures.lives),
     )
 
 pub returns-in-None-clause-rests : goal.returns-in-None-clause-rests

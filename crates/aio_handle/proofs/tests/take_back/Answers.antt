@@ -16,6 +16,10 @@ returns-clause-ended g c _ =
     let got = c.in-Ready.ensures.ready.2 in
     let back = c.reclaim.ensures.event in
     let same : c.in-Ready.local.0 ≡ u = c.in-Ready.ensures.ready.0 in
-    let ended = subst (λ (x : WaitRef). Made event.Reclaim x.handle (taken back.0 x.generation) (idle (x.generation + 1)) [] p5 p6) same back.1 in
-    let taken' = amid-then p4 got.between p5 (amid-looked _ _ p4 got.between got.looked) (amid event.Local _ _ _ _ got.between p5 got.made (omega arith) (omega arith)) in
-    ends u back.0 [] p4 p5 p6 taken' (ap (λ (x : Known). x.out) got.made.is ∙ ap (λ (x : Known). x.out) got.looked.is) ended
+    let ended = subst
+    (λ (x : WaitRef). Made event.Reclaim x.handle (taken back.0 x.generation)
+    (idle (x.generation + 1)) [] p5 p6) same back.1 in
+    let taken' = amid-then p4 got.between p5 (amid-looked _ _ p4 got.between got.looked)
+    (amid event.Local _ _ _ _ got.between p5 got.made (omega arith) (omega arith)) in
+    ends u back.0 [] p4 p5 p6 taken'
+    (ap (λ (x : Known). x.out) got.made.is ∙ ap (λ (x : Known). x.out) got.looked.is) ended

@@ -14,10 +14,15 @@ use Rattle.aio_handle.proofs.table.Table.check.Goals as goal
 pub load-number-requires : goal.load-number-requires
 load-number-requires g c =
     let h : ℕ = c.args.reference.handle in
-    let range : h < handles c.self.inside.config = subst (λ (z : ℕ). h < z) (sym c.self.invariant.3) c.requires.range in (
-      (ap (λ x. x.table) c.actor.view_is ∙ (c.requires.table.0 ∙ sym (ap (λ x. x.table) c.self.view_is))),
+    let range : h < handles c.self.inside.config = subst (λ (z : ℕ). h < z)
+    (sym c.self.invariant.3) c.requires.range in (
+      (ap (λ x. x.table) c.actor.view_is ∙
+          (c.requires.table.0 ∙ sym (ap (λ x. x.table) c.self.view_is))),
       subst (λ (z : ℕ). h < z) (sym c.self.invariant.1) range,
-      loads g.R.Record.label g.R.Record.aim (g.R.Record.fits g.W.World.told g.W.World.relations) _ _ _ h _ (known_of c.actor.inside.seat.me.0) c.actor.invariant.0.one (subst (λ z. h < handles z) (sym c.self.invariant.0) range),
+      loads g.R.Record.label g.R.Record.aim
+          (g.R.Record.fits g.W.World.told g.W.World.relations) _ _ _ h _
+          (known_of c.actor.inside.seat.me.0) c.actor.invariant.0.one
+          (subst (λ z. h < handles z) (sym c.self.invariant.0) range),
     )
 
 pub invariant_of-actor : goal.invariant_of-actor
@@ -29,10 +34,16 @@ invariant_of-actor g c = (
 
 pub returns-clause-look : goal.returns-clause-look
 returns-clause-look g c =
-    let (w, found, lk) = looks-saw c.self.inside.inner.shared.table_id.slots c.args.reference.handle 0 0 _ c.actor.inside.seat.me c.load-number.new.seat.me c.load-number.ensures.2 in
-    let same : w ≡ c.in-Ok.word = packed-injective w c.in-Ok.word (found ∙ sym c.in-Ok.ensures.ok.1) in
-    let look : Looked c.args.reference.handle c.in-Ok.word c.args.actor.now.known (known_of c.load-number.new.seat.me.0) = subst (λ (z : Known). Looked c.args.reference.handle c.in-Ok.word z (known_of c.load-number.new.seat.me.0)) (ap (λ x. x.known) c.actor.view_is)
-    (subst (λ (z : Word). Looked c.args.reference.handle z (known_of c.actor.inside.seat.me.0) (known_of c.load-number.new.seat.me.0)) same lk) in record {
+    let (w, found, lk) =
+    looks-saw c.self.inside.inner.shared.table_id.slots c.args.reference.handle 0 0 _ c.actor.inside.seat.me c.load-number.new.seat.me c.load-number.ensures.2 in
+    let same : w ≡ c.in-Ok.word = packed-injective w c.in-Ok.word
+    (found ∙ sym c.in-Ok.ensures.ok.1) in
+    let look : Looked c.args.reference.handle c.in-Ok.word c.args.actor.now.known
+    (known_of c.load-number.new.seat.me.0) = subst
+    (λ (z : Known). Looked c.args.reference.handle c.in-Ok.word z
+    (known_of c.load-number.new.seat.me.0)) (ap (λ x. x.known) c.actor.view_is)
+    (subst (λ (z : Word). Looked c.args.reference.handle z (known_of c.actor.inside.seat.me.0)
+    (known_of c.load-number.new.seat.me.0)) same lk) in record {
       word = c.in-Ok.word;
       looked = look;
       exact = c.done.ensures;

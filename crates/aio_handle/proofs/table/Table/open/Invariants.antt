@@ -10,5 +10,9 @@ invariant-loop-n g l = record {
   many : length l.actors.items ≡ l.n;
   room : l.number ≤ vec_capacity l.actors;
   same : l.table-inside ≡ l.initial.table-inside;
-  new : AreNew record { table = l.table-inside.inner.shared.table_id; config = l.table-inside.config } 0 l.actors.items;
+  new : AreNew record {
+    table = l.table-inside.inner.shared.table_id;
+    config =
+        l.table-inside.config;
+  } 0 l.actors.items;
 }

@@ -9,10 +9,15 @@ use Rattle.aio_handle.proofs.table.Table.rest.Goals as goal
 pub load-found-requires : goal.load-found-requires
 load-found-requires g c =
     let h : ℕ = c.args.reference.handle in
-    let range : h < handles c.self.inside.config = subst (λ (z : ℕ). h < z) (sym c.self.invariant.3) c.requires.range in (
-      (ap (λ x. x.table) c.actor.view_is ∙ (c.requires.table.0 ∙ sym (ap (λ x. x.table) c.self.view_is))),
+    let range : h < handles c.self.inside.config = subst (λ (z : ℕ). h < z)
+    (sym c.self.invariant.3) c.requires.range in (
+      (ap (λ x. x.table) c.actor.view_is ∙
+          (c.requires.table.0 ∙ sym (ap (λ x. x.table) c.self.view_is))),
       subst (λ (z : ℕ). h < z) (sym c.self.invariant.1) range,
-      loads g.R.Record.label g.R.Record.aim (g.R.Record.fits g.W.World.told g.W.World.relations) _ _ _ h _ (known_of c.actor.inside.seat.me.0) c.actor.invariant.0.one (subst (λ z. h < handles z) (sym c.self.invariant.0) range),
+      loads g.R.Record.label g.R.Record.aim
+          (g.R.Record.fits g.W.World.told g.W.World.relations) _ _ _ h _
+          (known_of c.actor.inside.seat.me.0) c.actor.invariant.0.one
+          (subst (λ z. h < handles z) (sym c.self.invariant.0) range),
     )
 
 pub invariant_of-actor : goal.invariant_of-actor
