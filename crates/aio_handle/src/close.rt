@@ -1,5 +1,5 @@
 //! The end of a table, and what its handles went through.
-ghost use Rattle.std.specs.Prelude.{◌≡◌, ◌<◌, ◌+◌, ◌^◌, ◌-◌, ℕ, All, map, length, min};
+ghost use Rattle.std.specs.Prelude.{◌≡◌, ◌<◌, ◌+◌, ◌^◌, ◌-◌, All, map, length, min};
 ghost use Rattle.std.specs.Mem.Slots.{IsFull};
 ghost use Rattle.aio_word.specs.Events.{actors as actors_of};
 ghost use Rattle.aio_word.specs.Totals.{by_backends as claimed_by_backends, by_runners as claimed_by_runners};

@@ -1,16 +1,12 @@
 //! The executor's calls: an I/O is claimed, executed and shared.
-ghost use Rattle.std.specs.Prelude.{◌≡◌, ◌≢◌, ℕ, ◌*◌, ◌^◌, ◌<◌, [], true, false, Some, None, IfSome, IfNone, List, ◌∷◌, ◌+◌, ◌≤◌, IfOk, IfErr, length, IsTrue, ◌↔◌, All, map, ◌++◌, nat_lt};
+ghost use Rattle.std.specs.Prelude.{◌≡◌, ◌≢◌, ◌<◌, [], true, false, Some, None, IfSome, IfNone};
 ghost use Rattle.aio_word.specs.declared.Class.{Class};
 ghost use Rattle.aio_word.specs.declared.Class.TheVariants.{Unended};
-ghost use Rattle.aio_word.specs.declared.Step.TheVariants.{HandOut, Release, Define, Stage, Submit, Claim, Io, Shared, Local, Reclaim};
+ghost use Rattle.aio_word.specs.declared.Step.TheVariants.{Claim, Io, Shared};
 ghost use Rattle.aio_word.specs.declared.Word.{Word};
-ghost use Rattle.aio_word.specs.declared.Kind.{Kind};
-ghost use Rattle.aio_word.specs.declared.Known.{Known};
-ghost use Rattle.aio_word.specs.Words.{IsLawful, IsDone, packed};
-ghost use Rattle.aio_word.specs.Events.{handles, owner, actors as actors_of, word_in, at, order};
-ghost use Rattle.aio_word.specs.Stands.{IsIn, one_if};
-ghost use Rattle.aio_word.specs.Tokens.{IsDefined, IsStaged, IsInFlight, IsClaimed, IsExecuted, IsLocal, IsSeenDone};
-ghost use Rattle.aio_handle.specs.declared.record.Label.{Label};
+ghost use Rattle.aio_word.specs.Events.{handles};
+ghost use Rattle.aio_word.specs.Stands.{IsIn};
+ghost use Rattle.aio_word.specs.Tokens.{IsClaimed, IsExecuted};
 ghost use Rattle.aio_handle.specs.Labels.{bound};
 ghost use Rattle.aio_handle.specs.LifeWords.{unclaimed, claimed as claimed_at, executed, completed};
 ghost use Rattle.aio_handle.specs.Made.{Made, Looked};

@@ -1,18 +1,13 @@
 //! The owner's calls: from an Idle handle to an I/O in flight, and from its result back.
-ghost use Rattle.std.specs.Prelude.{◌≡◌, ◌≢◌, ℕ, ◌*◌, ◌^◌, ◌<◌, [], true, false, Some, None, IfSome, IfNone, List, ◌∷◌, ◌+◌, ◌≤◌, IfOk, IfErr, length, IsTrue, ◌↔◌, All, map, ◌++◌, nat_lt};
+ghost use Rattle.std.specs.Prelude.{◌≡◌, ℕ, ◌<◌, [], true, false, Some, None, List, ◌+◌, IfOk, IfErr, IsTrue, ◌↔◌};
 ghost use Rattle.aio_word.specs.declared.Class.{Class};
 ghost use Rattle.aio_word.specs.declared.Class.TheVariants.{Unended};
-ghost use Rattle.aio_word.specs.declared.Step.TheVariants.{HandOut, Release, Define, Stage, Submit, Claim, Io, Shared, Local, Reclaim};
+ghost use Rattle.aio_word.specs.declared.Step.TheVariants.{HandOut, Release, Define, Stage, Submit, Local, Reclaim};
 ghost use Rattle.aio_word.specs.declared.Word.{Word};
-ghost use Rattle.aio_word.specs.declared.Kind.{Kind};
-ghost use Rattle.aio_word.specs.declared.Known.{Known};
-ghost use Rattle.aio_word.specs.Words.{IsLawful, IsDone, packed};
-ghost use Rattle.aio_word.specs.Events.{handles, owner, actors as actors_of, word_in, at, order};
-ghost use Rattle.aio_word.specs.Stands.{IsIn, one_if};
-ghost use Rattle.aio_word.specs.Tokens.{IsDefined, IsStaged, IsInFlight, IsClaimed, IsExecuted, IsLocal, IsSeenDone};
-ghost use Rattle.aio_handle.specs.declared.record.Label.{Label};
-ghost use Rattle.aio_handle.specs.Labels.{bound};
-ghost use Rattle.aio_handle.specs.LifeWords.{idle, handed, defined, staged, unclaimed, completed, taken};
+ghost use Rattle.aio_word.specs.Events.{handles, actors as actors_of};
+ghost use Rattle.aio_word.specs.Stands.{IsIn};
+ghost use Rattle.aio_word.specs.Tokens.{IsDefined, IsStaged, IsInFlight, IsLocal};
+ghost use Rattle.aio_handle.specs.LifeWords.{idle, handed, defined, staged, unclaimed, taken};
 ghost use Rattle.aio_handle.specs.Made.{Made, Looked, IsCompleted, TakesOut, LivedAlone};
 ghost use Rattle.aio_handle.specs.Free.{IsFree, IsCause};
 ghost use Rattle.aio_handle.specs.Taking.{IfReady, IfNotYet};

@@ -1,17 +1,10 @@
 //! The table of handles.
-ghost use Rattle.std.specs.Prelude.{◌≡◌, ◌≢◌, ℕ, ◌*◌, ◌^◌, ◌<◌, [], true, false, Some, None, IfSome, IfNone, List, ◌∷◌, ◌+◌, ◌≤◌, IfOk, IfErr, length, IsTrue, ◌↔◌, All, map, ◌++◌, nat_lt};
+ghost use Rattle.std.specs.Prelude.{◌≡◌, ◌*◌, ◌^◌, ◌<◌, [], false, List, ◌∷◌, ◌+◌, ◌≤◌, IfOk, length};
 ghost use Rattle.aio_word.specs.declared.Class.{Class};
-ghost use Rattle.aio_word.specs.declared.Class.TheVariants.{Unended};
-ghost use Rattle.aio_word.specs.declared.Step.TheVariants.{HandOut, Release, Define, Stage, Submit, Claim, Io, Shared, Local, Reclaim};
 ghost use Rattle.aio_word.specs.declared.Word.{Word};
-ghost use Rattle.aio_word.specs.declared.Kind.{Kind};
 ghost use Rattle.aio_word.specs.declared.Known.{Known};
-ghost use Rattle.aio_word.specs.Words.{IsLawful, IsDone, packed};
-ghost use Rattle.aio_word.specs.Events.{handles, owner, actors as actors_of, word_in, at, order};
-ghost use Rattle.aio_word.specs.Stands.{IsIn, one_if};
-ghost use Rattle.aio_word.specs.Tokens.{IsDefined, IsStaged, IsInFlight, IsClaimed, IsExecuted, IsLocal, IsSeenDone};
-ghost use Rattle.aio_handle.specs.declared.record.Label.{Label};
-ghost use Rattle.aio_handle.specs.Labels.{bound};
+ghost use Rattle.aio_word.specs.Words.{IsLawful, packed};
+ghost use Rattle.aio_word.specs.Events.{handles, actors as actors_of, word_in};
 ghost use Rattle.aio_handle.specs.Ruled.{newcomer};
 
 use crate::actor::Actor;
