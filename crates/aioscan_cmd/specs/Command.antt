@@ -19,7 +19,8 @@ IsBelow given limit = IfSome given (λ n. n < limit)
 
 -- the names with one more, where it is new
 abbrev pub with_name : List (List ℕ) → List ℕ → List (List ℕ)
-with_name names name = cond (list_any (λ other. bytes_eq other name) names) names (names ++ name ∷ [])
+with_name names name =
+    cond (list_any (λ other. bytes_eq other name) names) names (names ++ name ∷ [])
 
 -- the relations: the distinct names, in the order of their first appearance
 abbrev pub relations_of : Command → List (List ℕ)

@@ -4,4 +4,5 @@ use Rattle.aioscan_cmd.specs.Command.{Command}
 use Rattle.aioscan_cmd.specs.declared.words.Command.{Command as CommandWords}
 
 abbrev pub asked_by : CommandWords → Command
-asked_by command = record { from = command.from; to = command.to; files = map string_bytes command.files.now }
+asked_by command =
+    record { from = command.from; to = command.to; files = map string_bytes command.files.now }

@@ -8,7 +8,8 @@ use Rattle.aioscan_cmd.specs.declared.lengths.Refusal.TheVariants.{NoLength, Too
 
 -- the lengths of the first relations, in order, where they are told
 abbrev pub AreLengths : Option Told → List ℕ → Type 0
-AreLengths told lengths = IfSome told (λ t. (r : ℕ) → r < length lengths → slice_index lengths r ≡ blocks_of t r)
+AreLengths told lengths =
+    IfSome told (λ t. (r : ℕ) → r < length lengths → slice_index lengths r ≡ blocks_of t r)
 
 -- a length for each relation, none too long
 pub record HasLengths (told : Option Told) (relations : ℕ) (lengths : List ℕ) : Type 0 where
@@ -22,7 +23,8 @@ FitBefore told r = IfSome told (λ t. (q : ℕ) → q < r → blocks_of t q ≤ 
 
 -- why they could not be had: each relation before the one that is named was tested
 abbrev pub HasNoLengths : Option Told → ℕ → ℕ → ℕ → Refusal → Type 0
-HasNoLengths told relations before now (NoLength r) = (r < relations) × FitBefore told r × Rose before now
+HasNoLengths told relations before now (NoLength r) =
+    (r < relations) × FitBefore told r × Rose before now
 HasNoLengths told relations before now (TooLong r) =
     (r < relations) × FitBefore told r × IfSome told (λ t. block_limit < blocks_of t r)
 HasNoLengths told relations before now NoMemory = Unit {0}

@@ -20,12 +20,14 @@ Page = Given (Unit {0})
 abbrev pub block_range : ℕ → ℕ → ℕ → List Request
 block_range r first count = map (request r) (range_with_len first count)
 
--- how many blocks a command asks for of a relation of this length: from `--from`, or 0, up to `--to`, or the last block
+-- how many blocks a command asks for of a relation of this length: from `--from`, or 0, up to
+-- `--to`, or the last block
 abbrev pub first_block : Command → ℕ
 first_block command = unwrap_or command.from 0
 
 abbrev pub asked_count : Command → ℕ → ℕ
-asked_count command length = option_map_or (λ last. last + 1) command.to length - first_block command
+asked_count command length =
+    option_map_or (λ last. last + 1) command.to length - first_block command
 
 -- the blocks that one FILE word adds
 abbrev pub requests_of_file : (ℕ → ℕ) → Command → List ℕ → List Request

@@ -1,5 +1,7 @@
--- The words of a command: `scan`, then at most one `--from N`, then at most one `--to N`, then 1 to 1024 files.
-use Rattle.std.specs.Prelude.{ℕ, List, [], ◌∷◌, Option, Some, None, Bool, false, ◌&&◌, not, ◌==◌, nat_le, nat_lt, if◌then◌else◌, length, codes}
+-- The words of a command: `scan`, then at most one `--from N`, then at most one `--to N`, then 1 to
+-- 1024 files.
+use Rattle.std.specs.Prelude.{ℕ, List, [], ◌∷◌, Option, Some, None, Bool, false, ◌&&◌, not, ◌==◌}
+use Rattle.std.specs.Prelude.{nat_le, nat_lt, if◌then◌else◌, length, codes}
 use Rattle.std.specs.List.{list_all}
 use Rattle.std.specs.Option.{option_and_then}
 use Rattle.std.specs.Str.{bytes_eq}
@@ -23,9 +25,11 @@ is_number word = is_count (length word) 7 && list_all is_ascii_digit word
 -- a block number below the limit
 abbrev pub block_number : List ℕ → Option ℕ
 block_number word =
-    if is_number word && nat_lt (digits_value 10 word) block_limit then Some (digits_value 10 word) else None
+    if is_number word && nat_lt (digits_value 10 word) block_limit then Some
+    (digits_value 10 word) else None
 
--- an option's number, where the words begin with it, and the words behind it; None where its value is no block number
+-- an option's number, where the words begin with it, and the words behind it; None where its value
+-- is no block number
 abbrev pub option_at : List ℕ → List (List ℕ) → Option (Option ℕ × List (List ℕ))
 option_at name [] = Some (None, [])
 option_at name (word ∷ []) = Some (None, word ∷ [])

@@ -43,7 +43,8 @@ fn numbered_line(alloc: Global, outcome: Outcome) -> Result<String, AllocError>
 
 // Writes a line, where it is not empty.
 fn write_text<E: Sink>(text: &str, err: &mut E) -> Line
-    ensures told { IsToldOnErr text.now result (E.written err.old) (E.written err.new) (E.faults err.old) (E.faults err.new) }
+    ensures told { IsToldOnErr text.now result (E.written err.old) (E.written err.new)
+        (E.faults err.old) (E.faults err.new) }
     ensures later { E.faults err.old ≤ E.faults err.new }
 {
     if text.is_empty() {
@@ -58,7 +59,8 @@ fn write_text<E: Sink>(text: &str, err: &mut E) -> Line
 
 /// Writes the line of an outcome by one write, or nothing where there is none.
 pub(crate) fn write_line<E: Sink>(alloc: Global, outcome: Outcome, err: &mut E) -> Line
-    ensures told { IsToldOnErr (line_of outcome) result (E.written err.old) (E.written err.new) (E.faults err.old) (E.faults err.new) }
+    ensures told { IsToldOnErr (line_of outcome) result (E.written err.old) (E.written err.new)
+        (E.faults err.old) (E.faults err.new) }
     ensures later { E.faults err.old ≤ E.faults err.new }
 {
     if let Some(text) = fixed_line(outcome) {

@@ -1,5 +1,6 @@
 //! The lengths of the relations, taken before any block is read.
-ghost use Rattle.std.specs.Prelude.{◌≡◌, ◌<◌, ◌≤◌, length, IfOk, OnErr, MatchResult, slice_index, Option};
+ghost use Rattle.std.specs.Prelude.{◌≡◌, ◌<◌, ◌≤◌, length, IfOk, OnErr, MatchResult, slice_index};
+ghost use Rattle.std.specs.Prelude.{Option};
 ghost use Rattle.aio_disk.specs.Counts.{Rose};
 ghost use Rattle.aioscan_cmd.specs.Lengths.{HasLengths, HasNoLengths};
 
@@ -29,7 +30,8 @@ pub(crate) fn take_lengths<D: Disk>(
     requires { relations ≡ D.relations disk.old }
     ensures lengths { MatchResult result
         (λ lengths. HasLengths (D.told disk.old) relations lengths.items)
-        (λ refusal. HasNoLengths (D.told disk.old) relations (D.length_faults disk.old) (D.length_faults disk.new) refusal) }
+        (λ refusal. HasNoLengths (D.told disk.old) relations (D.length_faults disk.old)
+        (D.length_faults disk.new) refusal) }
     ensures later { D.length_faults disk.old ≤ D.length_faults disk.new }
     ensures told { D.told disk.new ≡ D.told disk.old }
     ensures relations { D.relations disk.new ≡ D.relations disk.old }

@@ -13,6 +13,7 @@ mod lister;
 mod relations;
 mod report;
 mod run;
+mod scan;
 mod words;
 
 pub use report::{Line, Outcome, Report};

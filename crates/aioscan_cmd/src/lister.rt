@@ -1,5 +1,6 @@
 //! Reads blocks one after the other, and writes the text of each page.
-ghost use Rattle.std.specs.Prelude.{◌≡◌, ◌<◌, ◌≤◌, ◌+◌, ◌^◌, [], ◌∷◌, length, map, OnOk, IfOk, MatchResult, IsErrOf, string_bytes};
+ghost use Rattle.std.specs.Prelude.{◌≡◌, ◌<◌, ◌≤◌, ◌+◌, ◌^◌, [], ◌∷◌, length, map, OnOk, IfOk};
+ghost use Rattle.std.specs.Prelude.{MatchResult, IsErrOf, string_bytes};
 ghost use Rattle.aio_disk.specs.Counts.{Rose, raised_by};
 ghost use Rattle.aioscan_cmd.specs.RequestList.{request, block_range};
 ghost use Rattle.aioscan_cmd.specs.Reading.{Lists, ShowsPage, HasReadCauses};
@@ -52,8 +53,10 @@ impl Lister {
     ) -> Result<(), Stop>
         requires relation { relation < D.relations disk.old }
         requires fits { first + count < 2 ^ 32 }
-        ensures lists { Lists (D.told disk.old) (block_range relation first count) (O.written out.old) (O.written out.new) result }
-        ensures causes { HasReadCauses (D.faults disk.old) (D.faults disk.new) (O.faults out.old) (O.faults out.new) result }
+        ensures lists { Lists (D.told disk.old) (block_range relation first count)
+            (O.written out.old) (O.written out.new) result }
+        ensures causes { HasReadCauses (D.faults disk.old) (D.faults disk.new) (O.faults out.old)
+            (O.faults out.new) result }
         ensures told { D.told disk.new ≡ D.told disk.old }
         ensures relations { D.relations disk.new ≡ D.relations disk.old }
         ensures length_faults { D.length_faults disk.new ≡ D.length_faults disk.old }
@@ -75,8 +78,10 @@ impl Lister {
         out: &mut O,
     ) -> Result<(), Stop>
         requires { relation < D.relations disk.old }
-        ensures lists { Lists (D.told disk.old) (request relation block ∷ []) (O.written out.old) (O.written out.new) result }
-        ensures causes { HasReadCauses (D.faults disk.old) (D.faults disk.new) (O.faults out.old) (O.faults out.new) result }
+        ensures lists { Lists (D.told disk.old) (request relation block ∷ []) (O.written out.old)
+            (O.written out.new) result }
+        ensures causes { HasReadCauses (D.faults disk.old) (D.faults disk.new) (O.faults out.old)
+            (O.faults out.new) result }
         ensures told { D.told disk.new ≡ D.told disk.old }
         ensures relations { D.relations disk.new ≡ D.relations disk.old }
         ensures length_faults { D.length_faults disk.new ≡ D.length_faults disk.old }
@@ -92,9 +97,11 @@ impl Lister {
     // Writes the text of the page that was read.
     fn show_page<O: Sink>(&mut self, relation: u32, block: u32, out: &mut O) -> Result<(), Stop>
         ensures page { self.new.page ≡ self.old.page }
-        ensures shows { ShowsPage self.old.page relation block (O.written out.old) (O.written out.new) result }
+        ensures shows { ShowsPage self.old.page relation block (O.written out.old)
+            (O.written out.new) result }
         ensures later { O.faults out.old ≤ O.faults out.new }
-        ensures cannot_write { IsErrOf result Stop.CannotWrite → Rose (O.faults out.old) (O.faults out.new) }
+        ensures cannot_write { IsErrOf result Stop.CannotWrite
+            → Rose (O.faults out.old) (O.faults out.new) }
     {
         if let Verdict::Bad = check(&self.page) {
             return Err(Stop::Invalid(relation, block));

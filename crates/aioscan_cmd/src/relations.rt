@@ -14,7 +14,9 @@ fn is_named(names: &[String], name: &str) -> bool
 
 // Adds a name, where it is new.
 fn add_name(names: &mut Vec<String>, name: &String) -> Result<(), AllocError>
-    ensures { OnOk result (map string_bytes names.new.items ≡ with_name (map string_bytes names.old.items) (string_bytes name.now)) }
+    ensures { OnOk result
+        (map string_bytes names.new.items
+        ≡ with_name (map string_bytes names.old.items) (string_bytes name.now)) }
 {
     if is_named(names.as_slice(), name.as_str()) {
         return Ok(());
@@ -25,7 +27,8 @@ fn add_name(names: &mut Vec<String>, name: &String) -> Result<(), AllocError>
 
 /// The distinct names, in the order of their first appearance.
 pub(crate) fn distinct_names(alloc: Global, files: &[String]) -> Result<Vec<String>, AllocError>
-    ensures { IfOk result (λ names. map string_bytes names.items ≡ fold with_name [] (map string_bytes files.now)) }
+    ensures { IfOk result
+        (λ names. map string_bytes names.items ≡ fold with_name [] (map string_bytes files.now)) }
 {
     let mut names: Vec<String> = Vec::new(alloc);
     for file in files {

@@ -1,12 +1,14 @@
 //! The words of a command.
-ghost use Rattle.std.specs.Prelude.{◌≡◌, ◌<◌, ◌≤◌, ◌+◌, ◌^◌, List, ℕ, map, length, None, Some, Option, IfSome, IsNone, string_bytes};
+ghost use Rattle.std.specs.Prelude.{◌≡◌, ◌<◌, ◌≤◌, ◌+◌, ◌^◌, List, ℕ, map, length, None, Some};
+ghost use Rattle.std.specs.Prelude.{Option, IfSome, IsNone, string_bytes};
 ghost use Rattle.std.specs.List.{list_all};
 ghost use Rattle.std.specs.Char.{is_ascii_digit};
 ghost use Rattle.std.specs.Option.{option_map};
 ghost use Rattle.aioscan_cmd.specs.Command.{block_limit, IsBelow};
 ghost use Rattle.aioscan_cmd.specs.RequestList.{first_block, asked_count};
 ghost use Rattle.aioscan_cmd.specs.CommandWords.{asked_by};
-ghost use Rattle.aioscan_cmd.specs.Words.{is_count as count_test, block_number, is_number, is_file, are_files, option_at, command_of};
+ghost use Rattle.aioscan_cmd.specs.Words.{is_count as count_test, block_number, is_number, is_file};
+ghost use Rattle.aioscan_cmd.specs.Words.{are_files, option_at, command_of};
 
 use crate::lengths::BLOCK_LIMIT;
 
@@ -45,7 +47,8 @@ impl Command<'_> {
 /// Reads the words of a command, without the program's name. It takes no memory.
 pub(crate) fn read_command(words: &[String]) -> Option<Command<'_>>
     ensures command { option_map asked_by result ≡ command_of (map string_bytes words.now) }
-    ensures bounded { IfSome result (λ c. IsBelow c.from block_limit × IsBelow c.to block_limit × (length c.files.now ≤ 1024)) }
+    ensures bounded { IfSome result
+        (λ c. IsBelow c.from block_limit × IsBelow c.to block_limit × (length c.files.now ≤ 1024)) }
 {
     let (first, words) = words.split_first()?;
     if first.as_str() != "scan" {
@@ -61,7 +64,8 @@ pub(crate) fn read_command(words: &[String]) -> Option<Command<'_>>
 
 // The number of an option, where the words begin with it, and the words behind it.
 fn read_option<'a>(words: &'a [String], name: &str) -> Option<(Option<u32>, &'a [String])>
-    ensures option { option_map (λ r. (r.0, map string_bytes r.1.now)) result ≡ option_at name.now (map string_bytes words.now) }
+    ensures option { option_map (λ r. (r.0, map string_bytes r.1.now)) result
+        ≡ option_at name.now (map string_bytes words.now) }
     ensures bounded { IfSome result (λ r. IsBelow r.0 block_limit) }
 {
     match words {

@@ -5,4 +5,5 @@ use Rattle.aioscan_cmd.proofs.relations.number_of.Given as goal
 
 abbrev pub invariant-loop-index : goal.invariant-loop-index
 invariant-loop-index l =
-    relation_number l.name (map string_bytes l.names) ≡ relation_number l.name (map string_bytes (drop l.index l.names)) + l.index
+    relation_number l.name (map string_bytes l.names)
+    ≡ relation_number l.name (map string_bytes (drop l.index l.names)) + l.index

@@ -33,8 +33,13 @@ scan_disk-outcome-requires-clause-few g c κs within =
 pub returns-clause-ran : goal.returns-clause-ran
 returns-clause-ran g c =
     let names = ap (map string_bytes) c.as_slice.ensures.value ∙ c.in-Ok.ensures in
-    let count = ap length c.as_slice-in-Ok-open.ensures.value ∙ sym (length-map c.in-Ok.names.items string_bytes) ∙ ap length c.in-Ok.ensures in
-    ran_on_shelf (told_of (g.S.Shelf.told c.args.shelf.now) (relations_of (asked_by c.args.command.now))) (g.S.Disk.Disk.told c.in-Ok-open.disk) _ _
+    let count = ap length c.as_slice-in-Ok-open.ensures.value
+    ∙ sym (length-map c.in-Ok.names.items string_bytes) ∙ ap length c.in-Ok.ensures in
+    ran_on_shelf
+    (told_of (g.S.Shelf.told c.args.shelf.now) (relations_of (asked_by c.args.command.now)))
+    (g.S.Disk.Disk.told c.in-Ok-open.disk) _ _
     (asked_by c.args.command.now) (g.O.Sink.written c.args.out.now) _ _ _ _ _ _
-    (c.in-Ok-open.ensures.contents ∙ ap (told_of (g.S.Shelf.told c.args.shelf.now)) names) count c.in-Ok-open.ensures.no_reads
-    (c.take_back.ensures.reads ∙ ap (raised_by _) c.in-Ok-open.ensures.reads) c.scan_disk-outcome.ensures.ran
+    (c.in-Ok-open.ensures.contents
+    ∙ ap (told_of (g.S.Shelf.told c.args.shelf.now)) names) count c.in-Ok-open.ensures.no_reads
+    (c.take_back.ensures.reads
+    ∙ ap (raised_by _) c.in-Ok-open.ensures.reads) c.scan_disk-outcome.ensures.ran

@@ -6,7 +6,8 @@ pub returns-in-Err-clause-lists : goal.returns-in-Err-clause-lists
 returns-in-Err-clause-lists g c = block_unread _ _ _ _
 
 pub returns-in-Ok-eq0-clause-lists : goal.returns-in-Ok-eq0-clause-lists
-returns-in-Ok-eq0-clause-lists g c = block_missing _ _ _ _ _ _ c.in-Ok-eq0.ensures.pages.1 c.in-Ok-eq0.field-0-test
+returns-in-Ok-eq0-clause-lists g c =
+    block_missing _ _ _ _ _ _ c.in-Ok-eq0.ensures.pages.1 c.in-Ok-eq0.field-0-test
 
 pub returns-in-Ok-clause-lists : goal.returns-in-Ok-clause-lists
 returns-in-Ok-clause-lists g c =

@@ -18,7 +18,9 @@ loop-offset-init g c = record {
 pub returns-in_err-list_block-clause-lists : goal.returns-in_err-list_block-clause-lists
 returns-in_err-list_block-clause-lists g c =
     let p = err_from_is_err_and c.from_residual.result c.from_residual.ensures.1 in
-    rw (p.1, p.2) (ListsUpTo-next _ _ _ _ _ _ _ _ _ _ c.loop-offset.invariant.told (omega arith) c.loop-offset.invariant.lists c.in_err-list_block.ensures.lists)
+    rw (p.1, p.2)
+    (ListsUpTo-next _ _ _ _ _ _ _ _ _ _ c.loop-offset.invariant.told
+    (omega arith) c.loop-offset.invariant.lists c.in_err-list_block.ensures.lists)
 
 pub loop-offset-preserved : goal.loop-offset-preserved
 loop-offset-preserved g c = record {

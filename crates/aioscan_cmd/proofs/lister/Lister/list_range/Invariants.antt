@@ -6,7 +6,8 @@ use Rattle.aioscan_cmd.proofs.lister.Lister.list_range.Given as goal
 
 abbrev pub invariant-loop-offset : goal.invariant-loop-offset
 invariant-loop-offset g l = record {
-  lists : ListsAll (g.D.Disk.told l.fn.disk) (block_range l.relation l.first l.offset) (g.O.Sink.written l.fn.out) (g.O.Sink.written l.out);
+  lists : ListsAll (g.D.Disk.told l.fn.disk) (block_range l.relation l.first l.offset)
+      (g.O.Sink.written l.fn.out) (g.O.Sink.written l.out);
   read_faults : g.D.Disk.faults l.fn.disk ≤ g.D.Disk.faults l.disk;
   write_faults : g.O.Sink.faults l.fn.out ≤ g.O.Sink.faults l.out;
   told : g.D.Disk.told l.disk ≡ g.D.Disk.told l.fn.disk;
