@@ -1,0 +1,6 @@
+mod Stepping
+mod Keeping
+mod Permitting
+mod Handing
+mod Opening
+mod Running

@@ -1,0 +1,5 @@
+use Rattle.aio_word.proofs.Lives.{done-exactly}
+use Rattle.aio_word.proofs.laws.done_where_shared.Goals as goal
+
+pub returns : goal.returns
+returns c = λ config words parts h g w s e lo. done-exactly config words parts s h g w e lo
