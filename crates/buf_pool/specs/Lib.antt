@@ -1,0 +1,6 @@
+pub mod Frames
+pub mod Lawful
+pub mod Answers
+pub mod Probes
+pub mod Sound
+pub mod Wanted
