@@ -18,6 +18,10 @@ IsValidAt frames tag f = (pins : ℕ) × (frame_at frames f ≡ Valid tag pins)
 abbrev pub IsInProgressWith : List Frame → Tag → WaitRef → Type 0
 IsInProgressWith frames tag reference = (f : ℕ) × (frame_at frames f ≡ InProgress tag reference)
 
+-- no entry of the tag is in progress with this reference
+abbrev pub IsNotInProgress : List Frame → Tag → WaitRef → Type 0
+IsNotInProgress frames tag reference = (f : ℕ) → frame_at frames f ≡ InProgress tag reference → ⊥
+
 -- what the entry of the tag says
 abbrev pub IsLook : List Frame → Tag → Look → Type 0
 IsLook frames tag (look.Hit f) = IsValidAt frames tag f

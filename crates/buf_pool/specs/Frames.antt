@@ -1,5 +1,5 @@
 -- What the frames of the pool hold: the entry of each frame, by the frame's number.
-use Rattle.std.specs.Prelude.{◌≡◌, ℕ, ◌==◌, ◌<◌, Bool, true, false, List, Option, Some, None, slice_index_or, ⊤}
+use Rattle.std.specs.Prelude.{◌≡◌, ℕ, ◌==◌, ◌<◌, Bool, true, false, List, Option, Some, None, slice_index_or, slice_set, ⊤}
 use Rattle.buf_pool.specs.declared.frame.Tag.{Tag}
 use Rattle.buf_pool.specs.declared.frame.Frame.{Frame}
 use Rattle.buf_pool.specs.declared.frame.Frame.TheVariants.{Free, InProgress, Valid}
@@ -24,11 +24,19 @@ pins_of Free = None
 pins_of (InProgress _ _) = None
 pins_of (Valid _ pins) = Some pins
 
+-- the pins of the valid entry at the frame of this number
+abbrev pub pins_at : List Frame → ℕ → Option ℕ
+pins_at frames f = pins_of (frame_at frames f)
+
 -- the entry with this many pins
 abbrev pub with_pins : Frame → ℕ → Frame
 with_pins Free _ = Free
 with_pins (InProgress tag reference) _ = InProgress tag reference
 with_pins (Valid tag _) pins = Valid tag pins
+
+-- the frames where the valid entry at this frame has this many pins
+abbrev pub repinned : List Frame → ℕ → ℕ → List Frame
+repinned frames f pins = slice_set frames f (with_pins (frame_at frames f) pins)
 
 -- no entry is there
 abbrev pub is_free : Frame → Bool

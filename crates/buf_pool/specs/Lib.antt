@@ -4,3 +4,5 @@ pub mod Answers
 pub mod Probes
 pub mod Sound
 pub mod Wanted
+pub mod Shown
+pub mod Found

@@ -4,7 +4,7 @@ ghost use Rattle.aio_word.specs.declared.WaitRef.{WaitRef};
 ghost use Rattle.buf_pool.specs.declared.frame.Tag.{Tag};
 ghost use Rattle.buf_pool.specs.declared.frame.Frame.{Frame};
 ghost use Rattle.buf_pool.specs.declared.frame.Frame.TheVariants.{Free, InProgress, Valid};
-ghost use Rattle.buf_pool.specs.Frames.{frame_at, tag_of, tag_at, pins_of, with_pins, is_free, IsAbsent};
+ghost use Rattle.buf_pool.specs.Frames.{frame_at, tag_of, tag_at, pins_at, repinned, is_free, IsAbsent};
 ghost use Rattle.buf_pool.specs.Lawful.{PoolLawful};
 
 use crate::clock::{Clock, FreeFrames, Wanted, find_round};
@@ -59,11 +59,13 @@ impl<W: World> Model for PoolIndex<W> {
 
     ghost view = { λ s. s.frames.items };
 
-    ghost invariant = { λ s. AreFrames W.handles s.frames.items s.free.count s.free.start × IsTable s.table.slots.items s.table.left s.frames.items × IsClock s.clock.used.items s.clock.hand s.frames.items };
+    ghost invariant = { λ s. AreFrames W.handles s.frames.items s.free.count s.free.start
+        × IsTable s.table.slots.items s.table.left s.frames.items
+        × IsClock s.clock.used.items s.clock.hand s.frames.items };
 }
 
 impl<W: World> PoolIndex<W> {
-    ghost use Rattle.buf_pool.specs.Answers.{IsLook, IsFull, IsTakeable, HasBegun, ended};
+    ghost use Rattle.buf_pool.specs.Answers.{IsNotInProgress, IsLook, IsFull, IsTakeable, HasBegun, ended};
 
     /// An index of so many frames, 16 to 16384, all of them free. All memory of the index is taken
     /// here.
@@ -113,7 +115,7 @@ impl<W: World> PoolIndex<W> {
 
     /// The pins of the valid entry at the frame; None where there is no such entry.
     pub fn pins(&self, frame: u32) -> Option<u32>
-        ensures { result ≡ pins_of (frame_at self.now frame) }
+        ensures { result ≡ pins_at self.now frame }
     {
         match self.frames.get(frame as usize) {
             Some(Frame::Valid(_, pins)) => Some(*pins),
@@ -165,8 +167,9 @@ impl<W: World> PoolIndex<W> {
 
     /// One pin more on the valid entry at the frame, as `PinBuffer` of `bufmgr.c`.
     pub fn pin(&mut self, frame: u32)
-        requires { IsSomeAnd (pins_of (frame_at self.old frame)) (λ pins. pins < 2 ^ 32 - 1) }
-        ensures frames { IfSome (pins_of (frame_at self.old frame)) (λ pins. self.new ≡ slice_set self.old frame (with_pins (frame_at self.old frame) (pins + 1))) }
+        requires { IsSomeAnd (pins_at self.old frame) (λ pins. pins < 2 ^ 32 - 1) }
+        ensures frames { IfSome (pins_at self.old frame)
+            (λ pins. self.new ≡ repinned self.old frame (pins + 1)) }
         ensures lawful { PoolLawful W.handles self.new }
     {
         if let Some(Frame::Valid(tag, pins)) = self.frames.get(frame as usize).copied() {
@@ -177,8 +180,9 @@ impl<W: World> PoolIndex<W> {
 
     /// One pin less on the valid entry at the frame, as `UnpinBuffer` of `bufmgr.c`.
     pub fn unpin(&mut self, frame: u32)
-        requires { IsSomeAnd (pins_of (frame_at self.old frame)) (λ pins. 0 < pins) }
-        ensures frames { IfSome (pins_of (frame_at self.old frame)) (λ pins. self.new ≡ slice_set self.old frame (with_pins (frame_at self.old frame) (pins - 1))) }
+        requires { IsSomeAnd (pins_at self.old frame) (λ pins. 0 < pins) }
+        ensures frames { IfSome (pins_at self.old frame)
+            (λ pins. self.new ≡ repinned self.old frame (pins - 1)) }
         ensures lawful { PoolLawful W.handles self.new }
     {
         if let Some(Frame::Valid(tag, pins)) = self.frames.get(frame as usize).copied() {
@@ -207,7 +211,7 @@ impl<W: World> PoolIndex<W> {
 
     /// The frame that awaits the page of the tag under the reference; None where there is none.
     pub fn frame(&self, tag: Tag, reference: WaitRef) -> Option<u32>
-        ensures answer { MatchOption result ((f : ℕ) → frame_at self.now f ≡ InProgress tag reference → ⊥)
+        ensures answer { MatchOption result (IsNotInProgress self.now tag reference)
             (λ f. frame_at self.now f ≡ InProgress tag reference) }
         ensures lawful { PoolLawful W.handles self.now }
     {
@@ -223,8 +227,9 @@ impl<W: World> PoolIndex<W> {
     /// no pins, or, where the page was not kept, it is dropped. The answer is its frame; None where
     /// there is no such entry, and then nothing changes.
     pub fn end(&mut self, tag: Tag, reference: WaitRef, kept: bool) -> Option<u32>
-        ensures answer { MatchOption result (((f : ℕ) → frame_at self.old f ≡ InProgress tag reference → ⊥) × (self.new ≡ self.old))
-            (λ f. (frame_at self.old f ≡ InProgress tag reference) × (self.new ≡ slice_set self.old f (ended tag kept))) }
+        ensures answer { MatchOption result (IsNotInProgress self.old tag reference × (self.new ≡ self.old))
+            (λ f. (frame_at self.old f ≡ InProgress tag reference)
+            × (self.new ≡ slice_set self.old f (ended tag kept))) }
         ensures lawful { PoolLawful W.handles self.new }
     {
         let frame = self.frame(tag, reference)?;
