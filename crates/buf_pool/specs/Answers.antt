@@ -36,7 +36,7 @@ IsFull frames = (f : ℕ) → f < length frames → IsHeld (frame_at frames f)
 abbrev pub HasNoFree : List Frame → Type 0
 HasNoFree frames = (f : ℕ) → f < length frames → is_free (frame_at frames f) ≡ false
 
--- where this stands a new entry may be put: nothing, or a valid entry without pins where no frame is free
+-- a new entry may take this place: nothing, or an unpinned valid entry where no frame is free
 abbrev pub MayBeTaken : List Frame → Frame → Type 0
 MayBeTaken _ Free = ⊤
 MayBeTaken _ (InProgress _ _) = ⊥

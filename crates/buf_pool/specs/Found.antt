@@ -1,6 +1,5 @@
 -- What `lookup` finds.
 use Rattle.std.specs.Prelude.{◌≡◌, ℕ, ◌<◌, List, Option, ⊤}
-use Rattle.aio_word.specs.declared.WaitRef.{WaitRef}
 use Rattle.page_check.specs.Told.{Told}
 use Rattle.buf_pool.specs.declared.frame.Tag.{Tag}
 use Rattle.buf_pool.specs.declared.index.Look.{Look}

@@ -1,5 +1,5 @@
 -- What the frames of the pool hold: the entry of each frame, by the frame's number.
-use Rattle.std.specs.Prelude.{◌≡◌, ℕ, ◌==◌, ◌<◌, Bool, true, false, List, Option, Some, None, slice_index_or, slice_set, ⊤}
+use Rattle.std.specs.Prelude.{◌≡◌, ℕ, ◌==◌, ◌<◌, Bool, true, false, List, Option, Some, None, slice_index_or, slice_set, ⊤, MatchOption}
 use Rattle.buf_pool.specs.declared.frame.Tag.{Tag}
 use Rattle.buf_pool.specs.declared.frame.Frame.{Frame}
 use Rattle.buf_pool.specs.declared.frame.Frame.TheVariants.{Free, InProgress, Valid}
@@ -59,3 +59,8 @@ IsHeld (Valid _ pins) = 0 < pins
 -- no frame has an entry of the tag
 abbrev pub IsAbsent : List Frame → Tag → Type 0
 IsAbsent frames tag = (f : ℕ) → tag_at frames f ≡ Some tag → ⊥
+
+-- the answer is a frame with an entry of the tag, and None exactly where there is none
+abbrev pub IsFrameOf : List Frame → Tag → Option ℕ → Type 0
+IsFrameOf frames tag answer =
+    MatchOption answer (IsAbsent frames tag) (λ f. tag_at frames f ≡ Some tag)

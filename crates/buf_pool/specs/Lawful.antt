@@ -6,8 +6,10 @@ use Rattle.buf_pool.specs.declared.frame.Frame.{Frame}
 use Rattle.buf_pool.specs.declared.frame.Frame.TheVariants.{InProgress}
 use Rattle.buf_pool.specs.Frames.{frame_at, tag_at}
 
--- no two frames have one tag, and the reference of an entry in progress is in range; that frames are distinct, and
--- that an entry in progress has one reference and no pins, is so by the form of the list
+-- No two frames have one tag, and the reference of an entry in progress is in range. By the form of
+-- the list frames are distinct, and an entry in progress has one reference and no pins.
 pub record PoolLawful (handles : ℕ) (frames : List Frame) : Type 0 where
-  pub tags : (f g : ℕ) (tag : Tag) → tag_at frames f ≡ Some tag → tag_at frames g ≡ Some tag → f ≡ g
-  pub references : (f : ℕ) (tag : Tag) (reference : WaitRef) → frame_at frames f ≡ InProgress tag reference → reference.handle < handles
+  pub tags : (f g : ℕ) (tag : Tag)
+      → tag_at frames f ≡ Some tag → tag_at frames g ≡ Some tag → f ≡ g
+  pub references : (f : ℕ) (tag : Tag) (reference : WaitRef)
+      → frame_at frames f ≡ InProgress tag reference → reference.handle < handles

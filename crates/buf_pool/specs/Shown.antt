@@ -7,4 +7,6 @@ use Rattle.buf_pool.specs.declared.frame.Tag.{Tag}
 -- the page is valid, and where the contents are told it is the page of the tag's block
 abbrev pub Shows : Option Told → Tag → List ℕ → Type 0
 Shows told tag page =
-    IsValid page × IfSome told (λ t. (tag.block < blocks_of t tag.relation) × (page ≡ page_of t tag.relation tag.block))
+    IsValid page
+    × IfSome told (λ t. (tag.block < blocks_of t tag.relation)
+    × (page ≡ page_of t tag.relation tag.block))

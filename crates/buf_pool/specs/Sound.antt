@@ -16,7 +16,7 @@ pub record IsClock (used : List Bool) (at : ℕ) (frames : List Frame) : Type 0 
   pub size : length used ≡ length frames
   pub hand : at < length frames
 
--- the frames are lawful and 16 to 16384, so many of them are free, and the search for a free one begins at a frame
+-- the frames are lawful and 16 to 16384, so many are free, and the search for one begins at a frame
 pub record AreFrames (handles : ℕ) (frames : List Frame) (count from : ℕ) : Type 0 where
   pub lawful : PoolLawful handles frames
   pub least : 16 ≤ length frames

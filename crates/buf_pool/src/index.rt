@@ -4,11 +4,11 @@ ghost use Rattle.aio_word.specs.declared.WaitRef.{WaitRef};
 ghost use Rattle.buf_pool.specs.declared.frame.Tag.{Tag};
 ghost use Rattle.buf_pool.specs.declared.frame.Frame.{Frame};
 ghost use Rattle.buf_pool.specs.declared.frame.Frame.TheVariants.{Free, InProgress, Valid};
-ghost use Rattle.buf_pool.specs.Frames.{frame_at, tag_of, tag_at, pins_at, repinned, is_free, IsAbsent};
+ghost use Rattle.buf_pool.specs.Frames.{frame_at, tag_of, tag_at, pins_at, repinned, is_free, IsAbsent, IsFrameOf};
 ghost use Rattle.buf_pool.specs.Lawful.{PoolLawful};
 
-use crate::clock::{Clock, FreeFrames, Wanted, find_round};
 use crate::frame::{Frame, Tag};
+use crate::strategy::{Clock, FreeFrames, Wanted, find_round};
 use crate::table::{TagTable, find};
 use aio_word::WaitRef;
 use page_check::World;
@@ -91,7 +91,7 @@ impl<W: World> PoolIndex<W> {
 
     // The frame of the tag's entry.
     fn find(&self, tag: Tag) -> Option<u32>
-        ensures found { MatchOption result (IsAbsent self.now tag) (λ f. tag_at self.now f ≡ Some tag) }
+        ensures found { IsFrameOf self.now tag result }
         ensures range { IfSome result (λ f. f < length self.now) }
         ensures lawful { PoolLawful W.handles self.now }
     {
@@ -227,7 +227,8 @@ impl<W: World> PoolIndex<W> {
     /// no pins, or, where the page was not kept, it is dropped. The answer is its frame; None where
     /// there is no such entry, and then nothing changes.
     pub fn end(&mut self, tag: Tag, reference: WaitRef, kept: bool) -> Option<u32>
-        ensures answer { MatchOption result (IsNotInProgress self.old tag reference × (self.new ≡ self.old))
+        ensures answer { MatchOption result
+            (IsNotInProgress self.old tag reference × (self.new ≡ self.old))
             (λ f. (frame_at self.old f ≡ InProgress tag reference)
             × (self.new ≡ slice_set self.old f (ended tag kept))) }
         ensures lawful { PoolLawful W.handles self.new }

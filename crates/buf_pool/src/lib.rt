@@ -10,11 +10,11 @@
 #![tactic(auto)]
 
 mod carried;
-mod clock;
 mod frame;
 mod index;
 mod pin;
 mod pool;
+mod strategy;
 mod table;
 
 pub use frame::{Frame, Tag};

@@ -1,7 +1,7 @@
 //! The table that finds the frame of a tag, after `buf_table.c`.
 ghost use Rattle.std.specs.Prelude.{◌≡◌, ◌≢◌, ℕ, ◌+◌, ◌*◌, ◌<◌, ◌≤◌, length, true, false, Some, None, MatchOption, List, IsTrue, ◌↔◌};
 ghost use Rattle.buf_pool.specs.declared.frame.Tag.{Tag};
-ghost use Rattle.buf_pool.specs.Frames.{tag_at, IsAbsent};
+ghost use Rattle.buf_pool.specs.Frames.{tag_at, IsFrameOf};
 ghost use Rattle.buf_pool.specs.Probes.{home_of, Reaches, KeepsTaken, IsIndexed, empty_slots};
 ghost use Rattle.buf_pool.specs.Sound.{IsTable};
 
@@ -32,7 +32,7 @@ fn carries(frames: &[Frame], frame: u32, tag: Tag) -> bool
 pub(crate) fn find(slots: &[Option<u32>], frames: &[Frame], tag: Tag) -> Option<u32>
     requires size { (0 < length slots.now) × (length slots.now ≤ 65536) }
     requires indexed { IsIndexed slots.now frames.now }
-    ensures { MatchOption result (IsAbsent frames.now tag) (λ f. tag_at frames.now f ≡ Some tag) }
+    ensures { IsFrameOf frames.now tag result }
 {
     let size = slots.len();
     let home = home(tag, size);
@@ -98,10 +98,12 @@ pub(crate) struct TagTable {
 impl TagTable {
     /// Puts in the frame, which now has an entry of the tag.
     pub(crate) fn add(&mut self, frames: &[Frame], tag: Tag, frame: u32)
-        requires size { (length self.old.slots.items ≡ 4 * length frames.now) × (0 < length frames.now) × (length frames.now ≤ 16384) }
+        requires size { (length self.old.slots.items ≡ 4 * length frames.now)
+            × (0 < length frames.now) × (length frames.now ≤ 16384) }
         requires left { self.old.left ≤ empty_slots self.old.slots.items }
         requires entry { tag_at frames.now frame ≡ Some tag }
-        requires others { (f : ℕ) (t : Tag) → f ≢ frame → tag_at frames.now f ≡ Some t → Reaches self.old.slots.items t f }
+        requires others { (f : ℕ) (t : Tag) → f ≢ frame → tag_at frames.now f ≡ Some t
+            → Reaches self.old.slots.items t f }
         ensures { IsTable self.new.slots.items self.new.left frames.now }
     {
         let size = self.slots.len();

@@ -1,7 +1,7 @@
 //! Which frame is taken for a new entry.
 ghost use Rattle.std.specs.Prelude.{◌≡◌, ℕ, ◌+◌, ◌<◌, ◌≤◌, length, true, false, MatchOption, IfSome, List, if◌then◌else◌};
 ghost use Rattle.buf_pool.specs.Frames.{frame_at, is_free, is_unpinned};
-ghost use Rattle.buf_pool.specs.Wanted.{is_wanted};
+ghost use Rattle.buf_pool.specs.Wanted.{is_wanted, IsSearchAnswer};
 ghost use Rattle.buf_pool.specs.Sound.{IsClock};
 
 use crate::frame::Frame;
@@ -28,8 +28,7 @@ impl Wanted {
 pub(crate) fn find_round(frames: &[Frame], start: usize, wanted: Wanted) -> Option<u32>
     requires start { start < length frames.now }
     requires size { length frames.now ≤ 16384 }
-    ensures { MatchOption result ((f : ℕ) → f < length frames.now → is_wanted wanted (frame_at frames.now f) ≡ false)
-        (λ f. (f < length frames.now) × (is_wanted wanted (frame_at frames.now f) ≡ true)) }
+    ensures { IsSearchAnswer (is_wanted wanted) frames.now result }
 {
     let size = frames.len();
     for step in 0..size {
@@ -53,7 +52,8 @@ impl FreeFrames {
     pub(crate) fn note(&mut self, at: usize, old: &Frame, new: &Frame)
         requires most { self.old.count ≤ 16384 }
         requires counted { is_free old.now ≡ true → 0 < self.old.count }
-        ensures count { self.new.count + (if is_free old.now then 1 else 0) ≡ self.old.count + (if is_free new.now then 1 else 0) }
+        ensures count { self.new.count + (if is_free old.now then 1 else 0)
+            ≡ self.old.count + (if is_free new.now then 1 else 0) }
         ensures start { (limit : ℕ) → self.old.start < limit → at < limit → self.new.start < limit }
     {
         match (old.is_free(), new.is_free()) {
@@ -94,7 +94,8 @@ impl Clock {
         requires clock { IsClock self.old.used.items self.old.hand frames.now }
         requires size { length frames.now ≤ 16384 }
         ensures clock { IsClock self.new.used.items self.new.hand frames.now }
-        ensures found { IfSome result (λ f. (f < length frames.now) × (is_unpinned (frame_at frames.now f) ≡ true)) }
+        ensures found { IfSome result
+            (λ f. (f < length frames.now) × (is_unpinned (frame_at frames.now f) ≡ true)) }
     {
         let size = frames.len();
         for _ in 0..size {
@@ -116,8 +117,7 @@ impl Clock {
         requires clock { IsClock self.old.used.items self.old.hand frames.now }
         requires size { length frames.now ≤ 16384 }
         ensures clock { IsClock self.new.used.items self.new.hand frames.now }
-        ensures found { MatchOption result ((f : ℕ) → f < length frames.now → is_unpinned (frame_at frames.now f) ≡ false)
-            (λ f. (f < length frames.now) × (is_unpinned (frame_at frames.now f) ≡ true)) }
+        ensures found { IsSearchAnswer is_unpinned frames.now result }
     {
         if let Some(frame) = self.sweep(frames) {
             return Some(frame);
