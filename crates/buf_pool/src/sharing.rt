@@ -2,7 +2,7 @@
 ghost use Rattle.std.specs.Prelude.{◌≡◌, ◌<◌, None, IfOk, IfSome};
 ghost use Rattle.page_check.specs.Verdict.{IsValid};
 
-use crate::{Begun, Found, Pool, Tag};
+use crate::{Begun, Found, Look, Pool, Tag};
 use aio_word::WaitRef;
 use page_check::{Page, Verdict, World, check, header};
 use std::alloc::{AllocError, Global};
@@ -95,6 +95,7 @@ fn visit_all<W: World, R: Wait>(
     Ok(some)
 }
 
+/// Whether two threads had the pages that they asked for, and the last block is still there.
 fn visit_by_two<W: World + Send + Sync, R: Threads + Wait + Sync>(
     rt: &R,
     alloc: Global,
@@ -112,7 +113,11 @@ fn visit_by_two<W: World + Send + Sync, R: Threads + Wait + Sync>(
             requires { (W.told ≡ None) × (W.handles ≡ 2) }
         { visit_all(rt, alloc, shared, 1) },
     );
-    Ok(one? && other?)
+    let last = Tag {
+        relation: 0,
+        block: 39,
+    };
+    Ok(one? && other? && matches!(pool.peek(rt, last), Look::Hit(_)))
 }
 
 #[test]
