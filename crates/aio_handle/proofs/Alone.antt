@@ -56,7 +56,7 @@ seven c p q h class g aim kp cf m one k =
     subst (λ (z : ℕ). times h (8 * g + z) q.marks ≡ one_if (nat_lt z 7)) (sym e) one')
     (λ ne. counts-apart event.Local h (completed class g) (taken class g) aim p q m h (8 * g + order k) (inr (λ x. ne (omega arith))) ∙ (was ∙ less-six (order k) ne (order-small k)))
 
-is-io : (k : Kind) → order k ≡ 4 → (x : Class) × (k ≡ kind.Io x)
+pub is-io : (k : Kind) → order k ≡ 4 → (x : Class) × (k ≡ kind.Io x)
 is-io kind.Defined e = absurd (omega arith)
 is-io kind.Staged e = absurd (omega arith)
 is-io kind.Submitted e = absurd (omega arith)
@@ -66,7 +66,7 @@ is-io kind.Shared e = absurd (omega arith)
 is-io (kind.Local x) e = absurd (omega arith)
 is-io kind.Reclaimed e = absurd (omega arith)
 
-mark-is : (m : Mark) (h g : ℕ) (k : Kind) → m.handle ≡ h → m.generation ≡ g → m.kind ≡ k → m ≡ mark h g k
+pub mark-is : (m : Mark) (h g : ℕ) (k : Kind) → m.handle ≡ h → m.generation ≡ g → m.kind ≡ k → m ≡ mark h g k
 mark-is m h g k eh eg ek = λ i. mark (eh i) (eg i) (ek i)
 
 -- a mark that is counted once stands in the list, with the word's class

@@ -101,7 +101,7 @@ owner-inside c h lt = dite (ℕ_discrete c.per_backend 0)
     (λ e. absurd (let x : h < c.backends * 0 = subst (λ (z : ℕ). h < c.backends * z) e lt in omega arith))
     (λ n. let d : h / c.per_backend < c.backends = div_below h c.per_backend c.backends (omega arith) lt in omega arith)
 
-idle-place : (w : Word) → w.state ≡ Idle → place_of w ≡ 0
+pub idle-place : (w : Word) → w.state ≡ Idle → place_of w ≡ 0
 idle-place w e = ap (λ (z : WordState). place_in z w.claimed) e
 
 -- each generation is small, so their sum is

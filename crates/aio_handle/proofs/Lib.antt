@@ -18,3 +18,4 @@ pub mod Remembering
 pub mod Recalling
 pub mod Trying
 pub mod Kept
+pub mod Balance

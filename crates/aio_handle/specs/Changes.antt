@@ -28,7 +28,8 @@ aims_after aims t aim _ = aims
 abbrev pub seen_after : Known → ℕ → Word → List ℕ
 seen_after p h w = slice_set p.seen h (max (seen_of p h) (rank_of w))
 
--- what the actor knows after the event on the handle h, whose word w became w', for a record with this aim
+-- what the actor knows after the event on the handle h, whose word w became w', for a record with
+-- this aim
 abbrev pub changed : Event → ℕ → Word → Word → List ℕ → Known → Known
 changed e h w w' aim p = record {
   config = p.config;

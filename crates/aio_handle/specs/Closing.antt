@@ -8,7 +8,8 @@ use Rattle.aio_word.specs.declared.WaitRef.{WaitRef}
 use Rattle.aio_word.specs.declared.State.TheVariants.{Idle}
 use Rattle.aio_word.specs.declared.Known.{Known}
 use Rattle.aio_word.specs.declared.Kind.TheVariants as kind
-use Rattle.aio_word.specs.Events.{at}
+use Rattle.aio_word.specs.declared.Class.{Class}
+use Rattle.aio_word.specs.Events.{at, mark_at}
 use Rattle.aio_word.specs.Stands.{IsIn, Stands}
 use Rattle.aio_word.specs.Totals.{incarnations, by_backends, by_runners}
 
@@ -16,15 +17,18 @@ use Rattle.aio_word.specs.Totals.{incarnations, by_backends, by_runners}
 abbrev pub AreOver : Known → Type 0
 AreOver p = (t : WaitRef) → at t kind.Defined p.marks ≤ at t kind.Reclaimed p.marks
 
--- no token of the actor is out: no handle is handed out, and no incarnation is in the middle of its life
+-- no token of the actor is out: no handle is handed out, and no incarnation is in the middle of
+-- its life
 abbrev pub IsAtRest : Known → Type 0
 IsAtRest p = (p.out ≡ None) × AreOver p
 
--- no token of these actors is out. Then no I/O is claimed and not shared either, since its owner would have it in flight
+-- no token of these actors is out. Then no I/O is claimed and not shared either, since its owner
+-- would have it in flight
 abbrev pub IsQuiet : List Known → Type 0
 IsQuiet parts = (p : Known) → IsIn p parts → IsAtRest p
 
--- the lists of these actors stand for words that are all Idle, and as many incarnations were claimed as are over
+-- the lists of these actors stand for words that are all Idle, and as many incarnations were
+-- claimed as are over
 pub record Ends (c : Config) (parts : List Known) : Type 0 where
   pub words : List Word
   pub stands : Stands c words parts
@@ -44,3 +48,7 @@ pub record AreTotals (c : Config) (parts : List Known) (totals : Tally) : Type 0
   pub by_backends_are : totals.by_backends ≡ by_backends c parts
   pub by_runners_are : totals.by_runners ≡ by_runners c parts
   pub sum : totals.incarnations ≡ totals.by_backends + totals.by_runners
+
+-- the incarnation was executed by one of these actors, and ended with this class
+abbrev pub IsExecutedIn : List Known → WaitRef → Class → Type 0
+IsExecutedIn parts t class = (q : Known) × IsIn q parts × IsIn (mark_at t (kind.Io class)) q.marks

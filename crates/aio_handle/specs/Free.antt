@@ -10,7 +10,8 @@ use Rattle.aio_handle.specs.declared.actor.AcquireRefusal.{AcquireRefusal}
 use Rattle.aio_handle.specs.declared.actor.AcquireRefusal.TheVariants as refusal
 use Rattle.aio_handle.specs.Made.{generation_of}
 
--- by the actor's marks this is the next incarnation of one of its own handles, not defined, and below the last generation
+-- by the actor's marks this is the next incarnation of one of its own handles, not defined, and
+-- below the last generation
 pub record IsFree (c : Config) (p : Known) (t : WaitRef) : Type 0 where
   pub own : p.number ≡ owner c t.handle
   pub generation : t.generation ≡ generation_of c p t.handle
@@ -30,8 +31,11 @@ abbrev pub IsCause : Config → Known → AcquireRefusal → Type 0
 IsCause c p refusal.OneIsOut = HasOneOut p
 IsCause c p refusal.NoneFree = (p.out ≡ None) × HasNoneFree c p
 
--- how many more lives each handle of the actor can have: for a backend the last generation less the greatest of its handles
+-- how many more lives each handle of the actor can have: for a backend the last generation less
+-- the greatest of its handles
 pub record IsRoom (c : Config) (p : Known) (room : ℕ) : Type 0 where
   pub of_runner : c.backends ≤ p.number → room ≡ 0
-  pub for_each : (handle : ℕ) → handle < handles c → p.number ≡ owner c handle → generation_of c p handle + room ≤ last_generation
-  pub exact : p.number < c.backends → (handle : ℕ) × (handle < handles c) × (p.number ≡ owner c handle) × (generation_of c p handle + room ≡ last_generation)
+  pub for_each : (handle : ℕ) → handle < handles c → p.number ≡ owner c handle
+      → generation_of c p handle + room ≤ last_generation
+  pub exact : p.number < c.backends → (handle : ℕ) × (handle < handles c)
+      × (p.number ≡ owner c handle) × (generation_of c p handle + room ≡ last_generation)

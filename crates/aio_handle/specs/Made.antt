@@ -50,30 +50,37 @@ pub record Looked (h : ℕ) (w : Word) (p q : Known) : Type 0 where
   pub before : seen_of p h ≤ rank_of w
   pub now : seen_of q h ≡ rank_of w
 
--- the word says that the incarnation of that generation is completed, and that its owner has not taken the result
+-- the word says that the incarnation of that generation is completed, and that its owner has not
+-- taken the result
 abbrev pub IsCompleted : Word → ℕ → Type 0
 IsCompleted w generation = (w.state ≡ CompletedShared) × (w.generation ≡ generation)
 
--- a load that found the incarnation completed, then the event Local with the class of the word, and the label of the record that came
+-- a load that found the incarnation completed, then the event Local with the class of the word,
+-- and the label of the record that came
 pub record TakesOut (t : WaitRef) (p q : Known) (l : Label) : Type 0 where
   pub between : Known
   pub found : Word
   pub class : Class
   pub looked : Looked t.handle found p between
   pub completed : IsCompleted found t.generation
-  pub made : Made step.Local t.handle (word_in CompletedShared false class t.generation) (taken class t.generation) [] between q
+  pub made : Made step.Local t.handle (word_in CompletedShared false class t.generation)
+      (taken class t.generation) [] between q
   pub ended : class ≢ Unended
-  pub label : l ≡ record { handle = t.handle; generation = t.generation; ended = class; settled = false }
+  pub label : l ≡
+      record { handle = t.handle; generation = t.generation; ended = class; settled = false }
 
 -- a load of the word of the incarnation t, and what it answers
 pub record Checked (t : WaitRef) (answer : Bool) (p q : Known) : Type 0 where
   pub word : Word
   pub looked : Looked t.handle word p q
   pub exact : IsTrue answer ↔ IsDone word t.generation
-  -- where the answer is true, the incarnation's Shared mark stands once over all lists, whatever came since
-  pub shared : IsTrue answer → p.config.start ≤ t.generation → stands t kind.Shared looked.moment.parts ≡ 1
+  -- where the answer is true, the incarnation's Shared mark stands once over all lists, whatever
+  -- came since
+  pub shared : IsTrue answer → p.config.start ≤ t.generation
+      → stands t kind.Shared looked.moment.parts ≡ 1
 
--- in a table of one actor: the marks of t from Defined to Local stand once each in its list, in the order of the life, and the Io mark has this class
+-- in a table of one actor: the marks of t from Defined to Local stand once each in its list, in
+-- the order of the life, and the Io mark has this class
 pub record LivedAlone (t : WaitRef) (class : Class) (q : Known) : Type 0 where
   pub once : (k : Kind) → at t k q.marks ≡ one_if (nat_lt (order k) 7)
   pub ordered : AllPairs (λ m n. m.handle ≡ n.handle → rank_of_mark m < rank_of_mark n) q.marks

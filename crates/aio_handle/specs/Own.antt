@@ -17,5 +17,7 @@ IsFreeHandle x = (x.is_defined ≡ false) × (x.generation < last_generation)
 -- how many more lives each of these handles can have
 pub record HasRoom (own : List OwnHandle) (room : ℕ) : Type 0 where
   pub none : length own ≡ 0 → room ≡ 0
-  pub for_each : (place : ℕ) → place < length own → (own_at own place).generation + room ≤ last_generation
-  pub exact : 0 < length own → (place : ℕ) × (place < length own) × ((own_at own place).generation + room ≡ last_generation)
+  pub for_each : (place : ℕ) → place < length own
+      → (own_at own place).generation + room ≤ last_generation
+  pub exact : 0 < length own → (place : ℕ) × (place < length own)
+      × ((own_at own place).generation + room ≡ last_generation)

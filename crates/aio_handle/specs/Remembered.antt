@@ -26,11 +26,13 @@ handle_at c p place = p.number * c.per_backend + place
 pub record Owns (c : Config) (own : List OwnHandle) (p : Known) : Type 0 where
   pub of_backend : p.number < c.backends → length own ≡ c.per_backend
   pub of_runner : c.backends ≤ p.number → length own ≡ 0
-  pub each : (place : ℕ) → place < length own → own_at own place ≡ own_handle c p (handle_at c p place)
+  pub each : (place : ℕ) → place < length own
+      → own_at own place ≡ own_handle c p (handle_at c p place)
   pub bound : (place : ℕ) → place < length own → (own_at own place).generation ≤ last_generation
 
 -- the notes on its own handles, whether one of them is handed out, and how often it has claimed
-pub record Remembers (c : Config) (own : List OwnHandle) (turn : ℕ) (is_out : Bool) (claims : ℕ) (p : Known) : Type 0 where
+pub record Remembers (c : Config) (own : List OwnHandle) (turn : ℕ) (is_out : Bool) (claims : ℕ)
+    (p : Known) : Type 0 where
   pub owns : Owns c own p
   pub turn_in : turn ≤ length own
   pub out : (is_out ≡ true) ↔ HasOneOut p

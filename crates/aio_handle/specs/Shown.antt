@@ -30,7 +30,9 @@ IsSame a b = (b.table ≡ a.table) × (b.config ≡ a.config)
 
 -- the actors of a new table, from number a on
 abbrev pub AreNew : Named → ℕ → List Standing → Type 0
-AreNew t a actors = (i : ℕ) (x : Standing) → i < length actors → slice_index_or actors i x ≡ record { table = t.table; config = t.config; known = newcomer t.config (a + i) }
+AreNew t a actors = (i : ℕ) (x : Standing) → i < length actors
+    → slice_index_or actors i x ≡
+    record { table = t.table; config = t.config; known = newcomer t.config (a + i) }
 
 abbrev pub known_in : Standing → Known
 known_in a = a.known

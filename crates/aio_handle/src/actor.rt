@@ -46,9 +46,11 @@ impl<R: Record, W: World> Model for Actor<R, W> {
 
     ghost Value = { Standing };
 
-    ghost view = { λ a. record { table = a.seat.table_id; config = a.config; known = known_of a.seat.me.0 } };
+    ghost view = { λ a.
+        record { table = a.seat.table_id; config = a.config; known = known_of a.seat.me.0 } };
 
-    ghost invariant = { λ a. IsSeated a.config a.number a.seat.me × IsConfig a.config × Remembers a.config a.own.items a.turn a.is_out a.claims (known_of a.seat.me.0) };
+    ghost invariant = { λ a. IsSeated a.config a.number a.seat.me × IsConfig a.config
+        × Remembers a.config a.own.items a.turn a.is_out a.claims (known_of a.seat.me.0) };
 }
 
 impl<R: Record, W: World> Actor<R, W> {
@@ -77,8 +79,12 @@ impl<R: Record, W: World> Actor<R, W> {
 
     // How often it has claimed, as a backend and as a runner.
     pub(crate) fn claims(&self, backends: u32) -> (u128, u128)
-        ensures backend { result.0 ≡ min (cond (nat_lt self.now.known.number backends) (claimed_marks self.now.known.marks) 0) (2 ^ 128 - 1) }
-        ensures runner { result.1 ≡ min (cond (nat_lt self.now.known.number backends) 0 (claimed_marks self.now.known.marks)) (2 ^ 128 - 1) }
+        ensures backend { result.0 ≡ min
+            (cond (nat_lt self.now.known.number backends) (claimed_marks self.now.known.marks) 0)
+            (2 ^ 128 - 1) }
+        ensures runner { result.1 ≡ min
+            (cond (nat_lt self.now.known.number backends) 0 (claimed_marks self.now.known.marks))
+            (2 ^ 128 - 1) }
     {
         if self.number < backends {
             (self.claims, 0)
@@ -90,7 +96,8 @@ impl<R: Record, W: World> Actor<R, W> {
     // The next incarnation of one of its handles that is free by its own marks.
     pub(crate) fn free_handle(&self) -> Option<WaitRef>
         requires backend { self.now.known.number < self.now.config.backends }
-        ensures some { IfSome result (λ t. (t.handle < handles self.now.config) × IsFree self.now.config self.now.known t) }
+        ensures some { IfSome result
+            (λ t. (t.handle < handles self.now.config) × IsFree self.now.config self.now.known t) }
         ensures none { IfNone result (HasNoneFree self.now.config self.now.known) }
     {
         let own = self.own.as_slice();

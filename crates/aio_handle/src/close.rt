@@ -31,7 +31,13 @@ impl Model for Totals {
 
     ghost Value = { Tally };
 
-    ghost view = { λ t. record { incarnations = t.incarnations; by_backends = t.by_backends; by_runners = t.by_runners } };
+    ghost view = { λ t.
+        record {
+          incarnations = t.incarnations;
+          by_backends = t.by_backends;
+          by_runners =
+              t.by_runners;
+        } };
 }
 
 impl Totals {
@@ -60,8 +66,10 @@ impl Totals {
 
 /// How often the backends and the runners among these actors have claimed.
 fn count_claims<R: Record, W: World>(config: &Config, actors: &[Actor<R, W>]) -> (u128, u128)
-    ensures backends { result.0 ≡ min (claimed_by_backends config.now (map known_in actors.now)) (2 ^ 128 - 1) }
-    ensures runners { result.1 ≡ min (claimed_by_runners config.now (map known_in actors.now)) (2 ^ 128 - 1) }
+    ensures backends { result.0 ≡ min (claimed_by_backends config.now (map known_in actors.now))
+        (2 ^ 128 - 1) }
+    ensures runners { result.1 ≡ min (claimed_by_runners config.now (map known_in actors.now))
+        (2 ^ 128 - 1) }
 {
     let mut by_backends: u128 = 0;
     let mut by_runners: u128 = 0;
@@ -108,7 +116,9 @@ impl<R: Record, W: World> Table<R, W> {
         requires quiet { IsQuiet (map known_in actors.items) }
         ensures slots { IsFull result.slots }
         ensures ends { Ends self.config (map known_in actors.items) }
-        ensures small { claimed_by_backends self.config (map known_in actors.items) + claimed_by_runners self.config (map known_in actors.items) < 2 ^ 128 - 1 }
+        ensures small { claimed_by_backends self.config
+            (map known_in actors.items) + claimed_by_runners self.config
+            (map known_in actors.items) < 2 ^ 128 - 1 }
     {
         let seat = self.gather(actors);
         let Table { inner, config: _ } = self;

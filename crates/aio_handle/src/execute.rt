@@ -40,12 +40,16 @@ pub trait Execute<R: Record, W: World> {
         requires table { IsOf table.now actor.old }
         requires told { (told self.old ≡ W.told) × (relations self.old ≡ W.relations) }
         requires given { claimed.old ≢ None }
-        requires token { IfSome claimed.old (λ t. IsClaimed actor.old.known t.0 × IsIn (t.0, R.aim t.1) actor.old.known.aims) }
-        requires record { IfSome claimed.old (λ t. (R.label t.1 ≡ bound t.0.handle t.0.generation) × R.fits W.told W.relations t.1) }
+        requires token { IfSome claimed.old
+            (λ t. IsClaimed actor.old.known t.0 × IsIn (t.0, R.aim t.1) actor.old.known.aims) }
+        requires record { IfSome claimed.old
+            (λ t. (R.label t.1 ≡ bound t.0.handle t.0.generation) × R.fits W.told W.relations t.1) }
         ensures taken { claimed.new ≡ None }
         ensures same { IsSame actor.old actor.new }
         ensures told { (told self.new ≡ told self.old) × (relations self.new ≡ relations self.old) }
-        ensures marks { IfSome claimed.old (λ t. TakesUp (mark_at t.0 kind.Claimed ∷ []) actor.old.known actor.new.known (reads self.old) (reads self.new) (faults self.old) (faults self.new)) };
+        ensures marks { IfSome claimed.old
+            (λ t. TakesUp (mark_at t.0 kind.Claimed ∷ []) actor.old.known actor.new.known
+            (reads self.old) (reads self.new) (faults self.old) (faults self.new)) };
 
     /// Ends the claimed incarnation: on return its Io and Shared marks stand in the actor's list.
     /// It may take up further incarnations, of which it appends all three marks, and appends no
@@ -59,11 +63,15 @@ pub trait Execute<R: Record, W: World> {
     )
         requires table { IsOf table.now actor.old }
         requires told { (told self.old ≡ W.told) × (relations self.old ≡ W.relations) }
-        requires token { IsClaimed actor.old.known claimed.0 × IsIn (claimed.0, R.aim claimed.1) actor.old.known.aims }
-        requires record { (R.label claimed.1 ≡ bound claimed.0.handle claimed.0.generation) × R.fits W.told W.relations claimed.1 }
+        requires token { IsClaimed actor.old.known claimed.0
+            × IsIn (claimed.0, R.aim claimed.1) actor.old.known.aims }
+        requires record { (R.label claimed.1 ≡ bound claimed.0.handle claimed.0.generation)
+            × R.fits W.told W.relations claimed.1 }
         ensures same { IsSame actor.old actor.new }
         ensures told { (told self.new ≡ told self.old) × (relations self.new ≡ relations self.old) }
-        ensures marks { TakesUp (mark_at claimed.0 kind.Claimed ∷ []) actor.old.known actor.new.known (reads self.old) (reads self.new) (faults self.old) (faults self.new) }
+        ensures marks { TakesUp
+            (mark_at claimed.0 kind.Claimed ∷ []) actor.old.known actor.new.known (reads self.old)
+            (reads self.new) (faults self.old) (faults self.new) }
     {
         let mut claimed = Some(claimed);
         self.run(rt, table, actor, &mut claimed);

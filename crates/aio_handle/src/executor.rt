@@ -34,10 +34,18 @@ impl<R: Record, W: World> Table<R, W> {
         requires table { IsOf self.now actor.old }
         requires range { reference.handle < W.handles }
         ensures same { IsSame actor.old actor.new }
-        ensures won { IfSome result (λ t. (t.0 ≡ reference) × Made Claim reference.handle (unclaimed reference.generation) (claimed_at reference.generation) (R.aim t.1) actor.old.known actor.new.known) }
-        ensures token { IfSome result (λ t. IsClaimed actor.new.known t.0 × IsIn (t.0, R.aim t.1) actor.new.known.aims) }
-        ensures record { IfSome result (λ t. (R.label t.1 ≡ bound reference.handle reference.generation) × R.fits W.told W.relations t.1) }
-        ensures lost { IfNone result ((w : Word) × Looked reference.handle w actor.old.known actor.new.known × (w ≢ unclaimed reference.generation)) }
+        ensures won { IfSome result
+            (λ t. (t.0 ≡ reference)
+            × Made Claim reference.handle (unclaimed reference.generation)
+            (claimed_at reference.generation) (R.aim t.1) actor.old.known actor.new.known) }
+        ensures token { IfSome result
+            (λ t. IsClaimed actor.new.known t.0 × IsIn (t.0, R.aim t.1) actor.new.known.aims) }
+        ensures record { IfSome result
+            (λ t. (R.label t.1 ≡ bound reference.handle reference.generation)
+            × R.fits W.told W.relations t.1) }
+        ensures lost { IfNone result
+            ((w : Word) × Looked reference.handle w actor.old.known actor.new.known
+            × (w ≢ unclaimed reference.generation)) }
     {
         let handle = reference.handle as usize;
         if reference.generation > LAST_GENERATION {
@@ -77,8 +85,10 @@ impl<R: Record, W: World> Table<R, W> {
         requires token { IsClaimed actor.old.known claimed.old.0 }
         requires class { class ≢ Unended }
         ensures same { IsSame actor.old actor.new }
-        ensures event { Made (Io class) claimed.old.0.handle (claimed_at claimed.old.0.generation) (executed class claimed.old.0.generation) [] actor.old.known actor.new.known }
-        ensures token { (claimed.new ≡ claimed.old) × IsExecuted class actor.new.known claimed.new.0 }
+        ensures event { Made (Io class) claimed.old.0.handle (claimed_at claimed.old.0.generation)
+            (executed class claimed.old.0.generation) [] actor.old.known actor.new.known }
+        ensures token { (claimed.new ≡ claimed.old)
+            × IsExecuted class actor.new.known claimed.new.0 }
     {
         let word = number_of(
             State::CompletedIo,
@@ -94,12 +104,22 @@ impl<R: Record, W: World> Table<R, W> {
     /// The record goes home, ended, and those who rest on the handle are woken.
     pub fn complete_shared(&self, actor: &mut Actor<R, W>, claimed: Claimed<R, W>)
         requires table { IsOf self.now actor.old }
-        requires token { IsExecuted (R.label claimed.1).ended actor.old.known claimed.0 × ((R.label claimed.1).ended ≢ Unended) }
-        requires label { R.label claimed.1 ≡ record { handle = claimed.0.handle; generation = claimed.0.generation; ended = (R.label claimed.1).ended; settled = false } }
+        requires token { IsExecuted (R.label claimed.1).ended actor.old.known claimed.0
+            × ((R.label claimed.1).ended ≢ Unended) }
+        requires label { R.label claimed.1 ≡
+            record {
+              handle = claimed.0.handle;
+              generation = claimed.0.generation;
+              ended =
+                  (R.label claimed.1).ended;
+              settled = false;
+            } }
         requires aim { IsIn (claimed.0, R.aim claimed.1) actor.old.known.aims }
         requires fits { R.fits W.told W.relations claimed.1 }
         ensures same { IsSame actor.old actor.new }
-        ensures event { let class = (R.label claimed.1).ended in Made Shared claimed.0.handle (executed class claimed.0.generation) (completed class claimed.0.generation) [] actor.old.known actor.new.known }
+        ensures event { let class = (R.label claimed.1).ended in
+            Made Shared claimed.0.handle (executed class claimed.0.generation)
+            (completed class claimed.0.generation) [] actor.old.known actor.new.known }
     {
         let Claimed {
             reference,

@@ -6,6 +6,7 @@ mod close;
 mod execute;
 mod executor;
 mod front;
+pub mod laws;
 mod lends;
 mod looks;
 mod own;

@@ -26,7 +26,8 @@ impl OwnHandle {
 fn find_free(own: &[OwnHandle], from: usize, to: usize) -> Option<usize>
     requires range { to ≤ length own.now }
     ensures some { IfSome result (λ k. (k < to) × IsFreeHandle (own_at own.now k)) }
-    ensures none { IfNone result ((k : ℕ) → from ≤ k → k < to → IsFreeHandle (own_at own.now k) → ⊥) }
+    ensures none { IfNone result
+        ((k : ℕ) → from ≤ k → k < to → IsFreeHandle (own_at own.now k) → ⊥) }
 {
     for k in from..to {
         if own[k].is_free() {
@@ -40,7 +41,8 @@ fn find_free(own: &[OwnHandle], from: usize, to: usize) -> Option<usize>
 pub(crate) fn next_free(own: &[OwnHandle], from: usize) -> Option<usize>
     requires range { from ≤ length own.now }
     ensures some { IfSome result (λ k. (k < length own.now) × IsFreeHandle (own_at own.now k)) }
-    ensures none { IfNone result ((k : ℕ) → k < length own.now → IsFreeHandle (own_at own.now k) → ⊥) }
+    ensures none { IfNone result
+        ((k : ℕ) → k < length own.now → IsFreeHandle (own_at own.now k) → ⊥) }
 {
     match find_free(own, from, own.len()) {
         Some(place) => Some(place),
@@ -50,7 +52,8 @@ pub(crate) fn next_free(own: &[OwnHandle], from: usize) -> Option<usize>
 
 /// How many more lives each of these handles can have.
 pub(crate) fn room_of(own: &[OwnHandle]) -> u64
-    requires bound { (k : ℕ) → k < length own.now → (own_at own.now k).generation ≤ last_generation }
+    requires bound { (k : ℕ) → k < length own.now
+        → (own_at own.now k).generation ≤ last_generation }
     ensures { HasRoom own.now result }
 {
     let Some(first) = own.first() else {

@@ -45,10 +45,14 @@ impl<R: Record, W: World> Table<R, W> {
         requires table { IsOf self.now actor.old }
         requires backend { actor.old.known.number < self.now.config.backends }
         ensures same { IsSame actor.old actor.new }
-        ensures event { IfOk result (λ t. Made HandOut t.handle (idle t.generation) (handed t.generation) [] actor.old.known actor.new.known) }
+        ensures event { IfOk result
+            (λ t. Made HandOut t.handle (idle t.generation)
+            (handed t.generation) [] actor.old.known actor.new.known) }
         ensures token { IfOk result (λ t. actor.new.known.out ≡ Some t) }
-        ensures free { IfOk result (λ t. (actor.old.known.out ≡ None) × IsFree self.now.config actor.old.known t) }
-        ensures refused { IfErr result (λ e. IsCause self.now.config actor.old.known e × (actor.new ≡ actor.old)) }
+        ensures free { IfOk result
+            (λ t. (actor.old.known.out ≡ None) × IsFree self.now.config actor.old.known t) }
+        ensures refused { IfErr result
+            (λ e. IsCause self.now.config actor.old.known e × (actor.new ≡ actor.old)) }
     {
         if actor.is_out {
             return Err(AcquireRefusal::OneIsOut);
@@ -63,9 +67,11 @@ impl<R: Record, W: World> Table<R, W> {
     fn hand_out(&self, actor: &mut Actor<R, W>, reference: WaitRef) -> HandedOut<W>
         requires table { IsOf self.now actor.old }
         requires range { reference.handle < handles self.now.config }
-        requires free { (actor.old.known.out ≡ None) × IsFree self.now.config actor.old.known reference }
+        requires free { (actor.old.known.out ≡ None)
+            × IsFree self.now.config actor.old.known reference }
         ensures same { IsSame actor.old actor.new }
-        ensures event { Made HandOut reference.handle (idle reference.generation) (handed reference.generation) [] actor.old.known actor.new.known }
+        ensures event { Made HandOut reference.handle (idle reference.generation)
+            (handed reference.generation) [] actor.old.known actor.new.known }
         ensures token { (result ≡ reference) × (actor.new.known.out ≡ Some result) }
     {
         let word = number_of(
@@ -90,7 +96,8 @@ impl<R: Record, W: World> Table<R, W> {
         requires table { IsOf self.now actor.old }
         requires token { actor.old.known.out ≡ Some token }
         ensures same { IsSame actor.old actor.new }
-        ensures event { Made Release token.handle (handed token.generation) (idle token.generation) [] actor.old.known actor.new.known }
+        ensures event { Made Release token.handle (handed token.generation)
+            (idle token.generation) [] actor.old.known actor.new.known }
     {
         let HandedOut { reference, of: _ } = token;
         let handle = reference.handle as usize;
@@ -108,8 +115,10 @@ impl<R: Record, W: World> Table<R, W> {
         requires token { actor.old.known.out ≡ Some token }
         requires fits { R.fits W.told W.relations io }
         ensures same { IsSame actor.old actor.new }
-        ensures event { Made Define token.handle (handed token.generation) (defined token.generation) [] actor.old.known actor.new.known }
-        ensures token { (result.0 ≡ token) × (R.aim result.1 ≡ R.aim io) × IsDefined actor.new.known result.0 }
+        ensures event { Made Define token.handle (handed token.generation)
+            (defined token.generation) [] actor.old.known actor.new.known }
+        ensures token { (result.0 ≡ token) × (R.aim result.1 ≡ R.aim io)
+            × IsDefined actor.new.known result.0 }
     {
         let HandedOut { reference, of: _ } = token;
         io.bind(reference.handle, reference.generation);
@@ -140,7 +149,8 @@ impl<R: Record, W: World> Table<R, W> {
         requires table { IsOf self.now actor.old }
         requires token { IsDefined actor.old.known token.0 }
         ensures same { IsSame actor.old actor.new }
-        ensures event { Made Stage token.0.handle (defined token.0.generation) (staged token.0.generation) [] actor.old.known actor.new.known }
+        ensures event { Made Stage token.0.handle (defined token.0.generation)
+            (staged token.0.generation) [] actor.old.known actor.new.known }
         ensures token { (result ≡ token) × IsStaged actor.new.known result.0 }
     {
         let Defined {
@@ -164,8 +174,10 @@ impl<R: Record, W: World> Table<R, W> {
         requires table { IsOf self.now actor.old }
         requires token { IsStaged actor.old.known token.0 }
         ensures same { IsSame actor.old actor.new }
-        ensures event { Made Submit token.0.handle (staged token.0.generation) (unclaimed token.0.generation) (R.aim token.1) actor.old.known actor.new.known }
-        ensures token { (result ≡ token.0) × IsInFlight actor.new.known result × IsIn (result, R.aim token.1) actor.new.known.aims }
+        ensures event { Made Submit token.0.handle (staged token.0.generation)
+            (unclaimed token.0.generation) (R.aim token.1) actor.old.known actor.new.known }
+        ensures token { (result ≡ token.0) × IsInFlight actor.new.known result
+            × IsIn (result, R.aim token.1) actor.new.known.aims }
     {
         let Staged {
             reference,
@@ -197,10 +209,19 @@ impl<R: Record, W: World> Table<R, W> {
         requires table { IsOf self.now actor.old }
         requires token { IsInFlight actor.old.known token }
         ensures same { IsSame actor.old actor.new }
-        ensures not_yet { IfNotYet result (λ t. (t ≡ token) × IsInFlight actor.new.known t × ((w : Word) × Looked token.handle w actor.old.known actor.new.known × (IsCompleted w token.generation → ⊥))) }
-        ensures ready { IfReady result (λ t. (t.0 ≡ token) × IsLocal actor.new.known t.0 × TakesOut token actor.old.known actor.new.known (R.label t.1)) }
-        ensures alone { IfReady result (λ t. actors_of self.now.config ≡ 1 → LivedAlone t.0 (R.label t.1).ended actor.new.known) }
-        ensures record { IfReady result (λ t. R.fits W.told W.relations t.1 × ((aim : List ℕ) → IsIn (token, aim) actor.old.known.aims → R.aim t.1 ≡ aim)) }
+        ensures not_yet { IfNotYet result
+            (λ t. (t ≡ token) × IsInFlight actor.new.known t
+            × ((w : Word) × Looked token.handle w actor.old.known actor.new.known
+            × (IsCompleted w token.generation → ⊥))) }
+        ensures ready { IfReady result
+            (λ t. (t.0 ≡ token) × IsLocal actor.new.known t.0
+            × TakesOut token actor.old.known actor.new.known (R.label t.1)) }
+        ensures alone { IfReady result
+            (λ t. actors_of self.now.config ≡ 1
+            → LivedAlone t.0 (R.label t.1).ended actor.new.known) }
+        ensures record { IfReady result
+            (λ t. R.fits W.told W.relations t.1
+            × ((aim : List ℕ) → IsIn (token, aim) actor.old.known.aims → R.aim t.1 ≡ aim)) }
     {
         let InFlight { reference, of: _ } = token;
         let handle = reference.handle as usize;
@@ -233,7 +254,9 @@ impl<R: Record, W: World> Table<R, W> {
         requires token { IsLocal actor.old.known token.0 }
         requires settled { (R.label token.1).settled ≡ true }
         ensures same { IsSame actor.old actor.new }
-        ensures event { (class : Class) × Made Reclaim token.0.handle (taken class token.0.generation) (idle (token.0.generation + 1)) [] actor.old.known actor.new.known }
+        ensures event { (class : Class)
+            × Made Reclaim token.0.handle (taken class token.0.generation)
+            (idle (token.0.generation + 1)) [] actor.old.known actor.new.known }
         ensures record { result ≡ token.1 }
     {
         let Local {

@@ -27,7 +27,8 @@ pub trait Record: Send + Drop {
     fn bind(&mut self, handle: u32, generation: u64)
         ensures label { label self.new ≡ bound handle generation }
         ensures aim { aim self.new ≡ aim self.old }
-        ensures fits { (told : Option Told) (relations : ℕ) → fits told relations self.old → fits told relations self.new };
+        ensures fits { (told : Option Told) (relations : ℕ) → fits told relations self.old
+            → fits told relations self.new };
 
     fn handle(&self) -> u32
         ensures { result ≡ (label self.now).handle };

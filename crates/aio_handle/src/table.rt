@@ -44,7 +44,9 @@ impl<R: Record, W: World> Model for Table<R, W> {
 
     ghost view = { λ t. record { table = t.inner.shared.table_id; config = t.config } };
 
-    ghost invariant = { λ t. (t.inner.shared.key ≡ t.config) × (t.inner.shared.table_id.words ≡ handles t.config) × (t.inner.shared.table_id.slots ≡ handles t.config) × (handles t.config ≡ W.handles) × IsConfig t.config };
+    ghost invariant = { λ t. (t.inner.shared.key ≡ t.config) × (t.inner.shared.table_id.words ≡ handles t.config)
+        × (t.inner.shared.table_id.slots ≡ handles t.config) × (handles t.config ≡ W.handles)
+        × IsConfig t.config };
 }
 
 /// The number that the word with these fields packs to.
@@ -92,7 +94,15 @@ impl<R: Record, W: World> Table<R, W> {
         requires handles { backends * per_backend ≡ W.handles }
         requires runners { runners ≤ 32 }
         requires start { start < 2 ^ 58 }
-        ensures table { IfOk result (λ t. t.0.config ≡ record { backends = backends; per_backend = per_backend; runners = runners; start = start }) }
+        ensures table { IfOk result
+            (λ t. t.0.config ≡
+            record {
+              backends = backends;
+              per_backend = per_backend;
+              runners = runners;
+              start =
+                  start;
+            }) }
         ensures count { IfOk result (λ t. length t.1.items ≡ backends + runners) }
         ensures actors { IfOk result (λ t. AreNew t.0 0 t.1.items) }
     {
@@ -129,9 +139,18 @@ impl<R: Record, W: World> Table<R, W> {
     ) -> Result<Actor<R, W>, AllocError>
         requires table { seat.old.table_id ≡ self.now.table }
         requires number { number < actors_of self.now.config }
-        requires view { (ps : List Known) × (seat.old.me ≡ (newcomer self.now.config number ∷ ps, [])) }
-        ensures seat { IfOk result (λ _. (seat.new.table_id ≡ seat.old.table_id) × (seat.new.me ≡ (behind_of seat.old.me.0, []))) }
-        ensures actor { IfOk result (λ a. a ≡ record { table = self.now.table; config = self.now.config; known = newcomer self.now.config number }) }
+        requires view { (ps : List Known)
+            × (seat.old.me ≡ (newcomer self.now.config number ∷ ps, [])) }
+        ensures seat { IfOk result
+            (λ _. (seat.new.table_id ≡ seat.old.table_id)
+            × (seat.new.me ≡ (behind_of seat.old.me.0, []))) }
+        ensures actor { IfOk result
+            (λ a. a ≡ record {
+              table = self.now.table;
+              config = self.now.config;
+              known =
+                  newcomer self.now.config number;
+            }) }
     {
         let first = OwnHandle {
             generation: self.config.start,

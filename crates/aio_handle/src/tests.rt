@@ -1,12 +1,12 @@
 //! Whole lives of handles, refusals, stale references, and callers that keep several tokens.
-ghost use Rattle.std.specs.Prelude.{◌≡◌, ◌+◌, ◌<◌, [], IsTrue, IfSome, Some, None, length};
+ghost use Rattle.std.specs.Prelude.{◌≡◌, ◌+◌, ◌<◌, [], IsTrue, IfOk, IfSome, Some, None, length};
 ghost use Rattle.aio_word.specs.Events.{actors as actors_of};
 ghost use Rattle.aio_word.specs.Stands.{IsIn};
 ghost use Rattle.aio_word.specs.Tokens.{IsInFlight, IsClaimed};
 ghost use Rattle.aio_handle.specs.Labels.{bound};
 ghost use Rattle.aio_handle.specs.Ruled.{newcomer};
 ghost use Rattle.aio_handle.specs.Closing.{IsAtRest, AreOver};
-ghost use Rattle.aio_handle.specs.Trials.{EndedWhole, Begins, IsAmidLives};
+ghost use Rattle.aio_handle.specs.Trials.{EndedWhole, Begins, IsAmidLives, EndsLife, IsLaunched, AreHandedIn};
 ghost use Rattle.aio_handle.specs.Shown.{IsOf, IsSame, AreNew};
 
 use crate::{
@@ -17,6 +17,7 @@ use page_check::World;
 use std::alloc::{AllocError, Global};
 use std::marker::{Brand, PhantomData};
 use std::sync::Wait;
+use std::thread::{Threads, join};
 
 /// A record that reads nothing.
 #[derive(Drop)]
@@ -77,7 +78,8 @@ fn end_whole<W: World>(
     mut claimed: Claimed<Note, W>,
 )
     requires table { IsOf table.now actor.old }
-    requires token { IsClaimed actor.old.known claimed.0 × IsIn (claimed.0, []) actor.old.known.aims }
+    requires token { IsClaimed actor.old.known claimed.0
+        × IsIn (claimed.0, []) actor.old.known.aims }
     requires record { claimed.1.label ≡ bound claimed.0.handle claimed.0.generation }
     ensures same { IsSame actor.old actor.new }
     ensures marks { EndedWhole claimed.0 actor.old.known actor.new.known }
@@ -126,8 +128,15 @@ fn last<W: World>(
 ) -> Option<Actor<Note, W>>
     requires { AreNew table.now 0 actors.old.items }
     ensures left { AreNew table.now 0 actors.new.items }
-    ensures number { 0 < length actors.old.items → length actors.new.items + 1 ≡ length actors.old.items }
-    ensures actor { IfSome result (λ a. a ≡ record { table = table.now.table; config = table.now.config; known = newcomer table.now.config (length actors.new.items) }) }
+    ensures number { 0 < length actors.old.items
+        → length actors.new.items + 1 ≡ length actors.old.items }
+    ensures actor { IfSome result
+        (λ a. a ≡ record {
+          table = table.now.table;
+          config = table.now.config;
+          known =
+              newcomer table.now.config (length actors.new.items);
+        }) }
 {
     match actors.pop() {
         Some(actor) => Some(actor),
@@ -264,6 +273,26 @@ fn the_last_generation_is_not_given(rt: HostRuntime) -> Result<(), AllocError> {
     Ok(())
 }
 
+/// The result of an I/O is taken and its handle reclaimed, where it has ended.
+fn take_back<W: World>(
+    table: &Table<Note, W>,
+    actor: &mut Actor<Note, W>,
+    token: InFlight<W>,
+) -> bool
+    requires table { IsOf table.now actor.old }
+    requires token { IsInFlight actor.old.known token }
+    ensures same { IsSame actor.old actor.new }
+    ensures number { actor.new.known.number ≡ actor.old.known.number }
+    ensures ended { IsTrue result → EndsLife token actor.old.known actor.new.known }
+{
+    let Take::Ready(mut local) = table.try_take(actor, token) else {
+        return false;
+    };
+    local.record_mut().label.settled = true;
+    table.reclaim(actor, local);
+    true
+}
+
 /// One whole life of a handle that was acquired, by the actor alone.
 fn live_on<W: World>(
     table: &Table<Note, W>,
@@ -282,12 +311,7 @@ fn live_on<W: World>(
         return false;
     };
     end_whole(table, actor, claimed);
-    let Take::Ready(mut local) = table.try_take(actor, token) else {
-        return false;
-    };
-    local.record_mut().label.settled = true;
-    table.reclaim(actor, local);
-    true
+    take_back(table, actor, token)
 }
 
 /// The same, where it has a handle that is free.
@@ -305,24 +329,43 @@ fn live<W: World>(table: &Table<Note, W>, actor: &mut Actor<Note, W>) -> bool
     live_on(table, actor, token)
 }
 
-/// Closes a table of one actor, and answers how many incarnations there were, and how many of
-/// them a backend claimed.
-fn close_one<W: World>(
-    table: Table<Note, W>,
-    mut actors: Vec<Actor<Note, W>>,
+/// No actor is handed in yet.
+fn nobody<W: World>(table: &Table<Note, W>, alloc: Global) -> Vec<Actor<Note, W>>
+    ensures all { AreHandedIn table.now result.items }
+    ensures count { length result.items ≡ 0 }
+{
+    let _ = table;
+    Vec::new(alloc)
+}
+
+/// Hands an actor in, which is at rest.
+fn hand_in<W: World>(
+    table: &Table<Note, W>,
+    actors: &mut Vec<Actor<Note, W>>,
     actor: Actor<Note, W>,
-) -> Result<(u128, u128), AllocError>
-    requires table { IsOf table actor }
-    requires alone { (actors_of table.config ≡ 1) × (actors.items ≡ []) }
+) -> Result<(), AllocError>
+    requires table { IsOf table.now actor }
     requires rests { IsAtRest actor.known }
+    requires others { AreHandedIn table.now actors.old.items }
+    ensures all { IfOk result (λ _. AreHandedIn table.now actors.new.items) }
+    ensures count { IfOk result (λ _. length actors.new.items ≡ length actors.old.items + 1) }
 {
     actors.push(actor)?;
+    Ok(())
+}
+
+/// Closes a table whose actors are handed in, and answers how many incarnations there were, and
+/// how many of them the backends and the runners have claimed.
+fn closed<W: World>(table: Table<Note, W>, actors: Vec<Actor<Note, W>>) -> (u128, u128, u128)
+    requires all { AreHandedIn table actors.items }
+    requires count { length actors.items ≡ actors_of table.config }
+{
     let totals = table.close(actors);
-    Ok((totals.incarnations(), totals.by_backends()))
+    (totals.incarnations(), totals.by_backends(), totals.by_runners())
 }
 
 /// Acquire, release, acquire, a refusal, and a whole life of what was acquired.
-fn lived_once<W: World>(alloc: Global) -> Result<Option<(AcquireRefusal, (u128, u128))>, AllocError>
+fn lived_once<W: World>(alloc: Global) -> Result<Option<(AcquireRefusal, (u128, u128, u128))>, AllocError>
     requires { W.handles ≡ 1 }
 {
     let (table, mut actors) = Table::<Note, W>::open(alloc, 1, 1, 0, 0)?;
@@ -342,7 +385,9 @@ fn lived_once<W: World>(alloc: Global) -> Result<Option<(AcquireRefusal, (u128, 
     if !live_on(&table, &mut actor, token) {
         return Ok(None);
     }
-    Ok(Some((refusal, close_one(table, actors, actor)?)))
+    let mut all = nobody(&table, alloc);
+    hand_in(&table, &mut all, actor)?;
+    Ok(Some((refusal, closed(table, all))))
 }
 
 #[test]
@@ -351,14 +396,14 @@ fn a_life_is_counted_once(rt: HostRuntime) -> Result<(), AllocError> {
         panic!(&rt; "a handle is free")
     };
     assert!(&rt; matches!(refusal, AcquireRefusal::OneIsOut));
-    assert!(&rt; totals == (1, 1));
+    assert!(&rt; totals == (1, 1, 0));
     Ok(())
 }
 
 /// The last life of a handle, and the refusal after it.
 fn lived_to_the_end<W: World>(
     alloc: Global,
-) -> Result<Option<(AcquireRefusal, (u128, u128))>, AllocError>
+) -> Result<Option<(AcquireRefusal, (u128, u128, u128))>, AllocError>
     requires { W.handles ≡ 1 }
 {
     let (table, mut actors) = Table::<Note, W>::open(alloc, 1, 1, 0, (1 << 58) - 2)?;
@@ -371,7 +416,9 @@ fn lived_to_the_end<W: World>(
     let Err(refusal) = table.acquire(&mut actor) else {
         return Ok(None);
     };
-    Ok(Some((refusal, close_one(table, actors, actor)?)))
+    let mut all = nobody(&table, alloc);
+    hand_in(&table, &mut all, actor)?;
+    Ok(Some((refusal, closed(table, all))))
 }
 
 #[test]
@@ -380,7 +427,7 @@ fn one_life_before_the_last_generation(rt: HostRuntime) -> Result<(), AllocError
         panic!(&rt; "a handle is free")
     };
     assert!(&rt; matches!(refusal, AcquireRefusal::NoneFree));
-    assert!(&rt; totals == (1, 1));
+    assert!(&rt; totals == (1, 1, 0));
     Ok(())
 }
 
@@ -448,5 +495,177 @@ fn stale_reference(rt: HostRuntime) -> Result<(), AllocError> {
     assert!(&rt; stale.checks == [true, false, false]);
     assert!(&rt; stale.claims == [false, true, false]);
     assert!(&rt; stale.early);
+    Ok(())
+}
+
+/// An I/O of a handle that is free, up to submit.
+fn launched<W: World>(table: &Table<Note, W>, actor: &mut Actor<Note, W>) -> Option<InFlight<W>>
+    requires table { IsOf table.now actor.old }
+    requires backend { actor.old.known.number < table.now.config.backends }
+    requires rests { IsAtRest actor.old.known }
+    ensures same { IsSame actor.old actor.new }
+    ensures number { actor.new.known.number ≡ actor.old.known.number }
+    ensures token { IfSome result (λ t. IsInFlight actor.new.known t) }
+    ensures launched { IfSome result (λ t. IsLaunched t actor.new.known) }
+{
+    match table.acquire(actor) {
+        Ok(token) => Some(submitted(table, actor, token)),
+        Err(_) => None,
+    }
+}
+
+/// Claims the I/O and ends it, where nobody has claimed it before.
+fn claimed_and_ended<W: World>(
+    table: &Table<Note, W>,
+    mut actor: Actor<Note, W>,
+    reference: WaitRef,
+) -> (Actor<Note, W>, bool)
+    requires table { IsOf table.now actor }
+    requires range { reference.handle < W.handles }
+    requires rests { IsAtRest actor.known }
+    ensures table { IsOf table.now result.0 }
+    ensures rests { IsAtRest result.0.known }
+{
+    match table.claim(&mut actor, reference) {
+        Some(claimed) => {
+            end_whole(table, &mut actor, claimed);
+            (actor, true)
+        }
+        None => (actor, false),
+    }
+}
+
+/// What came of one I/O that two actors tried to claim at once.
+#[derive(Drop)]
+struct Raced {
+    first: bool,
+    second: bool,
+    totals: (u128, u128, u128),
+}
+
+fn race<W: World + Send + Sync, T: Threads + Sync>(
+    rt: &T,
+    alloc: Global,
+) -> Result<Option<Raced>, AllocError>
+    requires { W.handles ≡ 8 }
+{
+    let (table, mut actors) = Table::<Note, W>::open(alloc, 2, 4, 1, 0)?;
+    let Some(runner) = last(&table, &mut actors) else {
+        return Ok(None);
+    };
+    let Some(other) = last(&table, &mut actors) else {
+        return Ok(None);
+    };
+    let Some(mut owner) = last(&table, &mut actors) else {
+        return Ok(None);
+    };
+    let Some(token) = launched(&table, &mut owner) else {
+        return Ok(None);
+    };
+    let reference = token.reference();
+    let shared = &table;
+    let ((runner, first), (other, second)) = join(
+        rt,
+        || -> (Actor<Note, W>, bool)
+            requires { IsOf shared.now runner × IsAtRest runner.known × (reference.handle < W.handles) }
+            ensures { IsOf shared.entry.now result.0 × IsAtRest result.0.known }
+        { claimed_and_ended(shared, runner, reference) },
+        || -> (Actor<Note, W>, bool)
+            requires { IsOf shared.now other × IsAtRest other.known × (reference.handle < W.handles) }
+            ensures { IsOf shared.entry.now result.0 × IsAtRest result.0.known }
+        { claimed_and_ended(shared, other, reference) },
+    );
+    if !take_back(&table, &mut owner, token) {
+        return Ok(None);
+    }
+    let mut all = nobody(&table, alloc);
+    hand_in(&table, &mut all, owner)?;
+    hand_in(&table, &mut all, other)?;
+    hand_in(&table, &mut all, runner)?;
+    Ok(Some(Raced {
+        first,
+        second,
+        totals: closed(table, all),
+    }))
+}
+
+#[test]
+fn one_of_two_claims_at_once_wins(rt: HostRuntime) -> Result<(), AllocError> {
+    let Some(raced) = race::<Brand, _>(&rt, rt.alloc())? else {
+        panic!(&rt; "a handle is free")
+    };
+    let (incarnations, by_backends, by_runners) = raced.totals;
+    assert!(&rt; raced.first != raced.second);
+    assert!(&rt; incarnations == 1 && by_backends + by_runners == 1);
+    Ok(())
+}
+
+/// So many whole lives of the actor's handles, one after the other.
+fn lives<W: World>(
+    table: &Table<Note, W>,
+    mut actor: Actor<Note, W>,
+    count: u32,
+) -> Option<Actor<Note, W>>
+    requires table { IsOf table.now actor }
+    requires backend { actor.known.number < table.now.config.backends }
+    requires rests { IsAtRest actor.known }
+    ensures table { IfSome result (λ a. IsOf table.now a) }
+    ensures rests { IfSome result (λ a. IsAtRest a.known) }
+{
+    for n in 0..count {
+        if !live(table, &mut actor) {
+            return None;
+        }
+    }
+    Some(actor)
+}
+
+/// Two backends that live so many lives each at once, and the totals.
+fn beside<W: World + Send + Sync, T: Threads + Sync>(
+    rt: &T,
+    alloc: Global,
+    count: u32,
+) -> Result<Option<(u128, u128, u128)>, AllocError>
+    requires { W.handles ≡ 8 }
+{
+    let (table, mut actors) = Table::<Note, W>::open(alloc, 2, 4, 0, 0)?;
+    let Some(other) = last(&table, &mut actors) else {
+        return Ok(None);
+    };
+    let Some(one) = last(&table, &mut actors) else {
+        return Ok(None);
+    };
+    let shared = &table;
+    let (one, other) = join(
+        rt,
+        || -> Option<Actor<Note, W>>
+            requires { IsOf shared.now one × (one.known.number < shared.now.config.backends)
+                × IsAtRest one.known }
+            ensures { IfSome result (λ a. IsOf shared.entry.now a × IsAtRest a.known) }
+        { lives(shared, one, count) },
+        || -> Option<Actor<Note, W>>
+            requires { IsOf shared.now other × (other.known.number < shared.now.config.backends)
+                × IsAtRest other.known }
+            ensures { IfSome result (λ a. IsOf shared.entry.now a × IsAtRest a.known) }
+        { lives(shared, other, count) },
+    );
+    let Some(one) = one else {
+        return Ok(None);
+    };
+    let Some(other) = other else {
+        return Ok(None);
+    };
+    let mut all = nobody(&table, alloc);
+    hand_in(&table, &mut all, one)?;
+    hand_in(&table, &mut all, other)?;
+    Ok(Some(closed(table, all)))
+}
+
+#[test]
+fn totals_are_exact_beside_each_other(rt: HostRuntime) -> Result<(), AllocError> {
+    let Some(totals) = beside::<Brand, _>(&rt, rt.alloc(), 10_000)? else {
+        panic!(&rt; "a handle is free")
+    };
+    assert!(&rt; totals == (20_000, 20_000, 0));
     Ok(())
 }

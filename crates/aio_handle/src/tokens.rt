@@ -39,7 +39,9 @@ impl<R: Record, W: World> Model for Defined<R, W> {
 
     ghost view = { λ d. (d.reference, d.io) };
 
-    ghost invariant = { λ d. InRange W.handles d.reference × (R.label d.io ≡ bound d.reference.handle d.reference.generation) × R.fits W.told W.relations d.io };
+    ghost invariant = { λ d. InRange W.handles d.reference
+        × (R.label d.io ≡ bound d.reference.handle d.reference.generation)
+        × R.fits W.told W.relations d.io };
 }
 
 /// An I/O that may be submitted. Contracts see its reference and its record.
@@ -59,7 +61,9 @@ impl<R: Record, W: World> Model for Staged<R, W> {
 
     ghost view = { λ d. (d.reference, d.io) };
 
-    ghost invariant = { λ d. InRange W.handles d.reference × (R.label d.io ≡ bound d.reference.handle d.reference.generation) × R.fits W.told W.relations d.io };
+    ghost invariant = { λ d. InRange W.handles d.reference
+        × (R.label d.io ≡ bound d.reference.handle d.reference.generation)
+        × R.fits W.told W.relations d.io };
 }
 
 /// An I/O that was submitted. Contracts see its reference.
