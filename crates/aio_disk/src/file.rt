@@ -367,6 +367,8 @@ mod tests {
             (shelf.open_faults, shelf.length_faults, shelf.faults),
             (0, 0, 0)
         );
+        fs::remove_file(&rt, "first")?;
+        fs::remove_file(&rt, "second")?;
         Ok(())
     }
 

@@ -1,0 +1,39 @@
+-- What `lookup` finds.
+use Rattle.std.specs.Prelude.{◌≡◌, ℕ, ◌<◌, List, Option, ⊤}
+use Rattle.page_check.specs.Told.{Told}
+use Rattle.buf_pool.specs.declared.frame.Tag.{Tag}
+use Rattle.buf_pool.specs.declared.index.Look.{Look}
+use Rattle.buf_pool.specs.declared.index.Look.TheVariants as look
+use Rattle.buf_pool.specs.declared.index.Begun.{Begun}
+use Rattle.buf_pool.specs.declared.index.Begun.TheVariants as begun
+use Rattle.buf_pool.specs.declared.pin.Pin.{Pin}
+use Rattle.buf_pool.specs.declared.pool.Found.{Found}
+use Rattle.buf_pool.specs.declared.pool.Found.TheVariants as found
+use Rattle.buf_pool.specs.Shown.{Shows}
+
+-- the tag that a pin was asked for
+abbrev pub pinned_tag : {W : Type 0} → Pin W → Tag
+pinned_tag pin = pin.carried.0
+
+-- the page that a pin shows
+abbrev pub pinned_page : {W : Type 0} → Pin W → List ℕ
+pinned_page pin = pin.carried.1
+
+-- a pin shows the page of the tag, and the reference of an I/O is in range
+abbrev pub IsFound : {W : Type 0} → Option Told → ℕ → Tag → Found W → Type 0
+IsFound told handles tag (found.Hit pin) = (pinned_tag pin ≡ tag) × Shows told tag (pinned_page pin)
+IsFound told handles tag (found.Busy reference) = reference.handle < handles
+IsFound told handles tag found.Absent = ⊤
+
+-- the reference of an I/O is in range
+abbrev pub IsLookInRange : ℕ → Look → Type 0
+IsLookInRange handles (look.Hit _) = ⊤
+IsLookInRange handles (look.Busy reference) = reference.handle < handles
+IsLookInRange handles look.Absent = ⊤
+
+-- the reference of an I/O is in range
+abbrev pub IsBegunInRange : ℕ → Begun → Type 0
+IsBegunInRange handles (begun.Yes _) = ⊤
+IsBegunInRange handles (begun.Busy reference) = reference.handle < handles
+IsBegunInRange handles (begun.Hit _) = ⊤
+IsBegunInRange handles begun.NoRoom = ⊤

@@ -1,0 +1,8 @@
+pub mod Frames
+pub mod Lawful
+pub mod Answers
+pub mod Probes
+pub mod Sound
+pub mod Wanted
+pub mod Shown
+pub mod Found

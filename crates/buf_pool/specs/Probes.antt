@@ -1,0 +1,38 @@
+-- How the table finds the frame of a tag: it looks at one slot after the other, from the tag's own
+-- slot on, round the table.
+use Rattle.std.specs.Prelude.{◌≡◌, ℕ, ◌+◌, ◌*◌, ◌%◌, ◌<◌, List, Option, Some, None, length, slice_index_or, count_by, is_none}
+use Rattle.buf_pool.specs.declared.frame.Tag.{Tag}
+use Rattle.buf_pool.specs.declared.frame.Frame.{Frame}
+use Rattle.buf_pool.specs.Frames.{tag_at}
+
+-- the slot of this number; past the last it is empty
+abbrev pub slot_at : List (Option ℕ) → ℕ → Option ℕ
+slot_at slots k = slice_index_or slots k None
+
+-- the slot at which the search for the tag begins
+unfoldable pub home_of : Tag → ℕ → ℕ
+home_of tag size = (tag.relation * 0x3C6E_F35F + tag.block * 0x4F1B_BCDD) % size
+
+-- the slot that the search for the tag looks at after this many steps
+abbrev pub probe : List (Option ℕ) → Tag → ℕ → Option ℕ
+probe slots tag step = slot_at slots ((home_of tag (length slots) + step) % length slots)
+
+-- the search for the tag comes to this frame before it comes to an empty slot
+pub record Reaches (slots : List (Option ℕ)) (tag : Tag) (f : ℕ) : Type 0 where
+  pub steps : ℕ
+  pub within : steps < length slots
+  pub there : probe slots tag steps ≡ Some f
+  pub before : (k : ℕ) → k < steps → probe slots tag k ≡ None → ⊥
+
+-- each slot that was taken is as before
+pub record KeepsTaken (old new : List (Option ℕ)) : Type 0 where
+  pub size : length new ≡ length old
+  pub taken : (k : ℕ) (f : ℕ) → slot_at old k ≡ Some f → slot_at new k ≡ Some f
+
+-- the search for the tag of each entry comes to its frame
+abbrev pub IsIndexed : List (Option ℕ) → List Frame → Type 0
+IsIndexed slots frames = (f : ℕ) (tag : Tag) → tag_at frames f ≡ Some tag → Reaches slots tag f
+
+-- how many slots are empty
+abbrev pub empty_slots : List (Option ℕ) → ℕ
+empty_slots slots = count_by (λ s. is_none s) slots

@@ -1,0 +1,62 @@
+//! What a frame holds.
+ghost use Rattle.std.specs.Prelude.{◌≡◌, ℕ, Some, IsTrue, ◌↔◌, length, true, false};
+ghost use Rattle.buf_pool.specs.declared.frame.Frame.TheVariants.{InProgress};
+ghost use Rattle.buf_pool.specs.Frames.{tag_of, is_free, is_unpinned};
+
+use aio_word::WaitRef;
+
+/// A block of a relation, after `BufferTag` of `buf_internals.h`.
+#[derive(Clone, Copy, Debug, PartialEq, Eq)]
+pub struct Tag {
+    pub relation: u32,
+    pub block: u32,
+}
+
+/// What a frame holds, after `BufferDesc` of `buf_internals.h`.
+#[derive(Clone, Copy, Debug, PartialEq, Eq)]
+pub enum Frame {
+    /// Nothing.
+    Free,
+    /// The frame awaits the page of the tag, which the I/O of the reference reads.
+    InProgress(Tag, WaitRef),
+    /// The page of the tag, with so many pins.
+    Valid(Tag, u32),
+}
+
+impl Frame {
+    /// The tag of the entry, if there is one.
+    pub(crate) fn tag(&self) -> Option<Tag>
+        ensures { result ≡ tag_of self.now }
+    {
+        match self {
+            Frame::Free => None,
+            Frame::InProgress(tag, _) | Frame::Valid(tag, _) => Some(*tag),
+        }
+    }
+
+    /// Whether the frame awaits the page of the tag under the reference.
+    pub(crate) fn awaits(&self, tag: Tag, reference: WaitRef) -> bool
+        ensures { IsTrue result ↔ (self.now ≡ InProgress tag reference) }
+    {
+        *self == Frame::InProgress(tag, reference)
+    }
+
+    pub(crate) fn is_free(&self) -> bool
+        ensures { result ≡ is_free self.now }
+    {
+        match self {
+            Frame::Free => true,
+            Frame::InProgress(..) | Frame::Valid(..) => false,
+        }
+    }
+
+    /// Whether a valid entry without pins is there.
+    pub(crate) fn is_unpinned(&self) -> bool
+        ensures { result ≡ is_unpinned self.now }
+    {
+        match self {
+            Frame::Free | Frame::InProgress(..) => false,
+            Frame::Valid(_, pins) => *pins == 0,
+        }
+    }
+}

@@ -1,0 +1,245 @@
+//! The index of the pool.
+ghost use Rattle.std.specs.Prelude.{◌≡◌, ◌≢◌, ℕ, ◌-◌, ◌+◌, ◌^◌, ◌<◌, ◌≤◌, length, true, false, Some, None, MatchOption, IsSome, IsSomeAnd, IfOk, IfSome, List, replicate, slice_set, if◌then◌else◌};
+ghost use Rattle.aio_word.specs.declared.WaitRef.{WaitRef};
+ghost use Rattle.buf_pool.specs.declared.frame.Tag.{Tag};
+ghost use Rattle.buf_pool.specs.declared.frame.Frame.{Frame};
+ghost use Rattle.buf_pool.specs.declared.frame.Frame.TheVariants.{Free, InProgress, Valid};
+ghost use Rattle.buf_pool.specs.Frames.{frame_at, tag_of, tag_at, pins_at, repinned, is_free, IsAbsent, IsFrameOf};
+ghost use Rattle.buf_pool.specs.Lawful.{PoolLawful};
+
+use crate::frame::{Frame, Tag};
+use crate::strategy::{Clock, FreeFrames, Wanted, find_round};
+use crate::table::{TagTable, find};
+use aio_word::WaitRef;
+use page_check::World;
+use std::alloc::{AllocError, Global};
+use std::marker::{Model, PhantomData};
+
+/// What the index has of a tag.
+#[derive(Clone, Copy, Debug, PartialEq, Eq)]
+pub enum Look {
+    /// Its page, in this frame.
+    Hit(u32),
+    /// Its page is read by the I/O of this reference.
+    Busy(WaitRef),
+    /// Nothing.
+    Absent,
+}
+
+/// What came of the wish to read a page into the pool.
+#[derive(Clone, Copy, Debug, PartialEq, Eq)]
+pub enum Begun {
+    /// This frame now awaits the page.
+    Yes(u32),
+    /// Another I/O reads it already.
+    Busy(WaitRef),
+    /// It is there already, in this frame.
+    Hit(u32),
+    /// Each frame awaits a page or is pinned.
+    NoRoom,
+}
+
+/// The index of the pool: what each frame holds, after `buf_table.c` and `freelist.c`. Contracts
+/// see it as the list of what the frames hold, by their numbers.
+#[derive(Drop)]
+pub struct PoolIndex<W: World> {
+    frames: Vec<Frame>,
+    table: TagTable,
+    clock: Clock,
+    free: FreeFrames,
+    of: PhantomData<W>,
+}
+
+impl<W: World> Model for PoolIndex<W> {
+    ghost use Rattle.std.specs.Prelude.{List};
+    ghost use Rattle.buf_pool.specs.declared.frame.Frame.{Frame};
+    ghost use Rattle.buf_pool.specs.Sound.{IsTable, IsClock, AreFrames};
+
+    ghost Value = { List Frame };
+
+    ghost view = { λ s. s.frames.items };
+
+    ghost invariant = { λ s. AreFrames W.handles s.frames.items s.free.count s.free.start
+        × IsTable s.table.slots.items s.table.left s.frames.items
+        × IsClock s.clock.used.items s.clock.hand s.frames.items };
+}
+
+impl<W: World> PoolIndex<W> {
+    ghost use Rattle.buf_pool.specs.Answers.{IsNotInProgress, IsLook, IsFull, IsTakeable, HasBegun, ended};
+
+    /// An index of so many frames, 16 to 16384, all of them free. All memory of the index is taken
+    /// here.
+    pub fn open(alloc: Global, frames: u32) -> Result<PoolIndex<W>, AllocError>
+        requires { (16 ≤ frames) × (frames ≤ 16384) }
+        ensures frames { IfOk result (λ index. index ≡ replicate frames Free) }
+    {
+        let count = frames as usize;
+        Ok(PoolIndex {
+            frames: Vec::from_elem(alloc, Frame::Free, count)?,
+            table: TagTable {
+                slots: Vec::from_elem(alloc, None, 4 * count)?,
+                left: 4 * count,
+            },
+            clock: Clock {
+                used: Vec::from_elem(alloc, false, count)?,
+                hand: 0,
+            },
+            free: FreeFrames { count, start: 0 },
+            of: PhantomData,
+        })
+    }
+
+    // The frame of the tag's entry.
+    fn find(&self, tag: Tag) -> Option<u32>
+        ensures found { IsFrameOf self.now tag result }
+        ensures range { IfSome result (λ f. f < length self.now) }
+        ensures lawful { PoolLawful W.handles self.now }
+    {
+        find(&self.table.slots, &self.frames, tag)
+    }
+
+    /// What the entry of the tag says.
+    pub fn look(&self, tag: Tag) -> Look
+        ensures answer { IsLook self.now tag result }
+        ensures lawful { PoolLawful W.handles self.now }
+    {
+        let Some(frame) = self.find(tag) else {
+            return Look::Absent;
+        };
+        match self.frames[frame as usize] {
+            Frame::Free => unreachable!(),
+            Frame::InProgress(_, reference) => Look::Busy(reference),
+            Frame::Valid(..) => Look::Hit(frame),
+        }
+    }
+
+    /// The pins of the valid entry at the frame; None where there is no such entry.
+    pub fn pins(&self, frame: u32) -> Option<u32>
+        ensures { result ≡ pins_at self.now frame }
+    {
+        match self.frames.get(frame as usize) {
+            Some(Frame::Valid(_, pins)) => Some(*pins),
+            Some(Frame::Free | Frame::InProgress(..)) | None => None,
+        }
+    }
+
+    // Puts another entry of the same tag at the frame, or none.
+    fn change(&mut self, frame: u32, entry: Frame)
+        requires taken { (frame < length self.old) × (is_free (frame_at self.old frame) ≡ false) }
+        requires tag { (tag : Tag) → tag_of entry ≡ Some tag → tag_at self.old frame ≡ Some tag }
+        requires over { (tag : Tag) (reference : WaitRef) → entry ≡ InProgress tag reference → ⊥ }
+        ensures frames { self.new ≡ slice_set self.old frame entry }
+        ensures lawful { PoolLawful W.handles self.new }
+    {
+        let at = frame as usize;
+        self.free.note(at, &self.frames[at], &entry);
+        self.frames[at] = entry;
+    }
+
+    // Puts a new entry in progress at the frame.
+    fn place(&mut self, frame: u32, tag: Tag, reference: WaitRef)
+        requires absent { IsAbsent self.old tag }
+        requires frame { frame < length self.old }
+        requires range { reference.handle < W.handles }
+        ensures frames { self.new ≡ slice_set self.old frame (InProgress tag reference) }
+        ensures lawful { PoolLawful W.handles self.new }
+    {
+        let at = frame as usize;
+        let entry = Frame::InProgress(tag, reference);
+        self.free.note(at, &self.frames[at], &entry);
+        self.frames[at] = entry;
+        self.table.add(&self.frames, tag, frame);
+        self.clock.touch(at);
+    }
+
+    // A frame for a new entry.
+    fn choose(&mut self) -> Option<u32>
+        ensures frames { self.new ≡ self.old }
+        ensures lawful { PoolLawful W.handles self.new }
+        ensures found { MatchOption result (IsFull self.old) (λ f. IsTakeable self.old f) }
+    {
+        if self.free.count == 0 {
+            self.clock.victim(&self.frames)
+        } else {
+            find_round(&self.frames, self.free.start, Wanted::FreeFrame)
+        }
+    }
+
+    /// One pin more on the valid entry at the frame, as `PinBuffer` of `bufmgr.c`.
+    pub fn pin(&mut self, frame: u32)
+        requires { IsSomeAnd (pins_at self.old frame) (λ pins. pins < 2 ^ 32 - 1) }
+        ensures frames { IfSome (pins_at self.old frame)
+            (λ pins. self.new ≡ repinned self.old frame (pins + 1)) }
+        ensures lawful { PoolLawful W.handles self.new }
+    {
+        if let Some(Frame::Valid(tag, pins)) = self.frames.get(frame as usize).copied() {
+            self.clock.touch(frame as usize);
+            self.change(frame, Frame::Valid(tag, pins + 1));
+        }
+    }
+
+    /// One pin less on the valid entry at the frame, as `UnpinBuffer` of `bufmgr.c`.
+    pub fn unpin(&mut self, frame: u32)
+        requires { IsSomeAnd (pins_at self.old frame) (λ pins. 0 < pins) }
+        ensures frames { IfSome (pins_at self.old frame)
+            (λ pins. self.new ≡ repinned self.old frame (pins - 1)) }
+        ensures lawful { PoolLawful W.handles self.new }
+    {
+        if let Some(Frame::Valid(tag, pins)) = self.frames.get(frame as usize).copied() {
+            self.change(frame, Frame::Valid(tag, pins - 1));
+        }
+    }
+
+    /// Begins the reading of the tag's page by the I/O of the reference, unless the tag has an
+    /// entry: then that stands. A free frame is taken, else one whose page has no pin.
+    pub fn begin(&mut self, tag: Tag, reference: WaitRef) -> Begun
+        requires range { reference.handle < W.handles }
+        ensures answer { HasBegun self.old self.new tag reference result }
+        ensures lawful { PoolLawful W.handles self.new }
+    {
+        match self.look(tag) {
+            Look::Hit(frame) => return Begun::Hit(frame),
+            Look::Busy(holder) => return Begun::Busy(holder),
+            Look::Absent => {}
+        }
+        let Some(frame) = self.choose() else {
+            return Begun::NoRoom;
+        };
+        self.place(frame, tag, reference);
+        Begun::Yes(frame)
+    }
+
+    /// The frame that awaits the page of the tag under the reference; None where there is none.
+    pub fn frame(&self, tag: Tag, reference: WaitRef) -> Option<u32>
+        ensures answer { MatchOption result (IsNotInProgress self.now tag reference)
+            (λ f. frame_at self.now f ≡ InProgress tag reference) }
+        ensures lawful { PoolLawful W.handles self.now }
+    {
+        let frame = self.find(tag)?;
+        if self.frames[frame as usize].awaits(tag, reference) {
+            Some(frame)
+        } else {
+            None
+        }
+    }
+
+    /// Ends the reading of the tag's page by the I/O of the reference: the entry is valid and has
+    /// no pins, or, where the page was not kept, it is dropped. The answer is its frame; None where
+    /// there is no such entry, and then nothing changes.
+    pub fn end(&mut self, tag: Tag, reference: WaitRef, kept: bool) -> Option<u32>
+        ensures answer { MatchOption result
+            (IsNotInProgress self.old tag reference × (self.new ≡ self.old))
+            (λ f. (frame_at self.old f ≡ InProgress tag reference)
+            × (self.new ≡ slice_set self.old f (ended tag kept))) }
+        ensures lawful { PoolLawful W.handles self.new }
+    {
+        let frame = self.frame(tag, reference)?;
+        let entry = if kept {
+            Frame::Valid(tag, 0)
+        } else {
+            Frame::Free
+        };
+        self.change(frame, entry);
+        Some(frame)
+    }
+}

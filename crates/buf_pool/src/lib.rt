@@ -1,0 +1,28 @@
+//! The buffer pool: which block of which relation lies in which frame.
+//!
+//! [`PoolIndex`] is PostgreSQL's buffer mapping: it says of each frame whether it is free, awaits
+//! the page of a tag under the wait reference of an I/O, or has the page of a tag, with some pins.
+//! Its contracts are exact on the list of what the frames hold, by the frames' numbers, and
+//! `PoolLawful` of `specs/Lawful.antt` holds of it after each call. All its memory is taken at
+//! `open`. [`Pool`] is the index behind a lock, with a page for each frame. Its contracts say what
+//! the values that it hands out show, whatever other threads do: a [`Pin`] shows the told, valid
+//! page of the tag that was asked for, and the reference of a Busy is in range.
+#![tactic(auto)]
+
+mod carried;
+mod frame;
+mod index;
+mod pin;
+mod pool;
+mod strategy;
+mod table;
+
+pub use frame::{Frame, Tag};
+pub use index::{Begun, Look, PoolIndex};
+pub use pin::Pin;
+pub use pool::{Found, Pool};
+
+#[cfg(test)]
+mod sharing;
+#[cfg(test)]
+mod tests;

@@ -1,0 +1,35 @@
+//! A pin on a page of the pool.
+ghost use Rattle.std.specs.Prelude.{◌≡◌};
+
+use crate::carried::CarriedPage;
+use crate::frame::Tag;
+use page_check::{Page, World};
+use std::marker::PhantomData;
+
+/// A pin: it shows the page of its tag for its whole life. It must be spent by `Pool::unpin`, until
+/// which its frame takes no other page.
+pub struct Pin<'p, W: World> {
+    pub(crate) frame: u32,
+    pub(crate) carried: CarriedPage<W>,
+    pub(crate) of: PhantomData<&'p ()>,
+}
+
+impl<'p, W: World> Pin<'p, W> {
+    ghost use Rattle.buf_pool.specs.Found.{pinned_tag, pinned_page};
+    ghost use Rattle.buf_pool.specs.Shown.{Shows};
+
+    /// The tag that was asked for.
+    pub fn tag(&self) -> Tag
+        ensures { result ≡ pinned_tag self.now }
+    {
+        self.carried.tag()
+    }
+
+    /// The page: the told one of the tag, and valid.
+    pub fn page(&self) -> &Page
+        ensures page { result.now ≡ pinned_page self.now }
+        ensures shows { Shows W.told (pinned_tag self.now) result.now }
+    {
+        self.carried.page()
+    }
+}

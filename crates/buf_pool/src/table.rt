@@ -1,0 +1,118 @@
+//! The table that finds the frame of a tag, after `buf_table.c`.
+ghost use Rattle.std.specs.Prelude.{◌≡◌, ◌≢◌, ℕ, ◌+◌, ◌*◌, ◌<◌, ◌≤◌, length, true, false, Some, None, MatchOption, List, IsTrue, ◌↔◌};
+ghost use Rattle.buf_pool.specs.declared.frame.Tag.{Tag};
+ghost use Rattle.buf_pool.specs.Frames.{tag_at, IsFrameOf};
+ghost use Rattle.buf_pool.specs.Probes.{home_of, Reaches, KeepsTaken, IsIndexed, empty_slots};
+ghost use Rattle.buf_pool.specs.Sound.{IsTable};
+
+use crate::frame::{Frame, Tag};
+
+// The slot at which the search for the tag begins. Blocks that follow each other lie far apart, so
+// that the slots of two relations do not grow together.
+fn home(tag: Tag, size: usize) -> usize
+    requires { 0 < size }
+    ensures home { result ≡ home_of tag size }
+    ensures range { result < size }
+{
+    let mixed = u64::from(tag.relation) * 0x3C6E_F35F + u64::from(tag.block) * 0x4F1B_BCDD;
+    (mixed % size as u64) as usize
+}
+
+// Whether the entry at the frame has the tag.
+fn carries(frames: &[Frame], frame: u32, tag: Tag) -> bool
+    ensures { IsTrue result ↔ (tag_at frames.now frame ≡ Some tag) }
+{
+    match frames.get(frame as usize) {
+        Some(held) => held.tag() == Some(tag),
+        None => false,
+    }
+}
+
+/// The frame of the tag.
+pub(crate) fn find(slots: &[Option<u32>], frames: &[Frame], tag: Tag) -> Option<u32>
+    requires size { (0 < length slots.now) × (length slots.now ≤ 65536) }
+    requires indexed { IsIndexed slots.now frames.now }
+    ensures { IsFrameOf frames.now tag result }
+{
+    let size = slots.len();
+    let home = home(tag, size);
+    for step in 0..size {
+        let at = (home + step) % size;
+        if slots[at].is_none() {
+            return None;
+        }
+        if let Some(frame) = slots[at]
+            && carries(frames, frame, tag)
+        {
+            return Some(frame);
+        }
+    }
+    None
+}
+
+// Puts the frame into the first empty slot that the search for the tag comes to.
+fn insert(slots: &mut [Option<u32>], tag: Tag, frame: u32)
+    requires size { length slots.old ≤ 65536 }
+    requires room { 0 < empty_slots slots.old }
+    ensures kept { KeepsTaken slots.old slots.new }
+    ensures reached { Reaches slots.new tag frame }
+    ensures room { empty_slots slots.old ≤ empty_slots slots.new + 1 }
+{
+    let size = slots.len();
+    let home = home(tag, size);
+    for step in 0..size {
+        let at = (home + step) % size;
+        if slots[at].is_none() {
+            slots[at] = Some(frame);
+            return;
+        }
+    }
+    unreachable!()
+}
+
+// Empties the table and puts in the frames that have an entry.
+fn rebuild(slots: &mut [Option<u32>], frames: &[Frame])
+    requires size { (length slots.old ≤ 65536) × (length frames.now < length slots.old) }
+    ensures size { length slots.new ≡ length slots.old }
+    ensures indexed { IsIndexed slots.new frames.now }
+    ensures room { length slots.new ≤ empty_slots slots.new + length frames.now }
+{
+    slots.fill(None);
+    for (i, frame) in frames.iter().enumerate() {
+        if let Some(tag) = frame.tag() {
+            insert(slots, tag, i as u32);
+        }
+    }
+}
+
+/// The slots, in which each entry's frame is found by its tag. A slot keeps its frame also when the
+/// entry is gone: the search compares the tag of the frame. Where half of the slots are taken, the
+/// table is made anew.
+#[derive(Drop)]
+pub(crate) struct TagTable {
+    pub(crate) slots: Vec<Option<u32>>,
+    // How many slots are empty.
+    pub(crate) left: usize,
+}
+
+impl TagTable {
+    /// Puts in the frame, which now has an entry of the tag.
+    pub(crate) fn add(&mut self, frames: &[Frame], tag: Tag, frame: u32)
+        requires size { (length self.old.slots.items ≡ 4 * length frames.now)
+            × (0 < length frames.now) × (length frames.now ≤ 16384) }
+        requires left { self.old.left ≤ empty_slots self.old.slots.items }
+        requires entry { tag_at frames.now frame ≡ Some tag }
+        requires others { (f : ℕ) (t : Tag) → f ≢ frame → tag_at frames.now f ≡ Some t
+            → Reaches self.old.slots.items t f }
+        ensures { IsTable self.new.slots.items self.new.left frames.now }
+    {
+        let size = self.slots.len();
+        if self.left <= size / 2 {
+            rebuild(&mut self.slots, frames);
+            self.left = size - frames.len();
+        } else {
+            insert(&mut self.slots, tag, frame);
+            self.left -= 1;
+        }
+    }
+}
