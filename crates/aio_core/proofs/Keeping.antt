@@ -1,5 +1,7 @@
 -- A step keeps the last claimers, and so all that the program's machine keeps.
-use Rattle.std.proofs.Common.{◌≡◌, ◌≢◌, ℕ, ◌+◌, ◌*◌, ◌<◌, ◌&&◌, ◌==◌, true, List, [], ◌∷◌, ◌++◌, length, get_or, set, refl, sym, ap, ◌∙◌, subst, arith, nat_lt, Option, Some, None, slice_get, length-set}
+use Rattle.std.proofs.Common.{◌≡◌, ◌≢◌, ℕ, ◌+◌, ◌*◌, ◌<◌, ◌&&◌, ◌==◌, true, List, [], ◌∷◌, ◌++◌}
+use Rattle.std.proofs.Common.{length, get_or, set, refl, sym, ap, ◌∙◌, subst, arith, nat_lt, Option}
+use Rattle.std.proofs.Common.{Some, None, slice_get, length-set}
 use Rattle.std.proofs.lemmas.Bool.Decides.{nat_tests}
 use Rattle.std.proofs.lemmas.List.{get_or-set_other, get_or-set_same}
 use Rattle.std.proofs.lemmas.Option.{slice_get_read, slice_get_within}
@@ -14,39 +16,70 @@ use Rattle.aio_word.specs.declared.Step.{Step}
 use Rattle.aio_word.specs.declared.Step.TheVariants as step
 use Rattle.aio_word.specs.declared.Word.{Word}
 use Rattle.aio_word.specs.Words.{IsLawful, place_of}
-use Rattle.aio_word.specs.Events.{Machine, after, leaves, noted, has_claimed, times, stepped}
+use Rattle.aio_word.specs.Events.{Machine, after, leaves, noted, has_claimed, order, times, stepped}
 use Rattle.aio_word.proofs.Machines.{Moved, inverts, machine-keeps, get-at}
-use Rattle.aio_word.proofs.Rows.{Begun, marked-row, quiet-row}
+use Rattle.aio_word.proofs.Rows.{Begun, Marked, Quiet, marked-row, quiet-row}
 use Rattle.aio_word.proofs.Same.{get-set, get-else}
 use Rattle.aio_word.proofs.Steps.{mark, place-small, times-push}
 use Rattle.aio_core.specs.Allowed.{next_word_of, noted_in}
 use Rattle.aio_core.proofs.Stepping.{made}
 use Rattle.aio_core.specs.Claimers.{HasClaimed, IsKept, claimers_by, claimers_after}
 
-has-more : (h g eh eg : ℕ) (marks : List Mark) (k : Option Kind) → has_claimed h g marks ≡ true → has_claimed h g (noted marks eh eg k) ≡ true
+has-more : (h g eh eg : ℕ) (marks : List Mark) (k : Option Kind) → has_claimed h g marks ≡ true
+    → has_claimed h g (noted marks eh eg k) ≡ true
 has-more h g eh eg marks None has = has
 has-more h g eh eg marks (Some k) has =
     let more = times-push h (8 * g + 3) marks (mark eh eg k) in
     let some : 0 < times h (8 * g + 3) marks = grind (arith, nat_tests) in
     let now : 0 < times h (8 * g + 3) (marks ++ mark eh eg k ∷ []) = omega arith in
-    let goal : nat_lt 0 (times h (8 * g + 3) (marks ++ mark eh eg k ∷ [])) ≡ true = grind (arith, nat_tests) in goal
+    let goal : nat_lt 0 (times h (8 * g + 3) (marks ++ mark eh eg k ∷ [])) ≡ true =
+    grind (arith, nat_tests) in goal
+
+onward : (w w' : Word) (k : Kind) → Marked w w' k → order k ≢ 3 → 3 < place_of w'
+    → (3 < place_of w) × (w'.generation ≡ w.generation)
+onward w w' k m other past =
+    let r = m.rank in let p = m.place in let before = place-small w.state w.claimed in
+    let after' = place-small w'.state w'.claimed in
+    (omega arith, omega arith)
+
+same-place : (w w' : Word) → Quiet w w' → 3 < place_of w'
+    → (3 < place_of w) × (w'.generation ≡ w.generation)
+same-place w w' q past = let r = q.rank in let g = q.generation in (omega arith, g)
 
 -- a step that is no claim leads past a claim only from past it, in the same generation
-past-claim : (w w' : Word) (s : Step) → Begun w → after w s ≡ Some w' → s ≢ step.Claim → 3 < place_of w' → (3 < place_of w) × (w'.generation ≡ w.generation)
-past-claim w w' step.HandOut b row ne past = let q = quiet-row w w' step.HandOut b row refl in let r = q.rank in let g = q.generation in (omega arith, g)
-past-claim w w' step.Release b row ne past = let q = quiet-row w w' step.Release b row refl in let r = q.rank in let g = q.generation in (omega arith, g)
-past-claim w w' step.Define b row ne past = let q = marked-row w w' step.Define kind.Defined b row refl in let r = q.rank in let p = q.place in let x = place-small w'.state w'.claimed in (omega arith, omega arith)
-past-claim w w' step.Stage b row ne past = let q = marked-row w w' step.Stage kind.Staged b row refl in let r = q.rank in let p = q.place in let x = place-small w'.state w'.claimed in (omega arith, omega arith)
-past-claim w w' step.Submit b row ne past = let q = marked-row w w' step.Submit kind.Submitted b row refl in let r = q.rank in let p = q.place in let x = place-small w'.state w'.claimed in (omega arith, omega arith)
+past-claim : (w w' : Word) (s : Step) → Begun w → after w s ≡ Some w' → s ≢ step.Claim
+    → 3 < place_of w' → (3 < place_of w) × (w'.generation ≡ w.generation)
+past-claim w w' step.HandOut b row ne past =
+    same-place w w' (quiet-row w w' step.HandOut b row refl) past
+past-claim w w' step.Release b row ne past =
+    same-place w w' (quiet-row w w' step.Release b row refl) past
+past-claim w w' step.Define b row ne past =
+    let m = marked-row w w' step.Define kind.Defined b row refl in
+    onward w w' kind.Defined m (λ e. omega arith) past
+past-claim w w' step.Stage b row ne past =
+    let m = marked-row w w' step.Stage kind.Staged b row refl in
+    onward w w' kind.Staged m (λ e. omega arith) past
+past-claim w w' step.Submit b row ne past =
+    let m = marked-row w w' step.Submit kind.Submitted b row refl in
+    onward w w' kind.Submitted m (λ e. omega arith) past
 past-claim w w' step.Claim b row ne past = absurd (ne refl)
-past-claim w w' (step.Io class) b row ne past = let q = marked-row w w' (step.Io class) (kind.Io class) b row refl in let r = q.rank in let p = q.place in let x = place-small w'.state w'.claimed in (omega arith, omega arith)
-past-claim w w' step.Shared b row ne past = let q = marked-row w w' step.Shared kind.Shared b row refl in let r = q.rank in let p = q.place in let x = place-small w'.state w'.claimed in (omega arith, omega arith)
-past-claim w w' step.Local b row ne past = let q = marked-row w w' step.Local (kind.Local w.class) b row refl in let r = q.rank in let p = q.place in let x = place-small w'.state w'.claimed in (omega arith, omega arith)
-past-claim w w' step.Reclaim b row ne past = let q = marked-row w w' step.Reclaim kind.Reclaimed b row refl in let r = q.rank in let p = q.place in let x = place-small w'.state w'.claimed in (omega arith, omega arith)
+past-claim w w' (step.Io class) b row ne past =
+    let m = marked-row w w' (step.Io class) (kind.Io class) b row refl in
+    onward w w' (kind.Io class) m (λ e. omega arith) past
+past-claim w w' step.Shared b row ne past =
+    let m = marked-row w w' step.Shared kind.Shared b row refl in
+    onward w w' kind.Shared m (λ e. omega arith) past
+past-claim w w' step.Local b row ne past =
+    let m = marked-row w w' step.Local (kind.Local w.class) b row refl in
+    onward w w' (kind.Local w.class) m (λ e. omega arith) past
+past-claim w w' step.Reclaim b row ne past =
+    let m = marked-row w w' step.Reclaim kind.Reclaimed b row refl in
+    onward w w' kind.Reclaimed m (λ e. omega arith) past
 
 -- either the step is a claim, or the last claimers stay
 data Claims (s : Step) (claimers : List ℕ) (h actor : ℕ) : Type 0 where
-  a_claim : s ≡ step.Claim → claimers_by s claimers h actor ≡ set claimers h actor → Claims s claimers h actor
+  a_claim : s ≡ step.Claim → claimers_by s claimers h actor ≡ set claimers h actor
+      → Claims s claimers h actor
   another : s ≢ step.Claim → claimers_by s claimers h actor ≡ claimers → Claims s claimers h actor
 
 claims-of : (s : Step) (claimers : List ℕ) (h actor : ℕ) → Claims s claimers h actor
@@ -64,7 +97,8 @@ claims-of step.Reclaim claimers h actor = another (λ e. cc) refl
 itself : (h g : ℕ) → ((h == h) && ((8 * g + 3) == (8 * g + 3))) ≡ true
 itself h g = grind (arith, nat_tests)
 
-new-claim : (h g : ℕ) (marks : List Mark) → has_claimed h g (noted marks h g (Some kind.Claimed)) ≡ true
+new-claim : (h g : ℕ) (marks : List Mark)
+    → has_claimed h g (noted marks h g (Some kind.Claimed)) ≡ true
 new-claim h g marks =
     let more = times-push h (8 * g + 3) marks (mark h g kind.Claimed) in
     let one = itself h g in
@@ -73,71 +107,113 @@ new-claim h g marks =
 pub some-list : (a b : List Mark) → Some a ≡ Some b → a ≡ b
 some-list a b h = cc
 
-module _ (c : Config) (m : Machine) (e : Event) (m' : Machine) (claimers : List ℕ) (k : IsKept c m claimers) (made : stepped c m e ≡ Some m') where
+module _ (c : Config) (m : Machine) (e : Event) (m' : Machine) (claimers : List ℕ)
+    (k : IsKept c m claimers) (made : stepped c m e ≡ Some m') where
   moved : Moved c m e m'
   moved = inverts c m e m' made
 
   -- the list of an actor after the event
   grown : (actor h g : ℕ) → HasClaimed m actor h g → HasClaimed m' actor h g
-  grown actor h g has = subst (λ (z : Machine). HasClaimed z actor h g) (sym moved.is) (dite (ℕ_discrete actor e.actor)
-      (λ same. let list : slice_get m.lists e.actor ≡ Some has.marks = ap (slice_get m.lists) (sym same) ∙ has.list in record {
+  grown actor h g has =
+      subst (λ (z : Machine). HasClaimed z actor h g) (sym moved.is)
+      (dite (ℕ_discrete actor e.actor)
+      (λ same. let list : slice_get m.lists e.actor ≡ Some has.marks =
+      ap (slice_get m.lists) (sym same) ∙ has.list in record {
         marks = noted moved.marks e.handle e.generation (leaves moved.w.class e.step);
-        list = ap (slice_get (set m.lists e.actor (noted moved.marks e.handle e.generation (leaves moved.w.class e.step)))) same ∙ get-set m.lists e.actor _ (slice_get_within m.lists e.actor moved.marks moved.list);
-        claimed = has-more h g e.handle e.generation moved.marks (leaves moved.w.class e.step) (subst (λ (z : List Mark). has_claimed h g z ≡ true) (some-list has.marks moved.marks (sym list ∙ moved.list)) has.claimed);
+        list = ap (slice_get (set m.lists e.actor
+            (noted moved.marks e.handle e.generation (leaves moved.w.class e.step)))) same
+            ∙ get-set m.lists e.actor _ (slice_get_within m.lists e.actor moved.marks moved.list);
+        claimed = has-more h g e.handle e.generation moved.marks (leaves moved.w.class e.step)
+            (subst (λ (z : List Mark). has_claimed h g z ≡ true)
+            (some-list has.marks moved.marks (sym list ∙ moved.list)) has.claimed);
       })
-      (λ other. record { marks = has.marks; list = get-else m.lists e.actor actor _ other ∙ has.list; claimed = has.claimed }))
+      (λ other. record {
+        marks = has.marks;
+        list = get-else m.lists e.actor actor _ other
+            ∙ has.list;
+        claimed = has.claimed;
+      }))
 
   begun : Begun moved.w
-  begun = let x = k.stands.stands.each_handle e.handle moved.w (get-at m.words e.handle moved.w moved.word) in record { lawful = x.lawful; last = x.last }
+  begun = let x = k.stands.stands.each_handle e.handle moved.w
+      (get-at m.words e.handle moved.w moved.word) in record { lawful = x.lawful; last = x.last }
 
   inside : e.handle < length claimers
-  inside = let a = slice_get_within m.words e.handle moved.w moved.word in let b = k.stands.stands.wide in let d = k.wide in omega arith
+  inside = let a = slice_get_within m.words e.handle moved.w moved.word in
+      let b = k.stands.stands.wide in let d = k.wide in omega arith
 
   words-now : m'.words ≡ set m.words e.handle moved.w'
   words-now = ap (λ (z : Machine). z.words) moved.is
 
   word-now : slice_get m'.words e.handle ≡ Some moved.w'
-  word-now = ap (λ (z : List Word). slice_get z e.handle) words-now ∙ get-set m.words e.handle moved.w' (slice_get_within m.words e.handle moved.w moved.word)
+  word-now = ap (λ (z : List Word). slice_get z e.handle) words-now
+      ∙ get-set m.words e.handle moved.w' (slice_get_within m.words e.handle moved.w moved.word)
 
   just-claimed : e.step ≡ step.Claim → HasClaimed m' e.actor e.handle moved.w'.generation
   just-claimed is =
-      let row : after moved.w step.Claim ≡ Some moved.w' = ap (after moved.w) (sym is) ∙ moved.row in
+      let row : after moved.w step.Claim ≡ Some moved.w' = ap (after moved.w) (sym is)
+      ∙ moved.row in
       let q = marked-row moved.w moved.w' step.Claim kind.Claimed begun row refl in
       let r = q.rank in let p = q.place in let x = place-small moved.w'.state moved.w'.claimed in
-      let same : moved.w'.generation ≡ e.generation = (let y : moved.w'.generation ≡ moved.w.generation = omega arith in y) ∙ moved.generation in
+      let same : moved.w'.generation ≡ e.generation =
+      (let y : moved.w'.generation ≡ moved.w.generation = omega arith in y)
+      ∙ moved.generation in
       let left : leaves moved.w.class e.step ≡ Some kind.Claimed = ap (leaves moved.w.class) is in
-      subst (λ (z : Machine). HasClaimed z e.actor e.handle moved.w'.generation) (sym moved.is) record {
+      subst (λ (z : Machine). HasClaimed z e.actor e.handle moved.w'.generation)
+      (sym moved.is) record {
         marks = noted moved.marks e.handle e.generation (leaves moved.w.class e.step);
         list = get-set m.lists e.actor _ (slice_get_within m.lists e.actor moved.marks moved.list);
-        claimed = subst (λ (z : Option Kind). has_claimed e.handle moved.w'.generation (noted moved.marks e.handle e.generation z) ≡ true) (sym left)
-            (subst (λ (z : ℕ). has_claimed e.handle z (noted moved.marks e.handle e.generation (Some kind.Claimed)) ≡ true) (sym same) (new-claim e.handle e.generation moved.marks));
+        claimed = subst (λ (z : Option Kind). has_claimed e.handle moved.w'.generation
+            (noted moved.marks e.handle e.generation z) ≡ true) (sym left)
+            (subst (λ (z : ℕ). has_claimed e.handle z
+            (noted moved.marks e.handle e.generation (Some kind.Claimed)) ≡ true) (sym same)
+            (new-claim e.handle e.generation moved.marks));
       }
 
   some-word : (v w : Word) → Some v ≡ Some w → v ≡ w
   some-word v w h = cc
 
-  claimer-of : (now : List ℕ) → Claims e.step claimers e.handle e.actor → claimers_after claimers e ≡ now → (h : ℕ) (v : Word) → slice_get m'.words h ≡ Some v → 3 < place_of v → HasClaimed m' (get_or now h 0) h v.generation
+  claimer-of : (now : List ℕ) → Claims e.step claimers e.handle e.actor
+      → claimers_after claimers e ≡ now → (h : ℕ) (v : Word) → slice_get m'.words h ≡ Some v
+      → 3 < place_of v → HasClaimed m' (get_or now h 0) h v.generation
   claimer-of now (a_claim is set-now) eq h v at past =
-      let list : now ≡ set claimers e.handle e.actor = sym eq ∙ set-now in dite (ℕ_discrete h e.handle)
-      (λ same. let w' : v ≡ moved.w' = some-word v moved.w' (sym at ∙ (ap (slice_get m'.words) same ∙ word-now)) in
-      let who : get_or now h 0 ≡ e.actor = ap (λ (z : List ℕ). get_or z h 0) list ∙ (ap (λ (z : ℕ). get_or (set claimers e.handle e.actor) z 0) same ∙ get_or-set_same claimers e.handle e.actor 0 inside) in
+      let list : now ≡ set claimers e.handle e.actor = sym eq ∙ set-now in
+      dite (ℕ_discrete h e.handle)
+      (λ same. let w' : v ≡ moved.w' = some-word v moved.w' (sym at
+      ∙ (ap (slice_get m'.words) same ∙ word-now)) in
+      let who : get_or now h 0 ≡ e.actor = ap (λ (z : List ℕ). get_or z h 0) list
+      ∙ (ap (λ (z : ℕ). get_or (set claimers e.handle e.actor) z 0) same
+      ∙ get_or-set_same claimers e.handle e.actor 0 inside) in
       subst (λ (z : Word). HasClaimed m' (get_or now h 0) h z.generation) (sym w')
-      (subst (λ (z : ℕ). HasClaimed m' z h moved.w'.generation) (sym who) (subst (λ (z : ℕ). HasClaimed m' e.actor z moved.w'.generation) (sym same) (just-claimed is))))
-      (λ other. let old : slice_get m.words h ≡ Some v = sym (get-else m.words e.handle h moved.w' other) ∙ (ap (λ (z : List Word). slice_get z h) (sym words-now) ∙ at) in
-      let who : get_or now h 0 ≡ get_or claimers h 0 = ap (λ (z : List ℕ). get_or z h 0) list ∙ get_or-set_other claimers e.handle h e.actor 0 other in
-      subst (λ (z : ℕ). HasClaimed m' z h v.generation) (sym who) (grown (get_or claimers h 0) h v.generation (k.claimer h v old past)))
+      (subst (λ (z : ℕ). HasClaimed m' z h moved.w'.generation) (sym who)
+      (subst (λ (z : ℕ). HasClaimed m' e.actor z moved.w'.generation) (sym same)
+      (just-claimed is))))
+      (λ other. let old : slice_get m.words h ≡ Some v =
+      sym (get-else m.words e.handle h moved.w' other)
+      ∙ (ap (λ (z : List Word). slice_get z h) (sym words-now) ∙ at) in
+      let who : get_or now h 0 ≡ get_or claimers h 0 = ap (λ (z : List ℕ). get_or z h 0) list
+      ∙ get_or-set_other claimers e.handle h e.actor 0 other in
+      subst (λ (z : ℕ). HasClaimed m' z h v.generation) (sym who)
+      (grown (get_or claimers h 0) h v.generation (k.claimer h v old past)))
   claimer-of now (another ne stay) eq h v at past =
-      let who : get_or now h 0 ≡ get_or claimers h 0 = ap (λ (z : List ℕ). get_or z h 0) (sym eq ∙ stay) in
+      let who : get_or now h 0 ≡ get_or claimers h 0 = ap (λ (z : List ℕ). get_or z h 0) (sym eq
+      ∙ stay) in
       subst (λ (z : ℕ). HasClaimed m' z h v.generation) (sym who) (dite (ℕ_discrete h e.handle)
-      (λ same. let w' : v ≡ moved.w' = some-word v moved.w' (sym at ∙ (ap (slice_get m'.words) same ∙ word-now)) in
-      let from = past-claim moved.w moved.w' e.step begun moved.row ne (subst (λ (z : Word). 3 < place_of z) w' past) in
+      (λ same. let w' : v ≡ moved.w' = some-word v moved.w' (sym at
+      ∙ (ap (slice_get m'.words) same ∙ word-now)) in
+      let from = past-claim moved.w moved.w' e.step begun moved.row ne
+      (subst (λ (z : Word). 3 < place_of z) w' past) in
       let old : slice_get m.words h ≡ Some moved.w = ap (slice_get m.words) same ∙ moved.word in
       let g : v.generation ≡ moved.w.generation = ap (λ (z : Word). z.generation) w' ∙ from.1 in
-      subst (λ (z : ℕ). HasClaimed m' (get_or claimers h 0) h z) (sym g) (grown (get_or claimers h 0) h moved.w.generation (k.claimer h moved.w old from.0)))
-      (λ other. let old : slice_get m.words h ≡ Some v = sym (get-else m.words e.handle h moved.w' other) ∙ (ap (λ (z : List Word). slice_get z h) (sym words-now) ∙ at) in
+      subst (λ (z : ℕ). HasClaimed m' (get_or claimers h 0) h z) (sym g)
+      (grown (get_or claimers h 0) h moved.w.generation (k.claimer h moved.w old from.0)))
+      (λ other. let old : slice_get m.words h ≡ Some v =
+      sym (get-else m.words e.handle h moved.w' other)
+      ∙ (ap (λ (z : List Word). slice_get z h) (sym words-now) ∙ at) in
       grown (get_or claimers h 0) h v.generation (k.claimer h v old past)))
 
-  wide-of : Claims e.step claimers e.handle e.actor → length (claimers_after claimers e) ≡ length claimers
+  wide-of : Claims e.step claimers e.handle e.actor
+      → length (claimers_after claimers e) ≡ length claimers
   wide-of (a_claim is set-now) = ap length set-now ∙ length-set claimers e.handle e.actor
   wide-of (another ne stay) = ap length stay
 
@@ -146,23 +222,37 @@ module _ (c : Config) (m : Machine) (e : Event) (m' : Machine) (claimers : List 
     bounds = k.bounds;
     stands = machine-keeps c m e m' k.stands made;
     wide = wide-of (claims-of e.step claimers e.handle e.actor) ∙ k.wide;
-    claimer = λ h v at past. claimer-of (claimers_after claimers e) (claims-of e.step claimers e.handle e.actor) refl h v at past;
+    claimer = λ h v at past. claimer-of (claimers_after claimers e)
+        (claims-of e.step claimers e.handle e.actor) refl h v at past;
   }
 
 -- what the program does is the machine's step, and keeps what a machine keeps
-pub makes : (c : Config) (words : List Word) (lists lists' : List (List Mark)) (claimers claimers' : List ℕ) (e : Event) (w next : Word) → IsKept c record { words = words; lists = lists } claimers
-    → slice_get words e.handle ≡ Some w → next_word_of c record { words = words; lists = lists } e w ≡ Some next
-    → lists' ≡ noted_in lists e.actor e.handle e.generation (leaves w.class e.step) (slice_get lists e.actor) → claimers' ≡ claimers_after claimers e
-    → (stepped c record { words = words; lists = lists } e ≡ Some record { words = set words e.handle next; lists = lists' }) × IsKept c record { words = set words e.handle next; lists = lists' } claimers'
+pub makes : (c : Config) (words : List Word) (lists lists' : List (List Mark))
+    (claimers claimers' : List ℕ) (e : Event) (w next : Word)
+    → IsKept c record { words = words; lists = lists } claimers
+    → slice_get words e.handle ≡ Some w
+    → next_word_of c record { words = words; lists = lists } e w ≡ Some next
+    → lists' ≡ noted_in lists e.actor e.handle e.generation (leaves w.class e.step)
+    (slice_get lists e.actor) → claimers' ≡ claimers_after claimers e
+    → (stepped c record { words = words; lists = lists } e ≡ Some record {
+      words =
+          set words e.handle next;
+      lists = lists';
+    })
+    × IsKept c record { words = set words e.handle next; lists = lists' } claimers'
 makes c words lists lists' claimers claimers' e w next k here is noted-is claimers-are =
     let m : Machine = record { words = words; lists = lists } in
     let m' : Machine = record { words = set words e.handle next; lists = lists' } in
-    let step : stepped c m e ≡ Some m' = made c m e w here next is ∙ ap (λ (l : List (List Mark)). Some record { words = set words e.handle next; lists = l }) (sym noted-is) in
+    let step : stepped c m e ≡ Some m' = made c m e w here next is
+    ∙ ap (λ (l : List (List Mark)). Some record { words = set words e.handle next; lists = l })
+    (sym noted-is) in
     (step, subst (λ (z : List ℕ). IsKept c m' z) (sym claimers-are) (kept c m e m' claimers k step))
 
 -- the word that was read is that of its handle, and lawful
-pub word-at : (words : List Word) (h : ℕ) (w : Word) → h < length words → w ≡ get_or words h w → slice_get words h ≡ Some w
+pub word-at : (words : List Word) (h : ℕ) (w : Word) → h < length words → w ≡ get_or words h w
+    → slice_get words h ≡ Some w
 word-at words h w lt e = slice_get_read words (length words) h w refl lt e
 
-pub lawful-at : (c : Config) (m : Machine) (claimers : List ℕ) (h : ℕ) (w : Word) → IsKept c m claimers → slice_get m.words h ≡ Some w → IsLawful w
+pub lawful-at : (c : Config) (m : Machine) (claimers : List ℕ) (h : ℕ) (w : Word)
+    → IsKept c m claimers → slice_get m.words h ≡ Some w → IsLawful w
 lawful-at c m claimers h w k at = (k.stands.stands.each_handle h w (get-at m.words h w at)).lawful

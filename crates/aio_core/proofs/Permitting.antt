@@ -1,5 +1,7 @@
 -- Who may make a step: the owner, or the claimer, which is the last claimer of the handle.
-use Rattle.std.proofs.Common.{◌≡◌, ◌≢◌, ℕ, ◌+◌, ◌*◌, ◌<◌, ◌≤◌, ◌&&◌, ◌==◌, Bool, true, false, List, ◌∷◌, ◌++◌, get_or, sum_by, refl, sym, ap, ◌∙◌, subst, arith, nat_lt, Some, slice_get}
+use Rattle.std.proofs.Common.{◌≡◌, ◌≢◌, ℕ, ◌+◌, ◌*◌, ◌<◌, ◌≤◌, ◌&&◌, ◌==◌, Bool, true, false, List}
+use Rattle.std.proofs.Common.{◌∷◌, ◌++◌, get_or, sum_by, refl, sym, ap, ◌∙◌, subst, arith, nat_lt}
+use Rattle.std.proofs.Common.{Some, slice_get}
 use Rattle.std.proofs.lemmas.Bool.Decides.{nat_tests}
 use mathlib.Core.Logic.{dite}
 use native.Mathlib.Decide.{ℕ_discrete}
@@ -42,7 +44,8 @@ pub data IsOwnersAlone : Step → Type 0 where
   local : IsOwnersAlone step.Local
   reclaim : IsOwnersAlone step.Reclaim
 
-pub alone : (s : Step) → s ≢ step.HandOut → s ≢ step.Claim → ((class : Class) → s ≢ step.Io class) → s ≢ step.Shared → IsOwnersAlone s
+pub alone : (s : Step) → s ≢ step.HandOut → s ≢ step.Claim → ((class : Class) → s ≢ step.Io class)
+    → s ≢ step.Shared → IsOwnersAlone s
 alone step.HandOut a b d e = absurd (a refl)
 alone step.Release a b d e = release
 alone step.Define a b d e = define
@@ -54,10 +57,15 @@ alone step.Shared a b d e = absurd (e refl)
 alone step.Local a b d e = local
 alone step.Reclaim a b d e = reclaim
 
-permits-by : (c : Config) (m : Machine) (e : Event) (marks : List Mark) (b : Bool) → slice_get m.lists e.actor ≡ Some marks → b ≡ (may c e.actor marks e.handle e.generation e.step && is_free c e.actor m.words e.step) → b ≡ permits c m e
+permits-by : (c : Config) (m : Machine) (e : Event) (marks : List Mark) (b : Bool)
+    → slice_get m.lists e.actor ≡ Some marks
+    → b ≡ (may c e.actor marks e.handle e.generation e.step && is_free c e.actor m.words e.step)
+    → b ≡ permits c m e
 permits-by c m e marks b at is = is ∙ sym (ap (permits_with c m e) at)
 
-owner-may : (c : Config) (m : Machine) (e : Event) (marks : List Mark) (s : Step) → IsOwnersAlone s → (e.actor == owner c e.handle) ≡ (may c e.actor marks e.handle e.generation s && is_free c e.actor m.words s)
+owner-may : (c : Config) (m : Machine) (e : Event) (marks : List Mark) (s : Step) → IsOwnersAlone s
+    → (e.actor == owner c e.handle) ≡
+    (may c e.actor marks e.handle e.generation s && is_free c e.actor m.words s)
 owner-may c m e marks _ release = and-true (e.actor == owner c e.handle)
 owner-may c m e marks _ define = and-true (e.actor == owner c e.handle)
 owner-may c m e marks _ stage = and-true (e.actor == owner c e.handle)
@@ -65,16 +73,23 @@ owner-may c m e marks _ submit = and-true (e.actor == owner c e.handle)
 owner-may c m e marks _ local = and-true (e.actor == owner c e.handle)
 owner-may c m e marks _ reclaim = and-true (e.actor == owner c e.handle)
 
-pub owner-permits : (c : Config) (m : Machine) (e : Event) (marks : List Mark) → slice_get m.lists e.actor ≡ Some marks → IsOwnersAlone e.step → (e.actor == owner c e.handle) ≡ permits c m e
-owner-permits c m e marks at s = permits-by c m e marks (e.actor == owner c e.handle) at (owner-may c m e marks e.step s)
+pub owner-permits : (c : Config) (m : Machine) (e : Event) (marks : List Mark)
+    → slice_get m.lists e.actor ≡ Some marks → IsOwnersAlone e.step
+    → (e.actor == owner c e.handle) ≡ permits c m e
+owner-permits c m e marks at s =
+    permits-by c m e marks (e.actor == owner c e.handle) at (owner-may c m e marks e.step s)
 
-claimer-may : (c : Config) (m : Machine) (e : Event) (marks : List Mark) (s : Step) → IsClaimers s → has_claimed e.handle e.generation marks ≡ (may c e.actor marks e.handle e.generation s && is_free c e.actor m.words s)
+claimer-may : (c : Config) (m : Machine) (e : Event) (marks : List Mark) (s : Step) → IsClaimers s
+    → has_claimed e.handle e.generation marks ≡
+    (may c e.actor marks e.handle e.generation s && is_free c e.actor m.words s)
 claimer-may c m e marks _ (io class) = and-true (has_claimed e.handle e.generation marks)
 claimer-may c m e marks _ shared = and-true (has_claimed e.handle e.generation marks)
 
 past : (w next : Word) (s : Step) → Begun w → IsClaimers s → after w s ≡ Some next → 3 < place_of w
-past w next _ b (io class) row = let p = (marked-row w next (step.Io class) (kind.Io class) b row refl).place in omega arith
-past w next _ b shared row = let p = (marked-row w next step.Shared kind.Shared b row refl).place in omega arith
+past w next _ b (io class) row = let p =
+    (marked-row w next (step.Io class) (kind.Io class) b row refl).place in omega arith
+past w next _ b shared row = let p = (marked-row w next step.Shared kind.Shared b row refl).place in
+    omega arith
 
 positive : (n : ℕ) → nat_lt 0 n ≡ true → 0 < n
 positive n e = grind (arith, nat_tests)
@@ -94,31 +109,47 @@ module _ (c : Config) (m : Machine) (claimers : List ℕ) (k : IsKept c m claime
   parts = numbered_from c 0 m.lists
 
   -- two actors that have claimed one incarnation are one
-  one-claimer : (a b h g : ℕ) (one other : List Mark) → slice_get m.lists a ≡ Some one → slice_get m.lists b ≡ Some other → has_claimed h g one ≡ true → has_claimed h g other ≡ true → a ≡ b
+  one-claimer : (a b h g : ℕ) (one other : List Mark) → slice_get m.lists a ≡ Some one
+      → slice_get m.lists b ≡ Some other → has_claimed h g one ≡ true → has_claimed h g other ≡ true
+      → a ≡ b
   one-claimer a b h g one other at bt ha hb =
       let f : Known → ℕ = λ p. times h (8 * g + 3) p.marks in
       let pa = placed c 0 m.lists a one at in
       let pb = placed c 0 m.lists b other bt in
       let p : Known = known_by c (0 + a) one in
       let q : Known = known_by c (0 + b) other in
-      let once : sum_by f (numbered_from c 0 m.lists) ≤ 1 = mark-once c m.words (numbered_from c 0 m.lists) k.stands.stands (ref h g) kind.Claimed in
-      let single : sum_by f (pa.front ++ p ∷ pa.back) ≤ 1 = subst (λ (z : List Known). sum_by f z ≤ 1) pa.now once in
-      let there : IsIn q (pa.front ++ p ∷ pa.back) = subst (λ (z : List Known). IsIn q z) (sym pb.now ∙ pa.now) (in-here pb.front pb.back q) in
+      let once : sum_by f (numbered_from c 0 m.lists) ≤ 1 =
+      mark-once c m.words (numbered_from c 0 m.lists) k.stands.stands (ref h g) kind.Claimed in
+      let single : sum_by f (pa.front ++ p ∷ pa.back) ≤ 1 =
+      subst (λ (z : List Known). sum_by f z ≤ 1) pa.now once in
+      let there : IsIn q (pa.front ++ p ∷ pa.back) =
+      subst (λ (z : List Known). IsIn q z) (sym pb.now ∙ pa.now) (in-here pb.front pb.back q) in
       let same : p ≡ q = sole f pa.front pa.back p q single (positive _ ha) (positive _ hb) there in
       let numbers : 0 + a ≡ 0 + b = ap (λ (z : Known). z.number) same in omega arith
 
-  claimer-is : (e : Event) (w : Word) (marks : List Mark) → slice_get m.words e.handle ≡ Some w → w.generation ≡ e.generation → 3 < place_of w → slice_get m.lists e.actor ≡ Some marks
+  claimer-is : (e : Event) (w : Word) (marks : List Mark) → slice_get m.words e.handle ≡ Some w
+      → w.generation ≡ e.generation → 3 < place_of w → slice_get m.lists e.actor ≡ Some marks
       → (e.actor == get_or claimers e.handle 0) ≡ has_claimed e.handle e.generation marks
   claimer-is e w marks here g lt at =
       let last : ℕ = get_or claimers e.handle 0 in
       let had = k.claimer e.handle w here lt in
-      let claimed : has_claimed e.handle e.generation had.marks ≡ true = subst (λ (z : ℕ). has_claimed e.handle z had.marks ≡ true) g had.claimed in
+      let claimed : has_claimed e.handle e.generation had.marks ≡ true =
+      subst (λ (z : ℕ). has_claimed e.handle z had.marks ≡ true) g had.claimed in
       dite (ℕ_discrete e.actor last)
-      (λ same. same-true e.actor last same ∙ sym (subst (λ (z : List Mark). has_claimed e.handle e.generation z ≡ true) (some-list had.marks marks (sym had.list ∙ (ap (slice_get m.lists) (sym same) ∙ at))) claimed))
-      (λ other. other-false e.actor last other ∙ sym (not-true (has_claimed e.handle e.generation marks) (λ yes. other (one-claimer e.actor last e.handle e.generation marks had.marks at had.list yes claimed))))
+      (λ same. same-true e.actor last same
+      ∙ sym (subst (λ (z : List Mark). has_claimed e.handle e.generation z ≡ true)
+      (some-list had.marks marks (sym had.list
+      ∙ (ap (slice_get m.lists) (sym same) ∙ at))) claimed))
+      (λ other. other-false e.actor last other
+      ∙ sym (not-true (has_claimed e.handle e.generation marks)
+      (λ yes. other (one-claimer e.actor last e.handle e.generation marks had.marks at had.list
+      yes claimed))))
 
-  pub claimer-permits : (e : Event) (marks : List Mark) → HasStep m e → slice_get m.lists e.actor ≡ Some marks → IsClaimers e.step → (e.actor == get_or claimers e.handle 0) ≡ permits c m e
+  pub claimer-permits : (e : Event) (marks : List Mark) → HasStep m e
+      → slice_get m.lists e.actor ≡ Some marks → IsClaimers e.step
+      → (e.actor == get_or claimers e.handle 0) ≡ permits c m e
   claimer-permits e marks s at kind' =
       let x = k.stands.stands.each_handle e.handle s.w (get-at m.words e.handle s.w s.word) in
       let lt = past s.w s.next e.step record { lawful = x.lawful; last = x.last } kind' s.row in
-      permits-by c m e marks (e.actor == get_or claimers e.handle 0) at (claimer-is e s.w marks s.word s.generation lt at ∙ claimer-may c m e marks e.step kind')
+      permits-by c m e marks (e.actor == get_or claimers e.handle 0) at
+      (claimer-is e s.w marks s.word s.generation lt at ∙ claimer-may c m e marks e.step kind')

@@ -1,5 +1,6 @@
 -- The tests of the program, together, are those of the machine's step.
-use Rattle.std.proofs.Common.{◌≡◌, ◌<◌, ◌==◌, ◌&&◌, Bool, true, false, cond, List, length, refl, ap, ◌∙◌, set, Option, Some, None, slice_get}
+use Rattle.std.proofs.Common.{◌≡◌, ◌<◌, ◌==◌, ◌&&◌, Bool, true, false, cond, List, length, refl, ap}
+use Rattle.std.proofs.Common.{◌∙◌, set, Option, Some, None, slice_get}
 use Rattle.std.proofs.lemmas.Option.{slice_get_within}
 use Rattle.aio_word.specs.declared.Config.{Config}
 use Rattle.aio_word.specs.declared.Event.{Event}
@@ -13,41 +14,60 @@ use Rattle.aio_core.specs.Allowed.{permits, permits_with, next_word_of, noted_in
 module _ (c : Config) (m : Machine) (e : Event) (w : Word) where
   -- the machine after the event, by the list of its actor
   abbrev pub after_with : Word → Option (List Mark) → Machine
-  after_with next o = record { words = set m.words e.handle next; lists = noted_in m.lists e.actor e.handle e.generation (leaves w.class e.step) o }
+  after_with next o = record {
+    words = set m.words e.handle next;
+    lists =
+        noted_in m.lists e.actor e.handle e.generation (leaves w.class e.step) o;
+  }
 
-  made-with : (o : Option (List Mark)) (next : Word) → cond ((w.generation == e.generation) && permits_with c m e o) (after w e.step) None ≡ Some next → on_word c m e (Some w) o ≡ Some (after_with next o)
+  made-with : (o : Option (List Mark)) (next : Word)
+      → cond ((w.generation == e.generation) && permits_with c m e o) (after w e.step) None
+      ≡ Some next → on_word c m e (Some w) o ≡ Some (after_with next o)
   made-with None next h =
       let t = when-true ((w.generation == e.generation) && false) (after w e.step) next h in
       absurd (let x = both (w.generation == e.generation) false t.0 in let y = x.1 in cc)
   made-with (Some marks) next h =
-      let t = when-true ((w.generation == e.generation) && permits_with c m e (Some marks)) (after w e.step) next h in
+      let t = when-true ((w.generation == e.generation) && permits_with c m e (Some marks))
+      (after w e.step) next h in
       λ k. cond (t.0 k) (replaced m e marks w (t.1 k)) None
 
-  none-of : (b : Bool) (x : Option Word) (f : Option Word → Option Machine) → f None ≡ None → cond b x None ≡ None → cond b (f x) None ≡ None
+  none-of : (b : Bool) (x : Option Word) (f : Option Word → Option Machine) → f None ≡ None
+      → cond b x None ≡ None → cond b (f x) None ≡ None
   none-of true x f z h = ap f h ∙ z
   none-of false x f z h = refl
 
-  unmade-with : (o : Option (List Mark)) → cond ((w.generation == e.generation) && permits_with c m e o) (after w e.step) None ≡ None → on_word c m e (Some w) o ≡ None
+  unmade-with : (o : Option (List Mark))
+      → cond ((w.generation == e.generation) && permits_with c m e o) (after w e.step) None ≡ None
+      → on_word c m e (Some w) o ≡ None
   unmade-with None h = refl
-  unmade-with (Some marks) h = none-of ((w.generation == e.generation) && permits_with c m e (Some marks)) (after w e.step) (replaced m e marks w) refl h
+  unmade-with (Some marks) h =
+      none-of ((w.generation == e.generation) && permits_with c m e (Some marks)) (after w e.step)
+      (replaced m e marks w) refl h
 
   module _ (here : slice_get m.words e.handle ≡ Some w) where
-    pub made : (next : Word) → next_word_of c m e w ≡ Some next → stepped c m e ≡ Some (after_with next (slice_get m.lists e.actor))
-    made next h = (λ k. on_word c m e (here k) (slice_get m.lists e.actor)) ∙ made-with (slice_get m.lists e.actor) next h
+    pub made : (next : Word) → next_word_of c m e w ≡ Some next
+        → stepped c m e ≡ Some (after_with next (slice_get m.lists e.actor))
+    made next h = (λ k. on_word c m e (here k) (slice_get m.lists e.actor))
+        ∙ made-with (slice_get m.lists e.actor) next h
 
     pub unmade : next_word_of c m e w ≡ None → stepped c m e ≡ None
-    unmade h = (λ k. on_word c m e (here k) (slice_get m.lists e.actor)) ∙ unmade-with (slice_get m.lists e.actor) h
+    unmade h = (λ k. on_word c m e (here k) (slice_get m.lists e.actor))
+        ∙ unmade-with (slice_get m.lists e.actor) h
 
 -- a handle out of range has no event
-pub out-of-range : (c : Config) (m : Machine) (e : Event) → slice_get m.words e.handle ≡ None → stepped c m e ≡ None
+pub out-of-range : (c : Config) (m : Machine) (e : Event) → slice_get m.words e.handle ≡ None
+    → stepped c m e ≡ None
 out-of-range c m e h = λ k. on_word c m e (h k) (slice_get m.lists e.actor)
 
-permits-in : (c : Config) (m : Machine) (e : Event) (o : Option (List Mark)) → slice_get m.lists e.actor ≡ o → permits_with c m e o ≡ true → e.actor < length m.lists
+permits-in : (c : Config) (m : Machine) (e : Event) (o : Option (List Mark))
+    → slice_get m.lists e.actor ≡ o → permits_with c m e o ≡ true → e.actor < length m.lists
 permits-in c m e None at permitted = absurd (cc)
 permits-in c m e (Some marks) at permitted = slice_get_within m.lists e.actor marks at
 
 -- the actor of an event that is made is in range
-pub actor-in : (c : Config) (m : Machine) (e : Event) (w next : Word) → next_word_of c m e w ≡ Some next → e.actor < length m.lists
+pub actor-in : (c : Config) (m : Machine) (e : Event) (w next : Word)
+    → next_word_of c m e w ≡ Some next → e.actor < length m.lists
 actor-in c m e w next h =
     let t = when-true ((w.generation == e.generation) && permits c m e) (after w e.step) next h in
-    permits-in c m e (slice_get m.lists e.actor) refl (both (w.generation == e.generation) (permits c m e) t.0).1
+    permits-in c m e (slice_get m.lists e.actor) refl
+    (both (w.generation == e.generation) (permits c m e) t.0).1

@@ -1,4 +1,5 @@
--- Counts of faults, of reads and of the like. The code keeps each in 64 bits, and it stays at its last value once it is there.
+-- Counts of faults, of reads and of the like. The code keeps each in 64 bits, and it stays at its
+-- last value once it is there.
 use Rattle.std.specs.Prelude.{◌≡◌, ℕ, ◌+◌, ◌-◌, ◌^◌, ◌≤◌, ◌<◌, min, max, Result, OnErr}
 
 -- the count with so many more: it never falls, and stays where it is once it is at its last value

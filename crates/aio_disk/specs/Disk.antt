@@ -1,13 +1,20 @@
 -- What a disk answers, where it tells its contents.
-use Rattle.std.specs.Prelude.{◌≡◌, ℕ, ◌-◌, ◌≤◌, ◌<◌, List, map, take, length, Option, Result, IfSome, IfOk}
+use Rattle.std.specs.Prelude.{◌≡◌, ℕ, ◌-◌, ◌≤◌, ◌<◌, List, map, take, length, Option, Result}
+use Rattle.std.specs.Prelude.{IfSome, IfOk}
 use Rattle.std.specs.List.{range_with_len}
 use Rattle.page_check.specs.Told.{Told, blocks_of, page_of}
 
--- the first n of the pages are those of the blocks from `first` on, and n is 0 exactly where the relation ends at or before `first`
+-- the first n of the pages are those of the blocks from `first` on
+abbrev pub HoldsBlocks : Told → ℕ → ℕ → ℕ → List (List ℕ) → Type 0
+HoldsBlocks told relation first n pages =
+    take n pages ≡ map (page_of told relation) (range_with_len first n)
+
+-- n pages were read: the told ones, and n is 0 exactly where the relation ends at or before
+-- `first`
 pub record ReadsPages (told : Told) (relation first n : ℕ) (pages : List (List ℕ)) : Type 0 where
   pub within : n ≤ blocks_of told relation - first
   pub some : first < blocks_of told relation → 0 < n
-  pub told_pages : take n pages ≡ map (page_of told relation) (range_with_len first n)
+  pub told_pages : HoldsBlocks told relation first n pages
 
 -- a length that was answered is the told one
 abbrev pub AnswersLength : {E : Type 0} → Option Told → ℕ → Result ℕ E → Type 0

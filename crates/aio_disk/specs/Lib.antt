@@ -4,4 +4,6 @@ pub mod Shelf
 pub mod Sink
 pub mod ReadLog
 pub mod Steady
+pub mod Script
+pub mod Scripted
 pub mod MemSink

@@ -1,9 +1,10 @@
 -- A sink in memory, whose writes fail where its list says so.
-use Rattle.std.specs.Prelude.{ℕ, List, [], ◌++◌, take, find, Option, ◌==◌}
+use Rattle.std.specs.Prelude.{ℕ, List, [], ◌++◌, find, Option, ◌==◌}
 use Rattle.std.specs.Option.{option_map}
 use Rattle.aio_disk.specs.Counts.{raised_by}
 
--- what was written, the writes that fail with how many bytes they take, how often it was written to, and how often that failed
+-- what was written, the writes that fail with how many bytes they take, how often it was written
+-- to, and how often that failed
 pub record MemSinkState : Type 0 where
   pub bytes : List ℕ
   pub fails : List (ℕ × ℕ)
@@ -14,7 +15,8 @@ pub record MemSinkState : Type 0 where
 abbrev pub fresh_sink : List (ℕ × ℕ) → MemSinkState
 fresh_sink fails = record { bytes = []; fails = fails; writes = 0; faults = 0 }
 
--- how many bytes a write takes before it fails, where the list has it: the first entry of a write counts
+-- how many bytes a write takes before it fails, where the list has it: the first entry of a write
+-- counts
 abbrev pub cut_of : List (ℕ × ℕ) → ℕ → Option ℕ
 cut_of fails write = option_map (λ fail. fail.1) (find (λ fail. fail.0 == write) fails)
 
@@ -24,8 +26,15 @@ next_cut sink = cut_of sink.fails (raised_by 1 sink.writes)
 
 -- the sink after a write of these bytes
 abbrev pub with_write : MemSinkState → List ℕ → MemSinkState
-with_write sink bytes = record sink { bytes = sink.bytes ++ bytes; writes = raised_by 1 sink.writes }
+with_write sink bytes = record sink {
+  bytes = sink.bytes ++ bytes;
+  writes = raised_by 1 sink.writes;
+}
 
 -- the sink after a write that failed behind these bytes
 abbrev pub with_failed_write : MemSinkState → List ℕ → MemSinkState
-with_failed_write sink bytes = record sink { bytes = sink.bytes ++ bytes; writes = raised_by 1 sink.writes; faults = raised_by 1 sink.faults }
+with_failed_write sink bytes = record sink {
+  bytes = sink.bytes ++ bytes;
+  writes = raised_by 1 sink.writes;
+  faults = raised_by 1 sink.faults;
+}

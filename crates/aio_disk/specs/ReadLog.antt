@@ -1,11 +1,22 @@
 -- The log of the reads of a disk in memory, or of all disks that were given back.
-use Rattle.std.specs.Prelude.{ℕ, List, [], ◌∷◌, ◌++◌, take}
+use Rattle.std.specs.Prelude.{ℕ, List, [], ◌∷◌, ◌++◌, take, Option}
 use Rattle.aio_disk.specs.declared.read_log.ReadEntry.{ReadEntry}
 
 -- entries in the order of the reads, and how many there is room for
 pub record Log : Type 0 where
   pub entries : List ReadEntry
   pub room : ℕ
+
+-- a read of a disk: its relation and first block, how many pages were asked for, and how many were
+-- given
+abbrev pub entry_of : ℕ → ℕ → ℕ → ℕ → Option ℕ → ReadEntry
+entry_of disk relation first asked answered = record {
+  disk = disk;
+  relation = relation;
+  first = first;
+  asked = asked;
+  answered = answered;
+}
 
 -- a log without entries
 abbrev pub empty_log : ℕ → Log

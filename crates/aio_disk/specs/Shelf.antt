@@ -1,5 +1,7 @@
 -- What a shelf holds: files by their names.
-use Rattle.std.specs.Prelude.{◌≡◌, ℕ, List, [], ◌∷◌, map, Option, Some, None, cond, unwrap_or, IsSome, IsNone, IfSome, Any, String, Vec, string_bytes, Bool, true, false, not, ◌&&◌, ◌||◌}
+use Rattle.std.specs.Prelude.{ℕ, List, [], ◌∷◌, map, Option, Some, None, cond, unwrap_or}
+use Rattle.std.specs.Prelude.{IsSome, IsNone, IfSome, Any, String, Vec, string_bytes, Bool, true}
+use Rattle.std.specs.Prelude.{false, not, ◌&&◌, ◌||◌}
 use Rattle.std.specs.declared.alloc.Global.{Global}
 use Rattle.std.specs.List.{All}
 use Rattle.std.specs.Str.{bytes_eq}

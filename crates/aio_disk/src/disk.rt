@@ -9,8 +9,8 @@ use page_check::Page;
 
 /// Relations, numbered from 0, each read as blocks of [`PAGE_SIZE`](page_check::PAGE_SIZE) bytes.
 ///
-/// A part of a block at a relation's end is no block. No call changes how many relations there are
-/// or what is told of them.
+/// A part of a block at a relation's end is no block. No call changes how many relations there
+/// are or what is told of them.
 pub trait Disk: Send + Drop {
     /// How many names it was opened for.
     ghost relations: { Self → ℕ };
@@ -41,8 +41,8 @@ pub trait Disk: Send + Drop {
 
     /// Reads pages from block `first` on, and says how many (`smgrreadv`).
     ///
-    /// It may give fewer pages than were asked for, but none only from the relation's end on. What
-    /// the other pages hold is open, as all pages are after a fault.
+    /// It may give fewer pages than were asked for, but none only from the relation's end on.
+    /// What the other pages hold is open, as all pages are after a fault.
     fn read(&mut self, relation: u32, first: u32, pages: &mut [Page]) -> Result<u32, DeviceFault>
         requires relation { relation < relations self.old }
         requires some { 0 < length pages.old }

@@ -1,7 +1,7 @@
 //! The faults of the outside.
 use thiserror::Error;
 
-/// A device failed.
+/// A device failed at a length or a read. The disk has counted it.
 #[derive(Clone, Copy, Debug, Error)]
 #[error("device fault")]
 pub struct DeviceFault;
@@ -9,8 +9,10 @@ pub struct DeviceFault;
 /// Why a disk could not be opened.
 #[derive(Clone, Copy, Debug, Error)]
 pub enum OpenFault {
+    /// A name is not there, or its device failed. The shelf has counted it.
     #[error("device fault")]
     Device,
+    /// There was no memory for the disk.
     #[error("out of memory")]
     Memory,
 }
@@ -18,8 +20,10 @@ pub enum OpenFault {
 /// Why bytes could not be written.
 #[derive(Clone, Copy, Debug, Error)]
 pub enum WriteFault {
+    /// The device failed. The sink has counted it.
     #[error("device fault")]
     Device,
+    /// There was no memory to keep the bytes in.
     #[error("out of memory")]
     Memory,
 }

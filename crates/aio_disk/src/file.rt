@@ -11,8 +11,8 @@ use std::rt::Files;
 /// How many blocks one system call reads at most.
 const RUN: usize = 16;
 
-/// Relation files that are open for reading, and room for one run of blocks. It does not tell what
-/// they hold.
+/// Relation files that are open for reading, and room for one run of blocks. It does not tell
+/// what they hold.
 #[derive(Drop)]
 pub struct FileDisk {
     files: Vec<File>,
@@ -28,7 +28,8 @@ fn file_blocks(mut file: &File) -> io::Result<u32> {
     Ok(blocks.min(u64::from(u32::MAX)) as u32)
 }
 
-// Reads until the bytes hold at least one whole block, or to the file's end, and says how many bytes.
+// Reads until the bytes hold at least one whole block, or to the file's end, and says how many
+// bytes.
 fn read_some(file: &File, offset: u64, bytes: &mut [u8]) -> io::Result<usize>
     requires { offset < 2 ^ 62 }
     ensures { IfOk result (λ n. n ≤ length bytes.new) }
@@ -133,8 +134,8 @@ impl Disk for FileDisk {
         }
     }
 
-    /// Reads in place where one page is asked for, and else by runs of up to 16 blocks, each of them
-    /// one system call. After a fault behind a whole block it answers the pages before it.
+    /// Reads in place where one page is asked for, and else by runs of up to 16 blocks, each of
+    /// them one system call. After a fault behind a whole block it answers the pages before it.
     fn read(&mut self, relation: u32, first: u32, pages: &mut [Page]) -> Result<u32, DeviceFault> {
         self.reads = self.reads.saturating_add(1);
         let buffer = self.buffer.as_mut_slice();
@@ -226,8 +227,8 @@ impl<R: Files<File = File> + AllocGlobal> Shelf for FileShelf<'_, R> {
 
     ghost reads = { λ shelf. shelf.reads };
 
-    /// A name that is not there, and one of a directory or of anything else that is neither a regular
-    /// file nor a block device, is a device fault.
+    /// A name that is not there, and one of a directory or of anything else that is neither a
+    /// regular file nor a block device, is a device fault.
     fn open(&mut self, names: &[String]) -> Result<FileDisk, OpenFault> {
         let Ok(buffer) = vec![in self.rt.alloc(); 0u8; RUN * PAGE_SIZE] else {
             return Err(OpenFault::Memory);
@@ -264,8 +265,8 @@ mod tests {
     use std::process::Abort;
     use std::test::Fail;
 
-    // Writes a file of blocks, each filled with a byte of its own from `byte` on, and then a part of
-    // a block.
+    // Writes a file of blocks, each filled with a byte of its own from `byte` on, and then a part
+    // of a block.
     fn write_file<R: Files<File = File> + AllocGlobal>(
         rt: &R,
         name: &str,
@@ -366,6 +367,8 @@ mod tests {
             (shelf.open_faults, shelf.length_faults, shelf.faults),
             (0, 0, 0)
         );
+        fs::remove_file(&rt, "first")?;
+        fs::remove_file(&rt, "second")?;
         Ok(())
     }
 

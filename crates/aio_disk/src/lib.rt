@@ -1,12 +1,26 @@
 //! The outside of a scan: disks with relations, shelves that open them, and sinks for text.
+//!
+//! [`Disk`], [`Shelf`] and [`Sink`] are what a scan may know of it. Each may tell its contents,
+//! to the contracts alone: the bytes of the relations, of the files by their names, and what was
+//! written. Where it does, a length is the told one, the pages of a read are the told ones, at
+//! least one below the told length, and a write that is Ok appended all its bytes. Each counts
+//! its faults, and a fault comes only where its count rose, so that a caller can show where a
+//! fault of its own came from.
+//!
+//! [`SteadyShelf`], [`MemShelf`] and [`MemSink`] are in memory and tell all. Their own calls have
+//! exact clauses: which call fails, how many pages a read gives, what the log of reads then
+//! holds. [`FileShelf`] and [`StdSink`] are the real files and streams, and tell nothing: what
+//! they give is the system's, and tests alone show it.
 #![tactic(auto)]
 
 mod disk;
 mod fault;
 mod file;
+mod mem_disk;
 mod mem_shelf;
 mod mem_sink;
 mod read_log;
+mod script;
 mod shared;
 mod shelf;
 mod sink;
@@ -16,9 +30,11 @@ mod steady;
 pub use disk::Disk;
 pub use fault::{DeviceFault, OpenFault, WriteFault};
 pub use file::{FileDisk, FileShelf};
+pub use mem_disk::MemDisk;
 pub use mem_shelf::{MemShelf, have_distinct_names};
 pub use mem_sink::MemSink;
 pub use read_log::ReadEntry;
+pub use script::Script;
 pub use shelf::Shelf;
 pub use sink::Sink;
 pub use std_sink::StdSink;

@@ -1,14 +1,18 @@
 //! Shelves in memory.
-ghost use Rattle.std.specs.Prelude.{◌≡◌, map, IfOk, IsTrue};
-ghost use Rattle.aio_disk.specs.Shelf.{file_of, has_name, have_distinct_names};
+ghost use Rattle.std.specs.Prelude.{◌≡◌, ◌⊎◌, length, map, IfOk, OnOk, IfSome, IsErrOf};
+ghost use Rattle.std.specs.Prelude.{IsTrue, Some, true, false, string_bytes};
+ghost use Rattle.aio_disk.specs.declared.fault.OpenFault.TheVariants.{Device, Memory};
+ghost use Rattle.aio_disk.specs.Shelf.{file_of, has_name, have_distinct_names, AllThere};
+ghost use Rattle.aio_disk.specs.Shelf.{OneMissing};
+ghost use Rattle.aio_disk.specs.Script.{has_positive_shorts};
 ghost use Rattle.aio_disk.specs.Steady.{fresh_shelf};
+ghost use Rattle.aio_disk.specs.Scripted.{fresh_mem_shelf, fails_next_open, next_mem_disk};
+ghost use Rattle.aio_disk.specs.Scripted.{with_mem_disk, with_failed_open, with_mem_disk_back};
 
-use crate::SteadyShelf;
+use crate::{MemDisk, OpenFault, ReadEntry, Script, Shelf, SteadyShelf};
 use std::alloc::{AllocError, Global};
-
-/// A shelf in memory.
-#[derive(Drop)]
-pub struct MemShelf;
+use std::marker::Model;
+use std::sync::Arc;
 
 // Whether one of the files has this name.
 fn has_name(files: &[(String, Vec<u8>)], name: &str) -> bool
@@ -22,8 +26,8 @@ fn has_name(files: &[(String, Vec<u8>)], name: &str) -> bool
     false
 }
 
-/// Whether no two of the files have one name, as a shelf in memory wants it. It compares each name
-/// with each.
+/// Whether no two of the files have one name, as a shelf in memory wants it. It compares each
+/// name with each.
 pub fn have_distinct_names(files: &[(String, Vec<u8>)]) -> bool
     ensures { result ≡ have_distinct_names (map file_of files.now) }
 {
@@ -35,19 +39,254 @@ pub fn have_distinct_names(files: &[(String, Vec<u8>)]) -> bool
     true
 }
 
+/// A shelf in memory, whose disks fail as its script says.
+#[derive(Drop)]
+pub struct MemShelf {
+    shelf: SteadyShelf,
+    shared_script: Arc<Script, Global>,
+    open_count: u64,
+    length_fault_count: u64,
+    fault_count: u64,
+}
+
+impl Model for MemShelf {
+    ghost use Rattle.std.specs.Prelude.{◌≡◌, true};
+    ghost use Rattle.std.specs.Arc.{arc_value};
+    ghost use Rattle.aio_disk.specs.Script.{has_positive_shorts};
+    ghost use Rattle.aio_disk.specs.Scripted.{MemShelfState};
+
+    ghost Value = { MemShelfState };
+
+    ghost view = { λ shelf. record {
+      steady = shelf.shelf;
+      script = arc_value shelf.shared_script;
+      opens = shelf.open_count;
+      length_faults = shelf.length_fault_count;
+      faults = shelf.fault_count;
+    } };
+
+    ghost invariant = { λ shelf. has_positive_shorts (arc_value shelf.shared_script) ≡ true };
+}
+
 impl MemShelf {
     /// A shelf over these files, whose disks do not fail.
     ///
-    /// It takes the room for its log of reads, `log_room` entries, and each `open` takes as much for
-    /// its disk's log, so that reading and taking back take no memory.
+    /// It takes the room for its log of reads, `log_room` entries, and each `open` takes as much
+    /// for its disk's log, so that reading and taking back take no memory.
     pub fn steady(
         alloc: Global,
         files: Vec<(String, Vec<u8>)>,
         log_room: usize,
     ) -> Result<SteadyShelf, AllocError>
         requires distinct { IsTrue (have_distinct_names (map file_of files.items)) }
-        ensures fresh { IfOk result (λ shelf. shelf ≡ fresh_shelf (map file_of files.items) log_room) }
+        ensures fresh { IfOk result (λ shelf.
+            shelf ≡ fresh_shelf (map file_of files.items) log_room) }
     {
         SteadyShelf::new(alloc, files, log_room)
+    }
+
+    /// A shelf over these files, whose disks fail as the script says. It takes the room for its
+    /// logs as [`MemShelf::steady`] does.
+    pub fn make(
+        alloc: Global,
+        files: Vec<(String, Vec<u8>)>,
+        script: Script,
+        log_room: usize,
+    ) -> Result<MemShelf, AllocError>
+        requires distinct { IsTrue (have_distinct_names (map file_of files.items)) }
+        requires positive { IsTrue (has_positive_shorts script) }
+        ensures fresh { IfOk result (λ shelf.
+            shelf ≡ fresh_mem_shelf (map file_of files.items) script log_room) }
+    {
+        Ok(MemShelf {
+            shelf: SteadyShelf::new(alloc, files, log_room)?,
+            shared_script: Arc::new(alloc, script)?,
+            open_count: 0,
+            length_fault_count: 0,
+            fault_count: 0,
+        })
+    }
+
+    /// The reads of all disks that were taken back, disk by disk in the order of taking back,
+    /// each disk's in their own order. Those past the room that the shelf was made with are left
+    /// out.
+    pub fn log(&self) -> &[ReadEntry]
+        ensures { result.now ≡ self.now.steady.log.entries }
+    {
+        self.shelf.log()
+    }
+
+    /// Opens a disk, as [`Shelf::open`] does: a device fault comes exactly where the script has
+    /// this open or a name is missing. An open that finds no memory is not counted.
+    pub fn open(&mut self, names: &[String]) -> Result<MemDisk, OpenFault>
+        ensures unlisted { OnOk result (fails_next_open self.old ≡ false) }
+        ensures all_there { OnOk result
+            (AllThere self.old.steady.files (map string_bytes names.now)) }
+        ensures disk { IfOk result (λ disk.
+            disk ≡ next_mem_disk self.old (map string_bytes names.now)) }
+        ensures opened { OnOk result (self.new ≡ with_mem_disk self.old) }
+        ensures failed { IsErrOf result Device → (fails_next_open self.old ≡ true)
+            ⊎ OneMissing self.old.steady.files (map string_bytes names.now) }
+        ensures counted { IsErrOf result Device → self.new ≡ with_failed_open self.old }
+        ensures memory { IsErrOf result Memory → self.new ≡ self.old }
+    {
+        let open = self.open_count.saturating_add(1);
+        if self.shared_script.fails_open(open) {
+            self.open_count = open;
+            self.shelf.count_open_fault();
+            return Err(OpenFault::Device);
+        }
+        let Ok(script) = Arc::try_clone(&self.shared_script) else {
+            return Err(OpenFault::Memory);
+        };
+        match self.shelf.open(names) {
+            Ok(disk) => {
+                self.open_count = open;
+                Ok(MemDisk::new(disk, script))
+            }
+            Err(OpenFault::Device) => {
+                self.open_count = open;
+                Err(OpenFault::Device)
+            }
+            Err(OpenFault::Memory) => Err(OpenFault::Memory),
+        }
+    }
+
+    /// Takes a disk back, as [`Shelf::take_back`] does, and adds its reads to the log.
+    pub fn take_back(&mut self, disk: MemDisk)
+        ensures { self.new ≡ with_mem_disk_back self.old disk }
+    {
+        let (disk, length_faults, faults) = disk.into_parts();
+        if length_faults > 0 {
+            self.length_fault_count = self.length_fault_count.saturating_add(1);
+        }
+        if faults > 0 {
+            self.fault_count = self.fault_count.saturating_add(1);
+        }
+        self.shelf.take_back(disk);
+    }
+}
+
+impl Shelf for MemShelf {
+    type Disk = MemDisk;
+
+    ghost told = { λ shelf. Some shelf.steady.files };
+
+    ghost open_faults = { λ shelf. shelf.steady.open_faults };
+
+    ghost length_faults = { λ shelf. shelf.length_faults };
+
+    ghost faults = { λ shelf. shelf.faults };
+
+    ghost reads = { λ shelf. shelf.steady.reads };
+
+    fn open(&mut self, names: &[String]) -> Result<MemDisk, OpenFault> {
+        MemShelf::open(self, names)
+    }
+
+    fn take_back(&mut self, disk: MemDisk) {
+        MemShelf::take_back(self, disk);
+    }
+}
+
+#[cfg(test)]
+mod tests {
+    use super::*;
+    use page_check::Page;
+    use std::process::Abort;
+    use std::test::Fail;
+
+    // A shelf with one file of two blocks, whose second open, and whose first disk's second
+    // length call and second read fail; its first read answers one page.
+    fn scripted<R: Abort + AllocGlobal>(rt: &R) -> Result<MemShelf, Fail> {
+        let alloc = rt.alloc();
+        let files = vec![in alloc;
+            (
+                String::from_str(alloc, "file")?,
+                vec![in alloc; 1u8; 16384]?
+            ),
+        ]?;
+        let script = Script {
+            fail_opens: vec![in alloc; 2u64]?,
+            fail_lengths: vec![in alloc; (0u32, 2u64)]?,
+            fail_reads: vec![in alloc; (0u32, 2u64)]?,
+            shorts: vec![in alloc; (0u32, vec![in alloc; 1u32]?)]?,
+        };
+        assert!(rt; have_distinct_names(files.as_slice()));
+        assert!(rt; script.has_positive_shorts());
+        Ok(MemShelf::make(alloc, files, script, 10)?)
+    }
+
+    fn open<R: AllocGlobal>(rt: &R, shelf: &mut MemShelf) -> Result<Option<MemDisk>, Fail>
+        ensures { IfOk result (λ opened. IfSome opened (λ disk. length disk.steady.relations ≡ 1)) }
+    {
+        let alloc = rt.alloc();
+        let names = vec![in alloc; String::from_str(alloc, "file")?]?;
+        Ok(shelf.open(names.as_slice()).ok())
+    }
+
+    // How many pages three reads of two pages at block 0 give.
+    fn three_reads<R: Abort + AllocGlobal>(
+        rt: &R,
+        disk: &mut MemDisk,
+    ) -> Result<(Option<u32>, Option<u32>, Option<u32>), Fail>
+        requires { length disk.old.steady.relations ≡ 1 }
+    {
+        let alloc = rt.alloc();
+        let mut pages = vec![in alloc; Page::zeroed(alloc)?, Page::zeroed(alloc)?]?;
+        assert!(rt; pages.len() == 2);
+        let first = disk.read(0, 0, pages.as_mut_slice()).ok();
+        let second = disk.read(0, 0, pages.as_mut_slice()).ok();
+        let third = disk.read(0, 0, pages.as_mut_slice()).ok();
+        Ok((first, second, third))
+    }
+
+    #[test]
+    fn calls_fail_by_the_script(rt: HostRuntime) -> Result<(), Fail> {
+        let mut shelf = scripted(&rt)?;
+        let mut disk = open(&rt, &mut shelf)?.ok_or("no disk")?;
+        assert!(rt; open(&rt, &mut shelf)?.is_none());
+        let mut other = open(&rt, &mut shelf)?.ok_or("no disk")?;
+        let lengths = (
+            disk.blocks(0).ok(),
+            disk.blocks(0).ok(),
+            disk.blocks(0).ok(),
+        );
+        assert_eq!(rt; lengths, (Some(2), None, Some(2)));
+        assert_eq!(rt; three_reads(&rt, &mut disk)?, (Some(1), None, Some(2)));
+        assert_eq!(rt; three_reads(&rt, &mut other)?, (Some(2), Some(2), Some(2)));
+
+        shelf.take_back(disk);
+        shelf.take_back(other);
+        assert_eq!(rt; (shelf.length_fault_count, shelf.fault_count), (1, 1));
+        let mut answered = Vec::new(rt.alloc());
+        for entry in shelf.log() {
+            answered.push((entry.disk, entry.answered))?;
+        }
+        let wanted = [
+            (0, Some(1)),
+            (0, None),
+            (0, Some(2)),
+            (1, Some(2)),
+            (1, Some(2)),
+            (1, Some(2)),
+        ];
+        assert_eq!(rt; answered.as_slice(), wanted.as_slice());
+        Ok(())
+    }
+
+    #[test]
+    fn a_short_answer_of_no_page_is_seen(rt: HostRuntime) -> Result<(), Fail> {
+        let alloc = rt.alloc();
+        for (most, positive) in [(0, false), (1, true)] {
+            let script = Script {
+                fail_opens: Vec::new(alloc),
+                fail_lengths: Vec::new(alloc),
+                fail_reads: Vec::new(alloc),
+                shorts: vec![in alloc; (0u32, vec![in alloc; 5, most]?)]?,
+            };
+            assert_eq!(rt; script.has_positive_shorts(), positive);
+        }
+        Ok(())
     }
 }

@@ -1,7 +1,8 @@
 //! A sink in memory.
-ghost use Rattle.std.specs.Prelude.{◌≡◌, ◌≤◌, take, Some, IfSome, OnOk, IsErrOf, IsNone, IsSome};
+ghost use Rattle.std.specs.Prelude.{◌≡◌, take, Some, IfSome, OnOk, IsErrOf, IsNone, IsSome};
 ghost use Rattle.aio_disk.specs.declared.fault.WriteFault.TheVariants.{Device, Memory};
-ghost use Rattle.aio_disk.specs.MemSink.{fresh_sink, cut_of, next_cut, with_write, with_failed_write};
+ghost use Rattle.aio_disk.specs.MemSink.{fresh_sink, cut_of, next_cut, with_write};
+ghost use Rattle.aio_disk.specs.MemSink.{with_failed_write};
 
 use crate::{Sink, WriteFault};
 use std::alloc::Global;
@@ -37,8 +38,8 @@ fn find_cut(fails: &[(u64, u64)], write: u64) -> Option<u64>
 }
 
 impl MemSink {
-    /// A sink whose write k, counted from 1, takes the first n of its bytes and fails, for each entry
-    /// (k, n). It takes no memory.
+    /// A sink whose write k, counted from 1, takes the first n of its bytes and fails, for each
+    /// entry (k, n). It takes no memory.
     pub fn make(alloc: Global, fails: Vec<(u64, u64)>) -> MemSink
         ensures { result ≡ fresh_sink fails.items }
     {
@@ -57,8 +58,8 @@ impl MemSink {
         self.taken.as_slice()
     }
 
-    /// Writes, as [`Sink::write`] does: a device fault comes exactly where the list has this write. A
-    /// write that finds no memory leaves the sink as it was, and is not counted.
+    /// Writes, as [`Sink::write`] does: a device fault comes exactly where the list has this
+    /// write. A write that finds no memory leaves the sink as it was, and is not counted.
     pub fn write(&mut self, bytes: &[u8]) -> Result<(), WriteFault>
         ensures unlisted { OnOk result (IsNone (next_cut self.old)) }
         ensures ok { OnOk result (self.new ≡ with_write self.old bytes.now) }
@@ -66,7 +67,6 @@ impl MemSink {
         ensures device { IsErrOf result Device → IfSome (next_cut self.old) (λ n.
             self.new ≡ with_failed_write self.old (take n bytes.now)) }
         ensures memory { IsErrOf result Memory → self.new ≡ self.old }
-        ensures later { self.old.faults ≤ self.new.faults }
     {
         let number = self.write_count.saturating_add(1);
         match find_cut(self.fail_list.as_slice(), number) {

@@ -1,5 +1,6 @@
 //! Files in memory that disks share.
-ghost use Rattle.std.specs.Prelude.{◌≡◌, ◌≤◌, ◌<◌, ◌+◌, ◌-◌, ◌*◌, min, length, map, take, IfOk, IfSome, OnSome, IfNone, string_bytes};
+ghost use Rattle.std.specs.Prelude.{◌≡◌, ◌≤◌, ◌<◌, ◌+◌, ◌-◌, ◌*◌, min, length, map, take, IfOk};
+ghost use Rattle.std.specs.Prelude.{IfSome, OnSome, IfNone, string_bytes};
 ghost use Rattle.std.specs.Option.{option_map};
 ghost use Rattle.std.specs.List.{range_with_len};
 ghost use Rattle.page_check.specs.Told.{block_count, page_at};

@@ -1,5 +1,6 @@
 //! Shelves: where disks are opened.
-ghost use Rattle.std.specs.Prelude.{◌≡◌, ◌≤◌, ℕ, length, map, Option, IfOk, OnOk, IsErrOf, string_bytes};
+ghost use Rattle.std.specs.Prelude.{◌≡◌, ◌≤◌, ℕ, length, map, Option, IfOk, OnOk, IsErrOf};
+ghost use Rattle.std.specs.Prelude.{string_bytes};
 ghost use Rattle.aio_disk.specs.declared.fault.OpenFault.TheVariants.{Device, Memory};
 ghost use Rattle.aio_disk.specs.Counts.{Rose, RisesBy, raised_by};
 ghost use Rattle.aio_disk.specs.Shelf.{Files, AllThereIfTold, told_of};
@@ -29,10 +30,11 @@ pub trait Shelf {
 
     /// Opens a disk whose relations are the files of these names, in their order.
     ///
-    /// A name that is not there is [`OpenFault::Device`]. After [`OpenFault::Memory`] the shelf is as
-    /// before.
+    /// A name that is not there is [`OpenFault::Device`]. After [`OpenFault::Memory`] the shelf
+    /// is as before.
     fn open(&mut self, names: &[String]) -> Result<Self::Disk, OpenFault>
-        ensures all_there { OnOk result (AllThereIfTold (told self.old) (map string_bytes names.now)) }
+        ensures all_there { OnOk result
+            (AllThereIfTold (told self.old) (map string_bytes names.now)) }
         ensures relations { IfOk result (λ disk. Self.Disk.relations disk ≡ length names.now) }
         ensures contents { IfOk result (λ disk.
             Self.Disk.told disk ≡ told_of (told self.old) (map string_bytes names.now)) }
@@ -41,7 +43,8 @@ pub trait Shelf {
         ensures no_reads { IfOk result (λ disk. Self.Disk.reads disk ≡ 0) }
 
         ensures later { open_faults self.old ≤ open_faults self.new }
-        ensures device { IsErrOf result Device → Rose (open_faults self.old) (open_faults self.new) }
+        ensures device { IsErrOf result Device
+            → Rose (open_faults self.old) (open_faults self.new) }
         ensures memory { IsErrOf result Memory → open_faults self.new ≡ open_faults self.old }
         ensures told { told self.new ≡ told self.old }
         ensures length_faults { length_faults self.new ≡ length_faults self.old }
@@ -52,7 +55,8 @@ pub trait Shelf {
     fn take_back(&mut self, disk: Self::Disk)
         ensures told { told self.new ≡ told self.old }
         ensures open_faults { open_faults self.new ≡ open_faults self.old }
-        ensures length_faults { RisesBy (Self.Disk.length_faults disk) (length_faults self.old) (length_faults self.new) }
+        ensures length_faults { RisesBy (Self.Disk.length_faults disk)
+            (length_faults self.old) (length_faults self.new) }
         ensures faults { RisesBy (Self.Disk.faults disk) (faults self.old) (faults self.new) }
         ensures reads { reads self.new ≡ raised_by (Self.Disk.reads disk) (reads self.old) };
 }

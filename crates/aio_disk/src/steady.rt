@@ -1,10 +1,13 @@
 //! Shelves in memory whose disks do not fail.
-ghost use Rattle.std.specs.Prelude.{◌≡◌, ◌≤◌, ◌<◌, ◌-◌, min, length, map, take, Some, None, IfOk, OnOk, IsErrOf, string_bytes};
-ghost use Rattle.std.specs.List.{range_with_len};
-ghost use Rattle.page_check.specs.Told.{told_in, blocks_of, page_of, relation_of};
+ghost use Rattle.std.specs.Prelude.{◌≡◌, ◌≤◌, ◌<◌, ◌-◌, min, length, map, Some, Ok, IfOk, OnOk};
+ghost use Rattle.std.specs.Prelude.{IsErrOf, string_bytes};
+ghost use Rattle.page_check.specs.Told.{told_in, blocks_of};
 ghost use Rattle.aio_disk.specs.declared.fault.OpenFault.TheVariants.{Device, Memory};
+ghost use Rattle.aio_disk.specs.Counts.{raised_by};
+ghost use Rattle.aio_disk.specs.Disk.{HoldsBlocks};
 ghost use Rattle.aio_disk.specs.Shelf.{AllThere, OneMissing, file_of};
-ghost use Rattle.aio_disk.specs.Steady.{fresh_shelf, next_disk, with_disk, with_open_fault, with_disk_back, with_read};
+ghost use Rattle.aio_disk.specs.Steady.{fresh_shelf, next_disk, with_disk, with_open_fault};
+ghost use Rattle.aio_disk.specs.Steady.{with_disk_back, with_read};
 
 use crate::read_log::ReadLog;
 use crate::shared::{NamedFile, SharedBytes, copy_blocks, find_files, share_files, whole_blocks};
@@ -36,6 +39,50 @@ impl Model for SteadyDisk {
 }
 
 impl SteadyDisk {
+    /// How many blocks the relation has, as [`Disk::blocks`] says it. It never fails.
+    pub fn blocks(&mut self, relation: u32) -> Result<u32, DeviceFault>
+        requires { relation < length self.old.relations }
+        ensures length { result ≡ Ok (blocks_of (told_in self.old.relations) relation) }
+        ensures same { self.new ≡ self.old }
+    {
+        Ok(self.length(relation))
+    }
+
+    /// Reads pages, as [`Disk::read`] does. It never fails, and gives as many pages as there are.
+    pub fn read(
+        &mut self,
+        relation: u32,
+        first: u32,
+        pages: &mut [Page],
+    ) -> Result<u32, DeviceFault>
+        requires relation { relation < length self.old.relations }
+        requires some { 0 < length pages.old }
+        requires few { length pages.old ≤ 128 }
+        ensures count { result
+            ≡ Ok (min (blocks_of (told_in self.old.relations) relation - first)
+            (length pages.old)) }
+        ensures pages { IfOk result (λ n.
+            HoldsBlocks (told_in self.old.relations) relation first n pages.new) }
+        ensures read { IfOk result (λ n.
+            self.new ≡ with_read self.old relation first (length pages.old) (Some n)) }
+    {
+        Ok(self.read_up_to(relation, first, u32::MAX, pages))
+    }
+
+    /// Which disk of its shelf it is.
+    pub(crate) fn number(&self) -> u32
+        ensures { result ≡ self.now.number }
+    {
+        self.number
+    }
+
+    /// Which read the next one is, counted from 1.
+    pub(crate) fn next_read(&self) -> u64
+        ensures { result ≡ raised_by 1 self.now.reads }
+    {
+        self.read_count.saturating_add(1)
+    }
+
     /// How many blocks the relation has.
     pub(crate) fn length(&self, relation: u32) -> u32
         requires { relation < length self.now.relations }
@@ -56,15 +103,9 @@ impl SteadyDisk {
         requires few { length pages.old ≤ 128 }
         ensures count { result ≡ min (blocks_of (told_in self.old.relations) relation - first)
             (min most (length pages.old)) }
-        ensures pages { take result pages.new
-            ≡ map (page_of (told_in self.old.relations) relation) (range_with_len first result) }
-        ensures read { self.new ≡ with_read self.old (record {
-          disk = self.old.number;
-          relation = relation;
-          first = first;
-          asked = length pages.old;
-          answered = Some result;
-        }) }
+        ensures pages { HoldsBlocks (told_in self.old.relations) relation first result pages.new }
+        ensures read { self.new
+            ≡ with_read self.old relation first (length pages.old) (Some result) }
     {
         let count = copy_blocks(self.files[relation as usize].as_slice(), first, most, pages);
         let asked = pages.len() as u32;
@@ -74,13 +115,7 @@ impl SteadyDisk {
 
     /// Counts a read, and adds it to the log.
     pub(crate) fn note(&mut self, relation: u32, first: u32, asked: u32, answered: Option<u32>)
-        ensures { self.new ≡ with_read self.old (record {
-          disk = self.old.number;
-          relation = relation;
-          first = first;
-          asked = asked;
-          answered = answered;
-        }) }
+        ensures { self.new ≡ with_read self.old relation first asked answered }
     {
         self.read_count = self.read_count.saturating_add(1);
         self.read_log.add(ReadEntry {
@@ -105,15 +140,16 @@ impl Disk for SteadyDisk {
     ghost reads = { λ disk. disk.reads };
 
     fn blocks(&mut self, relation: u32) -> Result<u32, DeviceFault> {
-        Ok(self.length(relation))
+        SteadyDisk::blocks(self, relation)
     }
 
     fn read(&mut self, relation: u32, first: u32, pages: &mut [Page]) -> Result<u32, DeviceFault> {
-        Ok(self.read_up_to(relation, first, u32::MAX, pages))
+        SteadyDisk::read(self, relation, first, pages)
     }
 }
 
-/// A shelf in memory whose disks do not fail: made by [`MemShelf::steady`](crate::MemShelf::steady).
+/// A shelf in memory whose disks do not fail: made by
+/// [`MemShelf::steady`](crate::MemShelf::steady).
 #[derive(Drop)]
 pub struct SteadyShelf {
     alloc: Global,
@@ -156,29 +192,32 @@ impl SteadyShelf {
         })
     }
 
-    /// The reads of all disks that were taken back, disk by disk in the order of taking back, each
-    /// disk's in their own order. Those past the room that the shelf was made with are left out.
+    /// The reads of all disks that were taken back, disk by disk in the order of taking back,
+    /// each disk's in their own order. Those past the room that the shelf was made with are left
+    /// out.
     pub fn log(&self) -> &[ReadEntry]
         ensures { result.now ≡ self.now.log.entries }
     {
         self.read_log.entries()
     }
 
-    /// Opens a disk, as [`Shelf::open`] does: a device fault comes exactly where a name is missing.
+    /// Opens a disk, as [`Shelf::open`] does: a device fault comes exactly where a name is
+    /// missing.
     pub fn open(&mut self, names: &[String]) -> Result<SteadyDisk, OpenFault>
         ensures all_there { OnOk result (AllThere self.old.files (map string_bytes names.now)) }
-        ensures disk { IfOk result (λ disk. disk ≡ next_disk self.old (map string_bytes names.now)) }
+        ensures disk { IfOk result (λ disk.
+            disk ≡ next_disk self.old (map string_bytes names.now)) }
         ensures opened { OnOk result (self.new ≡ with_disk self.old) }
-        ensures missing { IsErrOf result Device → OneMissing self.old.files (map string_bytes names.now) }
+        ensures missing { IsErrOf result Device
+            → OneMissing self.old.files (map string_bytes names.now) }
         ensures counted { IsErrOf result Device → self.new ≡ with_open_fault self.old }
         ensures memory { IsErrOf result Memory → self.new ≡ self.old }
-        ensures later { self.old.open_faults ≤ self.new.open_faults }
     {
         let Ok(found) = find_files(self.alloc, self.named_files.as_slice(), names) else {
             return Err(OpenFault::Memory);
         };
         let Some(files) = found else {
-            self.open_fault_count = self.open_fault_count.saturating_add(1);
+            self.count_open_fault();
             return Err(OpenFault::Device);
         };
         let Ok(read_log) = ReadLog::with_room(self.alloc, self.read_log.room()) else {
@@ -192,6 +231,13 @@ impl SteadyShelf {
             read_count: 0,
             read_log,
         })
+    }
+
+    /// Counts an open that failed.
+    pub(crate) fn count_open_fault(&mut self)
+        ensures { self.new ≡ with_open_fault self.old }
+    {
+        self.open_fault_count = self.open_fault_count.saturating_add(1);
     }
 
     /// Takes a disk back, as [`Shelf::take_back`] does, and adds its reads to the log.
@@ -303,7 +349,8 @@ mod tests {
         }
         assert!(rt; second.read(1, 0, pages.as_mut_slice()).is_ok());
 
-        // The room of three ends the log within the reads of the first disk, which was taken back last.
+        // The room of three ends the log within the reads of the first disk, which was taken back
+        // last.
         shelf.take_back(second);
         shelf.take_back(first);
         assert_eq!(rt; shelf.read_count, 5);

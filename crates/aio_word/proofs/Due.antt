@@ -20,7 +20,8 @@ due-one s r n lo hi = grind (arith, nat_tests)
 pub due-true : (s r n : ℕ) → 0 < one_if (is_due s r n) → (8 * s ≤ n) × (n < r)
 due-true s r n h = grind (arith, nat_tests)
 
-pub due-more : (s r n : ℕ) → 8 * s ≤ r → one_if (is_due s (r + 1) n) ≡ one_if (is_due s r n) + one_if (r == n)
+pub due-more : (s r n : ℕ) → 8 * s ≤ r
+    → one_if (is_due s (r + 1) n) ≡ one_if (is_due s r n) + one_if (r == n)
 due-more s r n h = grind (arith, nat_tests)
 
 pub not-due : (s r n : ℕ) → r ≤ n → one_if (is_due s r n) ≡ 0

@@ -1,5 +1,6 @@
 -- What the lists say of the lives of a handle, in plain words.
-use Rattle.std.proofs.Common.{◌≡◌, ℕ, ◌+◌, ◌*◌, ◌<◌, ◌≤◌, ◌↔◌, List, get_or, ◌∙◌, subst, arith, Some, slice_get}
+use Rattle.std.proofs.Common.{◌≡◌, ℕ, ◌+◌, ◌*◌, ◌<◌, ◌≤◌, ◌↔◌, List, get_or, ◌∙◌, subst, arith}
+use Rattle.std.proofs.Common.{Some, slice_get}
 use Rattle.std.proofs.lemmas.Option.{slice_get-get_or}
 use mathlib.Core.Logic.{dite}
 use native.Mathlib.Decide.{dec_le}
@@ -21,10 +22,13 @@ use Rattle.aio_word.proofs.Plain.{ranked-handle}
 use Rattle.aio_word.proofs.Reaching.{done-shared}
 use Rattle.aio_word.proofs.Due.{one-if-le, due-one, due-true}
 
-due-earlier : (s r g i j : ℕ) → i ≤ j → j < 8 → one_if (is_due s r (8 * g + j)) ≤ one_if (is_due s r (8 * g + i))
-due-earlier s r g i j le small = dite (dec_le (one_if (is_due s r (8 * g + j))) 0) (λ none. omega arith)
+due-earlier : (s r g i j : ℕ) → i ≤ j → j < 8
+    → one_if (is_due s r (8 * g + j)) ≤ one_if (is_due s r (8 * g + i))
+due-earlier s r g i j le small =
+    dite (dec_le (one_if (is_due s r (8 * g + j))) 0) (λ none. omega arith)
     (λ some. let d = due-true s r (8 * g + j) (omega arith) in let lo = d.0 in let hi = d.1 in
-    let one = due-one s r (8 * g + i) (omega arith) (omega arith) in let le' = one-if-le (is_due s r (8 * g + j)) in omega arith)
+    let one = due-one s r (8 * g + i) (omega arith) (omega arith) in
+    let le' = one-if-le (is_due s r (8 * g + j)) in omega arith)
 
 module _ (c : Config) (words : List Word) (parts : List Known) (s : Stands c words parts) where
   at-handle : (h : ℕ) (w : Word) → slice_get words h ≡ Some w → HandleRanked c parts h w
@@ -35,39 +39,52 @@ module _ (c : Config) (words : List Word) (parts : List Known) (s : Stands c wor
   in-range h n more =
       let p = counting (λ (q : Known). times h n q.marks) parts more in
       let m = counting (λ (x : Mark). one_if (is_mark h n x)) p.it.marks p.more in
-      subst (λ (z : ℕ). z < handles c) (is-that h n m.it m.more).0 ((s.each_list p.it p.within).in_range m.it m.within)
+      subst (λ (z : ℕ). z < handles c) (is-that h n m.it m.more).0
+      ((s.each_list p.it p.within).in_range m.it m.within)
 
   -- where a mark stands its handle has a word
   word-of : (h n : ℕ) → 0 < total h n parts → (w : Word) × (slice_get words h ≡ Some w)
-  word-of h n more = let lt = in-range h n more in let wide = s.wide in (get_or words h (first_word c), slice_get-get_or words h (first_word c) (omega arith))
+  word-of h n more = let lt = in-range h n more in let wide = s.wide in
+      (get_or words h (first_word c), slice_get-get_or words h (first_word c) (omega arith))
 
   pub mark-once : (t : WaitRef) (k : Kind) → stands t k parts ≤ 1
-  mark-once t k = let n : ℕ = 8 * t.generation + order k in dite (dec_le (total t.handle n parts) 0) (λ none. omega arith)
+  mark-once t k = let n : ℕ = 8 * t.generation + order k in
+      dite (dec_le (total t.handle n parts) 0) (λ none. omega arith)
       (λ some. let (w, e) = word-of t.handle n (omega arith) in
-      let all = (at-handle t.handle w e).counted n in let one = one-if-le (is_due c.start (rank_of w) n) in omega arith)
+      let all = (at-handle t.handle w e).counted n in
+      let one = one-if-le (is_due c.start (rank_of w) n) in omega arith)
 
-  pub earlier-stands : (t : WaitRef) (earlier later : Kind) → order earlier ≤ order later → stands t later parts ≤ stands t earlier parts
-  earlier-stands t i j le = let n : ℕ = 8 * t.generation + order j in dite (dec_le (total t.handle n parts) 0) (λ none. omega arith)
+  pub earlier-stands : (t : WaitRef) (earlier later : Kind) → order earlier ≤ order later
+      → stands t later parts ≤ stands t earlier parts
+  earlier-stands t i j le = let n : ℕ = 8 * t.generation + order j in
+      dite (dec_le (total t.handle n parts) 0) (λ none. omega arith)
       (λ some. let (w, e) = word-of t.handle n (omega arith) in
-      let later = (at-handle t.handle w e).counted n in let earlier = (at-handle t.handle w e).counted (8 * t.generation + order i) in
-      let less = due-earlier c.start (rank_of w) t.generation (order i) (order j) le (order-small j) in omega arith)
+      let later = (at-handle t.handle w e).counted n in
+      let earlier = (at-handle t.handle w e).counted (8 * t.generation + order i) in
+      let less = due-earlier c.start (rank_of w) t.generation (order i) (order j) le
+      (order-small j) in omega arith)
 
-  pub taken-after-shared : (t : WaitRef) → 0 < stands t a_local parts → (stands t kind.Shared parts ≡ 1) × (stands t a_local parts ≡ 1)
+  pub taken-after-shared : (t : WaitRef) → 0 < stands t a_local parts
+      → (stands t kind.Shared parts ≡ 1) × (stands t a_local parts ≡ 1)
   taken-after-shared t more =
       let shared = earlier-stands t kind.Shared a_local (omega arith) in
       let a = mark-once t kind.Shared in let b = mark-once t a_local in (omega arith, omega arith)
 
-  pub reclaimed-first : (h g next : ℕ) (k : Kind) → c.start ≤ g → g < next → 0 < stands (ref h next) k parts → stands (ref h g) kind.Reclaimed parts ≡ 1
+  pub reclaimed-first : (h g next : ℕ) (k : Kind) → c.start ≤ g → g < next
+      → 0 < stands (ref h next) k parts → stands (ref h g) kind.Reclaimed parts ≡ 1
   reclaimed-first h g next k lo lt more =
       let n : ℕ = 8 * next + order k in
       let (w, e) = word-of h n more in
       let all = (at-handle h w e).counted n in
       let due = due-true c.start (rank_of w) n (omega arith) in let hi = due.1 in
-      (at-handle h w e).counted (8 * g + 7) ∙ due-one c.start (rank_of w) (8 * g + 7) (omega arith) (omega arith)
+      (at-handle h w e).counted (8 * g + 7)
+      ∙ due-one c.start (rank_of w) (8 * g + 7) (omega arith) (omega arith)
 
-  pub done-exactly : (h g : ℕ) (w : Word) → slice_get words h ≡ Some w → c.start ≤ g → IsDone w g ↔ (stands (ref h g) kind.Shared parts ≡ 1)
+  pub done-exactly : (h g : ℕ) (w : Word) → slice_get words h ≡ Some w → c.start ≤ g
+      → IsDone w g ↔ (stands (ref h g) kind.Shared parts ≡ 1)
   done-exactly h g w e lo = (
     done-shared c parts h w g (s.each_handle h w (get-at words h w e)) lo,
     λ one. let all = (at-handle h w e).counted (8 * g + 5) in
-        let due = due-true c.start (rank_of w) (8 * g + 5) (omega arith) in let hi = due.1 in done-by-rank w g (omega arith),
+        let due = due-true c.start (rank_of w) (8 * g + 5) (omega arith) in let hi = due.1 in
+        done-by-rank w g (omega arith),
   )

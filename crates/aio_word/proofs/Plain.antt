@@ -1,5 +1,6 @@
 -- The plain form of what the lists say of the words, and the form by ranks, say the same.
-use Rattle.std.proofs.Common.{◌≡◌, ℕ, zero, suc, ◌+◌, ◌*◌, ◌/◌, ◌%◌, ◌<◌, ◌≤◌, ◌⊎◌, ◌==◌, cond, List, refl, sym, ◌∙◌, subst, inl, inr, ⊎_elim, arith, nat_lt}
+use Rattle.std.proofs.Common.{◌≡◌, ℕ, zero, suc, ◌+◌, ◌*◌, ◌/◌, ◌%◌, ◌<◌, ◌≤◌, ◌⊎◌, ◌==◌, cond}
+use Rattle.std.proofs.Common.{List, refl, sym, ◌∙◌, subst, inl, inr, ⊎_elim, arith, nat_lt}
 use Rattle.std.proofs.lemmas.Bool.Decides.{nat_tests}
 use mathlib.Core.Logic.{dite}
 use native.Mathlib.Decide.{ℕ_discrete, dec_le}
@@ -17,7 +18,11 @@ use Rattle.aio_word.proofs.Steps.{place-small}
 use Rattle.aio_word.proofs.Owners.{order-small}
 
 abbrev pub kind_at : ℕ → Kind
-kind_at n = cond (n == 0) kind.Defined (cond (n == 1) kind.Staged (cond (n == 2) kind.Submitted (cond (n == 3) kind.Claimed (cond (n == 4) an_io (cond (n == 5) kind.Shared (cond (n == 6) a_local kind.Reclaimed))))))
+kind_at n = cond (n == 0) kind.Defined
+    (cond (n == 1) kind.Staged
+    (cond (n == 2) kind.Submitted
+    (cond (n == 3) kind.Claimed
+    (cond (n == 4) an_io (cond (n == 5) kind.Shared (cond (n == 6) a_local kind.Reclaimed))))))
 
 order-at : (n : ℕ) → n < 8 → order (kind_at n) ≡ n
 order-at zero h = refl
@@ -34,67 +39,115 @@ due-over : (s g G p o : ℕ) → s ≤ g → g < G → o < 8 → one_if (is_due 
 due-over s g G p o a b d = grind (arith, nat_tests)
 
 due-now : (s G p o : ℕ) → s ≤ G → one_if (is_due s (8 * G + p) (8 * G + o)) ≡ one_if (nat_lt o p)
-due-now s G p o a = dite (dec_le p o) (λ x. grind (arith, nat_tests)) (λ x. grind (arith, nat_tests))
+due-now s G p o a = dite (dec_le p o) (λ x. grind (arith, nat_tests))
+    (λ x. grind (arith, nat_tests))
 
-due-none : (s g G p o : ℕ) → (g < s) ⊎ (G < g) → o < 8 → p < 8 → one_if (is_due s (8 * G + p) (8 * g + o)) ≡ 0
+due-none : (s g G p o : ℕ) → (g < s) ⊎ (G < g) → o < 8 → p < 8
+    → one_if (is_due s (8 * G + p) (8 * g + o)) ≡ 0
 due-none s g G p o h a b = ⊎_elim (λ x. grind (arith, nat_tests)) (λ x. grind (arith, nat_tests)) h
 
 -- the rank orders the pairs of generation and place, the generation first
 pair-of : (n G p : ℕ) → p < 8 → n ≤ 8 * G + p → IsNotAbove (n / 8) (n % 8) G p
-pair-of n G p small le = dite (dec_le G (n / 8)) (λ above. inr (omega arith, omega arith)) (λ below. inl (omega arith))
+pair-of n G p small le =
+    dite (dec_le G (n / 8)) (λ above. inr (omega arith, omega arith)) (λ below. inl (omega arith))
 
 rank-of : (n G p : ℕ) → IsNotAbove (n / 8) (n % 8) G p → n ≤ 8 * G + p
 rank-of n G p h = ⊎_elim (λ lt. omega arith) (λ (same, le). omega arith) h
 
 -- a mark, by its parts
-that-mark : (m : Mark) (h g : ℕ) (k : Kind) → m.handle ≡ h → m.generation ≡ g → m.kind ≡ k → m ≡ mark_at (ref h g) k
+that-mark : (m : Mark) (h g : ℕ) (k : Kind) → m.handle ≡ h → m.generation ≡ g → m.kind ≡ k
+    → m ≡ mark_at (ref h g) k
 that-mark m h g k eh eg ek = λ i. mark_at (ref (eh i) (eg i)) (ek i)
 
-pub plain-handle : (c : Config) (parts : List Known) (h : ℕ) (w : Word) → HandleRanked c parts h w → HandleStands c parts h w
+pub plain-handle : (c : Config) (parts : List Known) (h : ℕ) (w : Word) → HandleRanked c parts h w
+    → HandleStands c parts h w
 plain-handle c parts h w s = record {
   lawful = s.lawful;
   begun = s.begun;
   last = s.last;
-  over = λ g lo hi k. s.counted (8 * g + order k) ∙ due-over c.start g w.generation (place_of w) (order k) lo hi (order-small k);
-  now = λ k. s.counted (8 * w.generation + order k) ∙ due-now c.start w.generation (place_of w) (order k) s.begun;
-  none = λ g o k. s.counted (8 * g + order k) ∙ due-none c.start g w.generation (place_of w) (order k) o (order-small k) (place-small w.state w.claimed);
+  over = λ g lo hi k. s.counted (8 * g + order k)
+      ∙ due-over c.start g w.generation (place_of w) (order k) lo hi (order-small k);
+  now = λ k. s.counted (8 * w.generation + order k)
+      ∙ due-now c.start w.generation (place_of w) (order k) s.begun;
+  none = λ g o k. s.counted (8 * g + order k)
+      ∙ due-none c.start g w.generation (place_of w) (order k) o (order-small k)
+      (place-small w.state w.claimed);
   claimed = s.claimed;
-  classed = λ p i class j. s.classed p i (mark_at (ref h w.generation) (kind.Io class)) class j refl refl refl;
-  agreed = λ p q i j g ended taken m n. s.agreed p q i j (mark_at (ref h g) (kind.Io ended)) (mark_at (ref h g) (kind.Local taken)) ended taken m n refl refl refl refl refl;
-  seen = λ p i. pair-of (seen_of p h) w.generation (place_of w) (place-small w.state w.claimed) (s.seen p i);
+  classed = λ p i class j. s.classed p i
+      (mark_at (ref h w.generation) (kind.Io class)) class j refl refl refl;
+  agreed = λ p q i j g ended taken m n. s.agreed p q i j (mark_at (ref h g) (kind.Io ended))
+      (mark_at (ref h g) (kind.Local taken)) ended taken m n refl refl refl refl refl;
+  seen = λ p i. pair-of (seen_of p h) w.generation (place_of w) (place-small w.state w.claimed)
+      (s.seen p i);
 }
 
 -- the count at one rank
-ranked-at : (c : Config) (parts : List Known) (h : ℕ) (w : Word) → HandleStands c parts h w → (g i : ℕ) → i < 8 → total h (8 * g + i) parts ≡ one_if (is_due c.start (rank_of w) (8 * g + i))
+ranked-at : (c : Config) (parts : List Known) (h : ℕ) (w : Word) → HandleStands c parts h w
+    → (g i : ℕ) → i < 8 → total h (8 * g + i) parts ≡ one_if
+    (is_due c.start (rank_of w) (8 * g + i))
 ranked-at c parts h w s g i lt =
     let k : Kind = kind_at i in
     let e : order k ≡ i = order-at i lt in
-    let goal : total h (8 * g + order k) parts ≡ one_if (is_due c.start (rank_of w) (8 * g + order k)) = dite (dec_le c.start g)
+    let goal : total h (8 * g + order k) parts ≡ one_if
+    (is_due c.start (rank_of w) (8 * g + order k)) = dite (dec_le c.start g)
     (λ lo. dite (dec_le w.generation g)
     (λ hi. dite (ℕ_discrete w.generation g)
-    (λ same. subst (λ (z : ℕ). total h (8 * z + order k) parts ≡ one_if (is_due c.start (rank_of w) (8 * z + order k))) same (s.now k ∙ sym (due-now c.start w.generation (place_of w) (order k) s.begun)))
-    (λ ne. s.none g (inr (omega arith)) k ∙ sym (due-none c.start g w.generation (place_of w) (order k) (inr (omega arith)) (order-small k) (place-small w.state w.claimed))))
-    (λ n. s.over g lo (omega arith) k ∙ sym (due-over c.start g w.generation (place_of w) (order k) lo (omega arith) (order-small k))))
-    (λ n. s.none g (inl (omega arith)) k ∙ sym (due-none c.start g w.generation (place_of w) (order k) (inl (omega arith)) (order-small k) (place-small w.state w.claimed))) in
-    subst (λ (z : ℕ). total h (8 * g + z) parts ≡ one_if (is_due c.start (rank_of w) (8 * g + z))) e goal
+    (λ same. subst (λ (z : ℕ). total h (8 * z + order k) parts ≡ one_if
+    (is_due c.start (rank_of w) (8 * z + order k))) same (s.now k
+    ∙ sym (due-now c.start w.generation (place_of w) (order k) s.begun)))
+    (λ ne. s.none g (inr (omega arith)) k
+    ∙ sym (due-none c.start g w.generation (place_of w) (order k) (inr (omega arith))
+    (order-small k) (place-small w.state w.claimed))))
+    (λ n. s.over g lo (omega arith) k
+    ∙ sym (due-over c.start g w.generation (place_of w) (order k) lo (omega arith)
+    (order-small k))))
+    (λ n. s.none g (inl (omega arith)) k
+    ∙ sym (due-none c.start g w.generation (place_of w) (order k) (inl (omega arith))
+    (order-small k) (place-small w.state w.claimed))) in
+    subst (λ (z : ℕ). total h (8 * g + z) parts ≡ one_if (is_due c.start (rank_of w) (8 * g + z))) e
+    goal
 
-pub ranked-handle : (c : Config) (parts : List Known) (h : ℕ) (w : Word) → HandleStands c parts h w → HandleRanked c parts h w
+pub ranked-handle : (c : Config) (parts : List Known) (h : ℕ) (w : Word) → HandleStands c parts h w
+    → HandleRanked c parts h w
 ranked-handle c parts h w s = record {
   lawful = s.lawful;
   begun = s.begun;
   last = s.last;
   counted = λ n. let e : 8 * (n / 8) + n % 8 ≡ n = omega arith in
-      subst (λ (z : ℕ). total h z parts ≡ one_if (is_due c.start (rank_of w) z)) e (ranked-at c parts h w s (n / 8) (n % 8) (omega arith));
+      subst (λ (z : ℕ). total h z parts ≡ one_if (is_due c.start (rank_of w) z)) e
+      (ranked-at c parts h w s (n / 8) (n % 8) (omega arith));
   claimed = s.claimed;
-  classed = λ p i m class j eh eg ek. s.classed p i class (subst (λ (z : Mark). IsIn z p.marks) (that-mark m h w.generation (kind.Io class) eh eg ek) j);
+  classed = λ p i m class j eh eg ek. s.classed p i class
+      (subst (λ (z : Mark). IsIn z p.marks)
+      (that-mark m h w.generation (kind.Io class) eh eg ek) j);
   agreed = λ p q i i' m n one other j j' eh eh' eg ek ek'. s.agreed p q i i' m.generation one other
       (subst (λ (z : Mark). IsIn z p.marks) (that-mark m h m.generation (kind.Io one) eh refl ek) j)
-      (subst (λ (z : Mark). IsIn z q.marks) (that-mark n h m.generation (kind.Local other) eh' (sym eg) ek') j');
+      (subst (λ (z : Mark). IsIn z q.marks)
+      (that-mark n h m.generation (kind.Local other) eh' (sym eg) ek') j');
   seen = λ p i. rank-of (seen_of p h) w.generation (place_of w) (s.seen p i);
 }
 
-pub plain : (c : Config) (ws : List Word) (parts : List Known) → Ranked c ws parts → Stands c ws parts
-plain c ws parts r = record { wide = r.wide; numbered = r.numbered; each_handle = λ h w e. plain-handle c parts h w (r.each_handle h w e); each_list = r.each_list; one_out = r.one_out }
+pub plain : (c : Config) (ws : List Word) (parts : List Known) → Ranked c ws parts
+    → Stands c ws parts
+plain c ws parts r = record {
+  wide = r.wide;
+  numbered = r.numbered;
+  each_handle =
+      λ h w e. plain-handle c parts h w (r.each_handle h w e);
+  each_list = r.each_list;
+  one_out =
+      r.one_out;
+}
 
-pub ranked : (c : Config) (ws : List Word) (parts : List Known) → Stands c ws parts → Ranked c ws parts
-ranked c ws parts r = record { wide = r.wide; numbered = r.numbered; each_handle = λ h w e. ranked-handle c parts h w (r.each_handle h w e); each_list = r.each_list; one_out = r.one_out }
+pub ranked : (c : Config) (ws : List Word) (parts : List Known) → Stands c ws parts
+    → Ranked c ws parts
+ranked c ws parts r =
+    record {
+      wide = r.wide;
+      numbered = r.numbered;
+      each_handle =
+          λ h w e. ranked-handle c parts h w (r.each_handle h w e);
+      each_list = r.each_list;
+      one_out =
+          r.one_out;
+    }

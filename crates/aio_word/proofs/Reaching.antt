@@ -1,5 +1,8 @@
--- The first machine's lists stand for its words, and so do those of each machine that comes from it.
-use Rattle.std.proofs.Common.{◌≡◌, ℕ, zero, suc, ◌+◌, ◌*◌, ◌^◌, ◌<◌, ◌≤◌, ◌==◌, Bool, List, [], ◌∷◌, sum_by, replicate, refl, sym, ap, ◌∙◌, subst, ⊎_elim, arith, nat_lt, le_refl}
+-- The first machine's lists stand for its words, and so do those of each machine that comes from
+-- it.
+use Rattle.std.proofs.Common.{◌≡◌, ℕ, zero, suc, ◌+◌, ◌*◌, ◌^◌, ◌<◌, ◌≤◌, ◌==◌, Bool, List, [], ◌∷◌}
+use Rattle.std.proofs.Common.{sum_by, replicate, refl, sym, ap, ◌∙◌, subst, ⊎_elim, arith, nat_lt}
+use Rattle.std.proofs.Common.{le_refl}
 use Rattle.std.proofs.lemmas.Bool.Decides.{nat_tests}
 use Rattle.std.proofs.lemmas.List.Sums.{sum_by-cons}
 use mathlib.Core.Logic.{dite}
@@ -7,14 +10,17 @@ use mathlib.Core.Option.{some, some-injective, some-ne-none}
 use native.Mathlib.Decide.{ℕ_discrete}
 use lib.ListN.{get_elem?, length-replicate}
 use Rattle.aio_word.specs.declared.Config.{Config}
-use Rattle.aio_word.specs.declared.State.TheVariants.{Idle, HandedOut, Defined, Staged, Submitted, CompletedIo, CompletedShared, CompletedLocal}
+use Rattle.aio_word.specs.declared.State.TheVariants.{Idle, HandedOut, Defined, Staged, Submitted}
+use Rattle.aio_word.specs.declared.State.TheVariants.{CompletedIo, CompletedShared, CompletedLocal}
 use Rattle.aio_word.specs.declared.Kind.TheVariants as kind
 use Rattle.aio_word.specs.declared.Word.{Word}
 use Rattle.aio_word.specs.declared.Known.{Known}
 use Rattle.aio_word.specs.declared.State.{State}
 use Rattle.aio_word.specs.Words.{IsDone, IsEnded, place_in, place_of}
-use Rattle.aio_word.specs.Events.{Machine, Reached, start, next, first_machine, first_word, handles, actors, times, ref}
-use Rattle.aio_word.specs.Stands.{IsIn, one_if, total, stands, seen_of, known_by, numbered_from, HandleStands, ListStands, MachineStands, AtMoment}
+use Rattle.aio_word.specs.Events.{Machine, Reached, start, next, first_machine, first_word, handles}
+use Rattle.aio_word.specs.Events.{actors, times, ref}
+use Rattle.aio_word.specs.Stands.{IsIn, one_if, total, stands, seen_of, known_by, numbered_from}
+use Rattle.aio_word.specs.Stands.{HandleStands, ListStands, MachineStands, AtMoment}
 use Rattle.aio_word.specs.Ranked.{is_due, HandleRanked}
 use Rattle.aio_word.proofs.Plain.{plain}
 use Rattle.aio_word.proofs.Machines.{machine-keeps, get-at}
@@ -36,7 +42,10 @@ record IsNew (c : Config) (a : ℕ) (q : Known) : Type 0 where
 
 new-in : (c : Config) (a k : ℕ) (q : Known) → IsIn q (lists c a k) → IsNew c a q
 new-in c a zero q i = absurd i
-new-in c a (suc k) q i = ⊎_elim (λ e. record { number = a; low = le_refl a; is = e }) (λ t. let r = new-in c (a + 1) k q t in let lo = r.low in record { number = r.number; low = omega arith; is = r.is }) i
+new-in c a (suc k) q i =
+    ⊎_elim (λ e. record { number = a; low = le_refl a; is = e }) (λ t. let r =
+    new-in c (a + 1) k q t in let lo = r.low in
+    record { number = r.number; low = omega arith; is = r.is }) i
 
 none-new : (c : Config) (h n a k : ℕ) → total h n (lists c a k) ≡ 0
 none-new c h n a zero = refl
@@ -44,10 +53,12 @@ none-new c h n a (suc k) =
     let f : Known → ℕ = λ p. times h n p.marks in
     let rest : sum_by f (lists c (a + 1) k) ≡ 0 = none-new c h n (a + 1) k in
     let here : f (known_by c a []) ≡ 0 = refl in
-    let cons : sum_by f (known_by c a [] ∷ lists c (a + 1) k) ≡ f (known_by c a []) + sum_by f (lists c (a + 1) k) = sum_by-cons f (known_by c a []) (lists c (a + 1) k) in
+    let cons : sum_by f (known_by c a [] ∷ lists c (a + 1) k) ≡ f (known_by c a []) + sum_by f
+    (lists c (a + 1) k) = sum_by-cons f (known_by c a []) (lists c (a + 1) k) in
     let goal : sum_by f (known_by c a [] ∷ lists c (a + 1) k) ≡ 0 = omega arith in goal
 
-number-above : (c : Config) (n a k : ℕ) → n < a → sum_by (λ (p : Known). one_if (p.number == n)) (lists c a k) ≡ 0
+number-above : (c : Config) (n a k : ℕ) → n < a
+    → sum_by (λ (p : Known). one_if (p.number == n)) (lists c a k) ≡ 0
 number-above c n a zero lt = refl
 number-above c n a (suc k) lt =
     let f : Known → ℕ = λ p. one_if (p.number == n) in
@@ -55,15 +66,19 @@ number-above c n a (suc k) lt =
     let rest : sum_by f (lists c (a + 1) k) ≡ 0 = number-above c n (a + 1) k (omega arith) in
     let all = sum_by-cons f (known_by c a []) (lists c (a + 1) k) in omega arith
 
-numbered : (c : Config) (n a k : ℕ) → sum_by (λ (p : Known). one_if (p.number == n)) (lists c a k) ≤ 1
+numbered : (c : Config) (n a k : ℕ)
+    → sum_by (λ (p : Known). one_if (p.number == n)) (lists c a k) ≤ 1
 numbered c n a zero = omega arith
 numbered c n a (suc k) =
     let f : Known → ℕ = λ p. one_if (p.number == n) in
-    let all : sum_by f (known_by c a [] ∷ lists c (a + 1) k) ≡ f (known_by c a []) + sum_by f (lists c (a + 1) k) = sum_by-cons f (known_by c a []) (lists c (a + 1) k) in
+    let all : sum_by f (known_by c a [] ∷ lists c (a + 1) k) ≡ f (known_by c a []) + sum_by f
+    (lists c (a + 1) k) = sum_by-cons f (known_by c a []) (lists c (a + 1) k) in
     let le : f (known_by c a []) ≤ 1 = one-if-le (a == n) in
     dite (ℕ_discrete a n)
-    (λ e. let none' : sum_by f (lists c (a + 1) k) ≡ 0 = number-above c n (a + 1) k (omega arith) in omega arith)
-    (λ ne. let no : f (known_by c a []) ≡ 0 = one-if-no a n ne in let rest : sum_by f (lists c (a + 1) k) ≤ 1 = numbered c n (a + 1) k in omega arith)
+    (λ e. let none' : sum_by f (lists c (a + 1) k) ≡ 0 = number-above c n (a + 1) k (omega arith) in
+    omega arith)
+    (λ ne. let no : f (known_by c a []) ≡ 0 = one-if-no a n ne in
+    let rest : sum_by f (lists c (a + 1) k) ≤ 1 = numbered c n (a + 1) k in omega arith)
 
 none-due : (s n : ℕ) → one_if (is_due s (8 * s + 0) n) ≡ 0
 none-due s n = grind (arith, nat_tests)
@@ -76,22 +91,38 @@ first-stands c small =
       begun = le_refl c.start;
       last = λ _. refl;
       counted = λ n. none-new c h n 0 (actors c) ∙ sym (none-due c.start n);
-      claimed = λ p i g. let r = new-in c 0 (actors c) p i in subst (λ (z : Known). (times h (8 * g + 4) z.marks ≤ times h (8 * g + 3) z.marks) × (times h (8 * g + 5) z.marks ≤ times h (8 * g + 3) z.marks)) r.is (le_refl 0, le_refl 0);
-      classed = λ p i m class j _ _ _. let r = new-in c 0 (actors c) p i in absurd (subst (λ (z : Known). IsIn m z.marks) (sym r.is) j);
-      agreed = λ p q i i' m n one other j _ _ _ _ _ _. let r = new-in c 0 (actors c) p i in absurd (subst (λ (z : Known). IsIn m z.marks) (sym r.is) j);
-      seen = λ p i. let r = new-in c 0 (actors c) p i in subst (λ (z : Known). seen_of z h ≤ 8 * c.start + 0) r.is (omega arith);
+      claimed = λ p i g. let r = new-in c 0 (actors c) p i in
+          subst (λ (z : Known). (times h (8 * g + 4) z.marks ≤ times h (8 * g + 3) z.marks)
+          × (times h (8 * g + 5) z.marks ≤ times h (8 * g + 3) z.marks)) r.is
+          (le_refl 0, le_refl 0);
+      classed = λ p i m class j _ _ _. let r = new-in c 0 (actors c) p i in
+          absurd (subst (λ (z : Known). IsIn m z.marks) (sym r.is) j);
+      agreed = λ p q i i' m n one other j _ _ _ _ _ _. let r = new-in c 0 (actors c) p i in
+          absurd (subst (λ (z : Known). IsIn m z.marks) (sym r.is) j);
+      seen = λ p i. let r = new-in c 0 (actors c) p i in
+          subst (λ (z : Known). seen_of z h ≤ 8 * c.start + 0) r.is (omega arith);
     } in record {
       stands = plain c (replicate (handles c) (first_word c)) all record {
         wide = length-replicate (handles c) (first_word c);
         numbered = λ n. numbered c n 0 (actors c);
-        each_handle = λ h w e. subst (λ (z : Word). HandleRanked c all h z) (at-replicate (handles c) h (first_word c) w e) (one h);
-        each_list = λ p i. let r = new-in c 0 (actors c) p i in subst (λ (z : Known). ListStands c z) r.is record { in_range = λ m j. absurd j; owned = λ m j. absurd j; ordered = λ i j d lt below. absurd (omega arith) };
-        one_out = λ h i v w ev ew ov ow _. absurd (let e : first_word c ≡ v = at-replicate (handles c) h (first_word c) v ev in let o : (first_word c).state ≡ HandedOut = ap (λ (z : Word). z.state) e ∙ ov in cc);
+        each_handle = λ h w e. subst (λ (z : Word). HandleRanked c all h z)
+            (at-replicate (handles c) h (first_word c) w e) (one h);
+        each_list = λ p i. let r = new-in c 0 (actors c) p i in
+            subst (λ (z : Known). ListStands c z) r.is record {
+              in_range = λ m j. absurd j;
+              owned =
+                  λ m j. absurd j;
+              ordered = λ i j d lt below. absurd (omega arith);
+            };
+        one_out = λ h i v w ev ew ov ow _. absurd (let e : first_word c ≡ v =
+            at-replicate (handles c) h (first_word c) v ev in
+            let o : (first_word c).state ≡ HandedOut = ap (λ (z : Word). z.state) e ∙ ov in cc);
       };
       all = length-replicate (actors c) [];
     }
 
-pub reached-stands : (c : Config) → c.start < 2 ^ 58 → (m : Machine) → Reached c m → MachineStands c m
+pub reached-stands : (c : Config) → c.start < 2 ^ 58 → (m : Machine) → Reached c m
+    → MachineStands c m
 reached-stands c small _ start = first-stands c small
 reached-stands c small _ (next m e m' r h) = machine-keeps c m e m' (reached-stands c small m r) h
 
@@ -109,12 +140,17 @@ less : (a b : ℕ) → a < b → one_if (nat_lt a b) ≡ 1
 less a b h = grind (arith, nat_tests)
 
 -- where the word of a handle says that an incarnation is done, its Shared mark stands once
-pub done-shared : (c : Config) (parts : List Known) (h : ℕ) (w : Word) (g : ℕ) → HandleStands c parts h w → c.start ≤ g → IsDone w g → stands (ref h g) kind.Shared parts ≡ 1
+pub done-shared : (c : Config) (parts : List Known) (h : ℕ) (w : Word) (g : ℕ)
+    → HandleStands c parts h w → c.start ≤ g → IsDone w g → stands (ref h g) kind.Shared parts ≡ 1
 done-shared c parts h w g s lo done = ⊎_elim
     (λ lt. s.over g lo lt kind.Shared)
-    (λ (same, ended). subst (λ (z : ℕ). stands (ref h z) kind.Shared parts ≡ 1) same (s.now kind.Shared ∙ less 5 (place_of w) (ended-place w.state w.claimed ended)))
+    (λ (same, ended). subst (λ (z : ℕ). stands (ref h z) kind.Shared parts ≡ 1) same
+    (s.now kind.Shared ∙ less 5 (place_of w) (ended-place w.state w.claimed ended)))
     done
 
 -- the same at a moment
-pub shared-stands : (c : Config) (p : Known) (h : ℕ) (w : Word) (g : ℕ) (t : AtMoment c p h w) → c.start ≤ g → IsDone w g → stands (ref h g) kind.Shared t.parts ≡ 1
-shared-stands c p h w g t lo done = done-shared c t.parts h w g (t.stands.each_handle h w (get-at t.machine.words h w t.word)) lo done
+pub shared-stands : (c : Config) (p : Known) (h : ℕ) (w : Word) (g : ℕ) (t : AtMoment c p h w)
+    → c.start ≤ g → IsDone w g → stands (ref h g) kind.Shared t.parts ≡ 1
+shared-stands c p h w g t lo done =
+    done-shared c t.parts h w g
+    (t.stands.each_handle h w (get-at t.machine.words h w t.word)) lo done

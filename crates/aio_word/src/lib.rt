@@ -54,13 +54,13 @@ pub enum State {
 /// How an I/O ended.
 #[derive(Clone, Copy, Debug, PartialEq, Eq)]
 pub enum Class {
-    /// Not at all so far.
+    /// It has not ended.
     Unended,
-    /// Everything was read.
+    /// All that was asked for was read.
     Whole,
-    /// Less was read.
+    /// Less than that was read.
     Short,
-    /// Nothing was read.
+    /// The read failed.
     Failed,
 }
 

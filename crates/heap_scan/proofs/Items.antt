@@ -21,6 +21,8 @@ lines_from-more f k n below =
     let one : n - k ≡ suc (n - (k + 1)) = omega arith in
     ap (λ (more : ℕ). lines_from f k more) one
 
-pub lines_from-all : (f : ℕ → LinePointer) (n : ℕ) → lines_from f 0 (n - 0) ≡ item_lines (map f (range_with_len 0 n))
+pub lines_from-all : (f : ℕ → LinePointer) (n : ℕ)
+    → lines_from f 0 (n - 0) ≡ item_lines (map f (range_with_len 0 n))
 unfolding lines_from item_lines
-lines_from-all f n = let same : n - 0 ≡ n = omega arith in ap (λ (more : ℕ). lines_from f 0 more) same
+lines_from-all f n = let same : n - 0 ≡ n =
+    omega arith in ap (λ (more : ℕ). lines_from f 0 more) same

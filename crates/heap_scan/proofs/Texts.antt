@@ -6,7 +6,8 @@ use Rattle.page_check.specs.Verdict.{verdict_of}
 use Rattle.page_check.specs.LinePointers.{count_of, line_pointers_of}
 use Rattle.heap_scan.specs.PageText.{page_text_of, first_line, new_line, page_line, item_lines}
 
-pub first_line-new : (relation block : ℕ) (page : List ℕ) → verdict_of page ≡ Zero → first_line relation block page ≡ new_line relation block
+pub first_line-new : (relation block : ℕ) (page : List ℕ) → verdict_of page ≡ Zero
+    → first_line relation block page ≡ new_line relation block
 unfolding first_line
 first_line-new relation block page new = rw new refl
 
@@ -15,11 +16,13 @@ pub first_line-used : (relation block : ℕ) (page : List ℕ) → verdict_of pa
 unfolding first_line
 first_line-used relation block page used = rw used refl
 
-pub page_text_of-new : (relation block : ℕ) (page : List ℕ) → verdict_of page ≡ Zero → page_text_of relation block page ≡ new_line relation block
+pub page_text_of-new : (relation block : ℕ) (page : List ℕ) → verdict_of page ≡ Zero
+    → page_text_of relation block page ≡ new_line relation block
 unfolding page_text_of first_line
 page_text_of-new relation block page new = rw new (append-nil (new_line relation block))
 
 pub page_text_of-used : (relation block : ℕ) (page : List ℕ) → verdict_of page ≡ Sane
-    → page_text_of relation block page ≡ page_line relation block (header_of page) (count_of page) ++ item_lines (line_pointers_of page)
+    → page_text_of relation block page ≡ page_line relation block (header_of page) (count_of page)
+    ++ item_lines (line_pointers_of page)
 unfolding page_text_of first_line
 page_text_of-used relation block page used = rw used refl

@@ -57,7 +57,8 @@ other_lines_by Bad page = []
 
 -- the text of a valid page
 unfoldable pub page_text_of : ℕ → ℕ → List ℕ → List ℕ
-page_text_of relation block page = first_line relation block page ++ other_lines_by (verdict_of page) page
+page_text_of relation block page =
+    first_line relation block page ++ other_lines_by (verdict_of page) page
 
 -- how many lines a text has, each of which ends in a newline
 abbrev pub line_count : List ℕ → ℕ
@@ -70,7 +71,8 @@ pub record PrintsSame (page other : List ℕ) : Type 0 where
   pub upper : (header_of other).upper ≡ (header_of page).upper
   pub special : (header_of other).special ≡ (header_of page).special
 
--- the first line tells the place and the header: no other place and no valid page with another header has it
+-- the first line tells the place and the header: no other place and no valid page with another
+-- header has it
 abbrev pub IsTelling : ℕ → ℕ → List ℕ → Type 0
 IsTelling relation block page =
     (r b : ℕ) (other : List ℕ) → r < 2 ^ 32 → b < 2 ^ 32 → IsValid other

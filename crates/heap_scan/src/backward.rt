@@ -54,7 +54,8 @@ pub(crate) fn put_word(buf: &mut [u8], end: usize, kind: Kind) -> usize
     requires room { 10 ≤ end }
     requires within { end ≤ length buf.old }
     ensures start { (result ≤ end) × (end ≤ result + 10) }
-    ensures written { drop result buf.new ≡ codes " " ++ (word_of kind ++ (codes " " ++ drop end buf.old)) }
+    ensures written { drop result buf.new ≡ codes " "
+        ++ (word_of kind ++ (codes " " ++ drop end buf.old)) }
 {
     let (word, len) = padded_word(kind);
     put(buf, end, word);

@@ -3,7 +3,8 @@ ghost use Rattle.std.specs.Prelude.{◌≡◌, ◌++◌, ◌<◌, ◌≤◌, ◌
 ghost use Rattle.page_check.specs.Fields.{header_of};
 ghost use Rattle.page_check.specs.Verdict.{IsValid};
 ghost use Rattle.page_check.specs.LinePointers.{count_of, line_pointers_of};
-ghost use Rattle.heap_scan.specs.PageText.{item_line, item_lines, page_line, new_line, page_text_of};
+ghost use Rattle.heap_scan.specs.PageText.{item_line, item_lines, page_line, new_line};
+ghost use Rattle.heap_scan.specs.PageText.{page_text_of};
 
 use crate::backward::{put, put_number, put_word};
 use page_check::{LinePointer, Page, count, header, line_pointer};

@@ -22,12 +22,14 @@ pub fn page_text(
     out: &mut Vec<u8>,
 ) -> Result<(), AllocError>
     requires { IsValid page.now }
-    ensures ok { OnOk result (out.new.items ≡ out.old.items ++ page_text_of relation block page.now) }
+    ensures ok { OnOk result
+        (out.new.items ≡ out.old.items ++ page_text_of relation block page.now) }
     ensures err { OnErr result (out.new.items ≡ out.old.items) }
 
     // Laws of this text: a new page has one line, any other one for each line pointer besides,
     // and the first line tells the place and the header.
-    ensures new { verdict_of page.now ≡ Zero → line_count (page_text_of relation block page.now) ≡ 1 }
+    ensures new { verdict_of page.now ≡ Zero
+        → line_count (page_text_of relation block page.now) ≡ 1 }
     ensures lines { line_count (page_text_of relation block page.now) ≡ 1 + count_of page.now }
     ensures telling { IsTelling relation block page.now }
 {

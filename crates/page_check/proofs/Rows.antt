@@ -1,8 +1,10 @@
 -- Worked pages: what the definitions say of them.
-use Rattle.std.proofs.Common.{◌≡◌, ℕ, ◌/◌, ◌%◌, List, [], ◌∷◌, ◌++◌, replicate, refl, length, zero, suc, map}
+use Rattle.std.proofs.Common.{◌≡◌, ℕ, ◌/◌, ◌%◌, List, [], ◌∷◌, ◌++◌, replicate, refl, length, zero}
+use Rattle.std.proofs.Common.{suc, map}
 use Rattle.std.specs.List.{range_with_len}
 use Rattle.page_check.specs.Told.{Told, told_in, page_at, block_count, blocks_of}
-use Rattle.page_check.specs.SynchronousAnswer.{Entry, End, Invalid, PastEnd, found_at, read_count, pages_of, ending_of}
+use Rattle.page_check.specs.SynchronousAnswer.{Entry, End, Invalid, PastEnd, found_at, read_count}
+use Rattle.page_check.specs.SynchronousAnswer.{pages_of, ending_of}
 use Rattle.page_check.specs.Fields.{u16_at, u32_at, header_of}
 use Rattle.page_check.specs.declared.verdict.Verdict.TheVariants.{Zero, Sane, Bad}
 use Rattle.page_check.specs.declared.fields.Kind.TheVariants.{Unused, Normal, Redirect, Dead}
@@ -15,7 +17,9 @@ two n = n % 256 ∷ n / 256 ∷ []
 -- a header with these fields, and what stands behind it
 abbrev page_with : ℕ → ℕ → ℕ → ℕ → List ℕ → List ℕ
 page_with flags lower upper special rest =
-    replicate 10 0 ++ (two flags ++ (two lower ++ (two upper ++ (two special ++ (two 8196 ++ (replicate 4 0 ++ rest))))))
+    replicate 10 0
+    ++ (two flags
+    ++ (two lower ++ (two upper ++ (two special ++ (two 8196 ++ (replicate 4 0 ++ rest))))))
 
 empty : verdict_of (page_with 0 24 8192 8192 (replicate 8168 0)) ≡ Sane
 unfolding verdict_of header_of u16_at u32_at
@@ -33,27 +37,33 @@ one_byte : verdict_of (replicate 8000 0 ++ (1 ∷ replicate 191 0)) ≡ Bad
 unfolding verdict_of header_of u16_at u32_at
 one_byte = refl
 
-normal : line_pointers_of (page_with 0 28 8152 8192 (216 ∷ 159 ∷ 80 ∷ 0 ∷ replicate 8164 0)) ≡ (record { offset = 8152; kind = Normal; length = 40 } ∷ [])
+normal : line_pointers_of (page_with 0 28 8152 8192 (216 ∷ 159 ∷ 80 ∷ 0 ∷ replicate 8164 0))
+    ≡ (record { offset = 8152; kind = Normal; length = 40 } ∷ [])
 unfolding line_pointers_of line_pointer_of count_of header_of u16_at u32_at
 normal = refl
 
-redirect : line_pointers_of (page_with 0 28 8152 8192 (5 ∷ 0 ∷ 1 ∷ 0 ∷ replicate 8164 0)) ≡ (record { offset = 5; kind = Redirect; length = 0 } ∷ [])
+redirect : line_pointers_of (page_with 0 28 8152 8192 (5 ∷ 0 ∷ 1 ∷ 0 ∷ replicate 8164 0))
+    ≡ (record { offset = 5; kind = Redirect; length = 0 } ∷ [])
 unfolding line_pointers_of line_pointer_of count_of header_of u16_at u32_at
 redirect = refl
 
-dead : line_pointers_of (page_with 0 28 8152 8192 (0 ∷ 128 ∷ 1 ∷ 0 ∷ replicate 8164 0)) ≡ (record { offset = 0; kind = Dead; length = 0 } ∷ [])
+dead : line_pointers_of (page_with 0 28 8152 8192 (0 ∷ 128 ∷ 1 ∷ 0 ∷ replicate 8164 0))
+    ≡ (record { offset = 0; kind = Dead; length = 0 } ∷ [])
 unfolding line_pointers_of line_pointer_of count_of header_of u16_at u32_at
 dead = refl
 
-flag : (verdict_of (page_with 8 24 8192 8192 (replicate 8168 0)) ≡ Bad) × (verdict_of (page_with 7 24 8192 8192 (replicate 8168 0)) ≡ Sane)
+flag : (verdict_of (page_with 8 24 8192 8192 (replicate 8168 0)) ≡ Bad)
+    × (verdict_of (page_with 7 24 8192 8192 (replicate 8168 0)) ≡ Sane)
 unfolding verdict_of header_of u16_at u32_at
 flag = (refl, refl)
 
-special : (verdict_of (page_with 0 24 8184 8188 (replicate 8168 0)) ≡ Bad) × (verdict_of (page_with 0 24 8184 8184 (replicate 8168 0)) ≡ Sane)
+special : (verdict_of (page_with 0 24 8184 8188 (replicate 8168 0)) ≡ Bad)
+    × (verdict_of (page_with 0 24 8184 8184 (replicate 8168 0)) ≡ Sane)
 unfolding verdict_of header_of u16_at u32_at
 special = (refl, refl)
 
-thirty : line_pointers_of (page_with 0 30 8192 8192 (replicate 8168 0)) ≡ (record { offset = 0; kind = Unused; length = 0 } ∷ [])
+thirty : line_pointers_of (page_with 0 30 8192 8192 (replicate 8168 0))
+    ≡ (record { offset = 0; kind = Unused; length = 0 } ∷ [])
 unfolding line_pointers_of line_pointer_of count_of header_of u16_at u32_at
 thirty = refl
 
@@ -72,13 +82,15 @@ pages zero rest = rest
 pages (suc n) rest = E ++ pages n rest
 
 abbrev blocks : ℕ → ℕ → List (Entry (Unit {0}))
-blocks first n = map (λ b. record { relation = 0; block = b; per_buffer_data = tt }) (range_with_len first n)
+blocks first n =
+    map (λ b. record { relation = 0; block = b; per_buffer_data = tt }) (range_with_len first n)
 
 -- 14 pages with a bad one at block 12, blocks 10 to 13: two pages, then the bad one
 abbrev bad_at_12 : Told
 bad_at_12 = told_in (pages 12 (flagged ++ pages 1 []) ∷ [])
 
-two_before_the_bad : (length (pages_of bad_at_12 (blocks 10 4)) ≡ 2) × (ending_of bad_at_12 (blocks 10 4) ≡ Invalid 12)
+two_before_the_bad : (length (pages_of bad_at_12 (blocks 10 4)) ≡ 2)
+    × (ending_of bad_at_12 (blocks 10 4) ≡ Invalid 12)
 unfolding read_count found_at page_at block_count verdict_of header_of u16_at u32_at
 two_before_the_bad = (refl, refl)
 
@@ -86,12 +98,15 @@ two_before_the_bad = (refl, refl)
 abbrev four : Told
 four = told_in (pages 4 [] ∷ [])
 
-one_before_the_end : (pages_of four (blocks 3 2) ≡ (record { entry = record { relation = 0; block = 3; per_buffer_data = tt }; page = E } ∷ []))
+one_before_the_end :
+    (pages_of four (blocks 3 2)
+    ≡ (record { entry = record { relation = 0; block = 3; per_buffer_data = tt }; page = E } ∷ []))
     × (ending_of four (blocks 3 2) ≡ PastEnd 4)
 unfolding read_count found_at page_at block_count verdict_of header_of u16_at u32_at
 one_before_the_end = (refl, refl)
 
 -- 8191 bytes are no block, and an empty list ends at once
-no_block : (blocks_of (told_in (replicate 8191 0 ∷ [])) 0 ≡ 0) × (ending_of {P = Unit {0}} (told_in (replicate 8191 0 ∷ [])) [] ≡ End)
+no_block : (blocks_of (told_in (replicate 8191 0 ∷ [])) 0 ≡ 0)
+    × (ending_of {P = Unit {0}} (told_in (replicate 8191 0 ∷ [])) [] ≡ End)
 unfolding block_count read_count
 no_block = (refl, refl)

@@ -1,5 +1,6 @@
 -- Synchronous reads of a list that begins with entries whose pages were read.
-use Rattle.std.proofs.Common.{◌≡◌, ◌≢◌, ℕ, ◌<◌, ◌≤◌, suc, List, [], ◌∷◌, ◌++◌, map, take, true, false, refl, ap, ◌∙◌, arith}
+use Rattle.std.proofs.Common.{◌≡◌, ◌≢◌, ℕ, ◌<◌, ◌≤◌, suc, List, [], ◌∷◌, ◌++◌, map, take, true}
+use Rattle.std.proofs.Common.{false, refl, ap, ◌∙◌, arith}
 use Rattle.std.specs.Prelude.{Some, None, nat_le, slice_get}
 use Rattle.std.specs.List.{All}
 use Rattle.std.proofs.lemmas.Bool.Decides.{nat_tests}
@@ -7,7 +8,9 @@ use Rattle.page_check.specs.declared.verdict.Verdict.{Verdict}
 use Rattle.page_check.specs.declared.verdict.Verdict.TheVariants.{Zero, Sane, Bad}
 use Rattle.page_check.specs.Verdict.{verdict_of, IsValid}
 use Rattle.page_check.specs.Told.{Told, blocks_of, page_of}
-use Rattle.page_check.specs.SynchronousAnswer.{Entry, Given, Found, Page, Damaged, Absent, found_at, found_by, found_for, is_page, page_in, can_read, given_for, read_count, pages_of, stop_of}
+use Rattle.page_check.specs.SynchronousAnswer.{Entry, Given, Found, Page, Damaged, Absent, found_at}
+use Rattle.page_check.specs.SynchronousAnswer.{found_by, found_for, is_page, page_in, can_read}
+use Rattle.page_check.specs.SynchronousAnswer.{given_for, read_count, pages_of, stop_of}
 
 found_valid : (v : Verdict) (page : List ℕ) → v ≢ Bad → found_by v page ≡ Page page
 found_valid Bad page valid = absurd (valid refl)
@@ -15,32 +18,38 @@ found_valid Zero page valid = refl
 found_valid Sane page valid = refl
 
 -- a valid page of a block that the relation has is found
-pub found_at-page : (told : Told) (relation block : ℕ) → block < blocks_of told relation → IsValid (page_of told relation block)
+pub found_at-page : (told : Told) (relation block : ℕ) → block < blocks_of told relation
+    → IsValid (page_of told relation block)
     → found_at told relation block ≡ Page (page_of told relation block)
 unfolding found_at
 found_at-page told relation block below valid =
     let here : nat_le (blocks_of told relation) block ≡ false = grind (arith, nat_tests) in
-    rw here (found_valid (verdict_of (page_of told relation block)) (page_of told relation block) valid)
+    rw here (found_valid (verdict_of (page_of told relation block))
+    (page_of told relation block) valid)
 
-pub found_at-damaged : (told : Told) (relation block : ℕ) → block < blocks_of told relation → verdict_of (page_of told relation block) ≡ Bad
+pub found_at-damaged : (told : Told) (relation block : ℕ) → block < blocks_of told relation
+    → verdict_of (page_of told relation block) ≡ Bad
     → found_at told relation block ≡ Damaged
 unfolding found_at
 found_at-damaged told relation block below bad =
     let here : nat_le (blocks_of told relation) block ≡ false = grind (arith, nat_tests) in
     rw (here, bad) refl
 
-pub found_at-absent : (told : Told) (relation block : ℕ) → blocks_of told relation ≤ block → found_at told relation block ≡ Absent
+pub found_at-absent : (told : Told) (relation block : ℕ) → blocks_of told relation ≤ block
+    → found_at told relation block ≡ Absent
 unfolding found_at
 found_at-absent told relation block past =
     let here : nat_le (blocks_of told relation) block ≡ true = grind (arith, nat_tests) in
     rw here refl
 
 module _ {P : Type 0} (told : Told) where
-  pub read_count-cons : (e : Entry P) (rest : List (Entry P)) → can_read told e ≡ true → read_count told (e ∷ rest) ≡ suc (read_count told rest)
+  pub read_count-cons : (e : Entry P) (rest : List (Entry P)) → can_read told e ≡ true
+      → read_count told (e ∷ rest) ≡ suc (read_count told rest)
   unfolding read_count
   read_count-cons e rest can = rw can (omega arith)
 
-  pub read_count-stop : (e : Entry P) (rest : List (Entry P)) → can_read told e ≡ false → read_count told (e ∷ rest) ≡ 0
+  pub read_count-stop : (e : Entry P) (rest : List (Entry P)) → can_read told e ≡ false
+      → read_count told (e ∷ rest) ≡ 0
   unfolding read_count
   read_count-stop e rest cannot = rw cannot refl
 
@@ -52,17 +61,21 @@ module _ {P : Type 0} (told : Told) where
   can_read_given g is = ap is_page is
 
   given_again : (g : Given P) → IsRead g → given_for told g.entry ≡ g
-  given_again g is = ap {B = Given P} (λ (f : Found). record { entry = g.entry; page = page_in f }) is
+  given_again g is =
+      ap {B = Given P} (λ (f : Found). record { entry = g.entry; page = page_in f }) is
 
-  pub pages_of-cons : (g : Given P) (rest : List (Entry P)) → IsRead g → pages_of told (g.entry ∷ rest) ≡ g ∷ pages_of told rest
+  pub pages_of-cons : (g : Given P) (rest : List (Entry P)) → IsRead g
+      → pages_of told (g.entry ∷ rest) ≡ g ∷ pages_of told rest
   pages_of-cons g rest is =
       let count = read_count-cons g.entry rest (can_read_given g is) in
       ap (λ (n : ℕ). map (given_for told) (take n (g.entry ∷ rest))) count
       ∙ ap (λ (h : Given P). h ∷ pages_of told rest) (given_again g is)
 
-  pub stop_of-cons : (g : Given P) (rest : List (Entry P)) → IsRead g → stop_of told (g.entry ∷ rest) ≡ stop_of told rest
+  pub stop_of-cons : (g : Given P) (rest : List (Entry P)) → IsRead g
+      → stop_of told (g.entry ∷ rest) ≡ stop_of told rest
   stop_of-cons g rest is =
-      ap (λ (n : ℕ). slice_get (g.entry ∷ rest) n) (read_count-cons g.entry rest (can_read_given g is))
+      ap (λ (n : ℕ). slice_get (g.entry ∷ rest) n)
+      (read_count-cons g.entry rest (can_read_given g is))
 
   -- entries whose pages were read give these pages, whatever is asked for behind them
   pub pages_of-read : (given : List (Given P)) (rest : List (Entry P)) → All IsRead given
@@ -93,10 +106,12 @@ module _ {P : Type 0} (told : Told) where
   stop_of-none = refl
 
   -- nor has one whose first entry gives none
-  pub pages_of-stop : (e : Entry P) (rest : List (Entry P)) → can_read told e ≡ false → pages_of told (e ∷ rest) ≡ []
+  pub pages_of-stop : (e : Entry P) (rest : List (Entry P)) → can_read told e ≡ false
+      → pages_of told (e ∷ rest) ≡ []
   pages_of-stop e rest cannot =
       ap (λ (n : ℕ). map (given_for told) (take n (e ∷ rest))) (read_count-stop e rest cannot)
 
-  pub stop_of-stop : (e : Entry P) (rest : List (Entry P)) → can_read told e ≡ false → stop_of told (e ∷ rest) ≡ Some e
+  pub stop_of-stop : (e : Entry P) (rest : List (Entry P)) → can_read told e ≡ false
+      → stop_of told (e ∷ rest) ≡ Some e
   stop_of-stop e rest cannot =
       ap (λ (n : ℕ). slice_get (e ∷ rest) n) (read_count-stop e rest cannot)

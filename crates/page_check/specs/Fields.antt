@@ -1,4 +1,5 @@
--- The fields of a page's header (`PageHeaderData` of `bufpage.h`): little-endian numbers at fixed offsets.
+-- The fields of a page's header (`PageHeaderData` of `bufpage.h`): little-endian numbers at fixed
+-- offsets.
 use Rattle.std.specs.Prelude.{ℕ, ◌+◌, ◌*◌, ◌^◌, List, slice_index}
 use Rattle.page_check.specs.declared.fields.PageHeader.{PageHeader}
 

@@ -1,4 +1,5 @@
--- The line pointers of a page (`ItemIdData` of `itemid.h`), four bytes each behind the header of 24 bytes.
+-- The line pointers of a page (`ItemIdData` of `itemid.h`), four bytes each behind the header of 24
+-- bytes.
 use Rattle.std.specs.Prelude.{ℕ, zero, suc, ◌+◌, ◌*◌, ◌-◌, ◌/◌, ◌%◌, ◌^◌, List, map}
 use Rattle.std.specs.List.{range_with_len}
 use Rattle.page_check.specs.Fields.{header_of, u32_at}
@@ -6,7 +7,8 @@ use Rattle.page_check.specs.declared.fields.Kind.{Kind}
 use Rattle.page_check.specs.declared.fields.Kind.TheVariants.{Unused, Normal, Redirect, Dead}
 use Rattle.page_check.specs.declared.fields.LinePointer.{LinePointer}
 
--- how many stand below lower (`PageGetMaxOffsetNumber`): none where lower is at most 24, since `-` stops at 0
+-- how many stand below lower (`PageGetMaxOffsetNumber`): none where lower is at most 24, since `-`
+-- stops at 0
 unfoldable pub count_of : List ℕ → ℕ
 count_of page = ((header_of page).lower - 24) / 4
 
@@ -17,7 +19,8 @@ kind_of (suc zero) = Normal
 kind_of (suc (suc zero)) = Redirect
 kind_of (suc (suc (suc n))) = Dead
 
--- the line pointer that is packed in a number: `lp_off` in 15 bits, `lp_flags` in two, `lp_len` in 15
+-- the line pointer that is packed in a number: `lp_off` in 15 bits, `lp_flags` in two, `lp_len` in
+-- 15
 abbrev pub line_pointer_in : ℕ → LinePointer
 line_pointer_in number = record {
   offset = number % 2 ^ 15;

@@ -1,5 +1,6 @@
 -- What one thread's synchronous reads give for a list of blocks.
-use Rattle.std.specs.Prelude.{ℕ, Bool, true, false, nat_le, if◌then◌else◌, List, [], map, take, slice_get}
+use Rattle.std.specs.Prelude.{ℕ, Bool, true, false, nat_le, if◌then◌else◌, List, [], map, take}
+use Rattle.std.specs.Prelude.{slice_get}
 use Rattle.std.specs.Prelude.{Option, Some, None}
 use Rattle.std.specs.List.{prefix_len}
 use Rattle.page_check.specs.declared.verdict.Verdict.{Verdict}
@@ -7,7 +8,8 @@ use Rattle.page_check.specs.declared.verdict.Verdict.TheVariants.{Zero, Sane, Ba
 use Rattle.page_check.specs.Verdict.{verdict_of}
 use Rattle.page_check.specs.Told.{Told, blocks_of, page_of}
 
--- a block that is asked for, with the data that the asker keeps for it (`per_buffer_data` of `read_stream.h`)
+-- a block that is asked for, with the data that the asker keeps for it (`per_buffer_data` of
+-- `read_stream.h`)
 pub record Entry (P : Type 0) : Type 0 where
   pub relation : ℕ
   pub block : ℕ
@@ -25,7 +27,8 @@ pub data Ending : Type 0 where
   PastEnd : (block : ℕ) → Ending
   Unread : (block : ℕ) → Ending
 
--- what one read of one block gives: its page, or that the page is Bad, or that there is no such block
+-- what one read of one block gives: its page, or that the page is Bad, or that there is no such
+-- block
 pub data Found : Type 0 where
   Page : (bytes : List ℕ) → Found
   Damaged : Found

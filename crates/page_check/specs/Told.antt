@@ -1,5 +1,6 @@
 -- The contents of the relations, as the outside tells them.
-use Rattle.std.specs.Prelude.{ℕ, ◌-◌, ◌*◌, ◌/◌, ◌^◌, List, [], length, take, drop, min, slice_index_or}
+use Rattle.std.specs.Prelude.{ℕ, ◌-◌, ◌*◌, ◌/◌, ◌^◌, List, [], length, take, drop, min}
+use Rattle.std.specs.Prelude.{slice_index_or}
 
 -- the bytes of each relation, in their order
 pub record Told : Type 0 where

@@ -1,4 +1,5 @@
--- Whether a page may be used, as `PageIsVerified` of `bufpage.c` says on a server with checksums off.
+-- Whether a page may be used, as `PageIsVerified` of `bufpage.c` says on a server with checksums
+-- off.
 use Rattle.std.specs.Prelude.{◌≢◌, ℕ, ◌%◌, Bool, ◌&&◌, not, ◌==◌, nat_le, List, if◌then◌else◌}
 use Rattle.std.specs.List.{list_all}
 use Rattle.page_check.specs.Fields.{header_of}

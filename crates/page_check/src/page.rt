@@ -27,7 +27,8 @@ impl Model for Page {
 }
 
 impl Page {
-    /// A page of zero bytes. It takes `PAGE_SIZE` bytes of memory; no other call of a page takes any.
+    /// A page of zero bytes. It takes `PAGE_SIZE` bytes of memory; no other call of a page takes
+    /// any.
     pub fn zeroed(alloc: Global) -> Result<Page, AllocError>
         ensures { IfOk result (λ page. page ≡ replicate 8192 0) }
     {
@@ -46,7 +47,8 @@ impl Page {
     /// All its bytes, for writing. Once the borrow ends the page is what was written last: its
     /// caller knows it by `refill_whole`.
     pub fn bytes_mut(&mut self) -> &mut [u8]
-        ensures* writes_back { sem 𝓛 (Lends the_row (Array u8 0) self.entry result (refill 8192 self.old)) }
+        ensures* writes_back { sem 𝓛
+            (Lends the_row (Array u8 0) self.entry result (refill 8192 self.old)) }
         ensures value { result.now ≡ self.old }
         ensures size { length result.now ≡ 8192 }
     {

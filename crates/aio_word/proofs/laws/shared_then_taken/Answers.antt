@@ -2,7 +2,10 @@ use Rattle.aio_word.proofs.Lives.{taken-after-shared, earlier-stands}
 use Rattle.aio_word.proofs.laws.shared_then_taken.Goals as goal
 
 pub returns-clause-once : goal.returns-clause-once
-returns-clause-once c = λ config words parts t s more. taken-after-shared config words parts s t more
+returns-clause-once c =
+    λ config words parts t s more. taken-after-shared config words parts s t more
 
 pub returns-clause-earlier : goal.returns-clause-earlier
-returns-clause-earlier c = λ config words parts t earlier later s le. earlier-stands config words parts s t earlier later le
+returns-clause-earlier c =
+    λ config words parts t earlier later s le. earlier-stands config words parts s t earlier later
+    le

@@ -3,10 +3,18 @@ use Rattle.std.proofs.lemmas.Fmt.{length-decimal-le}
 use Rattle.heap_scan.proofs.backward.put_number.Goals as goal
 
 pub write_digits-requires : goal.write_digits-requires
-write_digits-requires c = (omega (arith, length-decimal-le 10 c.from.result (omega arith) (omega (arith, c.from.ensures)) (omega (arith, c.from.ensures))), c.requires.within)
+write_digits-requires c = (
+  omega (
+    arith,
+    length-decimal-le 10 c.from.result (omega arith) (omega (arith, c.from.ensures))
+        (omega (arith, c.from.ensures)),
+  ),
+  c.requires.within,
+)
 
 pub returns-clause-long : goal.returns-clause-long
 returns-clause-long c = length-decimal-le 10 c.args.number (omega arith) (omega arith) (omega arith)
 
 pub returns-clause-short : goal.returns-clause-short
-returns-clause-short c = λ small. length-decimal-le 5 c.args.number (omega arith) (omega arith) (omega arith)
+returns-clause-short c =
+    λ small. length-decimal-le 5 c.args.number (omega arith) (omega arith) (omega arith)

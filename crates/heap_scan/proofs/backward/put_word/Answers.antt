@@ -1,9 +1,11 @@
-use Rattle.std.proofs.Common.{◌≡◌, ℕ, ◌+◌, ◌-◌, ◌≤◌, ◌∙◌, List, ◌++◌, length, drop, ap, sym, arith, append_assoc}
+use Rattle.std.proofs.Common.{◌≡◌, ℕ, ◌+◌, ◌-◌, ◌≤◌, ◌∙◌, List, ◌++◌, length, drop, ap, sym, arith}
+use Rattle.std.proofs.Common.{append_assoc}
 use Rattle.std.proofs.lemmas.List.{drop-drop, drop-append-le}
 use Rattle.heap_scan.proofs.backward.put_word.Goals as goal
 
 -- what stands from a word on, in ten bytes that end with it
-behind : (start end len : ℕ) (buf bytes rest : List ℕ) → start + length bytes ≡ end → length bytes ≡ 10 → len ≤ 10
+behind : (start end len : ℕ) (buf bytes rest : List ℕ) → start + length bytes ≡ end
+    → length bytes ≡ 10 → len ≤ 10
     → drop start buf ≡ bytes ++ rest → drop (end - len) buf ≡ drop (10 - len) bytes ++ rest
 behind start end len buf bytes rest place ten few e =
     let there : end - len ≡ start + (10 - len) = omega arith in

@@ -9,7 +9,12 @@ loop-left-init c = record {
   few = omega (arith, c.count-left.ensures);
   room = omega (arith, c.count-left.ensures, c.requires.room);
   within = omega arith;
-  written = grind (arith, common_steps, lines_from-none (line_pointer_of c.args.page.now) c.count-left.result (count_of c.args.page.now) (sym c.count-left.ensures));
+  written = grind (
+    arith,
+    common_steps,
+    lines_from-none (line_pointer_of c.args.page.now) c.count-left.result
+        (count_of c.args.page.now) (sym c.count-left.ensures),
+  );
 }
 
 pub loop-left-preserved : goal.loop-left-preserved
@@ -19,11 +24,22 @@ loop-left-preserved c =
       few = omega arith;
       room = omega (arith, c.put_item-at.ensures.start, c.loop-left-test.true);
       within = omega (arith, c.put_item-at.ensures.start);
-      written = grind (arith, common_steps, one, lines_from-more (line_pointer_of c.args.page.now) (c.loop-left.left - 1) (count_of c.args.page.now) (omega (arith, c.loop-left-test.true)));
+      written = grind (
+        arith,
+        common_steps,
+        one,
+        lines_from-more (line_pointer_of c.args.page.now) (c.loop-left.left - 1)
+            (count_of c.args.page.now) (omega (arith, c.loop-left-test.true)),
+      );
     }
 
 pub returns-clause-written : goal.returns-clause-written
 unfolding line_pointers_of
 returns-clause-written c =
     let none : c.loop-left.left ≡ 0 = omega arith in
-    grind (arith, common_steps, none, lines_from-all (line_pointer_of c.args.page.now) (count_of c.args.page.now))
+    grind (
+      arith,
+      common_steps,
+      none,
+      lines_from-all (line_pointer_of c.args.page.now) (count_of c.args.page.now),
+    )

@@ -1,7 +1,9 @@
 use Rattle.std.proofs.Common.{◌≡◌, true, false, sym}
 use Rattle.page_check.specs.Fields.{header_of}
 use Rattle.page_check.specs.Verdict.{is_sane, is_all_zero}
-use Rattle.page_check.proofs.ValidPages.{all_zero, zero_where_all, zero_not_sane, zero_excludes_sane, verdict_of-sane, verdict_of-zero, verdict_of-bad}
+use Rattle.page_check.proofs.ValidPages.{all_zero, zero_where_all, zero_not_sane}
+use Rattle.page_check.proofs.ValidPages.{zero_excludes_sane, verdict_of-sane, verdict_of-zero}
+use Rattle.page_check.proofs.ValidPages.{verdict_of-bad}
 use Rattle.page_check.proofs.verdict.check.Goals as goal
 
 pub returns-then-has_sane_header-clause-verdict : goal.returns-then-has_sane_header-clause-verdict

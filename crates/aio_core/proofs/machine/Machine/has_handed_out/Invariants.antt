@@ -4,4 +4,5 @@ use Rattle.aio_word.specs.declared.Word.{Word}
 use Rattle.aio_core.proofs.machine.Machine.has_handed_out.Given as goal
 
 abbrev pub invariant-loop-handle : goal.invariant-loop-handle
-invariant-loop-handle l = (i : ℕ) (w : Word) → l.first ≤ i → i < l.handle → slice_get l.self.machine.words i ≡ Some w → w.state ≢ HandedOut
+invariant-loop-handle l = (i : ℕ) (w : Word) → l.first ≤ i → i < l.handle
+    → slice_get l.self.machine.words i ≡ Some w → w.state ≢ HandedOut

@@ -15,6 +15,10 @@ loop-i-preserved c =
     record {
       config = did.config ∙ c.loop-i.invariant.config;
       stands = did.stands;
-      made = runs-on c.args.self.now.config c.args.self.now.machine c.loop-i.self.machine c.step.new.self.machine c.args.events.now c.loop-i.i default c.loop-i-test.true c.loop-i.invariant.made
-          (subst (λ (z : Config). stepped z c.loop-i.self.machine (get_or c.args.events.now c.loop-i.i default) ≡ Some c.step.new.self.machine) c.loop-i.invariant.config did.made);
+      made = runs-on c.args.self.now.config c.args.self.now.machine c.loop-i.self.machine
+          c.step.new.self.machine c.args.events.now c.loop-i.i default c.loop-i-test.true
+          c.loop-i.invariant.made
+          (subst (λ (z : Config). stepped z c.loop-i.self.machine
+          (get_or c.args.events.now c.loop-i.i default)
+          ≡ Some c.step.new.self.machine) c.loop-i.invariant.config did.made);
     }

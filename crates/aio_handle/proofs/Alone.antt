@@ -1,0 +1,97 @@
+-- A table of one actor: its list has all marks of an incarnation.
+use Rattle.std.proofs.Common.{◌≡◌, ◌≢◌, ℕ, ◌+◌, ◌*◌, ◌<◌, List, [], ◌∷◌, ◌++◌, length, sum_by, refl, sym, ap, ◌∙◌, subst, inr, ⊎_elim, arith, nat_lt}
+use Rattle.std.proofs.lemmas.Bool.Decides.{nat_tests}
+use Rattle.std.proofs.lemmas.List.Sums.{sum_by-cons}
+use mathlib.Core.Logic.{dite}
+use native.Mathlib.Decide.{ℕ_discrete}
+use Rattle.aio_word.specs.declared.Config.{Config}
+use Rattle.aio_word.specs.declared.Class.{Class}
+use Rattle.aio_word.specs.declared.Kind.{Kind}
+use Rattle.aio_word.specs.declared.Kind.TheVariants as kind
+use Rattle.aio_word.specs.declared.Step.TheVariants as event
+use Rattle.aio_word.specs.declared.Known.{Known}
+use Rattle.aio_word.specs.declared.Mark.{Mark}
+use Rattle.aio_word.specs.Events.{actors, handles, owner, order, rank_of_mark, is_mark, times, at, ref}
+use Rattle.aio_word.proofs.Parts.{in-left}
+use Rattle.aio_word.proofs.Steps.{mark, counted-in}
+use Rattle.aio_word.proofs.Noted.{noted-list}
+use Rattle.aio_word.specs.Stands.{IsIn, one_if, seen_of, AtMoment}
+use Rattle.aio_word.specs.Tokens.{Keeps}
+use Rattle.aio_word.proofs.Machines.{get-at}
+use Rattle.aio_word.proofs.Owners.{order-small, counting, is-that}
+use Rattle.aio_handle.specs.Made.{Made, LivedAlone}
+use Rattle.aio_handle.specs.LifeWords.{completed, taken}
+use Rattle.aio_handle.proofs.Tokening.{counts-apart, keeps-on, stands-new}
+
+sole : (ps : List Known) (p : Known) → length ps ≡ 1 → IsIn p ps → ps ≡ p ∷ []
+sole [] p e i = absurd i
+sole (q ∷ []) p e i = ⊎_elim (λ x. ap (λ (z : Known). z ∷ []) x) (λ x. absurd x) i
+sole (q ∷ r ∷ ps) p e i = absurd (omega arith)
+
+less-six : (o : ℕ) → o ≢ 6 → o < 8 → one_if (nat_lt o 6) ≡ one_if (nat_lt o 7)
+less-six o ne lt = grind (arith, nat_tests)
+
+is-less : (o : ℕ) → o ≡ 6 → one_if (nat_lt o 7) ≡ 1
+is-less o e = grind (arith, nat_tests)
+
+pub one-list : (c : Config) (p : Known) (h : ℕ) (class : Class) (g : ℕ) → AtMoment c p h (completed class g) → actors c ≡ 1 → (k : Kind) → at (ref h g) k p.marks ≡ one_if (nat_lt (order k) 6)
+one-list c p h class g m one k =
+    let s = m.stands.each_handle h (completed class g) (get-at m.machine.words h (completed class g) m.word) in
+    let e : m.parts ≡ p ∷ [] = sole m.parts p (m.all ∙ one) m.here in
+    let f : Known → ℕ = λ q. times h (8 * g + order k) q.marks in
+    let a : sum_by f (p ∷ []) ≡ one_if (nat_lt (order k) 6) = subst (λ (z : List Known). sum_by f z ≡ one_if (nat_lt (order k) 6)) e (s.now k) in
+    let b = sum_by-cons f p [] in
+    let z : sum_by f [] ≡ 0 = refl in
+    let goal : f p ≡ one_if (nat_lt (order k) 6) = omega arith in goal
+
+-- after the owner has taken the result, the seven marks up to Local stand once each in its list, and no other
+pub seven : (c : Config) (p q : Known) (h : ℕ) (class : Class) (g : ℕ) (aim : List ℕ) → Keeps (seen_of p) p.marks → p.config ≡ c → Made event.Local h (completed class g) (taken class g) aim p q → actors c ≡ 1 → (k : Kind) → at (ref h g) k q.marks ≡ one_if (nat_lt (order k) 7)
+seven c p q h class g aim kp cf m one k =
+    let was = one-list c p h class g (subst (λ (z : Config). AtMoment z p h (completed class g)) cf m.moment) one k in
+    dite (ℕ_discrete (order k) 6)
+    (λ e.
+    let st : 0 < times h (8 * g + 6) q.marks = subst (λ (z : Known). 0 < times h (8 * g + 6) z.marks) (sym m.is) (stands-new (seen_of p) h g (kind.Local class) p.marks kp m.before) in
+    let le = (keeps-on event.Local h (completed class g) (taken class g) aim p q m kp).once h (8 * g + 6) in
+    let one' : times h (8 * g + 6) q.marks ≡ 1 = omega arith in
+    subst (λ (z : ℕ). times h (8 * g + z) q.marks ≡ one_if (nat_lt z 7)) (sym e) one')
+    (λ ne. counts-apart event.Local h (completed class g) (taken class g) aim p q m h (8 * g + order k) (inr (λ x. ne (omega arith))) ∙ (was ∙ less-six (order k) ne (order-small k)))
+
+pub is-io : (k : Kind) → order k ≡ 4 → (x : Class) × (k ≡ kind.Io x)
+is-io kind.Defined e = absurd (omega arith)
+is-io kind.Staged e = absurd (omega arith)
+is-io kind.Submitted e = absurd (omega arith)
+is-io kind.Claimed e = absurd (omega arith)
+is-io (kind.Io x) e = (x, refl)
+is-io kind.Shared e = absurd (omega arith)
+is-io (kind.Local x) e = absurd (omega arith)
+is-io kind.Reclaimed e = absurd (omega arith)
+
+pub mark-is : (m : Mark) (h g : ℕ) (k : Kind) → m.handle ≡ h → m.generation ≡ g → m.kind ≡ k → m ≡ mark h g k
+mark-is m h g k eh eg ek = λ i. mark (eh i) (eg i) (ek i)
+
+-- a mark that is counted once stands in the list, with the word's class
+io-stands : (c : Config) (p : Known) (h : ℕ) (class : Class) (g : ℕ) → AtMoment c p h (completed class g) → times h (8 * g + 4) p.marks ≡ 1 → IsIn (mark h g (kind.Io class)) p.marks
+io-stands c p h class g m one =
+    let found = counting (λ x. one_if (is_mark h (8 * g + 4) x)) p.marks (omega arith) in
+    let (eh, er) = is-that h (8 * g + 4) found.it found.more in
+    let small = order-small found.it.kind in
+    let four : order found.it.kind ≡ 4 = omega arith in
+    let same : found.it.generation ≡ g = omega arith in
+    let (x, ek) = is-io found.it.kind four in
+    let s = m.stands.each_handle h (completed class g) (get-at m.machine.words h (completed class g) m.word) in
+    let is : found.it ≡ mark h g (kind.Io x) = mark-is found.it h g (kind.Io x) eh same ek in
+    let here : IsIn (mark h g (kind.Io x)) p.marks = subst (λ (z : Mark). IsIn z p.marks) is found.within in
+    subst (λ (z : Class). IsIn (mark h g (kind.Io z)) p.marks) (s.classed p m.here x here) here
+
+-- after the owner has taken the result in a table of one actor, its list has the whole life up to there
+pub lived : (c : Config) (p q : Known) (h : ℕ) (class : Class) (g : ℕ) (aim : List ℕ) → Keeps (seen_of p) p.marks → p.config ≡ c → h < handles c → Made event.Local h (completed class g) (taken class g) aim p q → actors c ≡ 1 → LivedAlone (ref h g) class q
+lived c p q h class g aim kp cf range m one =
+    let moment : AtMoment c p h (completed class g) = subst (λ (z : Config). AtMoment z p h (completed class g)) cf m.moment in
+    let marks : q.marks ≡ p.marks ++ mark h g (kind.Local class) ∷ [] = ap (λ (z : Known). z.marks) m.is in
+    let under : (x : Mark) → IsIn x p.marks → x.handle ≡ h → rank_of_mark x < 8 * g + 6 = λ x i e.
+    let seen = kp.below h (rank_of_mark x) (subst (λ (k : ℕ). 0 < times k (rank_of_mark x) p.marks) e (counted-in x p.marks i)) in let le = m.before in omega arith in
+    let list = noted-list c h g (kind.Local class) p q (ap (λ (z : Known). z.number) m.is) marks range (λ _. subst (λ (z : Config). p.number ≡ owner z h) cf (m.mine tt)) under (moment.stands.each_list p moment.here) in record {
+      once = seven c p q h class g aim kp cf m one;
+      ordered = list.ordered;
+      executed = subst (λ (z : List Mark). IsIn (mark h g (kind.Io class)) z) (sym marks) (in-left (mark h g (kind.Io class)) p.marks (mark h g (kind.Local class) ∷ []) (io-stands c p h class g moment (one-list c p h class g moment one (kind.Io class))));
+    }

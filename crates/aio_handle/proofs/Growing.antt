@@ -1,0 +1,132 @@
+-- An actor goes on: claims, looks, and what follows on another.
+use Rattle.std.proofs.Common.{◌≡◌, ℕ, List, [], ◌∷◌, ◌++◌, refl, sym, ap, ◌∙◌, subst, arith, append_assoc, append-nil, ◌≢◌, ◌⊎◌, ⊎_elim, ◌==◌, ◌&&◌, Bool, true, false, sum_by, inl, inr, ◌<◌, ◌*◌, ◌+◌}
+use Rattle.std.proofs.lemmas.Bool.Decides.{nat_tests}
+use Rattle.std.proofs.lemmas.List.Sums.{sum_by-cons}
+use mathlib.Core.Logic.{dite}
+use native.Mathlib.Decide.{ℕ_discrete}
+use Rattle.aio_word.specs.declared.Class.{Class}
+use Rattle.aio_word.specs.declared.WaitRef.{WaitRef}
+use Rattle.aio_word.specs.declared.Step.TheVariants as event
+use Rattle.aio_word.specs.declared.Kind.TheVariants as kind
+use Rattle.aio_word.specs.declared.Mark.{Mark}
+use Rattle.aio_word.specs.declared.Look.{Look}
+use Rattle.aio_word.specs.declared.Word.{Word}
+use Rattle.aio_word.specs.declared.Known.{Known}
+use Rattle.aio_word.specs.Words.{packed}
+use Rattle.aio_word.specs.Events.{ref, times, is_mark}
+use Rattle.aio_word.specs.Stands.{IsIn, one_if}
+use Rattle.aio_word.specs.Tokens.{Grows, Took}
+use Rattle.aio_word.proofs.Parts.{in-left}
+use Rattle.aio_word.proofs.Steps.{mark}
+use Rattle.aio_handle.specs.Made.{Made, Looked}
+use Rattle.aio_handle.specs.LifeWords.{unclaimed, claimed, executed, completed}
+use Rattle.aio_handle.specs.Changes.{look}
+use Rattle.aio_handle.proofs.Tokening.{seen-grows, look-grows}
+
+pub claim-grows : (h g : ℕ) (aim : List ℕ) (p q : Known) → Made event.Claim h (unclaimed g) (claimed g) aim p q → Grows p q (mark h g kind.Claimed ∷ [])
+claim-grows h g aim p q m = record {
+  number = ap (λ (z : Known). z.number) m.is;
+  config = ap (λ (z : Known). z.config) m.is;
+  out = ap (λ (z : Known). z.out) m.is;
+  marks = ap (λ (z : Known). z.marks) m.is;
+  seen = seen-grows event.Claim h (unclaimed g) (claimed g) aim p q m;
+  aims = λ e i. subst (λ (z : Known). IsIn e z.aims) (sym m.is) (in-left e p.aims ((ref h g, aim) ∷ []) i);
+  looks = (look h (packed (unclaimed g)) ∷ [], ap (λ (z : Known). z.looks) m.is);
+}
+
+pub look-on : (h : ℕ) (w : Word) (p q : Known) → Looked h w p q → Grows p q []
+look-on h w p q m = record {
+  number = ap (λ (z : Known). z.number) m.is;
+  config = ap (λ (z : Known). z.config) m.is;
+  out = ap (λ (z : Known). z.out) m.is;
+  marks = ap (λ (z : Known). z.marks) m.is ∙ sym (append-nil p.marks);
+  seen = look-grows h w p q m;
+  aims = λ e i. subst (λ (z : Known). IsIn e z.aims) (sym m.is) i;
+  looks = (look h (packed w) ∷ [], ap (λ (z : Known). z.looks) m.is);
+}
+
+pub grows-then : (p q r : Known) (xs ys : List Mark) → Grows p q xs → Grows q r ys → Grows p r (xs ++ ys)
+grows-then p q r xs ys a b = record {
+  number = b.number ∙ a.number;
+  config = b.config ∙ a.config;
+  out = b.out ∙ a.out;
+  marks = b.marks ∙ (ap (λ (z : List Mark). z ++ ys) a.marks ∙ append_assoc p.marks xs ys);
+  seen = λ h. let x = a.seen h in let y = b.seen h in omega arith;
+  aims = λ e i. b.aims e (a.aims e i);
+  looks = (a.looks.0 ++ b.looks.0, b.looks.1 ∙ (ap (λ (z : List Look). z ++ b.looks.0) a.looks.1 ∙ append_assoc p.looks a.looks.0 b.looks.0));
+}
+
+pub took-nothing : Took []
+took-nothing = record { owners = λ t. refl; io = λ t. refl; shared = λ t. refl; all = refl }
+
+pub io-grows : (class : Class) (h g : ℕ) (p q : Known) → Made (event.Io class) h (claimed g) (executed class g) [] p q → Grows p q (mark h g (kind.Io class) ∷ [])
+io-grows class h g p q m = record {
+  number = ap (λ (z : Known). z.number) m.is;
+  config = ap (λ (z : Known). z.config) m.is;
+  out = ap (λ (z : Known). z.out) m.is;
+  marks = ap (λ (z : Known). z.marks) m.is;
+  seen = seen-grows (event.Io class) h (claimed g) (executed class g) [] p q m;
+  aims = λ e i. subst (λ (z : Known). IsIn e z.aims) (sym m.is) i;
+  looks = (look h (packed (claimed g)) ∷ [], ap (λ (z : Known). z.looks) m.is);
+}
+
+pub share-grows : (class : Class) (h g : ℕ) (p q : Known) → Made event.Shared h (executed class g) (completed class g) [] p q → Grows p q (mark h g kind.Shared ∷ [])
+share-grows class h g p q m = record {
+  number = ap (λ (z : Known). z.number) m.is;
+  config = ap (λ (z : Known). z.config) m.is;
+  out = ap (λ (z : Known). z.out) m.is;
+  marks = ap (λ (z : Known). z.marks) m.is;
+  seen = seen-grows event.Shared h (executed class g) (completed class g) [] p q m;
+  aims = λ e i. subst (λ (z : Known). IsIn e z.aims) (sym m.is) i;
+  looks = (look h (packed (executed class g)) ∷ [], ap (λ (z : Known). z.looks) m.is);
+}
+
+other-place : (b : Bool) (g r o i : ℕ) → o ≢ i → o < 8 → i < 8 → one_if (b && (8 * g + o == 8 * r + i)) ≡ 0
+other-place true g r o i ne a b = let m : (8 * g + o) ≢ (8 * r + i) = λ e. ne (omega arith) in grind (arith, nat_tests)
+other-place false g r o i ne a b = refl
+
+pub same-place : (b : Bool) (g r o i : ℕ) → one_if (b && (8 * g + o == 8 * r + o)) ≡ one_if (b && (8 * g + i == 8 * r + i))
+same-place true g r o i = dite (ℕ_discrete g r) (λ e. grind (arith, nat_tests)) (λ n. grind (arith, nat_tests))
+same-place false g r o i = refl
+
+abbrev one-life : Class → ℕ → ℕ → List Mark
+one-life class h g = mark h g kind.Claimed ∷ mark h g (kind.Io class) ∷ mark h g kind.Shared ∷ []
+
+times-life : (class : Class) (h g i n : ℕ) → times i n (one-life class h g) ≡ one_if ((h == i) && (8 * g + 3 == n)) + (one_if ((h == i) && (8 * g + 4 == n)) + (one_if ((h == i) && (8 * g + 5 == n)) + 0))
+times-life class h g i n =
+    let f : Mark → ℕ = λ x. one_if (is_mark i n x) in
+    let a = sum_by-cons f (mark h g kind.Claimed) (mark h g (kind.Io class) ∷ mark h g kind.Shared ∷ []) in
+    let b = sum_by-cons f (mark h g (kind.Io class)) (mark h g kind.Shared ∷ []) in
+    let d = sum_by-cons f (mark h g kind.Shared) [] in
+    let z : sum_by f [] ≡ 0 = refl in
+    let goal : sum_by f (one-life class h g) ≡ f (mark h g kind.Claimed) + (f (mark h g (kind.Io class)) + (f (mark h g kind.Shared) + 0)) = omega arith in goal
+
+-- a claim, its Io mark and its Shared mark
+pub took-one : (class : Class) (h g : ℕ) → Took (one-life class h g)
+took-one class h g = record {
+  owners = λ t.
+      let none : (i : ℕ) → i < 8 → (i < 3) ⊎ (5 < i) → times t.handle (8 * t.generation + i) (one-life class h g) ≡ 0 = λ i lt ne.
+      let n3 : 3 ≢ i = λ e. ⊎_elim (λ x. omega arith) (λ x. omega arith) ne in
+      let n4 : 4 ≢ i = λ e. ⊎_elim (λ x. omega arith) (λ x. omega arith) ne in
+      let n5 : 5 ≢ i = λ e. ⊎_elim (λ x. omega arith) (λ x. omega arith) ne in
+      let s = times-life class h g t.handle (8 * t.generation + i) in
+      let a = other-place (h == t.handle) g t.generation 3 i n3 (omega arith) lt in let b = other-place (h == t.handle) g t.generation 4 i n4 (omega arith) lt in let d = other-place (h == t.handle) g t.generation 5 i n5 (omega arith) lt in omega arith in
+      let a = none 0 (omega arith) (inl (omega arith)) in let b = none 1 (omega arith) (inl (omega arith)) in let d = none 2 (omega arith) (inl (omega arith)) in let e = none 6 (omega arith) (inr (omega arith)) in let f = none 7 (omega arith) (inr (omega arith)) in omega arith;
+  io = λ t. equal t 4 (omega arith) (omega arith);
+  shared = λ t. equal t 5 (omega arith) (omega arith);
+  all = refl;
+}
+  where
+    equal : (t : WaitRef) (i : ℕ) → 3 < i → i < 6 → times t.handle (8 * t.generation + i) (one-life class h g) ≡ times t.handle (8 * t.generation + 3) (one-life class h g)
+    equal t i lo hi =
+        let b : Bool = h == t.handle in
+        let s = times-life class h g t.handle (8 * t.generation + i) in
+        let s3 = times-life class h g t.handle (8 * t.generation + 3) in
+        let z3 = other-place b g t.generation 3 i (λ e. omega arith) (omega arith) (omega arith) in
+        let z43 = other-place b g t.generation 4 3 (λ e. omega arith) (omega arith) (omega arith) in
+        let z53 = other-place b g t.generation 5 3 (λ e. omega arith) (omega arith) (omega arith) in
+        dite (ℕ_discrete i 4)
+        (λ e. let e4 : one_if (b && (8 * g + 4 == 8 * t.generation + i)) ≡ one_if (b && (8 * g + 3 == 8 * t.generation + 3)) = subst (λ (z : ℕ). one_if (b && (8 * g + 4 == 8 * t.generation + z)) ≡ one_if (b && (8 * g + 3 == 8 * t.generation + 3))) (sym e) (same-place b g t.generation 4 3) in
+        let z5 = other-place b g t.generation 5 i (λ x. omega arith) (omega arith) (omega arith) in omega arith)
+        (λ n. let five : i ≡ 5 = omega arith in let e5 : one_if (b && (8 * g + 5 == 8 * t.generation + i)) ≡ one_if (b && (8 * g + 3 == 8 * t.generation + 3)) = subst (λ (z : ℕ). one_if (b && (8 * g + 5 == 8 * t.generation + z)) ≡ one_if (b && (8 * g + 3 == 8 * t.generation + 3))) (sym five) (same-place b g t.generation 5 3) in
+        let z4 = other-place b g t.generation 4 i (λ x. omega arith) (omega arith) (omega arith) in omega arith)

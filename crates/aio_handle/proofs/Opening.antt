@@ -1,0 +1,233 @@
+-- A new table meets the rule: each handle is Idle at the first generation, and nobody knows more.
+use Rattle.std.proofs.Common.{◌≡◌, ◌≢◌, ℕ, zero, suc, ◌+◌, ◌-◌, ◌*◌, ◌^◌, ◌<◌, ◌≤◌, ◌==◌, Bool, true, false, List, [], ◌∷◌, ◌++◌, map, length, get_or, replicate, sum_by, le_refl, refl, sym, ap, ◌∙◌, subst, ⊎_elim, arith, length-append, append-nil, Option, Some, None, slice_get}
+use Rattle.std.proofs.lemmas.List.Sums.{sum_by-cons}
+use Rattle.std.proofs.lemmas.Bool.Decides.{nat_tests}
+use mathlib.Core.Logic.{dite}
+use native.Mathlib.Decide.{ℕ_discrete}
+use mathlib.Core.Option.{some, none, some-injective, some-ne-none}
+use mathlib.Core.Option as maybe
+use lib.ListN.{get_elem?, length-replicate}
+use Rattle.atomic_table.specs.Table.{Me, opening}
+use Rattle.aio_word.specs.declared.Config.{Config}
+use Rattle.aio_word.specs.declared.Class.TheVariants.{Unended}
+use Rattle.aio_word.specs.declared.State.TheVariants.{Idle, HandedOut}
+use Rattle.aio_word.specs.declared.Word.{Word}
+use Rattle.aio_word.specs.declared.Known.{Known}
+use Rattle.aio_word.specs.Words.{packed}
+use Rattle.aio_word.specs.Events.{start, first_machine, handles, actors, times, word_in, ref, lives}
+use Rattle.aio_word.specs.declared.WaitRef.{WaitRef}
+use Rattle.aio_word.specs.Stands.{IsIn, one_if, total, seen_of, ListStands, IsMachine}
+use Rattle.aio_word.specs.Ranked.{is_due, HandleRanked, Ranked}
+use Rattle.aio_handle.specs.declared.record.Label.{Label}
+use Rattle.aio_handle.specs.Shown.{Named, Standing, AreNew}
+use Rattle.aio_handle.specs.Seats.{behind_of}
+use Rattle.aio_word.specs.Words.{last_generation}
+use Rattle.std.proofs.Math.Nat.{mul-lt-mul_of_pos_left}
+use Rattle.aio_handle.specs.Shown.{IsConfig}
+use Rattle.aio_handle.specs.declared.own.OwnHandle.{OwnHandle}
+use Rattle.aio_handle.specs.Own.{own_at, blank}
+use Rattle.aio_handle.specs.Remembered.{handle_at, Owns}
+use Rattle.aio_handle.specs.Ruled.{newcomer, newcomers, opened, KnownStands, HandleRuled, IsActor, Ruled}
+
+abbrev first : Config → Word
+first c = word_in Idle false Unended c.start
+
+at-replicate : {A : Type 0} (n i : ℕ) (x y : A) → get_elem? (replicate n x) i ≡ some y → x ≡ y
+at-replicate zero i x y e = absurd (some-ne-none y (sym e))
+at-replicate (suc n) zero x y e = some-injective x y e
+at-replicate (suc n) (suc i) x y e = at-replicate n i x y e
+
+get-replicate : (n i x : ℕ) → get_or (replicate n x) i 0 ≤ x
+get-replicate zero i x = omega arith
+get-replicate (suc n) zero x = le_refl x
+get-replicate (suc n) (suc i) x = get-replicate n i x
+
+get-inside : (n i x : ℕ) → i < n → get_or (replicate n x) i 0 ≡ x
+get-inside zero i x h = absurd (omega arith)
+get-inside (suc n) zero x h = refl
+get-inside (suc n) (suc i) x h = get-inside n i x (omega arith)
+
+none-some : (a : WaitRef) → None ≡ Some a → ⊥
+none-some a e = cc
+
+at-inside : {A : Type 0} (n i : ℕ) (x : A) → i < n → slice_get (replicate n x) i ≡ Some x
+at-inside zero i x h = absurd (omega arith)
+at-inside (suc n) zero x h = refl
+at-inside (suc n) (suc i) x h = at-inside n i x (omega arith)
+
+map-replicate : {A B : Type 0} (f : A → B) (n : ℕ) (x : A) → map f (replicate n x) ≡ replicate n (f x)
+map-replicate f zero x = refl
+map-replicate f (suc n) x = ap (λ (z : List _). f x ∷ z) (map-replicate f n x)
+
+at-below : {A : Type 0} (l : List A) (i : ℕ) (a : A) → get_elem? l i ≡ some a → i < length l
+at-below [] i a e = absurd (some-ne-none a (sym e))
+at-below (x ∷ xs) zero a e = omega arith
+at-below (x ∷ xs) (suc i) a e = let s = at-below xs i a e in omega arith
+
+-- an actor at the start
+pub record IsNew (c : Config) (a k : ℕ) (q : Known) : Type 0 where
+  pub number : ℕ
+  pub low : a ≤ number
+  pub high : number < a + k
+  pub is : newcomer c number ≡ q
+
+new-in : (c : Config) (a k : ℕ) (q : Known) → IsIn q (newcomers c a k) → IsNew c a k q
+new-in c a zero q i = absurd i
+new-in c a (suc k) q i = ⊎_elim (λ e. record { number = a; low = le_refl a; high = omega arith; is = e })
+    (λ t. let r = new-in c (a + 1) k q t in let lo = r.low in let hi = r.high in record { number = r.number; low = omega arith; high = omega arith; is = r.is }) i
+
+none-new : (c : Config) (h n a k : ℕ) → total h n (newcomers c a k) ≡ 0
+none-new c h n a zero = refl
+none-new c h n a (suc k) =
+    let rest : total h n (newcomers c (a + 1) k) ≡ 0 = none-new c h n (a + 1) k in
+    let f : Known → ℕ = λ p. times h n p.marks in
+    let here : f (newcomer c a) ≡ 0 = refl in
+    let cons : sum_by f (newcomer c a ∷ newcomers c (a + 1) k) ≡ f (newcomer c a) + sum_by f (newcomers c (a + 1) k) = sum_by-cons f (newcomer c a) (newcomers c (a + 1) k) in
+    let goal : sum_by f (newcomer c a ∷ newcomers c (a + 1) k) ≡ 0 = omega arith in goal
+
+one-if-no : (a b : ℕ) → a ≢ b → one_if (a == b) ≡ 0
+one-if-no a b h = grind (arith, nat_tests)
+
+one-if-le : (b : Bool) → one_if b ≤ 1
+one-if-le true = omega arith
+one-if-le false = omega arith
+
+number-above : (c : Config) (n a k : ℕ) → n < a → sum_by (λ (p : Known). one_if (p.number == n)) (newcomers c a k) ≡ 0
+number-above c n a zero lt = refl
+number-above c n a (suc k) lt =
+    let f : Known → ℕ = λ p. one_if (p.number == n) in
+    let here : f (newcomer c a) ≡ 0 = one-if-no a n (λ e. omega arith) in
+    let rest : sum_by f (newcomers c (a + 1) k) ≡ 0 = number-above c n (a + 1) k (omega arith) in
+    let all = sum_by-cons f (newcomer c a) (newcomers c (a + 1) k) in omega arith
+
+numbered : (c : Config) (n a k : ℕ) → sum_by (λ (p : Known). one_if (p.number == n)) (newcomers c a k) ≤ 1
+numbered c n a zero = omega arith
+numbered c n a (suc k) =
+    let f : Known → ℕ = λ p. one_if (p.number == n) in
+    let all : sum_by f (newcomer c a ∷ newcomers c (a + 1) k) ≡ f (newcomer c a) + sum_by f (newcomers c (a + 1) k) = sum_by-cons f (newcomer c a) (newcomers c (a + 1) k) in
+    let le : f (newcomer c a) ≤ 1 = one-if-le (a == n) in
+    dite (ℕ_discrete a n)
+    (λ e. let none' : sum_by f (newcomers c (a + 1) k) ≡ 0 = number-above c n (a + 1) k (omega arith) in omega arith)
+    (λ ne. let no : f (newcomer c a) ≡ 0 = one-if-no a n ne in let rest : sum_by f (newcomers c (a + 1) k) ≤ 1 = numbered c n (a + 1) k in omega arith)
+
+one-if-yes : (n : ℕ) → one_if (n == n) ≡ 1
+one-if-yes n = grind (arith, nat_tests)
+
+present-new : (c : Config) (n a k : ℕ) → a ≤ n → n < a + k → 0 < sum_by (λ (p : Known). one_if (p.number == n)) (newcomers c a k)
+present-new c n a zero lo hi = absurd (omega arith)
+present-new c n a (suc k) lo hi =
+    let f : Known → ℕ = λ p. one_if (p.number == n) in
+    let all : sum_by f (newcomer c a ∷ newcomers c (a + 1) k) ≡ f (newcomer c a) + sum_by f (newcomers c (a + 1) k) = sum_by-cons f (newcomer c a) (newcomers c (a + 1) k) in
+    dite (ℕ_discrete a n)
+    (λ e. let one : f (newcomer c a) ≡ 1 = subst (λ (z : ℕ). one_if (z == n) ≡ 1) (sym e) (one-if-yes n) in omega arith)
+    (λ ne. let r : 0 < sum_by f (newcomers c (a + 1) k) = present-new c n (a + 1) k (omega arith) (omega arith) in omega arith)
+
+not-due : (s n : ℕ) → one_if (is_due s (8 * s + 0) n) ≡ 0
+not-due s n = grind (arith, nat_tests)
+
+length-new : (c : Config) (a k : ℕ) → length (newcomers c a k) ≡ k
+length-new c a zero = refl
+length-new c a (suc k) = ap suc (length-new c (a + 1) k)
+
+list-new : (c : Config) (n : ℕ) → ListStands c (newcomer c n)
+list-new c n = record { in_range = λ m i. absurd i; owned = λ m i. absurd i; ordered = λ i j d lt below. absurd (omega arith) }
+
+module _ {R : Type 0} (label : R → Label) (aim_in : R → List ℕ) (Fits : R → Type 0) (c : Config) (small : c.start < 2 ^ 58) where
+  abbrev all : List Known
+  all = newcomers c 0 (actors c)
+
+  handle-new : (h : ℕ) (w : Word) → first c ≡ w → HandleRanked c all h w
+  handle-new h w e = subst (λ (z : Word). HandleRanked c all h z) e record {
+    lawful = record { bound = small; claim = refl; class = refl };
+    begun = le_refl c.start;
+    last = λ _. refl;
+    counted = λ n. none-new c h n 0 (actors c) ∙ sym (not-due c.start n);
+    claimed = λ p i g. let r = new-in c 0 (actors c) p i in subst (λ (z : Known). (times h (8 * g + 4) z.marks ≤ times h (8 * g + 3) z.marks) × (times h (8 * g + 5) z.marks ≤ times h (8 * g + 3) z.marks)) r.is (le_refl 0, le_refl 0);
+    classed = λ p i m class j _ _ _. let r = new-in c 0 (actors c) p i in absurd (subst (λ (z : Known). IsIn m z.marks) (sym r.is) j);
+    agreed = λ p q i i' m n one other j _ _ _ _ _ _. let r = new-in c 0 (actors c) p i in absurd (subst (λ (z : Known). IsIn m z.marks) (sym r.is) j);
+    seen = λ p i. let r = new-in c 0 (actors c) p i in subst (λ (z : Known). seen_of z h ≤ 8 * c.start + 0) r.is (let x = get-replicate (handles c) h (8 * c.start) in omega arith);
+  }
+
+  pub new-ruled : Ruled label aim_in Fits c (opening (replicate (handles c) (64 * c.start)) (replicate (handles c) None) (opened c))
+  new-ruled = record {
+    ws = replicate (handles c) (first c);
+    shown = sym (map-replicate packed (handles c) (first c) ∙ ap (λ (z : ℕ). replicate (handles c) z) (let e : packed (first c) ≡ 64 * c.start = omega arith in e));
+    homes = ap length (map-replicate some (handles c) None) ∙ length-replicate (handles c) (some None);
+    stands = subst (λ (z : List Known). Ranked c (replicate (handles c) (first c)) z) (sym (append-nil all)) record {
+      wide = length-replicate (handles c) (first c);
+      numbered = λ n. numbered c n 0 (actors c);
+      each_handle = λ h w e. handle-new h w (at-replicate (handles c) h (first c) w e);
+      each_list = λ p i. let r = new-in c 0 (actors c) p i in subst (λ (z : Known). ListStands c z) r.is (list-new c r.number);
+      one_out = λ h i v w ev ew ov ow _. absurd (let e : first c ≡ v = at-replicate (handles c) h (first c) v ev in let o : (first c).state ≡ HandedOut = ap (λ (z : Word). z.state) e ∙ ov in cc);
+    };
+    handle = λ h w home ew eh. subst (λ (z : List Known). HandleRuled label aim_in Fits c z h w home) (sym (append-nil all))
+        (subst (λ (z : Word). HandleRuled label aim_in Fits c all h z home) (at-replicate (handles c) h (first c) w ew) record {
+          aim = [];
+          slot = sym (at-replicate (handles c) h (some None) home (subst (λ (z : List (maybe.Option (Option R))). get_elem? z h ≡ some home) (map-replicate some (handles c) None) eh));
+          known = λ p i. let r = new-in c 0 (actors c) p i in subst (λ (z : Known). KnownStands c h (first c) [] z) r.is record {
+            out = λ _ g. ((λ x. absurd (let y : Idle ≡ HandedOut = x.0 in cc)), (λ x. absurd (none-some (ref h g) x)));
+            lived = λ _. let z : lives h [] ≡ 0 = refl in omega arith;
+            aims = λ x j. absurd j;
+            submitted = λ _ three. absurd (omega arith);
+            held = λ _ more. absurd (let z : times h (8 * c.start + 3) [] ≡ 0 = refl in omega arith);
+          };
+        });
+    actor = λ p i. let r = new-in c 0 (actors c) p (subst (λ (z : List Known). IsIn p z) (append-nil all) i) in subst (λ (z : Known). IsActor c z) r.is
+        record { config = refl; number = let x = r.high in omega arith; seen = length-replicate (handles c) (8 * c.start); out = λ t e. absurd (none-some t e) };
+    all = ap length (append-nil all) ∙ length-new c 0 (actors c);
+    present = λ n lt. subst (λ (z : List Known). 0 < sum_by (λ (p : Known). one_if (p.number == n)) z) (sym (append-nil all)) (present-new c n 0 (actors c) (omega arith) (omega arith));
+    machine = first_machine c;
+    reached = start;
+    is = subst (λ (z : List Known). IsMachine c (first_machine c) (replicate (handles c) (first c)) z) (sym (append-nil all)) record {
+      words = refl;
+      lists = λ p i. let t = new-in c 0 (actors c) p i in subst (λ (z : Known). slice_get (replicate (actors c) []) z.number ≡ Some z.marks) t.is (at-inside (actors c) t.number [] (let x = t.high in omega arith));
+      all = length-replicate (actors c) [];
+    };
+  }
+
+pub next-new : (c : Config) (n k : ℕ) → n < k → newcomers c n (k - n) ≡ newcomer c n ∷ newcomers c (n + 1) (k - (n + 1))
+next-new c n k lt = ap (newcomers c n) (let e : k - n ≡ suc (k - (n + 1)) = omega arith in e)
+
+pub push-old : {A : Type 0} (xs : List A) (x d : A) (i : ℕ) → i < length xs → get_or (xs ++ x ∷ []) i d ≡ get_or xs i d
+push-old [] x d i h = absurd (omega arith)
+push-old (y ∷ xs) x d zero h = refl
+push-old (y ∷ xs) x d (suc i) h = push-old xs x d i (omega arith)
+
+pub push-last : {A : Type 0} (xs : List A) (x d : A) → get_or (xs ++ x ∷ []) (length xs) d ≡ x
+push-last [] x d = refl
+push-last (y ∷ xs) x d = push-last xs x d
+
+pub new-push : (t : Named) (n : ℕ) (xs : List Standing) (x : Standing) → length xs ≡ n → AreNew t 0 xs → x ≡ record { table = t.table; config = t.config; known = newcomer t.config n } → AreNew t 0 (xs ++ x ∷ [])
+new-push t n xs x len old is i d lt = dite (ℕ_discrete i (length xs))
+    (λ e. subst (λ (j : ℕ). get_or (xs ++ x ∷ []) j d ≡ record { table = t.table; config = t.config; known = newcomer t.config (0 + j) }) (sym e)
+    (push-last xs x d ∙ (is ∙ ap (λ (j : ℕ). record { table = t.table; config = t.config; known = newcomer t.config j }) (let g : n ≡ 0 + length xs = omega arith in g))))
+    (λ ne. let below : i < length xs = omega (arith, length-append xs (x ∷ [])) in push-old xs x d i below ∙ old i d below)
+
+pub next-view : {S : Type 0} (c : Config) (n k : ℕ) (me : Me S (List Known)) → n < k → me ≡ (newcomers c n (k - n), []) → me ≡ (newcomer c n ∷ newcomers c (n + 1) (k - (n + 1)), [])
+next-view c n k me lt e = e ∙ ap (λ (v : List Known). (v, [])) (next-new c n k lt)
+
+pub after-deal : {S : Type 0} (c : Config) (n k : ℕ) (me me' : Me S (List Known)) → n < k → me ≡ (newcomers c n (k - n), []) → me' ≡ (behind_of me.0, []) → me' ≡ (newcomers c (n + 1) (k - (n + 1)), [])
+after-deal c n k me me' lt e is = is ∙ ap (λ (v : Me _ (List Known)). (behind_of v.0, [])) (next-view c n k me lt e)
+
+at-replicated : {A : Type 0} (n k : ℕ) (x d : A) → k < n → get_or (replicate n x) k d ≡ x
+at-replicated zero k x d lt = absurd (omega arith)
+at-replicated (suc n) zero x d lt = refl
+at-replicated (suc n) (suc k) x d lt = at-replicated n k x d (omega arith)
+
+-- what an actor remembers of its handles at the start
+pub new-owns : (c : Config) (n count : ℕ) (own : List OwnHandle) → own ≡ replicate count record { generation = c.start; is_defined = false } → (n < c.backends → count ≡ c.per_backend) → (c.backends ≤ n → count ≡ 0) → c.start < 2 ^ 58 → Owns c own (newcomer c n)
+new-owns c n count own is backend runner small =
+    let len : length own ≡ count = ap length is ∙ length-replicate count record { generation = c.start; is_defined = false } in
+    let first : (k : ℕ) → k < length own → own_at own k ≡ record { generation = c.start; is_defined = false } = λ k lt. ap (λ (z : List OwnHandle). own_at z k) is ∙ at-replicated count k record { generation = c.start; is_defined = false } blank (omega arith) in record {
+      of_backend = λ lt. len ∙ backend lt;
+      of_runner = λ le. len ∙ runner le;
+      each = λ k lt. first k lt ∙ ap (λ (z : ℕ). record { generation = z; is_defined = false }) (let none : lives (handle_at c (newcomer c n) k) [] ≡ 0 = refl in let same : c.start ≡ c.start + lives (handle_at c (newcomer c n) k) [] = omega arith in same);
+      bound = λ k lt. subst (λ (y : OwnHandle). y.generation ≤ last_generation) (sym (first k lt)) (omega arith);
+    }
+
+-- a table has a handle
+pub some-handles : (c : Config) → IsConfig c → 0 < handles c
+some-handles c k =
+    let b : 0 < c.backends = let x = k.backends.0 in omega arith in
+    let p : 0 < c.per_backend = let x = k.per_backend.0 in omega arith in
+    let less : c.backends * 0 < c.backends * c.per_backend = mul-lt-mul_of_pos_left p b in omega arith

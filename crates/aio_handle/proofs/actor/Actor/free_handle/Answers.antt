@@ -1,0 +1,24 @@
+use Rattle.std.proofs.Common.{ℕ, ◌≡◌, ◌<◌, ◌+◌, ◌*◌, length, sym, subst}
+use Rattle.aio_word.specs.declared.WaitRef.{WaitRef}
+use Rattle.aio_word.specs.Events.{ref, handles}
+use Rattle.aio_handle.specs.Shown.{Standing}
+use Rattle.aio_handle.specs.Seats.{known_of}
+use Rattle.aio_handle.specs.Free.{IsFree, HasNoneFree}
+use Rattle.aio_handle.specs.Own.{own_at, IsFreeHandle}
+use Rattle.aio_handle.proofs.Remembering.{tells-free, none-told}
+use Rattle.aio_handle.proofs.actor.Actor.free_handle.Goals as goal
+
+pub returns-in_default-clause-none : goal.returns-in_default-clause-none
+returns-in_default-clause-none g c = subst (λ (z : Standing). HasNoneFree z.config z.known) c.self.view_is
+    (none-told c.self.inside.config c.self.inside.own.items (known_of c.self.inside.seat.me.0) c.self.invariant.2.owns (subst (λ xs. (k : ℕ) → k < length xs → IsFreeHandle (own_at xs k) → ⊥) c.as_slice-own.ensures.value c.in_default.ensures.none))
+
+pub returns-clause-some : goal.returns-clause-some
+returns-clause-some g c =
+    let own = c.as_slice-own.ensures.value in
+    let got = subst (λ xs. (c.in-Some.place < length xs) × IsFreeHandle (own_at xs c.in-Some.place)) own c.in-Some.ensures.some in
+    let number : (known_of c.self.inside.seat.me.0).number ≡ c.self.inside.number = c.self.invariant.0.number in
+    let backend = subst (λ (z : Standing). z.known.number < z.config.backends) (sym c.self.view_is) c.requires.backend in
+    let free = tells-free c.self.inside.config c.self.inside.own.items (known_of c.self.inside.seat.me.0) c.in-Some.place c.self.invariant.2.owns got.0 backend got.1 in
+    let t : ℕ → ℕ → WaitRef = λ n k. ref (n * c.self.inside.config.per_backend + c.in-Some.place) k in
+    subst (λ (z : Standing). ((t c.self.inside.number (own_at c.as_slice-own.result.now c.in-Some.place).generation).handle < handles z.config) × IsFree z.config z.known (t c.self.inside.number (own_at c.as_slice-own.result.now c.in-Some.place).generation)) c.self.view_is
+    (subst (λ (x : WaitRef). (x.handle < handles c.self.inside.config) × IsFree c.self.inside.config (known_of c.self.inside.seat.me.0) x) (λ k. t (number k) (own_at (sym own k) c.in-Some.place).generation) free)

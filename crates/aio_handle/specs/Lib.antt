@@ -1,0 +1,16 @@
+pub mod Labels
+pub mod LifeWords
+pub mod Changes
+pub mod Made
+pub mod Free
+pub mod Own
+pub mod Remembered
+pub mod Ruled
+pub mod Front
+pub mod Seats
+pub mod Steps
+pub mod Shown
+pub mod Closing
+pub mod Taking
+pub mod Executing
+pub mod Trials

@@ -1,0 +1,87 @@
+-- What a call that makes an event, or a look, tells of it.
+use Rattle.std.specs.Prelude.{◌≡◌, ◌≢◌, ◌↔◌, ℕ, ◌+◌, ◌<◌, ◌≤◌, nat_lt, Bool, IsTrue, false, List, [], Some}
+use Rattle.std.specs.List.{AllPairs}
+use Rattle.aio_word.specs.declared.Class.TheVariants.{Unended}
+use Rattle.aio_word.specs.declared.Kind.{Kind}
+use Rattle.aio_word.specs.declared.Kind.TheVariants as kind
+use Rattle.aio_word.specs.Tokens.{mark_at}
+use Rattle.aio_word.specs.declared.Config.{Config}
+use Rattle.aio_word.specs.declared.Step.{Step as Event}
+use Rattle.aio_word.specs.declared.Word.{Word}
+use Rattle.aio_word.specs.declared.WaitRef.{WaitRef}
+use Rattle.aio_word.specs.declared.Class.{Class}
+use Rattle.aio_word.specs.declared.State.TheVariants.{CompletedShared}
+use Rattle.aio_word.specs.declared.Known.{Known}
+use Rattle.aio_word.specs.Words.{IsLawful, IsDone, rank_of}
+use Rattle.aio_word.specs.Events.{owner, lives, after, word_in, at, order, rank_of_mark}
+use Rattle.aio_word.specs.Stands.{IsIn, one_if, seen_of, stands, AtMoment}
+use Rattle.aio_handle.specs.declared.record.Label.{Label}
+use Rattle.aio_handle.specs.LifeWords.{taken}
+use Rattle.aio_handle.specs.Changes.{changed, looked}
+use Rattle.aio_word.specs.declared.Step.TheVariants as step
+
+-- by the actor's marks, the generation of one of its own handles: one more for each life that ended
+abbrev pub generation_of : Config → Known → ℕ → ℕ
+generation_of c p handle = c.start + lives handle p.marks
+
+-- the events of the owner
+abbrev pub IsByOwner : Event → Type 0
+IsByOwner step.Claim = ⊥
+IsByOwner (step.Io class) = ⊥
+IsByOwner step.Shared = ⊥
+IsByOwner _ = Unit {0}
+
+-- the actor that knew p made the event on the handle h, whose word was w, and now knows q
+pub record Made (e : Event) (h : ℕ) (w w' : Word) (aim : List ℕ) (p q : Known) : Type 0 where
+  pub moment : AtMoment p.config p h w
+  pub row : after w e ≡ Some w'
+  pub is : q ≡ changed e h w w' aim p
+  pub before : seen_of p h ≤ rank_of w
+  pub now : seen_of q h ≡ rank_of w'
+  -- an owner's event is on a handle of its own, whose generation its marks tell
+  pub mine : IsByOwner e → p.number ≡ owner p.config h
+  pub lived : p.number ≡ owner p.config h → w.generation ≡ generation_of p.config p h
+
+-- the actor that knew p found the word w at the handle h, and now knows q
+pub record Looked (h : ℕ) (w : Word) (p q : Known) : Type 0 where
+  pub moment : AtMoment p.config p h w
+  pub lawful : IsLawful w
+  pub is : q ≡ looked h w p
+  pub before : seen_of p h ≤ rank_of w
+  pub now : seen_of q h ≡ rank_of w
+
+-- the word says that the incarnation of that generation is completed, and that its owner has not
+-- taken the result
+abbrev pub IsCompleted : Word → ℕ → Type 0
+IsCompleted w generation = (w.state ≡ CompletedShared) × (w.generation ≡ generation)
+
+-- a load that found the incarnation completed, then the event Local with the class of the word,
+-- and the label of the record that came
+pub record TakesOut (t : WaitRef) (p q : Known) (l : Label) : Type 0 where
+  pub between : Known
+  pub found : Word
+  pub class : Class
+  pub looked : Looked t.handle found p between
+  pub completed : IsCompleted found t.generation
+  pub made : Made step.Local t.handle (word_in CompletedShared false class t.generation)
+      (taken class t.generation) [] between q
+  pub ended : class ≢ Unended
+  pub label : l ≡
+      record { handle = t.handle; generation = t.generation; ended = class; settled = false }
+
+-- a load of the word of the incarnation t, and what it answers
+pub record Checked (t : WaitRef) (answer : Bool) (p q : Known) : Type 0 where
+  pub word : Word
+  pub looked : Looked t.handle word p q
+  pub exact : IsTrue answer ↔ IsDone word t.generation
+  -- where the answer is true, the incarnation's Shared mark stands once over all lists, whatever
+  -- came since
+  pub shared : IsTrue answer → p.config.start ≤ t.generation
+      → stands t kind.Shared looked.moment.parts ≡ 1
+
+-- in a table of one actor: the marks of t from Defined to Local stand once each in its list, in
+-- the order of the life, and the Io mark has this class
+pub record LivedAlone (t : WaitRef) (class : Class) (q : Known) : Type 0 where
+  pub once : (k : Kind) → at t k q.marks ≡ one_if (nat_lt (order k) 7)
+  pub ordered : AllPairs (λ m n. m.handle ≡ n.handle → rank_of_mark m < rank_of_mark n) q.marks
+  pub executed : IsIn (mark_at t (kind.Io class)) q.marks

@@ -1,0 +1,58 @@
+-- What lies with an actor: its list, and the slots of the handles that are out with it.
+use Rattle.std.specs.Prelude.{◌≡◌, ℕ, ◌+◌, ◌*◌, ◌<◌, ◌⊎◌, List, [], ◌∷◌, Option, Some, None}
+use Rattle.atomic_table.specs.Table.{Me}
+use Rattle.aio_word.specs.declared.Config.{Config}
+use Rattle.aio_word.specs.declared.WaitRef.{WaitRef}
+use Rattle.aio_word.specs.declared.Known.{Known}
+use Rattle.aio_word.specs.Events.{times, ref}
+use Rattle.aio_word.specs.Stands.{IsIn, seen_of}
+use Rattle.aio_word.specs.Tokens.{Keeps}
+
+-- the slot of the handle is out with the actor
+pub record IsTaken (p : Known) (t : WaitRef) (from to : ℕ) : Type 0 where
+  pub since : 0 < times t.handle (8 * t.generation + from) p.marks
+  pub until : times t.handle (8 * t.generation + to) p.marks ≡ 0
+
+-- from which mark until which one the slot is out: with the owner up to Submitted, with the
+-- claimer up to Shared, and with the owner up to Reclaimed
+abbrev pub spans : List (ℕ × ℕ)
+spans = (0, 2) ∷ (1, 2) ∷ (3, 5) ∷ (4, 5) ∷ (6, 7) ∷ []
+
+abbrev pub IsAway : Known → ℕ → Type 0
+IsAway p h = (g : ℕ)
+    × ((p.out ≡ Some (ref h g))
+    ⊎ ((span : ℕ × ℕ) × IsIn span spans × IsTaken p (ref h g) span.0 span.1))
+
+abbrev pub nobody : Known
+nobody = record {
+  config = record { backends = 0; per_backend = 0; runners = 0; start = 0 };
+  number = 0;
+  marks = [];
+  out = None;
+  seen = [];
+  looks = [];
+  aims = [];
+}
+
+abbrev pub known_of : List Known → Known
+known_of [] = nobody
+known_of (p ∷ ps) = p
+
+abbrev pub behind_of : List Known → List Known
+behind_of [] = []
+behind_of (p ∷ ps) = ps
+
+abbrev pub front_of : List Known → List Known
+front_of [] = []
+front_of (p ∷ ps) = p ∷ []
+
+-- an actor's seat: it carries the actor's list alone, and an empty slot for each handle that its
+-- list says is out
+pub record IsSeated {R : Type 0} (c : Config) (n : ℕ)
+    (me : Me (Option R) (List Known)) : Type 0 where
+  pub one : me.0 ≡ known_of me.0 ∷ []
+  pub number : (known_of me.0).number ≡ n
+  pub config : (known_of me.0).config ≡ c
+  pub keeps : Keeps (seen_of (known_of me.0)) (known_of me.0).marks
+  pub carried : (h : ℕ) → IsAway (known_of me.0) h → IsIn (h, None) me.1
+  pub empty : (h : ℕ) (x : Option R) → IsIn (h, x) me.1 → x ≡ None

@@ -1,0 +1,152 @@
+//! The executor's calls: an I/O is claimed, executed and shared.
+ghost use Rattle.std.specs.Prelude.{◌≡◌, ◌≢◌, ℕ, ◌*◌, ◌^◌, ◌<◌, [], true, false, Some, None, IfSome, IfNone, List, ◌∷◌, ◌+◌, ◌≤◌, IfOk, IfErr, length, IsTrue, ◌↔◌, All, map, ◌++◌, nat_lt};
+ghost use Rattle.aio_word.specs.declared.Class.{Class};
+ghost use Rattle.aio_word.specs.declared.Class.TheVariants.{Unended};
+ghost use Rattle.aio_word.specs.declared.Step.TheVariants.{HandOut, Release, Define, Stage, Submit, Claim, Io, Shared, Local, Reclaim};
+ghost use Rattle.aio_word.specs.declared.Word.{Word};
+ghost use Rattle.aio_word.specs.declared.Kind.{Kind};
+ghost use Rattle.aio_word.specs.declared.Known.{Known};
+ghost use Rattle.aio_word.specs.Words.{IsLawful, IsDone, packed};
+ghost use Rattle.aio_word.specs.Events.{handles, owner, actors as actors_of, word_in, at, order};
+ghost use Rattle.aio_word.specs.Stands.{IsIn, one_if};
+ghost use Rattle.aio_word.specs.Tokens.{IsDefined, IsStaged, IsInFlight, IsClaimed, IsExecuted, IsLocal, IsSeenDone};
+ghost use Rattle.aio_handle.specs.declared.record.Label.{Label};
+ghost use Rattle.aio_handle.specs.Labels.{bound};
+ghost use Rattle.aio_handle.specs.LifeWords.{unclaimed, claimed as claimed_at, executed, completed};
+ghost use Rattle.aio_handle.specs.Made.{Made, Looked};
+
+use crate::actor::Actor;
+use crate::front::bring;
+use crate::own::LAST_GENERATION;
+use crate::plays::{ClaimIt, ExecuteIt, LookAt, ShareIt};
+use crate::record::Record;
+use crate::table::{Table, number_of};
+use crate::tokens::Claimed;
+use aio_word::{Class, State, WaitRef};
+use page_check::World;
+use std::marker::PhantomData;
+
+impl<R: Record, W: World> Table<R, W> {
+    ghost use Rattle.aio_handle.specs.Shown.{IsOf, IsSame};
+
+    /// Takes the record of an I/O that nobody has claimed.
+    pub fn claim(&self, actor: &mut Actor<R, W>, reference: WaitRef) -> Option<Claimed<R, W>>
+        requires table { IsOf self.now actor.old }
+        requires range { reference.handle < W.handles }
+        ensures same { IsSame actor.old actor.new }
+        ensures won { IfSome result
+            (λ t. (t.0 ≡ reference)
+            × Made Claim reference.handle (unclaimed reference.generation)
+            (claimed_at reference.generation) (R.aim t.1) actor.old.known actor.new.known) }
+        ensures token { IfSome result
+            (λ t. IsClaimed actor.new.known t.0 × IsIn (t.0, R.aim t.1) actor.new.known.aims) }
+        ensures record { IfSome result
+            (λ t. (R.label t.1 ≡ bound reference.handle reference.generation)
+            × R.fits W.told W.relations t.1) }
+        ensures lost { IfNone result
+            ((w : Word) × Looked reference.handle w actor.old.known actor.new.known
+            × (w ≢ unclaimed reference.generation)) }
+    {
+        let handle = reference.handle as usize;
+        if reference.generation > LAST_GENERATION {
+            self.inner.shared.load::<LookAt>(&mut actor.seat, handle);
+            return None;
+        }
+        let old = number_of(
+            State::Submitted,
+            false,
+            Class::Unended,
+            reference.generation,
+        );
+        let new = number_of(State::Submitted, true, Class::Unended, reference.generation);
+        let found = self
+            .inner
+            .shared
+            .compare_exchange::<ClaimIt<W>>(&mut actor.seat, handle, old, new);
+        if found != old {
+            return None;
+        }
+        match self.inner.shared.exchange(&mut actor.seat, handle, None) {
+            Some(io) => {
+                actor.claims = actor.claims.saturating_add(1);
+                Some(Claimed {
+                    reference,
+                    io,
+                    of: PhantomData,
+                })
+            }
+            None => unreachable!(),
+        }
+    }
+
+    /// The claimed I/O was executed, and ended so.
+    pub fn complete_io(&self, actor: &mut Actor<R, W>, claimed: &mut Claimed<R, W>, class: Class)
+        requires table { IsOf self.now actor.old }
+        requires token { IsClaimed actor.old.known claimed.old.0 }
+        requires class { class ≢ Unended }
+        ensures same { IsSame actor.old actor.new }
+        ensures event { Made (Io class) claimed.old.0.handle (claimed_at claimed.old.0.generation)
+            (executed class claimed.old.0.generation) [] actor.old.known actor.new.known }
+        ensures token { (claimed.new ≡ claimed.old)
+            × IsExecuted class actor.new.known claimed.new.0 }
+    {
+        let word = number_of(
+            State::CompletedIo,
+            true,
+            class,
+            claimed.reference.generation,
+        );
+        self.inner
+            .shared
+            .swap::<ExecuteIt>(&mut actor.seat, claimed.reference.handle as usize, word);
+    }
+
+    /// The record goes home, ended, and those who rest on the handle are woken.
+    pub fn complete_shared(&self, actor: &mut Actor<R, W>, claimed: Claimed<R, W>)
+        requires table { IsOf self.now actor.old }
+        requires token { IsExecuted (R.label claimed.1).ended actor.old.known claimed.0
+            × ((R.label claimed.1).ended ≢ Unended) }
+        requires label { R.label claimed.1 ≡
+            record {
+              handle = claimed.0.handle;
+              generation = claimed.0.generation;
+              ended =
+                  (R.label claimed.1).ended;
+              settled = false;
+            } }
+        requires aim { IsIn (claimed.0, R.aim claimed.1) actor.old.known.aims }
+        requires fits { R.fits W.told W.relations claimed.1 }
+        ensures same { IsSame actor.old actor.new }
+        ensures event { let class = (R.label claimed.1).ended in
+            Made Shared claimed.0.handle (executed class claimed.0.generation)
+            (completed class claimed.0.generation) [] actor.old.known actor.new.known }
+    {
+        let Claimed {
+            reference,
+            io,
+            of: _,
+        } = claimed;
+        let handle = reference.handle as usize;
+        let word = number_of(
+            State::CompletedShared,
+            false,
+            io.ended(),
+            reference.generation,
+        );
+        bring(&mut actor.seat, handle);
+        self.inner
+            .shared
+            .exchange(&mut actor.seat, handle, Some(io));
+        self.inner
+            .shared
+            .swap::<ShareIt>(&mut actor.seat, handle, word);
+        self.wake(reference.handle);
+    }
+
+    // Wakes those who rest on the handle.
+    fn wake(&self, handle: u32)
+        requires range { handle < handles self.now.config }
+    {
+        self.inner.shared.wake_all(handle as usize);
+    }
+}

@@ -1,0 +1,172 @@
+//! The table of handles.
+ghost use Rattle.std.specs.Prelude.{◌≡◌, ◌≢◌, ℕ, ◌*◌, ◌^◌, ◌<◌, [], true, false, Some, None, IfSome, IfNone, List, ◌∷◌, ◌+◌, ◌≤◌, IfOk, IfErr, length, IsTrue, ◌↔◌, All, map, ◌++◌, nat_lt};
+ghost use Rattle.aio_word.specs.declared.Class.{Class};
+ghost use Rattle.aio_word.specs.declared.Class.TheVariants.{Unended};
+ghost use Rattle.aio_word.specs.declared.Step.TheVariants.{HandOut, Release, Define, Stage, Submit, Claim, Io, Shared, Local, Reclaim};
+ghost use Rattle.aio_word.specs.declared.Word.{Word};
+ghost use Rattle.aio_word.specs.declared.Kind.{Kind};
+ghost use Rattle.aio_word.specs.declared.Known.{Known};
+ghost use Rattle.aio_word.specs.Words.{IsLawful, IsDone, packed};
+ghost use Rattle.aio_word.specs.Events.{handles, owner, actors as actors_of, word_in, at, order};
+ghost use Rattle.aio_word.specs.Stands.{IsIn, one_if};
+ghost use Rattle.aio_word.specs.Tokens.{IsDefined, IsStaged, IsInFlight, IsClaimed, IsExecuted, IsLocal, IsSeenDone};
+ghost use Rattle.aio_handle.specs.declared.record.Label.{Label};
+ghost use Rattle.aio_handle.specs.Labels.{bound};
+ghost use Rattle.aio_handle.specs.Ruled.{newcomer};
+
+use crate::actor::Actor;
+use crate::own::OwnHandle;
+use crate::plays::Deal;
+use crate::record::Record;
+use crate::rule::{Handles, View};
+use aio_word::{Class, Config, State, Word, pack};
+use atomic_table::Seat;
+use page_check::World;
+use std::alloc::{AllocError, Global};
+use std::marker::{Model, PhantomData};
+
+/// The table that all actors share. Contracts see which table it is, and its numbers.
+///
+/// Each handle has one word and one slot. Whatever calls are in the middle, the words and all
+/// actors' lists are at every moment a state that the machine of handles can reach.
+#[derive(Drop)]
+pub struct Table<R: Record, W: World> {
+    pub(crate) inner: atomic_table::Table<Option<R>, View, Config, Handles<R, W>, Global>,
+    pub(crate) config: Config,
+}
+
+impl<R: Record, W: World> Model for Table<R, W> {
+    ghost use Rattle.std.specs.Prelude.{◌≡◌};
+    ghost use Rattle.aio_word.specs.Events.{handles};
+    ghost use Rattle.aio_handle.specs.Shown.{Named, IsConfig};
+
+    ghost Value = { Named };
+
+    ghost view = { λ t. record { table = t.inner.shared.table_id; config = t.config } };
+
+    ghost invariant = { λ t. (t.inner.shared.key ≡ t.config) × (t.inner.shared.table_id.words ≡ handles t.config)
+        × (t.inner.shared.table_id.slots ≡ handles t.config) × (handles t.config ≡ W.handles)
+        × IsConfig t.config };
+}
+
+/// The number that the word with these fields packs to.
+pub(crate) fn number_of(state: State, claimed: bool, class: Class, generation: u64) -> u64
+    requires { IsLawful (word_in state claimed class generation) }
+    ensures { result ≡ packed (word_in state claimed class generation) }
+{
+    pack(&Word {
+        state,
+        claimed,
+        class,
+        generation,
+    })
+}
+
+/// How many handles the actor of this number owns.
+fn own_count(config: &Config, number: u32) -> usize
+    ensures of_backend { number < config.now.backends → result ≡ config.now.per_backend }
+    ensures of_runner { config.now.backends ≤ number → result ≡ 0 }
+{
+    if number < config.backends {
+        config.per_backend as usize
+    } else {
+        0
+    }
+}
+
+impl<R: Record, W: World> Table<R, W> {
+    ghost use Rattle.aio_handle.specs.Shown.{AreNew};
+    ghost use Rattle.aio_handle.specs.Seats.{behind_of};
+
+    /// A table whose handles are all Idle at generation `start`, and its actors in the order of
+    /// their numbers, the backends first: backend `b` owns the handles from `b * per_backend` to
+    /// `(b + 1) * per_backend - 1`. It takes all memory that the table and its actors ever take:
+    /// a word, a slot with room for a record, and an owner's note for each handle.
+    pub fn open(
+        alloc: Global,
+        backends: u32,
+        per_backend: u32,
+        runners: u32,
+        start: u64,
+    ) -> Result<(Table<R, W>, Vec<Actor<R, W>>), AllocError>
+        requires backends { (1 ≤ backends) × (backends ≤ 16) }
+        requires per_backend { (1 ≤ per_backend) × (per_backend ≤ 64) }
+        requires handles { backends * per_backend ≡ W.handles }
+        requires runners { runners ≤ 32 }
+        requires start { start < 2 ^ 58 }
+        ensures table { IfOk result
+            (λ t. t.0.config ≡
+            record {
+              backends = backends;
+              per_backend = per_backend;
+              runners = runners;
+              start =
+                  start;
+            }) }
+        ensures count { IfOk result (λ t. length t.1.items ≡ backends + runners) }
+        ensures actors { IfOk result (λ t. AreNew t.0 0 t.1.items) }
+    {
+        let config = Config {
+            backends,
+            per_backend,
+            runners,
+            start,
+        };
+        let count = (backends * per_backend) as usize;
+        let number = backends + runners;
+        let mut actors = Vec::with_capacity(alloc, number as usize)?;
+        let words = Vec::from_elem(alloc, 64 * start, count)?;
+        let (inner, mut seat) = atomic_table::Table::vacant(
+            alloc,
+            words.as_slice(),
+            count,
+            &config,
+        )?;
+        let table = Table { inner, config };
+        for n in 0..number {
+            let actor = table.deal(alloc, &mut seat, n)?;
+            actors.push_reserved(actor);
+        }
+        Ok((table, actors))
+    }
+
+    // The actor of this number, whose list is the first that the seat carries.
+    fn deal(
+        &self,
+        alloc: Global,
+        seat: &mut Seat<Option<R>, View>,
+        number: u32,
+    ) -> Result<Actor<R, W>, AllocError>
+        requires table { seat.old.table_id ≡ self.now.table }
+        requires number { number < actors_of self.now.config }
+        requires view { (ps : List Known)
+            × (seat.old.me ≡ (newcomer self.now.config number ∷ ps, [])) }
+        ensures seat { IfOk result
+            (λ _. (seat.new.table_id ≡ seat.old.table_id)
+            × (seat.new.me ≡ (behind_of seat.old.me.0, []))) }
+        ensures actor { IfOk result
+            (λ a. a ≡ record {
+              table = self.now.table;
+              config = self.now.config;
+              known =
+                  newcomer self.now.config number;
+            }) }
+    {
+        let first = OwnHandle {
+            generation: self.config.start,
+            is_defined: false,
+        };
+        let count = own_count(&self.config, number);
+        let own = Vec::from_elem(alloc, first, count)?;
+        Ok(Actor {
+            seat: self.inner.shared.split_seat::<Deal>(seat),
+            number,
+            config: self.config,
+            own,
+            turn: 0,
+            is_out: false,
+            claims: 0,
+            of: PhantomData,
+        })
+    }
+}

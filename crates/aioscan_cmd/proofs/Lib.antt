@@ -1,0 +1,12 @@
+pub mod Numbers
+pub mod Names
+pub mod MoreLengths
+pub mod Growing
+pub mod OneBlock
+pub mod Composing
+pub mod Ranges
+pub mod Files
+pub mod EndOfRun
+pub mod Promises
+pub mod MorePromises
+pub mod TopClauses

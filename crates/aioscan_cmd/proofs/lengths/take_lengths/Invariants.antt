@@ -1,0 +1,13 @@
+use Rattle.std.proofs.Common.{◌≡◌, ◌≤◌}
+use Rattle.aioscan_cmd.specs.Lengths.{HasLengths}
+use Rattle.aioscan_cmd.proofs.lengths.take_lengths.Given as goal
+
+abbrev pub invariant-loop-relation : goal.invariant-loop-relation
+invariant-loop-relation g l = record {
+  taken : HasLengths (g.D.Disk.told l.fn.disk) l.relation l.lengths.items;
+  later : g.D.Disk.length_faults l.fn.disk ≤ g.D.Disk.length_faults l.disk;
+  told : g.D.Disk.told l.disk ≡ g.D.Disk.told l.fn.disk;
+  relations : g.D.Disk.relations l.disk ≡ g.D.Disk.relations l.fn.disk;
+  faults : g.D.Disk.faults l.disk ≡ g.D.Disk.faults l.fn.disk;
+  reads : g.D.Disk.reads l.disk ≡ g.D.Disk.reads l.fn.disk;
+}

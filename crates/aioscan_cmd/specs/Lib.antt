@@ -1,0 +1,12 @@
+pub mod Command
+pub mod Words
+pub mod RequestList
+pub mod Outcomes
+pub mod Output
+pub mod ErrorLine
+pub mod Causes
+pub mod Order
+pub mod CommandWords
+pub mod Lengths
+pub mod Reading
+pub mod Running

@@ -1,0 +1,40 @@
+-- The blocks that a command asks for, in order.
+use Rattle.std.specs.Prelude.{ℕ, ◌+◌, ◌-◌, List, map, unwrap_or}
+use Rattle.std.specs.List.{flat_map, range_with_len}
+use Rattle.std.specs.Option.{option_map_or}
+use Rattle.page_check.specs.SynchronousAnswer.{Entry, Given}
+use Rattle.aioscan_cmd.specs.Command.{Command, relations_of, relation_number}
+
+-- a block of a relation
+abbrev pub Request : Type 0
+Request = Entry (Unit {0})
+
+abbrev pub request : ℕ → ℕ → Request
+request r b = record { relation = r; block = b; per_buffer_data = tt }
+
+-- a page that was given for a request
+abbrev pub Page : Type 0
+Page = Given (Unit {0})
+
+-- so many blocks of a relation, from one on
+abbrev pub block_range : ℕ → ℕ → ℕ → List Request
+block_range r first count = map (request r) (range_with_len first count)
+
+-- how many blocks a command asks for of a relation of this length: from `--from`, or 0, up to
+-- `--to`, or the last block
+abbrev pub first_block : Command → ℕ
+first_block command = unwrap_or command.from 0
+
+abbrev pub asked_count : Command → ℕ → ℕ
+asked_count command length =
+    option_map_or (λ last. last + 1) command.to length - first_block command
+
+-- the blocks that one FILE word adds
+abbrev pub requests_of_file : (ℕ → ℕ) → Command → List ℕ → List Request
+requests_of_file lengths command name =
+    let r = relation_number name (relations_of command) in
+    block_range r (first_block command) (asked_count command (lengths r))
+
+-- those of all FILE words, by the length of each relation
+unfoldable pub requests_of : (ℕ → ℕ) → Command → List Request
+requests_of lengths command = flat_map (requests_of_file lengths command) command.files

@@ -1,0 +1,73 @@
+//! The line on the error stream.
+ghost use Rattle.std.specs.Prelude.{◌≡◌, ◌≤◌, [], IfOk, IfSome, IsNone, string_bytes};
+ghost use Rattle.aioscan_cmd.specs.Outcomes.{line_of};
+ghost use Rattle.aioscan_cmd.specs.ErrorLine.{IsToldOnErr, HasNumbers};
+
+use crate::{Line, Outcome};
+use aio_disk::{Sink, WriteFault};
+use std::alloc::{AllocError, Global};
+
+// The line of an outcome that has no numbers, which takes no memory; none for one that has.
+fn fixed_line(outcome: Outcome) -> Option<&'static str>
+    ensures text { IfSome result (λ text. text.now ≡ line_of outcome) }
+    ensures numbers { IsNone result → HasNumbers outcome }
+{
+    match outcome {
+        Outcome::Done => Some(""),
+        Outcome::Usage => Some("usage: aioscan [options] FILE...\n"),
+        Outcome::CannotOpen => Some("cannot open\n"),
+        Outcome::CannotWrite => Some("cannot write\n"),
+        Outcome::NoMemory => Some("out of memory\n"),
+        Outcome::Invalid(_, _)
+        | Outcome::NoLength(_)
+        | Outcome::Unread(_, _)
+        | Outcome::Missing(_, _)
+        | Outcome::TooLong(_) => None,
+    }
+}
+
+// The line of an outcome that has numbers.
+fn numbered_line(alloc: Global, outcome: Outcome) -> Result<String, AllocError>
+    requires { HasNumbers outcome }
+    ensures { IfOk result (λ text. string_bytes text ≡ line_of outcome) }
+{
+    match outcome {
+        Outcome::Invalid(relation, block) => format!(in alloc; "invalid page {relation} {block}\n"),
+        Outcome::NoLength(relation) => format!(in alloc; "no length {relation}\n"),
+        Outcome::Unread(relation, block) => format!(in alloc; "unread page {relation} {block}\n"),
+        Outcome::Missing(relation, block) => format!(in alloc; "no page {relation} {block}\n"),
+        Outcome::TooLong(relation) => format!(in alloc; "relation {relation} is too long\n"),
+        _ => Ok(String::new(alloc)),
+    }
+}
+
+// Writes a line, where it is not empty.
+fn write_text<E: Sink>(text: &str, err: &mut E) -> Line
+    ensures told { IsToldOnErr text.now result (E.written err.old) (E.written err.new)
+        (E.faults err.old) (E.faults err.new) }
+    ensures later { E.faults err.old ≤ E.faults err.new }
+{
+    if text.is_empty() {
+        return Line::Whole;
+    }
+    match err.write(text.as_bytes()) {
+        Ok(()) => Line::Whole,
+        Err(WriteFault::Device) => Line::Cut,
+        Err(WriteFault::Memory) => Line::NoMemory,
+    }
+}
+
+/// Writes the line of an outcome by one write, or nothing where there is none.
+pub(crate) fn write_line<E: Sink>(alloc: Global, outcome: Outcome, err: &mut E) -> Line
+    ensures told { IsToldOnErr (line_of outcome) result (E.written err.old) (E.written err.new)
+        (E.faults err.old) (E.faults err.new) }
+    ensures later { E.faults err.old ≤ E.faults err.new }
+{
+    if let Some(text) = fixed_line(outcome) {
+        return write_text(text, err);
+    }
+    match numbered_line(alloc, outcome) {
+        Ok(text) => write_text(text.as_str(), err),
+        Err(_) => Line::NoMemory,
+    }
+}

@@ -1,0 +1,55 @@
+//! What a run says of itself.
+
+/// How a run ended. `R` is the number of a relation, its place among the distinct names, and `B`
+/// a block of it.
+#[derive(Clone, Copy, Debug, PartialEq, Eq)]
+pub enum Outcome {
+    /// All was listed: status 0.
+    Done,
+    /// Page (R, B) is neither zeros nor sane: status 1.
+    Invalid(u32, u32),
+    /// The words are no command: status 2.
+    Usage,
+    /// A file could not be opened: status 3.
+    CannotOpen,
+    /// The length of relation R could not be had: status 3.
+    NoLength(u32),
+    /// Page (R, B) could not be read: status 3.
+    Unread(u32, u32),
+    /// The output could not be written: status 4.
+    CannotWrite,
+    /// There was no memory: status 5.
+    NoMemory,
+    /// Relation R has no block B: status 6.
+    Missing(u32, u32),
+    /// Relation R has more than 131072 blocks: status 7.
+    TooLong(u32),
+}
+
+/// How much of the outcome's line reached the error stream.
+#[derive(Clone, Copy, Debug, PartialEq, Eq)]
+pub enum Line {
+    /// All of it; also where there is none, and then nothing was written.
+    Whole,
+    /// A begin of it: the error stream failed.
+    Cut,
+    /// A begin of it: there was no memory.
+    NoMemory,
+}
+
+/// The end of a run.
+#[derive(Clone, Copy, Debug, PartialEq, Eq)]
+pub struct Report {
+    /// The exit status, 0 to 7.
+    pub status: u8,
+    /// What the status stands for, with its numbers.
+    pub outcome: Outcome,
+    /// How much of its line reached the error stream.
+    pub line: Line,
+    /// How many I/Os were made through handles.
+    pub incarnations: u128,
+    /// How many of them were executed by I/O workers.
+    pub by_workers: u128,
+    /// How many of them were executed by backends.
+    pub by_backends: u128,
+}

@@ -1,0 +1,5 @@
+//! Whole runs.
+mod outside;
+mod rows;
+mod slow;
+mod untold;

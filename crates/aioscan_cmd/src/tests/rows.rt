@@ -1,0 +1,222 @@
+//! Worked runs over memory.
+use super::outside::{DAMAGED, EMPTY, Fails, Parts, STEADY, ZEROS, file_of, run};
+use crate::Line;
+use std::process::Abort;
+use std::slice::from_ref;
+use std::test::Fail;
+
+const E_LINE: &str = "page 0 0 lower 24 upper 8192 special 8192 items 0\n";
+
+const USAGE: &str = "usage: aioscan [options] FILE...\n";
+
+// Runs over `f` and `g`, and compares the output, the line and the status.
+fn expect<R: Abort + AllocGlobal>(
+    rt: &R,
+    files: (&[Parts<'_>], &[Parts<'_>]),
+    fails: Fails<'_>,
+    words: &[&str],
+    cuts: &[(u64, u64)],
+    wanted: (&str, &str, u8),
+) -> Result<(), Fail> {
+    let alloc = rt.alloc();
+    let all = vec![in alloc;
+        (String::from_str(alloc, "f")?, file_of(alloc, files.0)?),
+        (String::from_str(alloc, "g")?, file_of(alloc, files.1)?),
+    ]?;
+    let (report, out, err) = run(rt, all, fails, words, cuts)?;
+    assert_eq!(rt; out.bytes(), wanted.0.as_bytes());
+    assert_eq!(rt; err.bytes(), wanted.1.as_bytes());
+    assert_eq!(rt; report.status, wanted.2);
+    assert_eq!(rt; report.line, Line::Whole);
+    Ok(())
+}
+
+// `scan f` over one file.
+fn expect_page<R: Abort + AllocGlobal>(
+    rt: &R,
+    parts: Parts<'_>,
+    wanted: (&str, &str, u8),
+) -> Result<(), Fail> {
+    expect(
+        rt,
+        (from_ref(&parts), &[]),
+        STEADY,
+        &["scan", "f"],
+        &[],
+        wanted,
+    )
+}
+
+#[test]
+fn pages_one_by_one(rt: HostRuntime) -> Result<(), Fail> {
+    let one: &[u8] = &[28, 0, 0xd8, 0x1f, 0, 32, 4, 32];
+    let rows: [(&str, Parts<'_>, (&str, &str, u8)); 10] = [
+        ("one empty page", EMPTY, (E_LINE, "", 0)),
+        ("a page of zeros", ZEROS, ("page 0 0 new\n", "", 0)),
+        ("zeros but one byte", DAMAGED, ("", "invalid page 0 0\n", 1)),
+        (
+            "one normal item",
+            &[(12, one), (24, &[0xd8, 0x9f, 0x50, 0])],
+            (
+                "page 0 0 lower 28 upper 8152 special 8192 items 1\nitem 1 normal 8152 40\n",
+                "",
+                0,
+            ),
+        ),
+        (
+            "one redirect",
+            &[(12, one), (24, &[5, 0, 1, 0])],
+            (
+                "page 0 0 lower 28 upper 8152 special 8192 items 1\nitem 1 redirect 5 0\n",
+                "",
+                0,
+            ),
+        ),
+        (
+            "flags 8",
+            &[(10, &[8, 0, 24, 0, 0, 32, 0, 32, 4, 32])],
+            ("", "invalid page 0 0\n", 1),
+        ),
+        (
+            "flags 7",
+            &[(10, &[7, 0, 24, 0, 0, 32, 0, 32, 4, 32])],
+            (E_LINE, "", 0),
+        ),
+        (
+            "special 8188",
+            &[(12, &[24, 0, 0xf8, 0x1f, 0xfc, 0x1f, 4, 32])],
+            ("", "invalid page 0 0\n", 1),
+        ),
+        (
+            "special 8184",
+            &[(12, &[24, 0, 0xf8, 0x1f, 0xf8, 0x1f, 4, 32])],
+            ("page 0 0 lower 24 upper 8184 special 8184 items 0\n", "", 0),
+        ),
+        (
+            "lower 30",
+            &[(12, &[30, 0, 0, 32, 0, 32, 4, 32])],
+            (
+                "page 0 0 lower 30 upper 8192 special 8192 items 1\nitem 1 unused 0 0\n",
+                "",
+                0,
+            ),
+        ),
+    ];
+    for (_name, parts, wanted) in rows {
+        expect_page(&rt, parts, wanted)?;
+    }
+    Ok(())
+}
+
+#[test]
+fn a_part_of_a_block_is_no_block(rt: HostRuntime) -> Result<(), Fail> {
+    let alloc = rt.alloc();
+    for size in [0, 8191] {
+        let files = vec![in alloc; (String::from_str(alloc, "e")?, vec![in alloc; 0u8; size]?)]?;
+        let (report, out, err) = run(&rt, files, STEADY, &["scan", "e"], &[])?;
+        assert_eq!(rt; out.bytes().len(), 0);
+        assert_eq!(rt; err.bytes().len(), 0);
+        assert_eq!(rt; report.status, 0);
+    }
+    Ok(())
+}
+
+#[test]
+fn every_status(rt: HostRuntime) -> Result<(), Fail> {
+    let two: &[Parts<'_>] = &[EMPTY, EMPTY];
+    let three: &[Parts<'_>] = &[EMPTY, EMPTY, EMPTY];
+    let four: &[Parts<'_>] = &[EMPTY, EMPTY, EMPTY, EMPTY];
+    let bad: &[Parts<'_>] = &[DAMAGED];
+    let both = "page 0 0 lower 24 upper 8192 special 8192 items 0\n\
+                page 0 1 lower 24 upper 8192 special 8192 items 0\n";
+    let last = "page 0 3 lower 24 upper 8192 special 8192 items 0\n";
+    let again = "page 0 0 lower 24 upper 8192 special 8192 items 0\n\
+                 page 0 0 lower 24 upper 8192 special 8192 items 0\n";
+    let read_2: Fails<'_> = (&[], &[], &[(0, 2)]);
+    let length_1: Fails<'_> = (&[], &[(0, 1)], &[]);
+    let length_2: Fails<'_> = (&[], &[(0, 2)], &[]);
+    let open_1: Fails<'_> = (&[1], &[], &[]);
+    let rows: [(&[Parts<'_>], Fails<'_>, &[&str], (&str, &str, u8)); 11] = [
+        (
+            two,
+            STEADY,
+            &["scan", "f", "g"],
+            (both, "invalid page 1 0\n", 1),
+        ),
+        (
+            three,
+            read_2,
+            &["scan", "f"],
+            (E_LINE, "unread page 0 1\n", 3),
+        ),
+        (
+            three,
+            STEADY,
+            &["scan", "--from", "2", "--to", "1", "f"],
+            ("", "", 0),
+        ),
+        (&[EMPTY], STEADY, &["scan", "f", "f"], (again, "", 0)),
+        (
+            four,
+            STEADY,
+            &["scan", "--from", "3", "--to", "4", "f"],
+            (last, "no page 0 4\n", 6),
+        ),
+        (four, STEADY, &["scan", "--from", "4", "f"], ("", "", 0)),
+        (two, length_1, &["scan", "f"], ("", "no length 0\n", 3)),
+        (
+            two,
+            length_2,
+            &["scan", "f", "f", "g"],
+            ("", "no length 1\n", 3),
+        ),
+        (two, open_1, &["scan", "f"], ("", "cannot open\n", 3)),
+        (two, STEADY, &["scan", "h"], ("", "cannot open\n", 3)),
+        (
+            two,
+            STEADY,
+            &["scan", "--to", "0", "f", "g", "f"],
+            (E_LINE, "invalid page 1 0\n", 1),
+        ),
+    ];
+    for (pages, fails, words, wanted) in rows {
+        expect(&rt, (pages, bad), fails, words, &[], wanted)?;
+    }
+    Ok(())
+}
+
+#[test]
+fn an_output_that_fails_after_5_bytes(rt: HostRuntime) -> Result<(), Fail> {
+    let wanted = ("page ", "cannot write\n", 4);
+    expect(
+        &rt,
+        (&[EMPTY], &[]),
+        STEADY,
+        &["scan", "f"],
+        &[(1, 5)],
+        wanted,
+    )
+}
+
+#[test]
+fn words_that_are_no_command(rt: HostRuntime) -> Result<(), Fail> {
+    let rows: [&[&str]; 13] = [
+        &[],
+        &["scan"],
+        &["scan", ""],
+        &["scan", "-f"],
+        &["list", "f"],
+        &["scan", "f", "--to", "0"],
+        &["scan", "--from=0", "f"],
+        &["scan", "--to", "0", "--from", "0", "f"],
+        &["scan", "--from", "131072", "f"],
+        &["scan", "--from", "+1", "f"],
+        &["scan", "--from", "00000001", "f"],
+        &["scan", "--from", "", "f"],
+        &["scan", "--from", "0", "--from", "0", "f"],
+    ];
+    for words in rows {
+        expect(&rt, (&[EMPTY], &[]), STEADY, words, &[], ("", USAGE, 2))?;
+    }
+    Ok(())
+}

@@ -1,0 +1,173 @@
+//! A plain slow lister, and random requests on which the two are compared.
+ghost use Rattle.std.specs.Prelude.{◌<◌};
+
+use super::outside::{DAMAGED, EMPTY, Parts, STEADY, ZEROS, file_of, run};
+use std::alloc::{AllocError, Global};
+use std::test::Fail;
+
+const TWO_ITEMS: Parts<'static> = &[
+    (12, &[32, 0, 0, 16, 0, 32, 4, 32]),
+    (24, &[0xd8, 0x9f, 0x50, 0, 0, 0x80, 1, 0]),
+];
+
+// A number of `size` bytes, the lowest first.
+fn number(bytes: &[u8], offset: usize, size: usize) -> u32 {
+    let mut value: u32 = 0;
+    for byte in bytes.iter().skip(offset).take(size).rev() {
+        value = value.wrapping_mul(256).wrapping_add(u32::from(*byte));
+    }
+    value
+}
+
+// Appends the text of a page, and says whether it is a valid one.
+fn list_page(text: &mut String, relation: usize, block: u32, page: &[u8]) -> Result<bool, Fail> {
+    if page.iter().all(|byte| *byte == 0) {
+        writeln!(text, "page {relation} {block} new")?;
+        return Ok(true);
+    }
+    let (flags, lower) = (number(page, 10, 2), number(page, 12, 2));
+    let (upper, special) = (number(page, 14, 2), number(page, 16, 2));
+    if upper == 0 || flags > 7 || lower > upper || upper > special {
+        return Ok(false);
+    }
+    if special > 8192 || special % 8 != 0 {
+        return Ok(false);
+    }
+    let items = lower.saturating_sub(24) / 4;
+    writeln!(
+        text,
+        "page {relation} {block} lower {lower} upper {upper} special {special} items {items}"
+    )?;
+    for index in 0..items.min(2042) {
+        let pointer = number(page, 24 + 4 * index as usize, 4);
+        let word = ["unused", "normal", "redirect", "dead"][(pointer / 32768 % 4) as usize];
+        let (offset, length) = (pointer % 32768, pointer / 131072);
+        writeln!(text, "item {} {word} {offset} {length}", index + 1)?;
+    }
+    Ok(true)
+}
+
+// What is asked for: the first and the last block, and files by their numbers.
+#[derive(Drop)]
+struct Asked {
+    from: Option<u32>,
+    to: Option<u32>,
+    files: Vec<usize>,
+}
+
+// The listing, the line and the status for two files `a` and `b`.
+fn slow_run(
+    alloc: Global,
+    asked: &Asked,
+    contents: &[Vec<u8>],
+) -> Result<(String, String, u8), Fail> {
+    let mut text = String::new(alloc);
+    let first_named = asked.files.as_slice().first().copied().unwrap_or(0);
+    for file in asked.files.as_slice() {
+        let relation = if *file == first_named { 0usize } else { 1 };
+        let empty = Vec::new(alloc);
+        let bytes = contents.get(*file).unwrap_or(&empty).as_slice();
+        let blocks = (bytes.len() / 8192).min(1000) as u32;
+        let after = asked.to.map_or(blocks, |last| last.saturating_add(1));
+        for block in asked.from.unwrap_or(0)..after {
+            if block >= blocks {
+                return Ok((text, format!(in alloc; "no page {relation} {block}\n")?, 6));
+            }
+            let page = bytes.get(8192 * block as usize..).unwrap_or(&[]);
+            let page = page.get(..8192).unwrap_or(&[]);
+            if !list_page(&mut text, relation, block, page)? {
+                return Ok((
+                    text,
+                    format!(in alloc; "invalid page {relation} {block}\n")?,
+                    1,
+                ));
+            }
+        }
+    }
+    Ok((text, String::new(alloc), 0))
+}
+
+// A number below `limit`, and the next state.
+fn pick(state: &mut u64, limit: u64) -> u64
+    requires { 0 < limit }
+    ensures { result < limit }
+{
+    *state = state
+        .wrapping_mul(6364136223846793005)
+        .wrapping_add(1442695040888963407);
+    (*state >> 33) % limit
+}
+
+// A file of up to four pages, one in eight of them damaged.
+fn random_file(alloc: Global, state: &mut u64) -> Result<Vec<u8>, AllocError> {
+    let mut pages: Vec<Parts<'_>> = Vec::new(alloc);
+    for _ in 0..pick(state, 5) {
+        pages.push(match pick(state, 8) {
+            0 => DAMAGED,
+            1 | 2 => ZEROS,
+            3 | 4 => TWO_ITEMS,
+            _ => EMPTY,
+        })?;
+    }
+    file_of(alloc, pages.as_slice())
+}
+
+// A block number below 5, or none.
+fn random_block(state: &mut u64) -> Option<u32> {
+    match pick(state, 10) {
+        block @ 0..5 => Some(block as u32),
+        _ => None,
+    }
+}
+
+fn random_asked(alloc: Global, state: &mut u64) -> Result<Asked, AllocError> {
+    let mut files = Vec::new(alloc);
+    for _ in 0..1 + pick(state, 3) {
+        files.push(if pick(state, 2) == 0 { 0usize } else { 1 })?;
+    }
+    Ok(Asked {
+        from: random_block(state),
+        to: random_block(state),
+        files,
+    })
+}
+
+// The words that ask for this.
+fn words_of(alloc: Global, asked: &Asked) -> Result<Vec<&'static str>, AllocError> {
+    let numbers = ["0", "1", "2", "3", "4"];
+    let mut words = Vec::new(alloc);
+    words.push("scan")?;
+    for (option, block) in [("--from", asked.from), ("--to", asked.to)] {
+        if let Some(block) = block {
+            words.push(option)?;
+            words.push(numbers.get(block as usize).copied().unwrap_or("0"))?;
+        }
+    }
+    for file in asked.files.as_slice() {
+        words.push(if *file == 0 { "a" } else { "b" })?;
+    }
+    Ok(words)
+}
+
+#[test]
+fn random_requests(rt: HostRuntime) -> Result<(), Fail> {
+    let alloc = rt.alloc();
+    let mut state = 20261126;
+    for _ in 0..60 {
+        let a = random_file(alloc, &mut state)?;
+        let b = random_file(alloc, &mut state)?;
+        let asked = random_asked(alloc, &mut state)?;
+        let contents = vec![in alloc; a.clone()?, b.clone()?]?;
+        let (text, line, status) = slow_run(alloc, &asked, contents.as_slice())?;
+        let words = words_of(alloc, &asked)?;
+        let files = vec![in alloc;
+            (String::from_str(alloc, "a")?, a),
+            (String::from_str(alloc, "b")?, b),
+        ]?;
+        let (report, out, err) = run(&rt, files, STEADY, words.as_slice(), &[])?;
+        assert_eq!(rt; out.bytes(), text.as_str().as_bytes());
+        assert_eq!(rt; err.bytes(), line.as_str().as_bytes());
+        assert_eq!(rt; report.status, status);
+    }
+    Ok(())
+}

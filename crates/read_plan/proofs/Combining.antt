@@ -1,0 +1,71 @@
+-- The runs of a plan go on where a block is offered.
+use Rattle.std.proofs.Common.{◌≡◌, ℕ, zero, suc, ◌+◌, ◌^◌, ◌<◌, ◌≤◌, List, [], ◌∷◌, ◌++◌}
+use Rattle.std.proofs.Common.{Some, All, refl, sym, ◌∙◌, ap, subst, arith}
+use Rattle.std.proofs.Common.{add-zero, append_assoc}
+use Rattle.std.specs.List.{range_with_len, flat_map}
+use Rattle.std.proofs.lemmas.List.{append-nil, flat_map_more}
+use Rattle.std.proofs.lemmas.List.Elements.{All-push, All-pop}
+use Rattle.read_plan.specs.declared.runs.Run.{Run}
+use Rattle.read_plan.specs.Runs.{AreRuns, IsRun, blocks_of, one_block}
+
+-- one more number in a row
+range_more : (first count : ℕ) →
+    range_with_len first (count + 1) ≡ range_with_len first count ++ (first + count) ∷ []
+range_more first zero = rw add-zero
+range_more first (suc count) =
+    let more : suc count + 1 ≡ suc (count + 1) = omega arith in
+    let same : first + 1 + count ≡ first + suc count = omega arith in
+    rw (more, range_more (first + 1) count, same)
+
+-- a run with one more block
+abbrev pub longer : Run → Run
+longer run = record run { count = run.count + 1 }
+
+-- its blocks
+blocks_of-longer : (run : Run) (block : ℕ) → run.first + run.count ≡ block →
+    blocks_of (longer run) ≡ blocks_of run ++ block ∷ []
+blocks_of-longer run block next =
+    subst (λ last. blocks_of (longer run) ≡ blocks_of run ++ last ∷ []) next
+    (range_more run.first run.count)
+
+-- the blocks of runs and of one more
+last_blocks : (runs : List Run) (run : Run) →
+    flat_map blocks_of (runs ++ run ∷ []) ≡ flat_map blocks_of runs ++ blocks_of run
+last_blocks runs run = sym (flat_map_more blocks_of [] runs run)
+
+module _ (combine : ℕ) (before : List Run) (run : Run) (block : ℕ) (offered : List ℕ) where
+  -- a run of the block stands behind the last run
+  pub block_flushes : 1 ≤ combine → block < 2 ^ 32 → AreRuns combine (before ++ run ∷ []) offered →
+      AreRuns combine (before ++ run ∷ [] ++ one_block block ∷ []) (offered ++ block ∷ [])
+  block_flushes room known are =
+      let is : IsRun combine (one_block block) = record {
+        not_empty = omega arith;
+        combined = room;
+        in_range = omega arith;
+      } in record {
+        each = All-push (IsRun combine) (before ++ run ∷ []) (one_block block) are.each is;
+        in_order =
+            last_blocks (before ++ run ∷ []) (one_block block)
+            ∙ ap (λ xs. xs ++ block ∷ []) are.in_order;
+      }
+
+  -- the block is one more of the last run
+  pub block_extends : run.count < combine → run.first + run.count ≡ block → block < 2 ^ 32 →
+      AreRuns combine (before ++ run ∷ []) offered →
+      AreRuns combine (before ++ [] ++ longer run ∷ []) (offered ++ block ∷ [])
+  block_extends room next known are =
+      let is : IsRun combine (longer run) = record {
+        not_empty = omega arith;
+        combined = omega arith;
+        in_range = omega arith;
+      } in
+      let others : All (IsRun combine) before =
+      (All-pop (IsRun combine) (before ++ run ∷ []) before (Some run) refl are.each).0 in
+      rw append-nil record {
+        each = All-push (IsRun combine) before (longer run) others is;
+        in_order =
+            last_blocks before (longer run)
+            ∙ ap (λ xs. flat_map blocks_of before ++ xs) (blocks_of-longer run block next)
+            ∙ sym (append_assoc (flat_map blocks_of before) (blocks_of run) (block ∷ []))
+            ∙ ap (λ xs. xs ++ block ∷ []) (sym (last_blocks before run) ∙ are.in_order);
+      }

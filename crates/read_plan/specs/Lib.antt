@@ -1,0 +1,4 @@
+pub mod Inside
+pub mod Offered
+pub mod Plans
+pub mod Runs

@@ -1,0 +1,28 @@
+-- Runs of neighbouring blocks.
+use Rattle.std.specs.Prelude.{◌≡◌, ℕ, ◌+◌, ◌^◌, ◌<◌, ◌≤◌, List, All}
+use Rattle.std.specs.List.{range_with_len, flat_map}
+use Rattle.read_plan.specs.declared.runs.Run.{Run}
+
+-- the blocks of a run: first, first + 1 and so on, as many as it counts
+abbrev pub blocks_of : Run → List ℕ
+blocks_of run = range_with_len run.first run.count
+
+-- a run of one block
+abbrev pub one_block : ℕ → Run
+one_block block = record { first = block; count = 1 }
+
+-- the run has at least one block and at most `combine`, and no block above the greatest one
+pub record IsRun (combine : ℕ) (run : Run) : Type 0 where
+  pub not_empty : 1 ≤ run.count
+  pub combined : run.count ≤ combine
+  pub in_range : run.first + run.count ≤ 2 ^ 32
+
+-- the blocks of these runs, one run after the other, are these blocks
+pub record AreRuns (combine : ℕ) (runs : List Run) (blocks : List ℕ) : Type 0 where
+  pub each : All (IsRun combine) runs
+  pub in_order : flat_map blocks_of runs ≡ blocks
+
+-- the run is shorter than `combine` and ends right before the block
+pub record Continues (combine : ℕ) (run : Run) (block : ℕ) : Type 0 where
+  pub shorter : run.count < combine
+  pub neighbour : run.first + run.count ≡ block

@@ -1,0 +1,111 @@
+ghost use Rattle.std.specs.Prelude.{◌≡◌, ◌++◌, None, IfOk};
+ghost use Rattle.read_plan.specs.Offered.{flushed};
+ghost use Rattle.read_plan.specs.Runs.{AreRuns};
+
+use super::*;
+use std::alloc::{AllocError, Global};
+use std::test::Fail;
+
+// Keeps the run that an answer hands out.
+fn keep(runs: &mut Vec<Run>, offer: Offer) -> Result<(), AllocError>
+    ensures { IfOk result (λ _. runs.new.items ≡ runs.old.items ++ flushed offer) }
+{
+    if let Offer::Flush(run) = offer {
+        runs.push(run)?;
+    }
+    Ok(())
+}
+
+// The runs that a plan makes of these blocks.
+fn runs_of(alloc: Global, mut plan: Plan, blocks: &[u32]) -> Result<Vec<Run>, AllocError>
+    requires { plan.pending ≡ None }
+    ensures { IfOk result (λ runs. AreRuns plan.combine runs.items blocks.now) }
+{
+    let mut runs = Vec::new(alloc);
+    for block in blocks {
+        keep(&mut runs, plan.offer(*block))?;
+    }
+    if let Some(run) = plan.take_pending() {
+        runs.push(run)?;
+    }
+    Ok(runs)
+}
+
+#[test]
+fn a_run_of_combine_blocks_is_flushed(rt: HostRuntime) {
+    let mut plan = Plan::new(4, 16, 64, false);
+    let flush = Offer::Flush(Run { first: 5, count: 4 });
+    let table = [
+        (5, Offer::Start),
+        (6, Offer::Extended),
+        (7, Offer::Extended),
+        (8, Offer::Extended),
+        (9, flush),
+    ];
+    for (block, answer) in table {
+        assert_eq!(rt; plan.offer(block), answer, "block {block}");
+    }
+    let last = Some(Run { first: 9, count: 1 });
+    assert_eq!(rt; plan.pending(), last);
+    assert_eq!(rt; plan.take_pending(), last);
+    assert_eq!(rt; plan.pending(), None);
+}
+
+#[test]
+fn blocks_that_are_no_neighbours(rt: HostRuntime) {
+    let mut plan = Plan::new(4, 16, 64, false);
+    let three = Offer::Flush(Run { first: 3, count: 1 });
+    let greatest = Offer::Flush(Run {
+        first: 4294967295,
+        count: 1,
+    });
+    for (block, answer) in [
+        (3, Offer::Start),
+        (3, three),
+        (4294967295, three),
+        (0, greatest),
+    ] {
+        assert_eq!(rt; plan.offer(block), answer, "block {block}");
+    }
+}
+
+#[test]
+fn runs_of_a_list(rt: HostRuntime) -> Result<(), Fail> {
+    let plan = Plan::new(2, 16, 64, false);
+    let runs = runs_of(rt.alloc(), plan, &[1, 2, 3, 7])?;
+    let expected = [
+        Run { first: 1, count: 2 },
+        Run { first: 3, count: 1 },
+        Run { first: 7, count: 1 },
+    ];
+    assert_eq!(rt; runs.as_slice(), expected.as_slice());
+    Ok(())
+}
+
+#[test]
+fn distances(rt: HostRuntime) {
+    let mut plan = Plan::new(16, 16, 5, false);
+    assert_eq!(rt; plan.distance(), 1);
+    for distance in [2, 4, 5] {
+        plan.waited();
+        assert_eq!(rt; plan.distance(), distance);
+    }
+    plan.hit();
+    assert_eq!(rt; plan.distance(), 4);
+    assert_eq!(rt; Plan::new(16, 16, 10, true).distance(), 10);
+}
+
+#[test]
+fn look_ahead(rt: HostRuntime) {
+    let mut plan = Plan::new(16, 1, 2, true);
+    assert!(rt; plan.may_look_ahead());
+    plan.started();
+    assert!(rt; !plan.may_look_ahead(), "as many I/Os as there may be");
+    plan.finished();
+    plan.taken();
+    assert!(rt; plan.may_look_ahead());
+    plan.taken();
+    assert!(rt; !plan.may_look_ahead(), "as many blocks ahead as wanted");
+    plan.given();
+    assert!(rt; plan.may_look_ahead());
+}
