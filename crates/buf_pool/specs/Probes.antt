@@ -11,7 +11,7 @@ slot_at slots k = slice_index_or slots k None
 
 -- the slot at which the search for the tag begins
 unfoldable pub home_of : Tag → ℕ → ℕ
-home_of tag size = (tag.relation * 0x3C6E_F35F + tag.block * 0x4F1B_BCDD) % size
+home_of tag size = (tag.relation * 0x3C6E_F35F + tag.block * 0x4F1B_BCF5) % size
 
 -- the slot that the search for the tag looks at after this many steps
 abbrev pub probe : List (Option ℕ) → Tag → ℕ → Option ℕ

@@ -1,5 +1,5 @@
 //! What a frame holds.
-ghost use Rattle.std.specs.Prelude.{◌≡◌, ℕ, Some, IsTrue, ◌↔◌, length, true, false};
+ghost use Rattle.std.specs.Prelude.{◌≡◌, IsTrue, ◌↔◌};
 ghost use Rattle.buf_pool.specs.declared.frame.Frame.TheVariants.{InProgress};
 ghost use Rattle.buf_pool.specs.Frames.{tag_of, is_free, is_unpinned};
 

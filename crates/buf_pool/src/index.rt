@@ -1,9 +1,9 @@
 //! The index of the pool.
-ghost use Rattle.std.specs.Prelude.{◌≡◌, ◌≢◌, ℕ, ◌-◌, ◌+◌, ◌^◌, ◌<◌, ◌≤◌, length, true, false, Some, None, MatchOption, IsSome, IsSomeAnd, IfOk, IfSome, List, replicate, slice_set, if◌then◌else◌};
+ghost use Rattle.std.specs.Prelude.{◌≡◌, ◌-◌, ◌+◌, ◌^◌, ◌<◌, ◌≤◌, length, false, Some, MatchOption, IsSomeAnd, IfOk, IfSome, List, replicate, slice_set, if◌then◌else◌};
 ghost use Rattle.aio_word.specs.declared.WaitRef.{WaitRef};
 ghost use Rattle.buf_pool.specs.declared.frame.Tag.{Tag};
 ghost use Rattle.buf_pool.specs.declared.frame.Frame.{Frame};
-ghost use Rattle.buf_pool.specs.declared.frame.Frame.TheVariants.{Free, InProgress, Valid};
+ghost use Rattle.buf_pool.specs.declared.frame.Frame.TheVariants.{Free, InProgress};
 ghost use Rattle.buf_pool.specs.Frames.{frame_at, tag_of, tag_at, pins_at, repinned, is_free, IsAbsent, IsFrameOf};
 ghost use Rattle.buf_pool.specs.Lawful.{PoolLawful};
 

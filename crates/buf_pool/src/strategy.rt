@@ -1,5 +1,5 @@
 //! Which frame is taken for a new entry.
-ghost use Rattle.std.specs.Prelude.{◌≡◌, ℕ, ◌+◌, ◌<◌, ◌≤◌, length, true, false, MatchOption, IfSome, List, if◌then◌else◌};
+ghost use Rattle.std.specs.Prelude.{◌≡◌, ℕ, ◌+◌, ◌<◌, ◌≤◌, length, true, IfSome, if◌then◌else◌};
 ghost use Rattle.buf_pool.specs.Frames.{frame_at, is_free, is_unpinned};
 ghost use Rattle.buf_pool.specs.Wanted.{is_wanted, IsSearchAnswer};
 ghost use Rattle.buf_pool.specs.Sound.{IsClock};

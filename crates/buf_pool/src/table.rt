@@ -1,5 +1,5 @@
 //! The table that finds the frame of a tag, after `buf_table.c`.
-ghost use Rattle.std.specs.Prelude.{◌≡◌, ◌≢◌, ℕ, ◌+◌, ◌*◌, ◌<◌, ◌≤◌, length, true, false, Some, None, MatchOption, List, IsTrue, ◌↔◌};
+ghost use Rattle.std.specs.Prelude.{◌≡◌, ◌≢◌, ℕ, ◌+◌, ◌*◌, ◌<◌, ◌≤◌, length, Some, IsTrue, ◌↔◌};
 ghost use Rattle.buf_pool.specs.declared.frame.Tag.{Tag};
 ghost use Rattle.buf_pool.specs.Frames.{tag_at, IsFrameOf};
 ghost use Rattle.buf_pool.specs.Probes.{home_of, Reaches, KeepsTaken, IsIndexed, empty_slots};
@@ -14,7 +14,7 @@ fn home(tag: Tag, size: usize) -> usize
     ensures home { result ≡ home_of tag size }
     ensures range { result < size }
 {
-    let mixed = u64::from(tag.relation) * 0x3C6E_F35F + u64::from(tag.block) * 0x4F1B_BCDD;
+    let mixed = u64::from(tag.relation) * 0x3C6E_F35F + u64::from(tag.block) * 0x4F1B_BCF5;
     (mixed % size as u64) as usize
 }
 
