@@ -1,0 +1,4 @@
+pub mod Heard
+pub mod Held
+pub mod Next
+pub mod Kept

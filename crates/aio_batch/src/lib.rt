@@ -1,0 +1,20 @@
+//! Batches of staged I/Os, and the trait of the methods that begin them (PostgreSQL's batch mode,
+//! `pgaio_enter_batchmode`, and `IoMethodOps` of `aio_internal.h`).
+//!
+//! A backend stages I/Os, pushes up to 32 of them into a batch, and submits them one by one in the
+//! order of pushing. A method then does what it does with a submitted I/O.
+//!
+//! # What the contracts mean
+//!
+//! Contracts see a batch as the list of its tokens' references and records. Its tokens are staged
+//! in one actor's list and of different incarnations: `submit_next` asks for that and gives it on.
+//! The call takes the first token off, appends its Submitted mark, and then those of the method,
+//! which are Claimed, Io and Shared marks, all three for each incarnation that it took up. So no
+//! handle is handed out, and what the actor knew of its other tokens still holds.
+#![tactic(auto)]
+
+mod batch;
+mod method;
+
+pub use batch::{Batch, Full};
+pub use method::Method;

@@ -1,0 +1,41 @@
+//! How I/Os are begun.
+ghost use Rattle.std.specs.Prelude.{◌≡◌, ◌<◌, List, [], Option};
+ghost use Rattle.aio_word.specs.declared.WaitRef.{WaitRef};
+ghost use Rattle.aio_handle.specs.Shown.{IsOf, IsSame};
+ghost use Rattle.aio_handle.specs.Executing.{TakesUp};
+ghost use Rattle.aio_batch.specs.Heard.{Heard};
+
+use aio_handle::{Actor, Execute, Record, Table};
+use aio_word::WaitRef;
+use page_check::World;
+use std::sync::Wait;
+
+/// What is done with an I/O that was just submitted: it is executed in place, or handed to workers
+/// (`IoMethodOps` of PostgreSQL's `aio_internal.h`, its `submit`).
+pub trait Method<R: Record, W: World> {
+    /// The references of which it has heard, where it tells them.
+    ghost heard: { Self → Option (List WaitRef) };
+
+    /// The actor has submitted this I/O. A batch calls it, once for each I/O that it submits.
+    ///
+    /// It may claim, execute and complete this and other I/Os by the runner, each of them to its
+    /// Shared mark. It leaves no other mark and hands out no handle. It cannot fail: an I/O that
+    /// it leaves alone stays submitted, and its waiter may claim it.
+    fn begun<E: Execute<R, W>, T: Wait>(
+        &mut self,
+        rt: &T,
+        table: &Table<R, W>,
+        actor: &mut Actor<R, W>,
+        runner: &mut E,
+        reference: WaitRef,
+    )
+        requires table { IsOf table.now actor.old }
+        requires told { (E.told runner.old ≡ W.told) × (E.relations runner.old ≡ W.relations) }
+        requires range { reference.handle < W.handles }
+        ensures same { IsSame actor.old actor.new }
+        ensures told { (E.told runner.new ≡ E.told runner.old)
+            × (E.relations runner.new ≡ E.relations runner.old) }
+        ensures heard { Heard (heard self.old) (heard self.new) reference }
+        ensures marks { TakesUp [] actor.old.known actor.new.known (E.reads runner.old)
+            (E.reads runner.new) (E.faults runner.old) (E.faults runner.new) };
+}
