@@ -1,0 +1,106 @@
+-- What events and what is taken up leave of an owner's tokens.
+use Rattle.std.proofs.Common.{◌≡◌, ◌≢◌, ℕ, ◌+◌, ◌*◌, ◌<◌, ◌≤◌, ◌⊎◌, List, [], ◌∷◌, ◌++◌, refl, sym, ap, ◌∙◌, subst, inl, inr, ⊎_elim, arith}
+use mathlib.Core.Logic.{dite}
+use native.Mathlib.Decide.{ℕ_discrete}
+use Rattle.aio_word.specs.declared.Step.{Step as Event}
+use Rattle.aio_word.specs.declared.Step.TheVariants as event
+use Rattle.aio_word.specs.declared.Kind.{Kind}
+use Rattle.aio_word.specs.declared.Kind.TheVariants as kind
+use Rattle.aio_word.specs.declared.Mark.{Mark}
+use Rattle.aio_word.specs.declared.Word.{Word}
+use Rattle.aio_word.specs.declared.WaitRef.{WaitRef}
+use Rattle.aio_word.specs.declared.Known.{Known}
+use Rattle.aio_word.specs.Words.{place_of, rank_of}
+use Rattle.aio_word.specs.Events.{ref, order}
+use Rattle.aio_word.specs.Stands.{IsIn}
+use Rattle.aio_word.specs.Tokens.{owned}
+use Rattle.aio_word.proofs.Parts.{in-left}
+use Rattle.aio_word.proofs.Steps.{place-small}
+use Rattle.aio_word.proofs.Frames.{spot, at-more, at-place}
+use Rattle.aio_handle.specs.Changes.{aims_after}
+use Rattle.aio_handle.specs.Made.{Made, Looked}
+use Rattle.aio_handle.specs.Executing.{TakesUp}
+use Rattle.aio_handle.proofs.Tokening.{counts-apart}
+use Rattle.aio_batch.specs.Kept.{IsKept, UsesToken}
+
+-- the owner's marks of t stand as often as before
+pub record SameOwn (t : WaitRef) (p q : Known) : Type 0 where
+  pub defined : spot t 0 q.marks ≡ spot t 0 p.marks
+  pub staged : spot t 1 q.marks ≡ spot t 1 p.marks
+  pub submitted : spot t 2 q.marks ≡ spot t 2 p.marks
+  pub taken : spot t 6 q.marks ≡ spot t 6 p.marks
+  pub reclaimed : spot t 7 q.marks ≡ spot t 7 p.marks
+
+pub kept-where-same : (t : WaitRef) (p q : Known) → SameOwn t p q
+    → ((aim : List ℕ) → IsIn (t, aim) p.aims → IsIn (t, aim) q.aims) → IsKept t p q
+kept-where-same t p q s aims =
+    let s0 = s.defined in let s1 = s.staged in let s2 = s.submitted in let s6 = s.taken in
+    let s7 = s.reclaimed in record {
+      defined = λ d. let a = d.since in let b = d.until in
+          record { since = omega arith; until = omega arith };
+      staged = λ d. let a = d.since in let b = d.until in
+          record { since = omega arith; until = omega arith };
+      in_flight = λ d. let a = d.since in let b = d.until in
+          record { since = omega arith; until = omega arith };
+      local = λ d. let a = d.since in let b = d.until in
+          record { since = omega arith; until = omega arith };
+      aims = aims;
+    }
+
+-- what is taken up has no owner's mark
+pub kept-taking-up : (t : WaitRef) (held : List Mark) (p q : Known) (a b c d : ℕ)
+    → TakesUp held p q a b c d → IsKept t p q
+kept-taking-up t held p q a b c d k =
+    let none : owned t (held ++ k.more) ≡ 0 = k.took.owners t in
+    let none-of : (i : ℕ) → spot t i (held ++ k.more) ≡ 0 → spot t i q.marks ≡ spot t i p.marks =
+    λ i z. ap (spot t i) k.grows.marks ∙
+    (omega (arith, at-more t i p.marks k.more, at-more t i held k.more)) in
+    kept-where-same t p q record {
+      defined = none-of 0 (omega arith);
+      staged = none-of 1 (omega arith);
+      submitted = none-of 2 (omega arith);
+      taken = none-of 6 (omega arith);
+      reclaimed = none-of 7 (omega arith);
+    } (λ aim i. k.grows.aims (t, aim) i)
+
+pub kept-looking : (t : WaitRef) (h : ℕ) (w : Word) (p q : Known) → Looked h w p q → IsKept t p q
+kept-looking t h w p q k = kept-where-same t p q (subst (λ (z : Known). SameOwn t p z) (sym k.is)
+    record { defined = refl; staged = refl; submitted = refl; taken = refl; reclaimed = refl })
+    (λ aim i. subst (λ (z : Known). IsIn (t, aim) z.aims) (sym k.is) i)
+
+-- an event never forgets an aim
+aims-stay : (e : Event) (x : WaitRef × List ℕ) (aims : List (WaitRef × List ℕ)) (t : WaitRef)
+    (aim : List ℕ) → IsIn x aims → IsIn x (aims_after aims t aim e)
+aims-stay event.HandOut x aims t aim i = i
+aims-stay event.Release x aims t aim i = i
+aims-stay event.Define x aims t aim i = i
+aims-stay event.Stage x aims t aim i = i
+aims-stay event.Submit x aims t aim i = in-left x aims ((t, aim) ∷ []) i
+aims-stay event.Claim x aims t aim i = in-left x aims ((t, aim) ∷ []) i
+aims-stay (event.Io class) x aims t aim i = i
+aims-stay event.Shared x aims t aim i = i
+aims-stay event.Local x aims t aim i = i
+aims-stay event.Reclaim x aims t aim i = i
+
+apart : (t : WaitRef) (h g i o : ℕ) → t ≢ ref h g → i < 8 → o < 8
+    → (t.handle ≢ h) ⊎ ((8 * t.generation + i) ≢ (8 * g + o))
+apart t h g i o ne a b = dite (ℕ_discrete t.handle h)
+    (λ same. inr (λ e. let gen : t.generation ≡ g = omega arith in
+    ne (ap (λ (z : ℕ). ref z t.generation) same ∙ ap (λ (z : ℕ). ref h z) gen)))
+    (λ other. inl other)
+
+module _ (t : WaitRef) (e : Event) (h : ℕ) (w w' : Word) (aim : List ℕ) (p q : Known)
+    (m : Made e h w w' aim p q) where
+  pub kept-elsewhere : t ≢ ref h w.generation → IsKept t p q
+  kept-elsewhere ne =
+      let same : (i : ℕ) → i < 8 → spot t i q.marks ≡ spot t i p.marks = λ i lt.
+      counts-apart e h w w' aim p q m t.handle (8 * t.generation + i)
+      (apart t h w.generation i (place_of w) ne lt (place-small w.state w.claimed)) in
+      kept-where-same t p q record {
+        defined = same 0 (omega arith);
+        staged = same 1 (omega arith);
+        submitted = same 2 (omega arith);
+        taken = same 6 (omega arith);
+        reclaimed = same 7 (omega arith);
+      } (λ a i. subst (λ (z : Known). IsIn (t, a) z.aims) (sym m.is)
+      (aims-stay e (t, a) p.aims (ref h w.generation) aim i))
