@@ -1,13 +1,16 @@
 -- The tokens of a batch, over the calls of their actor.
-use Rattle.std.proofs.Common.{◌≡◌, ◌≢◌, ℕ, List, [], ◌∷◌, ◌++◌, refl, sym, ap, ◌∙◌, subst, inl, inr, ⊎_elim}
+use Rattle.std.proofs.Common.{◌≡◌, ◌≢◌, ℕ, List, [], ◌∷◌, ◌++◌, refl, sym, ap, ◌∙◌, subst, inl, inr, ⊎_elim, arith}
 use Rattle.aio_word.specs.declared.Step.TheVariants as event
 use Rattle.aio_word.specs.declared.Known.{Known}
 use Rattle.aio_word.specs.declared.WaitRef.{WaitRef}
 use Rattle.aio_word.specs.Stands.{IsIn}
-use Rattle.aio_handle.specs.LifeWords.{staged, unclaimed}
+use Rattle.aio_word.specs.Tokens.{IsDefined, IsStaged}
+use Rattle.aio_word.proofs.Parts.{in-append}
+use Rattle.aio_handle.specs.LifeWords.{defined, staged, unclaimed}
 use Rattle.aio_handle.specs.Made.{Made}
 use Rattle.aio_handle.specs.Executing.{TakesUp}
 use Rattle.aio_batch.specs.Held.{Held}
+use Rattle.aio_batch.specs.Next.{IsNext}
 use Rattle.aio_batch.specs.Kept.{IsKept}
 use Rattle.aio_batch.proofs.Keeping.{kept-taking-up, kept-elsewhere}
 
@@ -34,7 +37,7 @@ module _ {R : Type 0} where
   pub held-rest : (before after : List (WaitRef × R)) (token : WaitRef × R) (aim : List ℕ)
       (p q r : Known) (a b c d : ℕ) → before ≡ token ∷ after
       → Made event.Submit token.0.handle (staged token.0.generation)
-          (unclaimed token.0.generation) aim p q
+      (unclaimed token.0.generation) aim p q
       → TakesUp [] q r a b c d → Held p before → Held r after
   held-rest before after token aim p q r a b c d first made begun held =
       let h : Held p (token ∷ after) = subst (λ (z : List (WaitRef × R)). Held p z) first held in
@@ -42,3 +45,41 @@ module _ {R : Type 0} where
       (kept-elsewhere u.0 event.Submit token.0.handle (staged token.0.generation)
       (unclaimed token.0.generation) aim p q made (h.1 u i))
       (kept-taking-up u.0 [] q r a b c d begun)) h.2
+
+  -- each token but the one that is submitted stays
+  pub kept-submitting : (aim_in : R → List ℕ) (before after : List (WaitRef × R)) (t u : WaitRef)
+      (p q : Known) (a b c d : ℕ) → IsNext aim_in before after t p q a b c d → u ≢ t → IsKept u p q
+  kept-submitting aim_in before after t u p q a b c d n ne = kept-then u p n.between q
+      (kept-elsewhere u event.Submit t.handle (staged t.generation) (unclaimed t.generation)
+      (aim_in n.token.1) p n.between n.made ne) (kept-taking-up u [] n.between q a b c d n.begun)
+
+  staged-in : (p : Known) (ts : List (WaitRef × R)) (u : WaitRef × R) → Held p ts → IsIn u ts
+      → IsStaged p u.0
+  staged-in p [] u h i = absurd i
+  staged-in p (t ∷ ts) u h i = ⊎_elim
+      (λ e. subst (λ (z : WaitRef × R). IsStaged p z.0) e h.0)
+      (λ j. staged-in p ts u h.2 j) i
+
+  held-push : (q : Known) (ts : List (WaitRef × R)) (t : WaitRef × R) → Held q ts → IsStaged q t.0
+      → ((u : WaitRef × R) → IsIn u ts → u.0 ≢ t.0) → Held q (ts ++ t ∷ [])
+  held-push q [] t h new apart = (new, (λ u i. absurd i), tt)
+  held-push q (x ∷ ts) t h new apart = (
+    h.0,
+    (λ u i. ⊎_elim (λ old. h.1 u old)
+        (λ last. ⊎_elim (λ e. λ same. apart x (inl refl)
+        (sym same ∙ sym (ap (λ (z : WaitRef × R). z.0) e)))
+        (λ none. absurd none) last) (in-append u ts (t ∷ []) i)),
+    held-push q ts t h.2 new (λ u i. apart u (inr i)),
+  )
+
+  -- what is defined is not staged
+  pub held-staging : (ts : List (WaitRef × R)) (t : WaitRef × R) (aim : List ℕ) (p q : Known)
+      → Held p ts → IsDefined p t.0
+      → Made event.Stage t.0.handle (defined t.0.generation) (staged t.0.generation) aim p q
+      → IsStaged q t.0 → Held q (ts ++ t ∷ [])
+  held-staging ts t aim p q h d m new =
+      let apart : (u : WaitRef × R) → IsIn u ts → u.0 ≢ t.0 = λ u i e.
+      let s = subst (λ (z : WaitRef). IsStaged p z) e (staged-in p ts u h i) in
+      let since = s.since in let until = d.until in omega arith in
+      held-push q ts t (held-kept p q ts (λ u i. kept-elsewhere u.0 event.Stage t.0.handle
+      (defined t.0.generation) (staged t.0.generation) aim p q m (apart u i)) h) new apart

@@ -1,8 +1,9 @@
 -- What events and what is taken up leave of an owner's tokens.
-use Rattle.std.proofs.Common.{◌≡◌, ◌≢◌, ℕ, ◌+◌, ◌*◌, ◌<◌, ◌≤◌, ◌⊎◌, List, [], ◌∷◌, ◌++◌, refl, sym, ap, ◌∙◌, subst, inl, inr, ⊎_elim, arith}
+use Rattle.std.proofs.Common.{◌≡◌, ◌≢◌, ℕ, ◌+◌, ◌*◌, ◌<◌, ◌⊎◌, List, [], ◌∷◌, ◌++◌, refl, sym, ap, ◌∙◌, subst, inl, inr, arith}
 use mathlib.Core.Logic.{dite}
 use native.Mathlib.Decide.{ℕ_discrete}
 use Rattle.aio_word.specs.declared.Step.{Step as Event}
+use Rattle.aio_word.specs.declared.Class.{Class}
 use Rattle.aio_word.specs.declared.Step.TheVariants as event
 use Rattle.aio_word.specs.declared.Kind.{Kind}
 use Rattle.aio_word.specs.declared.Kind.TheVariants as kind
@@ -10,28 +11,33 @@ use Rattle.aio_word.specs.declared.Mark.{Mark}
 use Rattle.aio_word.specs.declared.Word.{Word}
 use Rattle.aio_word.specs.declared.WaitRef.{WaitRef}
 use Rattle.aio_word.specs.declared.Known.{Known}
-use Rattle.aio_word.specs.Words.{place_of, rank_of}
-use Rattle.aio_word.specs.Events.{ref, order}
-use Rattle.aio_word.specs.Stands.{IsIn}
-use Rattle.aio_word.specs.Tokens.{owned}
+use Rattle.aio_word.specs.Words.{place_of}
+use Rattle.aio_word.specs.Events.{ref, order, noted, leaves}
+use Rattle.aio_word.specs.Stands.{IsIn, seen_of}
+use Rattle.aio_word.specs.Tokens.{owned, Keeps}
 use Rattle.aio_word.proofs.Parts.{in-left}
-use Rattle.aio_word.proofs.Steps.{place-small}
+use Rattle.aio_word.proofs.Steps.{mark, place-small}
 use Rattle.aio_word.proofs.Frames.{spot, at-more, at-place}
 use Rattle.aio_handle.specs.Changes.{aims_after}
+use Rattle.aio_handle.specs.LifeWords.{handed, defined}
 use Rattle.aio_handle.specs.Made.{Made, Looked}
 use Rattle.aio_handle.specs.Executing.{TakesUp}
 use Rattle.aio_handle.proofs.Tokening.{counts-apart}
 use Rattle.aio_batch.specs.Kept.{IsKept, UsesToken}
 
 -- the owner's marks of t stand as often as before
-pub record SameOwn (t : WaitRef) (p q : Known) : Type 0 where
-  pub defined : spot t 0 q.marks ≡ spot t 0 p.marks
-  pub staged : spot t 1 q.marks ≡ spot t 1 p.marks
-  pub submitted : spot t 2 q.marks ≡ spot t 2 p.marks
-  pub taken : spot t 6 q.marks ≡ spot t 6 p.marks
-  pub reclaimed : spot t 7 q.marks ≡ spot t 7 p.marks
+pub record SameOwn (t : WaitRef) (ms ns : List Mark) : Type 0 where
+  pub defined : spot t 0 ns ≡ spot t 0 ms
+  pub staged : spot t 1 ns ≡ spot t 1 ms
+  pub submitted : spot t 2 ns ≡ spot t 2 ms
+  pub taken : spot t 6 ns ≡ spot t 6 ms
+  pub reclaimed : spot t 7 ns ≡ spot t 7 ms
 
-pub kept-where-same : (t : WaitRef) (p q : Known) → SameOwn t p q
+same-own : (t : WaitRef) (ms : List Mark) → SameOwn t ms ms
+same-own t ms =
+    record { defined = refl; staged = refl; submitted = refl; taken = refl; reclaimed = refl }
+
+pub kept-where-same : (t : WaitRef) (p q : Known) → SameOwn t p.marks q.marks
     → ((aim : List ℕ) → IsIn (t, aim) p.aims → IsIn (t, aim) q.aims) → IsKept t p q
 kept-where-same t p q s aims =
     let s0 = s.defined in let s1 = s.staged in let s2 = s.submitted in let s6 = s.taken in
@@ -64,8 +70,8 @@ kept-taking-up t held p q a b c d k =
     } (λ aim i. k.grows.aims (t, aim) i)
 
 pub kept-looking : (t : WaitRef) (h : ℕ) (w : Word) (p q : Known) → Looked h w p q → IsKept t p q
-kept-looking t h w p q k = kept-where-same t p q (subst (λ (z : Known). SameOwn t p z) (sym k.is)
-    record { defined = refl; staged = refl; submitted = refl; taken = refl; reclaimed = refl })
+kept-looking t h w p q k = kept-where-same t p q
+    (subst (λ (z : Known). SameOwn t p.marks z.marks) (sym k.is) (same-own t p.marks))
     (λ aim i. subst (λ (z : Known). IsIn (t, aim) z.aims) (sym k.is) i)
 
 -- an event never forgets an aim
@@ -82,6 +88,33 @@ aims-stay event.Shared x aims t aim i = i
 aims-stay event.Local x aims t aim i = i
 aims-stay event.Reclaim x aims t aim i = i
 
+-- a claimer's mark leaves the owner's
+same-worked : (t : WaitRef) (h g : ℕ) (k : Kind) (ms : List Mark) → 2 < order k → order k < 6
+    → SameOwn t ms (ms ++ mark h g k ∷ [])
+same-worked t h g k ms lo hi = record {
+  defined = at-place t (ref h g) 0 k ms (λ e. omega arith) (omega arith);
+  staged = at-place t (ref h g) 1 k ms (λ e. omega arith) (omega arith);
+  submitted = at-place t (ref h g) 2 k ms (λ e. omega arith) (omega arith);
+  taken = at-place t (ref h g) 6 k ms (λ e. omega arith) (omega arith);
+  reclaimed = at-place t (ref h g) 7 k ms (λ e. omega arith) (omega arith);
+}
+
+unused-marks : (t : WaitRef) (e : Event) (h g : ℕ) (class : Class) (ms : List Mark)
+    → (UsesToken e → ⊥) → SameOwn t ms (noted ms h g (leaves class e))
+unused-marks t event.HandOut h g class ms uses = same-own t ms
+unused-marks t event.Release h g class ms uses = same-own t ms
+unused-marks t event.Define h g class ms uses = absurd (uses tt)
+unused-marks t event.Stage h g class ms uses = absurd (uses tt)
+unused-marks t event.Submit h g class ms uses = absurd (uses tt)
+unused-marks t event.Claim h g class ms uses =
+    same-worked t h g kind.Claimed ms (omega arith) (omega arith)
+unused-marks t (event.Io ended) h g class ms uses =
+    same-worked t h g (kind.Io ended) ms (omega arith) (omega arith)
+unused-marks t event.Shared h g class ms uses =
+    same-worked t h g kind.Shared ms (omega arith) (omega arith)
+unused-marks t event.Local h g class ms uses = absurd (uses tt)
+unused-marks t event.Reclaim h g class ms uses = absurd (uses tt)
+
 apart : (t : WaitRef) (h g i o : ℕ) → t ≢ ref h g → i < 8 → o < 8
     → (t.handle ≢ h) ⊎ ((8 * t.generation + i) ≢ (8 * g + o))
 apart t h g i o ne a b = dite (ℕ_discrete t.handle h)
@@ -91,6 +124,10 @@ apart t h g i o ne a b = dite (ℕ_discrete t.handle h)
 
 module _ (t : WaitRef) (e : Event) (h : ℕ) (w w' : Word) (aim : List ℕ) (p q : Known)
     (m : Made e h w w' aim p q) where
+  pub aims-kept : (a : List ℕ) → IsIn (t, a) p.aims → IsIn (t, a) q.aims
+  aims-kept a i = subst (λ (z : Known). IsIn (t, a) z.aims) (sym m.is)
+      (aims-stay e (t, a) p.aims (ref h w.generation) aim i)
+
   pub kept-elsewhere : t ≢ ref h w.generation → IsKept t p q
   kept-elsewhere ne =
       let same : (i : ℕ) → i < 8 → spot t i q.marks ≡ spot t i p.marks = λ i lt.
@@ -102,5 +139,27 @@ module _ (t : WaitRef) (e : Event) (h : ℕ) (w w' : Word) (aim : List ℕ) (p q
         submitted = same 2 (omega arith);
         taken = same 6 (omega arith);
         reclaimed = same 7 (omega arith);
-      } (λ a i. subst (λ (z : Known). IsIn (t, a) z.aims) (sym m.is)
-      (aims-stay e (t, a) p.aims (ref h w.generation) aim i))
+      } aims-kept
+
+  -- an event that uses no token leaves no owner's mark
+  pub kept-unused : (UsesToken e → ⊥) → IsKept t p q
+  kept-unused uses = kept-where-same t p q
+      (subst (λ (z : Known). SameOwn t p.marks z.marks) (sym m.is)
+      (unused-marks t e h w.generation w.class p.marks uses)) aims-kept
+
+-- what is defined is new, since its handle was seen at no mark of its generation
+pub kept-defining : (t : WaitRef) (h g : ℕ) (aim : List ℕ) (p q : Known)
+    → Keeps (seen_of p) p.marks → Made event.Define h (handed g) (defined g) aim p q
+    → IsKept t p q
+kept-defining t h g aim p q keeps m =
+    let new : (i : ℕ) → 0 < spot t i p.marks → t ≢ ref h g = λ i there e.
+    let there' : 0 < spot (ref h g) i p.marks =
+    subst (λ (z : WaitRef). 0 < spot z i p.marks) e there in
+    let seen = keeps.below h (8 * g + i) there' in let before = m.before in omega arith in
+    let kept = kept-elsewhere t event.Define h (handed g) (defined g) aim p q m in record {
+      defined = λ d. (kept (new 0 d.since)).defined d;
+      staged = λ d. (kept (new 1 d.since)).staged d;
+      in_flight = λ d. (kept (new 2 d.since)).in_flight d;
+      local = λ d. (kept (new 6 d.since)).local d;
+      aims = aims-kept t event.Define h (handed g) (defined g) aim p q m;
+    }

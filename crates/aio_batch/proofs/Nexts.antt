@@ -1,5 +1,5 @@
 -- The next submission of a batch, from what its two calls say.
-use Rattle.std.proofs.Common.{◌≡◌, ◌≢◌, ℕ, List, [], ◌∷◌, sym, subst}
+use Rattle.std.proofs.Common.{◌≡◌, ℕ, List, [], ◌∷◌, sym, subst}
 use Rattle.aio_word.specs.declared.Step.TheVariants as event
 use Rattle.aio_word.specs.declared.Known.{Known}
 use Rattle.aio_word.specs.declared.WaitRef.{WaitRef}
@@ -14,7 +14,7 @@ use Rattle.aio_batch.proofs.Keeping.{kept-taking-up}
 pub next-is : {R : Type 0} (aim_in : R → List ℕ) (before after : List (WaitRef × R))
     (token : WaitRef × R) (t : WaitRef) (p q r : Known) (a b c d : ℕ) → before ≡ token ∷ after
     → Made event.Submit token.0.handle (staged token.0.generation)
-        (unclaimed token.0.generation) (aim_in token.1) p q
+    (unclaimed token.0.generation) (aim_in token.1) p q
     → (t ≡ token.0) × IsInFlight q t × IsIn (t, aim_in token.1) q.aims
     → TakesUp [] q r a b c d → IsNext aim_in before after t p r a b c d
 next-is aim_in before after token t p q r a b c d first made tk begun =

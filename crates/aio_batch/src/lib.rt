@@ -14,6 +14,7 @@
 #![tactic(auto)]
 
 mod batch;
+pub mod laws;
 mod method;
 
 pub use batch::{Batch, Full};

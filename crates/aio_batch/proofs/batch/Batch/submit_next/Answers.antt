@@ -1,9 +1,4 @@
-use Rattle.std.proofs.Common.{◌≡◌, List, [], ◌∷◌, sym, ap, ◌∙◌, subst}
-use Rattle.aio_word.specs.declared.WaitRef.{WaitRef}
-use Rattle.aio_word.specs.declared.Step.TheVariants as event
-use Rattle.aio_word.specs.declared.Known.{Known}
-use Rattle.aio_handle.specs.LifeWords.{staged, unclaimed}
-use Rattle.aio_handle.specs.Made.{Made}
+use Rattle.std.proofs.Common.{sym, ◌∙◌}
 use Rattle.aio_batch.proofs.Holding.{held-rest}
 use Rattle.aio_batch.proofs.Nexts.{next-is}
 use Rattle.aio_batch.proofs.batch.Batch.submit_next.Goals as goal

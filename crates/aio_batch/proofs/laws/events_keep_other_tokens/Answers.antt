@@ -1,0 +1,8 @@
+use Rattle.aio_batch.proofs.Keeping.{kept-elsewhere, kept-unused}
+use Rattle.aio_batch.proofs.laws.events_keep_other_tokens.Goals as goal
+
+pub returns-clause-elsewhere : goal.returns-clause-elsewhere
+returns-clause-elsewhere c = kept-elsewhere
+
+pub returns-clause-unused : goal.returns-clause-unused
+returns-clause-unused c = kept-unused
