@@ -73,13 +73,22 @@ module _ {R : Type 0} where
   )
 
   -- what is defined is not staged
+  staging-apart : (ts : List (WaitRef × R)) (t : WaitRef × R) (p : Known) → Held p ts
+      → IsDefined p t.0 → (u : WaitRef × R) → IsIn u ts → u.0 ≢ t.0
+  staging-apart ts t p h d u i e =
+      let s = subst (λ (z : WaitRef). IsStaged p z) e (staged-in p ts u h i) in
+      let since = s.since in let until = d.until in omega arith
+
+  pub held-beside : (ts : List (WaitRef × R)) (t : WaitRef × R) (aim : List ℕ) (p q : Known)
+      → Held p ts → IsDefined p t.0
+      → Made event.Stage t.0.handle (defined t.0.generation) (staged t.0.generation) aim p q
+      → Held q ts
+  held-beside ts t aim p q h d m = held-kept p q ts (λ u i. kept-elsewhere u.0 event.Stage t.0.handle
+      (defined t.0.generation) (staged t.0.generation) aim p q m (staging-apart ts t p h d u i)) h
+
   pub held-staging : (ts : List (WaitRef × R)) (t : WaitRef × R) (aim : List ℕ) (p q : Known)
       → Held p ts → IsDefined p t.0
       → Made event.Stage t.0.handle (defined t.0.generation) (staged t.0.generation) aim p q
       → IsStaged q t.0 → Held q (ts ++ t ∷ [])
   held-staging ts t aim p q h d m new =
-      let apart : (u : WaitRef × R) → IsIn u ts → u.0 ≢ t.0 = λ u i e.
-      let s = subst (λ (z : WaitRef). IsStaged p z) e (staged-in p ts u h i) in
-      let since = s.since in let until = d.until in omega arith in
-      held-push q ts t (held-kept p q ts (λ u i. kept-elsewhere u.0 event.Stage t.0.handle
-      (defined t.0.generation) (staged t.0.generation) aim p q m (apart u i)) h) new apart
+      held-push q ts t (held-beside ts t aim p q h d m) new (staging-apart ts t p h d)

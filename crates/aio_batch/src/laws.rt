@@ -32,10 +32,10 @@ pub fn looking_keeps_tokens()
 
 /// An event keeps the tokens of other incarnations, and one that uses no token keeps each.
 pub fn events_keep_other_tokens()
-    ensures elsewhere { (t : WaitRef) (e : Event) (h : ℕ) (w after : Word) (aim : List ℕ) (p q : Known)
-        → Made e h w after aim p q → t ≢ ref h w.generation → IsKept t p q }
-    ensures unused { (t : WaitRef) (e : Event) (h : ℕ) (w after : Word) (aim : List ℕ) (p q : Known)
-        → Made e h w after aim p q → (UsesToken e → ⊥) → IsKept t p q }
+    ensures elsewhere { (t : WaitRef) (e : Event) (h : ℕ) (w after : Word) (aim : List ℕ)
+        (p q : Known) → Made e h w after aim p q → t ≢ ref h w.generation → IsKept t p q }
+    ensures unused { (t : WaitRef) (e : Event) (h : ℕ) (w after : Word) (aim : List ℕ)
+        (p q : Known) → Made e h w after aim p q → (UsesToken e → ⊥) → IsKept t p q }
 {}
 
 /// What is defined is a new incarnation: each token stays. `Actor::keeps` gives the condition.
@@ -57,10 +57,15 @@ pub fn batches_are_kept<R: Record>()
         → ((u : WaitRef × R) → IsIn u held → IsKept u.0 p q) → Held p held → Held q held }
 {}
 
-/// An I/O that its actor stages may be pushed behind what it has staged before.
+/// An I/O that its actor stages may be pushed behind what it has staged before, and where there is
+/// no room for it the others stay.
 pub fn what_is_staged_may_be_pushed<R: Record>()
-    ensures { (held : List (WaitRef × R)) (token : WaitRef × R) (aim : List ℕ)
+    ensures pushed { (held : List (WaitRef × R)) (token : WaitRef × R) (aim : List ℕ)
         (p q : Known) → Held p held → IsDefined p token.0
         → Made Stage token.0.handle (defined token.0.generation) (staged token.0.generation) aim p q
         → IsStaged q token.0 → Held q (held ++ token ∷ []) }
+    ensures others { (held : List (WaitRef × R)) (token : WaitRef × R) (aim : List ℕ)
+        (p q : Known) → Held p held → IsDefined p token.0
+        → Made Stage token.0.handle (defined token.0.generation) (staged token.0.generation) aim p q
+        → Held q held }
 {}

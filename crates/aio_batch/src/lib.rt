@@ -16,6 +16,8 @@
 mod batch;
 pub mod laws;
 mod method;
+#[cfg(test)]
+mod tests;
 
 pub use batch::{Batch, Full};
 pub use method::Method;
