@@ -1,0 +1,5 @@
+pub mod Good
+pub mod Chain
+pub mod Reading
+pub mod Finished
+pub mod Cases
