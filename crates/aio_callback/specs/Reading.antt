@@ -1,6 +1,8 @@
 -- The record of a read, as contracts see it, and when it fits the contents of the relations.
 use Rattle.std.specs.Prelude.{◌≡◌, ◌≢◌, ℕ, ◌+◌, ◌≤◌, ◌<◌, Bool, true, false, List, [], ◌∷◌, map}
 use Rattle.std.specs.Prelude.{length, take, drop, ◌++◌, Option, Some, None, IfSome, slice_index_or}
+use Rattle.std.specs.Prelude.{replicate, pos}
+use Rattle.std.specs.List.{refill}
 use Rattle.page_check.specs.Told.{Told}
 use Rattle.aio_disk.specs.Disk.{ReadsPages}
 use Rattle.aio_word.specs.declared.Class.{Class}
@@ -8,11 +10,12 @@ use Rattle.aio_word.specs.declared.Class.TheVariants.{Unended}
 use Rattle.aio_handle.specs.declared.record.Label.{Label}
 use Rattle.aio_handle.specs.Labels.{bound}
 use Rattle.aio_result.specs.declared.AioResult.{AioResult}
+use Rattle.aio_result.specs.declared.Status.TheVariants.{Unknown}
 use Rattle.aio_callback.specs.declared.chain.Raw.{Raw}
 use Rattle.aio_callback.specs.declared.chain.Raw.TheVariants.{Read, Failed}
 use Rattle.aio_callback.specs.declared.chain.CallbackId.{CallbackId}
 use Rattle.aio_callback.specs.declared.chain.CallbackId.TheVariants.{File, Buffer, Count}
-use Rattle.aio_callback.specs.Chain.{Outcome, first_of, class_of, chain_of, good_of}
+use Rattle.aio_callback.specs.Chain.{Outcome, result_of, first_of, class_of, chain_of, good_of}
 use Rattle.aio_callback.specs.Good.{IsGood}
 
 pub record Reading : Type 0 where
@@ -74,6 +77,20 @@ pub record Fits (told : Option Told) (relations : ℕ) (r : Reading) : Type 0 wh
   pub fresh : r.label.ended ≡ Unended → r.raw ≡ None
   pub ended : r.label.ended ≢ Unended → Completed told r
 
+-- as `make` gives it
+abbrev pub made : ℕ → Reading
+made room = record {
+  label = bound 0 0;
+  relation = 0;
+  first = 0;
+  count = 0;
+  ids = [];
+  aimed = false;
+  raw = None;
+  result = result_of 0 Unknown 0 (pos 0);
+  pages = replicate room (replicate 8192 0);
+}
+
 -- after `bind`: no answer stands
 abbrev pub rebound : ℕ → ℕ → Reading → Reading
 rebound handle generation r = record r { label = bound handle generation; raw = None }
@@ -92,7 +109,9 @@ aimed_at relation first count ids r = record r {
 
 -- with these in place of its first pages
 abbrev pub with_pages : Reading → List (List ℕ) → Reading
-with_pages r first = record r { pages = first ++ drop r.count r.pages }
+with_pages r first = record r {
+  pages = refill (length r.pages) r.pages (first ++ drop r.count r.pages);
+}
 
 -- after the shared callbacks
 abbrev pub shared_by : Reading → Outcome → Class → Reading
@@ -106,6 +125,9 @@ abbrev pub shared_of : Reading → Raw → Reading
 shared_of r answer =
     shared_by r (chain_of r.count r.ids (record { result = first_of answer; pages = r.pages }))
     (class_of r.count answer)
+
+abbrev pub IsSharedOf : Reading → Reading → Raw → Type 0
+IsSharedOf s r answer = s ≡ shared_of r answer
 
 -- after the local ones
 abbrev pub settled_of : Reading → Reading

@@ -15,6 +15,8 @@
 
 mod chain;
 mod places;
+mod record;
 
 pub use chain::{CallbackId, Raw};
 pub use places::{NoPlaces, Places};
+pub use record::{Counts, ReadIo, TooMany};
