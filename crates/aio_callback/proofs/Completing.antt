@@ -107,10 +107,11 @@ pub ended_after : (told : Option Told) (s : Reading) → Completed told s → s.
 ended_after told s c e = ended_class s.count c.answer (sym c.class ∙ e)
 
 fits_by : (told : Option Told) (relations : ℕ) (r : Reading) (answer : Raw) → r.aimed ≡ true
-    → r.relation < relations → Completed told (shared_of r answer)
+    → 0 < r.count → r.relation < relations → Completed told (shared_of r answer)
     → Fits told relations (shared_of r answer)
-fits_by told relations r answer a w c = record {
+fits_by told relations r answer a some w c = record {
   aimed = a;
+  some = some;
   within = w;
   fresh = λ e. absurd (ended_after told (shared_of r answer) c e);
   ended = λ _. c;
@@ -118,11 +119,11 @@ fits_by told relations r answer a w c = record {
 
 pub fits_after : (told : Option Told) (relations : ℕ) (r s : Reading) → Answered told r
     → IfSome r.raw (IsSharedOf s r) → r.count ≤ length r.pages → r.aimed ≡ true
-    → r.relation < relations → Fits told relations s
-fits_after told relations r s a h room aimed w =
+    → 0 < r.count → r.relation < relations → Fits told relations s
+fits_after told relations r s a h room aimed some w =
     subst (λ (z : Reading). Fits told relations z)
     (sym (shared_by_answer r s r.raw a.answer a.is h))
-    (fits_by told relations r a.answer aimed w (completes told r a.answer a.told_read room))
+    (fits_by told relations r a.answer aimed some w (completes told r a.answer a.told_read room))
 
 pub aim_after : (told : Option Told) (r s : Reading) → Answered told r
     → IfSome r.raw (IsSharedOf s r) → aim_in s ≡ aim_in r

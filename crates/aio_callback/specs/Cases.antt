@@ -2,11 +2,12 @@
 -- has ended: five cases.
 use Rattle.std.specs.Prelude.{◌≡◌, ℕ, ◌+◌, ◌<◌, ◌≤◌, List, [], ◌∷◌, Option, IfSome, pos}
 use Rattle.page_check.specs.Told.{Told, blocks_of, page_of}
+use Rattle.aio_result.specs.declared.AioResult.{AioResult}
 use Rattle.aio_result.specs.declared.Status.TheVariants.{Good, Partial, Error}
 use Rattle.aio_word.specs.declared.Class.TheVariants as class
 use Rattle.aio_callback.specs.declared.chain.CallbackId.{CallbackId}
 use Rattle.aio_callback.specs.declared.chain.CallbackId.TheVariants.{File, Buffer, Count}
-use Rattle.aio_callback.specs.Chain.{result_of, is_bad, good_of}
+use Rattle.aio_callback.specs.Chain.{result_of, number_in, is_bad}
 use Rattle.aio_callback.specs.Reading.{Reading}
 use Rattle.std.specs.Prelude.{true}
 
@@ -17,6 +18,10 @@ stream_ids = Count ∷ Buffer ∷ File ∷ []
 pub record IsBadBlock (told : Told) (relation block : ℕ) : Type 0 where
   pub there : block < blocks_of told relation
   pub bad : is_bad (page_of told relation block) ≡ true
+
+-- how many pages the owner gives
+abbrev pub given_of : AioResult → ℕ
+given_of p = number_in p.result
 
 pub data IsOneOf (told : Option Told) (r : Reading) : Type 0 where
   -- all pages were read, and are good

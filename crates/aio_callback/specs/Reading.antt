@@ -73,6 +73,7 @@ pub record Completed (told : Option Told) (r : Reading) : Type 0 where
 
 pub record Fits (told : Option Told) (relations : ℕ) (r : Reading) : Type 0 where
   pub aimed : r.aimed ≡ true
+  pub some : 0 < r.count
   pub within : r.relation < relations
   pub fresh : r.label.ended ≡ Unended → r.raw ≡ None
   pub ended : r.label.ended ≢ Unended → Completed told r
@@ -109,9 +110,7 @@ aimed_at relation first count ids r = record r {
 
 -- with these in place of its first pages
 abbrev pub with_pages : Reading → List (List ℕ) → Reading
-with_pages r first = record r {
-  pages = refill (length r.pages) r.pages (first ++ drop r.count r.pages);
-}
+with_pages r first = record r { pages = refill (length r.pages) r.pages first }
 
 -- after the shared callbacks
 abbrev pub shared_by : Reading → Outcome → Class → Reading

@@ -14,6 +14,7 @@
 #![tactic(auto)]
 
 mod chain;
+pub mod laws;
 mod places;
 mod record;
 

@@ -237,9 +237,9 @@ impl ReadIo {
         ensures* writes_back { sem 𝓛
             (Lends the_row (Array page_row 0) self.entry result (with_pages self.old)) }
         ensures value { result.now ≡ take self.old.count self.old.pages }
+        ensures size { length result.now ≡ self.old.count }
     {
-        let (asked, _) = self.pages.as_mut_slice().split_at_mut(self.count as usize);
-        asked
+        self.pages.slice_mut(..self.count as usize)
     }
 
     /// What the read answered: no more pages than were asked for. No answer stands before.
@@ -300,6 +300,7 @@ impl ReadIo {
         ensures value { IfSome self.old.raw (IsSharedOf self.new self.old) }
         ensures room { (self.old.count ≤ length self.old.pages)
             × (self.new.count ≤ length self.new.pages) }
+        ensures some { self.old.aimed ≡ true → 0 < self.old.count }
     {
         let Some(answer) = self.raw else {
             unreachable!()

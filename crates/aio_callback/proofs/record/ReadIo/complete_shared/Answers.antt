@@ -27,7 +27,7 @@ pub returns-clause-fits : goal.returns-clause-fits
 returns-clause-fits g c relations aimed within =
     let e = c.run_shared.ensures in
     fits_after g.W.World.told relations c.args.self.now c.run_shared.new.self
-        c.requires.answered e.value e.room.0 aimed within
+        c.requires.answered e.value e.room.0 aimed (e.some aimed) within
 
 pub returns-clause-aim : goal.returns-clause-aim
 returns-clause-aim g c =
