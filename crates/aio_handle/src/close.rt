@@ -121,7 +121,11 @@ impl<R: Record, W: World> Table<R, W> {
             (map known_in actors.items) < 2 ^ 128 - 1 }
     {
         let seat = self.gather(actors);
-        let Table { inner, config: _ } = self;
+        let Table {
+            inner,
+            config: _,
+            sleepers: _,
+        } = self;
         inner.close_with(seat)
     }
 

@@ -17,6 +17,7 @@ use atomic_table::Seat;
 use page_check::World;
 use std::alloc::{AllocError, Global};
 use std::marker::{Model, PhantomData};
+use std::sync::atomic::AtomicU64;
 
 /// The table that all actors share. Contracts see which table it is, and its numbers.
 ///
@@ -26,6 +27,8 @@ use std::marker::{Model, PhantomData};
 pub struct Table<R: Record, W: World> {
     pub(crate) inner: atomic_table::Table<Option<R>, View, Config, Handles<R, W>, Global>,
     pub(crate) config: Config,
+    // How many actors are about to sleep on a word, or asleep.
+    pub(crate) sleepers: AtomicU64,
 }
 
 impl<R: Record, W: World> Model for Table<R, W> {
@@ -115,7 +118,11 @@ impl<R: Record, W: World> Table<R, W> {
             count,
             &config,
         )?;
-        let table = Table { inner, config };
+        let table = Table {
+            inner,
+            config,
+            sleepers: AtomicU64::new(0),
+        };
         for n in 0..number {
             let actor = table.deal(alloc, &mut seat, n)?;
             actors.push_reserved(actor);
