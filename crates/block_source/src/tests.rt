@@ -1,4 +1,5 @@
-ghost use Rattle.std.specs.Prelude.{◌≡◌, ◌==◌, ℕ, ◌%◌, ◌<◌, IfOk};
+ghost use Rattle.std.specs.Prelude.{◌≡◌, ◌==◌, ◌%◌, ◌<◌, IfOk, filter};
+ghost use Rattle.block_source.specs.Left.{consecutive};
 
 use super::*;
 use std::alloc::{AllocError, Global};
@@ -49,6 +50,17 @@ impl BlockTest for MultipleOf {
     }
 }
 
+// The blocks below ten that are multiples of a number.
+fn multiples(alloc: Global, factor: u32) -> Result<Vec<(u32, ())>, AllocError>
+    requires { 0 < factor }
+    ensures { IfOk result (λ given. given.items ≡ filter (λ b. b.0 % factor == 0) (consecutive 0 10)) }
+{
+    all_of(
+        alloc,
+        Filtered::new(Range::new(0, 10), MultipleOf { factor }),
+    )
+}
+
 #[test]
 fn blocks_of_each_source(rt: HostRuntime) -> Result<(), Fail> {
     let alloc = rt.alloc();
@@ -76,9 +88,7 @@ fn blocks_of_each_source(rt: HostRuntime) -> Result<(), Fail> {
 
 #[test]
 fn a_test_that_is_known_at_run_time(rt: HostRuntime) -> Result<(), Fail> {
-    let alloc = rt.alloc();
-    let fours = Filtered::new(Range::new(0, 10), MultipleOf { factor: 4 });
-    let given = all_of(alloc, fours)?;
+    let given = multiples(rt.alloc(), 4)?;
     assert_eq!(rt; given.as_slice(), [(0, ()), (4, ()), (8, ())].as_slice());
     Ok(())
 }
