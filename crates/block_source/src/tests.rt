@@ -53,7 +53,7 @@ impl BlockTest for MultipleOf {
 // The blocks below ten that are multiples of a number.
 fn multiples(alloc: Global, factor: u32) -> Result<Vec<(u32, ())>, AllocError>
     requires { 0 < factor }
-    ensures { IfOk result (λ given. given.items ≡ filter (λ b. b.0 % factor == 0) (consecutive 0 10)) }
+    ensures { IfOk result (λ all. all.items ≡ filter (λ b. b.0 % factor == 0) (consecutive 0 10)) }
 {
     all_of(
         alloc,
