@@ -13,6 +13,7 @@ pub mod Seating
 pub mod Calling
 pub mod Answering
 pub mod Growing
+pub mod TakingUp
 pub mod Alone
 pub mod Remembering
 pub mod Recalling

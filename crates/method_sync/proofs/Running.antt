@@ -1,0 +1,80 @@
+-- What a runner takes up: the one incarnation that it was handed.
+use Rattle.std.proofs.Common.{◌≡◌, ℕ, ◌+◌, ◌-◌, ◌^◌, ◌<◌, ◌≤◌, List, [], ◌∷◌, Option, length, map, refl, sym, ap, ◌∙◌, subst, arith}
+use Rattle.page_check.specs.Told.{Told}
+use Rattle.std.specs.List.{length_refill}
+use Rattle.aio_disk.specs.Counts.{raised_by, Rose}
+use Rattle.aio_word.specs.declared.Class.{Class}
+use Rattle.aio_word.specs.declared.Class.TheVariants.{Unended, Whole, Short, Failed}
+use Rattle.aio_word.specs.declared.WaitRef.{WaitRef}
+use Rattle.aio_word.specs.declared.Known.{Known}
+use Rattle.aio_word.specs.declared.Kind.TheVariants as kind
+use Rattle.aio_word.specs.Tokens.{Grows, mark_at}
+use Rattle.aio_handle.specs.Executing.{TakesUp, Pays, last_count}
+use Rattle.aio_handle.specs.LifeWords.{claimed, executed, completed}
+use Rattle.aio_handle.specs.Made.{Made}
+use Rattle.aio_handle.proofs.Growing.{took-one, grows-then, io-grows, share-grows}
+use Rattle.aio_callback.specs.Reading.{Reading, Completed, aim_in, number_of_id, with_pages}
+use Rattle.aio_callback.specs.Finished.{Finish, Grew, finishes, reference_in}
+use Rattle.method_sync.specs.Executed.{IsExecutedAs}
+use Rattle.aio_word.specs.declared.Step.TheVariants as event
+
+-- one read, which failed only where the count of faults rose
+pays-one : (class : Class) (t : WaitRef) (reads reads' faults faults' : ℕ)
+    → reads' ≡ raised_by 1 reads → faults ≤ faults' → (class ≡ Failed → Rose faults faults')
+    → Pays reads reads' faults faults' (mark_at t (kind.Io class) ∷ mark_at t kind.Shared ∷ [])
+pays-one Unended t reads reads' faults faults' one later failed =
+    record { read_each = λ lt. omega arith; fault_each = λ lt. omega arith }
+pays-one Whole t reads reads' faults faults' one later failed =
+    record { read_each = λ lt. omega arith; fault_each = λ lt. omega arith }
+pays-one Short t reads reads' faults faults' one later failed =
+    record { read_each = λ lt. omega arith; fault_each = λ lt. omega arith }
+pays-one Failed t reads reads' faults faults' one later failed =
+    record { read_each = λ lt. omega arith; fault_each = λ lt. let r = failed refl in omega arith }
+
+takes-one : (class : Class) (t : WaitRef) (p q : Known) (reads reads' faults faults' : ℕ)
+    → Grows p q (mark_at t (kind.Io class) ∷ mark_at t kind.Shared ∷ [])
+    → reads' ≡ raised_by 1 reads → faults ≤ faults' → (class ≡ Failed → Rose faults faults')
+    → TakesUp (mark_at t kind.Claimed ∷ []) p q reads reads' faults faults'
+takes-one class t p q reads reads' faults faults' grows one later failed = record {
+  more = mark_at t (kind.Io class) ∷ mark_at t kind.Shared ∷ [];
+  grows = grows;
+  took = took-one class t.handle t.generation;
+  pays = pays-one class t reads reads' faults faults' one later failed;
+}
+
+-- a read that was executed, completed and shared
+pub executed-as : (told : Option Told) (t : WaitRef) (aim : List ℕ) (p m q : Known) (class : Class)
+    (r : Reading) (before after : Option (List Finish)) (faults faults' : ℕ)
+    → Made (event.Io class) t.handle (claimed t.generation) (executed class t.generation) [] p m
+    → Made event.Shared t.handle (executed r.label.ended t.generation)
+    (completed r.label.ended t.generation) [] m q
+    → r.label.ended ≡ class → aim_in r ≡ aim → reference_in r ≡ t → Completed told r
+    → Grew before after (finishes r) → (class ≡ Failed → Rose faults faults')
+    → IsExecutedAs told t aim p q before after faults faults'
+executed-as told t aim p m q class r before after faults faults' io shared same aimed named done
+    handed failed = record {
+      reading = r;
+      aimed = aimed;
+      named = named;
+      completed = done;
+      grows = grows-then p m q (mark_at t (kind.Io r.label.ended) ∷ []) (mark_at t kind.Shared ∷ [])
+          (subst (λ (z : Class). Grows p m (mark_at t (kind.Io z) ∷ [])) (sym same)
+          (io-grows class t.handle t.generation p m io))
+          (share-grows r.label.ended t.handle t.generation m q shared);
+      handed = handed;
+      failed = λ e. failed (sym same ∙ e);
+    }
+
+-- and what it took up
+pub takes-executed : (told : Option Told) (t : WaitRef) (aim : List ℕ) (p q : Known)
+    (before after : Option (List Finish)) (reads reads' faults faults' : ℕ)
+    → IsExecutedAs told t aim p q before after faults faults' → reads' ≡ raised_by 1 reads
+    → faults ≤ faults' → TakesUp (mark_at t kind.Claimed ∷ []) p q reads reads' faults faults'
+takes-executed told t aim p q before after reads reads' faults faults' x one later =
+    takes-one x.reading.label.ended t p q reads reads' faults faults' x.grows one later x.failed
+
+-- the pages of a read change nothing of what it is aimed at
+pub aim-read : (r : Reading) (pages : List (List ℕ)) → aim_in (with_pages r pages) ≡ aim_in r
+aim-read r pages =
+    ap (λ (n : ℕ). n ∷ r.relation ∷ r.first ∷ r.count ∷ map number_of_id r.ids)
+    (sym (length_refill (length r.pages) r.pages pages refl))

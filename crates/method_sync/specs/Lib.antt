@@ -1,0 +1,2 @@
+pub mod Began
+pub mod Executed

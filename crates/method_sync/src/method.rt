@@ -1,0 +1,47 @@
+//! The method that executes at once.
+ghost use Rattle.std.specs.Prelude.{◌≡◌, ◌<◌, [], None};
+ghost use Rattle.aio_handle.specs.Executing.{TakesUp};
+ghost use Rattle.aio_handle.specs.Shown.{IsOf, IsSame};
+ghost use Rattle.method_sync.specs.Began.{SeesClaim};
+
+use aio_batch::Method;
+use aio_callback::ReadIo;
+use aio_handle::{Actor, Execute, Table};
+use aio_word::WaitRef;
+use page_check::World;
+use std::sync::Wait;
+
+/// Executes each I/O as it begins (`io_method=sync`, `pgaio_sync_ops` of `method_sync.c`).
+///
+/// Where another actor has claimed the I/O before, it is left to that one. An actor that has
+/// submitted the I/O has seen it claimed afterwards.
+#[derive(Clone, Copy, Drop)]
+pub struct SyncMethod;
+
+impl<W: World> Method<ReadIo, W> for SyncMethod {
+    ghost heard = { λ _. None };
+
+    fn begun<E: Execute<ReadIo, W>, T: Wait>(
+        &mut self,
+        rt: &T,
+        table: &Table<ReadIo, W>,
+        actor: &mut Actor<ReadIo, W>,
+        runner: &mut E,
+        reference: WaitRef,
+    )
+        requires table { IsOf table.now actor.old }
+        requires told { (E.told runner.old ≡ W.told) × (E.relations runner.old ≡ W.relations) }
+        requires range { reference.handle < W.handles }
+        ensures same { IsSame actor.old actor.new }
+        ensures told { (E.told runner.new ≡ E.told runner.old)
+            × (E.relations runner.new ≡ E.relations runner.old) }
+        ensures marks { TakesUp [] actor.old.known actor.new.known (E.reads runner.old)
+            (E.reads runner.new) (E.faults runner.old) (E.faults runner.new) }
+        ensures sees { SeesClaim reference actor.old.known actor.new.known }
+    {
+        actor.keeps();
+        if let Some(claimed) = table.claim(actor, reference) {
+            runner.execute(rt, table, actor, claimed);
+        }
+    }
+}
