@@ -222,7 +222,7 @@ fn batched<W: World, T: Wait>(rt: &T, alloc: Global, count: u32) -> Result<Optio
     let pushed = push_all(alloc, &table, &mut actor, &mut batch, count)?;
     let between = batch.len();
     let mut method = Listener {
-        heard: Vec::new(alloc),
+        heard: Vec::with_capacity(alloc, 33)?,
     };
     let submitted = submit_all(
         rt,
@@ -309,7 +309,7 @@ fn kept<W: World, T: Wait>(rt: &T, alloc: Global) -> Result<Option<bool>, AllocE
     let mut batch = Batch::open(alloc)?;
     push_all(alloc, &table, &mut actor, &mut batch, 2)?;
     let mut method = Listener {
-        heard: Vec::new(alloc),
+        heard: Vec::with_capacity(alloc, 2)?,
     };
     match submit_two(rt, &table, &mut actor, &mut batch, &mut method) {
         Some((first, second)) => Ok(Some(are_pending(&table, &mut actor, first, second))),
