@@ -1,65 +1,45 @@
 //! Blocks of another source that a test accepts.
-ghost use Rattle.std.specs.Prelude.{◌≡◌, ℕ, ◌^◌, ◌<◌, Bool};
-ghost use Rattle.block_source.specs.Decided.{Decides};
+ghost use Rattle.std.specs.Prelude.{◌≡◌, ℕ, Bool};
 
 use crate::source::BlockSource;
-use std::marker::{Brand, PhantomData};
 
-/// Which blocks a test accepts, for contracts alone. A type of the caller's stands for a test that
-/// is fixed; for one that is known only at run time, call a function over it with `Brand`.
-pub trait Accepts {
-    ghost accepts: { ℕ → Bool };
+/// A test of blocks, which may be asked about each block at any time, and whose answer depends on
+/// the test and on the block alone. A test that is fixed is a unit type; one that depends on values
+/// known at run time is a struct that holds them.
+pub trait BlockTest {
+    /// Whether a block is accepted.
+    ghost accepts: { Self → ℕ → Bool };
+
+    /// Answers whether this block is accepted. It takes no memory.
+    fn is_accepted(&self, block: u32) -> bool
+        ensures { result ≡ accepts self.now block };
 }
 
-impl Accepts for Brand {
-    ghost use Rattle.std.specs.Prelude.{true};
-
-    ghost accepts = { λ _. true };
-}
-
-/// The blocks of another source that a test accepts, with their data. `K` says which these are.
+/// The blocks of another source that a test accepts, with their data, in the other's order.
 #[derive(Drop)]
-pub struct Filtered<S, F, K> {
+pub struct Filtered<S, T> {
     pub inner: S,
-    pub keep: F,
-    accepted: PhantomData<K>,
+    pub keep: T,
 }
 
-impl<S, F: Fn(u32) -> bool, K: Accepts> Filtered<S, F, K> {
-    /// The blocks of `inner` that `keep` accepts. `keep` may be called with each block, and its
-    /// contract states one answer for it, the one of `K`.
-    pub fn new(inner: S, keep: F) -> Filtered<S, F, K>
-        requires { Decides F.Fn keep K.accepts }
+impl<S, T: BlockTest> Filtered<S, T> {
+    /// A source of the blocks of `inner` that `keep` accepts.
+    pub fn new(inner: S, keep: T) -> Filtered<S, T>
         ensures inner { result.inner ≡ inner }
         ensures keep { result.keep ≡ keep }
     {
-        Filtered {
-            inner,
-            keep,
-            accepted: PhantomData,
-        }
-    }
-
-    fn accepts(&self, block: u32) -> bool
-        requires { Decides F.Fn self.now.keep K.accepts }
-        ensures { result ≡ K.accepts block }
-    {
-        (self.keep)(block)
+        Filtered { inner, keep }
     }
 }
 
-impl<P: Copy, S: BlockSource<P>, F: Fn(u32) -> bool, K: Accepts> BlockSource<P>
-    for Filtered<S, F, K> {
+impl<P: Copy, S: BlockSource<P>, T: BlockTest> BlockSource<P> for Filtered<S, T> {
     ghost use Rattle.std.specs.Prelude.{filter};
-    ghost use Rattle.block_source.specs.Decided.{Decides};
 
-    ghost left = { λ s. filter (λ b. K.accepts b.0) (S.left s.inner) };
-
-    ghost can_next = { λ s. S.can_next s.inner × Decides F.Fn s.keep K.accepts };
+    ghost left = { λ s. filter (λ b. T.accepts s.keep b.0) (S.left s.inner) };
 
     fn next(&mut self) -> Option<(u32, P)> {
         while let Some(next) = self.inner.next() {
-            if self.accepts(next.0) {
+            if self.keep.is_accepted(next.0) {
                 return Some(next);
             }
         }

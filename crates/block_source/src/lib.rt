@@ -13,7 +13,7 @@ mod source;
 mod strides;
 
 pub use consecutive::Range;
-pub use filters::{Accepts, Filtered};
+pub use filters::{BlockTest, Filtered};
 pub use lists::Listed;
 pub use source::BlockSource;
 pub use strides::Stepped;

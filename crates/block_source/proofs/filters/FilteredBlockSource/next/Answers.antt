@@ -2,15 +2,12 @@ use Rattle.std.proofs.Common.{sym, ◌∙◌}
 use Rattle.block_source.proofs.Filtering.{first_accepted, first_refused}
 use Rattle.block_source.proofs.filters.FilteredBlockSource.next.Goals as goal
 
-pub returns-then-accepts-clause-first : goal.returns-then-accepts-clause-first
-returns-then-accepts-clause-first g c =
-    let here = first_accepted _ _ _ _ c.in-Some.ensures.first c.if-accepts.ensures in
-    sym c.loop-next.invariant.left ∙ here
+pub returns-then-is_accepted : goal.returns-then-is_accepted
+returns-then-is_accepted g c =
+    let here = first_accepted _ _ _ _ c.in-Some.ensures.first c.if-is_accepted.ensures in
+    record { first = sym c.loop-next.invariant ∙ here }
 
 pub loop-next-preserved : goal.loop-next-preserved
 loop-next-preserved g c =
-    let here = first_refused _ _ _ _ c.in-Some.ensures.first c.if-accepts.ensures in record {
-      can_next = c.next.ensures.again;
-      decides = c.loop-next.invariant.decides;
-      left = sym here ∙ c.loop-next.invariant.left;
-    }
+    let here = first_refused _ _ _ _ c.in-Some.ensures.first c.if-is_accepted.ensures in
+    sym here ∙ c.loop-next.invariant

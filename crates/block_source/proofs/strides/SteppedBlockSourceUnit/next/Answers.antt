@@ -2,7 +2,9 @@ use Rattle.std.proofs.Common.{arith, ◌<◌}
 use Rattle.block_source.proofs.Stepping.{stepped_first}
 use Rattle.block_source.proofs.strides.SteppedBlockSourceUnit.next.Goals as goal
 
-pub returns-clause-first : goal.returns-clause-first
-returns-clause-first c =
+pub returns : goal.returns
+returns c =
     let some : 0 < c.self.inside.count = omega arith in
-    rw (← c.self.view_is, stepped_first c.self.inside.next c.self.inside.step _ some)
+    record {
+      first = rw (← c.self.view_is, stepped_first c.self.inside.next c.self.inside.step _ some);
+    }
