@@ -1,10 +1,11 @@
 -- The tokens of a batch, over the calls of their actor.
-use Rattle.std.proofs.Common.{◌≡◌, ◌≢◌, ℕ, List, [], ◌∷◌, ◌++◌, refl, sym, ap, ◌∙◌, subst, inl, inr, ⊎_elim, arith}
+use Rattle.std.proofs.Common.{◌≡◌, ◌≢◌, ℕ, List, [], ◌∷◌, ◌++◌, refl, sym, ap, ◌∙◌, subst}
+use Rattle.std.proofs.Common.{inl, inr, ⊎_elim, arith}
 use Rattle.aio_word.specs.declared.Step.TheVariants as event
 use Rattle.aio_word.specs.declared.Known.{Known}
 use Rattle.aio_word.specs.declared.WaitRef.{WaitRef}
 use Rattle.aio_word.specs.Stands.{IsIn}
-use Rattle.aio_word.specs.Tokens.{IsDefined, IsStaged}
+use Rattle.aio_word.specs.Tokens.{IsDefined, IsStaged, IsInFlight, IsLocal}
 use Rattle.aio_word.proofs.Parts.{in-append}
 use Rattle.aio_handle.specs.LifeWords.{defined, staged, unclaimed}
 use Rattle.aio_handle.specs.Made.{Made}
@@ -12,7 +13,7 @@ use Rattle.aio_handle.specs.Executing.{TakesUp}
 use Rattle.aio_batch.specs.Held.{Held}
 use Rattle.aio_batch.specs.Next.{IsNext}
 use Rattle.aio_batch.specs.Kept.{IsKept}
-use Rattle.aio_batch.proofs.Keeping.{kept-taking-up, kept-elsewhere}
+use Rattle.aio_batch.proofs.Keeping.{kept-taking-up, kept-elsewhere, aims-kept}
 
 pub kept-then : (t : WaitRef) (p q r : Known) → IsKept t p q → IsKept t q r → IsKept t p r
 kept-then t p q r a b = record {
@@ -46,12 +47,28 @@ module _ {R : Type 0} where
       (unclaimed token.0.generation) aim p q made (h.1 u i))
       (kept-taking-up u.0 [] q r a b c d begun)) h.2
 
-  -- each token but the one that is submitted stays
+  -- each token but the one that is submitted stays, and a token that is not staged is another
   pub kept-submitting : (aim_in : R → List ℕ) (before after : List (WaitRef × R)) (t u : WaitRef)
-      (p q : Known) (a b c d : ℕ) → IsNext aim_in before after t p q a b c d → u ≢ t → IsKept u p q
-  kept-submitting aim_in before after t u p q a b c d n ne = kept-then u p n.between q
+      (p q : Known) (a b c d : ℕ) → Held p before → IsNext aim_in before after t p q a b c d
+      → (IsStaged p u → u ≢ t) → IsKept u p q
+  kept-submitting aim_in before after t u p q a b c d held n other =
+      let first = (subst (λ (z : List (WaitRef × R)). Held p z) n.first held).0 in
+      let stage : IsStaged p t = subst (λ (z : WaitRef). IsStaged p z) (sym n.reference) first in
+      let s = stage.since in let s' = stage.until in
+      let begun = kept-taking-up u [] n.between q a b c d n.begun in
+      let kept : u ≢ t → IsKept u p q = λ ne. kept-then u p n.between q
       (kept-elsewhere u event.Submit t.handle (staged t.generation) (unclaimed t.generation)
-      (aim_in n.token.1) p n.between n.made ne) (kept-taking-up u [] n.between q a b c d n.begun)
+      (aim_in n.token.1) p n.between n.made ne) begun in record {
+        defined = λ x. (kept (λ e. let y = (subst (λ (z : WaitRef). IsDefined p z) e x).until in
+            omega arith)).defined x;
+        staged = λ x. (kept (other x)).staged x;
+        in_flight = λ x. (kept (λ e. let y = (subst (λ (z : WaitRef). IsInFlight p z) e x).since in
+            omega arith)).in_flight x;
+        local = λ x. (kept (λ e. let y = (subst (λ (z : WaitRef). IsLocal p z) e x).since in
+            omega arith)).local x;
+        aims = λ aim i. begun.aims aim (aims-kept u event.Submit t.handle (staged t.generation)
+            (unclaimed t.generation) (aim_in n.token.1) p n.between n.made aim i);
+      }
 
   staged-in : (p : Known) (ts : List (WaitRef × R)) (u : WaitRef × R) → Held p ts → IsIn u ts
       → IsStaged p u.0

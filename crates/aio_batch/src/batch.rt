@@ -57,9 +57,12 @@ impl<R: Record, W: World> Batch<R, W> {
         self.tokens.len()
     }
 
-    /// Adds an I/O behind the others (`pgaio_io_stage` of `aio.c` in batch mode, which submits the
-    /// batch itself where it is full). Any actor's token is taken; `submit_next` asks for the
-    /// actor's own. It takes no memory. `Full` leaves the batch as it was.
+    /// Adds an I/O behind the others (`pgaio_io_stage` of `aio.c` in batch mode). It takes no
+    /// memory, and takes any staged I/O: that all are one actor's is what `submit_next` asks for.
+    ///
+    /// `Full` comes exactly where it holds 32. The token comes back, and the batch is as it was:
+    /// the caller submits the batch and pushes again. PostgreSQL submits a full batch by itself
+    /// when the next handle is acquired (`pgaio_io_acquire_nb`).
     pub fn push(&mut self, staged: Staged<R, W>) -> Result<(), Full<R, W>>
         ensures ok { IfOk result
             (λ _. (length self.old < 32) × (self.new ≡ self.old ++ staged ∷ [])) }
@@ -74,8 +77,11 @@ impl<R: Record, W: World> Batch<R, W> {
     }
 
     /// Submits the I/O that was pushed first, and lets the method begin it. None exactly where the
-    /// batch is empty. Called until it answers None it submits the batch, as
-    /// `pgaio_submit_staged` of `aio.c` does. It takes no memory of its own.
+    /// batch is empty, and then nothing changed. Called until it answers None it submits the batch
+    /// (`pgaio_submit_staged` of `aio.c`).
+    ///
+    /// The actor is the one that has staged all of them. It takes no memory of its own; the method
+    /// and the runner may wait.
     pub fn submit_next<M: Method<R, W>, E: Execute<R, W>, T: Wait>(
         &mut self,
         rt: &T,

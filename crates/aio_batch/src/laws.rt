@@ -44,11 +44,13 @@ pub fn defining_keeps_tokens()
         → Made Define h (handed g) (defined g) aim p q → IsKept t p q }
 {}
 
-/// The next submission of a batch keeps each token but the one that it submits.
+/// The next submission of a batch keeps each token but the one that it submits. A token that is not
+/// staged is another.
 pub fn submitting_keeps_tokens<R: Record>()
     ensures { (aim_in : R → List ℕ) (before after : List (WaitRef × R)) (t u : WaitRef)
         (p q : Known) (reads reads' faults faults' : ℕ)
-        → IsNext aim_in before after t p q reads reads' faults faults' → u ≢ t → IsKept u p q }
+        → Held p before → IsNext aim_in before after t p q reads reads' faults faults'
+        → (IsStaged p u → u ≢ t) → IsKept u p q }
 {}
 
 /// The tokens of a batch stay staged and apart where each of them is kept.

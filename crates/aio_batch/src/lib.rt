@@ -11,6 +11,9 @@
 //! The call takes the first token off, appends its Submitted mark, and then those of the method,
 //! which are Claimed, Io and Shared marks, all three for each incarnation that it took up. So no
 //! handle is handed out, and what the actor knew of its other tokens still holds.
+//!
+//! That each call of the table keeps the tokens that it does not use follows from its clauses. The
+//! module `laws` says it once, for callers that hold several tokens.
 #![tactic(auto)]
 
 mod batch;

@@ -1,10 +1,11 @@
-//! A batch that is filled, overfilled and submitted.
-ghost use Rattle.std.specs.Prelude.{◌≡◌, ◌<◌, [], None};
+//! A batch that is filled, overfilled and submitted, and a caller that keeps what it submitted.
+ghost use Rattle.std.specs.Prelude.{◌≡◌, ◌<◌, [], None, IfSome};
+ghost use Rattle.aio_word.specs.Tokens.{IsInFlight};
 ghost use Rattle.aio_handle.specs.Shown.{IsOf, IsSame};
 ghost use Rattle.aio_batch.specs.Held.{Held};
 
 use crate::{Batch, Full, Method, laws};
-use aio_handle::{Actor, Claimed, Execute, Label, Record, Table};
+use aio_handle::{Actor, Claimed, Execute, InFlight, Label, Record, Table, Take};
 use aio_word::{Class, WaitRef};
 use page_check::World;
 use std::alloc::{AllocError, Global};
@@ -221,7 +222,7 @@ fn batched<W: World, T: Wait>(rt: &T, alloc: Global, count: u32) -> Result<Optio
     let pushed = push_all(alloc, &table, &mut actor, &mut batch, count)?;
     let between = batch.len();
     let mut method = Listener {
-        heard: Vec::new(alloc),
+        heard: Vec::with_capacity(alloc, 33)?,
     };
     let submitted = submit_all(
         rt,
@@ -255,5 +256,69 @@ fn thirty_three_staged_tokens(rt: HostRuntime) -> Result<(), AllocError> {
     }
     assert!(&rt; run.pushed[32].back == Some(run.pushed[32].reference));
     assert!(&rt; run.submitted[32].is_none());
+    Ok(())
+}
+
+/// The first two I/Os of the batch, both in flight.
+fn submit_two<W: World, T: Wait>(
+    rt: &T,
+    table: &Table<Note, W>,
+    actor: &mut Actor<Note, W>,
+    batch: &mut Batch<Note, W>,
+    method: &mut Listener,
+) -> Option<(InFlight<W>, InFlight<W>)>
+    requires table { IsOf table.now actor.old }
+    requires tokens { Held actor.old.known batch.old }
+    ensures same { IsSame actor.old actor.new }
+    ensures first { IfSome result (λ t. IsInFlight actor.new.known t.0) }
+    ensures second { IfSome result (λ t. IsInFlight actor.new.known t.1) }
+{
+    let mut runner = Sleeper { of: PhantomData };
+    laws::submitting_keeps_tokens::<Note>();
+    let first = batch.submit_next(rt, table, actor, method, &mut runner)?;
+    let second = batch.submit_next(rt, table, actor, method, &mut runner)?;
+    Some((first, second))
+}
+
+/// Whether neither of two I/Os has ended.
+fn are_pending<W: World>(
+    table: &Table<Note, W>,
+    actor: &mut Actor<Note, W>,
+    first: InFlight<W>,
+    second: InFlight<W>,
+) -> bool
+    requires table { IsOf table.now actor.old }
+    requires first { IsInFlight actor.old.known first }
+    requires second { IsInFlight actor.old.known second }
+{
+    laws::looking_keeps_tokens();
+    let Take::NotYet(_) = table.try_take(actor, first) else {
+        return false;
+    };
+    matches!(table.try_take(actor, second), Take::NotYet(_))
+}
+
+/// Two I/Os are submitted, which nobody executes, and both are looked for.
+fn kept<W: World, T: Wait>(rt: &T, alloc: Global) -> Result<Option<bool>, AllocError>
+    requires { W.handles ≡ 2 }
+{
+    let (table, mut actors) = Table::<Note, W>::open(alloc, 1, 2, 0, 0)?;
+    let Some(mut actor) = actors.pop() else {
+        return Ok(None);
+    };
+    let mut batch = Batch::open(alloc)?;
+    push_all(alloc, &table, &mut actor, &mut batch, 2)?;
+    let mut method = Listener {
+        heard: Vec::with_capacity(alloc, 2)?,
+    };
+    match submit_two(rt, &table, &mut actor, &mut batch, &mut method) {
+        Some((first, second)) => Ok(Some(are_pending(&table, &mut actor, first, second))),
+        None => Ok(None),
+    }
+}
+
+#[test]
+fn two_in_flight_are_both_kept(rt: HostRuntime) -> Result<(), AllocError> {
+    assert!(&rt; kept::<Brand, _>(&rt, rt.alloc())? == Some(true));
     Ok(())
 }

@@ -5,10 +5,29 @@ use Rattle.aio_batch.proofs.batch.Batch.submit_next.Goals as goal
 
 pub returns-clause-next : goal.returns-clause-next
 returns-clause-next g c =
-    next-is g.R.Record.aim c.args.self.now c.pop_front.new.self.items c.in_ok-staged.staged c.submit-token.result c.args.actor.now.known c.submit-token.new.actor.known c.begun.new.actor.known _ _ _ _
-    (sym c.self.view_is ∙ c.in_ok-staged.ensures.items) c.submit-token.ensures.event c.submit-token.ensures.token c.begun.ensures.marks
+    let before = c.args.self.now in
+    let after = c.pop_front.new.self.items in
+    let p = c.args.actor.now.known in
+    let q = c.submit-token.new.actor.known in
+    let r = c.begun.new.actor.known in
+    let first = sym c.self.view_is ∙ c.in_ok-staged.ensures.items in
+    let token = c.in_ok-staged.staged in
+    let submit = c.submit-token.ensures in
+    let t = c.submit-token.result in
+    let aim_in = g.R.Record.aim in
+    let begun = c.begun.ensures.marks in
+    next-is aim_in before after token t p q r _ _ _ _ first submit.event submit.token begun
 
 pub returns-clause-tokens : goal.returns-clause-tokens
 returns-clause-tokens g c =
-    held-rest c.args.self.now c.pop_front.new.self.items c.in_ok-staged.staged (g.R.Record.aim c.in_ok-staged.staged.1) c.args.actor.now.known c.submit-token.new.actor.known c.begun.new.actor.known _ _ _ _
-    (sym c.self.view_is ∙ c.in_ok-staged.ensures.items) c.submit-token.ensures.event c.begun.ensures.marks c.requires.tokens
+    let before = c.args.self.now in
+    let after = c.pop_front.new.self.items in
+    let p = c.args.actor.now.known in
+    let q = c.submit-token.new.actor.known in
+    let r = c.begun.new.actor.known in
+    let first = sym c.self.view_is ∙ c.in_ok-staged.ensures.items in
+    let token = c.in_ok-staged.staged in
+    let aim = g.R.Record.aim token.1 in
+    let event = c.submit-token.ensures.event in
+    let begun = c.begun.ensures.marks in
+    held-rest before after token aim p q r _ _ _ _ first event begun c.requires.tokens
