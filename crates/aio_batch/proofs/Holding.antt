@@ -12,8 +12,8 @@ use Rattle.aio_handle.specs.Made.{Made}
 use Rattle.aio_handle.specs.Executing.{TakesUp}
 use Rattle.aio_batch.specs.Held.{Held}
 use Rattle.aio_batch.specs.Next.{IsNext}
-use Rattle.aio_batch.specs.Kept.{IsKept}
-use Rattle.aio_batch.proofs.Keeping.{kept-taking-up, kept-elsewhere, aims-kept}
+use Rattle.aio_handle.specs.Kept.{IsKept}
+use Rattle.aio_handle.proofs.Kept.{kept-taking-up, kept-elsewhere, aims-kept}
 
 pub kept-then : (t : WaitRef) (p q r : Known) → IsKept t p q → IsKept t q r → IsKept t p r
 kept-then t p q r a b = record {

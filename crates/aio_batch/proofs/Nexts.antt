@@ -9,7 +9,7 @@ use Rattle.aio_handle.specs.LifeWords.{staged, unclaimed}
 use Rattle.aio_handle.specs.Made.{Made}
 use Rattle.aio_handle.specs.Executing.{TakesUp}
 use Rattle.aio_batch.specs.Next.{IsNext}
-use Rattle.aio_batch.proofs.Keeping.{kept-taking-up}
+use Rattle.aio_handle.proofs.Kept.{kept-taking-up}
 
 pub next-is : {R : Type 0} (aim_in : R → List ℕ) (before after : List (WaitRef × R))
     (token : WaitRef × R) (t : WaitRef) (p q r : Known) (a b c d : ℕ) → before ≡ token ∷ after

@@ -139,8 +139,8 @@ fn push_one<W: World>(
     let Ok(token) = table.acquire(actor) else {
         return None;
     };
-    laws::events_keep_other_tokens();
-    laws::defining_keeps_tokens();
+    table_laws::events_keep_other_tokens();
+    table_laws::defining_keeps_tokens();
     laws::batches_are_kept::<Note>();
     laws::what_is_staged_may_be_pushed::<Note>();
     actor.keeps();
@@ -291,7 +291,7 @@ fn are_pending<W: World>(
     requires first { IsInFlight actor.old.known first }
     requires second { IsInFlight actor.old.known second }
 {
-    laws::looking_keeps_tokens();
+    table_laws::looking_keeps_tokens();
     let Take::NotYet(_) = table.try_take(actor, first) else {
         return false;
     };

@@ -1,176 +1,166 @@
--- What an actor keeps of its tokens over its other calls: one lemma a token.
-use Rattle.std.proofs.Common.{◌≡◌, ◌≢◌, ℕ, ◌+◌, ◌*◌, ◌<◌, ◌⊎◌, List, [], ◌∷◌, ◌++◌, sum_by, sym, ap, ◌∙◌, subst, inl, inr, ⊎_elim, arith, Option, Some, None}
-use Rattle.std.proofs.lemmas.List.Sums.{sum_by-append}
+-- What events and what is taken up leave of an owner's tokens.
+use Rattle.std.proofs.Common.{◌≡◌, ◌≢◌, ℕ, ◌+◌, ◌*◌, ◌<◌, ◌⊎◌, List, [], ◌∷◌, ◌++◌, refl, sym, ap}
+use Rattle.std.proofs.Common.{◌∙◌, subst, inl, inr, arith}
 use mathlib.Core.Logic.{dite}
 use native.Mathlib.Decide.{ℕ_discrete}
-use Rattle.aio_word.specs.declared.Class.{Class}
 use Rattle.aio_word.specs.declared.Step.{Step as Event}
+use Rattle.aio_word.specs.declared.Class.{Class}
 use Rattle.aio_word.specs.declared.Step.TheVariants as event
 use Rattle.aio_word.specs.declared.Kind.{Kind}
 use Rattle.aio_word.specs.declared.Kind.TheVariants as kind
 use Rattle.aio_word.specs.declared.Mark.{Mark}
-use Rattle.aio_word.specs.declared.WaitRef.{WaitRef}
 use Rattle.aio_word.specs.declared.Word.{Word}
+use Rattle.aio_word.specs.declared.WaitRef.{WaitRef}
 use Rattle.aio_word.specs.declared.Known.{Known}
 use Rattle.aio_word.specs.Words.{place_of}
-use Rattle.aio_word.specs.Events.{times, is_mark, ref, leaves, noted}
-use Rattle.aio_word.specs.Stands.{IsIn, one_if}
-use Rattle.aio_word.specs.Tokens.{IsDefined, IsStaged, IsInFlight, IsLocal, IsClaimed, IsExecuted, Grows, Took}
+use Rattle.aio_word.specs.Events.{ref, order, noted, leaves}
+use Rattle.aio_word.specs.Stands.{IsIn, seen_of}
+use Rattle.aio_word.specs.Tokens.{owned, Keeps}
 use Rattle.aio_word.proofs.Parts.{in-left}
 use Rattle.aio_word.proofs.Steps.{mark, place-small}
-use Rattle.aio_handle.specs.Made.{Made}
-use Rattle.aio_handle.specs.Changes.{changed}
+use Rattle.aio_word.proofs.Frames.{spot, at-more, at-place}
+use Rattle.aio_handle.specs.Changes.{aims_after}
+use Rattle.aio_handle.specs.LifeWords.{handed, defined}
+use Rattle.aio_handle.specs.Made.{Made, Looked}
+use Rattle.aio_handle.specs.Executing.{TakesUp}
 use Rattle.aio_handle.proofs.Tokening.{counts-apart}
+use Rattle.aio_handle.specs.Kept.{IsKept, UsesToken}
 
--- the event is on another incarnation, or is a claimer's: it leaves the owner's tokens of t
-abbrev pub LeavesOwner : WaitRef → ℕ → Word → Type 0
-LeavesOwner t h w = (t ≢ ref h w.generation) ⊎ ((2 < place_of w) × (place_of w < 6))
+-- the owner's marks of t stand as often as before
+pub record SameOwn (t : WaitRef) (ms ns : List Mark) : Type 0 where
+  pub defined : spot t 0 ns ≡ spot t 0 ms
+  pub staged : spot t 1 ns ≡ spot t 1 ms
+  pub submitted : spot t 2 ns ≡ spot t 2 ms
+  pub taken : spot t 6 ns ≡ spot t 6 ms
+  pub reclaimed : spot t 7 ns ≡ spot t 7 ms
 
--- the event is on another incarnation, or is an owner's: it leaves the claimer's tokens of t
-abbrev pub LeavesClaimer : WaitRef → ℕ → Word → Type 0
-LeavesClaimer t h w = (t ≢ ref h w.generation) ⊎ ((place_of w < 3) ⊎ (5 < place_of w))
+same-own : (t : WaitRef) (ms : List Mark) → SameOwn t ms ms
+same-own t ms =
+    record { defined = refl; staged = refl; submitted = refl; taken = refl; reclaimed = refl }
 
--- the events that leave the handle that is handed out
-abbrev pub IsKeepingOut : Event → Type 0
-IsKeepingOut event.HandOut = ⊥
-IsKeepingOut event.Release = ⊥
-IsKeepingOut event.Define = ⊥
-IsKeepingOut _ = Unit {0}
+pub kept-where-same : (t : WaitRef) (p q : Known) → SameOwn t p.marks q.marks
+    → ((aim : List ℕ) → IsIn (t, aim) p.aims → IsIn (t, aim) q.aims) → IsKept t p q
+kept-where-same t p q s aims =
+    let s0 = s.defined in let s1 = s.staged in let s2 = s.submitted in let s6 = s.taken in
+    let s7 = s.reclaimed in record {
+      defined = λ d. let a = d.since in let b = d.until in
+          record { since = omega arith; until = omega arith };
+      staged = λ d. let a = d.since in let b = d.until in
+          record { since = omega arith; until = omega arith };
+      in_flight = λ d. let a = d.since in let b = d.until in
+          record { since = omega arith; until = omega arith };
+      local = λ d. let a = d.since in let b = d.until in
+          record { since = omega arith; until = omega arith };
+      aims = aims;
+    }
 
-module _ (e : Event) (h : ℕ) (w w' : Word) (aim : List ℕ) (p q : Known) (m : Made e h w w' aim p q)
-    (t : WaitRef) where
-  small : place_of w < 8
-  small = place-small w.state w.claimed
+-- what is taken up has no owner's mark
+pub kept-taking-up : (t : WaitRef) (held : List Mark) (p q : Known) (a b c d : ℕ)
+    → TakesUp held p q a b c d → IsKept t p q
+kept-taking-up t held p q a b c d k =
+    let none : owned t (held ++ k.more) ≡ 0 = k.took.owners t in
+    let none-of : (i : ℕ) → spot t i (held ++ k.more) ≡ 0 → spot t i q.marks ≡ spot t i p.marks =
+    λ i z. ap (spot t i) k.grows.marks ∙
+    (omega (arith, at-more t i p.marks k.more, at-more t i held k.more)) in
+    kept-where-same t p q record {
+      defined = none-of 0 (omega arith);
+      staged = none-of 1 (omega arith);
+      submitted = none-of 2 (omega arith);
+      taken = none-of 6 (omega arith);
+      reclaimed = none-of 7 (omega arith);
+    } (λ aim i. k.grows.aims (t, aim) i)
 
-  -- no count changes but that of the event's incarnation at its place
-  pub count-kept : (i : ℕ) → i < 8 → (t ≢ ref h w.generation) ⊎ (i ≢ place_of w)
-      → times t.handle (8 * t.generation + i) q.marks ≡ times t.handle
-      (8 * t.generation + i) p.marks
-  count-kept i lt apart = counts-apart e h w w' aim p q m t.handle (8 * t.generation + i)
-      (dite (ℕ_discrete t.handle h)
-      (λ eh. inr (λ x. let sm = small in let eg : t.generation ≡ w.generation = omega arith in
-      ⊎_elim (λ ne. ne (λ k. ref (eh k) (eg k))) (λ ne. ne (omega arith)) apart))
-      inl)
+pub kept-looking : (t : WaitRef) (h : ℕ) (w : Word) (p q : Known) → Looked h w p q → IsKept t p q
+kept-looking t h w p q k = kept-where-same t p q
+    (subst (λ (z : Known). SameOwn t p.marks z.marks) (sym k.is) (same-own t p.marks))
+    (λ aim i. subst (λ (z : Known). IsIn (t, aim) z.aims) (sym k.is) i)
 
-  owner-kept : LeavesOwner t h w → (i : ℕ) → i < 8 → (i < 3) ⊎ (5 < i)
-      → times t.handle (8 * t.generation + i) q.marks ≡ times t.handle
-      (8 * t.generation + i) p.marks
-  owner-kept l i lt own = count-kept i lt
-      (⊎_elim inl (λ (lo, hi). inr
-      (λ x. ⊎_elim (λ y. absurd (omega arith)) (λ y. absurd (omega arith)) own)) l)
+-- an event never forgets an aim
+aims-stay : (e : Event) (x : WaitRef × List ℕ) (aims : List (WaitRef × List ℕ)) (t : WaitRef)
+    (aim : List ℕ) → IsIn x aims → IsIn x (aims_after aims t aim e)
+aims-stay event.HandOut x aims t aim i = i
+aims-stay event.Release x aims t aim i = i
+aims-stay event.Define x aims t aim i = i
+aims-stay event.Stage x aims t aim i = i
+aims-stay event.Submit x aims t aim i = in-left x aims ((t, aim) ∷ []) i
+aims-stay event.Claim x aims t aim i = in-left x aims ((t, aim) ∷ []) i
+aims-stay (event.Io class) x aims t aim i = i
+aims-stay event.Shared x aims t aim i = i
+aims-stay event.Local x aims t aim i = i
+aims-stay event.Reclaim x aims t aim i = i
 
-  claimer-kept : LeavesClaimer t h w → (i : ℕ) → 2 < i → i < 6
-      → times t.handle (8 * t.generation + i) q.marks ≡ times t.handle
-      (8 * t.generation + i) p.marks
-  claimer-kept l i lo hi = count-kept i (omega arith)
-      (⊎_elim inl (λ o. inr
-      (λ x. ⊎_elim (λ y. absurd (omega arith)) (λ y. absurd (omega arith)) o)) l)
+-- a claimer's mark leaves the owner's
+same-worked : (t : WaitRef) (h g : ℕ) (k : Kind) (ms : List Mark) → 2 < order k → order k < 6
+    → SameOwn t ms (ms ++ mark h g k ∷ [])
+same-worked t h g k ms lo hi = record {
+  defined = at-place t (ref h g) 0 k ms (λ e. omega arith) (omega arith);
+  staged = at-place t (ref h g) 1 k ms (λ e. omega arith) (omega arith);
+  submitted = at-place t (ref h g) 2 k ms (λ e. omega arith) (omega arith);
+  taken = at-place t (ref h g) 6 k ms (λ e. omega arith) (omega arith);
+  reclaimed = at-place t (ref h g) 7 k ms (λ e. omega arith) (omega arith);
+}
 
-  pub defined-kept : LeavesOwner t h w → IsDefined p t → IsDefined q t
-  defined-kept l d =
-      let k = owner-kept l in
-      let k0 = k 0 (omega arith) (inl (omega arith)) in let k1 =
-      k 1 (omega arith) (inl (omega arith)) in let k2 = k 2 (omega arith) (inl (omega arith)) in
-      let k6 = k 6 (omega arith) (inr (omega arith)) in let k7 =
-      k 7 (omega arith) (inr (omega arith)) in
-      let s = d.since in let u = d.until in record { since = omega arith; until = omega arith }
+unused-marks : (t : WaitRef) (e : Event) (h g : ℕ) (class : Class) (ms : List Mark)
+    → (UsesToken e → ⊥) → SameOwn t ms (noted ms h g (leaves class e))
+unused-marks t event.HandOut h g class ms uses = same-own t ms
+unused-marks t event.Release h g class ms uses = same-own t ms
+unused-marks t event.Define h g class ms uses = absurd (uses tt)
+unused-marks t event.Stage h g class ms uses = absurd (uses tt)
+unused-marks t event.Submit h g class ms uses = absurd (uses tt)
+unused-marks t event.Claim h g class ms uses =
+    same-worked t h g kind.Claimed ms (omega arith) (omega arith)
+unused-marks t (event.Io ended) h g class ms uses =
+    same-worked t h g (kind.Io ended) ms (omega arith) (omega arith)
+unused-marks t event.Shared h g class ms uses =
+    same-worked t h g kind.Shared ms (omega arith) (omega arith)
+unused-marks t event.Local h g class ms uses = absurd (uses tt)
+unused-marks t event.Reclaim h g class ms uses = absurd (uses tt)
 
-  pub staged-kept : LeavesOwner t h w → IsStaged p t → IsStaged q t
-  staged-kept l d =
-      let k = owner-kept l in
-      let k1 = k 1 (omega arith) (inl (omega arith)) in let k2 =
-      k 2 (omega arith) (inl (omega arith)) in let k6 = k 6 (omega arith) (inr (omega arith)) in
-      let k7 = k 7 (omega arith) (inr (omega arith)) in
-      let s = d.since in let u = d.until in record { since = omega arith; until = omega arith }
+apart : (t : WaitRef) (h g i o : ℕ) → t ≢ ref h g → i < 8 → o < 8
+    → (t.handle ≢ h) ⊎ ((8 * t.generation + i) ≢ (8 * g + o))
+apart t h g i o ne a b = dite (ℕ_discrete t.handle h)
+    (λ same. inr (λ e. let gen : t.generation ≡ g = omega arith in
+    ne (ap (λ (z : ℕ). ref z t.generation) same ∙ ap (λ (z : ℕ). ref h z) gen)))
+    (λ other. inl other)
 
-  pub in-flight-kept : LeavesOwner t h w → IsInFlight p t → IsInFlight q t
-  in-flight-kept l d =
-      let k = owner-kept l in
-      let k2 = k 2 (omega arith) (inl (omega arith)) in let k6 =
-      k 6 (omega arith) (inr (omega arith)) in let k7 = k 7 (omega arith) (inr (omega arith)) in
-      let s = d.since in let u = d.until in record { since = omega arith; until = omega arith }
+module _ (t : WaitRef) (e : Event) (h : ℕ) (w w' : Word) (aim : List ℕ) (p q : Known)
+    (m : Made e h w w' aim p q) where
+  pub aims-kept : (a : List ℕ) → IsIn (t, a) p.aims → IsIn (t, a) q.aims
+  aims-kept a i = subst (λ (z : Known). IsIn (t, a) z.aims) (sym m.is)
+      (aims-stay e (t, a) p.aims (ref h w.generation) aim i)
 
-  pub local-kept : LeavesOwner t h w → IsLocal p t → IsLocal q t
-  local-kept l d =
-      let k = owner-kept l in
-      let k6 = k 6 (omega arith) (inr (omega arith)) in let k7 =
-      k 7 (omega arith) (inr (omega arith)) in
-      let s = d.since in let u = d.until in record { since = omega arith; until = omega arith }
+  pub kept-elsewhere : t ≢ ref h w.generation → IsKept t p q
+  kept-elsewhere ne =
+      let same : (i : ℕ) → i < 8 → spot t i q.marks ≡ spot t i p.marks = λ i lt.
+      counts-apart e h w w' aim p q m t.handle (8 * t.generation + i)
+      (apart t h w.generation i (place_of w) ne lt (place-small w.state w.claimed)) in
+      kept-where-same t p q record {
+        defined = same 0 (omega arith);
+        staged = same 1 (omega arith);
+        submitted = same 2 (omega arith);
+        taken = same 6 (omega arith);
+        reclaimed = same 7 (omega arith);
+      } aims-kept
 
-  pub claimed-kept : LeavesClaimer t h w → IsClaimed p t → IsClaimed q t
-  claimed-kept l d =
-      let k = claimer-kept l in
-      let k3 = k 3 (omega arith) (omega arith) in let k4 = k 4 (omega arith) (omega arith) in
-      let k5 = k 5 (omega arith) (omega arith) in
-      let s = d.since in let u = d.until in record { since = omega arith; until = omega arith }
+  -- an event that uses no token leaves no owner's mark
+  pub kept-unused : (UsesToken e → ⊥) → IsKept t p q
+  kept-unused uses = kept-where-same t p q
+      (subst (λ (z : Known). SameOwn t p.marks z.marks) (sym m.is)
+      (unused-marks t e h w.generation w.class p.marks uses)) aims-kept
 
-  pub executed-kept : (class : Class) → LeavesClaimer t h w → IsExecuted class p t
-      → IsExecuted class q t
-  executed-kept class l d = record {
-    since = subst (λ (z : Known). IsIn (mark t.handle t.generation (kind.Io class)) z.marks)
-        (sym m.is) (still (leaves w.class e));
-    until = claimer-kept l 5 (omega arith) (omega arith) ∙ d.until;
-  }
-    where
-      still : (o : Option Kind)
-          → IsIn (mark t.handle t.generation (kind.Io class)) (noted p.marks h w.generation o)
-      still None = d.since
-      still (Some k) = in-left (mark t.handle t.generation (kind.Io class)) p.marks
-          (mark h w.generation k ∷ []) d.since
-
-  -- the handle that is handed out stays, but for Define and Release
-  pub out-kept : (p.out ≡ Some t) → IsKeepingOut e → q.out ≡ Some t
-  out-kept out keeping = by e m.is keeping
-    where
-      by : (x : Event) → q ≡ changed x h w w' aim p → IsKeepingOut x → q.out ≡ Some t
-      by event.HandOut is k = absurd k
-      by event.Release is k = absurd k
-      by event.Define is k = absurd k
-      by event.Stage is k = ap (λ (z : Known). z.out) is ∙ out
-      by event.Submit is k = ap (λ (z : Known). z.out) is ∙ out
-      by event.Claim is k = ap (λ (z : Known). z.out) is ∙ out
-      by (event.Io class) is k = ap (λ (z : Known). z.out) is ∙ out
-      by event.Shared is k = ap (λ (z : Known). z.out) is ∙ out
-      by event.Local is k = ap (λ (z : Known). z.out) is ∙ out
-      by event.Reclaim is k = ap (λ (z : Known). z.out) is ∙ out
-
--- over a call that takes up incarnations of others, or of this actor, each owner's token is kept
-module _ (held more : List Mark) (p q : Known) (g : Grows p q more) (took : Took (held ++ more))
-    (t : WaitRef) where
-  none-more : (i : ℕ) → times t.handle (8 * t.generation + i) (held ++ more) ≡ 0
-      → times t.handle (8 * t.generation + i) q.marks ≡ times t.handle
-      (8 * t.generation + i) p.marks
-  none-more i none =
-      let f : Mark → ℕ = λ x. one_if (is_mark t.handle (8 * t.generation + i) x) in
-      let both : sum_by f (held ++ more) ≡ sum_by f held + sum_by f more =
-      sum_by-append f held more in
-      ap (times t.handle (8 * t.generation + i)) g.marks ∙
-      (sum_by-append f p.marks more ∙ (omega arith))
-
-  pub defined-over : IsDefined p t → IsDefined q t
-  defined-over d =
-      let o = took.owners t in
-      let k0 = none-more 0 (omega arith) in let k1 = none-more 1 (omega arith) in let k2 =
-      none-more 2 (omega arith) in let k6 = none-more 6 (omega arith) in let k7 =
-      none-more 7 (omega arith) in
-      let s = d.since in let u = d.until in record { since = omega arith; until = omega arith }
-
-  pub staged-over : IsStaged p t → IsStaged q t
-  staged-over d =
-      let o = took.owners t in
-      let k1 = none-more 1 (omega arith) in let k2 = none-more 2 (omega arith) in let k6 =
-      none-more 6 (omega arith) in let k7 = none-more 7 (omega arith) in
-      let s = d.since in let u = d.until in record { since = omega arith; until = omega arith }
-
-  pub in-flight-over : IsInFlight p t → IsInFlight q t
-  in-flight-over d =
-      let o = took.owners t in
-      let k2 = none-more 2 (omega arith) in let k6 = none-more 6 (omega arith) in let k7 =
-      none-more 7 (omega arith) in
-      let s = d.since in let u = d.until in record { since = omega arith; until = omega arith }
-
-  pub local-over : IsLocal p t → IsLocal q t
-  local-over d =
-      let o = took.owners t in
-      let k6 = none-more 6 (omega arith) in let k7 = none-more 7 (omega arith) in
-      let s = d.since in let u = d.until in record { since = omega arith; until = omega arith }
+-- what is defined is new, since its handle was seen at no mark of its generation
+pub kept-defining : (t : WaitRef) (h g : ℕ) (aim : List ℕ) (p q : Known)
+    → Keeps (seen_of p) p.marks → Made event.Define h (handed g) (defined g) aim p q
+    → IsKept t p q
+kept-defining t h g aim p q keeps m =
+    let new : (i : ℕ) → 0 < spot t i p.marks → t ≢ ref h g = λ i there e.
+    let there' : 0 < spot (ref h g) i p.marks =
+    subst (λ (z : WaitRef). 0 < spot z i p.marks) e there in
+    let seen = keeps.below h (8 * g + i) there' in let before = m.before in omega arith in
+    let kept = kept-elsewhere t event.Define h (handed g) (defined g) aim p q m in record {
+      defined = λ d. (kept (new 0 d.since)).defined d;
+      staged = λ d. (kept (new 1 d.since)).staged d;
+      in_flight = λ d. (kept (new 2 d.since)).in_flight d;
+      local = λ d. (kept (new 6 d.since)).local d;
+      aims = aims-kept t event.Define h (handed g) (defined g) aim p q m;
+    }

@@ -18,5 +18,5 @@ pub mod Alone
 pub mod Remembering
 pub mod Recalling
 pub mod Trying
-pub mod Kept
 pub mod Balance
+pub mod Kept

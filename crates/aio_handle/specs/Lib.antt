@@ -14,3 +14,4 @@ pub mod Closing
 pub mod Taking
 pub mod Executing
 pub mod Trials
+pub mod Kept

@@ -1,5 +1,5 @@
-use Rattle.aio_batch.proofs.Keeping.{kept-elsewhere, kept-unused}
-use Rattle.aio_batch.proofs.laws.events_keep_other_tokens.Goals as goal
+use Rattle.aio_handle.proofs.Kept.{kept-elsewhere, kept-unused}
+use Rattle.aio_handle.proofs.laws.events_keep_other_tokens.Goals as goal
 
 pub returns-clause-elsewhere : goal.returns-clause-elsewhere
 returns-clause-elsewhere c = kept-elsewhere
