@@ -1,0 +1,3 @@
+pub mod TakingUp
+pub mod Seeing
+pub mod InFlight

@@ -1,0 +1,67 @@
+-- Calls that take incarnations up, one after the other.
+use Rattle.std.proofs.Common.{◌≡◌, ℕ, ◌+◌, ◌<◌, ◌≤◌, List, [], ◌∷◌, ◌++◌, sym, subst, append-nil, refl, arith}
+use Rattle.aio_word.specs.declared.Mark.{Mark}
+use Rattle.aio_word.specs.declared.Word.{Word}
+use Rattle.aio_word.specs.declared.Known.{Known}
+use Rattle.aio_word.specs.declared.WaitRef.{WaitRef}
+use Rattle.aio_word.specs.declared.Kind.TheVariants as kind
+use Rattle.aio_word.specs.declared.Step.TheVariants as event
+use Rattle.aio_word.specs.Tokens.{Grows, Took, io_marks, failed_marks, mark_at}
+use Rattle.aio_word.proofs.Frames.{took-more, io-more, failed-more}
+use Rattle.aio_handle.specs.Executing.{Pays, TakesUp}
+use Rattle.aio_handle.specs.LifeWords.{unclaimed, claimed}
+use Rattle.aio_handle.specs.Made.{Made, Looked}
+use Rattle.aio_handle.proofs.Growing.{look-on, claim-grows, grows-then, took-nothing}
+
+-- an actor that only looked has taken nothing up
+pub takes-nothing : (p q : Known) (reads faults : ℕ) → Grows p q []
+    → TakesUp [] p q reads reads faults faults
+takes-nothing p q reads faults g = record {
+  more = [];
+  grows = g;
+  took = took-nothing;
+  pays = record { read_each = λ _. omega arith; fault_each = λ _. omega arith };
+}
+
+-- two calls that take up, one after the other
+pub takes-then : (p q r : Known) (reads reads' reads'' faults faults' faults'' : ℕ)
+    → reads' ≤ reads'' → faults' ≤ faults''
+    → TakesUp [] p q reads reads' faults faults' → TakesUp [] q r reads' reads'' faults' faults''
+    → TakesUp [] p r reads reads'' faults faults''
+takes-then p q r reads reads' reads'' faults faults' faults'' le le' a b = record {
+  more = a.more ++ b.more;
+  grows = grows-then p q r a.more b.more a.grows b.grows;
+  took = took-more a.more b.more a.took b.took;
+  pays = record {
+    read_each = λ lt.
+        let m = io-more a.more b.more in
+        let x = a.pays.read_each (omega arith) in
+        let y = b.pays.read_each lt in omega arith;
+    fault_each = λ lt.
+        let m = failed-more a.more b.more in
+        let x = a.pays.fault_each (omega arith) in
+        let y = b.pays.fault_each lt in omega arith;
+  };
+}
+
+-- a claim that was won, and a call that ends what was claimed
+pub claims-then : (t : WaitRef) (aim : List ℕ) (p q r : Known) (reads reads' faults faults' : ℕ)
+    → Made event.Claim t.handle (unclaimed t.generation) (claimed t.generation) aim p q
+    → TakesUp (mark_at t kind.Claimed ∷ []) q r reads reads' faults faults'
+    → TakesUp [] p r reads reads' faults faults'
+claims-then t aim p q r reads reads' faults faults' m a = record {
+  more = mark_at t kind.Claimed ∷ a.more;
+  grows = grows-then p q r (mark_at t kind.Claimed ∷ []) a.more
+      (claim-grows t.handle t.generation aim p q m) a.grows;
+  took = a.took;
+  pays = record {
+    read_each = λ lt.
+        let n = io-more (mark_at t kind.Claimed ∷ []) a.more in
+        let z : io_marks (mark_at t kind.Claimed ∷ []) ≡ 0 = refl in
+        let x = a.pays.read_each lt in omega arith;
+    fault_each = λ lt.
+        let n = failed-more (mark_at t kind.Claimed ∷ []) a.more in
+        let z : failed_marks (mark_at t kind.Claimed ∷ []) ≡ 0 = refl in
+        let x = a.pays.fault_each lt in omega arith;
+  };
+}

@@ -1,0 +1,1 @@
+//! Waits beside other threads.
