@@ -25,7 +25,6 @@ pub flight-taken-up : (t : WaitRef) (p q : Known) (reads reads' faults faults' :
     → TakesUp [] p q reads reads' faults faults' → IsInFlight p t → IsInFlight q t
 flight-taken-up t p q reads reads' faults faults' a f =
     let none : owned t a.more ≡ 0 = a.took.owners t in
-    let same : (i : ℕ) → i ≡ i = λ i. refl in
     let two = at-more t 2 p.marks a.more in
     let six = at-more t 6 p.marks a.more in
     let seven = at-more t 7 p.marks a.more in

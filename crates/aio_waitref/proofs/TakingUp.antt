@@ -25,22 +25,21 @@ takes-nothing p q reads faults g = record {
 
 -- two calls that take up, one after the other
 pub takes-then : (p q r : Known) (reads reads' reads'' faults faults' faults'' : ℕ)
-    → reads' ≤ reads'' → faults' ≤ faults''
     → TakesUp [] p q reads reads' faults faults' → TakesUp [] q r reads' reads'' faults' faults''
     → TakesUp [] p r reads reads'' faults faults''
-takes-then p q r reads reads' reads'' faults faults' faults'' le le' a b = record {
+takes-then p q r reads reads' reads'' faults faults' faults'' a b = record {
   more = a.more ++ b.more;
   grows = grows-then p q r a.more b.more a.grows b.grows;
   took = took-more a.more b.more a.took b.took;
   pays = record {
     read_each = λ lt.
         let m = io-more a.more b.more in
-        let x = a.pays.read_each (omega arith) in
-        let y = b.pays.read_each lt in omega arith;
+        let y = b.pays.read_each lt in
+        let x = a.pays.read_each (omega arith) in omega arith;
     fault_each = λ lt.
         let m = failed-more a.more b.more in
-        let x = a.pays.fault_each (omega arith) in
-        let y = b.pays.fault_each lt in omega arith;
+        let y = b.pays.fault_each lt in
+        let x = a.pays.fault_each (omega arith) in omega arith;
   };
 }
 

@@ -27,7 +27,7 @@ loop-preserved g c =
 
 pub returns-clause-marks : goal.returns-clause-marks
 returns-clause-marks g c = elim c.match-next.branch [
-  in-None w ↦ absurd (let never = w.in-None.ensures.steps in cc)
+  | in-None w ↦ absurd (let never = w.in-None.ensures.steps in cc)
   | in-Some+then-check w ↦
       let p : Known = c.args.actor.now.known in
       let q : Known = c.loop.actor.known in
@@ -38,7 +38,7 @@ returns-clause-marks g c = elim c.match-next.branch [
 
 pub returns-clause-done : goal.returns-clause-done
 returns-clause-done g c = elim c.match-next.branch [
-  in-None w ↦ absurd (let never = w.in-None.ensures.steps in cc)
+  | in-None w ↦ absurd (let never = w.in-None.ensures.steps in cc)
   | in-Some+then-check w ↦
       let q : Known = c.loop.actor.known in
       let r : Known = w.check.new.actor.known in
