@@ -1,12 +1,12 @@
 -- The owner's I/O in flight, while the owner waits for it, and once it was seen done.
-use Rattle.std.proofs.Common.{◌≡◌, ◌≢◌, ℕ, ◌+◌, ◌*◌, ◌<◌, ◌≤◌, ◌⊎◌, List, [], ◌∷◌, ◌++◌, sym, ap, subst, inl, inr, ⊎_elim, sum_by, ◌==◌, arith, refl}
+use Rattle.std.proofs.Common.{◌≡◌, ℕ, ◌+◌, ◌*◌, ◌≤◌, List, [], ◌∷◌, ◌++◌, ap, subst, inl, inr, ⊎_elim, arith}
 use Rattle.aio_word.specs.declared.Config.{Config}
 use Rattle.aio_word.specs.declared.Mark.{Mark}
 use Rattle.aio_word.specs.declared.Word.{Word}
 use Rattle.aio_word.specs.declared.Known.{Known}
 use Rattle.aio_word.specs.declared.WaitRef.{WaitRef}
 use Rattle.aio_word.specs.declared.Kind.TheVariants as kind
-use Rattle.aio_word.specs.Words.{place_of, rank_of}
+use Rattle.aio_word.specs.Words.{rank_of}
 use Rattle.aio_word.specs.Events.{at, a_local}
 use Rattle.aio_word.specs.Ranked.{Ranked}
 use Rattle.aio_word.specs.Stands.{IsIn, AtMoment}

@@ -1,5 +1,5 @@
 -- What shows that an incarnation was seen done.
-use Rattle.std.proofs.Common.{◌≡◌, ◌≢◌, ℕ, ◌+◌, ◌*◌, ◌<◌, ◌≤◌, Bool, true, List, [], ◌∷◌, ◌++◌, ap, ⊎_elim, arith, refl}
+use Rattle.std.proofs.Common.{◌≡◌, ℕ, ◌+◌, ◌*◌, ◌<◌, ◌≤◌, Bool, true, List, [], ◌∷◌, ◌++◌, ap, ⊎_elim, arith, refl}
 use Rattle.aio_word.specs.declared.State.{State}
 use Rattle.aio_word.specs.declared.State.TheVariants as state
 use Rattle.aio_word.specs.declared.Mark.{Mark}
@@ -7,7 +7,7 @@ use Rattle.aio_word.specs.declared.Word.{Word}
 use Rattle.aio_word.specs.declared.Known.{Known}
 use Rattle.aio_word.specs.declared.WaitRef.{WaitRef}
 use Rattle.aio_word.specs.declared.Kind.TheVariants as kind
-use Rattle.aio_word.specs.Words.{IsDone, IsEnded, place_in, place_of, rank_of}
+use Rattle.aio_word.specs.Words.{IsDone, IsEnded, place_in, rank_of}
 use Rattle.aio_word.specs.Events.{at}
 use Rattle.aio_word.specs.Stands.{seen_of}
 use Rattle.aio_word.specs.Tokens.{Keeps, IsSeenDone, mark_at}

@@ -1,17 +1,15 @@
 -- Calls that take incarnations up, one after the other.
-use Rattle.std.proofs.Common.{◌≡◌, ℕ, ◌+◌, ◌<◌, ◌≤◌, List, [], ◌∷◌, ◌++◌, sym, subst, append-nil, refl, arith}
-use Rattle.aio_word.specs.declared.Mark.{Mark}
-use Rattle.aio_word.specs.declared.Word.{Word}
+use Rattle.std.proofs.Common.{◌≡◌, ℕ, List, [], ◌∷◌, ◌++◌, refl, arith}
 use Rattle.aio_word.specs.declared.Known.{Known}
 use Rattle.aio_word.specs.declared.WaitRef.{WaitRef}
 use Rattle.aio_word.specs.declared.Kind.TheVariants as kind
 use Rattle.aio_word.specs.declared.Step.TheVariants as event
-use Rattle.aio_word.specs.Tokens.{Grows, Took, io_marks, failed_marks, mark_at}
+use Rattle.aio_word.specs.Tokens.{Grows, io_marks, failed_marks, mark_at}
 use Rattle.aio_word.proofs.Frames.{took-more, io-more, failed-more}
-use Rattle.aio_handle.specs.Executing.{Pays, TakesUp}
+use Rattle.aio_handle.specs.Executing.{TakesUp}
 use Rattle.aio_handle.specs.LifeWords.{unclaimed, claimed}
-use Rattle.aio_handle.specs.Made.{Made, Looked}
-use Rattle.aio_handle.proofs.Growing.{look-on, claim-grows, grows-then, took-nothing}
+use Rattle.aio_handle.specs.Made.{Made}
+use Rattle.aio_handle.proofs.Growing.{claim-grows, grows-then, took-nothing}
 
 -- an actor that only looked has taken nothing up
 pub takes-nothing : (p q : Known) (reads faults : ℕ) → Grows p q []

@@ -1,6 +1,5 @@
-use Rattle.std.proofs.Common.{◌≡◌, ap, ◌∙◌, sym, subst}
+use Rattle.std.proofs.Common.{◌≡◌, ◌∙◌, sym, subst}
 use Rattle.aio_word.specs.declared.WaitRef.{WaitRef}
-use Rattle.aio_handle.specs.declared.record.Label.{Label}
 use Rattle.aio_handle.specs.Labels.{bound}
 use Rattle.aio_waitref.proofs.tests.claimed_by.Goals as goal
 
