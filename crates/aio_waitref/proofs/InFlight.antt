@@ -21,9 +21,9 @@ use Rattle.aio_handle.specs.Executing.{TakesUp}
 use Rattle.aio_handle.specs.Made.{Looked, IsCompleted}
 
 -- what an actor takes up leaves its own I/Os in flight
-pub flight-taken-up : (t : WaitRef) (p q : Known) (reads reads' faults faults' : ℕ)
+pub flight_taken_up : (t : WaitRef) (p q : Known) (reads reads' faults faults' : ℕ)
     → TakesUp [] p q reads reads' faults faults' → IsInFlight p t → IsInFlight q t
-flight-taken-up t p q reads reads' faults faults' a f =
+flight_taken_up t p q reads reads' faults faults' a f =
     let none : owned t a.more ≡ 0 = a.took.owners t in
     let two = at-more t 2 p.marks a.more in
     let six = at-more t 6 p.marks a.more in
@@ -77,3 +77,12 @@ flight-completed t w p q l f d =
     let below = not-past p.config p w t l.moment f in
     let small = place-small w.state w.claimed in
     (is-completed w.state w.claimed (omega arith), omega arith)
+
+-- so the result is there, once the owner has waited
+pub flight_taken : (t u : WaitRef) (w : Word) (p q r : Known) (reads reads' faults faults' : ℕ)
+    → u ≡ t → TakesUp [] p q reads reads' faults faults' → IsInFlight p t → IsSeenDone q u
+    → Looked t.handle w q r → (IsCompleted w t.generation → ⊥) → ⊥
+flight_taken t u w p q r reads reads' faults faults' same a f d l not_there =
+    not_there (flight-completed t w q r l
+    (flight_taken_up t p q reads reads' faults faults' a f)
+    (subst (λ (z : WaitRef). IsSeenDone q z) same d))

@@ -10,6 +10,7 @@ use page_check::World;
 use std::sync::Wait;
 
 /// Looks and rests by turns, until a look finds the incarnation done.
+#[tactic(auto, using(crate::proofs::Seeing::checks_on, crate::proofs::Seeing::checked_seen))]
 fn rest_until_done<R: Record, W: World, T: Wait>(
     rt: &T,
     table: &Table<R, W>,
