@@ -1,5 +1,6 @@
 -- The owner's I/O in flight, while the owner waits for it, and once it was seen done.
-use Rattle.std.proofs.Common.{◌≡◌, ℕ, ◌+◌, ◌*◌, ◌≤◌, List, [], ◌∷◌, ◌++◌, ap, subst, inl, inr, ⊎_elim, arith}
+use Rattle.std.proofs.Common.{◌≡◌, ℕ, ◌+◌, ◌*◌, ◌≤◌, List, [], ◌∷◌, ◌++◌, ap, subst, inl, inr}
+use Rattle.std.proofs.Common.{⊎_elim, arith}
 use Rattle.aio_word.specs.declared.Config.{Config}
 use Rattle.aio_word.specs.declared.Mark.{Mark}
 use Rattle.aio_word.specs.declared.Word.{Word}

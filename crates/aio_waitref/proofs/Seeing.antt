@@ -1,5 +1,6 @@
 -- What shows that an incarnation was seen done.
-use Rattle.std.proofs.Common.{◌≡◌, ℕ, ◌+◌, ◌*◌, ◌<◌, ◌≤◌, Bool, true, List, [], ◌∷◌, ◌++◌, ap, subst, ⊎_elim, arith, refl}
+use Rattle.std.proofs.Common.{◌≡◌, ℕ, ◌+◌, ◌*◌, ◌<◌, ◌≤◌, Bool, true, List, [], ◌∷◌, ◌++◌, ap}
+use Rattle.std.proofs.Common.{subst, ⊎_elim, arith, refl}
 use Rattle.aio_word.specs.declared.State.{State}
 use Rattle.aio_word.specs.declared.State.TheVariants as state
 use Rattle.aio_word.specs.declared.Mark.{Mark}

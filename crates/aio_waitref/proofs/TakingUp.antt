@@ -49,7 +49,8 @@ pub claims_then : (t u : WaitRef) (aim : List ℕ) (p q r : Known)
     → TakesUp (mark_at u kind.Claimed ∷ []) q r reads reads' faults faults'
     → TakesUp [] p r reads reads' faults faults'
 claims_then t u aim p q r reads reads' faults faults' same m a' =
-    let a = subst (λ (z : WaitRef). TakesUp (mark_at z kind.Claimed ∷ []) q r reads reads' faults faults')
+    let a = subst
+    (λ (z : WaitRef). TakesUp (mark_at z kind.Claimed ∷ []) q r reads reads' faults faults')
     same a' in
     record {
       more = mark_at t kind.Claimed ∷ a.more;

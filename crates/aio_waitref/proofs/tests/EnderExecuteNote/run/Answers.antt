@@ -12,9 +12,12 @@ use Rattle.aio_waitref.proofs.tests.EnderExecuteNote.run.Goals as goal
 pub returns-clause-marks : goal.returns-clause-marks
 returns-clause-marks g c =
     let t : WaitRef = c.in-Some.claimed.0 in
-    subst (λ (o : Option (WaitRef × Note)). IfSome o
-    (λ x. TakesUp
-    (mark_at x.0 kind.Claimed ∷ []) c.args.actor.now.known c.end_as.new.actor.known c.args.self.now.calls c.saturating_add-self.result 0 0)) (sym (sym c.take.ensures.value ∙ c.in-Some.is)) record {
+    subst
+    (λ (o : Option (WaitRef × Note)). IfSome o (λ x. TakesUp (mark_at x.0 kind.Claimed ∷ [])
+    c.args.actor.now.known c.end_as.new.actor.known c.args.self.now.calls
+    c.saturating_add-self.result 0 0))
+    (sym (sym c.take.ensures.value ∙ c.in-Some.is))
+    record {
       more = mark_at t (kind.Io Whole) ∷ mark_at t kind.Shared ∷ [];
       grows = c.end_as.ensures.marks;
       took = took-one Whole t.handle t.generation;
