@@ -14,8 +14,10 @@ use std::sync::Wait;
 
 /// Waits for one's own I/O, and takes its result (`pgaio_io_wait` in `aio.c`).
 ///
-/// The owner alone has the token, and may call it. It waits as `wait` does, and then takes the
-/// record, which is ended as the I/O did, with the aim under which it was submitted.
+/// The owner alone has the token, which is spent. It waits as `wait` does, so an owner that has
+/// claimed the I/O itself completes it first. Then it takes the record: it is ended as the I/O was,
+/// fits, and has the aim under which it was submitted. In a table of one actor the owner has
+/// executed it.
 pub fn wait_own<R: Record, W: World, E: Execute<R, W>, T: Wait>(
     rt: &T,
     table: &Table<R, W>,

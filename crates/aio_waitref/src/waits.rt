@@ -33,10 +33,12 @@ fn rest_until_done<R: Record, W: World, T: Wait>(
 
 /// Waits until the incarnation is done (`pgaio_wref_wait` in `aio.c`).
 ///
-/// Any actor of the table may call it, for a reference of any generation. It tries one claim:
-/// where it wins, it executes the I/O by `runner`, and where it does not, it rests until the I/O
-/// is done. For a generation that is over it returns at its first look. For one that never comes
-/// it never returns.
+/// Any actor of the table may call it, for a handle of the table and any generation. It tries one
+/// claim: where it wins, it executes the I/O by `runner`, and where it does not, it rests until
+/// the I/O is done. It never rests for a generation that is over.
+///
+/// It returns only once the I/O is done. So an actor that is itself to submit the I/O, or has
+/// claimed it and is to complete it, must do that first.
 pub fn wait<R: Record, W: World, E: Execute<R, W>, T: Wait>(
     rt: &T,
     table: &Table<R, W>,
