@@ -1,6 +1,7 @@
 -- Calls that take incarnations up, one after the other.
-use Rattle.std.proofs.Common.{◌≡◌, ℕ, List, [], ◌∷◌, ◌++◌, refl, arith}
+use Rattle.std.proofs.Common.{◌≡◌, ℕ, List, [], ◌∷◌, ◌++◌, refl, subst, arith}
 use Rattle.aio_word.specs.declared.Known.{Known}
+use Rattle.aio_word.specs.declared.Word.{Word}
 use Rattle.aio_word.specs.declared.WaitRef.{WaitRef}
 use Rattle.aio_word.specs.declared.Kind.TheVariants as kind
 use Rattle.aio_word.specs.declared.Step.TheVariants as event
@@ -8,13 +9,13 @@ use Rattle.aio_word.specs.Tokens.{Grows, io_marks, failed_marks, mark_at}
 use Rattle.aio_word.proofs.Frames.{took-more, io-more, failed-more}
 use Rattle.aio_handle.specs.Executing.{TakesUp}
 use Rattle.aio_handle.specs.LifeWords.{unclaimed, claimed}
-use Rattle.aio_handle.specs.Made.{Made}
-use Rattle.aio_handle.proofs.Growing.{claim-grows, grows-then, took-nothing}
+use Rattle.aio_handle.specs.Made.{Made, Looked}
+use Rattle.aio_handle.proofs.Growing.{look-on, claim-grows, grows-then, took-nothing}
 
 -- an actor that only looked has taken nothing up
-pub takes-nothing : (p q : Known) (reads faults : ℕ) → Grows p q []
+pub takes_nothing : (p q : Known) (reads faults : ℕ) → Grows p q []
     → TakesUp [] p q reads reads faults faults
-takes-nothing p q reads faults g = record {
+takes_nothing p q reads faults g = record {
   more = [];
   grows = g;
   took = took-nothing;
@@ -22,10 +23,10 @@ takes-nothing p q reads faults g = record {
 }
 
 -- two calls that take up, one after the other
-pub takes-then : (p q r : Known) (reads reads' reads'' faults faults' faults'' : ℕ)
+pub takes_then : (p q r : Known) (reads reads' reads'' faults faults' faults'' : ℕ)
     → TakesUp [] p q reads reads' faults faults' → TakesUp [] q r reads' reads'' faults' faults''
     → TakesUp [] p r reads reads'' faults faults''
-takes-then p q r reads reads' reads'' faults faults' faults'' a b = record {
+takes_then p q r reads reads' reads'' faults faults' faults'' a b = record {
   more = a.more ++ b.more;
   grows = grows-then p q r a.more b.more a.grows b.grows;
   took = took-more a.more b.more a.took b.took;
@@ -42,23 +43,34 @@ takes-then p q r reads reads' reads'' faults faults' faults'' a b = record {
 }
 
 -- a claim that was won, and a call that ends what was claimed
-pub claims-then : (t : WaitRef) (aim : List ℕ) (p q r : Known) (reads reads' faults faults' : ℕ)
+pub claims_then : (t u : WaitRef) (aim : List ℕ) (p q r : Known)
+    (reads reads' faults faults' : ℕ) → u ≡ t
     → Made event.Claim t.handle (unclaimed t.generation) (claimed t.generation) aim p q
-    → TakesUp (mark_at t kind.Claimed ∷ []) q r reads reads' faults faults'
+    → TakesUp (mark_at u kind.Claimed ∷ []) q r reads reads' faults faults'
     → TakesUp [] p r reads reads' faults faults'
-claims-then t aim p q r reads reads' faults faults' m a = record {
-  more = mark_at t kind.Claimed ∷ a.more;
-  grows = grows-then p q r (mark_at t kind.Claimed ∷ []) a.more
-      (claim-grows t.handle t.generation aim p q m) a.grows;
-  took = a.took;
-  pays = record {
-    read_each = λ lt.
-        let n = io-more (mark_at t kind.Claimed ∷ []) a.more in
-        let z : io_marks (mark_at t kind.Claimed ∷ []) ≡ 0 = refl in
-        let x = a.pays.read_each lt in omega arith;
-    fault_each = λ lt.
-        let n = failed-more (mark_at t kind.Claimed ∷ []) a.more in
-        let z : failed_marks (mark_at t kind.Claimed ∷ []) ≡ 0 = refl in
-        let x = a.pays.fault_each lt in omega arith;
-  };
-}
+claims_then t u aim p q r reads reads' faults faults' same m a' =
+    let a = subst
+    (λ (z : WaitRef). TakesUp (mark_at z kind.Claimed ∷ []) q r reads reads' faults faults')
+    same a' in
+    record {
+      more = mark_at t kind.Claimed ∷ a.more;
+      grows = grows-then p q r (mark_at t kind.Claimed ∷ []) a.more
+          (claim-grows t.handle t.generation aim p q m) a.grows;
+      took = a.took;
+      pays = record {
+        read_each = λ lt.
+            let n = io-more (mark_at t kind.Claimed ∷ []) a.more in
+            let z : io_marks (mark_at t kind.Claimed ∷ []) ≡ 0 = refl in
+            let x = a.pays.read_each lt in omega arith;
+        fault_each = λ lt.
+            let n = failed-more (mark_at t kind.Claimed ∷ []) a.more in
+            let z : failed_marks (mark_at t kind.Claimed ∷ []) ≡ 0 = refl in
+            let x = a.pays.fault_each lt in omega arith;
+      };
+    }
+
+-- a claim that was lost, and looks after it
+pub looks_then : (h : ℕ) (w : Word) (p q r : Known) (reads faults : ℕ) → Looked h w p q
+    → Grows q r [] → TakesUp [] p r reads reads faults faults
+looks_then h w p q r reads faults l g = takes_nothing p r reads faults
+    (grows-then p q r [] [] (look-on h w p q l) g)

@@ -1,28 +1,22 @@
-use Rattle.std.proofs.Common.{[], ◌∷◌, subst}
 use Rattle.aio_word.specs.declared.Known.{Known}
-use Rattle.aio_word.specs.declared.Kind.TheVariants as kind
-use Rattle.aio_word.specs.declared.WaitRef.{WaitRef}
-use Rattle.aio_word.specs.Tokens.{mark_at}
-use Rattle.aio_handle.specs.Executing.{TakesUp}
 use Rattle.aio_handle.proofs.Growing.{look-on}
-use Rattle.aio_handle.proofs.TakingUp.{takes-nothing, claims-then}
+use Rattle.aio_handle.proofs.TakingUp.{takes_nothing, claims_then}
 use Rattle.method_sync.proofs.Missing.{lost-seen}
 use Rattle.method_sync.proofs.method.SyncMethodMethodReadIo.begun.Goals as goal
 
 pub returns-in-Some-clause-marks : goal.returns-in-Some-clause-marks
 returns-in-Some-clause-marks g c =
+    let p : Known = c.args.actor.now.known in
     let q : Known = c.claim.new.actor.known in
     let r : Known = c.execute.new.actor.known in
     let won = c.in-Some.ensures.won in
-    claims-then c.args.reference _ c.args.actor.now.known q r _ _ _ _ won.1
-    (subst (λ (z : WaitRef). TakesUp (mark_at z kind.Claimed ∷ []) q r
-    (g.E.Execute.reads c.args.runner.now) (g.E.Execute.reads c.execute.new.self)
-    (g.E.Execute.faults c.args.runner.now) (g.E.Execute.faults c.execute.new.self)) won.0
-    c.execute.ensures.marks)
+    claims_then c.args.reference c.in-Some.claimed.0 _ p q r (g.E.Execute.reads c.args.runner.now)
+    (g.E.Execute.reads c.execute.new.self) (g.E.Execute.faults c.args.runner.now)
+    (g.E.Execute.faults c.execute.new.self) won.0 won.1 c.execute.ensures.marks
 
 pub returns-in_default-clause-marks : goal.returns-in_default-clause-marks
 returns-in_default-clause-marks g c =
-    takes-nothing c.args.actor.now.known c.claim.new.actor.known _ _
+    takes_nothing c.args.actor.now.known c.claim.new.actor.known _ _
     (look-on _ _ _ _ c.in_default.ensures.lost.1)
 
 pub returns-in_default-clause-sees : goal.returns-in_default-clause-sees
