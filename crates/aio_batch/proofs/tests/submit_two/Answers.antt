@@ -1,4 +1,4 @@
-use Rattle.std.proofs.Common.{◌≡◌, ◌<◌, ◌+◌, arith}
+use Rattle.std.proofs.Common.{arith}
 use Rattle.aio_batch.proofs.tests.submit_two.Goals as goal
 
 pub returns-clause-first : goal.returns-clause-first
