@@ -100,7 +100,8 @@ module _ {R : Type 0} where
       → Held p ts → IsDefined p t.0
       → Made event.Stage t.0.handle (defined t.0.generation) (staged t.0.generation) aim p q
       → Held q ts
-  held-beside ts t aim p q h d m = held-kept p q ts (λ u i. kept-elsewhere u.0 event.Stage t.0.handle
+  held-beside ts t aim p q h d m = held-kept p q ts
+      (λ u i. kept-elsewhere u.0 event.Stage t.0.handle
       (defined t.0.generation) (staged t.0.generation) aim p q m (staging-apart ts t p h d u i)) h
 
   pub held-staging : (ts : List (WaitRef × R)) (t : WaitRef × R) (aim : List ℕ) (p q : Known)

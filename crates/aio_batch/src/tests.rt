@@ -165,7 +165,7 @@ fn push_all<W: World>(
     requires table { IsOf table.now actor.old }
     requires backend { actor.old.known.number < table.now.config.backends }
     requires tokens { Held actor.old.known batch.old }
-    ensures same { IsSame actor.old actor.new }
+    ensures table { IsOf table.now actor.new }
     ensures tokens { Held actor.new.known batch.new }
 {
     let mut all = Vec::new(alloc);
@@ -269,7 +269,7 @@ fn submit_two<W: World, T: Wait>(
 ) -> Option<(InFlight<W>, InFlight<W>)>
     requires table { IsOf table.now actor.old }
     requires tokens { Held actor.old.known batch.old }
-    ensures same { IsSame actor.old actor.new }
+    ensures table { IsOf table.now actor.new }
     ensures first { IfSome result (λ t. IsInFlight actor.new.known t.0) }
     ensures second { IfSome result (λ t. IsInFlight actor.new.known t.1) }
 {
