@@ -1,18 +1,17 @@
 -- The five ways in which a record with the callbacks of a stream ends.
-use Rattle.std.proofs.Common.{◌≡◌, ◌≢◌, ℕ, ◌+◌, ◌<◌, ◌≤◌, ◌⊎◌, inl, inr, Bool, true, false, cond, ◌==◌}
-use Rattle.std.proofs.Common.{nat_lt, List, [], ◌∷◌, take, length, get_or, refl, sym, ap, ◌∙◌, subst}
-use Rattle.std.proofs.Common.{arith, Option, Some, None, pos, if◌then◌else◌, min}
+use Rattle.std.proofs.Common.{◌≡◌, ◌≢◌, ℕ, ◌+◌, ◌<◌, ◌≤◌, ◌⊎◌, inl, inr, Bool, true, false}
+use Rattle.std.proofs.Common.{cond, ◌==◌, nat_lt, List, [], take, get_or, refl, sym}
+use Rattle.std.proofs.Common.{ap, ◌∙◌, subst}
+use Rattle.std.proofs.Common.{arith, Option, Some, None, pos, if◌then◌else◌}
 use Rattle.std.specs.Prelude.{IfSome}
 use Rattle.std.proofs.Math.Logic.{⊎_elim}
 use Rattle.std.proofs.Math.Nat.{eq-or-lt_of_le}
-use Rattle.std.specs.List.{range_with_len}
 use Rattle.std.proofs.lemmas.List.{length-take}
 use Rattle.std.proofs.lemmas.List.Quantifiers.{position-Some}
 use Rattle.std.proofs.lemmas.List.FromFn.{get_or-map-range_with_len}
 use Rattle.std.proofs.lemmas.Bool.Decides.{nat_tests}
 use Rattle.page_check.specs.Told.{Told, page_of, blocks_of}
 use Rattle.aio_disk.specs.Disk.{ReadsPages}
-use Rattle.aio_result.specs.declared.AioResult.{AioResult}
 use Rattle.aio_result.specs.declared.Status.TheVariants.{Good, Partial, Error}
 use Rattle.aio_word.specs.declared.Class.TheVariants as class
 use Rattle.aio_callback.specs.declared.chain.Raw.{Raw}
@@ -85,7 +84,8 @@ file_whole : (count : ℕ) → 0 < count
 file_whole count some =
     let e : nat_lt count count ≡ false = grind (arith, nat_tests) in
     file_some count count some
-    ∙ ap (λ (b : Bool). if b then result_of 1 Partial 0 (pos count) else result_of 0 Good 0 (pos count)) e
+    ∙ ap (λ (b : Bool). if b then result_of 1 Partial 0 (pos count)
+    else result_of 0 Good 0 (pos count)) e
 
 buffer_part : (n : ℕ) (pages : List (List ℕ)) → after_buffer pages (result_of 1 Partial 0 (pos n))
     ≡ stopped_at (result_of 1 Partial 0 (pos n)) (first_bad (take n pages))
@@ -154,7 +154,8 @@ after_read told r n pages some h is ended (inr (inl p)) =
     (is ∙ (ap (after_buffer pages) (file_part r.count n p.0 p.1) ∙ buffer_part n pages))
 after_read told r n pages some h is ended (inr (inr e)) =
     let all = subst (λ (k : ℕ). IfSome told (λ t. ReadsPages t r.relation r.first k pages)) e h in
-    whole told r pages all (ended ∙ (ap (λ (k : ℕ). class_of r.count (Read k)) e ∙ class_whole r.count))
+    whole told r pages all
+    (ended ∙ (ap (λ (k : ℕ). class_of r.count (Read k)) e ∙ class_whole r.count))
     (first_bad (take r.count pages)) refl
     (is ∙ (ap (λ (k : ℕ). after_buffer pages (after_file r.count (first_of (Read k)))) e
     ∙ (ap (after_buffer pages) (file_whole r.count some) ∙ buffer_whole r.count pages)))

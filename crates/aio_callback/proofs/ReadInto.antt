@@ -1,6 +1,7 @@
 -- A record whose first pages were read.
-use Rattle.std.proofs.Common.{◌≡◌, ℕ, ◌+◌, ◌-◌, ◌≤◌, List, ◌++◌, take, drop, length, refl, sym, ap, ◌∙◌}
-use Rattle.std.proofs.Common.{arith, Option, Some, None, min}
+use Rattle.std.proofs.Common.{◌≡◌, ℕ, ◌≤◌, List, ◌++◌, take, drop, length, refl}
+use Rattle.std.proofs.Common.{◌∙◌}
+use Rattle.std.proofs.Common.{arith, Option, Some, None}
 use Rattle.std.specs.Prelude.{IfSome}
 use Rattle.std.specs.List.{refill}
 use Rattle.std.proofs.lemmas.List.{take-append-le, take-take}

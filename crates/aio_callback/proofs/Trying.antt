@@ -1,6 +1,5 @@
 -- Answers of records in the tests, where nothing is told.
-use Rattle.std.proofs.Common.{◌≡◌, ℕ, ◌≤◌, refl, sym, subst, ◌∙◌, Option, Some, None}
-use Rattle.std.specs.Prelude.{IfSome}
+use Rattle.std.proofs.Common.{◌≡◌, ℕ, ◌≤◌, refl, sym, subst, Option, Some, None}
 use Rattle.page_check.specs.Told.{Told}
 use Rattle.aio_callback.specs.declared.chain.Raw.{Raw}
 use Rattle.aio_callback.specs.declared.chain.Raw.TheVariants.{Read, Failed}

@@ -1,8 +1,9 @@
 //! The callbacks of a read, and the chain of them.
 ghost use Rattle.std.specs.Prelude.{◌≡◌, ◌≤◌, length, pos};
 ghost use Rattle.aio_callback.specs.Chain.{number_in, is_bad, first_bad, is_error, first_of};
-ghost use Rattle.aio_callback.specs.Chain.{class_of, IsWithin, after_file, after_buffer, outcome_of};
-ghost use Rattle.aio_callback.specs.Chain.{after_callback, chain_of, has_file, is_checked};
+ghost use Rattle.aio_callback.specs.Chain.{class_of, IsWithin, after_file, after_buffer};
+ghost use Rattle.aio_callback.specs.Chain.{outcome_of, after_callback, chain_of, has_file};
+ghost use Rattle.aio_callback.specs.Chain.{is_checked};
 
 use aio_result::{AioResult, Status};
 use aio_word::Class;
@@ -137,7 +138,7 @@ fn run_buffer(pages: &[Page], before: AioResult) -> AioResult
     }
 }
 
-#[tactic(auto, using(crate::proofs::Chains::file_below, crate::proofs::Chains::buffer_below))]
+#[tactic(auto, using(crate::proofs::Below::file_below, crate::proofs::Below::buffer_below))]
 fn run_callback(id: CallbackId, count: u32, pages: &[Page], before: AioResult) -> AioResult
     requires many { length pages.now ≤ 128 }
     requires within { number_in before.result ≤ length pages.now }

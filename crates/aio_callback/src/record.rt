@@ -121,8 +121,9 @@ fn unended(handle: u32, generation: u64) -> Label
 }
 
 impl ReadIo {
-    ghost use Rattle.aio_callback.specs.Reading.{page_in, aim_in, Answered, Fits, Completed, AllGood};
-    ghost use Rattle.aio_callback.specs.Reading.{made, aimed_at, with_pages, IsSharedOf, settled_of};
+    ghost use Rattle.aio_callback.specs.Reading.{page_in, aim_in, Answered, Fits, Completed};
+    ghost use Rattle.aio_callback.specs.Reading.{AllGood, made, aimed_at, with_pages, IsSharedOf};
+    ghost use Rattle.aio_callback.specs.Reading.{settled_of};
     ghost use Rattle.aio_callback.specs.Finished.{Grew, finishes};
 
     /// A record with `room` pages of zeros, 1 to 128, which it keeps for good. It is not aimed yet.

@@ -1,4 +1,4 @@
-use Rattle.std.proofs.Common.{◌≡◌, ◌≤◌, ◌<◌, ℕ, length, arith}
+use Rattle.std.proofs.Common.{arith}
 use Rattle.aio_callback.proofs.Completing.{completed_after, fits_after, aim_after}
 use Rattle.aio_callback.proofs.record.ReadIo.complete_shared.Goals as goal
 
