@@ -1,6 +1,7 @@
 -- A record that was answered from the told pages is completed by its callbacks.
 use Rattle.std.proofs.Common.{◌≡◌, ◌≢◌, ℕ, ◌+◌, ◌<◌, ◌≤◌, Bool, true, false, cond, ◌==◌}
-use Rattle.std.proofs.Common.{List, [], length, get_or, refl, sym, ap, ◌∙◌, subst, arith, Option, Some, None}
+use Rattle.std.proofs.Common.{List, [], length, get_or, refl, sym, ap, ◌∙◌, subst, arith}
+use Rattle.std.proofs.Common.{Option, Some, None}
 use Rattle.std.specs.Prelude.{IfSome}
 use Rattle.std.proofs.lemmas.List.{get_or-take}
 use Rattle.std.proofs.lemmas.List.FromFn.{get_or-map-range_with_len}
@@ -10,15 +11,15 @@ use Rattle.page_check.specs.declared.verdict.Verdict.{Verdict}
 use Rattle.page_check.specs.declared.verdict.Verdict.TheVariants.{Zero, Sane, Bad}
 use Rattle.aio_disk.specs.Disk.{ReadsPages}
 use Rattle.aio_word.specs.declared.Class.TheVariants.{Unended, Whole, Short}
-use Rattle.aio_callback.specs.declared.chain.CallbackId.{CallbackId}
 use Rattle.aio_callback.specs.declared.chain.Raw.{Raw}
 use Rattle.aio_callback.specs.declared.chain.Raw.TheVariants.{Read, Failed}
 use Rattle.aio_callback.specs.Chain.{is_bad_verdict, first_of, class_of, outcome_of, chain_of}
 use Rattle.aio_callback.specs.Chain.{good_of, Outcome}
 use Rattle.aio_callback.specs.Good.{IsPageOf, IsGood}
-use Rattle.aio_callback.specs.Reading.{Reading, page_in, IsToldRead, Answered, AllGood, Completed}
+use Rattle.aio_callback.specs.Reading.{Reading, IsToldRead, Answered, Completed}
 use Rattle.aio_callback.specs.Reading.{Fits, shared_of, IsSharedOf, aim_in}
-use Rattle.aio_callback.proofs.Chains.{good_clean, good_below, chain_pages}
+use Rattle.aio_callback.proofs.Below.{good_below, chain_pages}
+use Rattle.aio_callback.proofs.Clean.{good_clean}
 
 not_bad : (v : Verdict) → is_bad_verdict v ≡ false → v ≢ Bad
 not_bad Zero e b = absurd (cc)
@@ -55,7 +56,7 @@ goods told r (Read n) pages h room i lt =
       valid = not_bad (verdict_of (get_or (run r (Read n) pages).pages i []))
           (good_clean r.count r.ids (Read n) pages (omega arith) i lt);
       told_page = subst (λ (ps : List (List ℕ)).
-              IfSome told (λ t. IsPageOf t r.relation (r.first + i) (get_or ps i [])))
+          IfSome told (λ t. IsPageOf t r.relation (r.first + i) (get_or ps i [])))
           (sym same) (told_at told r.relation r.first n i pages (omega arith) h.1);
     }
 
@@ -130,4 +131,4 @@ pub aim_after : (told : Option Told) (r s : Reading) → Answered told r
 aim_after told r s a h =
     ap aim_in (shared_by_answer r s r.raw a.answer a.is h)
     ∙ ap (λ (ps : List (List ℕ)). aim_in (record r { pages = ps }))
-        (chain_pages r.count r.ids (outcome_of (first_of a.answer) r.pages))
+    (chain_pages r.count r.ids (outcome_of (first_of a.answer) r.pages))

@@ -1,6 +1,8 @@
-pub mod Chains
+pub mod Below
+pub mod Clean
 pub mod Completing
-pub mod Grown
-pub mod Refilled
 pub mod FiveWays
+pub mod Grown
 pub mod ReadInto
+pub mod Refilled
+pub mod Trying

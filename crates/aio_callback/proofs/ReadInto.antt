@@ -1,6 +1,7 @@
 -- A record whose first pages were read.
-use Rattle.std.proofs.Common.{◌≡◌, ℕ, ◌+◌, ◌-◌, ◌≤◌, List, ◌++◌, take, drop, length, refl, sym, ap, ◌∙◌}
-use Rattle.std.proofs.Common.{arith, Option, Some, None, min}
+use Rattle.std.proofs.Common.{◌≡◌, ℕ, ◌≤◌, List, ◌++◌, take, drop, length, refl}
+use Rattle.std.proofs.Common.{◌∙◌}
+use Rattle.std.proofs.Common.{arith, Option, Some, None}
 use Rattle.std.specs.Prelude.{IfSome}
 use Rattle.std.specs.List.{refill}
 use Rattle.std.proofs.lemmas.List.{take-append-le, take-take}
@@ -29,12 +30,14 @@ reads_still (Some t) relation first n pages more e h = record {
 told_still : (told : Option Told) (r : Reading) (answer : Raw) (pages : List (List ℕ))
     → length pages ≡ r.count → r.count ≤ length r.pages → IsToldRead told r answer pages
     → IsToldRead told (record (with_pages r pages) { raw = Some answer }) answer
-        (refill (length r.pages) r.pages pages)
+    (refill (length r.pages) r.pages pages)
 told_still told r Failed pages size room h = h
 told_still told r (Read n) pages size room h =
-    let w = h.0 in
-    (h.0, reads_still told r.relation r.first n pages (refill (length r.pages) r.pages pages)
-        (first_stay n (length r.pages) r.pages pages (omega arith) (omega arith)) h.1)
+    let w = h.0 in (
+      h.0,
+      reads_still told r.relation r.first n pages (refill (length r.pages) r.pages pages)
+          (first_stay n (length r.pages) r.pages pages (omega arith) (omega arith)) h.1,
+    )
 
 pub answered_by : (told : Option Told) (r : Reading) (answer : Raw) (pages : List (List ℕ))
     → length pages ≡ r.count → r.count ≤ length r.pages → IsToldRead told r answer pages

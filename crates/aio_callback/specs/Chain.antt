@@ -1,6 +1,6 @@
 -- The chain of callbacks of a read: from the raw answer and the pages that were read to the result
 -- and the pages that are held. The callbacks run from the last registered to the first.
-use Rattle.std.specs.Prelude.{◌≡◌, ℕ, ◌<◌, ◌≤◌, Bool, true, false, ◌||◌, ◌==◌, cond, nat_lt}
+use Rattle.std.specs.Prelude.{ℕ, ◌≤◌, Bool, true, false, ◌||◌, ◌==◌, cond, nat_lt}
 use Rattle.std.specs.Prelude.{List, [], ◌∷◌, take, position, Option, Some, None, if◌then◌else◌}
 use Rattle.std.specs.Prelude.{ℤ, pos, negsuc}
 use Rattle.page_check.specs.declared.verdict.Verdict.{Verdict}

@@ -1,6 +1,6 @@
 -- The record of a read, as contracts see it, and when it fits the contents of the relations.
 use Rattle.std.specs.Prelude.{◌≡◌, ◌≢◌, ℕ, ◌+◌, ◌≤◌, ◌<◌, Bool, true, false, List, [], ◌∷◌, map}
-use Rattle.std.specs.Prelude.{length, take, drop, ◌++◌, Option, Some, None, IfSome, slice_index_or}
+use Rattle.std.specs.Prelude.{length, Option, Some, None, IfSome, slice_index_or}
 use Rattle.std.specs.Prelude.{replicate, pos}
 use Rattle.std.specs.List.{refill}
 use Rattle.page_check.specs.Told.{Told}

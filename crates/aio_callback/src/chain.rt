@@ -1,7 +1,9 @@
 //! The callbacks of a read, and the chain of them.
 ghost use Rattle.std.specs.Prelude.{◌≡◌, ◌≤◌, length, pos};
-ghost use Rattle.aio_callback.specs.Chain.{number_in, is_bad, first_bad, is_error, first_of, class_of, IsWithin};
-ghost use Rattle.aio_callback.specs.Chain.{after_file, after_buffer, outcome_of, after_callback, chain_of, has_file, is_checked};
+ghost use Rattle.aio_callback.specs.Chain.{number_in, is_bad, first_bad, is_error, first_of};
+ghost use Rattle.aio_callback.specs.Chain.{class_of, IsWithin, after_file, after_buffer};
+ghost use Rattle.aio_callback.specs.Chain.{outcome_of, after_callback, chain_of, has_file};
+ghost use Rattle.aio_callback.specs.Chain.{is_checked};
 
 use aio_result::{AioResult, Status};
 use aio_word::Class;
@@ -11,12 +13,12 @@ use page_check::{Page, Verdict, check};
 /// callbacks in the order of registration; they run from the last to the first.
 #[derive(Clone, Copy, Debug, PartialEq, Eq)]
 pub enum CallbackId {
-    /// Looks at the answer of the device (`md_readv_complete` of `md.c`). Its number is 1.
-    File,
-    /// Checks the pages (`buffer_readv_complete` of `bufmgr.c`). Its number is 2.
-    Buffer,
-    /// Counts, at the owner alone. Its number is 3.
-    Count,
+    /// Looks at the answer of the device (`md_readv_complete` of `md.c`).
+    File = 1,
+    /// Checks the pages (`buffer_readv_complete` of `bufmgr.c`).
+    Buffer = 2,
+    /// Counts, at the owner alone.
+    Count = 3,
 }
 
 /// What a read answered.
@@ -69,7 +71,7 @@ fn file_error(error: u32) -> AioResult
     ensures { result ≡ record { id = 1; status = Status.Error; error = error; result = pos 0 } }
 {
     AioResult {
-        id: 1,
+        id: CallbackId::File as u8,
         status: Status::Error,
         error,
         result: 0,
@@ -87,7 +89,7 @@ fn run_file(count: u32, before: AioResult) -> AioResult
         file_error(2)
     } else if read < count {
         AioResult {
-            id: 1,
+            id: CallbackId::File as u8,
             status: Status::Partial,
             error: 0,
             result: before.result,
@@ -127,7 +129,7 @@ fn run_buffer(pages: &[Page], before: AioResult) -> AioResult
     let read = number(before.result) as usize;
     match first_bad_page(&pages[..read]) {
         Some(bad) => AioResult {
-            id: 2,
+            id: CallbackId::Buffer as u8,
             status: Status::Error,
             error: bad as u32,
             result: bad as i32,
@@ -136,7 +138,7 @@ fn run_buffer(pages: &[Page], before: AioResult) -> AioResult
     }
 }
 
-#[tactic(auto, using(crate::proofs::Chains::file_below, crate::proofs::Chains::buffer_below))]
+#[tactic(auto, using(crate::proofs::Below::file_below, crate::proofs::Below::buffer_below))]
 fn run_callback(id: CallbackId, count: u32, pages: &[Page], before: AioResult) -> AioResult
     requires many { length pages.now ≤ 128 }
     requires within { number_in before.result ≤ length pages.now }

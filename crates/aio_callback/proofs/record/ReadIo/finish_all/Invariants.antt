@@ -1,4 +1,4 @@
-use Rattle.std.proofs.Common.{ℕ, map}
+use Rattle.std.proofs.Common.{map}
 use Rattle.std.specs.List.{range_with_len}
 use Rattle.aio_callback.specs.Finished.{Grew, finish_of}
 use Rattle.aio_callback.proofs.record.ReadIo.finish_all.Given as goal

@@ -1,4 +1,4 @@
-use Rattle.std.proofs.Common.{◌≡◌, ◌≤◌, ℕ, length, replicate}
+use Rattle.std.proofs.Common.{◌≡◌, ◌≤◌, replicate}
 use Rattle.std.specs.Prelude.{vec_capacity}
 use Rattle.aio_callback.proofs.record.ReadIo.make.Given as goal
 
