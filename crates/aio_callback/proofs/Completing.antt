@@ -1,0 +1,133 @@
+-- A record that was answered from the told pages is completed by its callbacks.
+use Rattle.std.proofs.Common.{◌≡◌, ◌≢◌, ℕ, ◌+◌, ◌<◌, ◌≤◌, Bool, true, false, cond, ◌==◌}
+use Rattle.std.proofs.Common.{List, [], length, get_or, refl, sym, ap, ◌∙◌, subst, arith, Option, Some, None}
+use Rattle.std.specs.Prelude.{IfSome}
+use Rattle.std.proofs.lemmas.List.{get_or-take}
+use Rattle.std.proofs.lemmas.List.FromFn.{get_or-map-range_with_len}
+use Rattle.page_check.specs.Told.{Told, page_of}
+use Rattle.page_check.specs.Verdict.{verdict_of}
+use Rattle.page_check.specs.declared.verdict.Verdict.{Verdict}
+use Rattle.page_check.specs.declared.verdict.Verdict.TheVariants.{Zero, Sane, Bad}
+use Rattle.aio_disk.specs.Disk.{ReadsPages}
+use Rattle.aio_word.specs.declared.Class.TheVariants.{Unended, Whole, Short}
+use Rattle.aio_callback.specs.declared.chain.CallbackId.{CallbackId}
+use Rattle.aio_callback.specs.declared.chain.Raw.{Raw}
+use Rattle.aio_callback.specs.declared.chain.Raw.TheVariants.{Read, Failed}
+use Rattle.aio_callback.specs.Chain.{is_bad_verdict, first_of, class_of, outcome_of, chain_of}
+use Rattle.aio_callback.specs.Chain.{good_of, Outcome}
+use Rattle.aio_callback.specs.Good.{IsPageOf, IsGood}
+use Rattle.aio_callback.specs.Reading.{Reading, page_in, IsToldRead, Answered, AllGood, Completed}
+use Rattle.aio_callback.specs.Reading.{Fits, shared_of, IsSharedOf, aim_in}
+use Rattle.aio_callback.proofs.Chains.{good_clean, good_below, chain_pages}
+
+not_bad : (v : Verdict) → is_bad_verdict v ≡ false → v ≢ Bad
+not_bad Zero e b = absurd (cc)
+not_bad Sane e b = absurd (cc)
+not_bad Bad e b = absurd (cc)
+
+-- a page among those that were read is that of its block
+told_at : (told : Option Told) (relation first n i : ℕ) (pages : List (List ℕ)) → i < n
+    → IfSome told (λ t. ReadsPages t relation first n pages)
+    → IfSome told (λ t. IsPageOf t relation (first + i) (get_or pages i []))
+told_at None relation first n i pages lt h = h
+told_at (Some t) relation first n i pages lt h = record {
+  there = let w = h.within in omega arith;
+  same = sym (get_or-take n pages i [] lt)
+      ∙ (ap (λ (ps : List (List ℕ)). get_or ps i []) h.told_pages
+      ∙ get_or-map-range_with_len (page_of t relation) first n i (first + i) [] lt refl);
+}
+
+-- what the callbacks make of this answer and these pages
+abbrev run : Reading → Raw → List (List ℕ) → Outcome
+run r answer pages = chain_of r.count r.ids (outcome_of (first_of answer) pages)
+
+goods : (told : Option Told) (r : Reading) (answer : Raw) (pages : List (List ℕ))
+    → IsToldRead told r answer pages → r.count ≤ length pages
+    → (i : ℕ) → i < good_of r.ids (run r answer pages).result
+    → IsGood told r.relation (r.first + i) (get_or (run r answer pages).pages i [])
+goods told r Failed pages h room i lt =
+    absurd (let b = good_below r.count r.ids (outcome_of (first_of Failed) pages) in omega arith)
+goods told r (Read n) pages h room i lt =
+    let b = good_below r.count r.ids (outcome_of (first_of (Read n)) pages) in
+    let w = h.0 in
+    let same = chain_pages r.count r.ids (outcome_of (first_of (Read n)) pages) in
+    record {
+      valid = not_bad (verdict_of (get_or (run r (Read n) pages).pages i []))
+          (good_clean r.count r.ids (Read n) pages (omega arith) i lt);
+      told_page = subst (λ (ps : List (List ℕ)).
+              IfSome told (λ t. IsPageOf t r.relation (r.first + i) (get_or ps i [])))
+          (sym same) (told_at told r.relation r.first n i pages (omega arith) h.1);
+    }
+
+few : (told : Option Told) (r : Reading) (answer : Raw) (pages : List (List ℕ))
+    → IsToldRead told r answer pages → good_of r.ids (run r answer pages).result ≤ r.count
+few told r (Read n) pages h =
+    let b = good_below r.count r.ids (outcome_of (first_of (Read n)) pages) in
+    let w = h.0 in omega arith
+few told r Failed pages h =
+    let b = good_below r.count r.ids (outcome_of (first_of Failed) pages) in omega arith
+
+still : (told : Option Told) (r : Reading) (answer other : Raw) (pages : List (List ℕ))
+    → IsToldRead told r answer pages → IsToldRead told (shared_of r other) answer pages
+still told r (Read n) other pages h = h
+still told r Failed other pages h = tt
+
+completes : (told : Option Told) (r : Reading) (answer : Raw) → IsToldRead told r answer r.pages
+    → r.count ≤ length r.pages → Completed told (shared_of r answer)
+completes told r answer h room = record {
+  answer = answer;
+  read = r.pages;
+  told_read = still told r answer answer r.pages h;
+  class = refl;
+  outcome = refl;
+  few = few told r answer r.pages h;
+  good = goods told r answer r.pages h room;
+}
+
+shared_by_answer : (r s : Reading) (o : Option Raw) (answer : Raw) → o ≡ Some answer
+    → IfSome o (IsSharedOf s r) → s ≡ shared_of r answer
+shared_by_answer r s o answer is h = subst (λ (z : Option Raw). IfSome z (IsSharedOf s r)) is h
+
+pub completed_after : (told : Option Told) (r s : Reading) → Answered told r
+    → IfSome r.raw (IsSharedOf s r) → r.count ≤ length r.pages → Completed told s
+completed_after told r s a h room =
+    subst (λ (z : Reading). Completed told z) (sym (shared_by_answer r s r.raw a.answer a.is h))
+    (completes told r a.answer a.told_read room)
+
+-- a class that ended is none of those that did not
+whole_or_short : (b : Bool) → cond b Whole Short ≢ Unended
+whole_or_short true e = absurd (cc)
+whole_or_short false e = absurd (cc)
+
+ended_class : (count : ℕ) (answer : Raw) → class_of count answer ≢ Unended
+ended_class count Failed e = absurd (cc)
+ended_class count (Read n) e = whole_or_short (n == count) e
+
+pub ended_after : (told : Option Told) (s : Reading) → Completed told s → s.label.ended ≢ Unended
+ended_after told s c e = ended_class s.count c.answer (sym c.class ∙ e)
+
+fits_by : (told : Option Told) (relations : ℕ) (r : Reading) (answer : Raw) → r.aimed ≡ true
+    → 0 < r.count → r.relation < relations → Completed told (shared_of r answer)
+    → Fits told relations (shared_of r answer)
+fits_by told relations r answer a some w c = record {
+  aimed = a;
+  some = some;
+  within = w;
+  fresh = λ e. absurd (ended_after told (shared_of r answer) c e);
+  ended = λ _. c;
+}
+
+pub fits_after : (told : Option Told) (relations : ℕ) (r s : Reading) → Answered told r
+    → IfSome r.raw (IsSharedOf s r) → r.count ≤ length r.pages → r.aimed ≡ true
+    → 0 < r.count → r.relation < relations → Fits told relations s
+fits_after told relations r s a h room aimed some w =
+    subst (λ (z : Reading). Fits told relations z)
+    (sym (shared_by_answer r s r.raw a.answer a.is h))
+    (fits_by told relations r a.answer aimed some w (completes told r a.answer a.told_read room))
+
+pub aim_after : (told : Option Told) (r s : Reading) → Answered told r
+    → IfSome r.raw (IsSharedOf s r) → aim_in s ≡ aim_in r
+aim_after told r s a h =
+    ap aim_in (shared_by_answer r s r.raw a.answer a.is h)
+    ∙ ap (λ (ps : List (List ℕ)). aim_in (record r { pages = ps }))
+        (chain_pages r.count r.ids (outcome_of (first_of a.answer) r.pages))

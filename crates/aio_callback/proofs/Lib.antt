@@ -1,0 +1,6 @@
+pub mod Chains
+pub mod Completing
+pub mod Grown
+pub mod Refilled
+pub mod FiveWays
+pub mod ReadInto

@@ -1,0 +1,115 @@
+-- The chain of callbacks of a read: from the raw answer and the pages that were read to the result
+-- and the pages that are held. The callbacks run from the last registered to the first.
+use Rattle.std.specs.Prelude.{◌≡◌, ℕ, ◌<◌, ◌≤◌, Bool, true, false, ◌||◌, ◌==◌, cond, nat_lt}
+use Rattle.std.specs.Prelude.{List, [], ◌∷◌, take, position, Option, Some, None, if◌then◌else◌}
+use Rattle.std.specs.Prelude.{ℤ, pos, negsuc}
+use Rattle.page_check.specs.declared.verdict.Verdict.{Verdict}
+use Rattle.page_check.specs.declared.verdict.Verdict.TheVariants.{Bad}
+use Rattle.page_check.specs.Verdict.{verdict_of}
+use Rattle.aio_result.specs.declared.AioResult.{AioResult}
+use Rattle.aio_result.specs.declared.Status.{Status}
+use Rattle.aio_result.specs.declared.Status.TheVariants.{Good, Partial, Error}
+use Rattle.aio_word.specs.declared.Class.{Class}
+use Rattle.aio_word.specs.declared.Class.TheVariants as class
+use Rattle.aio_callback.specs.declared.chain.Raw.{Raw}
+use Rattle.aio_callback.specs.declared.chain.Raw.TheVariants.{Read, Failed}
+use Rattle.aio_callback.specs.declared.chain.CallbackId.{CallbackId}
+use Rattle.aio_callback.specs.declared.chain.CallbackId.TheVariants.{File, Buffer, Count}
+
+abbrev pub result_of : ℕ → Status → ℕ → ℤ → AioResult
+result_of id status error number =
+    record { id = id; status = status; error = error; result = number }
+
+-- the greater of 0 and the number
+abbrev pub number_in : ℤ → ℕ
+number_in (pos n) = n
+number_in (negsuc n) = 0
+
+abbrev pub is_negative : ℤ → Bool
+is_negative (pos n) = false
+is_negative (negsuc n) = true
+
+abbrev pub is_error : Status → Bool
+is_error Error = true
+is_error _ = false
+
+-- the result before any callback
+abbrev pub first_of : Raw → AioResult
+first_of (Read n) = result_of 0 Good 0 (pos n)
+first_of Failed = result_of 0 Good 0 (negsuc 0)
+
+-- how the read of so many pages ended
+abbrev pub class_of : ℕ → Raw → Class
+class_of count (Read n) = cond (n == count) class.Whole class.Short
+class_of count Failed = class.Failed
+
+-- no more pages than were asked for
+abbrev pub IsWithin : ℕ → Raw → Type 0
+IsWithin count (Read n) = n ≤ count
+IsWithin count Failed = Unit {0}
+
+-- the read failed, read nothing, or read less than it was to
+abbrev pub after_file : ℕ → AioResult → AioResult
+after_file count p =
+    if is_negative p.result then result_of 1 Error 1 (pos 0)
+    else (if number_in p.result == 0 then result_of 1 Error 2 (pos 0)
+    else (if nat_lt (number_in p.result) count then result_of 1 Partial 0 p.result
+    else p))
+
+abbrev pub is_bad_verdict : Verdict → Bool
+is_bad_verdict Bad = true
+is_bad_verdict _ = false
+
+abbrev pub is_bad : List ℕ → Bool
+is_bad page = is_bad_verdict (verdict_of page)
+
+-- the place of the first page that is bad
+abbrev pub first_bad : List (List ℕ) → Option ℕ
+first_bad pages = position is_bad pages
+
+abbrev pub stopped_at : AioResult → Option ℕ → AioResult
+stopped_at p None = p
+stopped_at p (Some i) = result_of 2 Error i (pos i)
+
+-- an error stays; else the first bad page among those that were read is one
+unfoldable pub after_buffer : List (List ℕ) → AioResult → AioResult
+after_buffer pages p =
+    if is_error p.status then p else stopped_at p (first_bad (take (number_in p.result) pages))
+
+-- a result beside the pages that are then held
+pub record Outcome : Type 0 where
+  pub result : AioResult
+  pub pages : List (List ℕ)
+
+abbrev pub outcome_of : AioResult → List (List ℕ) → Outcome
+outcome_of result pages = record { result = result; pages = pages }
+
+-- what one callback makes of the outcome before it: today none changes a page
+abbrev pub after_callback : ℕ → CallbackId → Outcome → Outcome
+after_callback count File o = record o { result = after_file count o.result }
+after_callback count Buffer o = record o { result = after_buffer o.pages o.result }
+after_callback count Count o = o
+
+-- the callbacks run from the last registered to the first
+abbrev pub chain_of : ℕ → List CallbackId → Outcome → Outcome
+chain_of count [] o = o
+chain_of count (id ∷ ids) o = after_callback count id (chain_of count ids o)
+
+abbrev pub is_file : CallbackId → Bool
+is_file File = true
+is_file _ = false
+
+abbrev pub has_file : List CallbackId → Bool
+has_file [] = false
+has_file (id ∷ ids) = is_file id || has_file ids
+
+-- some registered Buffer runs after some File
+abbrev pub is_checked : List CallbackId → Bool
+is_checked [] = false
+is_checked (Buffer ∷ ids) = has_file ids || is_checked ids
+is_checked (File ∷ ids) = is_checked ids
+is_checked (Count ∷ ids) = is_checked ids
+
+-- how many pages are good
+abbrev pub good_of : List CallbackId → AioResult → ℕ
+good_of ids p = if is_checked ids then number_in p.result else 0

@@ -1,0 +1,194 @@
+//! The callbacks of a read, and the chain of them.
+ghost use Rattle.std.specs.Prelude.{◌≡◌, ◌≤◌, length, pos};
+ghost use Rattle.aio_callback.specs.Chain.{number_in, is_bad, first_bad, is_error, first_of, class_of, IsWithin};
+ghost use Rattle.aio_callback.specs.Chain.{after_file, after_buffer, outcome_of, after_callback, chain_of, has_file, is_checked};
+
+use aio_result::{AioResult, Status};
+use aio_word::Class;
+use page_check::{Page, Verdict, check};
+
+/// What runs when a read has ended (`PgAioHandleCallbackID` of `aio.h`). A record names its
+/// callbacks in the order of registration; they run from the last to the first.
+#[derive(Clone, Copy, Debug, PartialEq, Eq)]
+pub enum CallbackId {
+    /// Looks at the answer of the device (`md_readv_complete` of `md.c`). Its number is 1.
+    File,
+    /// Checks the pages (`buffer_readv_complete` of `bufmgr.c`). Its number is 2.
+    Buffer,
+    /// Counts, at the owner alone. Its number is 3.
+    Count,
+}
+
+/// What a read answered.
+#[derive(Clone, Copy, Debug, PartialEq, Eq)]
+pub enum Raw {
+    /// So many pages were read, at most as many as were asked for.
+    Read(u32),
+    /// The device failed.
+    Failed,
+}
+
+impl Raw {
+    /// How a read of `count` pages with this answer ended.
+    pub fn class(self, count: u32) -> Class
+        ensures { result ≡ class_of count self }
+    {
+        match self {
+            Raw::Read(read) if read == count => Class::Whole,
+            Raw::Read(_) => Class::Short,
+            Raw::Failed => Class::Failed,
+        }
+    }
+}
+
+// The greater of 0 and the number.
+pub(crate) fn number(value: i32) -> u32
+    ensures { result ≡ number_in value }
+{
+    if value < 0 { 0 } else { value as u32 }
+}
+
+// The result before any callback.
+pub(crate) fn first_result(answer: Raw) -> AioResult
+    requires { IsWithin 128 answer }
+    ensures { result ≡ first_of answer }
+{
+    let number = match answer {
+        Raw::Read(count) => count as i32,
+        Raw::Failed => -1,
+    };
+    AioResult {
+        id: 0,
+        status: Status::Good,
+        error: 0,
+        result: number,
+    }
+}
+
+fn file_error(error: u32) -> AioResult
+    ensures { result ≡ record { id = 1; status = Status.Error; error = error; result = pos 0 } }
+{
+    AioResult {
+        id: 1,
+        status: Status::Error,
+        error,
+        result: 0,
+    }
+}
+
+fn run_file(count: u32, before: AioResult) -> AioResult
+    ensures { result ≡ after_file count before }
+{
+    if before.result < 0 {
+        return file_error(1);
+    }
+    let read = number(before.result);
+    if read == 0 {
+        file_error(2)
+    } else if read < count {
+        AioResult {
+            id: 1,
+            status: Status::Partial,
+            error: 0,
+            result: before.result,
+        }
+    } else {
+        before
+    }
+}
+
+fn is_bad_page(page: &Page) -> bool
+    ensures { result ≡ is_bad page.now }
+{
+    matches!(check(page), Verdict::Bad)
+}
+
+fn first_bad_page(pages: &[Page]) -> Option<usize>
+    ensures { result ≡ first_bad pages.now }
+{
+    pages.iter().position(|page| is_bad_page(page))
+}
+
+fn is_error_status(status: Status) -> bool
+    ensures { result ≡ is_error status }
+{
+    matches!(status, Status::Error)
+}
+
+#[tactic(auto, unfolding(crate::specs::Chain::after_buffer))]
+fn run_buffer(pages: &[Page], before: AioResult) -> AioResult
+    requires many { length pages.now ≤ 128 }
+    requires within { number_in before.result ≤ length pages.now }
+    ensures { result ≡ after_buffer pages.now before }
+{
+    if is_error_status(before.status) {
+        return before;
+    }
+    let read = number(before.result) as usize;
+    match first_bad_page(&pages[..read]) {
+        Some(bad) => AioResult {
+            id: 2,
+            status: Status::Error,
+            error: bad as u32,
+            result: bad as i32,
+        },
+        None => before,
+    }
+}
+
+#[tactic(auto, using(crate::proofs::Chains::file_below, crate::proofs::Chains::buffer_below))]
+fn run_callback(id: CallbackId, count: u32, pages: &[Page], before: AioResult) -> AioResult
+    requires many { length pages.now ≤ 128 }
+    requires within { number_in before.result ≤ length pages.now }
+    ensures value { outcome_of result pages.now
+        ≡ after_callback count id (outcome_of before pages.now) }
+    ensures below { number_in result.result ≤ number_in before.result }
+{
+    match id {
+        CallbackId::File => run_file(count, before),
+        CallbackId::Buffer => run_buffer(pages, before),
+        CallbackId::Count => before,
+    }
+}
+
+// Runs the callbacks, from the last to the first. None of them changes a page.
+pub(crate) fn run_chain(
+    ids: &[CallbackId],
+    count: u32,
+    pages: &[Page],
+    first: AioResult,
+) -> AioResult
+    requires many { length pages.now ≤ 128 }
+    requires within { number_in first.result ≤ length pages.now }
+    ensures value { outcome_of result pages.now
+        ≡ chain_of count ids.now (outcome_of first pages.now) }
+    ensures below { number_in result.result ≤ number_in first.result }
+{
+    match ids {
+        [] => first,
+        [id, others @ ..] => {
+            let before = run_chain(others, count, pages, first);
+            run_callback(*id, count, pages, before)
+        }
+    }
+}
+
+fn has_file_in(ids: &[CallbackId]) -> bool
+    ensures { result ≡ has_file ids.now }
+{
+    match ids {
+        [] => false,
+        [id, others @ ..] => matches!(id, CallbackId::File) || has_file_in(others),
+    }
+}
+
+// Whether some Buffer runs after some File.
+pub(crate) fn checks(ids: &[CallbackId]) -> bool
+    ensures { result ≡ is_checked ids.now }
+{
+    match ids {
+        [] => false,
+        [CallbackId::Buffer, others @ ..] => has_file_in(others) || checks(others),
+        [_, others @ ..] => checks(others),
+    }
+}

@@ -1,0 +1,24 @@
+//! Laws on records, each the contract of a function that does nothing.
+ghost use Rattle.std.specs.Prelude.{◌≡◌, ◌≢◌, ◌≤◌, ℕ, List, length, Option, Some};
+ghost use Rattle.page_check.specs.Told.{Told};
+ghost use Rattle.aio_word.specs.declared.Class.TheVariants.{Unended};
+ghost use Rattle.aio_callback.specs.declared.chain.Raw.{Raw};
+ghost use Rattle.aio_callback.specs.Chain.{good_of};
+ghost use Rattle.aio_callback.specs.Reading.{Reading, Fits, IsToldRead, Answered, with_pages};
+ghost use Rattle.aio_callback.specs.Cases.{stream_ids, IsOneOf, given_of};
+
+/// A record with the callbacks of a stream has ended in one of five ways, and its good pages are as
+/// many as its owner gives in that case.
+pub fn stream_records_end_in_five_ways()
+    ensures { (told : Option Told) (relations : ℕ) (r : Reading) → Fits told relations r
+        → r.label.ended ≢ Unended → r.ids ≡ stream_ids
+        → IsOneOf told r × (good_of r.ids r.result ≡ given_of r.result) }
+{}
+
+/// A record whose first pages were lent and read, and that was then given what the read answered,
+/// has an answer that says what is told of them.
+pub fn answered_by_its_read()
+    ensures { (told : Option Told) (r : Reading) (answer : Raw) (pages : List (List ℕ))
+        → length pages ≡ r.count → r.count ≤ length r.pages → IsToldRead told r answer pages
+        → Answered told (record (with_pages r pages) { raw = Some answer }) }
+{}
