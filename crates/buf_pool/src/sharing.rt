@@ -3,6 +3,7 @@ ghost use Rattle.std.specs.Prelude.{◌≡◌, ◌<◌, None, IfOk, IfSome};
 ghost use Rattle.page_check.specs.Verdict.{IsValid};
 
 use crate::{Begun, Found, Look, Pool, Tag};
+use aio_callback::Places;
 use aio_word::WaitRef;
 use page_check::{Page, Verdict, World, check, header};
 use std::alloc::{AllocError, Global};
@@ -62,7 +63,8 @@ fn visit<W: World, R: Wait>(
         Found::Absent => {
             if let Begun::Yes(_) = pool.begin(rt, tag, reference) {
                 let page = page_of(alloc, block)?;
-                pool.finish(rt, tag, reference, page.as_ref());
+                let mut places = pool;
+                places.finish(rt, tag.relation, tag.block, reference, page.as_ref());
             }
             Ok(Shown::Nothing)
         }
