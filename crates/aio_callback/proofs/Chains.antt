@@ -26,8 +26,8 @@ either_below false x y n l r = r
 pub file_below : (count : ℕ) (p : AioResult) → Below (number_in p.result) (after_file count p)
 file_below count p = let n : ℕ = number_in p.result in
     either_below (is_negative p.result) (result_of 1 Error 1 (pos 0)) _ n (omega arith)
-        (either_below (number_in p.result == 0) (result_of 1 Error 2 (pos 0)) _ n (omega arith)
-            (either_below (nat_lt (number_in p.result) count) (result_of 1 Partial 0 p.result) p n (le_refl n) (le_refl n)))
+    (either_below (number_in p.result == 0) (result_of 1 Error 2 (pos 0)) _ n (omega arith)
+    (either_below (nat_lt (number_in p.result) count) (result_of 1 Partial 0 p.result) p n (le_refl n) (le_refl n)))
 
 stopped_below : (pages : List (List ℕ)) (p : AioResult) (o : Option ℕ) → first_bad (take (number_in p.result) pages) ≡ o → Below (number_in p.result) (stopped_at p o)
 stopped_below pages p None e = le_refl (number_in p.result)
@@ -97,7 +97,7 @@ nothing_tells pages c p e = record { failed = λ _. clean_less pages (number_in 
 file_tells : (count : ℕ) (pages : List (List ℕ)) (c : Bool) (p : AioResult) → Tells pages c p → Tells pages c (after_file count p)
 file_tells count pages c p t = either_tells (is_negative p.result) pages c (result_of 1 Error 1 (pos 0)) _ (λ _. nothing_tells pages c (result_of 1 Error 1 (pos 0)) refl)
     (λ _. either_tells (number_in p.result == 0) pages c (result_of 1 Error 2 (pos 0)) _ (λ _. nothing_tells pages c (result_of 1 Error 2 (pos 0)) refl)
-        (λ _. either_tells (nat_lt (number_in p.result) count) pages c (result_of 1 Partial 0 p.result) p (λ _. record { failed = λ e. absurd (cc); passed = t.passed }) (λ _. t)))
+    (λ _. either_tells (nat_lt (number_in p.result) count) pages c (result_of 1 Partial 0 p.result) p (λ _. record { failed = λ e. absurd (cc); passed = t.passed }) (λ _. t)))
 
 buffer_tells : (pages : List (List ℕ)) (c : Bool) (p : AioResult) → number_in p.result ≤ length pages → Tells pages c p → Tells pages true (after_buffer pages p)
 unfolding after_buffer

@@ -55,7 +55,7 @@ goods told r (Read n) pages h room i lt =
       valid = not_bad (verdict_of (get_or (run r (Read n) pages).pages i []))
           (good_clean r.count r.ids (Read n) pages (omega arith) i lt);
       told_page = subst (λ (ps : List (List ℕ)).
-              IfSome told (λ t. IsPageOf t r.relation (r.first + i) (get_or ps i [])))
+          IfSome told (λ t. IsPageOf t r.relation (r.first + i) (get_or ps i [])))
           (sym same) (told_at told r.relation r.first n i pages (omega arith) h.1);
     }
 
@@ -130,4 +130,4 @@ pub aim_after : (told : Option Told) (r s : Reading) → Answered told r
 aim_after told r s a h =
     ap aim_in (shared_by_answer r s r.raw a.answer a.is h)
     ∙ ap (λ (ps : List (List ℕ)). aim_in (record r { pages = ps }))
-        (chain_pages r.count r.ids (outcome_of (first_of a.answer) r.pages))
+    (chain_pages r.count r.ids (outcome_of (first_of a.answer) r.pages))

@@ -71,7 +71,7 @@ file_some : (count n : ℕ) → 0 < n → after_file count (first_of (Read n))
 file_some count n some =
     let e : (n == 0) ≡ false = grind (arith, nat_tests) in
     ap (λ (b : Bool). if b then result_of 1 Error 2 (pos 0)
-        else (if nat_lt n count then result_of 1 Partial 0 (pos n) else result_of 0 Good 0 (pos n))) e
+    else (if nat_lt n count then result_of 1 Partial 0 (pos n) else result_of 0 Good 0 (pos n))) e
 
 file_part : (count n : ℕ) → 0 < n → n < count
     → after_file count (first_of (Read n)) ≡ result_of 1 Partial 0 (pos n)
@@ -146,7 +146,7 @@ after_read told r n pages some h is ended (inl z) =
     let none = subst (λ (k : ℕ). IfSome told (λ t. ReadsPages t r.relation r.first k pages)) z h in
     PastEnd
     (is ∙ (ap (λ (k : ℕ). after_buffer pages (after_file r.count (first_of (Read k)))) z
-        ∙ after_nothing r.count pages))
+    ∙ after_nothing r.count pages))
     (ended ∙ class_part r.count n (omega arith))
     (nothing_read told r.relation r.first pages none)
 after_read told r n pages some h is ended (inr (inl p)) =
@@ -157,7 +157,7 @@ after_read told r n pages some h is ended (inr (inr e)) =
     whole told r pages all (ended ∙ (ap (λ (k : ℕ). class_of r.count (Read k)) e ∙ class_whole r.count))
     (first_bad (take r.count pages)) refl
     (is ∙ (ap (λ (k : ℕ). after_buffer pages (after_file r.count (first_of (Read k)))) e
-        ∙ (ap (after_buffer pages) (file_whole r.count some) ∙ buffer_whole r.count pages)))
+    ∙ (ap (after_buffer pages) (file_whole r.count some) ∙ buffer_whole r.count pages)))
 
 after_answer : (told : Option Told) (r : Reading) (answer : Raw) (pages : List (List ℕ))
     → 0 < r.count → IsToldRead told r answer pages
@@ -173,12 +173,13 @@ completed_one : (told : Option Told) (r : Reading) → 0 < r.count → Completed
 completed_one told r some c ids =
     after_answer told r c.answer c.read some c.told_read
     (ap (λ (o : Outcome). o.result) (c.outcome
-        ∙ ap (λ (l : List CallbackId). chain_of r.count l (outcome_of (first_of c.answer) c.read)) ids))
+    ∙ ap (λ (l : List CallbackId). chain_of r.count l (outcome_of (first_of c.answer) c.read)) ids))
     c.class
 
 pub five_ways : (told : Option Told) (relations : ℕ) (r : Reading) → Fits told relations r
     → r.label.ended ≢ class.Unended → r.ids ≡ stream_ids
     → IsOneOf told r × (good_of r.ids r.result ≡ given_of r.result)
-five_ways told relations r f ended ids =
-    (completed_one told r f.some (f.ended ended) ids,
-    ap (λ (l : List CallbackId). good_of l r.result) ids)
+five_ways told relations r f ended ids = (
+  completed_one told r f.some (f.ended ended) ids,
+  ap (λ (l : List CallbackId). good_of l r.result) ids,
+)

@@ -4,3 +4,4 @@ pub mod Grown
 pub mod Refilled
 pub mod FiveWays
 pub mod ReadInto
+pub mod Trying

@@ -29,12 +29,14 @@ reads_still (Some t) relation first n pages more e h = record {
 told_still : (told : Option Told) (r : Reading) (answer : Raw) (pages : List (List ℕ))
     → length pages ≡ r.count → r.count ≤ length r.pages → IsToldRead told r answer pages
     → IsToldRead told (record (with_pages r pages) { raw = Some answer }) answer
-        (refill (length r.pages) r.pages pages)
+    (refill (length r.pages) r.pages pages)
 told_still told r Failed pages size room h = h
 told_still told r (Read n) pages size room h =
-    let w = h.0 in
-    (h.0, reads_still told r.relation r.first n pages (refill (length r.pages) r.pages pages)
-        (first_stay n (length r.pages) r.pages pages (omega arith) (omega arith)) h.1)
+    let w = h.0 in (
+      h.0,
+      reads_still told r.relation r.first n pages (refill (length r.pages) r.pages pages)
+          (first_stay n (length r.pages) r.pages pages (omega arith) (omega arith)) h.1,
+    )
 
 pub answered_by : (told : Option Told) (r : Reading) (answer : Raw) (pages : List (List ℕ))
     → length pages ≡ r.count → r.count ≤ length r.pages → IsToldRead told r answer pages

@@ -9,8 +9,8 @@ pub refilled : {X : Type 0} (n : ℕ) (xs ws : List X) → n ≡ length xs
     → refill n xs (ws ++ drop (length ws) xs) ≡ refill (length xs) xs ws
 refilled n xs ws e =
     take-append-le n (ws ++ drop (length ws) xs) _
-        (let a = length-append ws (drop (length ws) xs) in
-        let b = length-drop (length ws) xs in omega arith)
+    (let a = length-append ws (drop (length ws) xs) in
+    let b = length-drop (length ws) xs in omega arith)
     ∙ ap (λ (k : ℕ). take k (ws ++ drop (length ws) xs)) e
 
 -- the elements from the first one on

@@ -3,7 +3,7 @@ use Rattle.std.specs.Prelude.{ℕ, ◌+◌, ◌-◌, ◌^◌, min, List, [], ◌
 use Rattle.aio_result.specs.declared.AioResult.{AioResult}
 use Rattle.aio_callback.specs.declared.chain.CallbackId.{CallbackId}
 use Rattle.aio_callback.specs.declared.chain.CallbackId.TheVariants.{File, Buffer, Count}
-use Rattle.aio_callback.specs.declared.record.Counts.{Counts}
+use Rattle.aio_callback.specs.declared.counting.Counts.{Counts}
 use Rattle.aio_callback.specs.Chain.{number_in}
 
 -- one I/O more, and as many blocks as the result says; each number stays at its last value

@@ -1,7 +1,8 @@
 //! The callbacks of a read, and the chain of them.
 ghost use Rattle.std.specs.Prelude.{◌≡◌, ◌≤◌, length, pos};
-ghost use Rattle.aio_callback.specs.Chain.{number_in, is_bad, first_bad, is_error, first_of, class_of, IsWithin};
-ghost use Rattle.aio_callback.specs.Chain.{after_file, after_buffer, outcome_of, after_callback, chain_of, has_file, is_checked};
+ghost use Rattle.aio_callback.specs.Chain.{number_in, is_bad, first_bad, is_error, first_of};
+ghost use Rattle.aio_callback.specs.Chain.{class_of, IsWithin, after_file, after_buffer, outcome_of};
+ghost use Rattle.aio_callback.specs.Chain.{after_callback, chain_of, has_file, is_checked};
 
 use aio_result::{AioResult, Status};
 use aio_word::Class;

@@ -14,10 +14,14 @@
 #![tactic(auto)]
 
 mod chain;
+mod counting;
 pub mod laws;
 mod places;
 mod record;
+#[cfg(test)]
+mod tests;
 
 pub use chain::{CallbackId, Raw};
+pub use counting::Counts;
 pub use places::{NoPlaces, Places};
-pub use record::{Counts, ReadIo, TooMany};
+pub use record::{ReadIo, TooMany};

@@ -50,6 +50,5 @@ impl<W: World> Places<W> for NoPlaces {
         _block: u32,
         _reference: WaitRef,
         _page: Option<&Page>,
-    ) {
-    }
+    ) {}
 }

@@ -1,5 +1,7 @@
 //! The record of a read.
-ghost use Rattle.std.specs.Prelude.{◌≡◌, ◌≢◌, ◌≤◌, ◌<◌, ◌+◌, ◌^◌, ℕ, length, take, true, false, nat_lt, option_map, if◌then◌else◌, Some, None, IfOk, IfErr, List, Option, IfSome};
+ghost use Rattle.std.specs.Prelude.{◌≡◌, ◌≢◌, ◌≤◌, ◌<◌, ◌+◌, ◌^◌, ℕ, length, take, true, false};
+ghost use Rattle.std.specs.Prelude.{nat_lt, option_map, if◌then◌else◌, Some, None, IfOk, IfErr};
+ghost use Rattle.std.specs.Prelude.{Option, IfSome};
 ghost use Rattle.std.specs.Borrow.{Lends, Array, sem};
 ghost use Rattle.page_check.specs.Told.{Told};
 ghost use Rattle.page_check.specs.contracts.page.Page.{the_row as page_row};
@@ -11,6 +13,7 @@ ghost use Rattle.aio_callback.specs.Chain.{good_of, IsWithin};
 ghost use Rattle.aio_callback.specs.Good.{IsGood};
 
 use crate::chain::{CallbackId, Raw, checks, first_result, number, run_chain};
+use crate::counting::{Counts, run_local};
 use crate::places::Places;
 use aio_handle::{Label, Record};
 use aio_result::{AioResult, Status};
@@ -19,14 +22,6 @@ use page_check::{Page, World};
 use std::alloc::{AllocError, Global};
 use std::marker::Model;
 use std::sync::Wait;
-
-/// How many I/Os and how many blocks a backend's reads came to. Each number stays at its last
-/// value once there.
-#[derive(Clone, Copy, Debug, PartialEq, Eq)]
-pub struct Counts {
-    pub ios: u64,
-    pub blocks: u64,
-}
 
 /// How many callbacks were named: more than the 4 that a record has room for
 /// (`PGAIO_HANDLE_MAX_CALLBACKS` of `aio_internal.h`).
@@ -125,21 +120,9 @@ fn unended(handle: u32, generation: u64) -> Label
     }
 }
 
-// Runs the local callbacks, of which Count is the only one.
-fn run_local(ids: &[CallbackId], value: AioResult, counts: &mut Counts)
-    ensures { counts.new ≡ counted_of ids.now value counts.old }
-{
-    if let [id, others @ ..] = ids {
-        if matches!(id, CallbackId::Count) {
-            counts.ios = counts.ios.saturating_add(1);
-            counts.blocks = counts.blocks.saturating_add(number(value.result) as u64);
-        }
-        run_local(others, value, counts);
-    }
-}
-
 impl ReadIo {
-    ghost use Rattle.aio_callback.specs.Reading.{Reading, page_in, aim_in, Answered, Fits, made, aimed_at, with_pages, IsSharedOf, settled_of, AllGood, Completed};
+    ghost use Rattle.aio_callback.specs.Reading.{page_in, aim_in, Answered, Fits, Completed, AllGood};
+    ghost use Rattle.aio_callback.specs.Reading.{made, aimed_at, with_pages, IsSharedOf, settled_of};
     ghost use Rattle.aio_callback.specs.Finished.{Grew, finishes};
 
     /// A record with `room` pages of zeros, 1 to 128, which it keeps for good. It is not aimed yet.
@@ -238,6 +221,8 @@ impl ReadIo {
             (Lends the_row (Array page_row 0) self.entry result (with_pages self.old)) }
         ensures value { result.now ≡ take self.old.count self.old.pages }
         ensures size { length result.now ≡ self.old.count }
+        ensures few { length result.now ≤ 128 }
+        ensures some { self.old.aimed ≡ true → 0 < length result.now }
     {
         self.pages.slice_mut(..self.count as usize)
     }
@@ -346,7 +331,7 @@ impl ReadIo {
             → Fits W.told relations self.new }
         ensures label { (self.new.label.ended ≢ Unended)
             × (self.new.label
-                ≡ record self.old.label { ended = self.new.label.ended; settled = false }) }
+            ≡ record self.old.label { ended = self.new.label.ended; settled = false }) }
         ensures aim { aim_in self.new ≡ aim_in self.old }
         ensures finished { Grew (P.finished places.old) (P.finished places.new)
             (finishes self.new) }
@@ -356,8 +341,9 @@ impl ReadIo {
     }
 
     /// Runs the local callbacks (`pgaio_io_call_complete_local` of `aio_callback.c`): each Count
-    /// adds one I/O, and as many blocks as the result says. The record has ended and is not settled;
-    /// afterwards it is settled.
+    /// adds one I/O, and as many blocks as the result says.
+    ///
+    /// The record has ended and is not settled; afterwards it is settled.
     pub fn complete_local(&mut self, counts: &mut Counts)
         requires ended { self.old.label.ended ≢ Unended }
         requires unsettled { self.old.label.settled ≡ false }
