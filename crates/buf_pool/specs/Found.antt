@@ -9,7 +9,7 @@ use Rattle.buf_pool.specs.declared.index.Begun.TheVariants as begun
 use Rattle.buf_pool.specs.declared.pin.Pin.{Pin}
 use Rattle.buf_pool.specs.declared.pool.Found.{Found}
 use Rattle.buf_pool.specs.declared.pool.Found.TheVariants as found
-use Rattle.buf_pool.specs.Shown.{Shows}
+use Rattle.aio_callback.specs.Good.{IsGood}
 
 -- the tag that a pin was asked for
 abbrev pub pinned_tag : {W : Type 0} → Pin W → Tag
@@ -19,9 +19,10 @@ pinned_tag pin = pin.carried.0
 abbrev pub pinned_page : {W : Type 0} → Pin W → List ℕ
 pinned_page pin = pin.carried.1
 
--- a pin shows the page of the tag, and the reference of an I/O is in range
+-- a pin shows a good page of the tag, and the reference of an I/O is in range
 abbrev pub IsFound : {W : Type 0} → Option Told → ℕ → Tag → Found W → Type 0
-IsFound told handles tag (found.Hit pin) = (pinned_tag pin ≡ tag) × Shows told tag (pinned_page pin)
+IsFound told handles tag (found.Hit pin) =
+    (pinned_tag pin ≡ tag) × IsGood told tag.relation tag.block (pinned_page pin)
 IsFound told handles tag (found.Busy reference) = reference.handle < handles
 IsFound told handles tag found.Absent = ⊤
 

@@ -4,5 +4,4 @@ pub mod Answers
 pub mod Probes
 pub mod Sound
 pub mod Wanted
-pub mod Shown
 pub mod Found

@@ -1,6 +1,6 @@
 //! A page with the tag that it carries.
 ghost use Rattle.std.specs.Prelude.{◌≡◌, IfSome};
-ghost use Rattle.buf_pool.specs.Shown.{Shows};
+ghost use Rattle.aio_callback.specs.Good.{IsGood};
 
 use crate::frame::Tag;
 use page_check::{Page, World};
@@ -20,19 +20,19 @@ impl<W: World> Model for CarriedPage<W> {
     ghost use Rattle.std.specs.Prelude.{List, ℕ};
     ghost use Rattle.std.specs.Arc.{arc_value};
     ghost use Rattle.buf_pool.specs.declared.frame.Tag.{Tag};
-    ghost use Rattle.buf_pool.specs.Shown.{Shows};
+    ghost use Rattle.aio_callback.specs.Good.{IsGood};
 
     ghost Value = { Tag × List ℕ };
 
     ghost view = { λ s. (s.tag, arc_value s.page) };
 
-    ghost invariant = { λ s. Shows W.told s.tag (arc_value s.page) };
+    ghost invariant = { λ s. IsGood W.told s.tag.relation s.tag.block (arc_value s.page) };
 }
 
 impl<W: World> CarriedPage<W> {
     /// A copy of the page; None where there is no memory for it.
     pub(crate) fn copy(alloc: Global, tag: Tag, page: &Page) -> Option<CarriedPage<W>>
-        requires { Shows W.told tag page.now }
+        requires { IsGood W.told tag.relation tag.block page.now }
     {
         let mut copy = Page::zeroed(alloc).ok()?;
         copy.copy_from(page);
@@ -67,7 +67,7 @@ impl<W: World> CarriedPage<W> {
 
     pub(crate) fn page(&self) -> &Page
         ensures page { result.now ≡ self.now.1 }
-        ensures shows { Shows W.told self.now.0 self.now.1 }
+        ensures good { IsGood W.told self.now.0.relation self.now.0.block self.now.1 }
     {
         &*self.page
     }

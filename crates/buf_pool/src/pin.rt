@@ -16,7 +16,7 @@ pub struct Pin<'p, W: World> {
 
 impl<'p, W: World> Pin<'p, W> {
     ghost use Rattle.buf_pool.specs.Found.{pinned_tag, pinned_page};
-    ghost use Rattle.buf_pool.specs.Shown.{Shows};
+    ghost use Rattle.aio_callback.specs.Good.{IsGood};
 
     /// The tag that was asked for.
     pub fn tag(&self) -> Tag
@@ -28,7 +28,8 @@ impl<'p, W: World> Pin<'p, W> {
     /// The page: the told one of the tag, and valid.
     pub fn page(&self) -> &Page
         ensures page { result.now ≡ pinned_page self.now }
-        ensures shows { Shows W.told (pinned_tag self.now) result.now }
+        ensures good { IsGood W.told (pinned_tag self.now).relation (pinned_tag self.now).block
+            result.now }
     {
         self.carried.page()
     }

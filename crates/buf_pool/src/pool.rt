@@ -1,11 +1,12 @@
 //! The pool behind its locks.
 ghost use Rattle.std.specs.Prelude.{◌≡◌, ◌<◌, ◌≤◌, IfSome};
-ghost use Rattle.buf_pool.specs.Shown.{Shows};
+ghost use Rattle.aio_callback.specs.Good.{IsGood};
 
 use crate::carried::CarriedPage;
 use crate::frame::Tag;
 use crate::index::{Begun, Look, PoolIndex};
 use crate::pin::Pin;
+use aio_callback::Places;
 use aio_word::WaitRef;
 use page_check::{Page, World};
 use std::alloc::{AllocError, Global};
@@ -136,7 +137,7 @@ impl<W: World> Pool<W> {
 
     // Puts a copy of the page into the frame; whether there was memory for it.
     fn put<R: Wait>(&self, rt: &R, frame: u32, tag: Tag, page: &Page) -> bool
-        requires { Shows W.told tag page.now }
+        requires { IsGood W.told tag.relation tag.block page.now }
     {
         let Some(slot) = self.pages.get(frame as usize) else {
             return false;
@@ -147,13 +148,27 @@ impl<W: World> Pool<W> {
         *slot.lock(rt) = Some(carried);
         true
     }
+}
 
-    /// Ends the reading of the tag's page by the I/O of the reference: a copy of the page goes into
-    /// the frame. Where there is no page, or no memory for the copy, the entry is dropped. Where
-    /// the I/O reads no page into the pool nothing is done.
-    pub fn finish<R: Wait>(&self, rt: &R, tag: Tag, reference: WaitRef, page: Option<&Page>)
-        requires { IfSome page (λ given. Shows W.told tag given.now) }
-    {
+/// A shared pool takes the pages of reads that were begun in it, and does not tell what it was
+/// given.
+impl<W: World> Places<W> for &Pool<W> {
+    ghost use Rattle.std.specs.Prelude.{None};
+
+    ghost finished = { λ _. None };
+
+    /// Ends the reading of the block's page by the I/O of the reference: a copy of the page goes
+    /// into the frame, where it is valid without pins. Where there is no page, or no memory for the
+    /// copy, the entry is dropped. Where the I/O reads no such page into the pool nothing is done.
+    fn finish<T: Wait>(
+        &mut self,
+        rt: &T,
+        relation: u32,
+        block: u32,
+        reference: WaitRef,
+        page: Option<&Page>,
+    ) {
+        let tag = Tag { relation, block };
         let Some(frame) = self.index.lock(rt).frame(tag, reference) else {
             return;
         };

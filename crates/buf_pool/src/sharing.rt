@@ -1,8 +1,10 @@
-//! Two threads over one pool.
+//! Ends of reads, and two threads over one pool.
 ghost use Rattle.std.specs.Prelude.{◌≡◌, ◌<◌, None, IfOk, IfSome};
 ghost use Rattle.page_check.specs.Verdict.{IsValid};
+ghost use Rattle.aio_callback.specs.Good.{IsGood};
 
 use crate::{Begun, Found, Look, Pool, Tag};
+use aio_callback::Places;
 use aio_word::WaitRef;
 use page_check::{Page, Verdict, World, check, header};
 use std::alloc::{AllocError, Global};
@@ -10,6 +12,22 @@ use std::marker::Brand;
 use std::sync::Wait;
 use std::thread;
 use std::thread::Threads;
+
+const SEVEN: Tag = Tag {
+    relation: 0,
+    block: 7,
+};
+
+const MINE: WaitRef = WaitRef {
+    handle: 1,
+    generation: 0,
+};
+
+/// The same handle in its next life.
+const LATER: WaitRef = WaitRef {
+    handle: 1,
+    generation: 1,
+};
 
 /// An empty heap page with the block's number in the last four bytes of its header.
 fn page_of(alloc: Global, block: u8) -> Result<Option<Page>, AllocError>
@@ -27,6 +45,49 @@ fn page_of(alloc: Global, block: u8) -> Result<Option<Page>, AllocError>
         Verdict::Sane => Ok(Some(page)),
         Verdict::Zero | Verdict::Bad => Ok(None),
     }
+}
+
+/// What the pool has of a block after each of three ends of its reading.
+#[derive(Clone, Copy)]
+struct Ends {
+    by_another: Look,
+    without_page: Look,
+    with_page: Look,
+}
+
+/// Ends the reading of block 7; what the pool then has of it.
+fn end<W: World, R: Wait>(rt: &R, pool: &Pool<W>, reference: WaitRef, page: Option<&Page>) -> Look
+    requires { IfSome page (λ given. IsGood W.told 0 7 given.now) }
+{
+    let mut places = pool;
+    places.finish(rt, SEVEN.relation, SEVEN.block, reference, page);
+    pool.peek(rt, SEVEN)
+}
+
+/// Begins the reading of block 7, twice, and ends it.
+fn end_one_by_one<W: World, R: Wait>(rt: &R, alloc: Global) -> Result<Ends, AllocError>
+    requires { (W.told ≡ None) × (W.handles ≡ 2) }
+{
+    let pool: Pool<W> = Pool::open(alloc, 16)?;
+    let page = page_of(alloc, 7)?;
+    let _ = pool.begin(rt, SEVEN, MINE);
+    let by_another = end(rt, &pool, LATER, page.as_ref());
+    let without_page = end(rt, &pool, MINE, None);
+    let _ = pool.begin(rt, SEVEN, MINE);
+    Ok(Ends {
+        by_another,
+        without_page,
+        with_page: end(rt, &pool, MINE, page.as_ref()),
+    })
+}
+
+#[test]
+fn an_end_is_for_the_entry_of_its_reference(rt: HostRuntime) -> Result<(), AllocError> {
+    let ends = end_one_by_one::<Brand, HostRuntime>(&rt, rt.alloc())?;
+    assert_eq!(rt; ends.by_another, Look::Busy(MINE));
+    assert_eq!(rt; ends.without_page, Look::Absent);
+    assert!(&rt; matches!(ends.with_page, Look::Hit(_)));
+    Ok(())
 }
 
 /// Whether a look-up gave a pin, and whether that showed the block.
@@ -62,7 +123,8 @@ fn visit<W: World, R: Wait>(
         Found::Absent => {
             if let Begun::Yes(_) = pool.begin(rt, tag, reference) {
                 let page = page_of(alloc, block)?;
-                pool.finish(rt, tag, reference, page.as_ref());
+                let mut places = pool;
+                places.finish(rt, tag.relation, tag.block, reference, page.as_ref());
             }
             Ok(Shown::Nothing)
         }
