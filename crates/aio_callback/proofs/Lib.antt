@@ -6,3 +6,4 @@ pub mod Grown
 pub mod ReadInto
 pub mod Refilled
 pub mod Trying
+pub mod Aims

@@ -40,6 +40,14 @@ number_of_id Count = 3
 abbrev pub aim_in : Reading → List ℕ
 aim_in r = length r.pages ∷ r.relation ∷ r.first ∷ r.count ∷ map number_of_id r.ids
 
+-- the records are to read the same blocks, with the same callbacks, and have as much room
+pub record ReadsAs (r s : Reading) : Type 0 where
+  pub relation : r.relation ≡ s.relation
+  pub first : r.first ≡ s.first
+  pub count : r.count ≡ s.count
+  pub ids : r.ids ≡ s.ids
+  pub room : length r.pages ≡ length s.pages
+
 abbrev pub page_in : Reading → ℕ → List ℕ
 page_in r i = slice_index_or r.pages i []
 

@@ -5,6 +5,7 @@ ghost use Rattle.aio_word.specs.declared.Class.TheVariants.{Unended};
 ghost use Rattle.aio_callback.specs.declared.chain.Raw.{Raw};
 ghost use Rattle.aio_callback.specs.Chain.{good_of};
 ghost use Rattle.aio_callback.specs.Reading.{Reading, Fits, IsToldRead, Answered, with_pages};
+ghost use Rattle.aio_callback.specs.Reading.{aim_in, ReadsAs};
 ghost use Rattle.aio_callback.specs.Cases.{stream_ids, IsOneOf, given_of};
 
 /// A record with the callbacks of a stream has ended in one of five ways, and its good pages are as
@@ -21,4 +22,9 @@ pub fn answered_by_its_read()
     ensures { (told : Option Told) (r : Reading) (answer : Raw) (pages : List (List ℕ))
         → length pages ≡ r.count → r.count ≤ length r.pages → IsToldRead told r answer pages
         → Answered told (record (with_pages r pages) { raw = Some answer }) }
+{}
+
+/// Two records with one aim are to read the same blocks with the same callbacks, into as much room.
+pub fn an_aim_names_the_read()
+    ensures { (r s : Reading) → aim_in r ≡ aim_in s → ReadsAs r s }
 {}
