@@ -1,7 +1,5 @@
 -- An actor that finds its own submitted I/O claimed by another has seen it claimed.
-use Rattle.std.proofs.Common.{◌≡◌, ◌≢◌, ℕ, ◌+◌, ◌*◌, ◌<◌, ◌≤◌, Bool, true, false, refl, sym, ap, ◌∙◌, subst, arith}
-use mathlib.Core.Logic.{dite}
-use native.Mathlib.Decide.{dec_le}
+use Rattle.std.proofs.Common.{◌≡◌, ◌≢◌, ℕ, ◌+◌, ◌*◌, Bool, true, false, refl, arith}
 use Rattle.aio_word.specs.declared.Class.{Class}
 use Rattle.aio_word.specs.declared.Class.TheVariants.{Unended}
 use Rattle.aio_word.specs.declared.State.{State}
@@ -9,9 +7,8 @@ use Rattle.aio_word.specs.declared.State.TheVariants.{Idle, HandedOut, Defined, 
 use Rattle.aio_word.specs.declared.Word.{Word}
 use Rattle.aio_word.specs.declared.WaitRef.{WaitRef}
 use Rattle.aio_word.specs.declared.Known.{Known}
-use Rattle.aio_word.specs.declared.Kind.TheVariants as kind
-use Rattle.aio_word.specs.Words.{IsLawful, ClassFits, place_in, place_of, rank_of}
-use Rattle.aio_word.specs.Events.{at, word_in}
+use Rattle.aio_word.specs.Words.{IsLawful, ClassFits, place_in, rank_of}
+use Rattle.aio_word.specs.Events.{word_in}
 use Rattle.aio_word.specs.Stands.{seen_of}
 use Rattle.aio_word.specs.Tokens.{Keeps}
 use Rattle.aio_word.proofs.Steps.{place-small}

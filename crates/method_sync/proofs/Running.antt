@@ -1,5 +1,5 @@
 -- What a runner takes up: the one incarnation that it was handed.
-use Rattle.std.proofs.Common.{◌≡◌, ℕ, ◌+◌, ◌-◌, ◌^◌, ◌<◌, ◌≤◌, List, [], ◌∷◌, Option, length, map, refl, sym, ap, ◌∙◌, subst, arith}
+use Rattle.std.proofs.Common.{◌≡◌, ℕ, ◌≤◌, List, [], ◌∷◌, Option, length, map, refl, sym, ap, ◌∙◌, subst, arith}
 use Rattle.page_check.specs.Told.{Told}
 use Rattle.std.specs.List.{length_refill}
 use Rattle.aio_disk.specs.Counts.{raised_by, Rose}
@@ -9,7 +9,7 @@ use Rattle.aio_word.specs.declared.WaitRef.{WaitRef}
 use Rattle.aio_word.specs.declared.Known.{Known}
 use Rattle.aio_word.specs.declared.Kind.TheVariants as kind
 use Rattle.aio_word.specs.Tokens.{Grows, mark_at}
-use Rattle.aio_handle.specs.Executing.{TakesUp, Pays, last_count}
+use Rattle.aio_handle.specs.Executing.{TakesUp, Pays}
 use Rattle.aio_handle.specs.LifeWords.{claimed, executed, completed}
 use Rattle.aio_handle.specs.Made.{Made}
 use Rattle.aio_handle.proofs.Growing.{took-one, grows-then, io-grows, share-grows}

@@ -1,7 +1,6 @@
 use Rattle.std.proofs.Common.{rules, ◌≡◌, [], ◌∷◌, sym, ap, ◌∙◌, subst, Option}
 use Rattle.std.specs.Prelude.{IfSome}
 use Rattle.aio_word.specs.declared.WaitRef.{WaitRef}
-use Rattle.aio_word.specs.declared.Class.{Class}
 use Rattle.aio_word.specs.declared.Known.{Known}
 use Rattle.aio_callback.specs.Reading.{Reading, aim_in, with_pages}
 use Rattle.aio_word.specs.declared.Kind.TheVariants as kind
