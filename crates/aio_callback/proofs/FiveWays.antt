@@ -178,9 +178,8 @@ completed_one told r some c ids =
     c.class
 
 pub five_ways : (told : Option Told) (relations : ℕ) (r : Reading) → Fits told relations r
-    → r.label.ended ≢ class.Unended → r.ids ≡ stream_ids
-    → IsOneOf told r × (good_of r.ids r.result ≡ given_of r.result)
-five_ways told relations r f ended ids = (
-  completed_one told r f.some (f.ended ended) ids,
-  ap (λ (l : List CallbackId). good_of l r.result) ids,
-)
+    → r.label.ended ≢ class.Unended → r.ids ≡ stream_ids → IsOneOf told r
+five_ways told relations r f ended ids = completed_one told r f.some (f.ended ended) ids
+
+pub all_given : (r : Reading) → r.ids ≡ stream_ids → good_of r.ids r.result ≡ given_of r.result
+all_given r ids = ap (λ (l : List CallbackId). good_of l r.result) ids

@@ -11,9 +11,10 @@ ghost use Rattle.aio_callback.specs.Cases.{stream_ids, IsOneOf, given_of};
 /// A record with the callbacks of a stream has ended in one of five ways, and its good pages are as
 /// many as its owner gives in that case.
 pub fn stream_records_end_in_five_ways()
-    ensures { (told : Option Told) (relations : ℕ) (r : Reading) → Fits told relations r
-        → r.label.ended ≢ Unended → r.ids ≡ stream_ids
-        → IsOneOf told r × (good_of r.ids r.result ≡ given_of r.result) }
+    ensures case { (told : Option Told) (relations : ℕ) (r : Reading) → Fits told relations r
+        → r.label.ended ≢ Unended → r.ids ≡ stream_ids → IsOneOf told r }
+    ensures given { (r : Reading) → r.ids ≡ stream_ids
+        → good_of r.ids r.result ≡ given_of r.result }
 {}
 
 /// A record whose first pages were lent and read, and that was then given what the read answered,

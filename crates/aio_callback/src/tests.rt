@@ -1,14 +1,13 @@
 //! The chain's table, what the places of pages are told, refusals, counting, and a read of a disk.
 ghost use Rattle.std.specs.Prelude.{◌≡◌, ◌≢◌, ◌≤◌, ◌<◌, ℕ, length, true, false, None, IfOk, IfSome};
 ghost use Rattle.aio_word.specs.declared.Class.TheVariants.{Unended};
-ghost use Rattle.aio_handle.specs.Labels.{bound};
-ghost use Rattle.aio_callback.specs.Chain.{IsWithin, good_of};
-ghost use Rattle.aio_callback.specs.Good.{IsGood};
-ghost use Rattle.aio_callback.specs.Reading.{Fits, Completed};
+ghost use Rattle.aio_callback.specs.Chain.{IsWithin};
+ghost use Rattle.aio_callback.specs.Reading.{Fits};
+ghost use Rattle.aio_callback.specs.Cases.{stream_ids, IsOneOf, given_of};
 ghost use Rattle.aio_callback.specs.Trials.{IsAwaited};
 
 use crate::CallbackId::{Buffer, Count, File};
-use crate::{CallbackId, Counts, NoPlaces, Places, Raw, ReadIo, TooMany};
+use crate::{CallbackId, Counts, NoPlaces, Places, Raw, ReadIo, TooMany, laws};
 use aio_disk::{Disk, MemShelf, SteadyDisk, have_distinct_names};
 use aio_handle::Record;
 use aio_result::{AioResult, Status, encode};
@@ -206,6 +205,7 @@ fn check_case<R: Abort + AllocGlobal + Wait>(
         panic!(rt; "there is room for the callbacks")
     };
     assert_eq!(rt; ending, case.ending, "{case:?}");
+    assert_eq!(rt; case.answer.class(4), ending.class, "{case:?}");
     assert_eq!(rt;
         notes.calls,
         told_calls(rt.alloc(), ending.good)?,
@@ -343,15 +343,29 @@ fn each_count_counts(rt: HostRuntime) -> Result<(), Fail> {
     Ok(())
 }
 
-/// Reads the pages of an aimed record from a disk, and completes it.
-fn read_in<W: World, D: Disk, T: Wait>(rt: &T, disk: &mut D, io: &mut ReadIo)
-    requires told { D.told disk.old ≡ W.told }
-    requires relation { io.old.relation < D.relations disk.old }
+/// How many pages the owner of an ended record with a stream's callbacks gives.
+fn given<W: World>(io: &ReadIo) -> u32
+    requires fits { Fits W.told W.relations io.now }
+    requires ended { io.now.label.ended ≢ Unended }
+    requires ids { io.now.ids ≡ stream_ids }
+    ensures case { IsOneOf W.told io.now }
+    ensures given { result ≡ given_of io.now.result }
+{
+    laws::stream_records_end_in_five_ways();
+    io.good()
+}
+
+/// Reads the pages of an aimed record from a disk, completes it, and answers how many pages its
+/// owner gives.
+fn read_in<W: World, D: Disk, T: Wait>(rt: &T, disk: &mut D, io: &mut ReadIo) -> u32
+    requires told { (D.told disk.old ≡ W.told) × (D.relations disk.old ≡ W.relations) }
+    requires relation { io.old.relation < W.relations }
     requires aimed { io.old.aimed ≡ true }
     requires unanswered { io.old.raw ≡ None }
     requires unended { io.old.label.ended ≡ Unended }
-    ensures fits { (relations : ℕ) → io.old.relation < relations
-        → Fits W.told relations io.new }
+    requires ids { io.old.ids ≡ stream_ids }
+    ensures case { IsOneOf W.told io.new }
+    ensures fits { Fits W.told W.relations io.new }
     ensures ended { io.new.label.ended ≢ Unended }
 {
     let (relation, first) = (io.relation(), io.first());
@@ -361,6 +375,7 @@ fn read_in<W: World, D: Disk, T: Wait>(rt: &T, disk: &mut D, io: &mut ReadIo)
     };
     io.answer(answer);
     io.complete_shared::<W, NoPlaces, T>(rt, &mut NoPlaces);
+    given::<W>(io)
 }
 
 /// A disk with one file of three blocks of zeros, but for a byte of the second.
@@ -379,12 +394,12 @@ fn three_blocks(alloc: Global) -> Result<Option<SteadyDisk>, AllocError>
 }
 
 /// A read of four blocks of a disk that tells its contents, from this block on: the class, the
-/// result, and the first bytes of the good pages.
+/// result, how many pages are given, and the first bytes of the good pages.
 fn read_of_disk<T: Wait>(
     rt: &T,
     alloc: Global,
     first: u32,
-) -> Result<Option<(Ending, Vec<u8>)>, AllocError>
+) -> Result<Option<(Ending, u32, Vec<u8>)>, AllocError>
     requires { first < 8 }
 {
     let Some(mut disk) = three_blocks(alloc)? else {
@@ -394,12 +409,12 @@ fn read_of_disk<T: Wait>(
     if io.aim(0, first, 4, &[Count, Buffer, File]).is_err() {
         return Ok(None);
     }
-    read_in::<Brand, SteadyDisk, T>(rt, &mut disk, &mut io);
+    let given = read_in::<Brand, SteadyDisk, T>(rt, &mut disk, &mut io);
     let mut bytes = Vec::new(alloc);
     for index in 0..io.good() {
         bytes.push(io.page(index).bytes()[0])?;
     }
-    Ok(Some((ending_of(&io), bytes)))
+    Ok(Some((ending_of(&io), given, bytes)))
 }
 
 #[test]
@@ -411,7 +426,7 @@ fn reads_of_a_disk_fit_what_it_tells(rt: HostRuntime) -> Result<(), Fail> {
         (3, Class::Short, result_of(1, Status::Error, 2, 0), 0),
     ];
     for (first, class, result, good) in rows {
-        let Some((ending, bytes)) = read_of_disk(&rt, rt.alloc(), first)? else {
+        let Some((ending, given, bytes)) = read_of_disk(&rt, rt.alloc(), first)? else {
             panic!(&rt; "the disk is there")
         };
         let wanted = Ending {
@@ -420,7 +435,7 @@ fn reads_of_a_disk_fit_what_it_tells(rt: HostRuntime) -> Result<(), Fail> {
             good,
         };
         assert_eq!(rt; ending, wanted, "from block {first}");
-        assert_eq!(rt; bytes.len(), good as usize);
+        assert_eq!(rt; (given, bytes.len()), (good, good as usize));
         assert!(rt; bytes.iter().all(|byte| *byte == 0));
     }
     Ok(())
