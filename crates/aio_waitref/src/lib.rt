@@ -11,8 +11,8 @@
 //! Once a wait has returned, the actor has seen the incarnation done: its handle stood at
 //! CompletedShared of that generation, or later. While it waited, the actor took up incarnations,
 //! which may be none, and of each its list has the claim, the execution and the completion; it
-//! made no other event. The executor's count of reads rose by one for each, up to 2^64 - 1. An owner
-//! that waits for its own I/O also gets its record, ended as the I/O was.
+//! made no other event. The executor's count of reads rose by one for each, up to 2^64 - 1. An
+//! owner that waits for its own I/O also gets its record, ended as the I/O was.
 //!
 //! That a wait returns is no part of it: it rests for as long as the actor that has claimed the I/O
 //! does not complete it, and forever where the reference is of a generation that never comes.

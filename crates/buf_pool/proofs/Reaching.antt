@@ -1,12 +1,14 @@
 -- What the search in the table comes to, after a change.
-use Rattle.std.proofs.Common.{◌≡◌, ℕ, ◌+◌, ◌%◌, ◌<◌, ◌≤◌, List, Option, Some, None, length, set, is_none, is_some, false, refl, arith, ◌⊎◌, ⊎_elim, ◌∙◌, sym, subst}
+use Rattle.std.proofs.Common.{◌≡◌, ℕ, ◌+◌, ◌%◌, ◌<◌, ◌≤◌, List, Option, Some, None, length, set}
+use Rattle.std.proofs.Common.{is_none, is_some, false, refl, arith, ◌⊎◌, ⊎_elim, ◌∙◌, sym, subst}
 use Rattle.std.proofs.lemmas.List.{get_or-set_same, get_or-set_other, length-set}
 use Rattle.std.proofs.lemmas.Bool.{cases_lt, cases_eq, false≢true}
 use Rattle.std.proofs.lemmas.Nat.{mod_below}
 use Rattle.buf_pool.specs.declared.frame.Tag.{Tag}
 use Rattle.buf_pool.specs.declared.frame.Frame.{Frame}
 use Rattle.buf_pool.specs.Frames.{tag_at, IsAbsent}
-use Rattle.buf_pool.specs.Probes.{slot_at, home_of, probe, Reaches, KeepsTaken, IsIndexed, empty_slots}
+use Rattle.buf_pool.specs.Probes.{slot_at, home_of, probe, Reaches, KeepsTaken, IsIndexed}
+use Rattle.buf_pool.specs.Probes.{empty_slots}
 use Rattle.buf_pool.proofs.Rounds.{all_round}
 use Rattle.buf_pool.proofs.Counts.{count_none}
 
@@ -21,7 +23,8 @@ taken_holds None h = absurd (h refl)
 taken_holds (Some f) h = (f, refl)
 
 -- what was found is found where the taken slots stay
-pub reaches_kept : (old new : List (Option ℕ)) (tag : Tag) (f : ℕ) → KeepsTaken old new → Reaches old tag f → Reaches new tag f
+pub reaches_kept : (old new : List (Option ℕ)) (tag : Tag) (f : ℕ) → KeepsTaken old new → Reaches
+    old tag f → Reaches new tag f
 reaches_kept old new tag f k r = record {
   steps = r.steps;
   within = omega (arith, k.size, r.within);
@@ -33,7 +36,8 @@ reaches_kept old new tag f k r = record {
 }
 
 -- a frame in an empty slot leaves the taken ones
-pub keeps_taken : (slots : List (Option ℕ)) (at f : ℕ) → slot_at slots at ≡ None → KeepsTaken slots (set slots at (Some f))
+pub keeps_taken : (slots : List (Option ℕ)) (at f : ℕ) → slot_at slots at ≡ None → KeepsTaken slots
+    (set slots at (Some f))
 keeps_taken slots at f empty = record {
   size = length-set slots at (Some f);
   taken = λ k g e.
@@ -44,7 +48,9 @@ keeps_taken slots at f empty = record {
 }
 
 -- the search comes to the frame that was put into the first empty slot on its way
-pub reaches_new : (slots : List (Option ℕ)) (tag : Tag) (f step : ℕ) → step < length slots → 0 < length slots → ((k : ℕ) → k < step → probe slots tag k ≡ None → ⊥) → probe slots tag step ≡ None → Reaches (set slots ((home_of tag (length slots) + step) % length slots) (Some f)) tag f
+pub reaches_new : (slots : List (Option ℕ)) (tag : Tag) (f step : ℕ) → step < length slots → 0 <
+    length slots → ((k : ℕ) → k < step → probe slots tag k ≡ None → ⊥) → probe slots tag step ≡ None
+    → Reaches (set slots ((home_of tag (length slots) + step) % length slots) (Some f)) tag f
 reaches_new slots tag f step within some before empty =
     let at = (home_of tag (length slots) + step) % length slots in
     let new = set slots at (Some f) in
@@ -61,15 +67,18 @@ reaches_new slots tag f step within some before empty =
     }
 
 -- where the search finds no empty slot in a whole round there is none
-pub no_empty_slot : (slots : List (Option ℕ)) (tag : Tag) → 0 < length slots → ((k : ℕ) → k < length slots → probe slots tag k ≡ None → ⊥) → empty_slots slots ≡ 0
+pub no_empty_slot : (slots : List (Option ℕ)) (tag : Tag) → 0 < length slots →
+    ((k : ℕ) → k < length slots → probe slots tag k ≡ None → ⊥) → empty_slots slots ≡ 0
 unfolding home_of
 no_empty_slot slots tag some h =
     count_none (λ s. is_none s) None slots
-    (all_round (λ at. is_none (slot_at slots at) ≡ false) (length slots) (home_of tag (length slots)) (mod_below _ _ some)
+    (all_round (λ at. is_none (slot_at slots at) ≡ false) (length slots)
+        (home_of tag (length slots)) (mod_below _ _ some)
     (λ step b. let held = taken_holds _ (h step b) in rw held.1 refl))
 
 -- where the search passed no frame with the tag, and came to an empty slot or round the table, no entry has the tag
-pub absent_after : (slots : List (Option ℕ)) (frames : List Frame) (tag : Tag) (step : ℕ) → IsIndexed slots frames
+pub absent_after : (slots : List (Option ℕ)) (frames : List Frame) (tag : Tag) (step : ℕ) →
+    IsIndexed slots frames
     → ((k f : ℕ) → k < step → probe slots tag k ≡ Some f → tag_at frames f ≡ Some tag → ⊥)
     → (probe slots tag step ≡ None) ⊎ (length slots ≤ step) → IsAbsent frames tag
 absent_after slots frames tag step indexed passed over f e =
@@ -80,7 +89,8 @@ absent_after slots frames tag step indexed passed over f e =
     ⊎_elim
     (λ (empty : probe slots tag step ≡ None).
     ⊎_elim
-    (λ (here : r.steps ≡ step). let clash : probe slots tag step ≡ Some f = rw (← here) r.there in cc)
+    (λ (here : r.steps ≡ step). let clash : probe slots tag step ≡ Some f = rw (← here) r.there in
+        cc)
     (λ (other : r.steps ≡ step → ⊥). r.before step (omega arith) empty)
     (cases_eq r.steps step))
     (λ (round : length slots ≤ step). omega (arith, r.within))
@@ -88,7 +98,8 @@ absent_after slots frames tag step indexed passed over f e =
     (cases_lt r.steps step)
 
 -- a search for the same tag that comes to the same frame
-pub reaches_same : (slots : List (Option ℕ)) (t u : Tag) (f g : ℕ) → t ≡ u → f ≡ g → Reaches slots u g → Reaches slots t f
+pub reaches_same : (slots : List (Option ℕ)) (t u : Tag) (f g : ℕ) → t ≡ u → f ≡ g → Reaches slots u
+    g → Reaches slots t f
 reaches_same slots t u f g tags frames r =
     let by_tag : Tag → Type 0 = λ x. Reaches slots x g in
     let by_frame : ℕ → Type 0 = λ x. Reaches slots t x in

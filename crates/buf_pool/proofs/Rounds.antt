@@ -4,7 +4,8 @@ use Rattle.std.proofs.Math.Nat.{mod-eq_of_lt, add-mod_right}
 use Rattle.std.proofs.lemmas.Bool.{cases_lt}
 
 -- each place is reached from each other in fewer steps than there are places
-pub round_reaches : (n start at : ℕ) → start < n → at < n → (step : ℕ) × (step < n) × ((start + step) % n ≡ at)
+pub round_reaches : (n start at : ℕ) → start < n → at < n → (step : ℕ) × (step < n) ×
+    ((start + step) % n ≡ at)
 round_reaches n start at s a =
     ⊎_elim
     (λ (below : at < start).
@@ -16,7 +17,8 @@ round_reaches n start at s a =
     (cases_lt at start)
 
 -- what holds at each step of a round holds at each place
-pub all_round : (P : ℕ → Type 0) (n start : ℕ) → start < n → ((step : ℕ) → step < n → P ((start + step) % n)) → (at : ℕ) → at < n → P at
+pub all_round : (P : ℕ → Type 0) (n start : ℕ) → start < n → ((step : ℕ) → step < n → P
+    ((start + step) % n)) → (at : ℕ) → at < n → P at
 all_round P n start s h at a =
     let r : (step : ℕ) × (step < n) × ((start + step) % n ≡ at) = round_reaches n start at s a in
     let family : ℕ → Type 0 = P in

@@ -1,5 +1,6 @@
 -- What the frames of the pool hold: the entry of each frame, by the frame's number.
-use Rattle.std.specs.Prelude.{◌≡◌, ℕ, ◌==◌, ◌<◌, Bool, true, false, List, Option, Some, None, slice_index_or, slice_set, ⊤, MatchOption}
+use Rattle.std.specs.Prelude.{◌≡◌, ℕ, ◌==◌, ◌<◌, Bool, true, false, List, Option, Some, None}
+use Rattle.std.specs.Prelude.{slice_index_or, slice_set, ⊤, MatchOption}
 use Rattle.buf_pool.specs.declared.frame.Tag.{Tag}
 use Rattle.buf_pool.specs.declared.frame.Frame.{Frame}
 use Rattle.buf_pool.specs.declared.frame.Frame.TheVariants.{Free, InProgress, Valid}

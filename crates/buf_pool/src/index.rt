@@ -1,10 +1,13 @@
 //! The index of the pool.
-ghost use Rattle.std.specs.Prelude.{◌≡◌, ◌-◌, ◌+◌, ◌^◌, ◌<◌, ◌≤◌, length, false, Some, MatchOption, IsSomeAnd, IfOk, IfSome, List, replicate, slice_set, if◌then◌else◌};
+ghost use Rattle.std.specs.Prelude.{◌≡◌, ◌-◌, ◌+◌, ◌^◌, ◌<◌, ◌≤◌, length, false, Some, MatchOption};
+ghost use Rattle.std.specs.Prelude.{IsSomeAnd, IfOk, IfSome, List, replicate, slice_set};
+ghost use Rattle.std.specs.Prelude.{if◌then◌else◌};
 ghost use Rattle.aio_word.specs.declared.WaitRef.{WaitRef};
 ghost use Rattle.buf_pool.specs.declared.frame.Tag.{Tag};
 ghost use Rattle.buf_pool.specs.declared.frame.Frame.{Frame};
 ghost use Rattle.buf_pool.specs.declared.frame.Frame.TheVariants.{Free, InProgress};
-ghost use Rattle.buf_pool.specs.Frames.{frame_at, tag_of, tag_at, pins_at, repinned, is_free, IsAbsent, IsFrameOf};
+ghost use Rattle.buf_pool.specs.Frames.{frame_at, tag_of, tag_at, pins_at, repinned, is_free};
+ghost use Rattle.buf_pool.specs.Frames.{IsAbsent, IsFrameOf};
 ghost use Rattle.buf_pool.specs.Lawful.{PoolLawful};
 
 use crate::frame::{Frame, Tag};
@@ -65,7 +68,8 @@ impl<W: World> Model for PoolIndex<W> {
 }
 
 impl<W: World> PoolIndex<W> {
-    ghost use Rattle.buf_pool.specs.Answers.{IsNotInProgress, IsLook, IsFull, IsTakeable, HasBegun, ended};
+    ghost use Rattle.buf_pool.specs.Answers.{IsNotInProgress, IsLook, IsFull, IsTakeable, HasBegun};
+    ghost use Rattle.buf_pool.specs.Answers.{ended};
 
     /// An index of so many frames, 16 to 16384, all of them free. All memory of the index is taken
     /// here.

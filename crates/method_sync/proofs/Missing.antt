@@ -3,7 +3,8 @@ use Rattle.std.proofs.Common.{◌≡◌, ◌≢◌, ℕ, ◌+◌, ◌*◌, Bool,
 use Rattle.aio_word.specs.declared.Class.{Class}
 use Rattle.aio_word.specs.declared.Class.TheVariants.{Unended}
 use Rattle.aio_word.specs.declared.State.{State}
-use Rattle.aio_word.specs.declared.State.TheVariants.{Idle, HandedOut, Defined, Staged, Submitted, CompletedIo, CompletedShared, CompletedLocal}
+use Rattle.aio_word.specs.declared.State.TheVariants.{Idle, HandedOut, Defined, Staged, Submitted}
+use Rattle.aio_word.specs.declared.State.TheVariants.{CompletedIo, CompletedShared, CompletedLocal}
 use Rattle.aio_word.specs.declared.Word.{Word}
 use Rattle.aio_word.specs.declared.WaitRef.{WaitRef}
 use Rattle.aio_word.specs.declared.Known.{Known}

@@ -1,5 +1,6 @@
 -- What a runner takes up: the one incarnation that it was handed.
-use Rattle.std.proofs.Common.{◌≡◌, ℕ, ◌≤◌, List, [], ◌∷◌, Option, length, map, refl, sym, ap, ◌∙◌, subst, arith}
+use Rattle.std.proofs.Common.{◌≡◌, ℕ, ◌≤◌, List, [], ◌∷◌, Option, length, map, refl, sym, ap, ◌∙◌}
+use Rattle.std.proofs.Common.{subst, arith}
 use Rattle.page_check.specs.Told.{Told}
 use Rattle.std.specs.List.{length_refill}
 use Rattle.aio_disk.specs.Counts.{raised_by, Rose}

@@ -4,4 +4,5 @@ use Rattle.buf_pool.specs.Wanted.{is_wanted}
 use Rattle.buf_pool.proofs.strategy.find_round.Given as goal
 
 abbrev pub invariant-loop-step : goal.invariant-loop-step
-invariant-loop-step l = (k : ℕ) → k < l.step → is_wanted l.wanted (frame_at l.frames ((l.start + k) % length l.frames)) ≡ false
+invariant-loop-step l = (k : ℕ) → k < l.step → is_wanted l.wanted
+    (frame_at l.frames ((l.start + k) % length l.frames)) ≡ false

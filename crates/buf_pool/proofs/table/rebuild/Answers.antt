@@ -15,9 +15,11 @@ loop-i-preserved c =
             ⊎_elim
             (λ (same : f ≡ c.loop-i.i).
             let here : tag_at c.args.frames.now c.loop-i.i ≡ Some tag = rw (← same) e in
-            rw w.slots-is (reaches_same _ tag w.in-Some.tag f c.loop-i.i (cc) same w.insert.ensures.reached))
+            rw w.slots-is (reaches_same _ tag w.in-Some.tag f c.loop-i.i (cc) same
+                w.insert.ensures.reached))
             (λ (other : f ≡ c.loop-i.i → ⊥).
-            rw w.slots-is (reaches_kept _ _ tag f w.insert.ensures.kept (c.loop-i.invariant.found f tag (omega arith) e)))
+            rw w.slots-is (reaches_kept _ _ tag f w.insert.ensures.kept
+                (c.loop-i.invariant.found f tag (omega arith) e)))
             (cases_eq f c.loop-i.i);
       }
       | in_default w ↦ record {
