@@ -23,8 +23,8 @@ pub record Fits (handles : ℕ) (frames : List Frame) (f : ℕ) (entry : Frame) 
 pub same_tag_fits : (handles : ℕ) (frames : List Frame) (f : ℕ) (entry : Frame) → PoolLawful handles
     frames
     → ((tag : Tag) → tag_of entry ≡ Some tag → tag_at frames f ≡ Some tag) →
-        ((tag : Tag) (reference : WaitRef) → entry ≡ InProgress tag reference → ⊥) → Fits handles
-        frames f entry
+    ((tag : Tag) (reference : WaitRef) → entry ≡ InProgress tag reference → ⊥) → Fits handles
+    frames f entry
 same_tag_fits handles frames f entry lawful tags over = record {
   alone = λ g tag other e own. other (lawful.tags g f tag e (tags tag own));
   range = λ tag reference e. absurd (over tag reference e);
@@ -56,31 +56,31 @@ lawful_set handles frames f entry b lawful fits =
           (λ (hf : h ≡ f). gf ∙ sym hf)
           (λ (hf : h ≡ f → ⊥).
           let there : frame_at (set frames f entry) h ≡ frame_at frames h = get_or-set_other frames
-              f h entry Free hf in
+          f h entry Free hf in
           let own : tag_of entry ≡ Some tag = ap tag_of (sym here) ∙ ap
-              (λ x. tag_at (set frames f entry) x) (sym gf) ∙ e in
+          (λ x. tag_at (set frames f entry) x) (sym gf) ∙ e in
           absurd (fits.alone h tag hf (ap tag_of (sym there) ∙ u) own))
           (cases_eq h f))
           (λ (gf : g ≡ f → ⊥).
           let there : frame_at (set frames f entry) g ≡ frame_at frames g = get_or-set_other frames
-              f g entry Free gf in
+          f g entry Free gf in
           ⊎_elim
           (λ (hf : h ≡ f).
           let own : tag_of entry ≡ Some tag = ap tag_of (sym here) ∙ ap
-              (λ x. tag_at (set frames f entry) x) (sym hf) ∙ u in
+          (λ x. tag_at (set frames f entry) x) (sym hf) ∙ u in
           absurd (fits.alone g tag gf (ap tag_of (sym there) ∙ e) own))
           (λ (hf : h ≡ f → ⊥).
           let that : frame_at (set frames f entry) h ≡ frame_at frames h = get_or-set_other frames f
-              h entry Free hf in
+          h entry Free hf in
           lawful.tags g h tag (ap tag_of (sym there) ∙ e) (ap tag_of (sym that) ∙ u))
           (cases_eq h f))
           (cases_eq g f);
       references = λ g tag reference e.
           ⊎_elim
           (λ (gf : g ≡ f). fits.range tag reference (sym here ∙ ap
-              (λ x. frame_at (set frames f entry) x) (sym gf) ∙ e))
+          (λ x. frame_at (set frames f entry) x) (sym gf) ∙ e))
           (λ (gf : g ≡ f → ⊥). lawful.references g tag reference
-              (sym (get_or-set_other frames f g entry Free gf) ∙ e))
+          (sym (get_or-set_other frames f g entry Free gf) ∙ e))
           (cases_eq g f);
     }
 
@@ -88,7 +88,7 @@ lawful_set handles frames f entry b lawful fits =
 pub others_found : (slots : List (Option ℕ)) (frames : List Frame) (f : ℕ) (entry : Frame) →
     IsIndexed slots frames
     → (g : ℕ) (tag : Tag) → (g ≡ f → ⊥) → tag_at (set frames f entry) g ≡ Some tag → Reaches slots
-        tag g
+    tag g
 others_found slots frames f entry indexed g tag gf e =
     indexed g tag (ap tag_of (sym (get_or-set_other frames f g entry Free gf)) ∙ e)
 
@@ -96,7 +96,7 @@ others_found slots frames f entry indexed g tag gf e =
 pub table_set : (slots : List (Option ℕ)) (left : ℕ) (frames : List Frame) (f : ℕ) (entry : Frame) →
     f < length frames → IsTable slots left frames
     → ((tag : Tag) → tag_of entry ≡ Some tag → Reaches slots tag f) → IsTable slots left
-        (set frames f entry)
+    (set frames f entry)
 table_set slots left frames f entry b table found = record {
   size = rw length-set table.size;
   left = table.left;
@@ -104,7 +104,7 @@ table_set slots left frames f entry b table found = record {
       ⊎_elim
       (λ (gf : g ≡ f).
       let own : tag_of entry ≡ Some tag = ap tag_of (sym (get_or-set_same frames f entry Free b)) ∙
-          ap (λ x. tag_at (set frames f entry) x) (sym gf) ∙ e in
+      ap (λ x. tag_at (set frames f entry) x) (sym gf) ∙ e in
       let by_frame : ℕ → Type 0 = λ x. Reaches slots tag x in
       subst by_frame (sym gf) (found tag own))
       (λ (gf : g ≡ f → ⊥). others_found slots frames f entry table.indexed g tag gf e)
@@ -114,14 +114,17 @@ table_set slots left frames f entry b table found = record {
 -- the clock does not see what a frame holds
 pub clock_set : (used : List Bool) (hand : ℕ) (frames : List Frame) (f : ℕ) (entry : Frame) →
     IsClock used hand frames → IsClock used hand (set frames f entry)
-clock_set used hand frames f entry clock = record { size = rw length-set clock.size; hand = rw
-    length-set clock.hand }
+clock_set used hand frames f entry clock = record {
+  size = rw length-set clock.size;
+  hand = rw
+      length-set clock.hand;
+}
 
 -- the frames stay sound, with another number of free ones
 pub frames_set : (handles : ℕ) (frames : List Frame) (count from f : ℕ) (entry : Frame) (others : ℕ)
     (next : ℕ) → f < length frames → AreFrames handles frames count from
     → Fits handles frames f entry → others ≡ count_by is_free (set frames f entry) → next < length
-        frames → AreFrames handles (set frames f entry) others next
+    frames → AreFrames handles (set frames f entry) others next
 frames_set handles frames count from f entry others next b are fits counted start = record {
   lawful = lawful_set handles frames f entry b are.lawful fits;
   least = rw length-set are.least;

@@ -13,9 +13,9 @@ count_none p d (x ∷ xs) h =
     let here : p x ≡ false = h 0 (omega arith) in
     let rest : count_by p xs ≡ 0 = count_none p d xs (λ k b. h (suc k) (omega arith)) in
     let split : count_by p (x ∷ xs) ≡ cond (p x) 1 0 + count_by p xs = sum_by-cons
-        (λ y. cond (p y) 1 0) x xs in
+    (λ y. cond (p y) 1 0) x xs in
     let none : count_by p (x ∷ xs) ≡ cond false 1 0 + count_by p xs = split ∙ ap
-        (λ (b : Bool). cond b 1 0 + count_by p xs) here in
+    (λ (b : Bool). cond b 1 0 + count_by p xs) here in
     omega arith
 
 first : (b : Bool) (n : ℕ) → cond b 1 0 + n ≡ 0 → b ≡ false
@@ -28,11 +28,11 @@ pub none_counted : {X : Type 0} (p : X → Bool) (d : X) (xs : List X) → count
 none_counted p d [] e k b = absurd (omega arith)
 none_counted p d (x ∷ xs) e zero b =
     let split : count_by p (x ∷ xs) ≡ cond (p x) 1 0 + count_by p xs = sum_by-cons
-        (λ y. cond (p y) 1 0) x xs in
+    (λ y. cond (p y) 1 0) x xs in
     first (p x) (count_by p xs) (sym split ∙ e)
 none_counted p d (x ∷ xs) e (suc k) b =
     let split : count_by p (x ∷ xs) ≡ cond (p x) 1 0 + count_by p xs = sum_by-cons
-        (λ y. cond (p y) 1 0) x xs in
+    (λ y. cond (p y) 1 0) x xs in
     none_counted p d xs (omega arith) k (omega arith)
 
 -- where some element passes the count is above 0
@@ -42,7 +42,7 @@ some_counted p d xs k b passes =
     ⊎_elim
     (λ (some : 0 < count_by p xs). some)
     (λ (none : count_by p xs ≤ 0). absurd (false≢true (sym (none_counted p d xs (omega arith) k b) ∙
-        passes)))
+    passes)))
     (cases_lt 0 (count_by p xs))
 
 -- the count after a write
@@ -51,5 +51,5 @@ pub counted_after : {X : Type 0} (p : X → Bool) (d : X) (xs : List X) (i : ℕ
     → new + cond (p (get_or xs i d)) 1 0 ≡ old + cond (p y) 1 0 → new ≡ count_by p (set xs i y)
 counted_after p d xs i y old new b counted e =
     let f : count_by p (set xs i y) + cond (p (get_or xs i d)) 1 0 ≡ count_by p xs + cond (p y) 1 0
-        = sum_by-set (λ x. cond (p x) 1 0) xs i y d b in
+    = sum_by-set (λ x. cond (p x) 1 0) xs i y d b in
     omega arith

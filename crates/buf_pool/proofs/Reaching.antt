@@ -73,7 +73,7 @@ unfolding home_of
 no_empty_slot slots tag some h =
     count_none (λ s. is_none s) None slots
     (all_round (λ at. is_none (slot_at slots at) ≡ false) (length slots)
-        (home_of tag (length slots)) (mod_below _ _ some)
+    (home_of tag (length slots)) (mod_below _ _ some)
     (λ step b. let held = taken_holds _ (h step b) in rw held.1 refl))
 
 -- where the search passed no frame with the tag, and came to an empty slot or round the table, no entry has the tag
@@ -90,7 +90,7 @@ absent_after slots frames tag step indexed passed over f e =
     (λ (empty : probe slots tag step ≡ None).
     ⊎_elim
     (λ (here : r.steps ≡ step). let clash : probe slots tag step ≡ Some f = rw (← here) r.there in
-        cc)
+    cc)
     (λ (other : r.steps ≡ step → ⊥). r.before step (omega arith) empty)
     (cases_eq r.steps step))
     (λ (round : length slots ≤ step). omega (arith, r.within))

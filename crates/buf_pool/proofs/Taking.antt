@@ -18,7 +18,7 @@ free_taken frames (Valid tag pins) e = absurd (false≢true e)
 -- a search for a free frame finds one that may be taken, where one is counted
 pub taken_by_free : (frames : List Frame) (r : Option ℕ) → 0 < count_by is_free frames
     → MatchOption r (HasNoFree frames) (λ f. (f < length frames) ×
-        (is_free (frame_at frames f) ≡ true)) → MatchOption r (IsFull frames)
-        (λ f. IsTakeable frames f)
+    (is_free (frame_at frames f) ≡ true)) → MatchOption r (IsFull frames)
+    (λ f. IsTakeable frames f)
 taken_by_free frames None some none = absurd (omega (arith, count_none is_free Free frames none))
 taken_by_free frames (Some f) some h = (h.0, free_taken frames (frame_at frames f) h.1)

@@ -10,4 +10,4 @@ pub returns-then-is_none : goal.returns-then-is_none
 returns-then-is_none c =
     absent_after c.args.slots.now _ _ c.loop-step.step c.requires.indexed c.loop-step.invariant
     (inl (rw (← c.home-home.ensures.home) (is_empty _ (c.is_none.ensures ∙ ap not
-        c.if-is_none.true))))
+    c.if-is_none.true))))

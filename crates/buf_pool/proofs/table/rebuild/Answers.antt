@@ -16,10 +16,10 @@ loop-i-preserved c =
             (λ (same : f ≡ c.loop-i.i).
             let here : tag_at c.args.frames.now c.loop-i.i ≡ Some tag = rw (← same) e in
             rw w.slots-is (reaches_same _ tag w.in-Some.tag f c.loop-i.i (cc) same
-                w.insert.ensures.reached))
+            w.insert.ensures.reached))
             (λ (other : f ≡ c.loop-i.i → ⊥).
             rw w.slots-is (reaches_kept _ _ tag f w.insert.ensures.kept
-                (c.loop-i.invariant.found f tag (omega arith) e)))
+            (c.loop-i.invariant.found f tag (omega arith) e)))
             (cases_eq f c.loop-i.i);
       }
       | in_default w ↦ record {

@@ -13,11 +13,11 @@ invariant_of-self g c =
     let inside : c.args.frame < length items = rw c.self.view_is c.requires.taken.0 in
     let fits : Fits g.W.World.handles items c.args.frame c.args.entry =
     same_tag_fits _ _ _ _ c.self.invariant.0.lawful (rw c.self.view_is c.requires.tag)
-        c.requires.over in
+    c.requires.over in
     let read = get_or_read items c.args.frame c.index.result.now inside c.index.ensures Free in
     let counted : c.note.new.self.count ≡ count_by is_free (set items c.args.frame c.args.entry) =
     counted_after is_free Free items c.args.frame c.args.entry c.self.inside.free.count _ inside
-        c.self.invariant.0.vacant (rw (← read) c.note.ensures.count) in (
+    c.self.invariant.0.vacant (rw (← read) c.note.ensures.count) in (
       frames_set _ _ _ _ _ _ _ _ inside c.self.invariant.0 fits counted
           (c.note.ensures.start _ c.self.invariant.0.start inside),
       table_set _ _ _ _ _ inside c.self.invariant.1 (λ tag e. c.self.invariant.1.indexed
@@ -29,4 +29,4 @@ pub returns-clause-lawful : goal.returns-clause-lawful
 returns-clause-lawful g c =
     lawful_set _ _ _ _ (rw c.self.view_is c.requires.taken.0) c.self.invariant.0.lawful
     (same_tag_fits _ _ _ _ c.self.invariant.0.lawful (rw c.self.view_is c.requires.tag)
-        c.requires.over)
+    c.requires.over)

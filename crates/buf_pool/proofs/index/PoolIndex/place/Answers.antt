@@ -16,7 +16,7 @@ invariant_of-self g c =
     let read = get_or_read items c.args.frame c.index.result.now inside c.index.ensures Free in
     let counted : c.note.new.self.count ≡ count_by is_free (set items c.args.frame entry) =
     counted_after is_free Free items c.args.frame entry c.self.inside.free.count _ inside
-        c.self.invariant.0.vacant (rw (← read) c.note.ensures.count) in (
+    c.self.invariant.0.vacant (rw (← read) c.note.ensures.count) in (
       frames_set _ _ _ _ _ _ _ _ inside c.self.invariant.0 fits counted
           (c.note.ensures.start _ c.self.invariant.0.start inside),
       rw (← c.deref.ensures.value) c.add.ensures,
