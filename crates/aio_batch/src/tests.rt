@@ -5,7 +5,9 @@ ghost use Rattle.aio_handle.specs.Shown.{IsOf, IsSame};
 ghost use Rattle.aio_batch.specs.Held.{Held};
 
 use crate::{Batch, Full, Method, laws};
-use aio_handle::{Actor, Claimed, Execute, InFlight, Label, Record, Table, Take};
+use aio_handle::{
+    Actor, Claimed, Execute, InFlight, Label, Record, Table, Take, laws as table_laws,
+};
 use aio_word::{Class, WaitRef};
 use page_check::World;
 use std::alloc::{AllocError, Global};
