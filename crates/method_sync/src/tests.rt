@@ -1,10 +1,10 @@
 //! Reads that are executed in place, over disks in memory.
-ghost use Rattle.std.specs.Prelude.{◌≡◌, ◌+◌, ◌<◌, ◌≤◌, ◌^◌, IfOk, length};
+ghost use Rattle.std.specs.Prelude.{◌≡◌, ◌+◌, ◌<◌, ◌≤◌, ◌^◌, [], IfSome, length};
 ghost use Rattle.aio_handle.specs.Shown.{IsOf, IsSame};
 
 use crate::{Runner, SyncMethod};
 use aio_batch::Batch;
-use aio_callback::{CallbackId, Counts, NoPlaces, ReadIo};
+use aio_callback::{CallbackId, Counts, NoPlaces, ReadIo, laws};
 use aio_disk::{Disk, MemDisk, MemShelf, ReadEntry, Script, SteadyDisk, SteadyShelf};
 use aio_handle::{Actor, Record, Table, Take};
 use aio_result::{AioResult, Status};
@@ -46,52 +46,49 @@ fn taken_in(io: &ReadIo) -> Ended {
     }
 }
 
-/// Reads four blocks of relation 0 from `first` on through `SyncMethod`, and takes the read in.
-/// None where a call refuses, or where the result is not there at once.
+/// Reads four blocks of relation 0 from `first` on through `SyncMethod`, takes the read in, and
+/// gives the record back. None where a call refuses, or where the result is not there at once.
 fn read_four<W: World, D: Disk, T: Wait>(
     rt: &T,
-    alloc: Global,
     table: &Table<ReadIo, W>,
     actor: &mut Actor<ReadIo, W>,
+    batch: &mut Batch<ReadIo, W>,
     runner: &mut Runner<D, NoPlaces>,
+    mut io: ReadIo,
     first: u32,
-) -> Result<Option<Ended>, AllocError>
+) -> Option<ReadIo>
     requires table { IsOf table.now actor.old }
     requires backend { actor.old.known.number < table.now.config.backends }
+    requires empty { batch.old ≡ [] }
     requires told { (D.told runner.old.disk ≡ W.told)
         × (D.relations runner.old.disk ≡ W.relations) }
     requires some { 0 < W.relations }
+    requires room { 4 ≤ length io.pages }
     requires first { first + 4 ≤ 2 ^ 32 }
     ensures same { IsSame actor.old actor.new }
     ensures number { actor.new.known.number ≡ actor.old.known.number }
     ensures told { (D.told runner.new.disk ≡ D.told runner.old.disk)
         × (D.relations runner.new.disk ≡ D.relations runner.old.disk) }
+    ensures empty { IfSome result (λ _. batch.new ≡ []) }
+    ensures room { IfSome result (λ r. length r.pages ≡ length io.pages) }
 {
-    let mut io = ReadIo::make(alloc, 4)?;
-    let mut batch = Batch::open(alloc)?;
-    if io.aim(0, first, 4, &IDS).is_err() {
-        return Ok(None);
-    }
-    let Ok(token) = table.acquire(actor) else {
-        return Ok(None);
-    };
+    laws::an_aim_names_the_read();
+    io.aim(0, first, 4, &IDS).ok()?;
+    let token = table.acquire(actor).ok()?;
     let token = table.define(actor, token, io);
     let token = table.stage(actor, token);
-    if batch.push(token).is_err() {
-        return Ok(None);
-    }
-    let Some(token) = batch.submit_next(rt, table, actor, &mut SyncMethod, runner) else {
-        return Ok(None);
-    };
+    batch.push(token).ok()?;
+    let token = batch.submit_next(rt, table, actor, &mut SyncMethod, runner)?;
     let Take::Ready(mut local) = table.try_take(actor, token) else {
-        return Ok(None);
+        return None;
     };
     let mut counts = Counts { ios: 0, blocks: 0 };
     local.record_mut().complete_local(&mut counts);
-    Ok(Some(taken_in(&table.reclaim(actor, local))))
+    Some(table.reclaim(actor, local))
 }
 
-/// What comes of reads from each of these blocks on.
+/// What comes of reads from each of these blocks on, by one record, up to the first that is
+/// refused.
 fn read_each<W: World, D: Disk, T: Wait>(
     rt: &T,
     alloc: Global,
@@ -99,7 +96,7 @@ fn read_each<W: World, D: Disk, T: Wait>(
     actor: &mut Actor<ReadIo, W>,
     runner: &mut Runner<D, NoPlaces>,
     firsts: &[u32],
-) -> Result<Vec<Option<Ended>>, AllocError>
+) -> Result<Vec<Ended>, AllocError>
     requires table { IsOf table.now actor.old }
     requires backend { actor.old.known.number < table.now.config.backends }
     requires told { (D.told runner.old.disk ≡ W.told)
@@ -107,9 +104,15 @@ fn read_each<W: World, D: Disk, T: Wait>(
     requires some { 0 < W.relations }
 {
     let mut all = Vec::new(alloc);
+    let mut batch = Batch::open(alloc)?;
+    let mut io = ReadIo::make(alloc, 4)?;
     for first in firsts {
         let first = (*first).min(1000);
-        all.push(read_four(rt, alloc, table, actor, runner, first)?)?;
+        match read_four(rt, table, actor, &mut batch, runner, io, first) {
+            Some(read) => io = read,
+            None => return Ok(all),
+        }
+        all.push(taken_in(&io))?;
     }
     Ok(all)
 }
@@ -120,7 +123,7 @@ fn read_all<W: World, D: Disk, T: Wait>(
     alloc: Global,
     disk: D,
     firsts: &[u32],
-) -> Result<(Vec<Option<Ended>>, D), AllocError>
+) -> Result<(Vec<Ended>, D), AllocError>
     requires handles { W.handles ≡ 1 }
     requires told { (D.told disk ≡ W.told) × (D.relations disk ≡ W.relations) }
     requires some { 0 < W.relations }
@@ -152,15 +155,15 @@ fn file_of(alloc: Global, blocks: u32) -> Result<Vec<(String, Vec<u8>)>, Fail> {
     Ok(vec![in alloc; (String::from_str(alloc, "f")?, bytes)]?)
 }
 
-fn whole() -> Option<Ended> {
-    Some(Ended {
+fn whole() -> Ended {
+    Ended {
         class: Class::Whole,
         id: 0,
         status: Status::Good,
         error: 0,
         result: 4,
         good: 4,
-    })
+    }
 }
 
 /// Reads over a steady disk, which then goes back to its shelf.
@@ -168,7 +171,7 @@ fn steady_reads<R: Abort + AllocGlobal + Wait>(
     rt: &R,
     shelf: &mut SteadyShelf,
     firsts: &[u32],
-) -> Result<Vec<Option<Ended>>, Fail> {
+) -> Result<Vec<Ended>, Fail> {
     let alloc = rt.alloc();
     let names = vec![in alloc; String::from_str(alloc, "f")?]?;
     let disk = shelf.open(names.as_slice()).ok().ok_or("no disk")?;
@@ -200,7 +203,7 @@ fn reads_through_the_sync_method_are_logged(rt: HostRuntime) -> Result<(), Fail>
         result: 0,
         good: 0,
     };
-    let wanted = [whole(), whole(), Some(rest), Some(past_the_end)];
+    let wanted = [whole(), whole(), rest, past_the_end];
     assert_eq!(&rt; all.as_slice(), wanted.as_slice());
     let entry = |first, answered| ReadEntry {
         disk: 0,
@@ -219,7 +222,7 @@ fn scripted_reads<R: Abort + AllocGlobal + Wait>(
     rt: &R,
     shelf: &mut MemShelf,
     firsts: &[u32],
-) -> Result<Vec<Option<Ended>>, Fail> {
+) -> Result<Vec<Ended>, Fail> {
     let alloc = rt.alloc();
     let names = vec![in alloc; String::from_str(alloc, "f")?]?;
     let disk = shelf.open(names.as_slice()).ok().ok_or("no disk")?;
@@ -249,6 +252,6 @@ fn the_first_read_fails(rt: HostRuntime) -> Result<(), Fail> {
         result: 0,
         good: 0,
     };
-    assert_eq!(&rt; all.as_slice(), [Some(failed), whole()].as_slice());
+    assert_eq!(&rt; all.as_slice(), [failed, whole()].as_slice());
     Ok(())
 }

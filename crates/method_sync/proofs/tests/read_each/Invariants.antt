@@ -1,4 +1,4 @@
-use Rattle.std.proofs.Common.{◌≡◌, ◌<◌}
+use Rattle.std.proofs.Common.{◌≡◌, ◌<◌, ◌≤◌, [], length}
 use Rattle.aio_handle.specs.Shown.{IsOf}
 use Rattle.method_sync.proofs.tests.read_each.Given as goal
 
@@ -6,6 +6,8 @@ abbrev pub invariant-loop-first : goal.invariant-loop-first
 invariant-loop-first g l = record {
   table : IsOf l.table l.actor;
   backend : l.actor.known.number < l.table.config.backends;
+  empty : l.batch ≡ [];
   told : g.D.Disk.told l.runner.disk ≡ g.W.World.told;
   relations : g.D.Disk.relations l.runner.disk ≡ g.W.World.relations;
+  room : 4 ≤ length l.io.pages;
 }

@@ -1,0 +1,20 @@
+use Rattle.std.proofs.Common.{rules, ◌≡◌, [], ◌∷◌, length, ap, ◌∙◌}
+use Rattle.aio_word.specs.declared.WaitRef.{WaitRef}
+use Rattle.aio_callback.specs.Reading.{Reading, aim_in}
+use Rattle.method_sync.proofs.tests.read_four.Goals as goal
+
+pub returns-clause-room : goal.returns-clause-room
+returns-clause-room g c =
+    let aimed : Reading = c.aim.new.self in
+    let staged : WaitRef × Reading = c.stage-token.result in
+    let taken : Reading = c.in-Ready.local.1 in
+    let next = c.in_ok-token-2.ensures.next in
+    let pushed : c.push.new.self ≡ staged ∷ [] = search rules in
+    let first = next.first in
+    let same : next.token ≡ staged = cc in
+    let aim : aim_in taken ≡ aim_in aimed = c.in-Ready.ensures.record.1 _ next.aim
+    ∙ (ap (λ (z : WaitRef × Reading). aim_in z.1) (same ∙ c.stage-token.ensures.token.0)
+    ∙ c.define-token.ensures.token.1) in
+    let back : length c.reclaim.result.pages ≡ length taken.pages = search rules in
+    let room : length aimed.pages ≡ length c.args.io.pages = search rules in
+    back ∙ ((c.an_aim_names_the_read.ensures taken aimed aim).room ∙ room)
