@@ -5,8 +5,10 @@ use Rattle.std.proofs.Common.{Option, Some, None}
 use Rattle.std.specs.Prelude.{IfSome}
 use Rattle.std.proofs.lemmas.List.{get_or-take}
 use Rattle.std.proofs.lemmas.List.FromFn.{get_or-map-range_with_len}
-use Rattle.page_check.specs.Told.{Told, page_of}
-use Rattle.page_check.specs.Verdict.{verdict_of}
+use Rattle.page_check.specs.Told.{Told, page_of, blocks_of}
+use Rattle.page_check.specs.Verdict.{verdict_of, IsValid}
+use Rattle.page_check.specs.SynchronousAnswer.{Page, found_at}
+use Rattle.page_check.proofs.SynchronousReads.{found_at-page}
 use Rattle.page_check.specs.declared.verdict.Verdict.{Verdict}
 use Rattle.page_check.specs.declared.verdict.Verdict.TheVariants.{Zero, Sane, Bad}
 use Rattle.aio_disk.specs.Disk.{ReadsPages}
@@ -15,7 +17,7 @@ use Rattle.aio_callback.specs.declared.chain.Raw.{Raw}
 use Rattle.aio_callback.specs.declared.chain.Raw.TheVariants.{Read, Failed}
 use Rattle.aio_callback.specs.Chain.{is_bad_verdict, first_of, class_of, outcome_of, chain_of}
 use Rattle.aio_callback.specs.Chain.{good_of, Outcome}
-use Rattle.aio_callback.specs.Good.{IsPageOf, IsGood}
+use Rattle.aio_callback.specs.Good.{IsGood}
 use Rattle.aio_callback.specs.Reading.{Reading, IsToldRead, Answered, Completed}
 use Rattle.aio_callback.specs.Reading.{Fits, shared_of, IsSharedOf, aim_in}
 use Rattle.aio_callback.proofs.Below.{good_below, chain_pages}
@@ -25,6 +27,20 @@ not_bad : (v : Verdict) → is_bad_verdict v ≡ false → v ≢ Bad
 not_bad Zero e b = absurd (cc)
 not_bad Sane e b = absurd (cc)
 not_bad Bad e b = absurd (cc)
+
+-- the page of a block that the relation has
+record IsPageOf (told : Told) (relation block : ℕ) (page : List ℕ) : Type 0 where
+  there : block < blocks_of told relation
+  same : page ≡ page_of told relation block
+
+-- a valid one is what its block gives
+found_good : (told : Option Told) (relation block : ℕ) (page : List ℕ) → IsValid page
+    → IfSome told (λ t. IsPageOf t relation block page)
+    → IfSome told (λ t. found_at t relation block ≡ Page page)
+found_good None relation block page valid h = h
+found_good (Some t) relation block page valid h =
+    let P : List ℕ → Type 0 = λ p. found_at t relation block ≡ Page p in
+    subst P (sym h.same) (found_at-page t relation block h.there (subst IsValid h.same valid))
 
 -- a page among those that were read is that of its block
 told_at : (told : Option Told) (relation first n i : ℕ) (pages : List (List ℕ)) → i < n
@@ -52,12 +68,16 @@ goods told r (Read n) pages h room i lt =
     let b = good_below r.count r.ids (outcome_of (first_of (Read n)) pages) in
     let w = h.0 in
     let same = chain_pages r.count r.ids (outcome_of (first_of (Read n)) pages) in
+    let valid : IsValid (get_or (run r (Read n) pages).pages i []) =
+    not_bad (verdict_of (get_or (run r (Read n) pages).pages i []))
+    (good_clean r.count r.ids (Read n) pages (omega arith) i lt) in
     record {
-      valid = not_bad (verdict_of (get_or (run r (Read n) pages).pages i []))
-          (good_clean r.count r.ids (Read n) pages (omega arith) i lt);
-      told_page = subst (λ (ps : List (List ℕ)).
+      valid = valid;
+      told_page = found_good told r.relation (r.first + i)
+          (get_or (run r (Read n) pages).pages i []) valid
+          (subst (λ (ps : List (List ℕ)).
           IfSome told (λ t. IsPageOf t r.relation (r.first + i) (get_or ps i [])))
-          (sym same) (told_at told r.relation r.first n i pages (omega arith) h.1);
+          (sym same) (told_at told r.relation r.first n i pages (omega arith) h.1));
     }
 
 few : (told : Option Told) (r : Reading) (answer : Raw) (pages : List (List ℕ))

@@ -11,17 +11,22 @@ use Rattle.std.proofs.lemmas.List.Quantifiers.{position-Some}
 use Rattle.std.proofs.lemmas.List.FromFn.{get_or-map-range_with_len}
 use Rattle.std.proofs.lemmas.Bool.Decides.{nat_tests}
 use Rattle.page_check.specs.Told.{Told, page_of, blocks_of}
+use Rattle.page_check.specs.Verdict.{verdict_of}
+use Rattle.page_check.specs.declared.verdict.Verdict.{Verdict}
+use Rattle.page_check.specs.declared.verdict.Verdict.TheVariants.{Zero, Sane, Bad}
+use Rattle.page_check.specs.SynchronousAnswer.{Damaged, Absent, found_at}
+use Rattle.page_check.proofs.SynchronousReads.{found_at-damaged, found_at-absent}
 use Rattle.aio_disk.specs.Disk.{ReadsPages}
 use Rattle.aio_result.specs.declared.Status.TheVariants.{Good, Partial, Error}
 use Rattle.aio_word.specs.declared.Class.TheVariants as class
 use Rattle.aio_callback.specs.declared.chain.Raw.{Raw}
 use Rattle.aio_callback.specs.declared.chain.Raw.TheVariants.{Read, Failed}
 use Rattle.aio_callback.specs.declared.chain.CallbackId.{CallbackId}
-use Rattle.aio_callback.specs.Chain.{result_of, is_bad, first_bad, stopped_at, first_of, class_of}
+use Rattle.aio_callback.specs.Chain.{result_of, is_bad, is_bad_verdict, first_bad, stopped_at, first_of, class_of}
 use Rattle.aio_callback.specs.Chain.{after_file, after_buffer, chain_of, outcome_of, good_of}
 use Rattle.aio_callback.specs.Chain.{Outcome}
 use Rattle.aio_callback.specs.Reading.{Reading, IsToldRead, Fits, Completed}
-use Rattle.aio_callback.specs.Cases.{stream_ids, IsBadBlock, IsOneOf, Whole, Rest, Invalid, Unread}
+use Rattle.aio_callback.specs.Cases.{stream_ids, IsOneOf, Whole, Rest, Invalid, Unread}
 use Rattle.aio_callback.specs.Cases.{PastEnd, given_of}
 
 not_below : (a b : ℕ) → (a < b → ⊥) → b ≤ a
@@ -29,23 +34,31 @@ not_below a b absent = omega arith
 
 nothing_read : (told : Option Told) (relation first : ℕ) (pages : List (List ℕ))
     → IfSome told (λ t. ReadsPages t relation first 0 pages)
-    → IfSome told (λ t. blocks_of t relation ≤ first)
+    → IfSome told (λ t. found_at t relation first ≡ Absent)
 nothing_read None relation first pages h = h
 nothing_read (Some t) relation first pages h =
-    not_below first (blocks_of t relation) (λ lt. let z = h.some lt in absurd (omega arith))
+    found_at-absent t relation first
+    (not_below first (blocks_of t relation) (λ lt. let z = h.some lt in absurd (omega arith)))
+
+is_bad-verdict : (v : Verdict) → is_bad_verdict v ≡ true → v ≡ Bad
+is_bad-verdict Bad is = refl
+is_bad-verdict Zero is = absurd (cc)
+is_bad-verdict Sane is = absurd (cc)
 
 -- the block of a page that was read and is bad
 bad_block : (told : Option Told) (relation first n i : ℕ) (pages : List (List ℕ)) → i < n
     → IfSome told (λ t. ReadsPages t relation first n pages)
     → is_bad (get_or (take n pages) i []) ≡ true
-    → IfSome told (λ t. IsBadBlock t relation (first + i))
+    → IfSome told (λ t. found_at t relation (first + i) ≡ Damaged)
 bad_block None relation first n i pages lt h e = h
-bad_block (Some t) relation first n i pages lt h e = record {
-  there = let w = h.within in omega arith;
-  bad = sym (ap (λ (ps : List (List ℕ)). is_bad (get_or ps i [])) h.told_pages
-      ∙ ap is_bad (get_or-map-range_with_len (page_of t relation) first n i (first + i) [] lt refl))
-      ∙ e;
-}
+bad_block (Some t) relation first n i pages lt h e =
+    let there : first + i < blocks_of t relation = (let w = h.within in omega arith) in
+    let bad : is_bad (page_of t relation (first + i)) ≡ true =
+    sym (ap (λ (ps : List (List ℕ)). is_bad (get_or ps i [])) h.told_pages
+    ∙ ap is_bad (get_or-map-range_with_len (page_of t relation) first n i (first + i) [] lt refl))
+    ∙ e in
+    found_at-damaged t relation (first + i) there
+    (is_bad-verdict (verdict_of (page_of t relation (first + i))) bad)
 
 -- the first bad page is one of those that were read
 bad_within : (n i : ℕ) (pages : List (List ℕ)) → first_bad (take n pages) ≡ Some i

@@ -20,3 +20,11 @@ pub record RisesBy (other before now : ℕ) : Type 0 where
   pub later : before ≤ now
   pub risen : 0 < other → Rose before now
   pub stays : other ≡ 0 → now ≡ before
+
+-- what a shelf counts: opens that failed; of the disks taken back, those that had failed at a
+-- length, those that had failed at a read, and their reads
+pub record ShelfCounts : Type 0 where
+  pub open_faults : ℕ
+  pub length_faults : ℕ
+  pub faults : ℕ
+  pub reads : ℕ

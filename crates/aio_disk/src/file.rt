@@ -199,10 +199,8 @@ impl<'r, R: Files<File = File> + AllocGlobal> FileShelf<'r, R> {
     /// A shelf over the files of the system.
     pub fn new(rt: &'r R) -> Self
         ensures told { ⟦<FileShelf<'r, R> as Shelf>⟧.told result ≡ None }
-        ensures open_faults { ⟦<FileShelf<'r, R> as Shelf>⟧.open_faults result ≡ 0 }
-        ensures length_faults { ⟦<FileShelf<'r, R> as Shelf>⟧.length_faults result ≡ 0 }
-        ensures faults { ⟦<FileShelf<'r, R> as Shelf>⟧.faults result ≡ 0 }
-        ensures reads { ⟦<FileShelf<'r, R> as Shelf>⟧.reads result ≡ 0 }
+        ensures counts { ⟦<FileShelf<'r, R> as Shelf>⟧.counts result
+            ≡ record { open_faults = 0; length_faults = 0; faults = 0; reads = 0 } }
     {
         FileShelf {
             rt,
@@ -219,13 +217,12 @@ impl<R: Files<File = File> + AllocGlobal> Shelf for FileShelf<'_, R> {
 
     ghost told = { λ _. None };
 
-    ghost open_faults = { λ shelf. shelf.open_faults };
-
-    ghost length_faults = { λ shelf. shelf.length_faults };
-
-    ghost faults = { λ shelf. shelf.faults };
-
-    ghost reads = { λ shelf. shelf.reads };
+    ghost counts = { λ shelf. record {
+      open_faults = shelf.open_faults;
+      length_faults = shelf.length_faults;
+      faults = shelf.faults;
+      reads = shelf.reads;
+    } };
 
     /// A name that is not there, and one of a directory or of anything else that is neither a
     /// regular file nor a block device, is a device fault.
@@ -369,6 +366,44 @@ mod tests {
         );
         fs::remove_file(&rt, "first")?;
         fs::remove_file(&rt, "second")?;
+        Ok(())
+    }
+
+    // Whether a read of so many pages fails.
+    fn fails<R: Abort + AllocGlobal>(
+        rt: &R,
+        disk: &mut FileDisk,
+        count: usize,
+    ) -> Result<bool, Fail> {
+        let mut pages = zeroed_pages(rt.alloc(), count)?;
+        assert!(rt; 0 < disk.files.len());
+        assert!(rt; 0 < pages.len() && pages.len() <= 128);
+        Ok(disk.read(0, 0, pages.as_mut_slice()).is_err())
+    }
+
+    // A disk over a file that is open for writing alone: each read of it fails.
+    fn unreadable<R: Files<File = File> + AllocGlobal>(rt: &R) -> Result<FileDisk, Fail> {
+        let alloc = rt.alloc();
+        let mut files = Vec::new(alloc);
+        files.push(File::create(rt, "write_only")?)?;
+        Ok(FileDisk {
+            files,
+            buffer: vec![in alloc; 0u8; RUN * PAGE_SIZE]?,
+            faults: 0,
+            length_faults: 0,
+            reads: 0,
+        })
+    }
+
+    #[test]
+    fn reads_that_fail_are_counted(rt: HostRuntime) -> Result<(), Fail> {
+        let mut disk = unreadable(&rt)?;
+        assert!(rt; fails(&rt, &mut disk, 1)?);
+        assert!(rt; fails(&rt, &mut disk, 3)?);
+        assert!(rt; fails(&rt, &mut disk, 128)?);
+        assert_eq!(rt; disk.faults, 3);
+        assert_eq!(rt; disk.reads, 3);
+        fs::remove_file(&rt, "write_only")?;
         Ok(())
     }
 

@@ -172,13 +172,12 @@ impl Shelf for MemShelf {
 
     ghost told = { λ shelf. Some shelf.steady.files };
 
-    ghost open_faults = { λ shelf. shelf.steady.open_faults };
-
-    ghost length_faults = { λ shelf. shelf.length_faults };
-
-    ghost faults = { λ shelf. shelf.faults };
-
-    ghost reads = { λ shelf. shelf.steady.reads };
+    ghost counts = { λ shelf. record {
+      open_faults = shelf.steady.open_faults;
+      length_faults = shelf.length_faults;
+      faults = shelf.faults;
+      reads = shelf.steady.reads;
+    } };
 
     fn open(&mut self, names: &[String]) -> Result<MemDisk, OpenFault> {
         MemShelf::open(self, names)

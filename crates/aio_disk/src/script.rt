@@ -28,23 +28,19 @@ impl Script {
     pub fn has_positive_shorts(&self) -> bool
         ensures { result ≡ has_positive_shorts self.now }
     {
-        for shorts in self.shorts.as_slice() {
-            if !are_positive(shorts.1.as_slice()) {
-                return false;
-            }
-        }
-        true
+        self.shorts
+            .as_slice()
+            .iter()
+            .all(|shorts| are_positive(shorts.1.as_slice()))
     }
 
     pub(crate) fn fails_open(&self, number: u64) -> bool
         ensures { result ≡ fails_open self.now number }
     {
-        for listed in self.fail_opens.as_slice() {
-            if *listed == number {
-                return true;
-            }
-        }
-        false
+        self.fail_opens
+            .as_slice()
+            .iter()
+            .any(|listed| *listed == number)
     }
 
     pub(crate) fn fails_length(&self, disk: u32, call: u64) -> bool
@@ -62,12 +58,11 @@ impl Script {
     fn shorts_of(&self, disk: u32) -> Option<&[u32]>
         ensures { option_map (λ shorts. shorts.now) result ≡ shorts_of self.now disk }
     {
-        for shorts in self.shorts.as_slice() {
-            if shorts.0 == disk {
-                return Some(shorts.1.as_slice());
-            }
-        }
-        None
+        self.shorts
+            .as_slice()
+            .iter()
+            .find(|shorts| shorts.0 == disk)
+            .map(|shorts| shorts.1.as_slice())
     }
 
     fn short_answer(&self, disk: u32, read: u64) -> Option<u32>
@@ -94,21 +89,13 @@ impl Script {
 fn are_positive(numbers: &[u32]) -> bool
     ensures { result ≡ are_positive numbers.now }
 {
-    for number in numbers {
-        if *number == 0 {
-            return false;
-        }
-    }
-    true
+    numbers.iter().all(|number| 0 < *number)
 }
 
 fn is_listed(calls: &[(u32, u64)], disk: u32, call: u64) -> bool
     ensures { result ≡ is_listed calls.now disk call }
 {
-    for listed in calls {
-        if listed.0 == disk && listed.1 == call {
-            return true;
-        }
-    }
-    false
+    calls
+        .iter()
+        .any(|listed| listed.0 == disk && listed.1 == call)
 }

@@ -2,7 +2,7 @@
 ghost use Rattle.std.specs.Prelude.{◌≡◌, ◌≤◌, ℕ, length, map, Option, IfOk, OnOk, IsErrOf};
 ghost use Rattle.std.specs.Prelude.{string_bytes};
 ghost use Rattle.aio_disk.specs.declared.fault.OpenFault.TheVariants.{Device, Memory};
-ghost use Rattle.aio_disk.specs.Counts.{Rose, RisesBy, raised_by};
+ghost use Rattle.aio_disk.specs.Counts.{ShelfCounts, Rose, RisesBy, raised_by};
 ghost use Rattle.aio_disk.specs.Shelf.{Files, AllThereIfTold, told_of};
 
 use crate::{Disk, OpenFault};
@@ -16,17 +16,8 @@ pub trait Shelf {
     /// The files by their names, where it tells them.
     ghost told: { Self → Option Files };
 
-    /// How often an open has failed.
-    ghost open_faults: { Self → ℕ };
-
-    /// How many of the disks taken back had failed at a length.
-    ghost length_faults: { Self → ℕ };
-
-    /// How many of the disks taken back had failed at a read.
-    ghost faults: { Self → ℕ };
-
-    /// How often the disks taken back were read.
-    ghost reads: { Self → ℕ };
+    /// How often an open has failed, and what the disks taken back had counted.
+    ghost counts: { Self → ShelfCounts };
 
     /// Opens a disk whose relations are the files of these names, in their order.
     ///
@@ -42,21 +33,21 @@ pub trait Shelf {
         ensures no_length_faults { IfOk result (λ disk. Self.Disk.length_faults disk ≡ 0) }
         ensures no_reads { IfOk result (λ disk. Self.Disk.reads disk ≡ 0) }
 
-        ensures later { open_faults self.old ≤ open_faults self.new }
+        ensures later { (counts self.old).open_faults ≤ (counts self.new).open_faults }
         ensures device { IsErrOf result Device
-            → Rose (open_faults self.old) (open_faults self.new) }
-        ensures memory { IsErrOf result Memory → open_faults self.new ≡ open_faults self.old }
+            → Rose (counts self.old).open_faults (counts self.new).open_faults }
+        ensures memory { IsErrOf result Memory → (counts self.new).open_faults ≡ (counts self.old).open_faults }
         ensures told { told self.new ≡ told self.old }
-        ensures length_faults { length_faults self.new ≡ length_faults self.old }
-        ensures faults { faults self.new ≡ faults self.old }
-        ensures reads { reads self.new ≡ reads self.old };
+        ensures length_faults { (counts self.new).length_faults ≡ (counts self.old).length_faults }
+        ensures faults { (counts self.new).faults ≡ (counts self.old).faults }
+        ensures reads { (counts self.new).reads ≡ (counts self.old).reads };
 
     /// Takes a disk back, and adds what it counted.
     fn take_back(&mut self, disk: Self::Disk)
         ensures told { told self.new ≡ told self.old }
-        ensures open_faults { open_faults self.new ≡ open_faults self.old }
+        ensures open_faults { (counts self.new).open_faults ≡ (counts self.old).open_faults }
         ensures length_faults { RisesBy (Self.Disk.length_faults disk)
-            (length_faults self.old) (length_faults self.new) }
-        ensures faults { RisesBy (Self.Disk.faults disk) (faults self.old) (faults self.new) }
-        ensures reads { reads self.new ≡ raised_by (Self.Disk.reads disk) (reads self.old) };
+            (counts self.old).length_faults (counts self.new).length_faults }
+        ensures faults { RisesBy (Self.Disk.faults disk) (counts self.old).faults (counts self.new).faults }
+        ensures reads { (counts self.new).reads ≡ raised_by (Self.Disk.reads disk) (counts self.old).reads };
 }

@@ -74,45 +74,55 @@ impl<R: Print + Eprint> Sink for StdSink<'_, R> {
 #[cfg(test)]
 mod tests {
     use super::*;
+    use std::alloc::Global;
     use std::fmt::Display;
 
     // A runtime that prints to one of the streams, and fails at the other.
     #[derive(Drop)]
     struct OneStream {
+        alloc: Global,
         open: Stream,
+        text: &'static str,
     }
 
     impl OneStream {
-        fn print_to(&self, out: bool) -> io::Result<()> {
-            if out == matches!(self.open, Stream::Out) {
+        fn print_to(&self, out: bool, bytes: &[u8]) -> io::Result<()> {
+            if out == matches!(self.open, Stream::Out) && bytes == self.text.as_bytes() {
                 Ok(())
             } else {
                 Err(io::Error::from(io::ErrorKind::BrokenPipe))
             }
         }
+
+        fn print_value<D: Display + Drop>(&self, out: bool, value: D) -> io::Result<()> {
+            match format!(in self.alloc; "{value}") {
+                Ok(text) => self.print_to(out, text.as_bytes()),
+                Err(_) => Err(io::Error::from(io::ErrorKind::OutOfMemory)),
+            }
+        }
     }
 
     impl Print for OneStream {
-        fn print<D: Display + Drop>(&self, _value: D) -> io::Result<()> {
-            self.print_to(true)
+        fn print<D: Display + Drop>(&self, value: D) -> io::Result<()> {
+            self.print_value(true, value)
         }
 
         fn println<D: Display + Drop>(&self, _value: D) -> io::Result<()> {
-            self.print_to(true)
+            self.print_to(true, b"")
         }
 
-        fn write_all(&self, _bytes: &[u8]) -> io::Result<()> {
-            self.print_to(true)
+        fn write_all(&self, bytes: &[u8]) -> io::Result<()> {
+            self.print_to(true, bytes)
         }
     }
 
     impl Eprint for OneStream {
-        fn eprint<D: Display + Drop>(&self, _value: D) -> io::Result<()> {
-            self.print_to(false)
+        fn eprint<D: Display + Drop>(&self, value: D) -> io::Result<()> {
+            self.print_value(false, value)
         }
 
         fn eprintln<D: Display + Drop>(&self, _value: D) -> io::Result<()> {
-            self.print_to(false)
+            self.print_to(false, b"")
         }
     }
 
@@ -124,12 +134,23 @@ mod tests {
 
     #[test]
     fn each_stream_is_its_own(rt: HostRuntime) {
-        let out = OneStream { open: Stream::Out };
-        let err = OneStream { open: Stream::Err };
+        let (alloc, text) = (rt.alloc(), "text");
+        let out = OneStream {
+            alloc,
+            open: Stream::Out,
+            text,
+        };
+        let err = OneStream {
+            alloc,
+            open: Stream::Err,
+            text,
+        };
         assert_eq!(rt; write(StdSink::out(&out), b"text"), 0);
         assert_eq!(rt; write(StdSink::err(&out), b"text"), 1);
         assert_eq!(rt; write(StdSink::out(&err), b"text"), 1);
         assert_eq!(rt; write(StdSink::err(&err), b"text"), 0);
+        assert_eq!(rt; write(StdSink::out(&out), b"other"), 1);
+        assert_eq!(rt; write(StdSink::err(&err), b"other"), 1);
         assert_eq!(rt; write(StdSink::err(&err), b"no text: \xff"), 1);
     }
 

@@ -254,13 +254,12 @@ impl Shelf for SteadyShelf {
 
     ghost told = { λ shelf. Some shelf.files };
 
-    ghost open_faults = { λ shelf. shelf.open_faults };
-
-    ghost length_faults = { λ shelf. 0 };
-
-    ghost faults = { λ shelf. 0 };
-
-    ghost reads = { λ shelf. shelf.reads };
+    ghost counts = { λ shelf. record {
+      open_faults = shelf.open_faults;
+      length_faults = 0;
+      faults = 0;
+      reads = shelf.reads;
+    } };
 
     fn open(&mut self, names: &[String]) -> Result<SteadyDisk, OpenFault> {
         SteadyShelf::open(self, names)

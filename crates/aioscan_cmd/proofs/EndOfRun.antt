@@ -1,98 +1,109 @@
 -- How a run over an opened disk ends, by what its lengths and its blocks gave.
-use Rattle.std.proofs.Common.{◌≡◌, ℕ, ◌+◌, ◌<◌, List, [], length, get_or, refl, ap, ◌∙◌, arith}
-use Rattle.std.specs.Prelude.{Option, Some, None, IfSome, slice_index}
+use Rattle.std.proofs.Common.{◌≡◌, ℕ, ◌+◌, ◌<◌, List, length, get_or, refl, ap, arith, subst}
+use Rattle.std.proofs.Common.{true, false, sym}
+use Rattle.std.specs.Prelude.{Option, Some, None, IfSome, slice_index, nat_lt, cond}
+use Rattle.std.proofs.lemmas.Bool.Decides.{nat_tests}
 use Rattle.page_check.specs.Told.{Told, blocks_of}
+use Rattle.page_check.specs.SynchronousAnswer.{reader_of}
 use Rattle.aio_disk.specs.Counts.{raised_by}
-use Rattle.heap_scan.specs.Listing.{listing}
-use Rattle.aioscan_cmd.specs.Command.{Command, block_limit, relations_of}
-use Rattle.aioscan_cmd.specs.RequestList.{Request, Page, requests_of}
-use Rattle.aioscan_cmd.specs.Lengths.{HasLengths, HasNoLengths, FitBefore}
-use Rattle.aioscan_cmd.specs.Reading.{ListsAll, ListsUpTo}
-use Rattle.aioscan_cmd.specs.Running.{Ran, lengths_known, outcome_by, outcome_without}
-use Rattle.aioscan_cmd.specs.declared.lengths.Refusal.{Refusal}
-use Rattle.aioscan_cmd.specs.declared.lengths.Refusal.TheVariants.{NoLength as RefusedNoLength}
-use Rattle.aioscan_cmd.specs.declared.lengths.Refusal.TheVariants.{TooLong as RefusedTooLong}
-use Rattle.aioscan_cmd.specs.declared.lengths.Refusal.TheVariants.{NoMemory as RefusedNoMemory}
-use Rattle.aioscan_cmd.specs.declared.lister.Stop.{Stop}
-use Rattle.aioscan_cmd.specs.declared.lister.Stop.TheVariants.{Invalid as StopInvalid}
-use Rattle.aioscan_cmd.specs.declared.lister.Stop.TheVariants.{Missing as StopMissing}
-use Rattle.aioscan_cmd.specs.declared.lister.Stop.TheVariants.{Unread as StopUnread}
-use Rattle.aioscan_cmd.specs.declared.lister.Stop.TheVariants.{CannotWrite as StopCannotWrite}
-use Rattle.aioscan_cmd.specs.declared.lister.Stop.TheVariants.{NoMemory as StopNoMemory}
+use Rattle.aioscan_cmd.specs.Command.{Command, length_limit, relations_of}
+use Rattle.aioscan_cmd.specs.RequestList.{Request, requests_of}
+use Rattle.aioscan_cmd.specs.Outcomes.{is_refused, stopped_at}
+use Rattle.aioscan_cmd.specs.Lengths.{HasLengths, HasNoLengths}
+use Rattle.aioscan_cmd.specs.Reading.{Seen, seen, Lists, reads_behind}
+use Rattle.aioscan_cmd.specs.Run.{Ran, EarlierFit, FitsInOrder, lengths_known}
 use Rattle.aioscan_cmd.specs.declared.report.Outcome.{Outcome}
-use Rattle.aioscan_cmd.specs.declared.report.Outcome.TheVariants.{Done, CannotOpen, NoMemory}
-use Rattle.aioscan_cmd.proofs.Growing.{GrewByPrefix-nothing}
-use Rattle.aioscan_cmd.proofs.OneBlock.{no_pages_read}
-use Rattle.aioscan_cmd.proofs.Composing.{ListsAll-same, ListsUpTo-same}
+use Rattle.aioscan_cmd.specs.declared.report.Outcome.TheVariants.{Done, Invalid, Usage, CannotOpen}
+use Rattle.aioscan_cmd.specs.declared.report.Outcome.TheVariants.{NoLength, Unread, CannotWrite}
+use Rattle.aioscan_cmd.specs.declared.report.Outcome.TheVariants.{NoMemory, Missing, TooLong}
+use Rattle.aioscan_cmd.proofs.Lists.{lists_nothing, lists_same}
 use Rattle.aioscan_cmd.proofs.Files.{requests_of-same}
 
--- a length that is above the limit, where nothing is told
-abbrev too_many : ℕ → ℕ
-too_many r = block_limit + 1
+-- lengths of which the one at r is the first that is too long
+abbrev long_at : ℕ → ℕ → ℕ
+long_at r q = cond (nat_lt q r) 0 (length_limit + 1)
 
-too_long_known : (told : Option Told) (r : ℕ) → IfSome told (λ t. block_limit < blocks_of t r)
-    → block_limit < lengths_known told too_many r
-too_long_known None r long = omega arith
-too_long_known (Some t) r long = long
+earlier_short : (r : ℕ) → EarlierFit (long_at r) r
+earlier_short r q below =
+    let e : nat_lt q r ≡ true = grind (arith, nat_tests) in rw e (omega arith)
 
--- no memory was to be had before a block was read
-no_memory_yet : (told : Option Told) (requests : List Request) (before after : Option (List ℕ))
-    → after ≡ before
-    → ListsUpTo told requests before after StopNoMemory
-no_memory_yet told requests before after same = record {
-  pages = [];
-  rest = requests;
-  read = no_pages_read told;
-  places = refl;
-  stopped = GrewByPrefix-nothing before after (listing (let none : List Page = [] in none)) same;
+long_here : (r : ℕ) → length_limit < long_at r r
+long_here r = let e : nat_lt r r ≡ false = grind (arith, nat_tests) in rw e (omega arith)
+
+earlier_known : (told : Option Told) (r : ℕ) → IfSome told (λ t. EarlierFit (blocks_of t) r)
+    → EarlierFit (lengths_known told (long_at r)) r
+earlier_known None r fit = earlier_short r
+earlier_known (Some t) r fit = fit
+
+long_known : (told : Option Told) (r : ℕ) → IfSome told (λ t. length_limit < blocks_of t r)
+    → length_limit < lengths_known told (long_at r) r
+long_known None r long = long_here r
+long_known (Some t) r long = long
+
+pub ran_out_of_memory : (told : Option Told) (relations : ℕ) (command : Command) (s : Seen)
+    → Ran told relations command s s NoMemory
+ran_out_of_memory told relations command s = record {
+  answered = long_at 0;
+  in_order = tt;
+  lists = λ is. lists_nothing _ _ s;
+  untouched = λ is. refl;
 }
 
-pub ran_out_of_memory : (told : Option Told) (relations : ℕ) (command : Command)
-    (before after : Option (List ℕ)) (reads now : ℕ) → after ≡ before
-    → Ran told relations command before after reads now NoMemory
-ran_out_of_memory told relations command before after reads now same = record {
-  answered = too_many;
-  lists = no_memory_yet told (requests_of (lengths_known told too_many) command) before after same;
-  fit = tt;
-  reads = λ done. absurd (cc);
+-- no disk was opened
+pub ran_without_disk : (told : Option Told) (relations : ℕ) (command : Command) (s : Seen)
+    → Ran told relations command s s CannotOpen
+ran_without_disk told relations command s = record {
+  answered = long_at 0;
+  in_order = tt;
+  lists = λ is. absurd (cc);
+  untouched = λ is. refl;
 }
 
-refused : (told : Option Told) (relations : ℕ) (command : Command) (before : Option (List ℕ))
-    (reads now faults_before faults_now : ℕ) (refusal : Refusal)
-    → HasNoLengths told relations faults_before faults_now refusal
-    → Ran told relations command before before reads now (outcome_without refusal)
-refused told relations command before reads now faults_before faults_now (RefusedNoLength r) has =
-    record {
-      answered = too_many;
-      lists = refl;
-      fit = (has.0, has.1);
-      reads = λ done. absurd (cc);
-    }
-refused told relations command before reads now faults_before faults_now (RefusedTooLong r) has =
-    record {
-      answered = too_many;
-      lists = refl;
-      fit = (has.0, has.1, too_long_known told r has.2);
-      reads = λ done. absurd (cc);
-    }
-refused told relations command before reads now faults_before faults_now RefusedNoMemory has =
-    ran_out_of_memory told relations command before before reads now refl
+-- the lengths could not be had
+pub ran_into_refusal : (told : Option Told) (relations : ℕ) (command : Command) (s : Seen)
+    (o : Outcome) → HasNoLengths told relations o → Ran told relations command s s o
+ran_into_refusal told relations command s (NoLength r) has = record {
+  answered = long_at r;
+  in_order = (has.0, earlier_known told r has.1);
+  lists = λ is. absurd (cc);
+  untouched = λ is. refl;
+}
+ran_into_refusal told relations command s (TooLong r) has = record {
+  answered = long_at r;
+  in_order = (has.0, long_known told r has.2, earlier_known told r has.1);
+  lists = λ is. absurd (cc);
+  untouched = λ is. refl;
+}
+ran_into_refusal told relations command s NoMemory has = ran_out_of_memory told relations command s
+ran_into_refusal told relations command s Done has = absurd has
+ran_into_refusal told relations command s (Invalid r b) has = absurd has
+ran_into_refusal told relations command s (Missing r b) has = absurd has
+ran_into_refusal told relations command s (Unread r b) has = absurd has
+ran_into_refusal told relations command s Usage has = absurd has
+ran_into_refusal told relations command s CannotOpen has = absurd has
+ran_into_refusal told relations command s CannotWrite has = absurd has
 
-pub ran_into_refusal : (told : Option Told) (relations : ℕ) (command : Command)
-    (before : Option (List ℕ)) (reads now faults_before faults_now : ℕ)
-    (refusal : Refusal) (outcome : Outcome) → outcome ≡ outcome_without refusal
-    → HasNoLengths told relations faults_before faults_now refusal
-    → Ran told relations command before before reads now outcome
-ran_into_refusal told relations command before reads now faults_before faults_now refusal outcome is has =
-    rw is (refused told relations command before reads now faults_before faults_now refusal has)
-
--- the lengths fit, where they are told
+-- the lengths fit
 lengths_fit : (told : Option Told) (relations : ℕ) (lengths : List ℕ)
-    → HasLengths told relations lengths → FitBefore told relations
-lengths_fit None relations lengths has = tt
+    → HasLengths told relations lengths
+    → EarlierFit (lengths_known told (slice_index lengths)) relations
+lengths_fit None relations lengths has = λ q below. has.fit q
 lengths_fit (Some t) relations lengths has = λ q below.
     (let is : get_or lengths q 0 ≡ blocks_of t q = has.are q (omega (arith, has.all)) in
     omega (arith, has.fit q))
+
+fits_where_listed : (lengths : ℕ → ℕ) (relations : ℕ) (o : Outcome) → is_refused o ≡ false
+    → EarlierFit lengths relations → FitsInOrder lengths relations o
+fits_where_listed lengths relations Done is fit = fit
+fits_where_listed lengths relations (Invalid r b) is fit = fit
+fits_where_listed lengths relations (Missing r b) is fit = fit
+fits_where_listed lengths relations (Unread r b) is fit = fit
+fits_where_listed lengths relations CannotWrite is fit = fit
+fits_where_listed lengths relations NoMemory is fit = tt
+fits_where_listed lengths relations Usage is fit = tt
+fits_where_listed lengths relations CannotOpen is fit = tt
+fits_where_listed lengths relations (NoLength r) is fit = absurd (cc)
+fits_where_listed lengths relations (TooLong r) is fit = absurd (cc)
 
 same_requests : (told : Option Told) (relations : ℕ) (command : Command) (lengths : List ℕ)
     → relations ≡ length (relations_of command)
@@ -104,91 +115,86 @@ same_requests (Some t) relations command lengths all has =
     requests_of-same (slice_index lengths) (blocks_of t) command
     (λ r below. has.are r (omega (arith, has.all)))
 
--- all blocks were listed
-pub ran_to_the_end : (told now : Option Told) (relations : ℕ) (command : Command) (lengths : List ℕ)
-    (before after : Option (List ℕ)) (reads read : ℕ)
-    → now ≡ told → relations ≡ length (relations_of command) → HasLengths told relations lengths
-    → ListsAll now (requests_of (slice_index lengths) command) before after
-    → read ≡ raised_by (length (requests_of (slice_index lengths) command)) reads
-    → Ran told relations command before after reads read Done
-ran_to_the_end told now relations command lengths before after reads read same all has lists made =
+refused_not : (o : Outcome) → is_refused o ≡ false → is_refused o ≡ true → ⊥
+refused_not o not is = absurd (cc)
+
+-- blocks were listed, all of them or up to a stop
+pub ran_listed : (told now : Option Told) (relations : ℕ) (command : Command) (lengths : List ℕ)
+    (b a : Seen) (o : Outcome) → now ≡ told → relations ≡ length (relations_of command)
+    → HasLengths told relations lengths
+    → Lists (reader_of now) (requests_of (slice_index lengths) command) b a o
+    → Ran told relations command b a o
+ran_listed told now relations command lengths b a o same all has lists =
     let requests = same_requests told relations command lengths all has in record {
       answered = slice_index lengths;
-      lists = ListsAll-same told _ _ before after requests (rw (← same) lists);
-      fit = lengths_fit told relations lengths has;
-      reads = λ done. made ∙ ap (λ (l : List Request). raised_by (length l) reads) requests;
+      in_order =
+          fits_where_listed _ relations o lists.begun (lengths_fit told relations lengths has);
+      lists = λ is. lists_same (reader_of told) _ _ b a o requests (rw (← same) lists);
+      untouched = λ is. absurd (refused_not o lists.begun is);
     }
 
-stopped : (told : Option Told) (relations : ℕ) (command : Command) (lengths : List ℕ)
-    (before after : Option (List ℕ)) (reads read : ℕ) (stop : Stop)
-    → HasLengths told relations lengths
-    → ListsUpTo told
-    (requests_of (lengths_known told (slice_index lengths)) command) before after stop
-    → Ran told relations command before after reads read (outcome_by stop)
-stopped told relations command lengths before after reads read (StopInvalid r b) has lists =
-    record {
-      answered = slice_index lengths;
-      lists = lists;
-      fit = lengths_fit told relations lengths has;
-      reads = λ done. absurd (cc);
-    }
-stopped told relations command lengths before after reads read (StopMissing r b) has lists =
-    record {
-      answered = slice_index lengths;
-      lists = lists;
-      fit = lengths_fit told relations lengths has;
-      reads = λ done. absurd (cc);
-    }
-stopped told relations command lengths before after reads read (StopUnread r b) has lists = record {
-  answered = slice_index lengths;
-  lists = lists;
-  fit = lengths_fit told relations lengths has;
-  reads = λ done. absurd (cc);
-}
-stopped told relations command lengths before after reads read StopCannotWrite has lists = record {
-  answered = slice_index lengths;
-  lists = lists;
-  fit = lengths_fit told relations lengths has;
-  reads = λ done. absurd (cc);
-}
-stopped told relations command lengths before after reads read StopNoMemory has lists = record {
-  answered = slice_index lengths;
-  lists = lists;
-  fit = tt;
-  reads = λ done. absurd (cc);
+raised_twice : (n before middle now read : ℕ) → read ≡ raised_by n 0 → now ≡ raised_by read before
+    → now ≡ raised_by n before
+raised_twice n before middle now read first second = omega arith
+
+shelf_lists : (told : Option Told) (requests : List Request) (output after : Option (List ℕ))
+    (read reads now : ℕ) (o : Outcome) → now ≡ raised_by read reads
+    → Lists (reader_of told) requests (seen output 0) (seen after read) o
+    → Lists (reader_of told) requests (seen output reads) (seen after now) o
+shelf_lists told requests output after read reads now o back lists = record {
+  begun = lists.begun;
+  text = lists.text;
+  answer = lists.answer;
+  here = lists.here;
+  grew = lists.grew;
+  reads =
+      raised_twice (length lists.answer.pages + reads_behind (stopped_at o)) reads 0 now read
+      lists.reads back;
 }
 
--- listing stopped at a block, or behind one
-pub ran_into_stop : (told now : Option Told) (relations : ℕ) (command : Command) (lengths : List ℕ)
-    (before after : Option (List ℕ)) (reads read : ℕ)
-    (stop : Stop) (outcome : Outcome) → outcome ≡ outcome_by stop → now ≡ told
-    → relations ≡ length (relations_of command)
-    → HasLengths told relations lengths
-    → ListsUpTo now (requests_of (slice_index lengths) command) before after stop
-    → Ran told relations command before after reads read outcome
-ran_into_stop told now relations command lengths before after reads read stop outcome is same all has lists =
-    rw is (stopped told relations command lengths before after reads read stop has
-    (ListsUpTo-same told _ _ before after stop
-    (same_requests told relations command lengths all has) (rw (← same) lists)))
-
--- no disk was opened
-pub ran_without_disk : (told : Option Told) (relations : ℕ) (command : Command)
-    (before : Option (List ℕ)) (reads now : ℕ)
-    → Ran told relations command before before reads now CannotOpen
-ran_without_disk told relations command before reads now =
-    record { answered = too_many; lists = refl; fit = tt; reads = λ done. absurd (cc) }
+shelf_untouched : (output after : Option (List ℕ)) (read reads now : ℕ)
+    → now ≡ raised_by read reads → seen after read ≡ seen output 0
+    → seen after now ≡ seen output reads
+shelf_untouched output after read reads now back same =
+    let none : read ≡ 0 = ap (λ (s : Seen). s.reads) same in
+    let kept : now ≡ reads = omega (arith, back, none) in
+    let output_same : after ≡ output = ap (λ (s : Seen). s.written) same in
+    rw (kept, output_same) refl
 
 -- a disk that was not read before is taken back
 pub ran_on_shelf : (told now : Option Told) (relations count : ℕ) (command : Command)
-    (before after : Option (List ℕ))
-    (disk_reads disk_read reads read : ℕ) (outcome : Outcome) → now ≡ told → count ≡ relations
-    → disk_reads ≡ 0 → read ≡ raised_by disk_read reads
-    → Ran now count command before after disk_reads disk_read outcome
-    → Ran told relations command before after reads read outcome
-ran_on_shelf told now relations count command before after disk_reads disk_read reads read outcome same all fresh back ran =
+    (output after : Option (List ℕ)) (fresh read reads total : ℕ) (o : Outcome) → now ≡ told
+    → count ≡ relations → fresh ≡ 0 → total ≡ raised_by read reads
+    → Ran now count command (seen output fresh) (seen after read) o
+    → Ran told relations command (seen output reads) (seen after total) o
+ran_on_shelf told now relations count command output after fresh read reads total o same all none back ran =
+    let P : ℕ → Type 0 = λ n. Ran now count command (seen output n) (seen after read) o in
+    let run = subst P none ran in
     rw (← same, ← all) (record {
-      answered = ran.answered;
-      lists = ran.lists;
-      fit = ran.fit;
-      reads = λ done. (let made = ran.reads done in omega arith);
+      answered = run.answered;
+      in_order = run.in_order;
+      lists = λ is. shelf_lists now _ output after read reads total o back (run.lists is);
+      untouched = λ is. shelf_untouched output after read reads total back (run.untouched is);
     })
+
+-- a run that read nothing, where the count of reads stayed
+pub ran_still : (told : Option Told) (relations : ℕ) (command : Command)
+    (output : Option (List ℕ)) (reads now : ℕ) (o : Outcome) → now ≡ reads
+    → Ran told relations command (seen output reads) (seen output reads) o
+    → Ran told relations command (seen output reads) (seen output now) o
+ran_still told relations command output reads now o same ran =
+    let P : ℕ → Type 0 = λ n. Ran told relations command (seen output reads) (seen output n) o in
+    subst P (sym same) ran
+
+-- blocks listed by the same lengths, behind calls that read nothing
+pub lists_from : (told : Option Told) (lengths same : List ℕ) (command : Command)
+    (output : Option (List ℕ)) (reads fresh : ℕ) (a : Seen) (o : Outcome) → same ≡ lengths
+    → fresh ≡ reads
+    → Lists (reader_of told) (requests_of (slice_index same) command) (seen output fresh) a o
+    → Lists (reader_of told) (requests_of (slice_index lengths) command) (seen output reads) a o
+lists_from told lengths same command output reads fresh a o is kept lists =
+    let P : List ℕ → Type 0 = λ l.
+    Lists (reader_of told) (requests_of (slice_index l) command) (seen output reads) a o in
+    let Q : ℕ → Type 0 = λ n.
+    Lists (reader_of told) (requests_of (slice_index same) command) (seen output n) a o in
+    subst P is (subst Q kept lists)

@@ -1,5 +1,5 @@
 -- FILE words that are listed one after the other.
-use Rattle.std.proofs.Common.{◌≡◌, ℕ, ◌+◌, ◌<◌, ◌≤◌, List, [], ◌∷◌, ◌++◌, map, take, drop, length}
+use Rattle.std.proofs.Common.{◌≡◌, ◌≢◌, ℕ, ◌+◌, ◌<◌, ◌≤◌, List, [], ◌∷◌, ◌++◌, map, take, drop, length}
 use Rattle.std.proofs.Common.{get_or, refl, sym, ap, ◌∙◌, subst, arith, zero, suc, Bool, true}
 use Rattle.std.proofs.Common.{false, ◌||◌, cond, length-append, append-nil}
 use Rattle.std.specs.Prelude.{Option, string_bytes, String}
@@ -10,16 +10,16 @@ use Rattle.std.proofs.lemmas.Slice.Eq.{bytes_eq-Decides}
 use Rattle.std.proofs.lemmas.Grind.{flat_map-append}
 use Rattle.std.proofs.lemmas.List.{take_more, take_all, take-append-drop, length-map, get_or-map}
 use Rattle.std.proofs.lemmas.List.Concat.{flat_map-cons}
-use Rattle.std.proofs.lemmas.List.FromFn.{length-map-range_with_len}
 use Rattle.std.proofs.lemmas.List.Folds.{list_any-append}
 use Rattle.page_check.specs.Told.{Told}
-use Rattle.aio_disk.specs.Counts.{raised_by}
-use Rattle.aioscan_cmd.specs.declared.lister.Stop.{Stop}
+use Rattle.page_check.specs.SynchronousAnswer.{reader_of}
+use Rattle.aioscan_cmd.specs.declared.report.Outcome.{Outcome}
+use Rattle.aioscan_cmd.specs.declared.report.Outcome.TheVariants.{Done}
 use Rattle.aioscan_cmd.specs.Command.{Command, with_name, relations_of, relation_number}
-use Rattle.aioscan_cmd.specs.RequestList.{Request, request, block_range, first_block, asked_count}
+use Rattle.aioscan_cmd.specs.RequestList.{Request, block_range, first_block, asked_count}
 use Rattle.aioscan_cmd.specs.RequestList.{requests_of_file, requests_of}
-use Rattle.aioscan_cmd.specs.Reading.{ListsAll, ListsUpTo}
-use Rattle.aioscan_cmd.proofs.Composing.{ListsAll-append, ListsUpTo-append, ListsUpTo-more}
+use Rattle.aioscan_cmd.specs.Reading.{Seen, Lists}
+use Rattle.aioscan_cmd.proofs.Lists.{lists_append, lists_more, lists_same}
 
 -- what the first k FILE words add
 abbrev pub requests_up_to : ℕ → (ℕ → ℕ) → Command → List Request
@@ -55,65 +55,34 @@ requests_up_to-rest lengths command k =
     ap (flat_map F) (sym (take-append-drop k command.files))
     ∙ flat_map-append F (take k command.files) (drop k command.files)
 
-pub length-requests_of_file : (lengths : ℕ → ℕ) (command : Command) (name : List ℕ)
-    → length (requests_of_file lengths command name)
-    ≡ asked_count command (lengths (relation_number name (relations_of command)))
-length-requests_of_file lengths command name =
-    length-map-range_with_len (request (relation_number name (relations_of command)))
-    (first_block command)
-    (asked_count command (lengths (relation_number name (relations_of command))))
-
 -- the next FILE word was listed
-pub ListsAll-file : (told now : Option Told) (lengths : ℕ → ℕ) (command : Command) (k : ℕ)
-    (name : List ℕ) (b m a : Option (List ℕ))
-    → now ≡ told → k < length command.files → get_or command.files k [] ≡ name
-    → ListsAll told (requests_up_to k lengths command) b m
-    → ListsAll now (requests_of_file lengths command name) m a
-    → ListsAll told (requests_up_to (k + 1) lengths command) b a
-ListsAll-file told now lengths command k name b m a same below is front here =
-    let P : List Request → Type 0 = λ l. ListsAll told l b a in
-    subst P (sym (requests_up_to-more lengths command k name below is))
-    (ListsAll-append told (requests_up_to k lengths command)
-    (requests_of_file lengths command name) b m a front (rw (← same) here))
+pub lists_file : (told now : Option Told) (lengths : ℕ → ℕ) (command : Command) (k : ℕ)
+    (name : List ℕ) (b m a : Seen) → now ≡ told → k < length command.files
+    → get_or command.files k [] ≡ name
+    → Lists (reader_of told) (requests_up_to k lengths command) b m Done
+    → Lists (reader_of now) (requests_of_file lengths command name) m a Done
+    → Lists (reader_of told) (requests_up_to (k + 1) lengths command) b a Done
+lists_file told now lengths command k name b m a same below is front here =
+    lists_same (reader_of told) _ _ b a Done
+    (sym (requests_up_to-more lengths command k name below is))
+    (lists_append (reader_of told) (requests_up_to k lengths command)
+    (requests_of_file lengths command name) b m a Done front (rw (← same) here))
 
 -- the next FILE word ended it
-pub ListsUpTo-file : (told now : Option Told) (lengths : ℕ → ℕ) (command : Command) (k : ℕ)
-    (name : List ℕ) (b m a : Option (List ℕ)) (stop : Stop)
-    → now ≡ told → k < length command.files → get_or command.files k [] ≡ name
-    → ListsAll told (requests_up_to k lengths command) b m
-    → ListsUpTo now (requests_of_file lengths command name) m a stop
-    → ListsUpTo told (requests_of lengths command) b a stop
-ListsUpTo-file told now lengths command k name b m a stop same below is front here =
-    let more = ListsUpTo-append told (requests_up_to k lengths command)
-    (requests_of_file lengths command name) b m a stop front (rw (← same) here) in
-    let P : List Request → Type 0 = λ l. ListsUpTo told l b a stop in
+pub file_stopped : (told now : Option Told) (lengths : ℕ → ℕ) (command : Command) (k : ℕ)
+    (name : List ℕ) (b m a : Seen) (o : Outcome) → now ≡ told → k < length command.files
+    → get_or command.files k [] ≡ name → o ≢ Done
+    → Lists (reader_of told) (requests_up_to k lengths command) b m Done
+    → Lists (reader_of now) (requests_of_file lengths command name) m a o
+    → Lists (reader_of told) (requests_of lengths command) b a o
+file_stopped told now lengths command k name b m a o same below is stops front here =
+    let more = lists_append (reader_of told) (requests_up_to k lengths command)
+    (requests_of_file lengths command name) b m a o front (rw (← same) here) in
+    let P : List Request → Type 0 = λ l. Lists (reader_of told) l b a o in
     subst P (sym (requests_up_to-rest lengths command (k + 1)))
-    (ListsUpTo-more told (requests_up_to (k + 1) lengths command)
-    (flat_map (requests_of_file lengths command) (drop (k + 1) command.files)) b a stop
+    (lists_more (reader_of told) (requests_up_to (k + 1) lengths command)
+    (flat_map (requests_of_file lengths command) (drop (k + 1) command.files)) b a o stops
     (subst P (sym (requests_up_to-more lengths command k name below is)) more))
-
--- reads that come on top of one another
-pub raised_by-raised_by : (n m before : ℕ)
-    → raised_by m (raised_by n before) ≡ raised_by (n + m) before
-raised_by-raised_by n m before = omega arith
-
-pub reads_of_file : (lengths : ℕ → ℕ) (command : Command) (k : ℕ) (name : List ℕ)
-    (before middle now : ℕ) → k < length command.files
-    → get_or command.files k [] ≡ name
-    → middle ≡ raised_by (length (requests_up_to k lengths command)) before
-    → (count : ℕ)
-    → count ≡ asked_count command (lengths (relation_number name (relations_of command)))
-    → now ≡ raised_by count middle
-    → now ≡ raised_by (length (requests_up_to (k + 1) lengths command)) before
-reads_of_file lengths command k name before middle now below is front count count_is here =
-    let size : length (requests_up_to (k + 1) lengths command)
-    ≡ length (requests_up_to k lengths command) + count =
-    ap length (requests_up_to-more lengths command k name below is)
-    ∙ length-append (requests_up_to k lengths command) (requests_of_file lengths command name)
-    ∙ ap (λ (n : ℕ). length (requests_up_to k lengths command) + n)
-    (length-requests_of_file lengths command name ∙ sym count_is) in
-    let both = raised_by-raised_by (length (requests_up_to k lengths command)) count before in
-    here ∙ ap (raised_by count) front ∙ both ∙ ap (λ (n : ℕ). raised_by n before) (sym size)
 
 -- whether a name is among others
 abbrev known : List ℕ → List (List ℕ) → Bool
@@ -217,12 +186,11 @@ pub range_of_file : (lengths : ℕ → ℕ) (command : Command) (name text : Lis
     → text ≡ name → names ≡ relations_of command → number ≡ relation_number text names
     → first ≡ first_block command
     → count ≡ asked_count command (lengths number)
-    → (requests_of_file lengths command name ≡ block_range number first count)
-    × (count ≡ asked_count command (lengths (relation_number name (relations_of command))))
+    → requests_of_file lengths command name ≡ block_range number first count
 range_of_file lengths command name text names number first count text_is names_are number_is first_is count_is =
     let n : number ≡ relation_number name (relations_of command) =
     rw (← text_is, ← names_are) number_is in
-    (rw (first_is, count_is, n) refl, rw (← n) count_is)
+    rw (first_is, count_is, n) refl
 
 flat_map-same : {X A : Type 0} (F G : X → List A) (d : X) (xs : List X)
     → ((k : ℕ) → k < length xs → F (get_or xs k d) ≡ G (get_or xs k d))

@@ -2,11 +2,11 @@ pub mod Numbers
 pub mod Names
 pub mod MoreLengths
 pub mod Growing
+pub mod Lists
 pub mod OneBlock
-pub mod Composing
+pub mod Causing
 pub mod Ranges
 pub mod Files
 pub mod EndOfRun
-pub mod Promises
-pub mod MorePromises
 pub mod TopClauses
+pub mod Rows

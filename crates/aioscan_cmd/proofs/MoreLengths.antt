@@ -3,7 +3,7 @@ use Rattle.std.proofs.Common.{◌≡◌, ℕ, zero, suc, ◌+◌, ◌<◌, ◌�
 use Rattle.std.proofs.Common.{arith, length-append, ◌∙◌, sym, ap}
 use Rattle.std.specs.Prelude.{Option, Some, None, IfSome}
 use Rattle.page_check.specs.Told.{Told, blocks_of}
-use Rattle.aioscan_cmd.specs.Command.{block_limit}
+use Rattle.aioscan_cmd.specs.Command.{length_limit}
 use Rattle.aioscan_cmd.specs.Lengths.{HasLengths, AreLengths}
 
 fit_more : (limit : ℕ) (lengths : List ℕ) (n : ℕ) → ((r : ℕ) → get_or lengths r 0 ≤ limit)
@@ -35,10 +35,10 @@ are_told (Some t) lengths r n all are last =
 
 pub HasLengths-more : (told now : Option Told) (lengths more : List ℕ) (r n : ℕ) → now ≡ told
     → HasLengths told r lengths
-    → IfSome now (λ t. n ≡ blocks_of t r) → n ≤ block_limit → more ≡ lengths ++ n ∷ []
+    → IfSome now (λ t. n ≡ blocks_of t r) → n ≤ length_limit → more ≡ lengths ++ n ∷ []
     → HasLengths told (r + 1) more
 HasLengths-more told now lengths more r n same taken last small is = rw is (record {
   all = omega (arith, length-append lengths (n ∷ []), taken.all);
-  fit = fit_more block_limit lengths n taken.fit small;
+  fit = fit_more length_limit lengths n taken.fit small;
   are = are_told told lengths r n taken.all taken.are (rw (← same) last);
 })

@@ -7,7 +7,7 @@ use Rattle.std.specs.Str.Parse.{digits_value, ParsesUnsigned}
 use Rattle.std.proofs.lemmas.Str.Parse.{IsNumeralModel, numerals_by_value, parse_gives}
 use Rattle.std.proofs.lemmas.Str.Parse.{digits_value_short}
 use Rattle.std.proofs.lemmas.Bool.Decides.{nat_tests}
-use Rattle.aioscan_cmd.specs.Command.{block_limit}
+use Rattle.aioscan_cmd.specs.Command.{number_limit}
 use Rattle.aioscan_cmd.specs.Words.{is_number, block_number}
 
 abbrev AreDigits : List ℕ → Type 0
@@ -31,15 +31,15 @@ parse_number word r parsed number =
     parse_gives numerals 32 word r parsed parts.0 parts.1 (omega arith)
 
 pub block_number-small : (word : List ℕ) (n : ℕ) → is_number word ≡ true → n ≡ digits_value 10 word
-    → n < block_limit
+    → n < number_limit
     → block_number word ≡ Some n
 block_number-small word n number is below =
-    let small : nat_lt (digits_value 10 word) block_limit ≡ true = grind (arith, nat_tests) in
+    let small : nat_lt (digits_value 10 word) number_limit ≡ true = grind (arith, nat_tests) in
     rw (number, small, ← is) refl
 
 pub block_number-large : (word : List ℕ) (n : ℕ) → is_number word ≡ true → n ≡ digits_value 10 word
-    → block_limit ≤ n
+    → number_limit ≤ n
     → block_number word ≡ None
 block_number-large word n number is above =
-    let large : nat_lt (digits_value 10 word) block_limit ≡ false = grind (arith, nat_tests) in
+    let large : nat_lt (digits_value 10 word) number_limit ≡ false = grind (arith, nat_tests) in
     rw (number, large) refl

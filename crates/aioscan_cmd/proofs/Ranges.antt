@@ -1,15 +1,17 @@
 -- A range of blocks that is listed block by block.
-use Rattle.std.proofs.Common.{◌≡◌, ℕ, ◌+◌, ◌-◌, ◌<◌, ◌≤◌, List, [], ◌∷◌, ◌++◌, map, refl, sym, ap}
+use Rattle.std.proofs.Common.{◌≡◌, ◌≢◌, ℕ, ◌+◌, ◌-◌, ◌<◌, ◌≤◌, List, [], ◌∷◌, ◌++◌, map, refl, sym, ap}
 use Rattle.std.proofs.Common.{◌∙◌, subst, arith, zero, suc}
 use Rattle.std.specs.Prelude.{Option}
 use Rattle.std.specs.List.{range_with_len}
 use Rattle.std.proofs.lemmas.List.{map-append}
 use Rattle.std.proofs.lemmas.List.FromFn.{map-range_with_len_more}
 use Rattle.page_check.specs.Told.{Told}
-use Rattle.aioscan_cmd.specs.declared.lister.Stop.{Stop}
+use Rattle.page_check.specs.SynchronousAnswer.{reader_of}
+use Rattle.aioscan_cmd.specs.declared.report.Outcome.{Outcome}
+use Rattle.aioscan_cmd.specs.declared.report.Outcome.TheVariants.{Done}
 use Rattle.aioscan_cmd.specs.RequestList.{Request, request, block_range}
-use Rattle.aioscan_cmd.specs.Reading.{ListsAll, ListsUpTo}
-use Rattle.aioscan_cmd.proofs.Composing.{ListsAll-append, ListsUpTo-append, ListsUpTo-more}
+use Rattle.aioscan_cmd.specs.Reading.{Seen, Lists}
+use Rattle.aioscan_cmd.proofs.Lists.{lists_append, lists_more}
 
 range_split : (first k n : ℕ) → k ≤ n
     → range_with_len first n ≡ range_with_len first k ++ range_with_len (first + k) (n - k)
@@ -39,25 +41,26 @@ block_range-rest r first k n within =
     ∙ map-append (request r) (range_with_len first k) (range_with_len (first + k) (n - k))
 
 -- the next block was listed
-pub ListsAll-next : (told now : Option Told) (r first k : ℕ) (b m a : Option (List ℕ)) → now ≡ told
-    → ListsAll told (block_range r first k) b m → ListsAll now (request r (first + k) ∷ []) m a
-    → ListsAll told (block_range r first (k + 1)) b a
-ListsAll-next told now r first k b m a same front here =
+pub lists_next : (told now : Option Told) (r first k : ℕ) (b m a : Seen) → now ≡ told
+    → Lists (reader_of told) (block_range r first k) b m Done
+    → Lists (reader_of now) (request r (first + k) ∷ []) m a Done
+    → Lists (reader_of told) (block_range r first (k + 1)) b a Done
+lists_next told now r first k b m a same front here =
     rw block_range-more
-    (ListsAll-append told (block_range r first k) (request r (first + k) ∷ []) b m a front
-    (rw (← same) here))
+    (lists_append (reader_of told) (block_range r first k) (request r (first + k) ∷ []) b m a Done
+    front (rw (← same) here))
 
 -- the next block ended it
-pub ListsUpTo-next : (told now : Option Told) (r first k n : ℕ) (b m a : Option (List ℕ))
-    (stop : Stop) → now ≡ told → k < n
-    → ListsAll told (block_range r first k) b m
-    → ListsUpTo now (request r (first + k) ∷ []) m a stop
-    → ListsUpTo told (block_range r first n) b a stop
-ListsUpTo-next told now r first k n b m a stop same below front here =
-    let more = ListsUpTo-append told (block_range r first k)
-    (request r (first + k) ∷ []) b m a stop front (rw (← same) here) in
-    let P : List Request → Type 0 = λ l. ListsUpTo told l b a stop in
+pub lists_stopped : (told now : Option Told) (r first k n : ℕ) (b m a : Seen) (o : Outcome)
+    → now ≡ told → k < n → o ≢ Done
+    → Lists (reader_of told) (block_range r first k) b m Done
+    → Lists (reader_of now) (request r (first + k) ∷ []) m a o
+    → Lists (reader_of told) (block_range r first n) b a o
+lists_stopped told now r first k n b m a o same below stops front here =
+    let more = lists_append (reader_of told) (block_range r first k)
+    (request r (first + k) ∷ []) b m a o front (rw (← same) here) in
+    let P : List Request → Type 0 = λ l. Lists (reader_of told) l b a o in
     subst P (sym (block_range-rest r first (k + 1) n (omega arith)))
-    (ListsUpTo-more told (block_range r first (k + 1))
-    (block_range r (first + (k + 1)) (n - (k + 1))) b a stop
+    (lists_more (reader_of told) (block_range r first (k + 1))
+    (block_range r (first + (k + 1)) (n - (k + 1))) b a o stops
     (subst P (sym (block_range-more r first k)) more))

@@ -1,103 +1,255 @@
--- The clauses of the top call, from how the run ended.
-use Rattle.std.proofs.Common.{◌≡◌, ◌≢◌, ◌⊎◌, ◌↔◌, ℕ, List, length, refl}
-use Rattle.std.specs.Prelude.{Option, Some, None, IfSome}
-use Rattle.page_check.specs.Told.{blocks_of}
-use Rattle.aio_disk.specs.Counts.{raised_by}
+-- What the top call promises over a shelf that tells, from how the run ended.
+use Rattle.std.proofs.Common.{◌≡◌, ◌≢◌, ◌↔◌, ℕ, ◌<◌, ◌≤◌, List, ◌++◌, length, take, refl, sym, ap}
+use Rattle.std.proofs.Common.{◌∙◌, arith, inl, inr, length-append, true}
+use Rattle.std.specs.Prelude.{Option, Some, None, IfSome, slice_get}
+use Rattle.std.proofs.Math.Seq.{take-append_seam}
+use Rattle.std.proofs.lemmas.Bool.{cases_lt}
+use Rattle.page_check.specs.Told.{Told, blocks_of}
+use Rattle.page_check.specs.SynchronousAnswer.{Found, Page as FoundPage, Damaged, Absent, Reader}
+use Rattle.page_check.specs.SynchronousAnswer.{End, PastEnd, Invalid as EndsInvalid}
+use Rattle.page_check.specs.SynchronousAnswer.{found_at, found_for, pages_of, stop_of, ending_in}
+use Rattle.page_check.specs.SynchronousAnswer.{ending_at}
+use Rattle.page_check.proofs.AnswersOfLists.{all_given, stop_of-length}
+use Rattle.heap_scan.specs.Listing.{listing}
+use Rattle.heap_scan.proofs.Jobs.{listing-append}
+use Rattle.aio_disk.specs.Counts.{ShelfCounts}
 use Rattle.aio_disk.specs.Shelf.{Files, told_of}
 use Rattle.aio_disk.specs.Sink.{GrewByPrefix}
-use Rattle.aioscan_cmd.specs.Command.{Command, relations_of}
-use Rattle.aioscan_cmd.specs.RequestList.{requests_of}
-use Rattle.aioscan_cmd.specs.Running.{RanOn, lengths_known}
-use Rattle.aioscan_cmd.specs.Outcomes.{IsRefused}
-use Rattle.aioscan_cmd.specs.Output.{OnTold, IsListed, StopsAtBlock, ListsUntold, listing_of}
-use Rattle.aioscan_cmd.specs.Causes.{ShelfCounts, HasCauses, IsExact, IsComplete}
-use Rattle.aioscan_cmd.specs.Order.{NamesRelation, FitsInOrder}
+use Rattle.aioscan_cmd.specs.Command.{Command, length_limit, relations_of}
+use Rattle.aioscan_cmd.specs.RequestList.{Request, request, requests_of}
+use Rattle.aioscan_cmd.specs.Outcomes.{is_refused}
+use Rattle.aioscan_cmd.specs.Reading.{Seen, Lists}
+use Rattle.aioscan_cmd.specs.Run.{SynchronousRun, run_of, OnTold, RanOn, Ran, Writes}
+use Rattle.aioscan_cmd.specs.Run.{EarlierFit, FitsInOrder, outcome_by, outcome_at}
+use Rattle.aioscan_cmd.specs.Causes.{HasCauses, IsExact, IsComplete}
 use Rattle.aioscan_cmd.specs.declared.report.Outcome.{Outcome}
-use Rattle.aioscan_cmd.specs.declared.report.Outcome.TheVariants.{Done, Usage, CannotWrite}
-use Rattle.aioscan_cmd.specs.declared.report.Outcome.TheVariants.{NoMemory}
-use Rattle.aioscan_cmd.proofs.Promises.{on_told, listed, stopped, cut_short}
-use Rattle.aioscan_cmd.proofs.MorePromises.{on_command, untold, names_relation, fits_in_order}
-use Rattle.aioscan_cmd.proofs.MorePromises.{exact, complete, refused_untouched}
+use Rattle.aioscan_cmd.specs.declared.report.Outcome.TheVariants.{Done, Invalid, Usage, CannotOpen}
+use Rattle.aioscan_cmd.specs.declared.report.Outcome.TheVariants.{NoLength, Unread, CannotWrite}
+use Rattle.aioscan_cmd.specs.declared.report.Outcome.TheVariants.{NoMemory, Missing, TooLong}
+use Rattle.aioscan_cmd.proofs.Growing.{Grew-same, GrewByPrefix-same, GrewByPrefix-more}
 
-module _ (files : Option Files) (command : Option Command) (b a : Option (List ℕ)) (rb rn : ℕ)
-    (outcome : Outcome)
-    (ran : IfSome command (λ c. RanOn files c b a rb rn outcome)) where
-  pub told_listed : OnTold files command (λ t n requests. outcome ≡ Done → IsListed t requests b a)
-  told_listed =
-      on_told files command b a rb rn outcome
-      (λ t n requests. outcome ≡ Done → IsListed t requests b a)
-      (λ t c r. listed t (requests_of (blocks_of t) c) b a outcome r.lists) ran
+-- the outcome where reading ends
+done_by : (f : Found) (r b block : ℕ) → ending_in f block ≡ End → outcome_by f r b ≡ Done
+done_by (FoundPage bytes) r b block is = refl
+done_by Damaged r b block is = absurd (cc)
+done_by Absent r b block is = absurd (cc)
 
-  pub told_stopped : OnTold files command (λ t n requests. StopsAtBlock t requests b a outcome)
-  told_stopped =
-      on_told files command b a rb rn outcome (λ t n requests. StopsAtBlock t requests b a outcome)
-      (λ t c r. stopped t (requests_of (blocks_of t) c) b a outcome r.lists) ran
+done_at : (f : Reader) (stop : Option Request) → ending_at f stop ≡ End
+    → outcome_at f stop ≡ Done
+done_at f None is = refl
+done_at f (Some e) is = done_by (found_for f e) e.relation e.block e.block is
 
-  pub told_prefix : OnTold files command
-      (λ t n requests. (outcome ≡ CannotWrite) ⊎ (outcome ≡ NoMemory)
-      → GrewByPrefix b a (listing_of t requests))
-  told_prefix =
-      on_told files command b a rb rn outcome
-      (λ t n requests. (outcome ≡ CannotWrite) ⊎ (outcome ≡ NoMemory)
-      → GrewByPrefix b a (listing_of t requests))
-      (λ t c r. cut_short t (requests_of (blocks_of t) c) b a outcome r.lists) ran
+invalid_by : (f : Found) (r b : ℕ) → ending_in f b ≡ EndsInvalid b → outcome_by f r b ≡ Invalid r b
+invalid_by (FoundPage bytes) r b is = absurd (cc)
+invalid_by Damaged r b is = refl
+invalid_by Absent r b is = absurd (cc)
 
-  pub told_exact : OnTold files command (λ t n requests. IsExact t n requests outcome)
-  told_exact =
-      on_told files command b a rb rn outcome (λ t n requests. IsExact t n requests outcome)
-      (λ t c r. exact t (length (relations_of c))
-      (requests_of (blocks_of t) c) b a outcome r.lists r.fit) ran
+missing_by : (f : Found) (r b : ℕ) → ending_in f b ≡ PastEnd b → outcome_by f r b ≡ Missing r b
+missing_by (FoundPage bytes) r b is = absurd (cc)
+missing_by Damaged r b is = absurd (cc)
+missing_by Absent r b is = refl
 
-  pub told_in_order : OnTold files command (λ t n requests. FitsInOrder t n outcome)
-  told_in_order =
-      on_told files command b a rb rn outcome (λ t n requests. FitsInOrder t n outcome)
-      (λ t c r. fits_in_order t (length (relations_of c)) outcome r.fit) ran
+-- a run over contents that are told: its pages are the first of synchronous reads
+module _ (f : Reader) (requests : List Request) (b a : Seen) (o : Outcome)
+    (lists : Lists (Some f) requests b a o) where
+  -- all of them
+  text_all : length lists.answer.pages ≡ length (pages_of f requests)
+      → lists.text ≡ listing (pages_of f requests)
+  text_all all =
+      lists.answer.text_is
+      ∙ ap listing (sym (all_given f requests lists.answer.pages lists.answer.answers.first all))
 
-  pub told_reads : OnTold files command
-      (λ t n requests. outcome ≡ Done → rn ≡ raised_by (length requests) rb)
-  told_reads =
-      on_told files command b a rb rn outcome
-      (λ t n requests. outcome ≡ Done → rn ≡ raised_by (length requests) rb)
-      (λ t c r. r.reads) ran
+  -- and reading stops behind them
+  stop_here : (e : Request) → slice_get requests (length lists.answer.pages) ≡ Some e
+      → length lists.answer.pages ≡ length (pages_of f requests) → stop_of f requests ≡ Some e
+  stop_here e here all =
+      stop_of-length f requests ∙ ap (slice_get requests) (sym all) ∙ here
 
-  pub any_untold : IfSome command (λ c. ListsUntold c b a rb rn outcome)
-  any_untold =
-      on_command files command b a rb rn outcome (λ c. ListsUntold c b a rb rn outcome)
-      (λ told c r. untold told c b a rb rn outcome r) ran
+  text_begins : GrewByPrefix b.written a.written lists.text
+      → GrewByPrefix b.written a.written (listing (pages_of f requests))
+  text_begins grew =
+      let rest = lists.answer.answers.first.0 in
+      let same : lists.text ++ listing rest ≡ listing (pages_of f requests) =
+      ap (λ (l : List ℕ). l ++ listing rest) lists.answer.text_is
+      ∙ sym (listing-append lists.answer.pages rest)
+      ∙ ap listing (sym lists.answer.answers.first.1) in
+      GrewByPrefix-same b.written a.written _ _ same
+      (GrewByPrefix-more b.written a.written lists.text (listing rest) grew)
 
-  pub any_named : IfSome command (λ c. NamesRelation (length (relations_of c)) outcome)
-  any_named =
-      on_command files command b a rb rn outcome
-      (λ c. NamesRelation (length (relations_of c)) outcome)
-      (λ told c r. names_relation told (lengths_known told r.answered)
-      (length (relations_of c)) outcome r.fit) ran
+  text_first : lists.text ≡ listing (take (length lists.answer.pages) (pages_of f requests))
+  text_first =
+      lists.answer.text_is
+      ∙ ap listing
+      (sym (ap (take (length lists.answer.pages)) lists.answer.answers.first.1
+      ∙ take-append_seam lists.answer.pages lists.answer.answers.first.0))
+
+  among : length lists.answer.pages ≤ length (pages_of f requests)
+  among =
+      omega (
+        arith,
+        ap length lists.answer.answers.first.1,
+        length-append lists.answer.pages lists.answer.answers.first.0,
+      )
+
+untouched_same : (b a : Seen) → a ≡ b → a.written ≡ b.written
+untouched_same b a same = ap (λ (s : Seen). s.written) same
+
+pub writes : (t : Told) (n : ℕ) (c : Command) (b a : Seen) (o : Outcome)
+    → Ran (Some t) n c b a o → Writes (run_of t c) b.written a.written o
+writes t n c b a Done ran =
+    let f = found_at t in
+    let requests = requests_of (blocks_of t) c in
+    let lists = ran.lists refl in
+    let end = lists.answer.answers.endings.0 in (
+      done_at f (stop_of f requests) end.1,
+      Grew-same b.written a.written _ _ (text_all f requests b a Done lists end.0) lists.grew,
+    )
+writes t n c b a (Invalid r k) ran =
+    let f = found_at t in
+    let requests = requests_of (blocks_of t) c in
+    let lists = ran.lists refl in
+    let end = lists.answer.answers.endings.0 in
+    let stop = stop_here f requests b a (Invalid r k) lists (request r k)
+    (lists.here (request r k) refl) end.0 in (
+      ap (outcome_at f) stop ∙ invalid_by (f r k) r k (sym (ap (ending_at f) stop) ∙ end.1),
+      Grew-same b.written a.written _ _ (text_all f requests b a (Invalid r k) lists end.0)
+          lists.grew,
+    )
+writes t n c b a (Missing r k) ran =
+    let f = found_at t in
+    let requests = requests_of (blocks_of t) c in
+    let lists = ran.lists refl in
+    let end = lists.answer.answers.endings.0 in
+    let stop = stop_here f requests b a (Missing r k) lists (request r k)
+    (lists.here (request r k) refl) end.0 in (
+      ap (outcome_at f) stop ∙ missing_by (f r k) r k (sym (ap (ending_at f) stop) ∙ end.1),
+      Grew-same b.written a.written _ _ (text_all f requests b a (Missing r k) lists end.0)
+          lists.grew,
+    )
+writes t n c b a (Unread r k) ran =
+    let f = found_at t in
+    let requests = requests_of (blocks_of t) c in
+    let lists = ran.lists refl in record {
+      k = length lists.answer.pages;
+      here = lists.here (request r k) refl;
+      among = among f requests b a (Unread r k) lists;
+      grew = Grew-same b.written a.written _ _ (text_first f requests b a (Unread r k) lists)
+          lists.grew;
+    }
+writes t n c b a CannotWrite ran =
+    let lists = ran.lists refl in
+    text_begins (found_at t) (requests_of (blocks_of t) c) b a CannotWrite lists lists.grew
+writes t n c b a NoMemory ran =
+    let lists = ran.lists refl in
+    text_begins (found_at t) (requests_of (blocks_of t) c) b a NoMemory lists lists.grew
+writes t n c b a Usage ran = untouched_same b a (ran.untouched refl)
+writes t n c b a CannotOpen ran = untouched_same b a (ran.untouched refl)
+writes t n c b a (NoLength r) ran = untouched_same b a (ran.untouched refl)
+writes t n c b a (TooLong r) ran = untouched_same b a (ran.untouched refl)
+
+-- the first relation that is too long is one alone
+first_too_long : (blocks : ℕ → ℕ) (q r : ℕ) → length_limit < blocks q → EarlierFit blocks q
+    → length_limit < blocks r → EarlierFit blocks r → q ≡ r
+first_too_long blocks q r long_q fit_q long_r fit_r = elim (cases_lt q r) [
+  | inl below ↦ absurd (let within = fit_r q below in omega arith)
+  | inr above ↦ elim (cases_lt r q) [
+    | inl under ↦ absurd (let within = fit_q r under in omega arith)
+    | inr equal ↦ omega arith
+  ]
+]
+
+pub exact : (t : Told) (n : ℕ) (c : Command) (o : Outcome) → n ≡ length (relations_of c)
+    → FitsInOrder (blocks_of t) n o → IsExact (run_of t c) o
+exact t n c Done same fits r below long fit usage opens lengths memory =
+    absurd (let within = fits r (omega (arith, same)) in omega arith)
+exact t n c (Invalid q k) same fits r below long fit usage opens lengths memory =
+    absurd (let within = fits r (omega (arith, same)) in omega arith)
+exact t n c (Missing q k) same fits r below long fit usage opens lengths memory =
+    absurd (let within = fits r (omega (arith, same)) in omega arith)
+exact t n c (Unread q k) same fits r below long fit usage opens lengths memory =
+    absurd (let within = fits r (omega (arith, same)) in omega arith)
+exact t n c CannotWrite same fits r below long fit usage opens lengths memory =
+    absurd (let within = fits r (omega (arith, same)) in omega arith)
+exact t n c NoMemory same fits r below long fit usage opens lengths memory = absurd (memory refl)
+exact t n c Usage same fits r below long fit usage opens lengths memory = absurd (usage refl)
+exact t n c CannotOpen same fits r below long fit usage opens lengths memory = absurd (opens refl)
+exact t n c (NoLength q) same fits r below long fit usage opens lengths memory =
+    absurd (lengths q refl)
+exact t n c (TooLong q) same fits r below long fit usage opens lengths memory =
+    ap TooLong (first_too_long (blocks_of t) q r fits.1 fits.2 long fit)
+
+pub complete : (run : SynchronousRun) (before now : ShelfCounts) (wb wn : ℕ)
+    (b a : Option (List ℕ)) (o : Outcome) → o ≢ Usage → HasCauses before now wb wn o
+    → FitsInOrder run.lengths run.relations o → Writes run b a o
+    → IsComplete run before now wb wn o
+complete run before now wb wn b a Done words causes fits writes opens lengths reads failed fit =
+    inl (sym writes.0)
+complete run before now wb wn b a (Invalid r k) words causes fits writes opens lengths reads failed fit =
+    inl (sym writes.0)
+complete run before now wb wn b a (Missing r k) words causes fits writes opens lengths reads failed fit =
+    inl (sym writes.0)
+complete run before now wb wn b a NoMemory words causes fits writes opens lengths reads failed fit =
+    inr refl
+complete run before now wb wn b a (Unread r k) words causes fits writes opens lengths reads failed fit =
+    absurd (reads (causes.unread r k refl))
+complete run before now wb wn b a CannotWrite words causes fits writes opens lengths reads failed fit =
+    absurd (failed (causes.cannot_write refl))
+complete run before now wb wn b a Usage words causes fits writes opens lengths reads failed fit =
+    absurd (words refl)
+complete run before now wb wn b a CannotOpen words causes fits writes opens lengths reads failed fit =
+    absurd (opens (causes.cannot_open refl))
+complete run before now wb wn b a (NoLength r) words causes fits writes opens lengths reads failed fit =
+    absurd (lengths (causes.no_length r refl))
+complete run before now wb wn b a (TooLong r) words causes fits writes opens lengths reads failed fit =
+    absurd (let within = fit r fits.0 in let long = fits.1 in omega arith)
+
+-- over a shelf that tells, what holds of each run holds of this one
+told_by : (told : Option Told) (c : Command) (b a : Seen) (o : Outcome)
+    (P : SynchronousRun → Type 0)
+    → ((t : Told) → Ran (Some t) (length (relations_of c)) c b a o → P (run_of t c))
+    → Ran told (length (relations_of c)) c b a o → IfSome told (λ t. P (run_of t c))
+told_by None c b a o P each ran = tt
+told_by (Some t) c b a o P each ran = each t ran
+
+pub on_told : (files : Option Files) (command : Option Command) (b a : Seen) (o : Outcome)
+    (P : SynchronousRun → Type 0)
+    → ((t : Told) (c : Command) → command ≡ Some c
+    → Ran (Some t) (length (relations_of c)) c b a o → P (run_of t c))
+    → RanOn files command b a o → OnTold files command P
+on_told files None b a o P each ran = tt
+on_told files (Some c) b a o P each ran =
+    told_by (told_of files (relations_of c)) c b a o P (λ t r. each t c refl r) ran
 
 -- words that are a command do not end in Usage
-not_usage : (command : Option Command) (c : Command) (outcome : Outcome)
-    → (outcome ≡ Usage) ↔ (command ≡ None) → command ≡ Some c → outcome ≢ Usage
-not_usage command c outcome usage some = λ is. (let none = usage.0 is in cc)
+not_usage : (command : Option Command) (c : Command) (o : Outcome)
+    → (o ≡ Usage) ↔ (command ≡ None) → command ≡ Some c → o ≢ Usage
+not_usage command c o usage some = λ is. (let none = usage.0 is in cc)
 
-pub told_complete : (files : Option Files) (command : Option Command) (b a : Option (List ℕ))
-    (rb rn : ℕ) (outcome : Outcome)
-    (before now : ShelfCounts) (wb wn : ℕ) → (outcome ≡ Usage) ↔ (command ≡ None)
-    → HasCauses before now wb wn outcome
-    → IfSome command (λ c. RanOn files c b a rb rn outcome)
-    → OnTold files command (λ t n requests. IsComplete t n requests before now wb wn outcome)
-told_complete files None b a rb rn outcome before now wb wn usage causes ran = tt
-told_complete files (Some k) b a rb rn outcome before now wb wn usage causes ran =
-    on_told files (Some k) b a rb rn outcome
-    (λ t n requests. IsComplete t n requests before now wb wn outcome)
-    (λ t c r. complete t (length (relations_of c))
-    (requests_of (blocks_of t) c) b a before now wb wn outcome
-    (not_usage (Some k) k outcome usage refl) causes r.lists r.fit) ran
+module _ (files : Option Files) (command : Option Command) (b a : Seen) (o : Outcome)
+    (ran : RanOn files command b a o) where
+  pub told_writes : OnTold files command (λ run. Writes run b.written a.written o)
+  told_writes =
+      on_told files command b a o (λ run. Writes run b.written a.written o)
+      (λ t c some r. writes t (length (relations_of c)) c b a o r) ran
 
-pub any_untouched : (files : Option Files) (command : Option Command) (b a : Option (List ℕ))
-    (rb rn : ℕ) (outcome : Outcome)
-    → (outcome ≡ Usage) ↔ (command ≡ None) → (outcome ≡ Usage → a ≡ b)
-    → IfSome command (λ c. RanOn files c b a rb rn outcome)
-    → IsRefused outcome → a ≡ b
-any_untouched files None b a rb rn outcome usage unread ran refused = unread (usage.1 refl)
-any_untouched files (Some c) b a rb rn outcome usage unread ran refused =
-    refused_untouched (told_of files (relations_of c))
-    (requests_of (lengths_known (told_of files (relations_of c)) ran.answered) c) b a outcome
-    (not_usage (Some c) c outcome usage refl) ran.lists refused
+  pub told_exact : OnTold files command (λ run. IsExact run o)
+  told_exact =
+      on_told files command b a o (λ run. IsExact run o)
+      (λ t c some r. exact t (length (relations_of c)) c o refl r.in_order) ran
+
+  pub told_complete : (before now : ShelfCounts) (wb wn : ℕ) → (o ≡ Usage) ↔ (command ≡ None)
+      → HasCauses before now wb wn o
+      → OnTold files command (λ run. IsComplete run before now wb wn o)
+  told_complete before now wb wn usage causes =
+      on_told files command b a o (λ run. IsComplete run before now wb wn o)
+      (λ t c some r.
+      complete (run_of t c) before now wb wn b.written a.written o
+      (not_usage command c o usage some) causes r.in_order
+      (writes t (length (relations_of c)) c b a o r)) ran
+
+pub any_untouched : (files : Option Files) (command : Option Command) (b a : Seen) (o : Outcome)
+    → (o ≡ Usage) ↔ (command ≡ None) → (o ≡ Usage → a.written ≡ b.written)
+    → RanOn files command b a o → is_refused o ≡ true → a.written ≡ b.written
+any_untouched files None b a o usage unread ran refused = unread (usage.1 refl)
+any_untouched files (Some c) b a o usage unread ran refused =
+    untouched_same b a (ran.untouched refused)

@@ -9,9 +9,13 @@ pub record Command : Type 0 where
   pub to : Option ℕ
   pub files : List (List ℕ)
 
+-- the numbers of blocks that `--from` and `--to` may give end below this
+abbrev pub number_limit : ℕ
+number_limit = 131072
+
 -- the most blocks that a relation may have: those of one segment file (`RELSEG_SIZE`)
-abbrev pub block_limit : ℕ
-block_limit = 131072
+abbrev pub length_limit : ℕ
+length_limit = 131072
 
 -- a block number that is given is below the limit
 abbrev pub IsBelow : Option ℕ → ℕ → Type 0

@@ -1,10 +1,12 @@
 -- The lengths of the relations, each taken and tested before the next.
 use Rattle.std.specs.Prelude.{◌≡◌, ℕ, ◌<◌, ◌≤◌, List, length, slice_index, Option, IfSome}
 use Rattle.page_check.specs.Told.{Told, blocks_of}
-use Rattle.aio_disk.specs.Counts.{Rose}
-use Rattle.aioscan_cmd.specs.Command.{block_limit}
-use Rattle.aioscan_cmd.specs.declared.lengths.Refusal.{Refusal}
-use Rattle.aioscan_cmd.specs.declared.lengths.Refusal.TheVariants.{NoLength, TooLong, NoMemory}
+use Rattle.aioscan_cmd.specs.Command.{length_limit}
+use Rattle.aioscan_cmd.specs.Run.{EarlierFit}
+use Rattle.aioscan_cmd.specs.declared.report.Outcome.{Outcome}
+use Rattle.aioscan_cmd.specs.declared.report.Outcome.TheVariants.{Done, Invalid, Usage, CannotOpen}
+use Rattle.aioscan_cmd.specs.declared.report.Outcome.TheVariants.{NoLength, Unread, CannotWrite}
+use Rattle.aioscan_cmd.specs.declared.report.Outcome.TheVariants.{NoMemory, Missing, TooLong}
 
 -- the lengths of the first relations, in order, where they are told
 abbrev pub AreLengths : Option Told → List ℕ → Type 0
@@ -14,17 +16,21 @@ AreLengths told lengths =
 -- a length for each relation, none too long
 pub record HasLengths (told : Option Told) (relations : ℕ) (lengths : List ℕ) : Type 0 where
   pub all : length lengths ≡ relations
-  pub fit : (r : ℕ) → slice_index lengths r ≤ block_limit
+  pub fit : (r : ℕ) → slice_index lengths r ≤ length_limit
   pub are : AreLengths told lengths
 
--- the relations before this one are not too long, where that is told
-abbrev pub FitBefore : Option Told → ℕ → Type 0
-FitBefore told r = IfSome told (λ t. (q : ℕ) → q < r → blocks_of t q ≤ block_limit)
-
 -- why they could not be had: each relation before the one that is named was tested
-abbrev pub HasNoLengths : Option Told → ℕ → ℕ → ℕ → Refusal → Type 0
-HasNoLengths told relations before now (NoLength r) =
-    (r < relations) × FitBefore told r × Rose before now
-HasNoLengths told relations before now (TooLong r) =
-    (r < relations) × FitBefore told r × IfSome told (λ t. block_limit < blocks_of t r)
-HasNoLengths told relations before now NoMemory = Unit {0}
+abbrev pub HasNoLengths : Option Told → ℕ → Outcome → Type 0
+HasNoLengths told relations (NoLength r) =
+    (r < relations) × IfSome told (λ t. EarlierFit (blocks_of t) r)
+HasNoLengths told relations (TooLong r) =
+    (r < relations) × IfSome told (λ t. EarlierFit (blocks_of t) r)
+    × IfSome told (λ t. length_limit < blocks_of t r)
+HasNoLengths told relations NoMemory = Unit {0}
+HasNoLengths told relations Done = ⊥
+HasNoLengths told relations (Invalid r b) = ⊥
+HasNoLengths told relations (Missing r b) = ⊥
+HasNoLengths told relations (Unread r b) = ⊥
+HasNoLengths told relations Usage = ⊥
+HasNoLengths told relations CannotOpen = ⊥
+HasNoLengths told relations CannotWrite = ⊥

@@ -2,11 +2,9 @@ pub mod Command
 pub mod Words
 pub mod RequestList
 pub mod Outcomes
-pub mod Output
-pub mod ErrorLine
+pub mod Reading
+pub mod Run
 pub mod Causes
-pub mod Order
+pub mod ErrorLine
 pub mod CommandWords
 pub mod Lengths
-pub mod Reading
-pub mod Running

@@ -1,6 +1,10 @@
 -- The exit status of an outcome, and the line that names it.
-use Rattle.std.specs.Prelude.{◌≡◌, ◌⊎◌, ℕ, List, [], ◌∷◌, codes, decimal}
+use Rattle.std.specs.Prelude.{◌≡◌, ℕ, List, [], ◌∷◌, codes, decimal, Bool, true, false}
+use Rattle.std.specs.Prelude.{Option, Some, None, Result, Ok, Err}
 use Rattle.std.specs.List.{concat}
+use Rattle.page_check.specs.SynchronousAnswer.{Ending, End, PastEnd, Invalid as EndsInvalid}
+use Rattle.page_check.specs.SynchronousAnswer.{Unread as EndsUnread}
+use Rattle.aioscan_cmd.specs.RequestList.{Request, request}
 use Rattle.aioscan_cmd.specs.declared.report.Outcome.{Outcome}
 use Rattle.aioscan_cmd.specs.declared.report.Outcome.TheVariants.{Done, Invalid, Usage, CannotOpen}
 use Rattle.aioscan_cmd.specs.declared.report.Outcome.TheVariants.{NoLength, Unread, CannotWrite}
@@ -35,8 +39,48 @@ line_of (Missing r b) =
 line_of (TooLong r) = concat (codes "relation " ∷ decimal r ∷ codes " is too long\n" ∷ [])
 
 -- the run was refused before any block was read
+abbrev pub is_refused : Outcome → Bool
+is_refused Usage = true
+is_refused CannotOpen = true
+is_refused (NoLength r) = true
+is_refused (TooLong r) = true
+is_refused Done = false
+is_refused (Invalid r b) = false
+is_refused (Missing r b) = false
+is_refused (Unread r b) = false
+is_refused CannotWrite = false
+is_refused NoMemory = false
+
 abbrev pub IsRefused : Outcome → Type 0
-IsRefused outcome =
-    (outcome ≡ Usage)
-    ⊎ ((outcome ≡ CannotOpen)
-    ⊎ (((r : ℕ) × (outcome ≡ NoLength r)) ⊎ ((r : ℕ) × (outcome ≡ TooLong r))))
+IsRefused outcome = is_refused outcome ≡ true
+
+-- the block that an outcome names
+abbrev pub stopped_at : Outcome → Option Request
+stopped_at (Invalid r b) = Some (request r b)
+stopped_at (Missing r b) = Some (request r b)
+stopped_at (Unread r b) = Some (request r b)
+stopped_at Done = None
+stopped_at Usage = None
+stopped_at CannotOpen = None
+stopped_at (NoLength r) = None
+stopped_at CannotWrite = None
+stopped_at NoMemory = None
+stopped_at (TooLong r) = None
+
+-- how the request list was answered by then
+abbrev pub ending_of : Outcome → Option Ending
+ending_of Done = Some End
+ending_of (Invalid r b) = Some (EndsInvalid b)
+ending_of (Missing r b) = Some (PastEnd b)
+ending_of (Unread r b) = Some (EndsUnread b)
+ending_of Usage = None
+ending_of CannotOpen = None
+ending_of (NoLength r) = None
+ending_of CannotWrite = None
+ending_of NoMemory = None
+ending_of (TooLong r) = None
+
+-- the outcome of a call that answers Ok where all was done
+abbrev pub outcome_in : Result (Unit {0}) Outcome → Outcome
+outcome_in (Ok u) = Done
+outcome_in (Err outcome) = outcome

@@ -1,8 +1,9 @@
 -- The blocks that a command asks for, in order.
-use Rattle.std.specs.Prelude.{ℕ, ◌+◌, ◌-◌, List, map, unwrap_or}
-use Rattle.std.specs.List.{flat_map, range_with_len}
+use Rattle.std.specs.Prelude.{ℕ, ◌+◌, ◌-◌, List, unwrap_or}
+use Rattle.std.specs.List.{flat_map}
 use Rattle.std.specs.Option.{option_map_or}
 use Rattle.page_check.specs.SynchronousAnswer.{Entry, Given}
+use Rattle.heap_scan.specs.Job.{block_entry, job_entries}
 use Rattle.aioscan_cmd.specs.Command.{Command, relations_of, relation_number}
 
 -- a block of a relation
@@ -10,7 +11,7 @@ abbrev pub Request : Type 0
 Request = Entry (Unit {0})
 
 abbrev pub request : ℕ → ℕ → Request
-request r b = record { relation = r; block = b; per_buffer_data = tt }
+request r b = block_entry r b
 
 -- a page that was given for a request
 abbrev pub Page : Type 0
@@ -18,7 +19,7 @@ Page = Given (Unit {0})
 
 -- so many blocks of a relation, from one on
 abbrev pub block_range : ℕ → ℕ → ℕ → List Request
-block_range r first count = map (request r) (range_with_len first count)
+block_range r first count = job_entries r first count
 
 -- how many blocks a command asks for of a relation of this length: from `--from`, or 0, up to
 -- `--to`, or the last block

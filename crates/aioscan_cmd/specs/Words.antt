@@ -7,7 +7,7 @@ use Rattle.std.specs.Option.{option_and_then}
 use Rattle.std.specs.Str.{bytes_eq}
 use Rattle.std.specs.Char.{is_ascii_digit}
 use Rattle.std.specs.Str.Parse.{digits_value}
-use Rattle.aioscan_cmd.specs.Command.{Command, block_limit}
+use Rattle.aioscan_cmd.specs.Command.{Command, number_limit}
 
 -- a file's name is not empty and does not begin with `-`
 abbrev pub is_file : List ℕ → Bool
@@ -25,7 +25,7 @@ is_number word = is_count (length word) 7 && list_all is_ascii_digit word
 -- a block number below the limit
 abbrev pub block_number : List ℕ → Option ℕ
 block_number word =
-    if is_number word && nat_lt (digits_value 10 word) block_limit then Some
+    if is_number word && nat_lt (digits_value 10 word) number_limit then Some
     (digits_value 10 word) else None
 
 -- an option's number, where the words begin with it, and the words behind it; None where its value

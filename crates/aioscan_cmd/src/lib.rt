@@ -3,8 +3,8 @@
 //! Its one call, `aioscan`, works over any shelf and any two sinks. Its contract says, over a shelf
 //! that tells its contents, that the output grew by the listing which one thread's synchronous
 //! reads give, up to the first block that is invalid, missing or unread; why each status comes; and
-//! in which order the outside is called. Over a shelf that does not tell, less is known, and the
-//! contract says how much.
+//! in which order the outside is called, as far as the outcome and the counts show it. Over a shelf
+//! that does not tell, less is known, and the contract says how much.
 #![tactic(auto)]
 
 mod error_line;

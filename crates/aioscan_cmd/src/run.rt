@@ -1,18 +1,15 @@
 //! The top call.
-ghost use Rattle.std.specs.Prelude.{◌≡◌, ◌≢◌, ◌⊎◌, ◌<◌, ◌≤◌, ◌↔◌, ℕ, length, map, None, Some};
+ghost use Rattle.std.specs.Prelude.{◌≡◌, ◌≢◌, ◌<◌, ◌≤◌, ◌↔◌, length, map, None, Some, true};
 ghost use Rattle.std.specs.Prelude.{IfSome, string_bytes};
-ghost use Rattle.aio_disk.specs.Counts.{raised_by};
 ghost use Rattle.aio_disk.specs.Shelf.{AllThereIfTold};
-ghost use Rattle.aio_disk.specs.Sink.{GrewByPrefix};
-ghost use Rattle.aioscan_cmd.specs.Command.{block_limit, IsBelow, relations_of};
+ghost use Rattle.aioscan_cmd.specs.Command.{number_limit, IsBelow, relations_of};
 ghost use Rattle.aioscan_cmd.specs.CommandWords.{asked_by};
 ghost use Rattle.aioscan_cmd.specs.Words.{command_of};
-ghost use Rattle.aioscan_cmd.specs.Outcomes.{status_of, line_of, IsRefused};
-ghost use Rattle.aioscan_cmd.specs.Output.{OnTold, IsListed, StopsAtBlock, ListsUntold, listing_of};
+ghost use Rattle.aioscan_cmd.specs.Outcomes.{status_of, line_of, is_refused};
+ghost use Rattle.aioscan_cmd.specs.Reading.{seen};
+ghost use Rattle.aioscan_cmd.specs.Run.{RanOn, OnTold, Writes};
+ghost use Rattle.aioscan_cmd.specs.Causes.{HasCauses, CallsInOrder, IsExact, IsComplete, IsOpened};
 ghost use Rattle.aioscan_cmd.specs.ErrorLine.{IsToldOnErr};
-ghost use Rattle.aioscan_cmd.specs.Causes.{counts, HasCauses, IsExact, IsComplete};
-ghost use Rattle.aioscan_cmd.specs.Order.{CallsInOrder, NamesRelation, FitsInOrder, IsOpened};
-ghost use Rattle.aioscan_cmd.specs.Running.{RanOn};
 
 use crate::error_line::write_line;
 use crate::relations::distinct_names;
@@ -30,23 +27,14 @@ fn run_command<S: Shelf, O: Sink>(
     out: &mut O,
 ) -> Outcome
     requires few { length command.now.files.now ≤ 1024 }
-    requires from { IsBelow command.now.from block_limit }
-    requires to { IsBelow command.now.to block_limit }
-    ensures ran { RanOn (S.told shelf.old) (asked_by command.now) (O.written out.old)
-        (O.written out.new) (S.reads shelf.old) (S.reads shelf.new) result }
-    ensures causes { HasCauses
-        (counts (S.open_faults shelf.old) (S.length_faults shelf.old)
-        (S.faults shelf.old) (S.reads shelf.old))
-        (counts (S.open_faults shelf.new) (S.length_faults shelf.new)
-        (S.faults shelf.new) (S.reads shelf.new))
-        (O.faults out.old) (O.faults out.new) result }
-    ensures order { CallsInOrder
-        (counts (S.open_faults shelf.old) (S.length_faults shelf.old)
-        (S.faults shelf.old) (S.reads shelf.old))
-        (counts (S.open_faults shelf.new) (S.length_faults shelf.new)
-        (S.faults shelf.new) (S.reads shelf.new))
-        result }
-    ensures later { O.faults out.old ≤ O.faults out.new }
+    requires from { IsBelow command.now.from number_limit }
+    requires to { IsBelow command.now.to number_limit }
+    ensures ran { RanOn (S.told shelf.old) (Some (asked_by command.now))
+        (seen (O.written out.old) (S.counts shelf.old).reads)
+        (seen (O.written out.new) (S.counts shelf.new).reads) result }
+    ensures causes { HasCauses (S.counts shelf.old) (S.counts shelf.new) (O.faults out.old)
+        (O.faults out.new) result }
+    ensures order { CallsInOrder (S.counts shelf.old) (S.counts shelf.new) result }
     ensures told { S.told shelf.new ≡ S.told shelf.old }
     ensures opened { IsOpened result
         → AllThereIfTold (S.told shelf.old) (relations_of (asked_by command.now)) }
@@ -69,23 +57,13 @@ fn run_command<S: Shelf, O: Sink>(
 // Reads the words, and lists what they ask for.
 fn run<S: Shelf, O: Sink>(alloc: Global, words: &[String], shelf: &mut S, out: &mut O) -> Outcome
     ensures usage { (result ≡ Outcome.Usage) ↔ (command_of (map string_bytes words.now) ≡ None) }
-    ensures ran { IfSome (command_of (map string_bytes words.now)) (λ c.
-        RanOn (S.told shelf.old) c (O.written out.old) (O.written out.new) (S.reads shelf.old)
-        (S.reads shelf.new) result) }
+    ensures ran { RanOn (S.told shelf.old) (command_of (map string_bytes words.now))
+        (seen (O.written out.old) (S.counts shelf.old).reads)
+        (seen (O.written out.new) (S.counts shelf.new).reads) result }
     ensures unread { result ≡ Outcome.Usage → O.written out.new ≡ O.written out.old }
-    ensures causes { HasCauses
-        (counts (S.open_faults shelf.old) (S.length_faults shelf.old)
-        (S.faults shelf.old) (S.reads shelf.old))
-        (counts (S.open_faults shelf.new) (S.length_faults shelf.new)
-        (S.faults shelf.new) (S.reads shelf.new))
-        (O.faults out.old) (O.faults out.new) result }
-    ensures order { CallsInOrder
-        (counts (S.open_faults shelf.old) (S.length_faults shelf.old)
-        (S.faults shelf.old) (S.reads shelf.old))
-        (counts (S.open_faults shelf.new) (S.length_faults shelf.new)
-        (S.faults shelf.new) (S.reads shelf.new))
-        result }
-    ensures later { O.faults out.old ≤ O.faults out.new }
+    ensures causes { HasCauses (S.counts shelf.old) (S.counts shelf.new) (O.faults out.old)
+        (O.faults out.new) result }
+    ensures order { CallsInOrder (S.counts shelf.old) (S.counts shelf.new) result }
     ensures told { S.told shelf.new ≡ S.told shelf.old }
     ensures opened { IsOpened result
         → IfSome (command_of (map string_bytes words.now))
@@ -117,68 +95,30 @@ pub fn aioscan<R, S: Shelf, O: Sink, E: Sink>(
     ensures usage { (result.outcome ≡ Outcome.Usage) ↔
         (command_of (map string_bytes words.now) ≡ None) }
 
-    // What `out` grew by, over a shelf that tells: the listing that synchronous reads give.
-    ensures listed { OnTold (S.told shelf.old) (command_of (map string_bytes words.now))
-        (λ told relations requests.
-        result.outcome ≡ Outcome.Done
-        → IsListed told requests (O.written out.old) (O.written out.new)) }
-    ensures stopped { OnTold (S.told shelf.old) (command_of (map string_bytes words.now))
-        (λ told relations requests.
-        StopsAtBlock told requests (O.written out.old) (O.written out.new) result.outcome) }
-    ensures prefix { OnTold (S.told shelf.old) (command_of (map string_bytes words.now))
-        (λ told relations requests.
-        (result.outcome ≡ Outcome.CannotWrite) ⊎ (result.outcome ≡ Outcome.NoMemory)
-        → GrewByPrefix (O.written out.old) (O.written out.new) (listing_of told requests)) }
-    ensures untouched { IsRefused result.outcome → O.written out.new ≡ O.written out.old }
-
-    // The same over any shelf, as far as it is known where nothing is told.
-    ensures untold { IfSome (command_of (map string_bytes words.now)) (λ c.
-        ListsUntold c (O.written out.old) (O.written out.new) (S.reads shelf.old)
-        (S.reads shelf.new) result.outcome) }
-
+    // What became of the run: over any shelf, and as synchronous reads give it, where it tells.
+    ensures ran { RanOn (S.told shelf.old) (command_of (map string_bytes words.now))
+        (seen (O.written out.old) (S.counts shelf.old).reads)
+        (seen (O.written out.new) (S.counts shelf.new).reads) result.outcome }
+    ensures writes { OnTold (S.told shelf.old) (command_of (map string_bytes words.now)) (λ run.
+        Writes run (O.written out.old) (O.written out.new) result.outcome) }
+    ensures untouched { is_refused result.outcome ≡ true → O.written out.new ≡ O.written out.old }
     ensures told_on_err { IsToldOnErr (line_of result.outcome) result.line
         (E.written err.old) (E.written err.new) (E.faults err.old) (E.faults err.new) }
 
-    // Why each outcome comes.
-    ensures causes { HasCauses
-        (counts (S.open_faults shelf.old) (S.length_faults shelf.old)
-        (S.faults shelf.old) (S.reads shelf.old))
-        (counts (S.open_faults shelf.new) (S.length_faults shelf.new)
-        (S.faults shelf.new) (S.reads shelf.new))
-        (O.faults out.old) (O.faults out.new) result.outcome }
-    ensures exact { OnTold (S.told shelf.old) (command_of (map string_bytes words.now))
-        (λ told relations requests.
-        IsExact told relations requests result.outcome) }
-    ensures complete { OnTold (S.told shelf.old) (command_of (map string_bytes words.now))
-        (λ told relations requests.
-        IsComplete told relations requests
-        (counts (S.open_faults shelf.old) (S.length_faults shelf.old)
-        (S.faults shelf.old) (S.reads shelf.old))
-        (counts (S.open_faults shelf.new) (S.length_faults shelf.new)
-        (S.faults shelf.new) (S.reads shelf.new))
-        (O.faults out.old) (O.faults out.new) result.outcome) }
+    // Why each outcome comes, and in which order the outside is called.
+    ensures causes { HasCauses (S.counts shelf.old) (S.counts shelf.new) (O.faults out.old)
+        (O.faults out.new) result.outcome }
+    ensures order { CallsInOrder (S.counts shelf.old) (S.counts shelf.new) result.outcome }
+    ensures exact { OnTold (S.told shelf.old) (command_of (map string_bytes words.now)) (λ run.
+        IsExact run result.outcome) }
+    ensures complete { OnTold (S.told shelf.old) (command_of (map string_bytes words.now)) (λ run.
+        IsComplete run (S.counts shelf.old) (S.counts shelf.new) (O.faults out.old)
+        (O.faults out.new) result.outcome) }
     ensures there { IsOpened result.outcome → IfSome (command_of (map string_bytes words.now)) (λ c.
         AllThereIfTold (S.told shelf.old) (relations_of c)) }
 
-    // In which order the outside is called.
-    ensures order { CallsInOrder
-        (counts (S.open_faults shelf.old) (S.length_faults shelf.old)
-        (S.faults shelf.old) (S.reads shelf.old))
-        (counts (S.open_faults shelf.new) (S.length_faults shelf.new)
-        (S.faults shelf.new) (S.reads shelf.new))
-        result.outcome }
-    ensures lengths_in_order { OnTold (S.told shelf.old) (command_of (map string_bytes words.now))
-        (λ told relations requests.
-        FitsInOrder told relations result.outcome) }
-    ensures named { IfSome (command_of (map string_bytes words.now)) (λ c.
-        NamesRelation (length (relations_of c)) result.outcome) }
-    ensures reads { OnTold (S.told shelf.old) (command_of (map string_bytes words.now))
-        (λ told relations requests.
-        result.outcome ≡ Outcome.Done
-        → S.reads shelf.new ≡ raised_by (length requests) (S.reads shelf.old)) }
-
     ensures contents { S.told shelf.new ≡ S.told shelf.old }
-    ensures later { (O.faults out.old ≤ O.faults out.new) × (E.faults err.old ≤ E.faults err.new) }
+    ensures later { E.faults err.old ≤ E.faults err.new }
     ensures totals { (result.incarnations ≡ 0) × (result.by_workers ≡ 0)
         × (result.by_backends ≡ 0) }
 {

@@ -4,13 +4,14 @@ ghost use Rattle.std.specs.Prelude.{Option, IfSome, IsNone, string_bytes};
 ghost use Rattle.std.specs.List.{list_all};
 ghost use Rattle.std.specs.Char.{is_ascii_digit};
 ghost use Rattle.std.specs.Option.{option_map};
-ghost use Rattle.aioscan_cmd.specs.Command.{block_limit, IsBelow};
+ghost use Rattle.aioscan_cmd.specs.Command.{number_limit, IsBelow};
 ghost use Rattle.aioscan_cmd.specs.RequestList.{first_block, asked_count};
 ghost use Rattle.aioscan_cmd.specs.CommandWords.{asked_by};
 ghost use Rattle.aioscan_cmd.specs.Words.{is_count as count_test, block_number, is_number, is_file};
 ghost use Rattle.aioscan_cmd.specs.Words.{are_files, option_at, command_of};
 
-use crate::lengths::BLOCK_LIMIT;
+// `--from` and `--to` give numbers below this.
+const NUMBER_LIMIT: u32 = 131072;
 
 /// What the words of a command ask for.
 #[derive(Clone, Copy)]
@@ -33,7 +34,7 @@ impl Command<'_> {
 
     /// How many blocks are asked for of a relation of this length.
     pub(crate) fn asked_count(&self, length: u32) -> u32
-        requires { IsBelow self.now.to block_limit }
+        requires { IsBelow self.now.to number_limit }
         ensures { result ≡ asked_count (asked_by self.now) length }
     {
         let after = match self.to {
@@ -48,7 +49,7 @@ impl Command<'_> {
 pub(crate) fn read_command(words: &[String]) -> Option<Command<'_>>
     ensures command { option_map asked_by result ≡ command_of (map string_bytes words.now) }
     ensures bounded { IfSome result
-        (λ c. IsBelow c.from block_limit × IsBelow c.to block_limit × (length c.files.now ≤ 1024)) }
+        (λ c. IsBelow c.from number_limit × IsBelow c.to number_limit × (length c.files.now ≤ 1024)) }
 {
     let (first, words) = words.split_first()?;
     if first.as_str() != "scan" {
@@ -66,7 +67,7 @@ pub(crate) fn read_command(words: &[String]) -> Option<Command<'_>>
 fn read_option<'a>(words: &'a [String], name: &str) -> Option<(Option<u32>, &'a [String])>
     ensures option { option_map (λ r. (r.0, map string_bytes r.1.now)) result
         ≡ option_at name.now (map string_bytes words.now) }
-    ensures bounded { IfSome result (λ r. IsBelow r.0 block_limit) }
+    ensures bounded { IfSome result (λ r. IsBelow r.0 number_limit) }
 {
     match words {
         [word, value, rest @ ..] if word.as_str() == name => {
@@ -80,7 +81,7 @@ fn read_option<'a>(words: &'a [String], name: &str) -> Option<(Option<u32>, &'a 
 // A block number of 1 to 7 digits.
 fn read_number(word: &str) -> Option<u32>
     ensures number { result ≡ block_number word.now }
-    ensures bounded { IsBelow result block_limit }
+    ensures bounded { IsBelow result number_limit }
 {
     if !is_short_number(word) {
         return None;
@@ -88,7 +89,7 @@ fn read_number(word: &str) -> Option<u32>
     let Ok(number) = word.parse::<u32>() else {
         return None;
     };
-    if number < BLOCK_LIMIT {
+    if number < NUMBER_LIMIT {
         Some(number)
     } else {
         None

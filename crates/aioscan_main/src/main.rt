@@ -1,9 +1,11 @@
 //! The program `aioscan`: hands the words, the files and the two standard streams to the top call,
 //! and ends with its status.
 #![tactic(auto)]
+ghost use Rattle.std.specs.Prelude.{◌≡◌};
+ghost use Rattle.std.specs.Process.{exit_status};
 
 use aio_disk::{FileShelf, StdSink};
-use aioscan_cmd::aioscan;
+use aioscan_cmd::{Report, aioscan};
 use std::alloc::AllocError;
 use std::env;
 use std::io::ErrorKind;
@@ -29,6 +31,13 @@ fn words<R: Env + AllocGlobal>(rt: &R) -> Result<Vec<String>, AllocError> {
     }
 }
 
+// The exit code of a run.
+fn exit_of(report: &Report) -> ExitCode
+    ensures { exit_status result ≡ report.now.status }
+{
+    ExitCode::from(report.status)
+}
+
 fn main(rt: HostRuntime) -> ExitCode {
     let Ok(words) = words(&rt) else {
         return ExitCode::from(NO_MEMORY);
@@ -44,5 +53,5 @@ fn main(rt: HostRuntime) -> ExitCode {
         &mut out,
         &mut err,
     );
-    ExitCode::from(report.status)
+    exit_of(&report)
 }

@@ -2,3 +2,4 @@ pub mod Items
 pub mod Texts
 pub mod LineCounts
 pub mod FirstLines
+pub mod Jobs

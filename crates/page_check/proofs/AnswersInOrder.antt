@@ -1,45 +1,121 @@
--- Answers to a list that come one after the other.
-use Rattle.std.proofs.Common.{◌≡◌, ℕ, ◌+◌, List, [], ◌∷◌, ◌++◌, length, refl, sym, ap, ◌∙◌}
-use Rattle.std.proofs.Common.{append_assoc, inl, inr, replicate}
-use Rattle.std.specs.Prelude.{Some, slice_get}
-use Rattle.page_check.specs.Told.{Told}
-use Rattle.page_check.specs.SynchronousAnswer.{Entry, Given, Ending, pages_of}
-use Rattle.page_check.specs.IsAnswer.{Next, Page, Stop, IsAnswerTold, IsNextTold, IsEnding}
-use Rattle.page_check.specs.IsAnswer.{with_next}
+-- Answers to a list that come one after the other, and answers to lists that are joined.
+use Rattle.std.proofs.Common.{◌≡◌, ℕ, ◌+◌, List, [], ◌∷◌, ◌++◌, length, map, refl, sym, ap}
+use Rattle.std.proofs.Common.{◌∙◌, arith, append_assoc, suc, zero}
+use Rattle.std.specs.Prelude.{Option, Some, None, slice_get}
+use Rattle.std.specs.List.{All}
+use Rattle.std.proofs.lemmas.List.{length-map, map-append}
+use Rattle.std.proofs.lemmas.List.Elements.{All-append}
+use Rattle.page_check.specs.Verdict.{IsValid}
+use Rattle.page_check.specs.SynchronousAnswer.{Entry, Given, Ending}
+use Rattle.page_check.specs.SynchronousAnswer.{Reader}
+use Rattle.page_check.specs.SynchronousAnswer.{pages_of}
+use Rattle.page_check.specs.IsAnswer.{Begins, AreFirst, IsAnswer}
+use Rattle.page_check.specs.IsAnswer.{Next, Page, Stop, IsNextPage, IsNext, with_next}
 
-at_seam : {X : Type 0} (xs ys : List X) (x : X) → slice_get (xs ++ ys) (length xs) ≡ Some x
+-- the element behind the first ones
+pub at_seam : {X : Type 0} (xs ys : List X) (x : X) → slice_get (xs ++ ys) (length xs) ≡ Some x
     → (rest : List X) × (ys ≡ x ∷ rest)
 at_seam [] [] x is = absurd (cc)
 at_seam [] (y ∷ ys) x is = (ys, cc)
 at_seam (z ∷ xs) ys x is = at_seam xs ys x is
 
-module _ {P : Type 0} (told : Told) (may : Entry P → Type 0) (entries : List (Entry P)) where
-  pub answered_none : IsAnswerTold told may entries (record { pages = []; endings = [] })
-  answered_none = record { rest = pages_of told entries; pages = refl; endings = inl refl }
+begins_next : {X : Type 0} (front xs : List X) (x : X) → Begins front xs
+    → slice_get xs (length front) ≡ Some x → Begins (front ++ x ∷ []) xs
+begins_next {X} front xs x begins is =
+    let here : slice_get (front ++ begins.0) (length front) ≡ Some x =
+    ap (λ (l : List X). slice_get l (length front)) (sym begins.1) ∙ is in
+    let seam = at_seam front begins.0 x here in (
+      seam.0,
+      begins.1 ∙ ap (λ (l : List X). front ++ l) seam.1 ∙ sym (append_assoc front (x ∷ []) seam.0),
+    )
+
+pub begins_more : {X : Type 0} (front xs ys : List X) → Begins front xs → Begins front (xs ++ ys)
+begins_more {X} front xs ys begins =
+    (begins.0 ++ ys, ap (λ (l : List X). l ++ ys) begins.1 ∙ append_assoc front begins.0 ys)
+
+pub begins_all : {X : Type 0} (front xs : List X) → Begins front xs → length front ≡ length xs
+    → xs ≡ front
+begins_all [] [] begins same = refl
+begins_all [] (x ∷ xs) begins same = absurd (omega (arith, same))
+begins_all (y ∷ front) [] begins same = absurd (omega (arith, same))
+begins_all {X} (y ∷ front) (x ∷ xs) begins same =
+    let first : x ≡ y = cc in
+    let others : xs ≡ front ++ begins.0 = cc in
+    let rest = begins_all front xs (begins.0, others) (omega (arith, same)) in
+    rw (first, rest) refl
+
+pub slice_get_front : {X : Type 0} (xs ys : List X) (k : ℕ) (x : X) → slice_get xs k ≡ Some x
+    → slice_get (xs ++ ys) k ≡ Some x
+slice_get_front [] ys k x is = absurd (cc)
+slice_get_front (y ∷ xs) ys zero x is = is
+slice_get_front (y ∷ xs) ys (suc k) x is = slice_get_front xs ys k x is
+
+pub slice_get_back : {X : Type 0} (xs ys : List X) (k : ℕ)
+    → slice_get (xs ++ ys) (length xs + k) ≡ slice_get ys k
+slice_get_back [] ys k =
+    let e : 0 + k ≡ k = omega arith in ap (slice_get ys) e
+slice_get_back {X} (x ∷ xs) ys k =
+    let e : length (x ∷ xs) + k ≡ suc (length xs + k) = omega arith in
+    ap (slice_get (x ∷ (xs ++ ys))) e ∙ slice_get_back xs ys k
+
+pub no_others : (end : Ending) → All (λ (other : Ending). other ≡ end) []
+no_others end = λ k d below. absurd (omega arith)
+
+module _ {P : Type 0} where
+  pub first_none : (found : Option Reader) (entries : List (Entry P)) → AreFirst found entries []
+  first_none None entries = (λ k d below. absurd (omega arith), (entries, refl))
+  first_none (Some f) entries = (pages_of f entries, refl)
+
+  pub one_valid : (given : Given P) → IsValid given.page → All (λ g. IsValid g.page) (given ∷ [])
+  one_valid given valid = λ k d below. (let first : k ≡ 0 = omega arith in rw first valid)
+
+  first_next : (found : Option Reader) (entries : List (Entry P)) (pages : List (Given P))
+      (given : Given P) → AreFirst found entries pages
+      → IsNextPage found entries (length pages) given → AreFirst found entries (pages ++ given ∷ [])
+  first_next None entries pages given first next =
+      let here : slice_get entries (length (map (λ (g : Given P). g.entry) pages))
+      ≡ Some given.entry =
+      ap (slice_get entries) (length-map pages (λ (g : Given P). g.entry)) ∙ next.1 in
+      let begins =
+      begins_next (map (λ (g : Given P). g.entry) pages) entries given.entry first.1 here in (
+        All-append (λ (g : Given P). IsValid g.page) pages (given ∷ []) first.0
+            (one_valid given next.0),
+        (
+          begins.0,
+          begins.1
+              ∙ ap (λ (l : List (Entry P)). l ++ begins.0)
+              (sym (map-append (λ (g : Given P). g.entry) pages (given ∷ []))),
+        ),
+      )
+  first_next (Some f) entries pages given first next =
+      begins_next pages (pages_of f entries) given first next
+
+  -- nothing was answered yet
+  pub answered_none : (found : Option Reader) (may : Entry P → Type 0) (entries : List (Entry P))
+      → IsAnswer found may entries (record { pages = []; endings = [] })
+  answered_none found may entries = record { first = first_none found entries; endings = tt }
 
   -- an answer that is next keeps the answers lawful
-  pub answered_next : (pages : List (Given P)) (next : Next P)
-      → IsAnswerTold told may entries (record { pages = pages; endings = [] })
-      → IsNextTold told may entries (length pages) next
-      → IsAnswerTold told may entries (with_next pages next)
-  answered_next pages (Page given) before is =
-      let here : slice_get (pages ++ before.rest) (length pages) ≡ Some given =
-      ap (λ (l : List (Given P)). slice_get l (length pages)) (sym before.pages) ∙ is in
-      let seam = at_seam pages before.rest given here in
-      record {
-        rest = seam.0;
-        pages = before.pages ∙ ap (λ (l : List (Given P)). pages ++ l) seam.1
-            ∙ sym (append_assoc pages (given ∷ []) seam.0);
-        endings = inl refl;
-      }
-  answered_next pages (Stop end) before is =
-      record { rest = before.rest; pages = before.pages; endings = inr (end, 0, refl, is) }
+  pub answered_next : (found : Option Reader) (may : Entry P → Type 0) (entries : List (Entry P))
+      (pages : List (Given P)) (next : Next P)
+      → IsAnswer found may entries (record { pages = pages; endings = [] })
+      → IsNext found may entries (length pages) next
+      → IsAnswer found may entries (with_next pages next)
+  answered_next found may entries pages (Page given) before is =
+      record { first = first_next found entries pages given before.first is; endings = tt }
+  answered_next found may entries pages (Stop end) before is =
+      record { first = before.first; endings = (is, no_others end) }
 
   -- and so does the same ending again
-  pub answered_again : (pages : List (Given P)) (end : Ending) (more : ℕ)
-      → IsAnswerTold told may entries (record { pages = pages; endings = replicate (more + 1) end })
-      → IsEnding told may entries (length pages) end
-      → IsAnswerTold told may entries
-      (record { pages = pages; endings = replicate (more + 1 + 1) end })
-  answered_again pages end more before is =
-      record { rest = before.rest; pages = before.pages; endings = inr (end, more + 1, refl, is) }
+  pub answered_again : (found : Option Reader) (may : Entry P → Type 0) (entries : List (Entry P))
+      (pages : List (Given P)) (end : Ending) (more : List Ending)
+      → IsAnswer found may entries (record { pages = pages; endings = end ∷ more })
+      → IsAnswer found may entries (record { pages = pages; endings = end ∷ end ∷ more })
+  answered_again found may entries pages end more before = record {
+    first = before.first;
+    endings = (
+      before.endings.0,
+      All-append (λ (other : Ending). other ≡ end) (end ∷ []) more
+          (λ k d below. (let first : k ≡ 0 = omega arith in rw first refl)) before.endings.1,
+    );
+  }

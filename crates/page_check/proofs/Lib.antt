@@ -3,4 +3,5 @@ pub mod Zeros
 pub mod ValidPages
 pub mod SynchronousReads
 pub mod AnswersInOrder
+pub mod AnswersOfLists
 pub mod Rows

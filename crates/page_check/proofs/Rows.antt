@@ -1,10 +1,13 @@
 -- Worked pages: what the definitions say of them.
 use Rattle.std.proofs.Common.{◌≡◌, ℕ, ◌/◌, ◌%◌, List, [], ◌∷◌, ◌++◌, replicate, refl, length, zero}
-use Rattle.std.proofs.Common.{suc, map}
+use Rattle.std.proofs.Common.{suc, map, ◌<◌, arith}
+use Rattle.std.specs.Prelude.{Option, Some, ⊤}
+use Rattle.std.proofs.lemmas.Option.{slice_get_within}
 use Rattle.std.specs.List.{range_with_len}
 use Rattle.page_check.specs.Told.{Told, told_in, page_at, block_count, blocks_of}
 use Rattle.page_check.specs.SynchronousAnswer.{Entry, End, Invalid, PastEnd, found_at, read_count}
-use Rattle.page_check.specs.SynchronousAnswer.{pages_of, ending_of}
+use Rattle.page_check.specs.SynchronousAnswer.{pages_of, ending_of, Given, Unread, Reader}
+use Rattle.page_check.specs.IsAnswer.{Answers, IsAnswer}
 use Rattle.page_check.specs.Fields.{u16_at, u32_at, header_of}
 use Rattle.page_check.specs.declared.verdict.Verdict.TheVariants.{Zero, Sane, Bad}
 use Rattle.page_check.specs.declared.fields.Kind.TheVariants.{Unused, Normal, Redirect, Dead}
@@ -89,8 +92,8 @@ blocks first n =
 abbrev bad_at_12 : Told
 bad_at_12 = told_in (pages 12 (flagged ++ pages 1 []) ∷ [])
 
-two_before_the_bad : (length (pages_of bad_at_12 (blocks 10 4)) ≡ 2)
-    × (ending_of bad_at_12 (blocks 10 4) ≡ Invalid 12)
+two_before_the_bad : (length (pages_of (found_at bad_at_12) (blocks 10 4)) ≡ 2)
+    × (ending_of (found_at bad_at_12) (blocks 10 4) ≡ Invalid 12)
 unfolding read_count found_at page_at block_count verdict_of header_of u16_at u32_at
 two_before_the_bad = (refl, refl)
 
@@ -99,14 +102,62 @@ abbrev four : Told
 four = told_in (pages 4 [] ∷ [])
 
 one_before_the_end :
-    (pages_of four (blocks 3 2)
+    (pages_of (found_at four) (blocks 3 2)
     ≡ (record { entry = record { relation = 0; block = 3; per_buffer_data = tt }; page = E } ∷ []))
-    × (ending_of four (blocks 3 2) ≡ PastEnd 4)
+    × (ending_of (found_at four) (blocks 3 2) ≡ PastEnd 4)
 unfolding read_count found_at page_at block_count verdict_of header_of u16_at u32_at
 one_before_the_end = (refl, refl)
 
 -- 8191 bytes are no block, and an empty list ends at once
 no_block : (blocks_of (told_in (replicate 8191 0 ∷ [])) 0 ≡ 0)
-    × (ending_of {P = Unit {0}} (told_in (replicate 8191 0 ∷ [])) [] ≡ End)
+    × (ending_of {P = Unit {0}} (found_at (told_in (replicate 8191 0 ∷ []))) [] ≡ End)
 unfolding block_count read_count
 no_block = (refl, refl)
+
+abbrev block : ℕ → Entry (Unit {0})
+block b = record { relation = 0; block = b; per_buffer_data = tt }
+
+-- what may be answered to the blocks 3 and 4 of the four pages
+abbrev IsAnswered : Answers (Unit {0}) → Type 0
+IsAnswered = IsAnswer (Some (found_at four)) (λ _. ⊤) (blocks 3 2)
+
+abbrev three : Given (Unit {0})
+three = record { entry = block 3; page = E }
+
+-- nothing yet, or the page of block 3
+no_answer_yet : IsAnswered (record { pages = []; endings = [] })
+no_answer_yet = record { first = (pages_of (found_at four) (blocks 3 2), refl); endings = tt }
+
+one_page_so_far : IsAnswered (record { pages = three ∷ []; endings = [] })
+unfolding read_count found_at page_at block_count verdict_of header_of u16_at u32_at
+one_page_so_far = record { first = ([], refl); endings = tt }
+
+-- then the ending, which stays
+past_the_end_twice : IsAnswered
+    (record { pages = three ∷ []; endings = PastEnd 4 ∷ PastEnd 4 ∷ [] })
+unfolding read_count found_at page_at block_count verdict_of header_of u16_at u32_at
+past_the_end_twice = record {
+  first = ([], refl);
+  endings = ((refl, refl), λ k d below. (let first : k ≡ 0 = omega arith in rw first refl));
+}
+
+-- the block behind the end may be one that was not read
+unread_where_reading_stops : IsAnswered (record { pages = three ∷ []; endings = Unread 4 ∷ [] })
+unfolding read_count found_at page_at block_count verdict_of header_of u16_at u32_at
+unread_where_reading_stops = record {
+  first = ([], refl);
+  endings = (
+    record { next = block 4; here = refl; named = refl; cause = tt },
+    λ k d below. absurd (omega arith),
+  );
+}
+
+-- but none behind the last block was not read
+none_unread_behind_the_last : (found : Option Reader) (b : ℕ) (pages : List (Given (Unit {0})))
+    → length pages ≡ 2
+    → IsAnswer found (λ _. ⊤) (blocks 3 2) (record { pages = pages; endings = Unread b ∷ [] }) → ⊥
+none_unread_behind_the_last found b pages two answer =
+    let stops = answer.endings.0 in
+    let below : length pages < 2 =
+    slice_get_within (blocks 3 2) (length pages) stops.next stops.here in
+    absurd (omega arith)

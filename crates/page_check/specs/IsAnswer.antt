@@ -1,24 +1,26 @@
 -- What may have been answered so far to a list of blocks: some of its first pages, and then perhaps
 -- an ending.
-use Rattle.std.specs.Prelude.{◌≡◌, ◌⊎◌, ℕ, ◌+◌, ◌≤◌, List, [], ◌∷◌, ◌++◌, length, map, take}
-use Rattle.std.specs.Prelude.{replicate, slice_get, ⊤}
+use Rattle.std.specs.Prelude.{◌≡◌, ℕ, List, [], ◌∷◌, ◌++◌, length, map}
+use Rattle.std.specs.Prelude.{slice_get, ⊤}
 use Rattle.std.specs.Prelude.{Option, Some, None}
 use Rattle.std.specs.List.{All}
 use Rattle.page_check.specs.Verdict.{IsValid}
-use Rattle.page_check.specs.Told.{Told}
 use Rattle.page_check.specs.SynchronousAnswer.{Entry, Given, Ending, End, Invalid, PastEnd, Unread}
-use Rattle.page_check.specs.SynchronousAnswer.{pages_of, ending_of}
+use Rattle.page_check.specs.SynchronousAnswer.{Reader, pages_of, ending_of}
 
 -- the answers so far: pages, then one ending as often as it was asked for
 pub record Answers (P : Type 0) : Type 0 where
   pub pages : List (Given P)
   pub endings : List Ending
 
--- no ending yet, or one for which this holds, once or more often
+-- no ending yet, or one for which this holds, and then perhaps the same again
 abbrev pub OneEnding : (Ending → Type 0) → List Ending → Type 0
-OneEnding holds endings =
-    (endings ≡ [])
-    ⊎ ((end : Ending) × (more : ℕ) × (endings ≡ replicate (more + 1) end) × holds end)
+OneEnding holds [] = ⊤
+OneEnding holds (end ∷ more) = holds end × All (λ other. other ≡ end) more
+
+-- these stand at the head of a list
+abbrev pub Begins : {X : Type 0} → List X → List X → Type 0
+Begins {X} front xs = (rest : List X) × (xs ≡ front ++ rest)
 
 module _ {P : Type 0} where
   -- the entry behind the first k is of this block, and `may` holds of it
@@ -29,42 +31,34 @@ module _ {P : Type 0} where
     pub named : block ≡ next.block
     pub cause : may next
 
-  -- an ending behind the first k pages: that of synchronous reads where these are all, or an entry
-  -- that was not read
-  abbrev pub IsEnding : Told → (Entry P → Type 0) → List (Entry P) → ℕ → Ending → Type 0
-  IsEnding told may entries k (Unread b) = StopsAt may entries k b
-  IsEnding told may entries k End =
-      (k ≡ length (pages_of told entries)) × (ending_of told entries ≡ End)
-  IsEnding told may entries k (Invalid b) =
-      (k ≡ length (pages_of told entries)) × (ending_of told entries ≡ Invalid b)
-  IsEnding told may entries k (PastEnd b) =
-      (k ≡ length (pages_of told entries)) × (ending_of told entries ≡ PastEnd b)
+  -- the first pages: those of synchronous reads; where nothing is told, valid ones of the first
+  -- entries
+  abbrev pub AreFirst : Option Reader → List (Entry P) → List (Given P) → Type 0
+  AreFirst (Some found) entries pages = Begins pages (pages_of found entries)
+  AreFirst None entries pages =
+      All (λ g. IsValid g.page) pages × Begins (map (λ g. g.entry) pages) entries
 
-  pub record IsAnswerTold (told : Told) (may : Entry P → Type 0) (entries : List (Entry P))
+  -- how the list ends behind the first k pages: as synchronous reads do, behind all of theirs;
+  -- where nothing is told, behind the last entry, or at the next one
+  abbrev pub EndsAt : Option Reader → List (Entry P) → ℕ → Ending → Type 0
+  EndsAt (Some found) entries k end =
+      (k ≡ length (pages_of found entries)) × (ending_of found entries ≡ end)
+  EndsAt None entries k End = k ≡ length entries
+  EndsAt None entries k (Invalid b) = StopsAt (λ _. ⊤) entries k b
+  EndsAt None entries k (PastEnd b) = StopsAt (λ _. ⊤) entries k b
+  EndsAt None entries k (Unread b) = ⊥
+
+  -- an ending behind the first k pages: that one, or an entry that was not read
+  abbrev pub IsEnding : Option Reader → (Entry P → Type 0) → List (Entry P) → ℕ → Ending → Type 0
+  IsEnding found may entries k (Unread b) = StopsAt may entries k b
+  IsEnding found may entries k End = EndsAt found entries k End
+  IsEnding found may entries k (Invalid b) = EndsAt found entries k (Invalid b)
+  IsEnding found may entries k (PastEnd b) = EndsAt found entries k (PastEnd b)
+
+  pub record IsAnswer (found : Option Reader) (may : Entry P → Type 0) (entries : List (Entry P))
       (answers : Answers P) : Type 0 where
-    pub rest : List (Given P)
-    pub pages : pages_of told entries ≡ answers.pages ++ rest
-    pub endings : OneEnding (IsEnding told may entries (length answers.pages)) answers.endings
-
-  -- where no contents are told: the end comes behind the last entry, and another ending at the next
-  -- one
-  abbrev pub IsEndingUntold : (Entry P → Type 0) → List (Entry P) → ℕ → Ending → Type 0
-  IsEndingUntold may entries k (Unread b) = StopsAt may entries k b
-  IsEndingUntold may entries k End = k ≡ length entries
-  IsEndingUntold may entries k (Invalid b) = StopsAt (λ _. ⊤) entries k b
-  IsEndingUntold may entries k (PastEnd b) = StopsAt (λ _. ⊤) entries k b
-
-  -- and the pages are valid and those of the first entries
-  pub record IsAnswerUntold (may : Entry P → Type 0) (entries : List (Entry P))
-      (answers : Answers P) : Type 0 where
-    pub valid : All (λ g. IsValid g.page) answers.pages
-    pub within : length answers.pages ≤ length entries
-    pub places : map (λ g. g.entry) answers.pages ≡ take (length answers.pages) entries
-    pub endings : OneEnding (IsEndingUntold may entries (length answers.pages)) answers.endings
-
-  abbrev pub IsAnswer : Option Told → (Entry P → Type 0) → List (Entry P) → Answers P → Type 0
-  IsAnswer None may entries answers = IsAnswerUntold may entries answers
-  IsAnswer (Some told) may entries answers = IsAnswerTold told may entries answers
+    pub first : AreFirst found entries answers.pages
+    pub endings : OneEnding (IsEnding found may entries (length answers.pages)) answers.endings
 
 -- one answer: a page, or an ending
 pub data Next (P : Type 0) : Type 0 where
@@ -73,18 +67,14 @@ pub data Next (P : Type 0) : Type 0 where
 
 module _ {P : Type 0} where
   -- what may be answered behind the first k pages
-  abbrev pub IsNextTold : Told → (Entry P → Type 0) → List (Entry P) → ℕ → Next P → Type 0
-  IsNextTold told may entries k (Page given) = slice_get (pages_of told entries) k ≡ Some given
-  IsNextTold told may entries k (Stop end) = IsEnding told may entries k end
-
-  abbrev pub IsNextUntold : (Entry P → Type 0) → List (Entry P) → ℕ → Next P → Type 0
-  IsNextUntold may entries k (Page given) =
+  abbrev pub IsNextPage : Option Reader → List (Entry P) → ℕ → Given P → Type 0
+  IsNextPage (Some found) entries k given = slice_get (pages_of found entries) k ≡ Some given
+  IsNextPage None entries k given =
       IsValid given.page × (slice_get entries k ≡ Some given.entry)
-  IsNextUntold may entries k (Stop end) = IsEndingUntold may entries k end
 
-  abbrev pub IsNext : Option Told → (Entry P → Type 0) → List (Entry P) → ℕ → Next P → Type 0
-  IsNext None may entries k next = IsNextUntold may entries k next
-  IsNext (Some told) may entries k next = IsNextTold told may entries k next
+  abbrev pub IsNext : Option Reader → (Entry P → Type 0) → List (Entry P) → ℕ → Next P → Type 0
+  IsNext found may entries k (Page given) = IsNextPage found entries k given
+  IsNext found may entries k (Stop end) = IsEnding found may entries k end
 
   -- the answers with one more
   abbrev pub with_next : List (Given P) → Next P → Answers P

@@ -3,6 +3,7 @@ use Rattle.std.specs.Prelude.{ℕ, Bool, true, false, nat_le, if◌then◌else�
 use Rattle.std.specs.Prelude.{slice_get}
 use Rattle.std.specs.Prelude.{Option, Some, None}
 use Rattle.std.specs.List.{prefix_len}
+use Rattle.std.specs.Option.{option_map}
 use Rattle.page_check.specs.declared.verdict.Verdict.{Verdict}
 use Rattle.page_check.specs.declared.verdict.Verdict.TheVariants.{Zero, Sane, Bad}
 use Rattle.page_check.specs.Verdict.{verdict_of}
@@ -27,8 +28,7 @@ pub data Ending : Type 0 where
   PastEnd : (block : ℕ) → Ending
   Unread : (block : ℕ) → Ending
 
--- what one read of one block gives: its page, or that the page is Bad, or that there is no such
--- block
+-- what a block gives: its page, or that the page is Bad, or that there is no such block
 pub data Found : Type 0 where
   Page : (bytes : List ℕ) → Found
   Damaged : Found
@@ -40,10 +40,18 @@ found_by Bad page = Damaged
 found_by Zero page = Page page
 found_by Sane page = Page page
 
-unfoldable pub found_at : Told → ℕ → ℕ → Found
+-- what each block of each relation gives
+abbrev pub Reader : Type 0
+Reader = ℕ → ℕ → Found
+
+-- by the contents that are told
+unfoldable pub found_at : Told → Reader
 found_at told relation block =
     if nat_le (blocks_of told relation) block then Absent
     else found_by (verdict_of (page_of told relation block)) (page_of told relation block)
+
+abbrev pub reader_of : Option Told → Option Reader
+reader_of told = option_map found_at told
 
 abbrev pub is_page : Found → Bool
 is_page (Page bytes) = true
@@ -62,31 +70,31 @@ ending_in Damaged block = Invalid block
 ending_in Absent block = PastEnd block
 
 module _ {P : Type 0} where
-  abbrev pub found_for : Told → Entry P → Found
-  found_for told e = found_at told e.relation e.block
+  abbrev pub found_for : Reader → Entry P → Found
+  found_for found e = found e.relation e.block
 
-  abbrev pub can_read : Told → Entry P → Bool
-  can_read told e = is_page (found_for told e)
+  abbrev pub can_read : Reader → Entry P → Bool
+  can_read found e = is_page (found_for found e)
 
-  abbrev pub given_for : Told → Entry P → Given P
-  given_for told e = record { entry = e; page = page_in (found_for told e) }
+  abbrev pub given_for : Reader → Entry P → Given P
+  given_for found e = record { entry = e; page = page_in (found_for found e) }
 
   -- how many entries stand before the first that gives no page
-  unfoldable pub read_count : Told → List (Entry P) → ℕ
-  read_count told entries = prefix_len (can_read told) entries
+  unfoldable pub read_count : Reader → List (Entry P) → ℕ
+  read_count found entries = prefix_len (can_read found) entries
 
   -- the pages of these entries
-  abbrev pub pages_of : Told → List (Entry P) → List (Given P)
-  pages_of told entries = map (given_for told) (take (read_count told entries) entries)
+  abbrev pub pages_of : Reader → List (Entry P) → List (Given P)
+  pages_of found entries = map (given_for found) (take (read_count found entries) entries)
 
   -- the first entry that gives no page, if there is one
-  abbrev pub stop_of : Told → List (Entry P) → Option (Entry P)
-  stop_of told entries = slice_get entries (read_count told entries)
+  abbrev pub stop_of : Reader → List (Entry P) → Option (Entry P)
+  stop_of found entries = slice_get entries (read_count found entries)
 
-  abbrev pub ending_at : Told → Option (Entry P) → Ending
-  ending_at told None = End
-  ending_at told (Some e) = ending_in (found_for told e) e.block
+  abbrev pub ending_at : Reader → Option (Entry P) → Ending
+  ending_at found None = End
+  ending_at found (Some e) = ending_in (found_for found e) e.block
 
   -- and how the list ends there
-  abbrev pub ending_of : Told → List (Entry P) → Ending
-  ending_of told entries = ending_at told (stop_of told entries)
+  abbrev pub ending_of : Reader → List (Entry P) → Ending
+  ending_of found entries = ending_at found (stop_of found entries)

@@ -53,7 +53,8 @@ pub(crate) fn run<R: Abort + AllocGlobal>(
     files: Vec<(String, Vec<u8>)>,
     fails: Fails<'_>,
     words: &[&str],
-    cuts: &[(u64, u64)],
+    out_cuts: &[(u64, u64)],
+    err_cuts: &[(u64, u64)],
 ) -> Result<(Report, MemSink, MemSink), Fail> {
     let alloc = rt.alloc();
     let script = Script {
@@ -66,8 +67,8 @@ pub(crate) fn run<R: Abort + AllocGlobal>(
     assert!(rt; script.has_positive_shorts());
     let mut shelf = MemShelf::make(alloc, files, script, 0)?;
     let words = texts(alloc, words)?;
-    let mut out = MemSink::make(alloc, Vec::from_slice(alloc, cuts)?);
-    let mut err = MemSink::make(alloc, Vec::new(alloc));
+    let mut out = MemSink::make(alloc, Vec::from_slice(alloc, out_cuts)?);
+    let mut err = MemSink::make(alloc, Vec::from_slice(alloc, err_cuts)?);
     let report = aioscan(rt, alloc, words.as_slice(), &mut shelf, &mut out, &mut err);
     Ok((report, out, err))
 }

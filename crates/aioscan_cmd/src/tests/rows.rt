@@ -12,6 +12,7 @@ const USAGE: &str = "usage: aioscan [options] FILE...\n";
 // Runs over `f` and `g`, and compares the output, the line and the status.
 fn expect<R: Abort + AllocGlobal>(
     rt: &R,
+    name: &str,
     files: (&[Parts<'_>], &[Parts<'_>]),
     fails: Fails<'_>,
     words: &[&str],
@@ -23,22 +24,24 @@ fn expect<R: Abort + AllocGlobal>(
         (String::from_str(alloc, "f")?, file_of(alloc, files.0)?),
         (String::from_str(alloc, "g")?, file_of(alloc, files.1)?),
     ]?;
-    let (report, out, err) = run(rt, all, fails, words, cuts)?;
-    assert_eq!(rt; out.bytes(), wanted.0.as_bytes());
-    assert_eq!(rt; err.bytes(), wanted.1.as_bytes());
-    assert_eq!(rt; report.status, wanted.2);
-    assert_eq!(rt; report.line, Line::Whole);
+    let (report, out, err) = run(rt, all, fails, words, cuts, &[])?;
+    assert_eq!(rt; out.bytes(), wanted.0.as_bytes(), "{name}");
+    assert_eq!(rt; err.bytes(), wanted.1.as_bytes(), "{name}");
+    assert_eq!(rt; report.status, wanted.2, "{name}");
+    assert_eq!(rt; report.line, Line::Whole, "{name}");
     Ok(())
 }
 
 // `scan f` over one file.
 fn expect_page<R: Abort + AllocGlobal>(
     rt: &R,
+    name: &str,
     parts: Parts<'_>,
     wanted: (&str, &str, u8),
 ) -> Result<(), Fail> {
     expect(
         rt,
+        name,
         (from_ref(&parts), &[]),
         STEADY,
         &["scan", "f"],
@@ -102,8 +105,8 @@ fn pages_one_by_one(rt: HostRuntime) -> Result<(), Fail> {
             ),
         ),
     ];
-    for (_name, parts, wanted) in rows {
-        expect_page(&rt, parts, wanted)?;
+    for (name, parts, wanted) in rows {
+        expect_page(&rt, name, parts, wanted)?;
     }
     Ok(())
 }
@@ -113,7 +116,7 @@ fn a_part_of_a_block_is_no_block(rt: HostRuntime) -> Result<(), Fail> {
     let alloc = rt.alloc();
     for size in [0, 8191] {
         let files = vec![in alloc; (String::from_str(alloc, "e")?, vec![in alloc; 0u8; size]?)]?;
-        let (report, out, err) = run(&rt, files, STEADY, &["scan", "e"], &[])?;
+        let (report, out, err) = run(&rt, files, STEADY, &["scan", "e"], &[], &[])?;
         assert_eq!(rt; out.bytes().len(), 0);
         assert_eq!(rt; err.bytes().len(), 0);
         assert_eq!(rt; report.status, 0);
@@ -136,51 +139,87 @@ fn every_status(rt: HostRuntime) -> Result<(), Fail> {
     let length_1: Fails<'_> = (&[], &[(0, 1)], &[]);
     let length_2: Fails<'_> = (&[], &[(0, 2)], &[]);
     let open_1: Fails<'_> = (&[1], &[], &[]);
-    let rows: [(&[Parts<'_>], Fails<'_>, &[&str], (&str, &str, u8)); 11] = [
+    let rows: [(&str, &[Parts<'_>], Fails<'_>, &[&str], (&str, &str, u8)); 11] = [
         (
+            "a second file that is damaged",
             two,
             STEADY,
             &["scan", "f", "g"],
             (both, "invalid page 1 0\n", 1),
         ),
         (
+            "a read that fails",
             three,
             read_2,
             &["scan", "f"],
             (E_LINE, "unread page 0 1\n", 3),
         ),
         (
+            "from above to",
             three,
             STEADY,
             &["scan", "--from", "2", "--to", "1", "f"],
             ("", "", 0),
         ),
-        (&[EMPTY], STEADY, &["scan", "f", "f"], (again, "", 0)),
         (
+            "a file twice",
+            &[EMPTY],
+            STEADY,
+            &["scan", "f", "f"],
+            (again, "", 0),
+        ),
+        (
+            "to behind the end",
             four,
             STEADY,
             &["scan", "--from", "3", "--to", "4", "f"],
             (last, "no page 0 4\n", 6),
         ),
-        (four, STEADY, &["scan", "--from", "4", "f"], ("", "", 0)),
-        (two, length_1, &["scan", "f"], ("", "no length 0\n", 3)),
         (
+            "from behind the end",
+            four,
+            STEADY,
+            &["scan", "--from", "4", "f"],
+            ("", "", 0),
+        ),
+        (
+            "a first length that fails",
+            two,
+            length_1,
+            &["scan", "f"],
+            ("", "no length 0\n", 3),
+        ),
+        (
+            "a second length that fails",
             two,
             length_2,
             &["scan", "f", "f", "g"],
             ("", "no length 1\n", 3),
         ),
-        (two, open_1, &["scan", "f"], ("", "cannot open\n", 3)),
-        (two, STEADY, &["scan", "h"], ("", "cannot open\n", 3)),
         (
+            "an open that fails",
+            two,
+            open_1,
+            &["scan", "f"],
+            ("", "cannot open\n", 3),
+        ),
+        (
+            "a file that is not there",
+            two,
+            STEADY,
+            &["scan", "h"],
+            ("", "cannot open\n", 3),
+        ),
+        (
+            "to for each file",
             two,
             STEADY,
             &["scan", "--to", "0", "f", "g", "f"],
             (E_LINE, "invalid page 1 0\n", 1),
         ),
     ];
-    for (pages, fails, words, wanted) in rows {
-        expect(&rt, (pages, bad), fails, words, &[], wanted)?;
+    for (name, pages, fails, words, wanted) in rows {
+        expect(&rt, name, (pages, bad), fails, words, &[], wanted)?;
     }
     Ok(())
 }
@@ -190,12 +229,26 @@ fn an_output_that_fails_after_5_bytes(rt: HostRuntime) -> Result<(), Fail> {
     let wanted = ("page ", "cannot write\n", 4);
     expect(
         &rt,
+        "an output that fails",
         (&[EMPTY], &[]),
         STEADY,
         &["scan", "f"],
         &[(1, 5)],
         wanted,
     )
+}
+
+#[test]
+fn an_error_stream_that_fails_after_3_bytes(rt: HostRuntime) -> Result<(), Fail> {
+    let alloc = rt.alloc();
+    let files = vec![in alloc; (String::from_str(alloc, "f")?, file_of(alloc, &[EMPTY])?)]?;
+    let read_1: Fails<'_> = (&[], &[], &[(0, 1)]);
+    let (report, out, err) = run(&rt, files, read_1, &["scan", "f"], &[], &[(1, 3)])?;
+    assert_eq!(rt; out.bytes().len(), 0);
+    assert_eq!(rt; err.bytes(), "unr".as_bytes());
+    assert_eq!(rt; report.line, Line::Cut);
+    assert_eq!(rt; report.status, 3);
+    Ok(())
 }
 
 #[test]
@@ -216,7 +269,15 @@ fn words_that_are_no_command(rt: HostRuntime) -> Result<(), Fail> {
         &["scan", "--from", "0", "--from", "0", "f"],
     ];
     for words in rows {
-        expect(&rt, (&[EMPTY], &[]), STEADY, words, &[], ("", USAGE, 2))?;
+        expect(
+            &rt,
+            "no command",
+            (&[EMPTY], &[]),
+            STEADY,
+            words,
+            &[],
+            ("", USAGE, 2),
+        )?;
     }
     Ok(())
 }

@@ -164,7 +164,7 @@ fn random_requests(rt: HostRuntime) -> Result<(), Fail> {
             (String::from_str(alloc, "a")?, a),
             (String::from_str(alloc, "b")?, b),
         ]?;
-        let (report, out, err) = run(&rt, files, STEADY, words.as_slice(), &[])?;
+        let (report, out, err) = run(&rt, files, STEADY, words.as_slice(), &[], &[])?;
         assert_eq!(rt; out.bytes(), text.as_str().as_bytes());
         assert_eq!(rt; err.bytes(), line.as_str().as_bytes());
         assert_eq!(rt; report.status, status);

@@ -7,11 +7,12 @@ use aio_disk::{DeviceFault, Disk, MemSink, OpenFault, Shelf};
 use page_check::Page;
 use std::test::Fail;
 
-// A disk whose relations all have this length, and whose reads see no page.
+// A disk whose relations all have this length, and whose reads see no page. It counts its calls.
 #[derive(Drop)]
 struct LongDisk {
     count: u32,
     length: u32,
+    lengths: u64,
     reads: u64,
 }
 
@@ -27,6 +28,7 @@ impl Disk for LongDisk {
     ghost reads = { λ d. d.reads };
 
     fn blocks(&mut self, _relation: u32) -> Result<u32, DeviceFault> {
+        self.lengths = self.lengths.saturating_add(1);
         Ok(self.length)
     }
 
@@ -46,6 +48,8 @@ struct LongShelf {
     length: u32,
     open_faults: u64,
     reads: u64,
+    opens: u64,
+    lengths: u64,
 }
 
 impl Shelf for LongShelf {
@@ -53,15 +57,15 @@ impl Shelf for LongShelf {
 
     ghost told = { λ s. None };
 
-    ghost open_faults = { λ s. s.open_faults };
-
-    ghost length_faults = { λ s. 0 };
-
-    ghost faults = { λ s. 0 };
-
-    ghost reads = { λ s. s.reads };
+    ghost counts = { λ s. record {
+      open_faults = s.open_faults;
+      length_faults = 0;
+      faults = 0;
+      reads = s.reads;
+    } };
 
     fn open(&mut self, names: &[String]) -> Result<LongDisk, OpenFault> {
+        self.opens = self.opens.saturating_add(1);
         let Ok(count) = u32::try_from(names.len()) else {
             self.open_faults = self.open_faults.saturating_add(1);
             return Err(OpenFault::Device);
@@ -69,12 +73,14 @@ impl Shelf for LongShelf {
         Ok(LongDisk {
             count,
             length: self.length,
+            lengths: 0,
             reads: 0,
         })
     }
 
     fn take_back(&mut self, disk: LongDisk) {
         self.reads = self.reads.saturating_add(disk.reads);
+        self.lengths = self.lengths.saturating_add(disk.lengths);
     }
 }
 
@@ -82,15 +88,17 @@ impl Shelf for LongShelf {
 fn lengths_that_nothing_tells(rt: HostRuntime) -> Result<(), Fail> {
     let alloc = rt.alloc();
     let rows = [
-        (131073, "relation 0 is too long\n", 7),
-        (131072, "no page 0 0\n", 6),
-        (0, "", 0),
+        (131073, "relation 0 is too long\n", 7, (1, 0)),
+        (131072, "no page 0 0\n", 6, (2, 1)),
+        (0, "", 0, (2, 0)),
     ];
-    for (length, line, status) in rows {
+    for (length, line, status, calls) in rows {
         let mut shelf = LongShelf {
             length,
             open_faults: 0,
             reads: 0,
+            opens: 0,
+            lengths: 0,
         };
         let words = texts(alloc, &["scan", "f", "g"])?;
         let mut out = MemSink::make(alloc, Vec::new(alloc));
@@ -99,6 +107,8 @@ fn lengths_that_nothing_tells(rt: HostRuntime) -> Result<(), Fail> {
         assert_eq!(rt; out.bytes().len(), 0);
         assert_eq!(rt; err.bytes(), line.as_bytes());
         assert_eq!(rt; report.status, status);
+        assert_eq!(rt; shelf.opens, 1);
+        assert_eq!(rt; (shelf.lengths, shelf.reads), calls);
     }
     Ok(())
 }

@@ -1,4 +1,4 @@
-use Rattle.std.proofs.Common.{◌∙◌, sym, ap, length, map, arith, refl}
+use Rattle.std.proofs.Common.{◌∙◌, sym, ap, length, map, arith}
 use Rattle.std.specs.Prelude.{string_bytes}
 use Rattle.std.proofs.lemmas.List.{length-map}
 use Rattle.aio_disk.specs.Counts.{raised_by}
@@ -6,17 +6,20 @@ use Rattle.aio_disk.specs.Shelf.{told_of}
 use Rattle.aioscan_cmd.specs.Command.{relations_of}
 use Rattle.aioscan_cmd.specs.CommandWords.{asked_by}
 use Rattle.aioscan_cmd.proofs.EndOfRun.{ran_out_of_memory, ran_without_disk, ran_on_shelf}
+use Rattle.aioscan_cmd.proofs.EndOfRun.{ran_still}
 use Rattle.aioscan_cmd.proofs.Files.{relations_of-length}
 use Rattle.aioscan_cmd.proofs.run.run_command.Goals as goal
 
 pub returns-in_default-clause-ran : goal.returns-in_default-clause-ran
-returns-in_default-clause-ran g c = ran_out_of_memory _ _ _ _ _ _ _ refl
+returns-in_default-clause-ran g c = ran_out_of_memory _ _ _ _
 
 pub returns-in-Err-Device-clause-ran : goal.returns-in-Err-Device-clause-ran
-returns-in-Err-Device-clause-ran g c = ran_without_disk _ _ _ _ _ _
+returns-in-Err-Device-clause-ran g c =
+    ran_still _ _ _ _ _ _ _ c.in-Err-Device.ensures.reads (ran_without_disk _ _ _ _)
 
 pub returns-in-Err-Memory-clause-ran : goal.returns-in-Err-Memory-clause-ran
-returns-in-Err-Memory-clause-ran g c = ran_out_of_memory _ _ _ _ _ _ _ refl
+returns-in-Err-Memory-clause-ran g c =
+    ran_still _ _ _ _ _ _ _ c.in-Err-Memory.ensures.reads (ran_out_of_memory _ _ _ _)
 
 pub scan_disk-outcome-requires-clause-few : goal.scan_disk-outcome-requires-clause-few
 scan_disk-outcome-requires-clause-few g c κs within =

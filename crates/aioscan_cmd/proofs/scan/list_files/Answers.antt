@@ -1,25 +1,21 @@
-use Rattle.std.proofs.Common.{◌≤◌, ◌∙◌, List, rules, arith, refl, sym, ap, length}
-use Rattle.std.specs.Prelude.{string_bytes, slice_index}
+use Rattle.std.proofs.Common.{◌≤◌, ◌∙◌, rules, arith, refl, sym, ap, length}
+use Rattle.std.specs.Prelude.{string_bytes, slice_index, Err}
 use Rattle.std.proofs.lemmas.List.{length-map}
 use Rattle.std.proofs.lemmas.Result.{err_from_is_err_and}
-use Rattle.aio_disk.specs.Counts.{raised_by}
 use Rattle.aioscan_cmd.specs.CommandWords.{asked_by}
-use Rattle.aioscan_cmd.specs.RequestList.{Request}
-use Rattle.aioscan_cmd.proofs.Composing.{ListsAll-none, ListsAll-same}
-use Rattle.aioscan_cmd.proofs.Files.{name_at, number_in_range, range_of_file, ListsAll-file}
-use Rattle.aioscan_cmd.proofs.Files.{ListsUpTo-file, reads_of_file, requests_up_to-all}
+use Rattle.aioscan_cmd.proofs.Lists.{lists_none, lists_same}
+use Rattle.aioscan_cmd.proofs.Causing.{causes_none, causes_append}
+use Rattle.aioscan_cmd.proofs.Files.{name_at, number_in_range, range_of_file, lists_file}
+use Rattle.aioscan_cmd.proofs.Files.{file_stopped, requests_up_to-all}
 use Rattle.aioscan_cmd.proofs.scan.list_files.Goals as goal
 
 pub loop-file-init : goal.loop-file-init
 loop-file-init g c = record {
   items = refl;
-  lists = ListsAll-none _ _;
-  read_faults = omega arith;
-  write_faults = omega arith;
+  lists = lists_none _ _;
+  causes = causes_none _ _;
   told = refl;
   relations = refl;
-  length_faults = refl;
-  reads = omega arith;
 }
 
 pub bounds-lengths-relation : goal.bounds-lengths-relation
@@ -65,8 +61,16 @@ returns-in_err-list_range-clause-lists g c =
     c.as_str.ensures.value c.requires.names c.number_of-relation.ensures c.first_block-first.ensures c.asked_count-count.ensures in
     let p = err_from_is_err_and c.from_residual.result c.from_residual.ensures.1 in
     rw (p.1, p.2)
-    (ListsUpTo-file _ _ _ _ _ _ _ _ _ _ c.loop-file.invariant.told at.0 at.1 c.loop-file.invariant.lists
-    (rw range.0 c.in_err-list_range.ensures.lists))
+    (file_stopped _ _ (slice_index c.args.lengths.now) (asked_by c.args.command.now)
+    c.loop-file.file-index (string_bytes c.file-item.result) _ _ _ _ c.loop-file.invariant.told at.0
+    at.1 (λ is. c.in_err-list_range.ensures.stops (ap Err is)) c.loop-file.invariant.lists
+    (lists_same _ _ _ _ _ _ (sym range) c.in_err-list_range.ensures.lists))
+
+pub returns-in_err-list_range-clause-causes : goal.returns-in_err-list_range-clause-causes
+returns-in_err-list_range-clause-causes g c =
+    let p = err_from_is_err_and c.from_residual.result c.from_residual.ensures.1 in
+    rw (p.1, p.2)
+    (causes_append _ _ _ _ _ _ _ c.loop-file.invariant.causes c.in_err-list_range.ensures.causes)
 
 pub loop-file-preserved : goal.loop-file-preserved
 loop-file-preserved g c =
@@ -77,18 +81,13 @@ loop-file-preserved g c =
     c.as_str.ensures.value c.requires.names c.number_of-relation.ensures c.first_block-first.ensures c.asked_count-count.ensures in
     record {
       items = refl;
-      lists = ListsAll-file _ _ (slice_index c.args.lengths.now)
+      lists = lists_file _ _ (slice_index c.args.lengths.now)
           (asked_by c.args.command.now) c.loop-file.file-index
           (string_bytes c.file-item.result) _ _ _ c.loop-file.invariant.told at.0 at.1 c.loop-file.invariant.lists
-          (ListsAll-same _ _ _ _ _ (sym range.0) c.in_ok-list_range.ensures.lists);
-      read_faults = omega (arith, c.list_range.ensures.causes.later.0);
-      write_faults = omega (arith, c.list_range.ensures.causes.later.1);
+          (lists_same _ _ _ _ _ _ (sym range) c.in_ok-list_range.ensures.lists);
+      causes = causes_append _ _ _ _ _ _ _ c.loop-file.invariant.causes c.in_ok-list_range.ensures.causes;
       told = search rules;
       relations = search rules;
-      length_faults = search rules;
-      reads = reads_of_file (slice_index c.args.lengths.now)
-          (asked_by c.args.command.now) c.loop-file.file-index
-          (string_bytes c.file-item.result) _ _ _ at.0 at.1 c.loop-file.invariant.reads _ range.1 c.in_ok-list_range.ensures.reads;
     }
 
 pub returns-clause-lists : goal.returns-clause-lists
@@ -98,14 +97,4 @@ returns-clause-lists g c =
     omega (arith, length-map c.args.command.now.files.now string_bytes) in
     let same = requests_up_to-all
     (slice_index c.args.lengths.now) command c.loop-file.file-index all in
-    ListsAll-same _ _ _ _ _ same c.loop-file.invariant.lists
-
-pub returns-clause-reads : goal.returns-clause-reads
-returns-clause-reads g c =
-    let command = asked_by c.args.command.now in
-    let all : length command.files ≤ c.loop-file.file-index =
-    omega (arith, length-map c.args.command.now.files.now string_bytes) in
-    let same = requests_up_to-all
-    (slice_index c.args.lengths.now) command c.loop-file.file-index all in
-    c.loop-file.invariant.reads
-    ∙ ap (λ (l : List Request). raised_by (length l) (g.D.Disk.reads c.args.disk.now)) same
+    lists_same _ _ _ _ _ _ same c.loop-file.invariant.lists

@@ -1,0 +1,245 @@
+-- Lists of blocks that were listed one after the other.
+use Rattle.std.proofs.Common.{◌≡◌, ◌≢◌, ◌+◌, ℕ, List, [], ◌∷◌, ◌++◌, length, refl, sym, ap, ◌∙◌}
+use Rattle.std.proofs.Common.{subst, arith, length-append, append-nil}
+use Rattle.std.specs.Prelude.{Option, Some, None, slice_get, IfSome, ⊤}
+use Rattle.page_check.specs.Verdict.{IsValid}
+use Rattle.page_check.specs.SynchronousAnswer.{Ending, End, Reader}
+use Rattle.page_check.specs.SynchronousAnswer.{Page as FoundPage, Damaged, Absent, found_for}
+use Rattle.page_check.proofs.AnswersInOrder.{answered_none, slice_get_front, slice_get_back}
+use Rattle.page_check.proofs.AnswersOfLists.{answered_no_block, length_whole, answered_page}
+use Rattle.page_check.proofs.AnswersOfLists.{answered_last_page, answered_invalid}
+use Rattle.page_check.proofs.AnswersOfLists.{answered_past_end, answered_unread}
+use Rattle.heap_scan.specs.PageText.{page_text_of}
+use Rattle.heap_scan.specs.Listing.{listing}
+use Rattle.heap_scan.proofs.Jobs.{job_append, job_more, IsEarly}
+use Rattle.aio_disk.specs.Counts.{raised_by}
+use Rattle.aio_disk.specs.Sink.{Grew}
+use Rattle.aioscan_cmd.specs.RequestList.{Request, Page, request}
+use Rattle.aioscan_cmd.specs.Outcomes.{ending_of, stopped_at}
+use Rattle.aioscan_cmd.specs.Reading.{Seen, seen, GrewBy, reads_behind, Lists, ShowsPage}
+use Rattle.aioscan_cmd.specs.declared.report.Outcome.{Outcome}
+use Rattle.aioscan_cmd.specs.declared.report.Outcome.TheVariants.{Done, Invalid, Usage, CannotOpen}
+use Rattle.aioscan_cmd.specs.declared.report.Outcome.TheVariants.{NoLength, Unread, CannotWrite}
+use Rattle.aioscan_cmd.specs.declared.report.Outcome.TheVariants.{NoMemory, Missing, TooLong}
+use Rattle.aioscan_cmd.proofs.Growing.{Grew-nothing, Grew-append, GrewByPrefix-nothing}
+use Rattle.aioscan_cmd.proofs.Growing.{GrewByPrefix-append}
+
+no_listing : listing (let none : List Page = [] in none) ≡ []
+unfolding listing
+no_listing = refl
+
+one_listing : (g : Page) → page_text_of g.entry.relation g.entry.block g.page ≡ listing (g ∷ [])
+unfolding listing
+one_listing g = sym (append-nil (page_text_of g.entry.relation g.entry.block g.page))
+
+-- no blocks
+pub lists_none : (found : Option Reader) (s : Seen) → Lists found [] s s Done
+lists_none found s = record {
+  begun = refl;
+  text = [];
+  answer = record {
+    pages = [];
+    text_is = sym no_listing;
+    answers = answered_no_block found (λ _. ⊤);
+  };
+  here = λ e is. absurd (cc);
+  grew = Grew-nothing s.written;
+  reads = omega arith;
+}
+
+GrewBy-append : (o : Outcome) (b m a : Option (List ℕ)) (xs ys : List ℕ) → Grew b m xs
+    → GrewBy o m a ys → GrewBy o b a (xs ++ ys)
+GrewBy-append CannotWrite b m a xs ys first second = GrewByPrefix-append b m a xs ys first second
+GrewBy-append NoMemory b m a xs ys first second = GrewByPrefix-append b m a xs ys first second
+GrewBy-append Done b m a xs ys first second = Grew-append b m a xs ys first second
+GrewBy-append (Invalid r c) b m a xs ys first second = Grew-append b m a xs ys first second
+GrewBy-append (Missing r c) b m a xs ys first second = Grew-append b m a xs ys first second
+GrewBy-append (Unread r c) b m a xs ys first second = Grew-append b m a xs ys first second
+GrewBy-append Usage b m a xs ys first second = Grew-append b m a xs ys first second
+GrewBy-append CannotOpen b m a xs ys first second = Grew-append b m a xs ys first second
+GrewBy-append (NoLength r) b m a xs ys first second = Grew-append b m a xs ys first second
+GrewBy-append (TooLong r) b m a xs ys first second = Grew-append b m a xs ys first second
+
+reads_append : (f g k before middle now : ℕ) → middle ≡ raised_by (f + 0) before
+    → now ≡ raised_by (g + k) middle → now ≡ raised_by (f + g + k) before
+reads_append f g k before middle now first second = omega arith
+
+-- some blocks to their end, and then some more
+pub lists_append : (found : Option Reader) (xs ys : List Request) (b m a : Seen) (o : Outcome)
+    → Lists found xs b m Done → Lists found ys m a o → Lists found (xs ++ ys) b a o
+unfolding job_append
+lists_append found xs ys b m a o front back =
+    let n = length front.answer.pages in
+    let k = length back.answer.pages in
+    let size : length (front.answer.pages ++ back.answer.pages) ≡ n + k =
+    length-append front.answer.pages back.answer.pages in
+    let all : n ≡ length xs =
+    length_whole found xs front.answer.pages front.answer.answers.endings.0 in record {
+      begun = back.begun;
+      text = front.text ++ back.text;
+      answer =
+          job_append found (λ _. ⊤) xs ys front.text back.text (ending_of o) front.answer
+          back.answer;
+      here = λ e is. (
+          ap (slice_get (xs ++ ys)) (size ∙ ap (λ (i : ℕ). i + k) all)
+          ∙ slice_get_back xs ys k ∙ back.here e is);
+      grew =
+          GrewBy-append o b.written m.written a.written front.text back.text front.grew back.grew;
+      reads =
+          reads_append n k (reads_behind (stopped_at o)) b.reads m.reads a.reads front.reads
+          back.reads
+          ∙ ap (λ (i : ℕ). raised_by (i + reads_behind (stopped_at o)) b.reads) (sym size);
+    }
+
+none_early : IsEarly None
+none_early = λ k d below. absurd (omega arith)
+
+one_early : (end : Ending) → end ≢ End → IsEarly (Some end)
+one_early end early = λ k d below. (let first : k ≡ 0 = omega arith in rw first early)
+
+early : (o : Outcome) → o ≢ Done → IsEarly (ending_of o)
+early Done stops = absurd (stops refl)
+early (Invalid r b) stops = one_early _ (λ e. cc)
+early (Missing r b) stops = one_early _ (λ e. cc)
+early (Unread r b) stops = one_early _ (λ e. cc)
+early CannotWrite stops = none_early
+early NoMemory stops = none_early
+early Usage stops = none_early
+early CannotOpen stops = none_early
+early (NoLength r) stops = none_early
+early (TooLong r) stops = none_early
+
+-- listing stopped, whatever is asked for behind
+pub lists_more : (found : Option Reader) (xs ys : List Request) (b a : Seen) (o : Outcome)
+    → o ≢ Done → Lists found xs b a o → Lists found (xs ++ ys) b a o
+unfolding job_more
+lists_more found xs ys b a o stops front = record {
+  begun = front.begun;
+  text = front.text;
+  answer =
+      job_more found (λ _. ⊤) xs ys front.text (ending_of o) (early o stops) front.answer;
+  here = λ e is. slice_get_front xs ys (length front.answer.pages) e (front.here e is);
+  grew = front.grew;
+  reads = front.reads;
+}
+
+pub lists_same : (found : Option Reader) (xs ys : List Request) (b a : Seen) (o : Outcome)
+    → xs ≡ ys → Lists found xs b a o → Lists found ys b a o
+lists_same found xs ys b a o same lists =
+    let P : List Request → Type 0 = λ l. Lists found l b a o in subst P same lists
+
+-- there was no memory before a block was read
+pub lists_nothing : (found : Option Reader) (xs : List Request) (s : Seen)
+    → Lists found xs s s NoMemory
+lists_nothing found xs s = record {
+  begun = refl;
+  text = [];
+  answer =
+      record { pages = []; text_is = sym no_listing; answers = answered_none found (λ _. ⊤) xs };
+  here = λ e is. absurd (cc);
+  grew = GrewByPrefix-nothing s.written s.written [] refl;
+  reads = omega arith;
+}
+
+-- one block that was not read
+pub block_unread : (found : Option Reader) (r b : ℕ) (output : Option (List ℕ)) (reads now : ℕ)
+    → now ≡ raised_by 1 reads
+    → Lists found (request r b ∷ []) (seen output reads) (seen output now) (Unread r b)
+block_unread found r b output reads now made = record {
+  begun = refl;
+  text = [];
+  answer = record {
+    pages = [];
+    text_is = sym no_listing;
+    answers = answered_unread found (λ _. ⊤) (request r b) tt;
+  };
+  here = λ e is. is;
+  grew = Grew-nothing output;
+  reads = omega (arith, made);
+}
+
+-- one that the relation does not have
+pub block_missing : (found : Option Reader) (r b : ℕ) (output : Option (List ℕ)) (reads now : ℕ)
+    → IfSome found (λ f. found_for f (request r b) ≡ Absent) → now ≡ raised_by 1 reads
+    → Lists found (request r b ∷ []) (seen output reads) (seen output now) (Missing r b)
+block_missing found r b output reads now absent made = record {
+  begun = refl;
+  text = [];
+  answer = record {
+    pages = [];
+    text_is = sym no_listing;
+    answers = answered_past_end found (λ _. ⊤) (request r b) absent;
+  };
+  here = λ e is. is;
+  grew = Grew-nothing output;
+  reads = omega (arith, made);
+}
+
+-- what was read of one block
+pub record OneRead (found : Option Reader) (r b : ℕ) (page : List ℕ) : Type 0 where
+  pub valid : IsValid page → IfSome found (λ f. found_for f (request r b) ≡ FoundPage page)
+  pub bad : (IsValid page → ⊥) → IfSome found (λ f. found_for f (request r b) ≡ Damaged)
+
+-- and its page shown
+pub block_shown : (found : Option Reader) (r b : ℕ) (page : List ℕ)
+    (before after : Option (List ℕ)) (reads now : ℕ) (o : Outcome) → OneRead found r b page
+    → ShowsPage page r b before after o → now ≡ raised_by 1 reads
+    → Lists found (request r b ∷ []) (seen before reads) (seen after now) o
+block_shown found r b page before after reads now Done read shows made = record {
+  begun = refl;
+  text = page_text_of r b page;
+  answer = record {
+    pages = record { entry = request r b; page = page } ∷ [];
+    text_is = one_listing (record { entry = request r b; page = page });
+    answers =
+        answered_last_page found (λ _. ⊤) (request r b) page shows.0 (read.valid shows.0);
+  };
+  here = λ e is. absurd (cc);
+  grew = shows.1;
+  reads = omega (arith, made);
+}
+block_shown found r b page before after reads now (Invalid s c) read shows made =
+    let bad = shows.0 in
+    let same = shows.3 in
+    rw (shows.1, shows.2, same) (record {
+      begun = refl;
+      text = [];
+      answer = record {
+        pages = [];
+        text_is = sym no_listing;
+        answers = answered_invalid found (λ _. ⊤) (request r b) (read.bad (λ valid. valid bad));
+      };
+      here = λ e is. is;
+      grew = Grew-nothing before;
+      reads = omega (arith, made);
+    })
+block_shown found r b page before after reads now CannotWrite read shows made = record {
+  begun = refl;
+  text = page_text_of r b page;
+  answer = record {
+    pages = record { entry = request r b; page = page } ∷ [];
+    text_is = one_listing (record { entry = request r b; page = page });
+    answers = answered_page found (λ _. ⊤) (request r b) page shows.0 (read.valid shows.0);
+  };
+  here = λ e is. absurd (cc);
+  grew = shows.1;
+  reads = omega (arith, made);
+}
+block_shown found r b page before after reads now NoMemory read shows made = record {
+  begun = refl;
+  text = page_text_of r b page;
+  answer = record {
+    pages = record { entry = request r b; page = page } ∷ [];
+    text_is = one_listing (record { entry = request r b; page = page });
+    answers = answered_page found (λ _. ⊤) (request r b) page shows.0 (read.valid shows.0);
+  };
+  here = λ e is. absurd (cc);
+  grew = shows.1;
+  reads = omega (arith, made);
+}
+block_shown found r b page before after reads now (Missing s c) read shows made = absurd shows
+block_shown found r b page before after reads now (Unread s c) read shows made = absurd shows
+block_shown found r b page before after reads now Usage read shows made = absurd shows
+block_shown found r b page before after reads now CannotOpen read shows made = absurd shows
+block_shown found r b page before after reads now (NoLength s) read shows made = absurd shows
+block_shown found r b page before after reads now (TooLong s) read shows made = absurd shows

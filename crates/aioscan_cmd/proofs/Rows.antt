@@ -1,0 +1,40 @@
+-- Worked commands: which relations their words name, and which blocks they ask for.
+use Rattle.std.proofs.Common.{◌≡◌, ℕ, List, [], ◌∷◌, refl}
+use Rattle.std.specs.Prelude.{Option, Some, None}
+use Rattle.aioscan_cmd.specs.Command.{Command, relations_of, relation_number}
+use Rattle.aioscan_cmd.specs.RequestList.{request, requests_of}
+
+-- the names `f` and `g`
+abbrev f : List ℕ
+f = 102 ∷ []
+
+abbrev g : List ℕ
+g = 103 ∷ []
+
+abbrev command_with : Option ℕ → Option ℕ → List (List ℕ) → Command
+command_with first last names = record { from = first; to = last; files = names }
+
+-- a name that comes again is no new relation
+g_is_the_second : (relations_of (command_with None None (f ∷ g ∷ f ∷ [])) ≡ f ∷ g ∷ [])
+    × (relation_number g (f ∷ g ∷ []) ≡ 1)
+g_is_the_second = (refl, refl)
+
+-- but its blocks are listed again
+f_again : requests_of (λ r. 1) (command_with None None (f ∷ g ∷ f ∷ []))
+    ≡ request 0 0 ∷ request 1 0 ∷ request 0 0 ∷ []
+unfolding requests_of
+f_again = refl
+
+from_above_to : requests_of (λ r. 3) (command_with (Some 2) (Some 1) (f ∷ [])) ≡ []
+unfolding requests_of
+from_above_to = refl
+
+-- blocks behind the end are asked for by `--to`
+to_behind_the_end : requests_of (λ r. 4) (command_with (Some 3) (Some 4) (f ∷ []))
+    ≡ request 0 3 ∷ request 0 4 ∷ []
+unfolding requests_of
+to_behind_the_end = refl
+
+from_the_end : requests_of (λ r. 4) (command_with (Some 4) None (f ∷ [])) ≡ []
+unfolding requests_of
+from_the_end = refl

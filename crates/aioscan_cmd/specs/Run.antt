@@ -1,0 +1,114 @@
+-- What a run asks for, and what one thread's synchronous reads of it give.
+use Rattle.std.specs.Prelude.{◌≡◌, ℕ, ◌<◌, ◌≤◌, List, length, take, slice_get, Option, Some, None}
+use Rattle.std.specs.Prelude.{IfSome, false, true}
+use Rattle.page_check.specs.Told.{Told, blocks_of}
+use Rattle.page_check.specs.SynchronousAnswer.{Found, Page as FoundPage, Damaged, Absent, found_for}
+use Rattle.page_check.specs.SynchronousAnswer.{Reader, found_at, reader_of, pages_of, stop_of}
+use Rattle.heap_scan.specs.Listing.{listing}
+use Rattle.aio_disk.specs.Shelf.{Files, told_of}
+use Rattle.aio_disk.specs.Sink.{Grew, GrewByPrefix}
+use Rattle.aioscan_cmd.specs.Command.{Command, length_limit, relations_of}
+use Rattle.aioscan_cmd.specs.RequestList.{Request, Page, request, requests_of}
+use Rattle.aioscan_cmd.specs.Outcomes.{is_refused}
+use Rattle.aioscan_cmd.specs.Reading.{Seen, Lists}
+use Rattle.aioscan_cmd.specs.declared.report.Outcome.{Outcome}
+use Rattle.aioscan_cmd.specs.declared.report.Outcome.TheVariants.{Done, Invalid, Usage, CannotOpen}
+use Rattle.aioscan_cmd.specs.declared.report.Outcome.TheVariants.{NoLength, Unread, CannotWrite}
+use Rattle.aioscan_cmd.specs.declared.report.Outcome.TheVariants.{NoMemory, Missing, TooLong}
+
+-- the outcome where nothing but the pages ends a run
+abbrev pub outcome_by : Found → ℕ → ℕ → Outcome
+outcome_by (FoundPage bytes) r b = Done
+outcome_by Damaged r b = Invalid r b
+outcome_by Absent r b = Missing r b
+
+abbrev pub outcome_at : Reader → Option Request → Outcome
+outcome_at found None = Done
+outcome_at found (Some e) = outcome_by (found_for found e) e.relation e.block
+
+-- over contents that are told: how many relations there are, how many blocks each has, the blocks
+-- that are asked for, their pages, how that ends, and what is written
+pub record SynchronousRun : Type 0 where
+  pub relations : ℕ
+  pub lengths : ℕ → ℕ
+  pub requests : List Request
+  pub pages : List Page
+  pub outcome : Outcome
+  pub text : List ℕ
+
+abbrev pub run_of : Told → Command → SynchronousRun
+run_of told command =
+    let requests = requests_of (blocks_of told) command in
+    let pages = pages_of (found_at told) requests in record {
+      relations = length (relations_of command);
+      lengths = blocks_of told;
+      requests = requests;
+      pages = pages;
+      outcome = outcome_at (found_at told) (stop_of (found_at told) requests);
+      text = listing pages;
+    }
+
+-- a fact about that run, where the words are a command and the shelf tells
+abbrev pub OnTold : Option Files → Option Command → (SynchronousRun → Type 0) → Type 0
+OnTold files command P =
+    IfSome command (λ c. IfSome (told_of files (relations_of c)) (λ told. P (run_of told c)))
+
+-- a block could not be read, and the pages before it were listed
+pub record IsCutAt (run : SynchronousRun) (before after : Option (List ℕ)) (r b : ℕ) : Type 0 where
+  pub k : ℕ
+  pub here : slice_get run.requests k ≡ Some (request r b)
+  pub among : k ≤ length run.pages
+  pub grew : Grew before after (listing (take k run.pages))
+
+-- what a run with this outcome has written
+abbrev pub Writes : SynchronousRun → Option (List ℕ) → Option (List ℕ) → Outcome → Type 0
+Writes run before after Done = (run.outcome ≡ Done) × Grew before after run.text
+Writes run before after (Invalid r b) =
+    (run.outcome ≡ Invalid r b) × Grew before after run.text
+Writes run before after (Missing r b) =
+    (run.outcome ≡ Missing r b) × Grew before after run.text
+Writes run before after (Unread r b) = IsCutAt run before after r b
+Writes run before after CannotWrite = GrewByPrefix before after run.text
+Writes run before after NoMemory = GrewByPrefix before after run.text
+Writes run before after Usage = after ≡ before
+Writes run before after CannotOpen = after ≡ before
+Writes run before after (NoLength r) = after ≡ before
+Writes run before after (TooLong r) = after ≡ before
+
+-- the relations before this one are not too long
+abbrev pub EarlierFit : (ℕ → ℕ) → ℕ → Type 0
+EarlierFit lengths r = (q : ℕ) → q < r → lengths q ≤ length_limit
+
+-- lengths are taken in order, each tested before the next is taken: those before the one that is
+-- named fit, and all fit where blocks were read
+abbrev pub FitsInOrder : (ℕ → ℕ) → ℕ → Outcome → Type 0
+FitsInOrder lengths relations (TooLong r) =
+    (r < relations) × (length_limit < lengths r) × EarlierFit lengths r
+FitsInOrder lengths relations (NoLength r) = (r < relations) × EarlierFit lengths r
+FitsInOrder lengths relations Done = EarlierFit lengths relations
+FitsInOrder lengths relations (Invalid r b) = EarlierFit lengths relations
+FitsInOrder lengths relations (Missing r b) = EarlierFit lengths relations
+FitsInOrder lengths relations (Unread r b) = EarlierFit lengths relations
+FitsInOrder lengths relations CannotWrite = EarlierFit lengths relations
+FitsInOrder lengths relations NoMemory = Unit {0}
+FitsInOrder lengths relations Usage = Unit {0}
+FitsInOrder lengths relations CannotOpen = Unit {0}
+
+-- the lengths that are told, or else those that were answered
+abbrev pub lengths_known : Option Told → (ℕ → ℕ) → ℕ → ℕ
+lengths_known (Some told) answered = blocks_of told
+lengths_known None answered = answered
+
+-- what is known of a run whether or not its contents are told
+pub record Ran (told : Option Told) (relations : ℕ) (command : Command) (before now : Seen)
+    (outcome : Outcome) : Type 0 where
+  pub answered : ℕ → ℕ
+  pub in_order : FitsInOrder (lengths_known told answered) relations outcome
+  pub lists : is_refused outcome ≡ false
+      → Lists (reader_of told) (requests_of (lengths_known told answered) command) before now outcome
+  pub untouched : is_refused outcome ≡ true → now ≡ before
+
+abbrev pub RanOn : Option Files → Option Command → Seen → Seen → Outcome → Type 0
+RanOn files command before now outcome =
+    IfSome command (λ c.
+    Ran (told_of files (relations_of c)) (length (relations_of c)) c before now outcome)

@@ -1,0 +1,43 @@
+-- Jobs that come one after the other.
+use Rattle.std.proofs.Common.{◌≡◌, ◌≢◌, ℕ, List, ◌++◌, sym}
+use Rattle.std.specs.Prelude.{Option, Some}
+use Rattle.std.specs.List.{All}
+use Rattle.std.proofs.lemmas.Grind.{flat_map-append}
+use Rattle.page_check.specs.SynchronousAnswer.{Entry, Given, Ending, End, Reader}
+use Rattle.page_check.proofs.AnswersOfLists.{answered_append, answered_more}
+use Rattle.heap_scan.specs.PageText.{page_text_of}
+use Rattle.heap_scan.specs.Listing.{listing}
+use Rattle.heap_scan.specs.Job.{endings_of, IsJobAnswer}
+
+-- the end of a job that did not reach the end of its blocks
+abbrev pub IsEarly : Option Ending → Type 0
+IsEarly end = All (λ e. e ≢ End) (endings_of end)
+
+module _ {P : Type 0} where
+  pub listing-append : (xs ys : List (Given P)) → listing (xs ++ ys) ≡ listing xs ++ listing ys
+  unfolding listing
+  listing-append xs ys =
+      flat_map-append (λ (g : Given P). page_text_of g.entry.relation g.entry.block g.page) xs ys
+
+  -- a job that was listed to its end, and then another
+  unfoldable pub job_append : (found : Option Reader) (may : Entry P → Type 0) (xs ys : List (Entry P))
+      (front back : List ℕ) (end : Option Ending) → IsJobAnswer found may xs front (Some End)
+      → IsJobAnswer found may ys back end → IsJobAnswer found may (xs ++ ys) (front ++ back) end
+  job_append found may xs ys front back end first second = record {
+    pages = first.pages ++ second.pages;
+    text_is = (let one = first.text_is in let two = second.text_is in
+        rw (one, two) (sym (listing-append first.pages second.pages)));
+    answers =
+        answered_append found may xs ys first.pages second.pages (endings_of end) first.answers
+        second.answers;
+  }
+
+  -- a job that did not reach the end of its blocks is one of more
+  unfoldable pub job_more : (found : Option Reader) (may : Entry P → Type 0) (xs ys : List (Entry P))
+      (text : List ℕ) (end : Option Ending) → IsEarly end → IsJobAnswer found may xs text end
+      → IsJobAnswer found may (xs ++ ys) text end
+  job_more found may xs ys text end early job = record {
+    pages = job.pages;
+    text_is = job.text_is;
+    answers = answered_more found may xs ys job.pages (endings_of end) early job.answers;
+  }

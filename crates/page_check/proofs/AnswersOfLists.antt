@@ -1,0 +1,379 @@
+-- Answers to lists that are joined.
+use Rattle.std.proofs.Common.{◌≡◌, ◌≢◌, ◌⊎◌, ℕ, ◌+◌, List, [], ◌∷◌, ◌++◌, length, map, refl, sym, ap}
+use Rattle.std.proofs.Common.{◌∙◌, arith, append_assoc, append-nil, inl, inr, false, subst}
+use Rattle.std.proofs.Common.{length-append}
+use Rattle.std.specs.Prelude.{Option, Some, None, slice_get}
+use Rattle.std.specs.List.{All}
+use Rattle.std.proofs.lemmas.List.{length-map, map-append}
+use Rattle.std.proofs.lemmas.List.Elements.{All-append}
+use Rattle.page_check.specs.Verdict.{IsValid}
+use Rattle.page_check.specs.SynchronousAnswer.{Entry, Given, Ending, End, Invalid, PastEnd, Unread}
+use Rattle.page_check.specs.SynchronousAnswer.{Found, Page, Damaged, Absent, Reader}
+use Rattle.page_check.specs.SynchronousAnswer.{found_for, is_page, can_read, pages_of, stop_of}
+use Rattle.page_check.specs.SynchronousAnswer.{ending_in, ending_at, ending_of}
+use Rattle.page_check.specs.IsAnswer.{Begins, AreFirst, StopsAt, EndsAt, IsEnding, IsAnswer}
+use Rattle.page_check.specs.IsAnswer.{OneEnding}
+use Rattle.page_check.proofs.SynchronousReads.{pages_of-cons, stop_of-cons, pages_of-none}
+use Rattle.page_check.proofs.SynchronousReads.{pages_of-stop, stop_of-stop, stop_of-none}
+use Rattle.page_check.proofs.AnswersInOrder.{begins_more, begins_all, slice_get_front}
+use Rattle.page_check.proofs.AnswersInOrder.{first_none, one_valid, no_others}
+use Rattle.page_check.specs.SynchronousAnswer.{read_count, given_for}
+use Rattle.std.specs.Prelude.{IfSome, ⊤}
+use Rattle.std.proofs.Common.{take}
+use Rattle.std.proofs.lemmas.List.Folds.{length-prefix_len}
+use Rattle.page_check.proofs.AnswersInOrder.{slice_get_back}
+
+-- an entry gives its page, or reading stops at it
+gives_or_stops : (r : Found) → ((bytes : List ℕ) × (r ≡ Page bytes)) ⊎ (is_page r ≡ false)
+gives_or_stops (Page bytes) = inl (bytes, refl)
+gives_or_stops Damaged = inr refl
+gives_or_stops Absent = inr refl
+
+not_end : (r : Found) (block : ℕ) → is_page r ≡ false → ending_in r block ≢ End
+not_end (Page bytes) block none is = absurd (cc)
+not_end Damaged block none is = absurd (cc)
+not_end Absent block none is = absurd (cc)
+
+module _ {P : Type 0} (f : Reader) where
+  -- what a list that was given whole adds
+  pub record IsWhole (xs ys : List (Entry P)) : Type 0 where
+    pub all : length (pages_of f xs) ≡ length xs
+    pub pages : pages_of f (xs ++ ys) ≡ pages_of f xs ++ pages_of f ys
+    pub stop : stop_of f (xs ++ ys) ≡ stop_of f ys
+
+  whole_next : (x : Entry P) (bytes : List ℕ) (xs ys : List (Entry P))
+      → found_for f x ≡ Page bytes → IsWhole xs ys → IsWhole (x ∷ xs) ys
+  whole_next x bytes xs ys is rest =
+      let g : Given P = record { entry = x; page = bytes } in
+      let here = pages_of-cons f g xs is in record {
+        all = omega (arith, ap length here, rest.all);
+        pages = pages_of-cons f g (xs ++ ys) is ∙ ap (λ (l : List (Given P)). g ∷ l) rest.pages
+            ∙ ap (λ (l : List (Given P)). l ++ pages_of f ys) (sym here);
+        stop = stop_of-cons f g (xs ++ ys) is ∙ rest.stop;
+      }
+
+  ending_next : (x : Entry P) (bytes : List ℕ) (xs : List (Entry P)) → found_for f x ≡ Page bytes
+      → ending_of f (x ∷ xs) ≡ ending_of f xs
+  ending_next x bytes xs is =
+      ap (ending_at f) (stop_of-cons f (record { entry = x; page = bytes }) xs is)
+
+  ending_here : (x : Entry P) (xs : List (Entry P)) → can_read f x ≡ false
+      → ending_of f (x ∷ xs) ≡ ending_in (found_for f x) x.block
+  ending_here x xs none = ap (ending_at f) (stop_of-stop f x xs none)
+
+  pub whole : (xs ys : List (Entry P)) → ending_of f xs ≡ End → IsWhole xs ys
+  whole [] ys end = record {
+    all = ap length (pages_of-none f);
+    pages = ap (λ (l : List (Given P)). l ++ pages_of f ys) (sym (pages_of-none f));
+    stop = refl;
+  }
+  whole (x ∷ xs) ys end = elim (gives_or_stops (found_for f x)) [
+    | inl is ↦ whole_next x is.0 xs ys is.1
+        (whole xs ys (sym (ending_next x is.0 xs is.1) ∙ end))
+    | inr none ↦ absurd (not_end (found_for f x) x.block none (sym (ending_here x xs none) ∙ end))
+  ]
+
+  -- what stands behind the entry at which a list stopped adds nothing
+  pub record IsStopped (xs ys : List (Entry P)) : Type 0 where
+    pub pages : pages_of f (xs ++ ys) ≡ pages_of f xs
+    pub stop : stop_of f (xs ++ ys) ≡ stop_of f xs
+
+  stopped_next : (x : Entry P) (bytes : List ℕ) (xs ys : List (Entry P))
+      → found_for f x ≡ Page bytes → IsStopped xs ys → IsStopped (x ∷ xs) ys
+  stopped_next x bytes xs ys is rest =
+      let g : Given P = record { entry = x; page = bytes } in record {
+        pages = pages_of-cons f g (xs ++ ys) is ∙ ap (λ (l : List (Given P)). g ∷ l) rest.pages
+            ∙ sym (pages_of-cons f g xs is);
+        stop = stop_of-cons f g (xs ++ ys) is ∙ rest.stop ∙ sym (stop_of-cons f g xs is);
+      }
+
+  pub stopped : (xs ys : List (Entry P)) → ending_of f xs ≢ End → IsStopped xs ys
+  stopped [] ys end = absurd (end (ap (ending_at {P = P} f) (stop_of-none f)))
+  stopped (x ∷ xs) ys end = elim (gives_or_stops (found_for f x)) [
+    | inl is ↦ stopped_next x is.0 xs ys is.1
+        (stopped xs ys (λ e. end (ending_next x is.0 xs is.1 ∙ e)))
+    | inr none ↦ record {
+      pages = pages_of-stop f x (xs ++ ys) none ∙ sym (pages_of-stop f x xs none);
+      stop = stop_of-stop f x (xs ++ ys) none ∙ sym (stop_of-stop f x xs none);
+    }
+  ]
+
+  begins_by : (end : Ending) (xs ys : List (Entry P)) → ending_of f xs ≡ end
+      → Begins (pages_of f xs) (pages_of f (xs ++ ys))
+  begins_by End xs ys is = (pages_of f ys, (whole xs ys is).pages)
+  begins_by (Invalid b) xs ys is =
+      ([], (stopped xs ys (λ e. cc)).pages ∙ sym (append-nil (pages_of f xs)))
+  begins_by (PastEnd b) xs ys is =
+      ([], (stopped xs ys (λ e. cc)).pages ∙ sym (append-nil (pages_of f xs)))
+  begins_by (Unread b) xs ys is =
+      ([], (stopped xs ys (λ e. cc)).pages ∙ sym (append-nil (pages_of f xs)))
+
+begins_trans : {X : Type 0} (xs ys zs : List X) → Begins xs ys → Begins ys zs → Begins xs zs
+begins_trans {X} xs ys zs first second = (
+  first.0 ++ second.0,
+  second.1 ∙ ap (λ (l : List X). l ++ second.0) first.1 ∙ append_assoc xs first.0 second.0,
+)
+
+begins_append : {X : Type 0} (front back more : List X) → Begins back more
+    → Begins (front ++ back) (front ++ more)
+begins_append {X} front back more begins = (
+  begins.0,
+  ap (λ (l : List X). front ++ l) begins.1 ∙ sym (append_assoc front back begins.0),
+)
+
+module _ {P : Type 0} where
+  -- the first pages of a list are those of a longer one
+  first_more : (found : Option Reader) (xs ys : List (Entry P)) (pages : List (Given P))
+      → AreFirst found xs pages → AreFirst found (xs ++ ys) pages
+  first_more None xs ys pages first =
+      (first.0, begins_more (map (λ (g : Given P). g.entry) pages) xs ys first.1)
+  first_more (Some f) xs ys pages first =
+      begins_trans pages (pages_of f xs) (pages_of f (xs ++ ys)) first
+      (begins_by f (ending_of f xs) xs ys refl)
+
+  stops_more : (may : Entry P → Type 0) (xs ys : List (Entry P)) (k b : ℕ) → StopsAt may xs k b
+      → StopsAt may (xs ++ ys) k b
+  stops_more may xs ys k b stops = record {
+    next = stops.next;
+    here = slice_get_front xs ys k stops.next stops.here;
+    named = stops.named;
+    cause = stops.cause;
+  }
+
+  ends_more_told : (f : Reader) (xs ys : List (Entry P)) (k : ℕ) (end : Ending) → end ≢ End
+      → EndsAt (Some f) xs k end → EndsAt (Some f) (xs ++ ys) k end
+  ends_more_told f xs ys k end more ends =
+      let same = stopped f xs ys (λ e. more (sym ends.1 ∙ e)) in
+      (ends.0 ∙ ap length (sym same.pages), ap (ending_at f) same.stop ∙ ends.1)
+
+  ending_more : (found : Option Reader) (may : Entry P → Type 0) (xs ys : List (Entry P)) (k : ℕ)
+      (end : Ending) → end ≢ End → IsEnding found may xs k end → IsEnding found may (xs ++ ys) k end
+  ending_more found may xs ys k End more is = absurd (more refl)
+  ending_more found may xs ys k (Unread b) more is = stops_more may xs ys k b is
+  ending_more None may xs ys k (Invalid b) more is = stops_more _ xs ys k b is
+  ending_more None may xs ys k (PastEnd b) more is = stops_more _ xs ys k b is
+  ending_more (Some f) may xs ys k (Invalid b) more is =
+      ends_more_told f xs ys k (Invalid b) (λ e. cc) is
+  ending_more (Some f) may xs ys k (PastEnd b) more is =
+      ends_more_told f xs ys k (PastEnd b) (λ e. cc) is
+
+  -- answers that stopped, or that have no ending yet, are those of any longer list
+  pub answered_more : (found : Option Reader) (may : Entry P → Type 0) (xs ys : List (Entry P))
+      (pages : List (Given P)) (endings : List Ending) → All (λ end. end ≢ End) endings
+      → IsAnswer found may xs (record { pages = pages; endings = endings })
+      → IsAnswer found may (xs ++ ys) (record { pages = pages; endings = endings })
+  answered_more found may xs ys pages [] stopped answer =
+      record { first = first_more found xs ys pages answer.first; endings = tt }
+  answered_more found may xs ys pages (end ∷ more) stopped answer = record {
+    first = first_more found xs ys pages answer.first;
+    endings = (
+      ending_more found may xs ys (length pages) end (stopped 0 end (omega arith)) answer.endings.0,
+      answer.endings.1,
+    );
+  }
+
+  -- a list that was answered to its end, as far as a longer one needs it
+  first_append : (found : Option Reader) (xs ys : List (Entry P)) (front back : List (Given P))
+      → AreFirst found xs front → EndsAt found xs (length front) End → AreFirst found ys back
+      → AreFirst found (xs ++ ys) (front ++ back)
+  first_append None xs ys front back first end second =
+      let entries : List (Given P) → List (Entry P) = map (λ g. g.entry) in
+      let all : xs ≡ entries front = begins_all (entries front) xs first.1
+      (length-map front (λ (g : Given P). g.entry) ∙ end) in
+      let begins = begins_append (entries front) (entries back) ys second.1 in (
+        All-append (λ (g : Given P). IsValid g.page) front back first.0 second.0,
+        (
+          begins.0,
+          ap (λ (l : List (Entry P)). l ++ ys) all ∙ begins.1
+              ∙ ap (λ (l : List (Entry P)). l ++ begins.0)
+              (sym (map-append (λ (g : Given P). g.entry) front back)),
+        ),
+      )
+  first_append (Some f) xs ys front back first end second =
+      let all : pages_of f xs ≡ front = begins_all front (pages_of f xs) first end.0 in
+      let begins = begins_append front back (pages_of f ys) second in (
+        begins.0,
+        (whole f xs ys end.1).pages ∙ ap (λ (l : List (Given P)). l ++ pages_of f ys) all
+            ∙ begins.1,
+      )
+
+  pub length_whole : (found : Option Reader) (xs : List (Entry P)) (front : List (Given P))
+      → EndsAt found xs (length front) End → length front ≡ length xs
+  length_whole None xs front end = end
+  length_whole (Some f) xs front end = end.0 ∙ (whole f xs [] end.1).all
+
+  stops_append : (may : Entry P → Type 0) (xs ys : List (Entry P)) (n k b : ℕ) → n ≡ length xs
+      → StopsAt may ys k b → StopsAt may (xs ++ ys) (n + k) b
+  stops_append may xs ys n k b same stops = record {
+    next = stops.next;
+    here = ap (λ (m : ℕ). slice_get (xs ++ ys) (m + k)) same ∙ slice_get_back xs ys k ∙ stops.here;
+    named = stops.named;
+    cause = stops.cause;
+  }
+
+  ends_append : (found : Option Reader) (xs ys : List (Entry P)) (front : List (Given P)) (k : ℕ)
+      (end : Ending) → EndsAt found xs (length front) End → EndsAt found ys k end
+      → EndsAt found (xs ++ ys) (length front + k) end
+  ends_append None xs ys front k End all ends = omega (arith, all, ends, length-append xs ys)
+  ends_append None xs ys front k (Invalid b) all ends =
+      stops_append _ xs ys (length front) k b all ends
+  ends_append None xs ys front k (PastEnd b) all ends =
+      stops_append _ xs ys (length front) k b all ends
+  ends_append None xs ys front k (Unread b) all ends = absurd ends
+  ends_append (Some f) xs ys front k end all ends =
+      let both = whole f xs ys all.1 in (
+        omega (
+          arith,
+          all.0,
+          ends.0,
+          ap length both.pages,
+          length-append (pages_of f xs) (pages_of f ys),
+        ),
+        ap (ending_at f) both.stop ∙ ends.1,
+      )
+
+  ending_append : (found : Option Reader) (may : Entry P → Type 0) (xs ys : List (Entry P))
+      (front : List (Given P)) (k : ℕ) (end : Ending) → EndsAt found xs (length front) End
+      → IsEnding found may ys k end → IsEnding found may (xs ++ ys) (length front + k) end
+  ending_append found may xs ys front k End all is = ends_append found xs ys front k End all is
+  ending_append found may xs ys front k (Invalid b) all is =
+      ends_append found xs ys front k (Invalid b) all is
+  ending_append found may xs ys front k (PastEnd b) all is =
+      ends_append found xs ys front k (PastEnd b) all is
+  ending_append found may xs ys front k (Unread b) all is =
+      stops_append may xs ys (length front) k b (length_whole found xs front all) is
+
+  endings_append : (found : Option Reader) (may : Entry P → Type 0) (xs ys : List (Entry P))
+      (front back : List (Given P)) (endings : List Ending) → EndsAt found xs (length front) End
+      → OneEnding (IsEnding found may ys (length back)) endings
+      → OneEnding (IsEnding found may (xs ++ ys) (length (front ++ back))) endings
+  endings_append found may xs ys front back [] all is = tt
+  endings_append found may xs ys front back (end ∷ more) all is =
+      let Q : ℕ → Type 0 = λ k. IsEnding found may (xs ++ ys) k end in (
+        subst Q (sym (length-append front back))
+            (ending_append found may xs ys front (length back) end all is.0),
+        is.1,
+      )
+
+  -- a list that was answered to its end, and then another
+  pub answered_append : (found : Option Reader) (may : Entry P → Type 0) (xs ys : List (Entry P))
+      (front back : List (Given P)) (endings : List Ending)
+      → IsAnswer found may xs (record { pages = front; endings = End ∷ [] })
+      → IsAnswer found may ys (record { pages = back; endings = endings })
+      → IsAnswer found may (xs ++ ys) (record { pages = front ++ back; endings = endings })
+  answered_append found may xs ys front back endings first second = record {
+    first = first_append found xs ys front back first.first first.endings.0 second.first;
+    endings =
+        endings_append found may xs ys front back endings first.endings.0 second.endings;
+  }
+
+-- answers to no block, and to one
+module _ {P : Type 0} (found : Option Reader) (may : Entry P → Type 0) where
+  ends_none : (found : Option Reader) → EndsAt {P = P} found [] 0 End
+  ends_none None = refl
+  ends_none (Some f) = (ap length (sym (pages_of-none f)), ap (ending_at {P = P} f) (stop_of-none f))
+
+  pub answered_no_block : IsAnswer found may [] (record { pages = []; endings = End ∷ [] })
+  answered_no_block = record {
+    first = first_none found [];
+    endings = (ends_none found, no_others End);
+  }
+
+  -- the page that was found
+  first_one : (found : Option Reader) (e : Entry P) (page : List ℕ) → IsValid page
+      → IfSome found (λ f. found_for f e ≡ Page page)
+      → AreFirst found (e ∷ []) (record { entry = e; page = page } ∷ [])
+  first_one None e page valid is =
+      (one_valid (record { entry = e; page = page }) valid, ([], refl))
+  first_one (Some f) e page valid is =
+      let g : Given P = record { entry = e; page = page } in
+      ([], pages_of-cons f g [] is ∙ ap (λ (l : List (Given P)). g ∷ l) (pages_of-none f))
+
+  ends_one : (found : Option Reader) (e : Entry P) (page : List ℕ)
+      → IfSome found (λ f. found_for f e ≡ Page page) → EndsAt found (e ∷ []) 1 End
+  ends_one None e page is = refl
+  ends_one (Some f) e page is =
+      let g : Given P = record { entry = e; page = page } in (
+        ap length
+            (sym (pages_of-cons f g [] is
+            ∙ ap (λ (l : List (Given P)). g ∷ l) (pages_of-none f))),
+        ap (ending_at f) (stop_of-cons f g [] is ∙ stop_of-none f),
+      )
+
+  pub answered_page : (e : Entry P) (page : List ℕ) → IsValid page
+      → IfSome found (λ f. found_for f e ≡ Page page)
+      → IsAnswer found may (e ∷ [])
+      (record { pages = record { entry = e; page = page } ∷ []; endings = [] })
+  answered_page e page valid is = record { first = first_one found e page valid is; endings = tt }
+
+  pub answered_last_page : (e : Entry P) (page : List ℕ) → IsValid page
+      → IfSome found (λ f. found_for f e ≡ Page page)
+      → IsAnswer found may (e ∷ [])
+      (record { pages = record { entry = e; page = page } ∷ []; endings = End ∷ [] })
+  answered_last_page e page valid is = record {
+    first = first_one found e page valid is;
+    endings = (ends_one found e page is, no_others End);
+  }
+
+  -- or where reading stops
+  stops_here : (may : Entry P → Type 0) (e : Entry P) → may e → StopsAt may (e ∷ []) 0 e.block
+  stops_here may e cause = record { next = e; here = refl; named = refl; cause = cause }
+
+  ends_here : (f : Reader) (e : Entry P) (end : Ending) → ending_in (found_for f e) e.block ≡ end
+      → end ≢ End → EndsAt (Some f) (e ∷ []) 0 end
+  ends_here f e end is early = elim (gives_or_stops (found_for f e)) [
+    inl page ↦ absurd
+        (early (sym is ∙ ap (λ (r : Found). ending_in r e.block) page.1))
+    | inr none ↦
+        (ap length (sym (pages_of-stop f e [] none)), ending_here f e [] none ∙ is)
+  ]
+
+  ends_invalid : (found : Option Reader) (e : Entry P)
+      → IfSome found (λ f. found_for f e ≡ Damaged)
+      → EndsAt found (e ∷ []) 0 (Invalid e.block)
+  ends_invalid None e is = stops_here (λ _. ⊤) e tt
+  ends_invalid (Some f) e is =
+      ends_here f e (Invalid e.block) (ap (λ (r : Found). ending_in r e.block) is) (λ x. cc)
+
+  ends_past : (found : Option Reader) (e : Entry P) → IfSome found (λ f. found_for f e ≡ Absent)
+      → EndsAt found (e ∷ []) 0 (PastEnd e.block)
+  ends_past None e is = stops_here (λ _. ⊤) e tt
+  ends_past (Some f) e is =
+      ends_here f e (PastEnd e.block) (ap (λ (r : Found). ending_in r e.block) is) (λ x. cc)
+
+  pub answered_invalid : (e : Entry P) → IfSome found (λ f. found_for f e ≡ Damaged)
+      → IsAnswer found may (e ∷ []) (record { pages = []; endings = Invalid e.block ∷ [] })
+  answered_invalid e is = record {
+    first = first_none found (e ∷ []);
+    endings = (ends_invalid found e is, no_others (Invalid e.block));
+  }
+
+  pub answered_past_end : (e : Entry P) → IfSome found (λ f. found_for f e ≡ Absent)
+      → IsAnswer found may (e ∷ []) (record { pages = []; endings = PastEnd e.block ∷ [] })
+  answered_past_end e is = record {
+    first = first_none found (e ∷ []);
+    endings = (ends_past found e is, no_others (PastEnd e.block));
+  }
+
+  pub answered_unread : (e : Entry P) → may e
+      → IsAnswer found may (e ∷ []) (record { pages = []; endings = Unread e.block ∷ [] })
+  answered_unread e cause = record {
+    first = first_none found (e ∷ []);
+    endings = (stops_here may e cause, no_others (Unread e.block));
+  }
+
+module _ {P : Type 0} where
+  -- all pages of synchronous reads were given
+  pub all_given : (f : Reader) (entries : List (Entry P)) (pages : List (Given P))
+      → AreFirst (Some f) entries pages → length pages ≡ length (pages_of f entries)
+      → pages_of f entries ≡ pages
+  all_given f entries pages first same = begins_all pages (pages_of f entries) first same
+
+  -- reading stops at the entry behind the pages
+  pub stop_of-length : (f : Reader) (entries : List (Entry P))
+      → stop_of f entries ≡ slice_get entries (length (pages_of f entries))
+  unfolding read_count
+  stop_of-length f entries =
+      let count = length-map (take (read_count f entries) entries) (given_for f)
+      ∙ length-prefix_len (can_read f) entries in
+      ap (slice_get entries) (sym count)
