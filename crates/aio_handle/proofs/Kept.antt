@@ -1,6 +1,6 @@
 -- What events and what is taken up leave of an owner's tokens.
 use Rattle.std.proofs.Common.{◌≡◌, ◌≢◌, ℕ, ◌+◌, ◌*◌, ◌<◌, ◌⊎◌, List, [], ◌∷◌, ◌++◌, refl, sym, ap}
-use Rattle.std.proofs.Common.{◌∙◌, subst, inl, inr, arith}
+use Rattle.std.proofs.Common.{◌∙◌, subst, inl, inr, arith, Option, Some, None}
 use mathlib.Core.Logic.{dite}
 use native.Mathlib.Decide.{ℕ_discrete}
 use Rattle.aio_word.specs.declared.Step.{Step as Event}
@@ -15,16 +15,16 @@ use Rattle.aio_word.specs.declared.Known.{Known}
 use Rattle.aio_word.specs.Words.{place_of}
 use Rattle.aio_word.specs.Events.{ref, order, noted, leaves}
 use Rattle.aio_word.specs.Stands.{IsIn, seen_of}
-use Rattle.aio_word.specs.Tokens.{owned, Keeps}
+use Rattle.aio_word.specs.Tokens.{owned, Keeps, IsClaimed, IsExecuted, mark_at}
 use Rattle.aio_word.proofs.Parts.{in-left}
-use Rattle.aio_word.proofs.Steps.{mark, place-small}
+use Rattle.aio_word.proofs.Steps.{mark, place-small, counted-in}
 use Rattle.aio_word.proofs.Frames.{spot, at-more, at-place}
 use Rattle.aio_handle.specs.Changes.{aims_after}
-use Rattle.aio_handle.specs.LifeWords.{handed, defined}
-use Rattle.aio_handle.specs.Made.{Made, Looked}
+use Rattle.aio_handle.specs.LifeWords.{handed, defined, unclaimed, claimed}
+use Rattle.aio_handle.specs.Made.{Made, Looked, IsByOwner}
 use Rattle.aio_handle.specs.Executing.{TakesUp}
 use Rattle.aio_handle.proofs.Tokening.{counts-apart}
-use Rattle.aio_handle.specs.Kept.{IsKept, UsesToken}
+use Rattle.aio_handle.specs.Kept.{IsKept, IsClaimKept, UsesToken}
 
 -- the owner's marks of t stand as often as before
 pub record SameOwn (t : WaitRef) (ms ns : List Mark) : Type 0 where
@@ -164,3 +164,111 @@ kept-defining t h g aim p q keeps m =
       local = λ d. (kept (new 6 d.since)).local d;
       aims = aims-kept t event.Define h (handed g) (defined g) aim p q m;
     }
+
+-- the claimer's marks of t stand as often as before
+record SameWork (t : WaitRef) (ms ns : List Mark) : Type 0 where
+  claimed : spot t 3 ns ≡ spot t 3 ms
+  executed : spot t 4 ns ≡ spot t 4 ms
+  shared : spot t 5 ns ≡ spot t 5 ms
+
+same-work : (t : WaitRef) (ms : List Mark) → SameWork t ms ms
+same-work t ms = record { claimed = refl; executed = refl; shared = refl }
+
+in-noted : (x : Mark) (ms : List Mark) (h g : ℕ) (o : Option Kind) → IsIn x ms
+    → IsIn x (noted ms h g o)
+in-noted x ms h g None i = i
+in-noted x ms h g (Some k) i = in-left x ms (mark h g k ∷ []) i
+
+claim-kept-where-same : (t : WaitRef) (p q : Known) → SameWork t p.marks q.marks
+    → ((x : Mark) → IsIn x p.marks → IsIn x q.marks)
+    → ((aim : List ℕ) → IsIn (t, aim) p.aims → IsIn (t, aim) q.aims) → IsClaimKept t p q
+claim-kept-where-same t p q s stays aims =
+    let s3 = s.claimed in let s4 = s.executed in let s5 = s.shared in record {
+      claimed = λ d. let a = d.since in let b = d.until in
+          record { since = omega arith; until = omega arith };
+      executed = λ class d. let b = d.until in
+          record { since = stays (mark_at t (kind.Io class)) d.since; until = omega arith };
+      aims = aims;
+    }
+
+pub claim-kept-looking : (t : WaitRef) (h : ℕ) (w : Word) (p q : Known) → Looked h w p q
+    → IsClaimKept t p q
+claim-kept-looking t h w p q k = claim-kept-where-same t p q
+    (subst (λ (z : Known). SameWork t p.marks z.marks) (sym k.is) (same-work t p.marks))
+    (λ x i. subst (λ (z : Known). IsIn x z.marks) (sym k.is) i)
+    (λ aim i. subst (λ (z : Known). IsIn (t, aim) z.aims) (sym k.is) i)
+
+-- an owner's mark leaves the claimer's
+same-owners : (t : WaitRef) (h g : ℕ) (k : Kind) (ms : List Mark) → order k < 3
+    → SameWork t ms (ms ++ mark h g k ∷ [])
+same-owners t h g k ms lo = record {
+  claimed = at-place t (ref h g) 3 k ms (λ e. omega arith) (omega arith);
+  executed = at-place t (ref h g) 4 k ms (λ e. omega arith) (omega arith);
+  shared = at-place t (ref h g) 5 k ms (λ e. omega arith) (omega arith);
+}
+
+same-late : (t : WaitRef) (h g : ℕ) (k : Kind) (ms : List Mark) → 5 < order k
+    → SameWork t ms (ms ++ mark h g k ∷ [])
+same-late t h g k ms hi = record {
+  claimed = at-place t (ref h g) 3 k ms (λ e. omega arith) (omega arith);
+  executed = at-place t (ref h g) 4 k ms (λ e. omega arith) (omega arith);
+  shared = at-place t (ref h g) 5 k ms (λ e. omega arith) (omega arith);
+}
+
+owners-marks : (t : WaitRef) (e : Event) (h g : ℕ) (class : Class) (ms : List Mark) → IsByOwner e
+    → SameWork t ms (noted ms h g (leaves class e))
+owners-marks t event.HandOut h g class ms by = same-work t ms
+owners-marks t event.Release h g class ms by = same-work t ms
+owners-marks t event.Define h g class ms by = same-owners t h g kind.Defined ms (omega arith)
+owners-marks t event.Stage h g class ms by = same-owners t h g kind.Staged ms (omega arith)
+owners-marks t event.Submit h g class ms by = same-owners t h g kind.Submitted ms (omega arith)
+owners-marks t event.Claim h g class ms by = absurd by
+owners-marks t (event.Io ended) h g class ms by = absurd by
+owners-marks t event.Shared h g class ms by = absurd by
+owners-marks t event.Local h g class ms by = same-late t h g (kind.Local class) ms (omega arith)
+owners-marks t event.Reclaim h g class ms by = same-late t h g kind.Reclaimed ms (omega arith)
+
+module _ (t : WaitRef) (e : Event) (h : ℕ) (w w' : Word) (aim : List ℕ) (p q : Known)
+    (m : Made e h w w' aim p q) where
+  marks-kept : (x : Mark) → IsIn x p.marks → IsIn x q.marks
+  marks-kept x i = subst (λ (z : Known). IsIn x z.marks) (sym m.is)
+      (in-noted x p.marks h w.generation (leaves w.class e) i)
+
+  pub claim-kept-elsewhere : t ≢ ref h w.generation → IsClaimKept t p q
+  claim-kept-elsewhere ne =
+      let same : (i : ℕ) → i < 8 → spot t i q.marks ≡ spot t i p.marks = λ i lt.
+      counts-apart e h w w' aim p q m t.handle (8 * t.generation + i)
+      (apart t h w.generation i (place_of w) ne lt (place-small w.state w.claimed)) in
+      claim-kept-where-same t p q record {
+        claimed = same 3 (omega arith);
+        executed = same 4 (omega arith);
+        shared = same 5 (omega arith);
+      } marks-kept (aims-kept t e h w w' aim p q m)
+
+  -- an owner's event leaves no claimer's mark
+  pub claim-kept-owners : IsByOwner e → IsClaimKept t p q
+  claim-kept-owners by = claim-kept-where-same t p q
+      (subst (λ (z : Known). SameWork t p.marks z.marks) (sym m.is)
+      (owners-marks t e h w.generation w.class p.marks by)) marks-kept
+      (aims-kept t e h w w' aim p q m)
+
+module _ (t : WaitRef) (h g : ℕ) (aim : List ℕ) (p q : Known) (keeps : Keeps (seen_of p) p.marks)
+    (m : Made event.Claim h (unclaimed g) (claimed g) aim p q) where
+  -- what is claimed has no mark of a claimer yet, since its handle was seen at none of them
+  not-this : (i : ℕ) → 2 < i → 0 < spot t i p.marks → t ≢ ref h g
+  not-this i more there e =
+      let there' : 0 < spot (ref h g) i p.marks =
+      subst (λ (z : WaitRef). 0 < spot z i p.marks) e there in
+      let seen = keeps.below h (8 * g + i) there' in let before = m.before in omega arith
+
+  pub claimed-is-other : IsClaimed p t → t ≢ ref h g
+  claimed-is-other d = not-this 3 (omega arith) d.since
+
+  pub claim-kept-claiming : IsClaimKept t p q
+  claim-kept-claiming = let kept = claim-kept-elsewhere t event.Claim h (unclaimed g) (claimed g)
+      aim p q m in record {
+        claimed = λ d. (kept (claimed-is-other d)).claimed d;
+        executed = λ class d. (kept (not-this 4 (omega arith)
+            (counted-in (mark_at t (kind.Io class)) p.marks d.since))).executed class d;
+        aims = aims-kept t event.Claim h (unclaimed g) (claimed g) aim p q m;
+      }

@@ -29,8 +29,9 @@ use Rattle.aio_handle.specs.declared.own.OwnHandle.{OwnHandle}
 use Rattle.aio_handle.specs.LifeWords.{handed, defined, unclaimed, claimed, taken, idle}
 use Rattle.aio_handle.specs.Made.{Made, Looked, IsByOwner, generation_of}
 use Rattle.aio_handle.specs.Free.{IsFree, HasOneOut, HasNoneFree, IsRoom}
+use Rattle.aio_handle.specs.Closing.{IsAtRest}
 use Rattle.aio_handle.specs.Own.{blank, own_at, IsFreeHandle, HasRoom}
-use Rattle.aio_handle.specs.Remembered.{own_handle, handle_at, Owns, Remembers}
+use Rattle.aio_handle.specs.Remembered.{own_handle, handle_at, Owns, AreUnspent, Remembers}
 use Rattle.aio_handle.proofs.Keeps.{lives-same, lives-more, lives-push}
 use Rattle.aio_handle.proofs.Tokening.{keeps-on, stands-new}
 
@@ -133,12 +134,55 @@ none-some a e = cc
 false-true : false ≡ true → ⊥
 false-true e = cc
 
+-- what is reclaimed lies below the generations of own handles, over each mark
+unspent-same : (c : Config) (p q : Known) → q.number ≡ p.number → q.marks ≡ p.marks → AreUnspent c p
+    → AreUnspent c q
+unspent-same c p q en em u i g own-i le = ap (times i (8 * g + 7)) em ∙
+    u i g (sym en ∙ own-i) (subst (λ (z : List Mark). c.start + lives i z ≤ g) em le)
+
+unspent-marked : (c : Config) (p q : Known) (h g' : ℕ) (k : Kind) → order k < 7
+    → q.number ≡ p.number → q.marks ≡ p.marks ++ mark h g' k ∷ [] → AreUnspent c p → AreUnspent c q
+unspent-marked c p q h g' k hi en em u i g own-i le =
+    let same : lives i q.marks ≡ lives i p.marks = ap (lives i) em ∙
+    lives-same i h g' k p.marks (λ x. omega arith) in
+    let old : times i (8 * g + 7) p.marks ≡ 0 = u i g (sym en ∙ own-i) (omega arith) in
+    let push = times-push i (8 * g + 7) p.marks (mark h g' k) in
+    let no = rank-else (h == i) (8 * g' + order k) (8 * g + 7) (λ x. omega arith) in
+    ap (times i (8 * g + 7)) em ∙ (push ∙ (omega arith))
+
+unspent-reclaimed : (c : Config) (p q : Known) (h g' : ℕ) → q.number ≡ p.number
+    → q.marks ≡ p.marks ++ mark h g' kind.Reclaimed ∷ [] → g' ≡ generation_of c p h
+    → AreUnspent c p → AreUnspent c q
+unspent-reclaimed c p q h g' en em gen u i g own-i le = dite (ℕ_discrete i h)
+    (λ e.
+        let own-h : q.number ≡ owner c h = subst (λ (z : ℕ). q.number ≡ owner c z) e own-i in
+        let le-h : c.start + lives h q.marks ≤ g =
+        subst (λ (z : ℕ). c.start + lives z q.marks ≤ g) e le in
+        let more : lives h q.marks ≡ lives h p.marks + 1 = ap (lives h) em ∙
+        lives-more h g' p.marks in
+        let old : times h (8 * g + 7) p.marks ≡ 0 = u h g (sym en ∙ own-h) (omega arith) in
+        let push = times-push h (8 * g + 7) p.marks (mark h g' kind.Reclaimed) in
+        let no = rank-else (h == h) (8 * g' + 7) (8 * g + 7) (λ x. omega arith) in
+        let here : times h (8 * g + 7) q.marks ≡ 0 = ap (times h (8 * g + 7)) em ∙
+        (push ∙ (omega arith)) in
+        subst (λ (z : ℕ). times z (8 * g + 7) q.marks ≡ 0) (sym e) here)
+    (λ ne.
+        let same : lives i q.marks ≡ lives i p.marks = ap (lives i) em ∙
+        (let push = lives-push i h g' kind.Reclaimed p.marks in
+        let no = handle-else i h (7 == 7) ne in push ∙ (omega arith)) in
+        let old : times i (8 * g + 7) p.marks ≡ 0 = u i g (sym en ∙ own-i) (omega arith) in
+        let push = times-push i (8 * g + 7) p.marks (mark h g' kind.Reclaimed) in
+        let no = handle-else i h (8 * g' + 7 == 8 * g + 7) ne in
+        ap (times i (8 * g + 7)) em ∙ (push ∙ (omega arith)))
+
 module _ (c : Config) (own : List OwnHandle) (turn claims : ℕ) (b : Bool) where
   pub remembers-looked : (h : ℕ) (w : Word) (p q : Known) → Looked h w p q
       → Remembers c own turn b claims p → Remembers c own turn b claims q
   remembers-looked h w p q m r = record {
     owns = owns-same c own p q (ap (λ (z : Known). z.number) m.is)
         (λ i. ap (λ (z : Known). own_handle c z i) m.is) r.owns;
+    unspent = unspent-same c p q (ap (λ (z : Known). z.number) m.is)
+        (ap (λ (z : Known). z.marks) m.is) r.unspent;
     turn_in = r.turn_in;
     out = out-same b p q (ap (λ (z : Known). z.out) m.is) r.out;
     counted = r.counted ∙ ap (λ (z : Known). min (claimed_marks z.marks) (2 ^ 128 - 1)) (sym m.is);
@@ -151,6 +195,7 @@ module _ (c : Config) (own : List OwnHandle) (turn claims : ℕ) (b : Bool) wher
   quiet p q turn' b' le en em out r = record {
     owns = owns-same c own p q en
         (λ i. same-handle c p q i (ap (lives i) em) (λ n. ap (times i (8 * n + 0)) em)) r.owns;
+    unspent = unspent-same c p q en em r.unspent;
     turn_in = le;
     out = out;
     counted = r.counted ∙ ap (λ (z : List Mark). min (claimed_marks z) (2 ^ 128 - 1)) (sym em);
@@ -168,6 +213,7 @@ module _ (c : Config) (own : List OwnHandle) (turn claims : ℕ) (b : Bool) wher
         (let push = times-push i (8 * n + 0) p.marks (mark h g k) in let no =
         rank-else (h == i) (8 * g + order k) (8 * n + 0) (λ x. omega arith) in
         push ∙ (omega arith)))) r.owns;
+    unspent = unspent-marked c p q h g k hi en em r.unspent;
     turn_in = r.turn_in;
     out = out-same b p q eo r.out;
     counted = ec ∙ ap (λ (z : ℕ). min z (2 ^ 128 - 1))
@@ -280,6 +326,8 @@ module _ (c : Config) (own : List OwnHandle) (turn claims : ℕ) (b : Bool) wher
             (let push = times-push i (8 * n + 0) p.marks (mark h g kind.Defined) in let no =
             handle-else i h (8 * g + 0 == 8 * n + 0) (λ x. ne (x ∙ at)) in
             push ∙ (omega arith)))) r.owns;
+        unspent = unspent-marked c p q h g kind.Defined (omega arith)
+            (ap (λ (z : Known). z.number) m.is) marks r.unspent;
         turn_in = subst (λ (z : ℕ). turn ≤ z)
             (sym (length-set own k record { generation = g; is_defined = true })) r.turn_in;
         out = (
@@ -332,6 +380,7 @@ module _ (c : Config) (own : List OwnHandle) (turn claims : ℕ) (b : Bool) wher
             (let push = times-push i (8 * n + 0) p.marks (mark h g kind.Reclaimed) in let no =
             handle-else i h (8 * g + 7 == 8 * n + 0) (λ x. ne (x ∙ at)) in
             push ∙ (omega arith)))) r.owns;
+        unspent = unspent-reclaimed c p q h g (ap (λ (z : Known). z.number) m.is) marks gen r.unspent;
         turn_in = subst (λ (z : ℕ). turn ≤ z)
             (sym (length-set own k record { generation = g + 1; is_defined = false })) r.turn_in;
         out = out-same b p q (ap (λ (z : Known). z.out) m.is) r.out;
@@ -435,11 +484,23 @@ free-told c own p t o lt f =
       ),
     )
 
--- where no remembered handle is free, none is
-pub none-told : (c : Config) (own : List OwnHandle) (p : Known) → Owns c own p
+-- where no remembered handle is free, each is in the middle of a life or at the end
+pub none-told : (c : Config) (own : List OwnHandle) (p : Known) → Owns c own p → AreUnspent c p
     → ((k : ℕ) → k < length own → IsFreeHandle (own_at own k) → ⊥) → HasNoneFree c p
-none-told c own p o none t lt f = let (lk, free) = free-told c own p t o lt f in
-    none (t.handle % c.per_backend) lk free
+none-told c own p o u none h lt own-h =
+    let t : WaitRef = ref h (generation_of c p h) in
+    let unspent : times h (8 * generation_of c p h + 7) p.marks ≡ 0 =
+    u h (generation_of c p h) own-h (omega arith) in
+    dite (dec_le last_generation (generation_of c p h)) (λ le. inl le)
+    (λ below. dite (dec_le (times h (8 * generation_of c p h + 0) p.marks) 0)
+    (λ z. absurd
+    (let (lk, free) = free-told c own p t o lt record {
+      own = own-h;
+      generation = refl;
+      undefined = omega arith;
+      below = omega arith;
+    } in none (h % c.per_backend) lk free))
+    (λ pos. inr (omega arith, unspent)))
 
 -- the room of the remembered handles is that of the actor
 pub room-told : (c : Config) (own : List OwnHandle) (p : Known) (room : ℕ) → 0 < c.per_backend
@@ -472,7 +533,19 @@ pub remembers-new : (c : Config) (own : List OwnHandle) (p : Known) → Owns c o
     → p.out ≡ None → Remembers c own 0 false 0 p
 remembers-new c own p o em eo = record {
   owns = o;
+  unspent = λ h g own-h le. ap (times h (8 * g + 7)) em;
   turn_in = omega arith;
   out = ((λ x. absurd (false-true x)), (λ t. absurd (none-some t.0 (sym eo ∙ t.1))));
   counted = ap (λ (z : List Mark). min (claimed_marks z) (2 ^ 128 - 1)) (sym em);
 }
+
+-- an actor at rest that has room is never refused: a handle of its own is free
+pub served-at-rest : (c : Config) (p : Known) (room : ℕ) → p.number < c.backends
+    → IsRoom c p (room + 1) → IsAtRest p → HasNoneFree c p → ⊥
+served-at-rest c p room backend r rests none =
+    let (h, lt, own-h, is) = r.exact backend in
+    ⊎_elim (λ le. omega arith)
+    (λ amid.
+        let over = rests.1 (ref h (generation_of c p h)) in
+        let one = amid.0 in
+        let two = amid.1 in omega arith) (none h lt own-h)

@@ -1,11 +1,11 @@
 -- Which of its handles an actor may hand out, by its own marks, and why it hands out none.
-use Rattle.std.specs.Prelude.{◌≡◌, ℕ, ◌+◌, ◌<◌, ◌≤◌, Some, None}
+use Rattle.std.specs.Prelude.{◌≡◌, ℕ, ◌+◌, ◌<◌, ◌≤◌, ◌⊎◌, Some, None}
 use Rattle.aio_word.specs.declared.Config.{Config}
 use Rattle.aio_word.specs.declared.WaitRef.{WaitRef}
 use Rattle.aio_word.specs.declared.Known.{Known}
 use Rattle.aio_word.specs.declared.Kind.TheVariants as kind
 use Rattle.aio_word.specs.Words.{last_generation}
-use Rattle.aio_word.specs.Events.{handles, owner, at}
+use Rattle.aio_word.specs.Events.{handles, owner, at, ref}
 use Rattle.aio_handle.specs.declared.actor.AcquireRefusal.{AcquireRefusal}
 use Rattle.aio_handle.specs.declared.actor.AcquireRefusal.TheVariants as refusal
 use Rattle.aio_handle.specs.Made.{generation_of}
@@ -22,9 +22,17 @@ pub record IsFree (c : Config) (p : Known) (t : WaitRef) : Type 0 where
 abbrev pub HasOneOut : Known → Type 0
 HasOneOut p = (t : WaitRef) × (p.out ≡ Some t)
 
+-- by the actor's marks, this handle of its own is in the middle of a life: it is defined under its
+-- generation, and not reclaimed
+abbrev pub IsAmidLife : Config → Known → ℕ → Type 0
+IsAmidLife c p handle =
+    (0 < at (ref handle (generation_of c p handle)) kind.Defined p.marks)
+    × (at (ref handle (generation_of c p handle)) kind.Reclaimed p.marks ≡ 0)
+
 -- each handle of the actor is in the middle of a life, or stands at the last generation
 abbrev pub HasNoneFree : Config → Known → Type 0
-HasNoneFree c p = (t : WaitRef) → t.handle < handles c → IsFree c p t → ⊥
+HasNoneFree c p = (handle : ℕ) → handle < handles c → p.number ≡ owner c handle
+    → (last_generation ≤ generation_of c p handle) ⊎ IsAmidLife c p handle
 
 -- why no handle is given
 abbrev pub IsCause : Config → Known → AcquireRefusal → Type 0

@@ -5,7 +5,8 @@ use Rattle.aio_word.specs.declared.Step.TheVariants as step
 use Rattle.aio_word.specs.declared.Known.{Known}
 use Rattle.aio_word.specs.declared.WaitRef.{WaitRef}
 use Rattle.aio_word.specs.Stands.{IsIn}
-use Rattle.aio_word.specs.Tokens.{IsDefined, IsStaged, IsInFlight, IsLocal}
+use Rattle.aio_word.specs.declared.Class.{Class}
+use Rattle.aio_word.specs.Tokens.{IsDefined, IsStaged, IsInFlight, IsLocal, IsClaimed, IsExecuted}
 
 -- a token of t stands in the list where it stood, and the aim of t is noted as it was
 pub record IsKept (t : WaitRef) (p q : Known) : Type 0 where
@@ -13,6 +14,12 @@ pub record IsKept (t : WaitRef) (p q : Known) : Type 0 where
   pub staged : IsStaged p t → IsStaged q t
   pub in_flight : IsInFlight p t → IsInFlight q t
   pub local : IsLocal p t → IsLocal q t
+  pub aims : (aim : List ℕ) → IsIn (t, aim) p.aims → IsIn (t, aim) q.aims
+
+-- the same of a claimer's tokens: a claimed I/O stays claimed, and an executed one executed
+pub record IsClaimKept (t : WaitRef) (p q : Known) : Type 0 where
+  pub claimed : IsClaimed p t → IsClaimed q t
+  pub executed : (class : Class) → IsExecuted class p t → IsExecuted class q t
   pub aims : (aim : List ℕ) → IsIn (t, aim) p.aims → IsIn (t, aim) q.aims
 
 -- the events that take a token of their incarnation and give the next one, or none

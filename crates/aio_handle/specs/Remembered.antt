@@ -4,7 +4,7 @@ use Rattle.aio_word.specs.declared.Config.{Config}
 use Rattle.aio_word.specs.declared.Known.{Known}
 use Rattle.aio_word.specs.declared.Kind.TheVariants as kind
 use Rattle.aio_word.specs.Words.{last_generation}
-use Rattle.aio_word.specs.Events.{ref, at}
+use Rattle.aio_word.specs.Events.{ref, at, owner}
 use Rattle.aio_word.specs.Tokens.{claimed_marks}
 use Rattle.aio_handle.specs.declared.own.OwnHandle.{OwnHandle}
 use Rattle.aio_handle.specs.Made.{generation_of}
@@ -30,10 +30,16 @@ pub record Owns (c : Config) (own : List OwnHandle) (p : Known) : Type 0 where
       → own_at own place ≡ own_handle c p (handle_at c p place)
   pub bound : (place : ℕ) → place < length own → (own_at own place).generation ≤ last_generation
 
+-- no incarnation of a handle of its own is reclaimed that is not below the handle's generation
+abbrev pub AreUnspent : Config → Known → Type 0
+AreUnspent c p = (handle g : ℕ) → p.number ≡ owner c handle → generation_of c p handle ≤ g
+    → at (ref handle g) kind.Reclaimed p.marks ≡ 0
+
 -- the notes on its own handles, whether one of them is handed out, and how often it has claimed
 pub record Remembers (c : Config) (own : List OwnHandle) (turn : ℕ) (is_out : Bool) (claims : ℕ)
     (p : Known) : Type 0 where
   pub owns : Owns c own p
+  pub unspent : AreUnspent c p
   pub turn_in : turn ≤ length own
   pub out : (is_out ≡ true) ↔ HasOneOut p
   pub counted : claims ≡ min (claimed_marks p.marks) (2 ^ 128 - 1)

@@ -3,6 +3,7 @@ ghost use Rattle.std.specs.Prelude.{◌≡◌, ◌<◌, ◌-◌, ◌^◌, cond, 
 ghost use Rattle.aio_word.specs.Events.{handles};
 ghost use Rattle.aio_word.specs.Stands.{seen_of};
 ghost use Rattle.aio_word.specs.Tokens.{Keeps, claimed_marks};
+ghost use Rattle.aio_handle.specs.Remembered.{AreUnspent};
 ghost use Rattle.aio_handle.specs.Free.{IsFree, HasNoneFree, IsRoom};
 
 use crate::own::{OwnHandle, next_free, room_of};
@@ -72,6 +73,16 @@ impl<R: Record, W: World> Actor<R, W> {
     /// Each mark of its list stands there once, and it has seen each. It does nothing when it runs.
     pub fn keeps(&self)
         ensures { Keeps (seen_of self.now.known) self.now.known.marks }
+    {
+        let number = self.number;
+        let _ = number;
+    }
+
+    /// What it has reclaimed of a handle of its own lies below that handle's generation. It does
+    /// nothing when it runs.
+    pub fn keeps_generations(&self)
+        ensures unspent { AreUnspent self.now.config self.now.known }
+        ensures config { self.now.known.config ≡ self.now.config }
     {
         let number = self.number;
         let _ = number;

@@ -7,17 +7,17 @@ ghost use Rattle.aio_word.specs.declared.Kind.TheVariants as kind;
 ghost use Rattle.aio_word.specs.declared.Known.{Known};
 ghost use Rattle.aio_word.specs.declared.Mark.{Mark};
 ghost use Rattle.aio_word.specs.declared.Step.{Step as Event};
-ghost use Rattle.aio_word.specs.declared.Step.TheVariants.{Define};
+ghost use Rattle.aio_word.specs.declared.Step.TheVariants.{Define, Claim};
 ghost use Rattle.aio_word.specs.declared.WaitRef.{WaitRef};
 ghost use Rattle.aio_word.specs.declared.Word.{Word};
 ghost use Rattle.aio_word.specs.Events.{mark_at, ref};
 ghost use Rattle.aio_word.specs.Stands.{IsIn, Stands, seen_of};
-ghost use Rattle.aio_word.specs.Tokens.{Keeps, io_marks, claimed_marks};
+ghost use Rattle.aio_word.specs.Tokens.{Keeps, IsClaimed, io_marks, claimed_marks};
 ghost use Rattle.aio_handle.specs.Closing.{Ends, IsExecutedIn};
 ghost use Rattle.aio_handle.specs.Executing.{TakesUp};
-ghost use Rattle.aio_handle.specs.Kept.{IsKept, UsesToken};
-ghost use Rattle.aio_handle.specs.LifeWords.{handed, defined};
-ghost use Rattle.aio_handle.specs.Made.{Made, Looked};
+ghost use Rattle.aio_handle.specs.Kept.{IsKept, IsClaimKept, UsesToken};
+ghost use Rattle.aio_handle.specs.LifeWords.{handed, defined, unclaimed, claimed};
+ghost use Rattle.aio_handle.specs.Made.{Made, Looked, IsByOwner};
 
 /// Once no token is out, each actor has executed as many I/Os as it has claimed.
 pub fn each_claim_was_executed()
@@ -56,4 +56,28 @@ pub fn events_keep_other_tokens()
 pub fn defining_keeps_tokens()
     ensures { (t : WaitRef) (h g : ℕ) (aim : List ℕ) (p q : Known) → Keeps (seen_of p) p.marks
         → Made Define h (handed g) (defined g) aim p q → IsKept t p q }
+{}
+
+/// A look keeps each I/O that the actor has claimed.
+pub fn looking_keeps_claims()
+    ensures { (t : WaitRef) (h : ℕ) (w : Word) (p q : Known) → Looked h w p q
+        → IsClaimKept t p q }
+{}
+
+/// An event keeps the claimed I/Os of other incarnations, and an owner's event keeps each.
+pub fn events_keep_other_claims()
+    ensures elsewhere { (t : WaitRef) (e : Event) (h : ℕ) (w after : Word) (aim : List ℕ)
+        (p q : Known) → Made e h w after aim p q → t ≢ ref h w.generation → IsClaimKept t p q }
+    ensures owners { (t : WaitRef) (e : Event) (h : ℕ) (w after : Word) (aim : List ℕ)
+        (p q : Known) → Made e h w after aim p q → IsByOwner e → IsClaimKept t p q }
+{}
+
+/// What is claimed was not claimed by this actor before: each of its claimed I/Os is another one,
+/// and stays. `Actor::keeps` gives the condition.
+pub fn claiming_keeps_claims()
+    ensures kept { (t : WaitRef) (h g : ℕ) (aim : List ℕ) (p q : Known) → Keeps (seen_of p) p.marks
+        → Made Claim h (unclaimed g) (claimed g) aim p q → IsClaimKept t p q }
+    ensures other { (t : WaitRef) (h g : ℕ) (aim : List ℕ) (p q : Known)
+        → Keeps (seen_of p) p.marks → Made Claim h (unclaimed g) (claimed g) aim p q
+        → IsClaimed p t → t ≢ ref h g }
 {}

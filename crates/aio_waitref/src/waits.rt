@@ -1,8 +1,9 @@
 //! Waiting for any incarnation.
-ghost use Rattle.std.specs.Prelude.{◌≡◌, ◌<◌, []};
+ghost use Rattle.std.specs.Prelude.{◌≡◌, ◌<◌, ◌⊎◌, []};
 ghost use Rattle.aio_word.specs.Tokens.{Grows, IsSeenDone};
 ghost use Rattle.aio_handle.specs.Executing.{TakesUp};
 ghost use Rattle.aio_handle.specs.Shown.{IsOf, IsSame};
+ghost use Rattle.aio_waitref.specs.Waiting.{Won, Lost};
 
 use aio_handle::{Actor, Execute, Record, Table};
 use aio_word::WaitRef;
@@ -56,6 +57,9 @@ pub fn wait<R: Record, W: World, E: Execute<R, W>, T: Wait>(
         (E.reads runner.old) (E.reads runner.new)
         (E.faults runner.old) (E.faults runner.new) }
     ensures done { IsSeenDone actor.new.known reference }
+    ensures tried { Won reference actor.old.known actor.new.known (E.reads runner.old)
+        (E.reads runner.new) (E.faults runner.old) (E.faults runner.new)
+        ⊎ (Lost reference actor.old.known actor.new.known × (runner.new ≡ runner.old)) }
 {
     match table.claim(actor, reference) {
         Some(claimed) => {

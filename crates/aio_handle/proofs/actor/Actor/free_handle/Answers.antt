@@ -12,7 +12,7 @@ pub returns-in_default-clause-none : goal.returns-in_default-clause-none
 returns-in_default-clause-none g c = subst
     (λ (z : Standing). HasNoneFree z.config z.known) c.self.view_is
     (none-told c.self.inside.config c.self.inside.own.items
-    (known_of c.self.inside.seat.me.0) c.self.invariant.2.owns
+    (known_of c.self.inside.seat.me.0) c.self.invariant.2.owns c.self.invariant.2.unspent
     (subst (λ xs. (k : ℕ) → k < length xs → IsFreeHandle (own_at xs k)
     → ⊥) c.as_slice-own.ensures.value c.in_default.ensures.none))
 
