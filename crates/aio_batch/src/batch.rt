@@ -100,6 +100,7 @@ impl<R: Record, W: World> Batch<R, W> {
             (λ t. IsNext R.aim self.old self.new t actor.old.known actor.new.known
             (E.reads runner.old) (E.reads runner.new) (E.faults runner.old) (E.faults runner.new)) }
         ensures heard { IfSome result (λ t. Heard (M.heard method.old) (M.heard method.new) t) }
+        ensures stands_on { M.stands_on method.new ≡ M.stands_on method.old }
         ensures none { IfNone result
             ((self.old ≡ []) × (self.new ≡ self.old) × (actor.new ≡ actor.old)
             × (M.heard method.new ≡ M.heard method.old) × (E.reads runner.new ≡ E.reads runner.old)

@@ -1,5 +1,6 @@
 //! How I/Os are begun.
 ghost use Rattle.std.specs.Prelude.{◌≡◌, ◌<◌, List, [], Option};
+ghost use Rattle.atomic_table.specs.Seated.{TableId};
 ghost use Rattle.aio_word.specs.declared.WaitRef.{WaitRef};
 ghost use Rattle.aio_handle.specs.Shown.{IsOf, IsSame};
 ghost use Rattle.aio_handle.specs.Executing.{TakesUp};
@@ -15,6 +16,9 @@ use std::sync::Wait;
 pub trait Method<R: Record, W: World> {
     /// The references of which it has heard, where it tells them.
     ghost heard: { Self → Option (List WaitRef) };
+
+    /// The shared tables that it works by, as a queue's. No call changes which they are.
+    ghost stands_on: { Self → List TableId };
 
     /// The actor has submitted this I/O. A batch calls it, once for each I/O that it submits.
     ///
@@ -36,6 +40,7 @@ pub trait Method<R: Record, W: World> {
         ensures told { (E.told runner.new ≡ E.told runner.old)
             × (E.relations runner.new ≡ E.relations runner.old) }
         ensures heard { Heard (heard self.old) (heard self.new) reference }
+        ensures stands_on { stands_on self.new ≡ stands_on self.old }
         ensures marks { TakesUp [] actor.old.known actor.new.known (E.reads runner.old)
             (E.reads runner.new) (E.faults runner.old) (E.faults runner.new) };
 }

@@ -99,9 +99,11 @@ struct Listener {
 }
 
 impl<W: World> Method<Note, W> for Listener {
-    ghost use Rattle.std.specs.Prelude.{Some};
+    ghost use Rattle.std.specs.Prelude.{Some, []};
 
     ghost heard = { λ m. Some m.heard.items };
+
+    ghost stands_on = { λ _. [] };
 
     /// Where there is no memory for a reference, it does not return.
     fn begun<E: Execute<Note, W>, T: Wait>(

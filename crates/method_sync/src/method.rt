@@ -21,6 +21,8 @@ pub struct SyncMethod;
 impl<W: World> Method<ReadIo, W> for SyncMethod {
     ghost heard = { λ _. None };
 
+    ghost stands_on = { λ _. [] };
+
     fn begun<E: Execute<ReadIo, W>, T: Wait>(
         &mut self,
         rt: &T,
