@@ -137,7 +137,6 @@ fn push_one<W: World>(
     requires backend { actor.old.known.number < table.now.config.backends }
     requires tokens { Held actor.old.known batch.old }
     ensures same { IsSame actor.old actor.new }
-    ensures number { actor.new.known.number ≡ actor.old.known.number }
     ensures tokens { Held actor.new.known batch.new }
 {
     let Ok(token) = table.acquire(actor) else {

@@ -20,3 +20,4 @@ pub mod Recalling
 pub mod Trying
 pub mod Balance
 pub mod Kept
+pub mod Claiming

@@ -256,14 +256,14 @@ push-last [] x d = refl
 push-last (y ∷ xs) x d = push-last xs x d
 
 pub new-push : (t : Named) (n : ℕ) (xs : List Standing) (x : Standing) → length xs ≡ n
-    → AreNew t 0 xs → x ≡ record { table = t.table; config = t.config; known = newcomer t.config n }
+    → AreNew t 0 xs → x ≡ record { table = t.table; known = newcomer t.config n }
     → AreNew t 0 (xs ++ x ∷ [])
 new-push t n xs x len old is i d lt = dite (ℕ_discrete i (length xs))
     (λ e. subst (λ (j : ℕ). get_or (xs ++ x ∷ []) j d ≡
-    record { table = t.table; config = t.config; known = newcomer t.config (0 + j) }) (sym e)
+    record { table = t.table; known = newcomer t.config (0 + j) }) (sym e)
     (push-last xs x d ∙
     (is ∙ ap (λ (j : ℕ).
-    record { table = t.table; config = t.config; known = newcomer t.config j })
+    record { table = t.table; known = newcomer t.config j })
     (let g : n ≡ 0 + length xs = omega arith in g))))
     (λ ne. let below : i < length xs = omega (arith, length-append xs (x ∷ [])) in
     push-old xs x d i below ∙ old i d below)

@@ -69,8 +69,10 @@ claims_then t u aim p q r reads reads' faults faults' same m a' =
       };
     }
 
--- a claim that was lost, and looks after it
-pub looks_then : (h : ℕ) (w : Word) (p q r : Known) (reads faults : ℕ) → Looked h w p q
-    → Grows q r [] → TakesUp [] p r reads reads faults faults
-looks_then h w p q r reads faults l g = takes_nothing p r reads faults
-    (grows-then p q r [] [] (look-on h w p q l) g)
+-- what was taken up, and looks after it
+pub takes_looks : (p q r : Known) (reads reads' faults faults' : ℕ)
+    → TakesUp [] p q reads reads' faults faults' → Grows q r []
+    → TakesUp [] p r reads reads' faults faults'
+takes_looks p q r reads reads' faults faults' a g =
+    takes_then p q r reads reads' reads' faults faults' faults' a
+    (takes_nothing q r reads' faults' g)

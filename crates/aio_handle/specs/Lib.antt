@@ -13,5 +13,6 @@ pub mod Shown
 pub mod Closing
 pub mod Taking
 pub mod Executing
+pub mod Tried
 pub mod Trials
 pub mod Kept

@@ -19,20 +19,21 @@ pub record Named : Type 0 where
 
 pub record Standing : Type 0 where
   pub table : TableId
-  pub config : Config
   pub known : Known
 
 abbrev pub IsOf : Named → Standing → Type 0
-IsOf t a = (a.table ≡ t.table) × (a.config ≡ t.config)
+IsOf t a = (a.table ≡ t.table) × (a.known.config ≡ t.config)
 
+-- the same actor of the same table, whatever it knows
 abbrev pub IsSame : Standing → Standing → Type 0
-IsSame a b = (b.table ≡ a.table) × (b.config ≡ a.config)
+IsSame a b = (b.table ≡ a.table) × (b.known.config ≡ a.known.config)
+    × (b.known.number ≡ a.known.number)
 
 -- the actors of a new table, from number a on
 abbrev pub AreNew : Named → ℕ → List Standing → Type 0
 AreNew t a actors = (i : ℕ) (x : Standing) → i < length actors
     → slice_index_or actors i x ≡
-    record { table = t.table; config = t.config; known = newcomer t.config (a + i) }
+    record { table = t.table; known = newcomer t.config (a + i) }
 
 abbrev pub known_in : Standing → Known
 known_in a = a.known

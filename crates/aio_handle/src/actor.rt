@@ -47,8 +47,7 @@ impl<R: Record, W: World> Model for Actor<R, W> {
 
     ghost Value = { Standing };
 
-    ghost view = { λ a.
-        record { table = a.seat.table_id; config = a.config; known = known_of a.seat.me.0 } };
+    ghost view = { λ a. record { table = a.seat.table_id; known = known_of a.seat.me.0 } };
 
     ghost invariant = { λ a. IsSeated a.config a.number a.seat.me × IsConfig a.config
         × Remembers a.config a.own.items a.turn a.is_out a.claims (known_of a.seat.me.0) };
@@ -65,7 +64,7 @@ impl<R: Record, W: World> Actor<R, W> {
     /// For a backend, how many more lives the handle with the greatest generation can have: the
     /// last generation less that one. For a runner 0.
     pub fn room(&self) -> u64
-        ensures { IsRoom self.now.config self.now.known result }
+        ensures { IsRoom self.now.known.config self.now.known result }
     {
         room_of(self.own.as_slice())
     }
@@ -81,8 +80,7 @@ impl<R: Record, W: World> Actor<R, W> {
     /// What it has reclaimed of a handle of its own lies below that handle's generation. It does
     /// nothing when it runs.
     pub fn keeps_generations(&self)
-        ensures unspent { AreUnspent self.now.config self.now.known }
-        ensures config { self.now.known.config ≡ self.now.config }
+        ensures { AreUnspent self.now.known.config self.now.known }
     {
         let number = self.number;
         let _ = number;
@@ -106,10 +104,11 @@ impl<R: Record, W: World> Actor<R, W> {
 
     // The next incarnation of one of its handles that is free by its own marks.
     pub(crate) fn free_handle(&self) -> Option<WaitRef>
-        requires backend { self.now.known.number < self.now.config.backends }
+        requires backend { self.now.known.number < self.now.known.config.backends }
         ensures some { IfSome result
-            (λ t. (t.handle < handles self.now.config) × IsFree self.now.config self.now.known t) }
-        ensures none { IfNone result (HasNoneFree self.now.config self.now.known) }
+            (λ t. (t.handle < handles self.now.known.config)
+            × IsFree self.now.known.config self.now.known t) }
+        ensures none { IfNone result (HasNoneFree self.now.known.config self.now.known) }
     {
         let own = self.own.as_slice();
         let Some(place) = next_free(own, self.turn) else {

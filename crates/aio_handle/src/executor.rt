@@ -1,17 +1,20 @@
 //! The executor's calls: an I/O is claimed, executed and shared.
-ghost use Rattle.std.specs.Prelude.{◌≡◌, ◌≢◌, ◌<◌, [], true, false, Some, None, IfSome, IfNone};
+ghost use Rattle.std.specs.Prelude.{◌≡◌, ◌≢◌, ◌<◌, [], true, false, Some, None, IfSome, IfNone, IsTrue, IsFalse};
 ghost use Rattle.aio_word.specs.declared.Class.{Class};
 ghost use Rattle.aio_word.specs.declared.Class.TheVariants.{Unended};
 ghost use Rattle.aio_word.specs.declared.Step.TheVariants.{Claim, Io, Shared};
 ghost use Rattle.aio_word.specs.declared.Word.{Word};
 ghost use Rattle.aio_word.specs.Events.{handles};
 ghost use Rattle.aio_word.specs.Stands.{IsIn};
-ghost use Rattle.aio_word.specs.Tokens.{IsClaimed, IsExecuted};
+ghost use Rattle.aio_word.specs.Tokens.{IsClaimed, IsExecuted, IsSeenDone};
+ghost use Rattle.aio_handle.specs.Executing.{TakesUp};
 ghost use Rattle.aio_handle.specs.Labels.{bound};
 ghost use Rattle.aio_handle.specs.LifeWords.{unclaimed, claimed as claimed_at, executed, completed};
 ghost use Rattle.aio_handle.specs.Made.{Made, Looked};
+ghost use Rattle.aio_handle.specs.Tried.{Won, Lost, SeesClaim};
 
 use crate::actor::Actor;
+use crate::execute::Execute;
 use crate::front::bring;
 use crate::own::LAST_GENERATION;
 use crate::plays::{ClaimIt, ExecuteIt, LookAt, ShareIt};
@@ -21,6 +24,7 @@ use crate::tokens::Claimed;
 use aio_word::{Class, State, WaitRef};
 use page_check::World;
 use std::marker::PhantomData;
+use std::sync::Wait;
 use std::sync::atomic::Ordering;
 
 impl<R: Record, W: World> Table<R, W> {
@@ -73,6 +77,43 @@ impl<R: Record, W: World> Table<R, W> {
                 })
             }
             None => unreachable!(),
+        }
+    }
+
+    /// Tries to claim an I/O, and executes it by the runner where it wins the claim: what a method
+    /// that executes in place, a waiter and a worker do. True exactly where it has won.
+    ///
+    /// It tries once. Where the claim is lost, the actor has only looked.
+    pub fn try_execute<E: Execute<R, W>, T: Wait>(
+        &self,
+        rt: &T,
+        actor: &mut Actor<R, W>,
+        reference: WaitRef,
+        runner: &mut E,
+    ) -> bool
+        requires table { IsOf self.now actor.old }
+        requires told { (E.told runner.old ≡ W.told) × (E.relations runner.old ≡ W.relations) }
+        requires range { reference.handle < W.handles }
+        ensures same { IsSame actor.old actor.new }
+        ensures told { (E.told runner.new ≡ E.told runner.old)
+            × (E.relations runner.new ≡ E.relations runner.old) }
+        ensures marks { TakesUp [] actor.old.known actor.new.known (E.reads runner.old)
+            (E.reads runner.new) (E.faults runner.old) (E.faults runner.new) }
+        ensures sees { SeesClaim reference actor.old.known actor.new.known }
+        ensures won { IsTrue result → IsSeenDone actor.new.known reference
+            × Won reference actor.old.known actor.new.known (E.reads runner.old)
+            (E.reads runner.new) (E.faults runner.old) (E.faults runner.new) }
+        ensures lost { IsFalse result → (runner.new ≡ runner.old)
+            × Lost reference actor.old.known actor.new.known }
+    {
+        actor.keeps();
+        match self.claim(actor, reference) {
+            Some(claimed) => {
+                runner.execute(rt, self, actor, claimed);
+                actor.keeps();
+                true
+            }
+            None => false,
         }
     }
 

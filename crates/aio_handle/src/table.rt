@@ -147,7 +147,6 @@ impl<R: Record, W: World> Table<R, W> {
         ensures actor { IfOk result
             (λ a. a ≡ record {
               table = self.now.table;
-              config = self.now.config;
               known =
                   newcomer self.now.config number;
             }) }

@@ -133,7 +133,6 @@ fn last<W: World>(
     ensures actor { IfSome result
         (λ a. a ≡ record {
           table = table.now.table;
-          config = table.now.config;
           known =
               newcomer table.now.config (length actors.new.items);
         }) }
@@ -282,7 +281,6 @@ fn take_back<W: World>(
     requires table { IsOf table.now actor.old }
     requires token { IsInFlight actor.old.known token }
     ensures same { IsSame actor.old actor.new }
-    ensures number { actor.new.known.number ≡ actor.old.known.number }
     ensures ended { IsTrue result → EndsLife token actor.old.known actor.new.known }
 {
     let Take::Ready(mut local) = table.try_take(actor, token) else {
@@ -303,7 +301,6 @@ fn live_on<W: World>(
     requires token { actor.old.known.out ≡ Some token }
     requires rests { AreOver actor.old.known }
     ensures same { IsSame actor.old actor.new }
-    ensures number { actor.new.known.number ≡ actor.old.known.number }
     ensures rests { IsTrue result → IsAtRest actor.new.known }
 {
     let token = submitted(table, actor, token);
@@ -320,7 +317,6 @@ fn live<W: World>(table: &Table<Note, W>, actor: &mut Actor<Note, W>) -> bool
     requires backend { actor.old.known.number < table.now.config.backends }
     requires rests { IsAtRest actor.old.known }
     ensures same { IsSame actor.old actor.new }
-    ensures number { actor.new.known.number ≡ actor.old.known.number }
     ensures rests { IsTrue result → IsAtRest actor.new.known }
 {
     let Ok(token) = table.acquire(actor) else {
@@ -510,7 +506,6 @@ fn launched<W: World>(table: &Table<Note, W>, actor: &mut Actor<Note, W>) -> Opt
     requires backend { actor.old.known.number < table.now.config.backends }
     requires rests { IsAtRest actor.old.known }
     ensures same { IsSame actor.old actor.new }
-    ensures number { actor.new.known.number ≡ actor.old.known.number }
     ensures token { IfSome result (λ t. IsInFlight actor.new.known t) }
     ensures launched { IfSome result (λ t. IsLaunched t actor.new.known) }
 {

@@ -1,23 +1,14 @@
 -- What shows that an incarnation was seen done.
-use Rattle.std.proofs.Common.{◌≡◌, ℕ, ◌+◌, ◌*◌, ◌<◌, ◌≤◌, Bool, true, List, [], ◌∷◌, ◌++◌, ap}
-use Rattle.std.proofs.Common.{subst, ⊎_elim, arith, refl}
+use Rattle.std.proofs.Common.{◌≡◌, ℕ, ◌+◌, ◌*◌, ◌≤◌, Bool, true, [], ⊎_elim, arith}
 use Rattle.aio_word.specs.declared.State.{State}
 use Rattle.aio_word.specs.declared.State.TheVariants as state
-use Rattle.aio_word.specs.declared.Mark.{Mark}
 use Rattle.aio_word.specs.declared.Word.{Word}
 use Rattle.aio_word.specs.declared.Known.{Known}
 use Rattle.aio_word.specs.declared.WaitRef.{WaitRef}
-use Rattle.aio_word.specs.declared.Kind.TheVariants as kind
 use Rattle.aio_word.specs.Words.{IsDone, IsEnded, place_in, rank_of}
-use Rattle.aio_word.specs.Events.{at}
-use Rattle.aio_word.specs.Stands.{seen_of}
-use Rattle.aio_word.specs.Tokens.{Grows, Keeps, IsSeenDone, mark_at}
-use Rattle.aio_word.proofs.Frames.{at-more, at-place}
-use Rattle.aio_word.proofs.Steps.{counted-in}
-use Rattle.aio_handle.specs.Executing.{TakesUp}
+use Rattle.aio_word.specs.Tokens.{Grows, IsSeenDone}
 use Rattle.aio_handle.specs.Made.{Checked, Looked}
 use Rattle.aio_handle.proofs.Growing.{look-on, grows-then}
-use Rattle.std.proofs.Common.{inl}
 
 ended-place : (s : State) (b : Bool) → IsEnded s → 6 ≤ place_in s b
 ended-place state.Idle b e = absurd e
@@ -47,21 +38,3 @@ checks_on t b p q r g c = grows-then p q r [] [] g (look-on t.handle c.word q r 
 
 pub looks_on : (h : ℕ) (w : Word) (p q r : Known) → Grows p q [] → Looked h w q r → Grows p r []
 looks_on h w p q r g l = grows-then p q r [] [] g (look-on h w q r l)
-
--- whoever has taken up an incarnation that it had claimed has seen it done
-pub taken_up_seen : (t u : WaitRef) (p q : Known) (reads reads' faults faults' : ℕ) → u ≡ t
-    → TakesUp (mark_at u kind.Claimed ∷ []) p q reads reads' faults faults'
-    → Keeps (seen_of q) q.marks → IsSeenDone q t
-taken_up_seen t u p q reads reads' faults faults' same a k =
-    let held : List Mark = mark_at u kind.Claimed ∷ [] in
-    let here : 0 < at u kind.Claimed held = counted-in (mark_at u kind.Claimed) held (inl refl) in
-    let other : at u kind.Shared held ≡ 0 = at-place u u 5 kind.Claimed [] (λ e. omega arith)
-    (omega arith) in
-    let even = a.took.shared u in
-    let three = at-more u 3 held a.more in
-    let five = at-more u 5 held a.more in
-    let whole : at u kind.Shared q.marks ≡ at u kind.Shared (p.marks ++ a.more) =
-    ap (λ (z : List Mark). at u kind.Shared z) a.grows.marks in
-    let parts = at-more u 5 p.marks a.more in
-    let below = k.below u.handle (8 * u.generation + 5) (omega arith) in
-    subst (λ (z : WaitRef). IsSeenDone q z) same (omega arith)

@@ -136,7 +136,6 @@ fn last<W: World>(
     ensures actor { IfSome result
         (λ a. a ≡ record {
           table = table.now.table;
-          config = table.now.config;
           known =
               newcomer table.now.config (length actors.new.items);
         }) }
@@ -152,7 +151,6 @@ fn launched<W: World>(table: &Table<Note, W>, actor: &mut Actor<Note, W>) -> Opt
     requires table { IsOf table.now actor.old }
     requires backend { actor.old.known.number < table.now.config.backends }
     ensures same { IsSame actor.old actor.new }
-    ensures number { actor.new.known.number ≡ actor.old.known.number }
     ensures token { IfSome result (λ t. IsInFlight actor.new.known t) }
 {
     let Ok(token) = table.acquire(actor) else {
@@ -464,7 +462,6 @@ fn live<W: World, T: Wait>(rt: &T, table: &Table<Note, W>, actor: &mut Actor<Not
     requires table { IsOf table.now actor.old }
     requires backend { actor.old.known.number < table.now.config.backends }
     ensures same { IsSame actor.old actor.new }
-    ensures number { actor.new.known.number ≡ actor.old.known.number }
 {
     let Some(token) = launched(table, actor) else {
         return false;

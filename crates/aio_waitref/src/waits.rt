@@ -3,7 +3,8 @@ ghost use Rattle.std.specs.Prelude.{◌≡◌, ◌<◌, ◌⊎◌, []};
 ghost use Rattle.aio_word.specs.Tokens.{Grows, IsSeenDone};
 ghost use Rattle.aio_handle.specs.Executing.{TakesUp};
 ghost use Rattle.aio_handle.specs.Shown.{IsOf, IsSame};
-ghost use Rattle.aio_waitref.specs.Waiting.{Won, Lost};
+ghost use Rattle.aio_handle.specs.Tried.{Won};
+ghost use Rattle.aio_waitref.specs.Waiting.{Rested};
 
 use aio_handle::{Actor, Execute, Record, Table};
 use aio_word::WaitRef;
@@ -40,6 +41,7 @@ fn rest_until_done<R: Record, W: World, T: Wait>(
 ///
 /// It returns only once the I/O is done. So an actor that is itself to submit the I/O, or has
 /// claimed it and is to complete it, must do that first.
+#[tactic(auto, using(aio_handle::proofs::TakingUp::takes_looks))]
 pub fn wait<R: Record, W: World, E: Execute<R, W>, T: Wait>(
     rt: &T,
     table: &Table<R, W>,
@@ -59,13 +61,9 @@ pub fn wait<R: Record, W: World, E: Execute<R, W>, T: Wait>(
     ensures done { IsSeenDone actor.new.known reference }
     ensures tried { Won reference actor.old.known actor.new.known (E.reads runner.old)
         (E.reads runner.new) (E.faults runner.old) (E.faults runner.new)
-        ⊎ (Lost reference actor.old.known actor.new.known × (runner.new ≡ runner.old)) }
+        ⊎ (Rested reference actor.old.known actor.new.known × (runner.new ≡ runner.old)) }
 {
-    match table.claim(actor, reference) {
-        Some(claimed) => {
-            runner.execute(rt, table, actor, claimed);
-            actor.keeps();
-        }
-        None => rest_until_done(rt, table, actor, reference),
+    if !table.try_execute(rt, actor, reference, runner) {
+        rest_until_done(rt, table, actor, reference);
     }
 }

@@ -1,2 +1,1 @@
-pub mod Missing
 pub mod Running

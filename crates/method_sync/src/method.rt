@@ -2,7 +2,7 @@
 ghost use Rattle.std.specs.Prelude.{◌≡◌, ◌<◌, [], None};
 ghost use Rattle.aio_handle.specs.Executing.{TakesUp};
 ghost use Rattle.aio_handle.specs.Shown.{IsOf, IsSame};
-ghost use Rattle.method_sync.specs.Began.{SeesClaim};
+ghost use Rattle.aio_handle.specs.Tried.{SeesClaim};
 
 use aio_batch::Method;
 use aio_callback::ReadIo;
@@ -41,9 +41,6 @@ impl<W: World> Method<ReadIo, W> for SyncMethod {
             (E.reads runner.new) (E.faults runner.old) (E.faults runner.new) }
         ensures sees { SeesClaim reference actor.old.known actor.new.known }
     {
-        actor.keeps();
-        if let Some(claimed) = table.claim(actor, reference) {
-            runner.execute(rt, table, actor, claimed);
-        }
+        table.try_execute(rt, actor, reference, runner);
     }
 }

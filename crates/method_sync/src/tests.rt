@@ -66,7 +66,6 @@ fn read_four<W: World, D: Disk, T: Wait>(
     requires room { 4 ≤ length io.pages }
     requires first { first + 4 ≤ 2 ^ 32 }
     ensures same { IsSame actor.old actor.new }
-    ensures number { actor.new.known.number ≡ actor.old.known.number }
     ensures told { (D.told runner.new.disk ≡ D.told runner.old.disk)
         × (D.relations runner.new.disk ≡ D.relations runner.old.disk) }
     ensures empty { IfSome result (λ _. batch.new ≡ []) }

@@ -16,7 +16,7 @@ loop-preserved g c =
       can_next = tt;
       is_finite = tt;
       table = (two.0 ∙ (one.0 ∙ i.table.0), two.1 ∙ (one.1 ∙ i.table.1));
-      same = (two.0 ∙ (one.0 ∙ i.same.0), two.1 ∙ (one.1 ∙ i.same.1));
+      same = (two.0 ∙ (one.0 ∙ i.same.0), two.1 ∙ (one.1 ∙ i.same.1), two.2 ∙ (one.2 ∙ i.same.2));
       grows = looks_on _ _ p r s (checks_on _ _ p q r i.grows c.check.ensures.look)
           c.rest.ensures.look.1;
     }

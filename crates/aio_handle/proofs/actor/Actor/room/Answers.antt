@@ -1,4 +1,6 @@
-use Rattle.std.proofs.Common.{subst}
+use Rattle.std.proofs.Common.{ℕ, sym, subst}
+use Rattle.aio_word.specs.declared.Config.{Config}
+use Rattle.aio_handle.specs.Seats.{known_of}
 use Rattle.aio_handle.specs.Shown.{Standing}
 use Rattle.aio_handle.specs.Free.{IsRoom}
 use Rattle.aio_handle.specs.Own.{HasRoom}
@@ -6,5 +8,11 @@ use Rattle.aio_handle.proofs.Remembering.{room-told}
 use Rattle.aio_handle.proofs.actor.Actor.room.Goals as goal
 
 pub returns : goal.returns
-returns g c = subst (λ (z : Standing). IsRoom z.config z.known c.room_of.result) c.self.view_is
-    (room-told c.self.inside.config c.self.inside.own.items _ c.room_of.result c.self.invariant.1.per_backend.0 c.self.invariant.2.owns (subst (λ xs. HasRoom xs c.room_of.result) c.as_slice.ensures.value c.room_of.ensures))
+returns g c =
+    let room : ℕ = c.room_of.result in
+    let of_own = subst (λ xs. HasRoom xs room) c.as_slice.ensures.value c.room_of.ensures in
+    subst (λ (z : Standing). IsRoom z.known.config z.known room) c.self.view_is
+    (subst (λ (z : Config). IsRoom z (known_of c.self.inside.seat.me.0) room)
+    (sym c.self.invariant.0.config)
+    (room-told c.self.inside.config c.self.inside.own.items _ room
+    c.self.invariant.1.per_backend.0 c.self.invariant.2.owns of_own))

@@ -192,7 +192,7 @@ returns-clause-alone g c =
     (g.R.Record.fits g.W.World.told g.W.World.relations) c.self.inside.inner.shared.table_id.slots c.token.inside.reference.handle _ c.load-found.new.seat.me c.fetch_add.new.seat.me c.fetch_add.ensures.2 c.token.inside.reference.generation t2 saw-it c.in-Some.io
     (c.exchange.ensures.2 ∙ ap
     (λ z. (c.token.inside.reference.handle, z) ∷ rest c.fetch_add.new.seat.me.1) c.in-Some.is) c.exchange.new.seat.me (ap (λ x. x.0) c.exchange.ensures.3) in
-    let same-config = ap (λ x. x.config) c.actor.view_is ∙
+    let same-config = (sym c.actor.invariant.0.config ∙ ap (λ x. x.known.config) c.actor.view_is) ∙
     (c.requires.table.1 ∙ sym (ap (λ x. x.config) c.self.view_is)) in
     let range = subst (λ z. c.token.inside.reference.handle < handles z) (sym same-config)
     (subst (λ (z : ℕ). c.token.inside.reference.handle < z)
@@ -200,7 +200,7 @@ returns-clause-alone g c =
     λ one. subst (λ (z : Class). LivedAlone c.token.inside.reference z
     (known_of c.exchange.new.seat.me.0)) (sym (ap (λ (l : Label). l.ended) made0.2))
     (lived c.actor.inside.config mid
-    (known_of c.exchange.new.seat.me.0) c.token.inside.reference.handle made0.0 c.token.inside.reference.generation [] sit.keeps sit.config range made0.1 (subst (λ (z : Config). actors z ≡ 1) (sym (ap (λ x. x.config) c.actor.view_is ∙ c.requires.table.1)) one))
+    (known_of c.exchange.new.seat.me.0) c.token.inside.reference.handle made0.0 c.token.inside.reference.generation [] sit.keeps sit.config range made0.1 (subst (λ (z : Config). actors z ≡ 1) (sym ((sym c.actor.invariant.0.config ∙ ap (λ x. x.known.config) c.actor.view_is) ∙ c.requires.table.1)) one))
 
 pub returns-then-not-is_completed-clause-not_yet : goal.returns-then-not-is_completed-clause-not_yet
 returns-then-not-is_completed-clause-not_yet g c =

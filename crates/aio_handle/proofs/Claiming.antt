@@ -1,5 +1,6 @@
--- An actor that finds its own submitted I/O claimed by another has seen it claimed.
-use Rattle.std.proofs.Common.{◌≡◌, ◌≢◌, ℕ, ◌+◌, ◌*◌, Bool, true, false, refl, arith}
+-- What an actor has seen once it has tried to claim an I/O.
+use Rattle.std.proofs.Common.{◌≡◌, ◌≢◌, ℕ, ◌+◌, ◌*◌, ◌<◌, Bool, true, false, List, [], ◌∷◌, ◌++◌}
+use Rattle.std.proofs.Common.{refl, ap, subst, inl, arith}
 use Rattle.aio_word.specs.declared.Class.{Class}
 use Rattle.aio_word.specs.declared.Class.TheVariants.{Unended}
 use Rattle.aio_word.specs.declared.State.{State}
@@ -9,13 +10,17 @@ use Rattle.aio_word.specs.declared.Word.{Word}
 use Rattle.aio_word.specs.declared.WaitRef.{WaitRef}
 use Rattle.aio_word.specs.declared.Known.{Known}
 use Rattle.aio_word.specs.Words.{IsLawful, ClassFits, place_in, rank_of}
-use Rattle.aio_word.specs.Events.{word_in}
+use Rattle.aio_word.specs.declared.Kind.TheVariants as kind
+use Rattle.aio_word.specs.declared.Mark.{Mark}
+use Rattle.aio_word.specs.Events.{at, word_in}
 use Rattle.aio_word.specs.Stands.{seen_of}
-use Rattle.aio_word.specs.Tokens.{Keeps}
-use Rattle.aio_word.proofs.Steps.{place-small}
+use Rattle.aio_word.specs.Tokens.{Keeps, IsSeenDone, mark_at}
+use Rattle.aio_word.proofs.Frames.{at-more, at-place}
+use Rattle.aio_word.proofs.Steps.{place-small, counted-in}
+use Rattle.aio_handle.specs.Executing.{TakesUp}
 use Rattle.aio_handle.specs.LifeWords.{unclaimed}
 use Rattle.aio_handle.specs.Made.{Looked}
-use Rattle.method_sync.specs.Began.{SeesClaim}
+use Rattle.aio_handle.specs.Tried.{SeesClaim}
 
 -- place 3 is that of an I/O that nobody has claimed
 at-three : (s : State) (b : Bool) (class : Class) → ClassFits s class → place_in s b ≡ 3
@@ -37,6 +42,7 @@ is-unclaimed w g l e =
     let same : w.generation ≡ g = omega arith in
     (λ k. word_in (three.0 k) (three.1 k) (three.2 k) (same k))
 
+-- an actor that finds its own submitted I/O claimed by another has seen it claimed
 pub lost-seen : (t : WaitRef) (w : Word) (p q : Known) → Keeps (seen_of p) p.marks
     → Looked t.handle w p q → w ≢ unclaimed t.generation → SeesClaim t p q
 lost-seen t w p q k l ne submitted =
@@ -45,3 +51,21 @@ lost-seen t w p q k l ne submitted =
     let now = l.now in
     let other : rank_of w ≢ 8 * t.generation + 3 = λ e. ne
     (is-unclaimed w t.generation l.lawful e) in omega arith
+
+-- whoever has taken up an incarnation that it had claimed has seen it done
+pub taken_up_seen : (t u : WaitRef) (p q : Known) (reads reads' faults faults' : ℕ) → u ≡ t
+    → TakesUp (mark_at u kind.Claimed ∷ []) p q reads reads' faults faults'
+    → Keeps (seen_of q) q.marks → IsSeenDone q t
+taken_up_seen t u p q reads reads' faults faults' same a k =
+    let held : List Mark = mark_at u kind.Claimed ∷ [] in
+    let here : 0 < at u kind.Claimed held = counted-in (mark_at u kind.Claimed) held (inl refl) in
+    let other : at u kind.Shared held ≡ 0 = at-place u u 5 kind.Claimed [] (λ e. omega arith)
+    (omega arith) in
+    let even = a.took.shared u in
+    let three = at-more u 3 held a.more in
+    let five = at-more u 5 held a.more in
+    let whole : at u kind.Shared q.marks ≡ at u kind.Shared (p.marks ++ a.more) =
+    ap (λ (z : List Mark). at u kind.Shared z) a.grows.marks in
+    let parts = at-more u 5 p.marks a.more in
+    let below = k.below u.handle (8 * u.generation + 5) (omega arith) in
+    subst (λ (z : WaitRef). IsSeenDone q z) same (omega arith)
