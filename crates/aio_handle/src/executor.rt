@@ -25,7 +25,6 @@ use aio_word::{Class, State, WaitRef};
 use page_check::World;
 use std::marker::PhantomData;
 use std::sync::Wait;
-use std::sync::atomic::Ordering;
 
 impl<R: Record, W: World> Table<R, W> {
     ghost use Rattle.aio_handle.specs.Shown.{IsOf, IsSame};
@@ -181,13 +180,13 @@ impl<R: Record, W: World> Table<R, W> {
         self.wake(reference.handle);
     }
 
-    // Wakes those who rest on the handle. It makes a system call only where somebody rests: who
-    // rests is counted before it looks at the word for the last time, and the word has changed
+    // Wakes those who rest on the handle. It makes a system call only where somebody rests on it:
+    // who rests is counted before it looks at the word for the last time, and the word has changed
     // before the count is read here, so either the count shows the sleeper or it does not sleep.
     fn wake(&self, handle: u32)
         requires range { handle < handles self.now.config }
     {
-        if self.sleepers.load(Ordering::SeqCst) > 0 {
+        if self.sleepers.are_on(handle as usize) {
             self.inner.shared.wake_all(handle as usize);
         }
     }

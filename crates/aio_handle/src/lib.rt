@@ -30,6 +30,7 @@ mod owner;
 mod plays;
 mod record;
 mod rule;
+mod sleepers;
 mod table;
 #[cfg(test)]
 mod tests;

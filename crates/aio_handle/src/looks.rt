@@ -12,7 +12,6 @@ use crate::table::Table;
 use aio_word::{WaitRef, done, unpack};
 use page_check::World;
 use std::sync::Wait;
-use std::sync::atomic::Ordering;
 
 impl<R: Record, W: World> Table<R, W> {
     ghost use Rattle.aio_handle.specs.Shown.{IsOf, IsSame};
@@ -48,11 +47,11 @@ impl<R: Record, W: World> Table<R, W> {
             unreachable!()
         };
         if !done(&word, reference) {
-            self.sleepers.fetch_add(1, Ordering::SeqCst);
+            self.sleepers.begin(handle);
             self.inner
                 .shared
                 .park(rt, handle, (found % (1 << 32)) as u32);
-            self.sleepers.fetch_sub(1, Ordering::SeqCst);
+            self.sleepers.end(handle);
         }
     }
 }

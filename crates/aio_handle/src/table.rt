@@ -12,12 +12,12 @@ use crate::own::OwnHandle;
 use crate::plays::Deal;
 use crate::record::Record;
 use crate::rule::{Handles, View};
+use crate::sleepers::Sleepers;
 use aio_word::{Class, Config, State, Word, pack};
 use atomic_table::Seat;
 use page_check::World;
 use std::alloc::{AllocError, Global};
 use std::marker::{Model, PhantomData};
-use std::sync::atomic::AtomicU64;
 
 /// The table that all actors share. Contracts see which table it is, and its numbers.
 ///
@@ -27,8 +27,7 @@ use std::sync::atomic::AtomicU64;
 pub struct Table<R: Record, W: World> {
     pub(crate) inner: atomic_table::Table<Option<R>, View, Config, Handles<R, W>, Global>,
     pub(crate) config: Config,
-    // How many actors are about to sleep on a word, or asleep.
-    pub(crate) sleepers: AtomicU64,
+    pub(crate) sleepers: Sleepers,
 }
 
 impl<R: Record, W: World> Model for Table<R, W> {
@@ -42,7 +41,7 @@ impl<R: Record, W: World> Model for Table<R, W> {
 
     ghost invariant = { λ t. (t.inner.shared.key ≡ t.config) × (t.inner.shared.table_id.words ≡ handles t.config)
         × (t.inner.shared.table_id.slots ≡ handles t.config) × (handles t.config ≡ W.handles)
-        × IsConfig t.config };
+        × IsConfig t.config × (t.sleepers ≡ handles t.config) };
 }
 
 /// The number that the word with these fields packs to.
@@ -77,7 +76,7 @@ impl<R: Record, W: World> Table<R, W> {
     /// A table whose handles are all Idle at generation `start`, and its actors in the order of
     /// their numbers, the backends first: backend `b` owns the handles from `b * per_backend` to
     /// `(b + 1) * per_backend - 1`. It takes all memory that the table and its actors ever take:
-    /// a word, a slot with room for a record, and an owner's note for each handle.
+    /// a word, a slot with room for a record, a count of sleepers and an owner's note for each handle.
     pub fn open(
         alloc: Global,
         backends: u32,
@@ -112,6 +111,7 @@ impl<R: Record, W: World> Table<R, W> {
         let number = backends + runners;
         let mut actors = Vec::with_capacity(alloc, number as usize)?;
         let words = Vec::from_elem(alloc, 64 * start, count)?;
+        let sleepers = Sleepers::none(alloc, count)?;
         let (inner, mut seat) = atomic_table::Table::vacant(
             alloc,
             words.as_slice(),
@@ -121,7 +121,7 @@ impl<R: Record, W: World> Table<R, W> {
         let table = Table {
             inner,
             config,
-            sleepers: AtomicU64::new(0),
+            sleepers,
         };
         for n in 0..number {
             let actor = table.deal(alloc, &mut seat, n)?;
