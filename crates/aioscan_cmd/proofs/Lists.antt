@@ -6,9 +6,9 @@ use Rattle.page_check.specs.Verdict.{IsValid}
 use Rattle.page_check.specs.SynchronousAnswer.{Ending, End, Reader}
 use Rattle.page_check.specs.SynchronousAnswer.{Page as FoundPage, Damaged, Absent, found_for}
 use Rattle.page_check.proofs.AnswersInOrder.{answered_none, slice_get_front, slice_get_back}
-use Rattle.page_check.proofs.AnswersOfLists.{answered_no_block, length_whole, answered_page}
-use Rattle.page_check.proofs.AnswersOfLists.{answered_last_page, answered_invalid}
-use Rattle.page_check.proofs.AnswersOfLists.{answered_past_end, answered_unread}
+use Rattle.page_check.proofs.AnswersOfLists.{length_whole}
+use Rattle.page_check.proofs.AnswersOfBlocks.{answered_no_block, answered_page, answered_last_page}
+use Rattle.page_check.proofs.AnswersOfBlocks.{answered_invalid, answered_past_end, answered_unread}
 use Rattle.heap_scan.specs.PageText.{page_text_of}
 use Rattle.heap_scan.specs.Listing.{listing}
 use Rattle.heap_scan.proofs.Jobs.{job_append, job_more, IsEarly}

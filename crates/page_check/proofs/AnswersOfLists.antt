@@ -15,12 +15,8 @@ use Rattle.page_check.specs.IsAnswer.{Begins, AreFirst, StopsAt, EndsAt, IsEndin
 use Rattle.page_check.specs.IsAnswer.{OneEnding}
 use Rattle.page_check.proofs.SynchronousReads.{pages_of-cons, stop_of-cons, pages_of-none}
 use Rattle.page_check.proofs.SynchronousReads.{pages_of-stop, stop_of-stop, stop_of-none}
+use Rattle.page_check.proofs.Places.{pages_of-length}
 use Rattle.page_check.proofs.AnswersInOrder.{begins_more, begins_all, slice_get_front}
-use Rattle.page_check.proofs.AnswersInOrder.{first_none, one_valid, no_others}
-use Rattle.page_check.specs.SynchronousAnswer.{read_count, given_for}
-use Rattle.std.specs.Prelude.{IfSome, ⊤}
-use Rattle.std.proofs.Common.{take}
-use Rattle.std.proofs.lemmas.List.Folds.{length-prefix_len}
 use Rattle.page_check.proofs.AnswersInOrder.{slice_get_back}
 
 -- an entry gives its page, or reading stops at it
@@ -267,101 +263,6 @@ module _ {P : Type 0} where
         endings_append found may xs ys front back endings first.endings.0 second.endings;
   }
 
--- answers to no block, and to one
-module _ {P : Type 0} (found : Option Reader) (may : Entry P → Type 0) where
-  ends_none : (found : Option Reader) → EndsAt {P = P} found [] 0 End
-  ends_none None = refl
-  ends_none (Some f) = (ap length (sym (pages_of-none f)), ap (ending_at {P = P} f) (stop_of-none f))
-
-  pub answered_no_block : IsAnswer found may [] (record { pages = []; endings = End ∷ [] })
-  answered_no_block = record {
-    first = first_none found [];
-    endings = (ends_none found, no_others End);
-  }
-
-  -- the page that was found
-  first_one : (found : Option Reader) (e : Entry P) (page : List ℕ) → IsValid page
-      → IfSome found (λ f. found_for f e ≡ Page page)
-      → AreFirst found (e ∷ []) (record { entry = e; page = page } ∷ [])
-  first_one None e page valid is =
-      (one_valid (record { entry = e; page = page }) valid, ([], refl))
-  first_one (Some f) e page valid is =
-      let g : Given P = record { entry = e; page = page } in
-      ([], pages_of-cons f g [] is ∙ ap (λ (l : List (Given P)). g ∷ l) (pages_of-none f))
-
-  ends_one : (found : Option Reader) (e : Entry P) (page : List ℕ)
-      → IfSome found (λ f. found_for f e ≡ Page page) → EndsAt found (e ∷ []) 1 End
-  ends_one None e page is = refl
-  ends_one (Some f) e page is =
-      let g : Given P = record { entry = e; page = page } in (
-        ap length
-            (sym (pages_of-cons f g [] is
-            ∙ ap (λ (l : List (Given P)). g ∷ l) (pages_of-none f))),
-        ap (ending_at f) (stop_of-cons f g [] is ∙ stop_of-none f),
-      )
-
-  pub answered_page : (e : Entry P) (page : List ℕ) → IsValid page
-      → IfSome found (λ f. found_for f e ≡ Page page)
-      → IsAnswer found may (e ∷ [])
-      (record { pages = record { entry = e; page = page } ∷ []; endings = [] })
-  answered_page e page valid is = record { first = first_one found e page valid is; endings = tt }
-
-  pub answered_last_page : (e : Entry P) (page : List ℕ) → IsValid page
-      → IfSome found (λ f. found_for f e ≡ Page page)
-      → IsAnswer found may (e ∷ [])
-      (record { pages = record { entry = e; page = page } ∷ []; endings = End ∷ [] })
-  answered_last_page e page valid is = record {
-    first = first_one found e page valid is;
-    endings = (ends_one found e page is, no_others End);
-  }
-
-  -- or where reading stops
-  stops_here : (may : Entry P → Type 0) (e : Entry P) → may e → StopsAt may (e ∷ []) 0 e.block
-  stops_here may e cause = record { next = e; here = refl; named = refl; cause = cause }
-
-  ends_here : (f : Reader) (e : Entry P) (end : Ending) → ending_in (found_for f e) e.block ≡ end
-      → end ≢ End → EndsAt (Some f) (e ∷ []) 0 end
-  ends_here f e end is early = elim (gives_or_stops (found_for f e)) [
-    inl page ↦ absurd
-        (early (sym is ∙ ap (λ (r : Found). ending_in r e.block) page.1))
-    | inr none ↦
-        (ap length (sym (pages_of-stop f e [] none)), ending_here f e [] none ∙ is)
-  ]
-
-  ends_invalid : (found : Option Reader) (e : Entry P)
-      → IfSome found (λ f. found_for f e ≡ Damaged)
-      → EndsAt found (e ∷ []) 0 (Invalid e.block)
-  ends_invalid None e is = stops_here (λ _. ⊤) e tt
-  ends_invalid (Some f) e is =
-      ends_here f e (Invalid e.block) (ap (λ (r : Found). ending_in r e.block) is) (λ x. cc)
-
-  ends_past : (found : Option Reader) (e : Entry P) → IfSome found (λ f. found_for f e ≡ Absent)
-      → EndsAt found (e ∷ []) 0 (PastEnd e.block)
-  ends_past None e is = stops_here (λ _. ⊤) e tt
-  ends_past (Some f) e is =
-      ends_here f e (PastEnd e.block) (ap (λ (r : Found). ending_in r e.block) is) (λ x. cc)
-
-  pub answered_invalid : (e : Entry P) → IfSome found (λ f. found_for f e ≡ Damaged)
-      → IsAnswer found may (e ∷ []) (record { pages = []; endings = Invalid e.block ∷ [] })
-  answered_invalid e is = record {
-    first = first_none found (e ∷ []);
-    endings = (ends_invalid found e is, no_others (Invalid e.block));
-  }
-
-  pub answered_past_end : (e : Entry P) → IfSome found (λ f. found_for f e ≡ Absent)
-      → IsAnswer found may (e ∷ []) (record { pages = []; endings = PastEnd e.block ∷ [] })
-  answered_past_end e is = record {
-    first = first_none found (e ∷ []);
-    endings = (ends_past found e is, no_others (PastEnd e.block));
-  }
-
-  pub answered_unread : (e : Entry P) → may e
-      → IsAnswer found may (e ∷ []) (record { pages = []; endings = Unread e.block ∷ [] })
-  answered_unread e cause = record {
-    first = first_none found (e ∷ []);
-    endings = (stops_here may e cause, no_others (Unread e.block));
-  }
-
 module _ {P : Type 0} where
   -- all pages of synchronous reads were given
   pub all_given : (f : Reader) (entries : List (Entry P)) (pages : List (Given P))
@@ -372,8 +273,22 @@ module _ {P : Type 0} where
   -- reading stops at the entry behind the pages
   pub stop_of-length : (f : Reader) (entries : List (Entry P))
       → stop_of f entries ≡ slice_get entries (length (pages_of f entries))
-  unfolding read_count
-  stop_of-length f entries =
-      let count = length-map (take (read_count f entries) entries) (given_for f)
-      ∙ length-prefix_len (can_read f) entries in
-      ap (slice_get entries) (sym count)
+  stop_of-length f entries = ap (slice_get entries) (sym (pages_of-length f entries))
+
+  -- how the answers ended: as synchronous reads do, with all their pages, or at an entry that was
+  -- not read
+  pub ended_as_told : (f : Reader) (may : Entry P → Type 0) (entries : List (Entry P))
+      (pages : List (Given P)) (end : Ending) (more : List Ending)
+      → IsAnswer (Some f) may entries (record { pages = pages; endings = end ∷ more })
+      → ((pages_of f entries ≡ pages) × (ending_of f entries ≡ end))
+      ⊎ ((b : ℕ) × (end ≡ Unread b))
+  ended_as_told f may entries pages (Unread b) more answer = inr (b, refl)
+  ended_as_told f may entries pages End more answer =
+      let ends = answer.endings.0 in
+      inl (all_given f entries pages answer.first ends.0, ends.1)
+  ended_as_told f may entries pages (Invalid b) more answer =
+      let ends = answer.endings.0 in
+      inl (all_given f entries pages answer.first ends.0, ends.1)
+  ended_as_told f may entries pages (PastEnd b) more answer =
+      let ends = answer.endings.0 in
+      inl (all_given f entries pages answer.first ends.0, ends.1)

@@ -2,6 +2,9 @@ pub mod Bytes
 pub mod Zeros
 pub mod ValidPages
 pub mod SynchronousReads
+pub mod Places
+pub mod Nexts
 pub mod AnswersInOrder
 pub mod AnswersOfLists
+pub mod AnswersOfBlocks
 pub mod Rows

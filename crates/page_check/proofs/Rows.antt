@@ -1,8 +1,8 @@
 -- Worked pages: what the definitions say of them.
 use Rattle.std.proofs.Common.{◌≡◌, ℕ, ◌/◌, ◌%◌, List, [], ◌∷◌, ◌++◌, replicate, refl, length, zero}
-use Rattle.std.proofs.Common.{suc, map, ◌<◌, arith}
-use Rattle.std.specs.Prelude.{Option, Some, ⊤}
-use Rattle.std.proofs.lemmas.Option.{slice_get_within}
+use Rattle.std.proofs.Common.{suc, map, ◌<◌, arith, ap, sym, ◌∙◌}
+use Rattle.std.specs.Prelude.{Option, Some, None, ⊤}
+use Rattle.std.proofs.lemmas.Option.{slice_get_within, same_Some}
 use Rattle.std.specs.List.{range_with_len}
 use Rattle.page_check.specs.Told.{Told, told_in, page_at, block_count, blocks_of}
 use Rattle.page_check.specs.SynchronousAnswer.{Entry, End, Invalid, PastEnd, found_at, read_count}
@@ -141,6 +141,17 @@ past_the_end_twice = record {
   endings = ((refl, refl), λ k d below. (let first : k ≡ 0 = omega arith in rw first refl));
 }
 
+-- all pages of the blocks 2 and 3, then the end, which stays
+the_end_twice : IsAnswer (Some (found_at four)) (λ _. ⊤) (blocks 2 2) (record {
+  pages = record { entry = block 2; page = E } ∷ three ∷ [];
+  endings = End ∷ End ∷ [];
+})
+unfolding read_count found_at page_at block_count verdict_of header_of u16_at u32_at
+the_end_twice = record {
+  first = ([], refl);
+  endings = ((refl, refl), λ k d below. (let first : k ≡ 0 = omega arith in rw first refl));
+}
+
 -- the block behind the end may be one that was not read
 unread_where_reading_stops : IsAnswered (record { pages = three ∷ []; endings = Unread 4 ∷ [] })
 unfolding read_count found_at page_at block_count verdict_of header_of u16_at u32_at
@@ -161,3 +172,17 @@ none_unread_behind_the_last found b pages two answer =
     let below : length pages < 2 =
     slice_get_within (blocks 3 2) (length pages) stops.next stops.here in
     absurd (omega arith)
+
+-- where nothing is told, the end comes behind the last block alone
+no_end_before_the_last : (pages : List (Given (Unit {0})))
+    → IsAnswer None (λ _. ⊤) (blocks 3 2) (record { pages = pages; endings = End ∷ [] })
+    → length pages ≡ 2
+no_end_before_the_last pages answer = answer.endings.0
+
+-- and an invalid page is that of the next block
+invalid_is_the_next : (b : ℕ)
+    → IsAnswer None (λ _. ⊤) (blocks 3 2) (record { pages = []; endings = Invalid b ∷ [] }) → b ≡ 3
+invalid_is_the_next b answer =
+    let stops = answer.endings.0 in
+    let next = same_Some (block 3) stops.next stops.here in
+    stops.named ∙ sym (ap (λ (e : Entry (Unit {0})). e.block) next)

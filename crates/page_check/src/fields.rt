@@ -85,10 +85,11 @@ pub fn header(page: &Page) -> PageHeader
     }
 }
 
-/// How many line pointers the page has (`PageGetMaxOffsetNumber`): at most 2042 on a valid page.
+/// How many line pointers the page has (`PageGetMaxOffsetNumber`).
 #[tactic(auto, unfolding(crate::specs::LinePointers::count_of, crate::specs::Fields::header_of))]
 pub fn count(page: &Page) -> u16
-    ensures { result ≡ count_of page.now }
+    ensures count { result ≡ count_of page.now }
+    ensures few { IsValid page.now → result ≤ 2042 }
 {
     read_u16(page.bytes(), 12).saturating_sub(HEADER_SIZE) / 4
 }

@@ -8,6 +8,7 @@
 #![tactic(auto)]
 
 mod fields;
+pub mod laws;
 mod page;
 mod verdict;
 mod world;

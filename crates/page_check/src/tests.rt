@@ -1,6 +1,9 @@
 //! Worked pages.
-use crate::{Kind, LinePointer, Page, PageHeader, Verdict, check, count, header, line_pointer};
+use crate::{
+    Kind, LinePointer, Page, PageHeader, Verdict, check, count, header, laws, line_pointer,
+};
 use std::alloc::{AllocError, Global};
+use std::marker::Brand;
 use std::test::Fail;
 
 // A page of zeros, but with these bytes at an offset, for each entry.
@@ -150,5 +153,14 @@ fn header_fields_are_little_endian(rt: HostRuntime) -> Result<(), Fail> {
     };
     assert_eq!(rt; header(&copy), wanted);
     assert_eq!(rt; copy.bytes(), page.bytes());
+    Ok(())
+}
+
+#[test]
+fn laws_have_a_caller(rt: HostRuntime) -> Result<(), Fail> {
+    laws::answers_come_one_by_one::<(), Brand>();
+    laws::what_is_found_is_answered_next::<(), Brand>();
+    laws::answers_to_joined_lists::<(), Brand>();
+    laws::answers_end_as_synchronous_reads::<(), Brand>();
     Ok(())
 }

@@ -1,0 +1,72 @@
+-- What may be answered next, by what is found at that place of the list.
+use Rattle.std.proofs.Common.{◌≡◌, ℕ, ◌+◌, ◌≤◌, false, List, length, refl, sym, ap, ◌∙◌, arith}
+use Rattle.std.specs.Prelude.{Option, Some, None, IfSome, slice_get}
+use Rattle.std.proofs.lemmas.Option.{slice_get_past}
+use Rattle.page_check.specs.Verdict.{IsValid}
+use Rattle.page_check.specs.SynchronousAnswer.{Entry, Given, End, Invalid, PastEnd, Unread}
+use Rattle.page_check.specs.SynchronousAnswer.{Found, Page as FoundPage, Damaged, Absent, Reader}
+use Rattle.page_check.specs.SynchronousAnswer.{found_for, is_page, page_in, can_read, pages_of}
+use Rattle.page_check.specs.SynchronousAnswer.{read_count, ending_in, ending_at, ending_of}
+use Rattle.page_check.specs.IsAnswer.{Page, Stop, IsNext}
+use Rattle.page_check.proofs.Places.{count-within, count-more, count-stop, pages_of-length}
+use Rattle.page_check.proofs.Places.{pages_of-at}
+
+-- the first k entries can be read, where the contents are told
+abbrev pub IsReached : {P : Type 0} → Option Reader → List (Entry P) → ℕ → Type 0
+IsReached found es k = IfSome found (λ f. k ≤ read_count f es)
+
+module _ {P : Type 0} (may : Entry P → Type 0) (es : List (Entry P)) (k : ℕ) (e : Entry P)
+    (here : slice_get es k ≡ Some e) where
+  -- the page of the entry, and then the next one is reached
+  pub next-page : (found : Option Reader) (page : List ℕ) → IsReached found es k → IsValid page
+      → IfSome found (λ f. found_for f e ≡ FoundPage page)
+      → IsNext found may es k (Page (record { entry = e; page = page }))
+      × IsReached found es (k + 1)
+  next-page None page far valid is = ((valid, here), tt)
+  next-page (Some f) page far valid is =
+      let below = count-more f es k e here far (ap is_page is) in
+      let given = ap {B = Option (Given P)}
+      (λ (r : Found). Some (record { entry = e; page = page_in r })) is in
+      (pages_of-at f es k e here below ∙ given, omega (arith, below))
+
+  stops_at : (f : Reader) → k ≤ read_count f es → can_read f e ≡ false
+      → (k ≡ length (pages_of f es)) × (ending_of f es ≡ ending_in (found_for f e) e.block)
+  stops_at f far cannot =
+      let count = count-stop f es k e here far cannot in
+      let stop = ap (slice_get es) count ∙ here in
+      (sym (pages_of-length f es ∙ count), ap (ending_at f) stop)
+
+  ends_at : (f : Reader) (r : Found) → k ≤ read_count f es → found_for f e ≡ r
+      → is_page r ≡ false
+      → (k ≡ length (pages_of f es)) × (ending_of f es ≡ ending_in r e.block)
+  ends_at f r far is none =
+      let stops = stops_at f far (ap is_page is ∙ none) in
+      (stops.0, stops.1 ∙ ap (λ (x : Found). ending_in x e.block) is)
+
+  -- that its page is not valid
+  pub next-invalid : (found : Option Reader) → IsReached found es k
+      → IfSome found (λ f. found_for f e ≡ Damaged) → IsNext found may es k (Stop (Invalid e.block))
+  next-invalid None far is = record { next = e; here = here; named = refl; cause = tt }
+  next-invalid (Some f) far is = ends_at f Damaged far is refl
+
+  -- that there is no such block
+  pub next-past-end : (found : Option Reader) → IsReached found es k
+      → IfSome found (λ f. found_for f e ≡ Absent) → IsNext found may es k (Stop (PastEnd e.block))
+  next-past-end None far is = record { next = e; here = here; named = refl; cause = tt }
+  next-past-end (Some f) far is = ends_at f Absent far is refl
+
+  -- that it was not read
+  pub next-unread : (found : Option Reader) → may e → IsNext found may es k (Stop (Unread e.block))
+  next-unread None cause = record { next = e; here = here; named = refl; cause = cause }
+  next-unread (Some f) cause = record { next = e; here = here; named = refl; cause = cause }
+
+-- the end, behind the last entry
+pub next-end : {P : Type 0} (may : Entry P → Type 0) (es : List (Entry P)) (k : ℕ)
+    (found : Option Reader) → IsReached found es k → k ≡ length es
+    → IsNext found may es k (Stop End)
+next-end may es k None far all = all
+next-end {P} may es k (Some f) far all =
+    let within = count-within f es in
+    let count : read_count f es ≡ length es = omega arith in
+    let none = slice_get_past es (read_count f es) (omega arith) in
+    (omega (arith, pages_of-length f es), ap (ending_at f) none)

@@ -1,0 +1,85 @@
+//! Laws on what a scan may have answered to a list of blocks, each the contract of a function that
+//! does nothing. They hold of contents that are told, and of contents that are not.
+ghost use Rattle.std.specs.Prelude.{◌≡◌, ◌≢◌, ◌≤◌, ◌+◌, ◌⊎◌, ◌++◌, ◌∷◌, [], ℕ, List, length};
+ghost use Rattle.std.specs.Prelude.{Option, Some, IfSome, slice_get, All};
+ghost use Rattle.page_check.specs.Verdict.{IsValid};
+ghost use Rattle.page_check.specs.SynchronousAnswer.{Entry, Given, Ending, End, Invalid, PastEnd};
+ghost use Rattle.page_check.specs.SynchronousAnswer.{Unread, Page as FoundPage, Damaged, Absent};
+ghost use Rattle.page_check.specs.SynchronousAnswer.{Reader, found_for, read_count, pages_of};
+ghost use Rattle.page_check.specs.SynchronousAnswer.{ending_of};
+ghost use Rattle.page_check.specs.IsAnswer.{IsAnswer, IsNext, Next, Page, Stop, with_next};
+
+use std::marker::Brand;
+
+/// Which entries may be answered by `Unread`, as whoever answers says. A caller fixes it by calling
+/// a law with `Brand`.
+pub trait MayBeUnread<P> {
+    ghost may: { Entry P → Type 0 };
+}
+
+impl<P> MayBeUnread<P> for Brand {
+    ghost may = { λ entry. ⊥ };
+}
+
+/// Answers come one by one: none at first, then any that may be next, and an ending again.
+pub fn answers_come_one_by_one<P, M: MayBeUnread<P>>()
+    ensures none { (found : Option Reader) (entries : List (Entry P))
+        → IsAnswer found M.may entries (record { pages = []; endings = [] }) }
+    ensures next { (found : Option Reader) (entries : List (Entry P)) (pages : List (Given P))
+        (next : Next P) → IsAnswer found M.may entries (record { pages = pages; endings = [] })
+        → IsNext found M.may entries (length pages) next
+        → IsAnswer found M.may entries (with_next pages next) }
+    ensures again { (found : Option Reader) (entries : List (Entry P)) (pages : List (Given P))
+        (end : Ending) (more : List Ending)
+        → IsAnswer found M.may entries (record { pages = pages; endings = end ∷ more })
+        → IsAnswer found M.may entries (record { pages = pages; endings = end ∷ end ∷ more }) }
+{}
+
+/// What may be answered next, by what is found at that entry of the list, where the entries before
+/// it can be read.
+pub fn what_is_found_is_answered_next<P, M: MayBeUnread<P>>()
+    ensures page { (found : Option Reader) (entries : List (Entry P)) (k : ℕ) (e : Entry P)
+        (page : List ℕ) → slice_get entries k ≡ Some e
+        → IfSome found (λ f. k ≤ read_count f entries) → IsValid page
+        → IfSome found (λ f. found_for f e ≡ FoundPage page)
+        → IsNext found M.may entries k (Page (record { entry = e; page = page }))
+        × IfSome found (λ f. k + 1 ≤ read_count f entries) }
+    ensures invalid { (found : Option Reader) (entries : List (Entry P)) (k : ℕ) (e : Entry P)
+        → slice_get entries k ≡ Some e → IfSome found (λ f. k ≤ read_count f entries)
+        → IfSome found (λ f. found_for f e ≡ Damaged)
+        → IsNext found M.may entries k (Stop (Invalid e.block)) }
+    ensures past_end { (found : Option Reader) (entries : List (Entry P)) (k : ℕ) (e : Entry P)
+        → slice_get entries k ≡ Some e → IfSome found (λ f. k ≤ read_count f entries)
+        → IfSome found (λ f. found_for f e ≡ Absent)
+        → IsNext found M.may entries k (Stop (PastEnd e.block)) }
+    ensures unread { (found : Option Reader) (entries : List (Entry P)) (k : ℕ) (e : Entry P)
+        → slice_get entries k ≡ Some e → M.may e
+        → IsNext found M.may entries k (Stop (Unread e.block)) }
+    ensures end { (found : Option Reader) (entries : List (Entry P)) (k : ℕ)
+        → IfSome found (λ f. k ≤ read_count f entries) → k ≡ length entries
+        → IsNext found M.may entries k (Stop End) }
+{}
+
+/// Answers to a list are answers to one that goes on: where they have reached the end of the first
+/// part, with those to the second; where they have not, as they stand.
+pub fn answers_to_joined_lists<P, M: MayBeUnread<P>>()
+    ensures append { (found : Option Reader) (xs ys : List (Entry P)) (front back : List (Given P))
+        (endings : List Ending)
+        → IsAnswer found M.may xs (record { pages = front; endings = End ∷ [] })
+        → IsAnswer found M.may ys (record { pages = back; endings = endings })
+        → IsAnswer found M.may (xs ++ ys) (record { pages = front ++ back; endings = endings }) }
+    ensures more { (found : Option Reader) (xs ys : List (Entry P)) (pages : List (Given P))
+        (endings : List Ending) → All (λ end. end ≢ End) endings
+        → IsAnswer found M.may xs (record { pages = pages; endings = endings })
+        → IsAnswer found M.may (xs ++ ys) (record { pages = pages; endings = endings }) }
+{}
+
+/// Where the contents are told, answers that have ended are those of synchronous reads, but where a
+/// block was not read.
+pub fn answers_end_as_synchronous_reads<P, M: MayBeUnread<P>>()
+    ensures { (found : Reader) (entries : List (Entry P)) (pages : List (Given P)) (end : Ending)
+        (more : List Ending)
+        → IsAnswer (Some found) M.may entries (record { pages = pages; endings = end ∷ more })
+        → ((pages_of found entries ≡ pages) × (ending_of found entries ≡ end))
+        ⊎ ((block : ℕ) × (end ≡ Unread block)) }
+{}
