@@ -6,14 +6,14 @@ use Rattle.heap_scan.proofs.lines.put_items.Goals as goal
 
 pub loop-left-init : goal.loop-left-init
 loop-left-init c = record {
-  few = omega (arith, c.count-left.ensures);
-  room = omega (arith, c.count-left.ensures, c.requires.room);
+  few = omega (arith, c.count-left.ensures.count);
+  room = omega (arith, c.count-left.ensures.count, c.requires.room);
   within = omega arith;
   written = grind (
     arith,
     common_steps,
     lines_from-none (line_pointer_of c.args.page.now) c.count-left.result
-        (count_of c.args.page.now) (sym c.count-left.ensures),
+        (count_of c.args.page.now) (sym c.count-left.ensures.count),
   );
 }
 
