@@ -1,21 +1,19 @@
 -- FILE words that are listed one after the other.
 use Rattle.std.proofs.Common.{◌≡◌, ◌≢◌, ℕ, ◌+◌, ◌<◌, ◌≤◌, List, [], ◌∷◌, ◌++◌, map, take, drop, length}
-use Rattle.std.proofs.Common.{get_or, refl, sym, ap, ◌∙◌, subst, arith, zero, suc, Bool, true}
-use Rattle.std.proofs.Common.{false, ◌||◌, cond, length-append, append-nil}
+use Rattle.std.proofs.Common.{get_or, refl, sym, ap, ◌∙◌, subst, arith, suc}
+use Rattle.std.proofs.Common.{append-nil}
 use Rattle.std.specs.Prelude.{Option, string_bytes, String}
 use Rattle.std.specs.declared.alloc.Global.{Global}
-use Rattle.std.specs.List.{list_any, fold, flat_map}
-use Rattle.std.specs.Str.{bytes_eq}
-use Rattle.std.proofs.lemmas.Slice.Eq.{bytes_eq-Decides}
+use Rattle.std.specs.List.{flat_map}
 use Rattle.std.proofs.lemmas.Grind.{flat_map-append}
 use Rattle.std.proofs.lemmas.List.{take_more, take_all, take-append-drop, length-map, get_or-map}
 use Rattle.std.proofs.lemmas.List.Concat.{flat_map-cons}
-use Rattle.std.proofs.lemmas.List.Folds.{list_any-append}
 use Rattle.page_check.specs.Told.{Told}
 use Rattle.page_check.specs.SynchronousAnswer.{reader_of}
 use Rattle.aioscan_cmd.specs.declared.report.Outcome.{Outcome}
 use Rattle.aioscan_cmd.specs.declared.report.Outcome.TheVariants.{Done}
-use Rattle.aioscan_cmd.specs.Command.{Command, with_name, relations_of, relation_number}
+use Rattle.aioscan_cmd.specs.Command.{Command, relations_of, relation_number}
+use Rattle.aioscan_cmd.proofs.Names.{place_of_name}
 use Rattle.aioscan_cmd.specs.RequestList.{Request, block_range, first_block, asked_count}
 use Rattle.aioscan_cmd.specs.RequestList.{requests_of_file, requests_of}
 use Rattle.aioscan_cmd.specs.Reading.{Seen, Lists}
@@ -84,78 +82,14 @@ file_stopped told now lengths command k name b m a o same below is stops front h
     (flat_map (requests_of_file lengths command) (drop (k + 1) command.files)) b a o stops
     (subst P (sym (requests_up_to-more lengths command k name below is)) more))
 
--- whether a name is among others
-abbrev known : List ℕ → List (List ℕ) → Bool
-known name names = list_any (λ other. bytes_eq other name) names
-
-or_left : (a b : Bool) → a ≡ true → (a || b) ≡ true
-or_left true b is = refl
-or_left false b is = absurd (cc)
-
-or_right : (a b : Bool) → b ≡ true → (a || b) ≡ true
-or_right true b is = refl
-or_right false b is = is
-
-known_stays_by : (b : Bool) (name other : List ℕ) (names : List (List ℕ)) → known name names ≡ true
-    → known name (cond b names (names ++ other ∷ [])) ≡ true
-known_stays_by true name other names is = is
-known_stays_by false name other names is =
-    list_any-append (λ n. bytes_eq n name) names (other ∷ [])
-    ∙ or_left (known name names) (known name (other ∷ [])) is
-
-known_stays : (name other : List ℕ) (names : List (List ℕ)) → known name names ≡ true
-    → known name (with_name names other) ≡ true
-known_stays name other names is =
-    known_stays_by (list_any (λ n. bytes_eq n other) names) name other names is
-
-known_all : (name : List ℕ) (names files : List (List ℕ)) → known name names ≡ true
-    → known name (fold with_name names files) ≡ true
-known_all name names [] is = is
-known_all name names (file ∷ files) is =
-    known_all name (with_name names file) files (known_stays name file names is)
-
-bytes_eq-same : (xs : List ℕ) → bytes_eq xs xs ≡ true
-bytes_eq-same xs = (bytes_eq-Decides xs xs).1 refl
-
-now_known_by : (b : Bool) (name : List ℕ) (names : List (List ℕ)) → known name names ≡ b
-    → known name (cond b names (names ++ name ∷ [])) ≡ true
-now_known_by true name names is = is
-now_known_by false name names is =
-    list_any-append (λ n. bytes_eq n name) names (name ∷ [])
-    ∙ or_right (known name names) (known name (name ∷ []))
-    (or_left (bytes_eq name name) false (bytes_eq-same name))
-
-now_known : (name : List ℕ) (names : List (List ℕ)) → known name (with_name names name) ≡ true
-now_known name names = now_known_by (known name names) name names refl
-
-known_at : (names files : List (List ℕ)) (k : ℕ) → k < length files
-    → known (get_or files k []) (fold with_name names files) ≡ true
-known_at names [] k below = absurd (omega arith)
-known_at names (file ∷ files) zero below =
-    known_all file (with_name names file) files (now_known file names)
-known_at names (file ∷ files) (suc k) below = known_at (with_name names file) files k (omega arith)
-
-number_below_by : (b : Bool) (name : List ℕ) (names : List (List ℕ))
-    → (known name names ≡ true → relation_number name names < length names)
-    → (b || known name names) ≡ true
-    → cond b 0 (relation_number name names + 1) < suc (length names)
-number_below_by true name names rest is = omega arith
-number_below_by false name names rest is = (let below = rest is in omega arith)
-
-number_below : (name : List ℕ) (names : List (List ℕ)) → known name names ≡ true
-    → relation_number name names < length names
-number_below name [] is = absurd (cc)
-number_below name (first ∷ names) is =
-    number_below_by (bytes_eq first name) name names (λ rest. number_below name names rest) is
-
 -- the number of a relation that the words name is one of those that there are
 pub relation_number-below : (command : Command) (k : ℕ) (name : List ℕ) → k < length command.files
     → get_or command.files k [] ≡ name
     → relation_number name (relations_of command) < length (relations_of command)
 relation_number-below command k name below here =
-    number_below name (relations_of command)
-    (ap (λ (n : List ℕ). known n (relations_of command)) (sym here)
-    ∙ known_at [] command.files k below)
+    let P : List ℕ → Type 0 =
+    λ n. relation_number n (relations_of command) < length (relations_of command) in
+    subst P here (place_of_name command.files k below)
 
 -- the FILE word at a place
 pub name_at : (command : Command) (files : List (String Global)) (k : ℕ) (file : String Global)
@@ -213,22 +147,3 @@ requests_of-same f g command same =
     let r = relation_number name (relations_of command) in
     let length_is : f r ≡ g r = same r (relation_number-below command k name below refl) in
     ap (λ (n : ℕ). block_range r (first_block command) (asked_count command n)) length_is))
-
--- there are no more relations than FILE words
-with_name_length : (b : Bool) (names : List (List ℕ)) (name : List ℕ)
-    → length (cond b names (names ++ name ∷ [])) ≤ length names + 1
-with_name_length true names name = omega arith
-with_name_length false names name = omega (arith, length-append names (name ∷ []))
-
-names_length : (names files : List (List ℕ))
-    → length (fold with_name names files) ≤ length names + length files
-names_length names [] = omega arith
-names_length names (file ∷ files) =
-    omega (
-      arith,
-      names_length (with_name names file) files,
-      with_name_length (list_any (λ n. bytes_eq n file) names) names file,
-    )
-
-pub relations_of-length : (command : Command) → length (relations_of command) ≤ length command.files
-relations_of-length command = omega (arith, names_length [] command.files)

@@ -1,6 +1,6 @@
 -- What the words of a command ask for.
-use Rattle.std.specs.Prelude.{ℕ, ◌+◌, List, [], ◌∷◌, ◌++◌, Option, IfSome, ◌<◌, cond}
-use Rattle.std.specs.List.{list_any, fold}
+use Rattle.std.specs.Prelude.{ℕ, List, [], ◌∷◌, Option, IfSome, ◌<◌, not}
+use Rattle.std.specs.List.{filter, position_or_len}
 use Rattle.std.specs.Str.{bytes_eq}
 
 -- the first and the last block, where they are given, and the names of files
@@ -21,16 +21,15 @@ length_limit = 131072
 abbrev pub IsBelow : Option ℕ → ℕ → Type 0
 IsBelow given limit = IfSome given (λ n. n < limit)
 
--- the names with one more, where it is new
-abbrev pub with_name : List (List ℕ) → List ℕ → List (List ℕ)
-with_name names name =
-    cond (list_any (λ other. bytes_eq other name) names) names (names ++ name ∷ [])
+-- the distinct ones of some names, each where it stands first
+abbrev pub distinct : List (List ℕ) → List (List ℕ)
+distinct [] = []
+distinct (name ∷ names) = name ∷ filter (λ other. not (bytes_eq other name)) (distinct names)
 
--- the relations: the distinct names, in the order of their first appearance
+-- the relations: the distinct names of the files
 abbrev pub relations_of : Command → List (List ℕ)
-relations_of command = fold with_name [] command.files
+relations_of command = distinct command.files
 
 -- the number of a relation: its place among them
 abbrev pub relation_number : List ℕ → List (List ℕ) → ℕ
-relation_number name [] = 0
-relation_number name (first ∷ names) = cond (bytes_eq first name) 0 (relation_number name names + 1)
+relation_number name names = position_or_len (λ other. bytes_eq other name) names

@@ -6,5 +6,4 @@ pub mod Reading
 pub mod Run
 pub mod Causes
 pub mod ErrorLine
-pub mod CommandWords
 pub mod Lengths

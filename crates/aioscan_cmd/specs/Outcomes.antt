@@ -1,5 +1,5 @@
 -- The exit status of an outcome, and the line that names it.
-use Rattle.std.specs.Prelude.{◌≡◌, ℕ, List, [], ◌∷◌, codes, decimal, Bool, true, false}
+use Rattle.std.specs.Prelude.{ℕ, List, [], ◌∷◌, codes, decimal, Bool, true, false}
 use Rattle.std.specs.Prelude.{Option, Some, None, Result, Ok, Err}
 use Rattle.std.specs.List.{concat}
 use Rattle.page_check.specs.SynchronousAnswer.{Ending, End, PastEnd, Invalid as EndsInvalid}
@@ -50,9 +50,6 @@ is_refused (Missing r b) = false
 is_refused (Unread r b) = false
 is_refused CannotWrite = false
 is_refused NoMemory = false
-
-abbrev pub IsRefused : Outcome → Type 0
-IsRefused outcome = is_refused outcome ≡ true
 
 -- the block that an outcome names
 abbrev pub stopped_at : Outcome → Option Request

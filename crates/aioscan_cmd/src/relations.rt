@@ -1,10 +1,13 @@
 //! The relations of a command: the distinct names of its files.
-ghost use Rattle.std.specs.Prelude.{◌≡◌, ◌<◌, [], List, ℕ, length, map, IfOk, OnOk, string_bytes};
-ghost use Rattle.std.specs.List.{list_any, fold};
+ghost use Rattle.std.specs.Prelude.{◌≡◌, ◌<◌, ◌≤◌, ◌++◌, ◌∷◌, [], List, ℕ, length, map, IfOk, OnOk};
+ghost use Rattle.std.specs.Prelude.{string_bytes};
+ghost use Rattle.std.specs.List.{list_any, position};
 ghost use Rattle.std.specs.Str.{bytes_eq};
-ghost use Rattle.aioscan_cmd.specs.Command.{with_name, relation_number};
+ghost use Rattle.aioscan_cmd.specs.Command.{distinct, relations_of, relation_number};
 
+use crate::words::Command;
 use std::alloc::{AllocError, Global};
+use std::marker::Model;
 
 fn is_named(names: &[String], name: &str) -> bool
     ensures { result ≡ list_any (λ other. bytes_eq (string_bytes other) name.now) names.now }
@@ -14,9 +17,8 @@ fn is_named(names: &[String], name: &str) -> bool
 
 // Adds a name, where it is new.
 fn add_name(names: &mut Vec<String>, name: &String) -> Result<(), AllocError>
-    ensures { OnOk result
-        (map string_bytes names.new.items
-        ≡ with_name (map string_bytes names.old.items) (string_bytes name.now)) }
+    ensures { OnOk result ((earlier : List (List ℕ)) → map string_bytes names.old.items ≡ distinct earlier
+        → map string_bytes names.new.items ≡ distinct (earlier ++ string_bytes name.now ∷ [])) }
 {
     if is_named(names.as_slice(), name.as_str()) {
         return Ok(());
@@ -25,10 +27,11 @@ fn add_name(names: &mut Vec<String>, name: &String) -> Result<(), AllocError>
     Ok(())
 }
 
-/// The distinct names, in the order of their first appearance.
-pub(crate) fn distinct_names(alloc: Global, files: &[String]) -> Result<Vec<String>, AllocError>
-    ensures { IfOk result
-        (λ names. map string_bytes names.items ≡ fold with_name [] (map string_bytes files.now)) }
+// The distinct names, in the order of their first appearance.
+fn distinct_names(alloc: Global, files: &[String]) -> Result<Vec<String>, AllocError>
+    ensures names { IfOk result
+        (λ names. map string_bytes names.items ≡ distinct (map string_bytes files.now)) }
+    ensures few { IfOk result (λ names. length names.items ≤ length files.now) }
 {
     let mut names: Vec<String> = Vec::new(alloc);
     for file in files {
@@ -37,14 +40,65 @@ pub(crate) fn distinct_names(alloc: Global, files: &[String]) -> Result<Vec<Stri
     Ok(names)
 }
 
-/// The number of a relation: the place of its name, or how many names there are.
-pub(crate) fn number_of(names: &[String], name: &str) -> usize
-    ensures { result ≡ relation_number name.now (map string_bytes names.now) }
-{
-    for index in 0..names.len() {
-        if names[index].as_str() == name {
-            return index;
-        }
+/// The relations of a command: the distinct names of its files, which is how contracts see them.
+#[derive(Drop)]
+pub(crate) struct Relations {
+    names: Vec<String>,
+}
+
+impl Model for Relations {
+    ghost use Rattle.std.specs.Prelude.{◌≤◌, List, ℕ, map, length, string_bytes};
+
+    ghost Value = { List (List ℕ) };
+
+    ghost view = { λ r. map string_bytes r.names.items };
+
+    ghost invariant = { λ r. length r.names.items ≤ 1024 };
+}
+
+impl Relations {
+    /// Takes memory for the names.
+    pub(crate) fn of(alloc: Global, command: &Command<'_>) -> Result<Relations, AllocError>
+        ensures { IfOk result (λ relations. relations ≡ relations_of command.now) }
+    {
+        let names = distinct_names(alloc, command.files())?;
+        Ok(Relations { names })
     }
-    names.len()
+
+    /// Their names, in their order.
+    pub(crate) fn names(&self) -> &[String]
+        ensures names { map string_bytes result.now ≡ self.now }
+        ensures count { length result.now ≡ length self.now }
+    {
+        self.names.as_slice()
+    }
+
+    /// How many there are.
+    pub(crate) fn count(&self) -> u32
+        ensures count { result ≡ length self.now }
+        ensures few { result ≤ 1024 }
+    {
+        self.names.len() as u32
+    }
+
+    /// The number of the relation of this name, which is one of them.
+    pub(crate) fn number_of(&self, name: &str) -> u32
+        ensures { result ≡ relation_number name.now self.now }
+    {
+        number_of(self.names.as_slice(), name) as u32
+    }
+}
+
+fn place_of(names: &[String], name: &str) -> Option<usize>
+    ensures { result ≡ position (λ other. bytes_eq (string_bytes other) name.now) names.now }
+{
+    names.iter().position(|other| other.as_str() == name)
+}
+
+// The place of a name, or how many names there are.
+fn number_of(names: &[String], name: &str) -> usize
+    ensures number { result ≡ relation_number name.now (map string_bytes names.now) }
+    ensures few { result ≤ length names.now }
+{
+    place_of(names, name).unwrap_or(names.len())
 }

@@ -2,8 +2,7 @@
 ghost use Rattle.std.specs.Prelude.{◌≡◌, ◌≢◌, ◌<◌, ◌≤◌, ◌↔◌, length, map, None, Some, true};
 ghost use Rattle.std.specs.Prelude.{IfSome, string_bytes};
 ghost use Rattle.aio_disk.specs.Shelf.{AllThereIfTold};
-ghost use Rattle.aioscan_cmd.specs.Command.{number_limit, IsBelow, relations_of};
-ghost use Rattle.aioscan_cmd.specs.CommandWords.{asked_by};
+ghost use Rattle.aioscan_cmd.specs.Command.{relations_of};
 ghost use Rattle.aioscan_cmd.specs.Words.{command_of};
 ghost use Rattle.aioscan_cmd.specs.Outcomes.{status_of, line_of, is_refused};
 ghost use Rattle.aioscan_cmd.specs.Reading.{seen};
@@ -12,7 +11,7 @@ ghost use Rattle.aioscan_cmd.specs.Causes.{HasCauses, CallsInOrder, IsExact, IsC
 ghost use Rattle.aioscan_cmd.specs.ErrorLine.{IsToldOnErr};
 
 use crate::error_line::write_line;
-use crate::relations::distinct_names;
+use crate::relations::Relations;
 use crate::scan::scan_disk;
 use crate::words::{Command, read_command};
 use crate::{Outcome, Report};
@@ -26,10 +25,7 @@ fn run_command<S: Shelf, O: Sink>(
     shelf: &mut S,
     out: &mut O,
 ) -> Outcome
-    requires few { length command.now.files.now ≤ 1024 }
-    requires from { IsBelow command.now.from number_limit }
-    requires to { IsBelow command.now.to number_limit }
-    ensures ran { RanOn (S.told shelf.old) (Some (asked_by command.now))
+    ensures ran { RanOn (S.told shelf.old) (Some command.now)
         (seen (O.written out.old) (S.counts shelf.old).reads)
         (seen (O.written out.new) (S.counts shelf.new).reads) result }
     ensures causes { HasCauses (S.counts shelf.old) (S.counts shelf.new) (O.faults out.old)
@@ -37,17 +33,17 @@ fn run_command<S: Shelf, O: Sink>(
     ensures order { CallsInOrder (S.counts shelf.old) (S.counts shelf.new) result }
     ensures told { S.told shelf.new ≡ S.told shelf.old }
     ensures opened { IsOpened result
-        → AllThereIfTold (S.told shelf.old) (relations_of (asked_by command.now)) }
+        → AllThereIfTold (S.told shelf.old) (relations_of command.now) }
     ensures words { result ≢ Outcome.Usage }
 {
-    let Ok(names) = distinct_names(alloc, command.files) else {
+    let Ok(relations) = Relations::of(alloc, command) else {
         return Outcome::NoMemory;
     };
-    match shelf.open(names.as_slice()) {
+    match shelf.open(relations.names()) {
         Err(OpenFault::Device) => Outcome::CannotOpen,
         Err(OpenFault::Memory) => Outcome::NoMemory,
         Ok(mut disk) => {
-            let outcome = scan_disk(alloc, command, names.as_slice(), &mut disk, out);
+            let outcome = scan_disk(alloc, command, &relations, &mut disk, out);
             shelf.take_back(disk);
             outcome
         }

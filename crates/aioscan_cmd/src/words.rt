@@ -1,41 +1,67 @@
 //! The words of a command.
-ghost use Rattle.std.specs.Prelude.{◌≡◌, ◌<◌, ◌≤◌, ◌+◌, ◌^◌, List, ℕ, map, length, None, Some};
+ghost use Rattle.std.specs.Prelude.{◌≡◌, ◌<◌, ◌≤◌, ◌+◌, ◌^◌, List, ℕ, map, length, None, Some, true};
 ghost use Rattle.std.specs.Prelude.{Option, IfSome, IsNone, string_bytes};
 ghost use Rattle.std.specs.List.{list_all};
 ghost use Rattle.std.specs.Char.{is_ascii_digit};
 ghost use Rattle.std.specs.Option.{option_map};
-ghost use Rattle.aioscan_cmd.specs.Command.{number_limit, IsBelow};
+ghost use Rattle.aioscan_cmd.specs.Command.{number_limit, length_limit, IsBelow};
 ghost use Rattle.aioscan_cmd.specs.RequestList.{first_block, asked_count};
-ghost use Rattle.aioscan_cmd.specs.CommandWords.{asked_by};
 ghost use Rattle.aioscan_cmd.specs.Words.{is_count as count_test, block_number, is_number, is_file};
 ghost use Rattle.aioscan_cmd.specs.Words.{are_files, option_at, command_of};
+
+use std::marker::Model;
 
 // `--from` and `--to` give numbers below this.
 const NUMBER_LIMIT: u32 = 131072;
 
-/// What the words of a command ask for.
-#[derive(Clone, Copy)]
+// At most so many files are named.
+const MOST_FILES: usize = 1024;
+
+/// What the words of a command ask for, which is how contracts see it.
+#[derive(Drop)]
 pub(crate) struct Command<'a> {
-    /// The first block, if it was given.
-    pub(crate) from: Option<u32>,
-    /// The last block, if it was given.
-    pub(crate) to: Option<u32>,
-    /// The FILE words, in their order.
-    pub(crate) files: &'a [String],
+    from: Option<u32>,
+    to: Option<u32>,
+    files: &'a [String],
 }
 
-impl Command<'_> {
+impl<'a> Model for Command<'a> {
+    ghost use Rattle.std.specs.Prelude.{◌≤◌, map, length, string_bytes};
+    ghost use Rattle.aioscan_cmd.specs.Command.{Command, IsBelow, number_limit};
+
+    ghost Value = { Command };
+
+    ghost view = { λ c. record {
+      from = c.from;
+      to = c.to;
+      files = map string_bytes c.files.now;
+    } };
+
+    ghost invariant = { λ c. IsBelow c.from number_limit × IsBelow c.to number_limit
+        × (length c.files.now ≤ 1024) };
+}
+
+impl<'a> Command<'a> {
+    /// The FILE words, in their order.
+    pub(crate) fn files(&self) -> &'a [String]
+        ensures files { map string_bytes result.now ≡ (self.now).files }
+        ensures few { length result.now ≤ 1024 }
+    {
+        self.files
+    }
+
     /// The first block of each file.
     pub(crate) fn first_block(&self) -> u32
-        ensures { result ≡ first_block (asked_by self.now) }
+        ensures block { result ≡ first_block self.now }
+        ensures below { result < number_limit }
     {
         self.from.unwrap_or(0)
     }
 
     /// How many blocks are asked for of a relation of this length.
     pub(crate) fn asked_count(&self, length: u32) -> u32
-        requires { IsBelow self.now.to number_limit }
-        ensures { result ≡ asked_count (asked_by self.now) length }
+        ensures count { result ≡ asked_count self.now length }
+        ensures few { length ≤ length_limit → result ≤ length_limit }
     {
         let after = match self.to {
             Some(last) => last + 1,
@@ -47,9 +73,7 @@ impl Command<'_> {
 
 /// Reads the words of a command, without the program's name. It takes no memory.
 pub(crate) fn read_command(words: &[String]) -> Option<Command<'_>>
-    ensures command { option_map asked_by result ≡ command_of (map string_bytes words.now) }
-    ensures bounded { IfSome result
-        (λ c. IsBelow c.from number_limit × IsBelow c.to number_limit × (length c.files.now ≤ 1024)) }
+    ensures { result ≡ command_of (map string_bytes words.now) }
 {
     let (first, words) = words.split_first()?;
     if first.as_str() != "scan" {
@@ -57,7 +81,7 @@ pub(crate) fn read_command(words: &[String]) -> Option<Command<'_>>
     }
     let (from, words) = read_option(words, "--from")?;
     let (to, files) = read_option(words, "--to")?;
-    if !all_files(files) {
+    if !are_files(files) {
         return None;
     }
     Some(Command { from, to, files })
@@ -121,10 +145,11 @@ fn all_name_files(words: &[String]) -> bool
     words.iter().all(|word| names_file(word.as_str()))
 }
 
-fn all_files(words: &[String]) -> bool
-    ensures { result ≡ are_files (map string_bytes words.now) }
+fn are_files(words: &[String]) -> bool
+    ensures files { result ≡ are_files (map string_bytes words.now) }
+    ensures few { result ≡ true → length words.now ≤ 1024 }
 {
-    is_count(words.len(), 1024) && all_name_files(words)
+    is_count(words.len(), MOST_FILES) && all_name_files(words)
 }
 
 // Whether a word names a file: it is not empty and does not begin with `-`.

@@ -1,0 +1,17 @@
+use Rattle.std.proofs.Common.{arith, ap, length, map, take}
+use Rattle.std.specs.Prelude.{string_bytes}
+use Rattle.std.proofs.lemmas.List.{length-map, length-take}
+use Rattle.aioscan_cmd.proofs.Names.{distinct-length}
+use Rattle.aioscan_cmd.proofs.relations.distinct_names.Goals as goal
+
+pub returns-clause-few : goal.returns-clause-few
+returns-clause-few c =
+    let taken = take c.loop-file.file-index c.args.files.now in
+    omega (
+      arith,
+      length-map c.loop-file.names.items string_bytes,
+      ap length c.loop-file.invariant,
+      distinct-length (map string_bytes taken),
+      length-map taken string_bytes,
+      length-take c.loop-file.file-index c.args.files.now,
+    )
