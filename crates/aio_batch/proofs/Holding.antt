@@ -1,38 +1,34 @@
 -- The tokens of a batch, over the calls of their actor.
-use Rattle.std.proofs.Common.{◌≡◌, ◌≢◌, ℕ, List, [], ◌∷◌, ◌++◌, refl, sym, ap, ◌∙◌, subst}
-use Rattle.std.proofs.Common.{inl, inr, ⊎_elim, arith}
+use Rattle.std.proofs.Common.{◌≡◌, ◌≢◌, ℕ, List, [], ◌∷◌, ◌++◌, sym, subst, arith}
 use Rattle.aio_word.specs.declared.Step.TheVariants as event
 use Rattle.aio_word.specs.declared.Known.{Known}
 use Rattle.aio_word.specs.declared.WaitRef.{WaitRef}
 use Rattle.aio_word.specs.Stands.{IsIn}
 use Rattle.aio_word.specs.Tokens.{IsDefined, IsStaged, IsInFlight, IsLocal}
-use Rattle.aio_word.proofs.Parts.{in-append}
+use Rattle.aio_handle.specs.Kept.{IsKept}
 use Rattle.aio_handle.specs.LifeWords.{defined, staged, unclaimed}
 use Rattle.aio_handle.specs.Made.{Made}
 use Rattle.aio_handle.specs.Executing.{TakesUp}
+use Rattle.aio_handle.proofs.Holding.{held-moved, held-in, held-push as are-held-push}
+use Rattle.aio_handle.proofs.Kept.{kept-then, kept-taking-up, kept-elsewhere, aims-kept}
 use Rattle.aio_batch.specs.Held.{Held}
 use Rattle.aio_batch.specs.Next.{IsNext}
-use Rattle.aio_handle.specs.Kept.{IsKept}
-use Rattle.aio_handle.proofs.Kept.{kept-taking-up, kept-elsewhere, aims-kept}
-
-pub kept-then : (t : WaitRef) (p q r : Known) → IsKept t p q → IsKept t q r → IsKept t p r
-kept-then t p q r a b = record {
-  defined = λ d. b.defined (a.defined d);
-  staged = λ d. b.staged (a.staged d);
-  in_flight = λ d. b.in_flight (a.in_flight d);
-  local = λ d. b.local (a.local d);
-  aims = λ aim i. b.aims aim (a.aims aim i);
-}
 
 module _ {R : Type 0} where
+  abbrev of : WaitRef × R → WaitRef
+  of t = t.0
+
   pub held-kept : (p q : Known) (ts : List (WaitRef × R))
       → ((u : WaitRef × R) → IsIn u ts → IsKept u.0 p q) → Held p ts → Held q ts
-  held-kept p q [] k h = tt
-  held-kept p q (t ∷ ts) k h = (
-    (k t (inl refl)).staged h.0,
-    h.1,
-    held-kept p q ts (λ u i. k u (inr i)) h.2,
-  )
+  held-kept p q ts k = held-moved of IsStaged IsStaged p q ts (λ u i. (k u i).staged)
+
+  pub staged-in : (p : Known) (ts : List (WaitRef × R)) (u : WaitRef × R) → Held p ts → IsIn u ts
+      → IsStaged p u.0
+  staged-in = held-in of IsStaged
+
+  pub held-push : (q : Known) (ts : List (WaitRef × R)) (t : WaitRef × R) → Held q ts
+      → IsStaged q t.0 → ((u : WaitRef × R) → IsIn u ts → u.0 ≢ t.0) → Held q (ts ++ t ∷ [])
+  held-push = are-held-push of IsStaged
 
   -- the first is submitted and begun, and the others stay
   pub held-rest : (before after : List (WaitRef × R)) (token : WaitRef × R) (aim : List ℕ)
@@ -69,25 +65,6 @@ module _ {R : Type 0} where
         aims = λ aim i. begun.aims aim (aims-kept u event.Submit t.handle (staged t.generation)
             (unclaimed t.generation) (aim_in n.token.1) p n.between n.made aim i);
       }
-
-  staged-in : (p : Known) (ts : List (WaitRef × R)) (u : WaitRef × R) → Held p ts → IsIn u ts
-      → IsStaged p u.0
-  staged-in p [] u h i = absurd i
-  staged-in p (t ∷ ts) u h i = ⊎_elim
-      (λ e. subst (λ (z : WaitRef × R). IsStaged p z.0) e h.0)
-      (λ j. staged-in p ts u h.2 j) i
-
-  held-push : (q : Known) (ts : List (WaitRef × R)) (t : WaitRef × R) → Held q ts → IsStaged q t.0
-      → ((u : WaitRef × R) → IsIn u ts → u.0 ≢ t.0) → Held q (ts ++ t ∷ [])
-  held-push q [] t h new apart = (new, (λ u i. absurd i), tt)
-  held-push q (x ∷ ts) t h new apart = (
-    h.0,
-    (λ u i. ⊎_elim (λ old. h.1 u old)
-        (λ last. ⊎_elim (λ e. λ same. apart x (inl refl)
-        (sym same ∙ sym (ap (λ (z : WaitRef × R). z.0) e)))
-        (λ none. absurd none) last) (in-append u ts (t ∷ []) i)),
-    held-push q ts t h.2 new (λ u i. apart u (inr i)),
-  )
 
   -- what is defined is not staged
   staging-apart : (ts : List (WaitRef × R)) (t : WaitRef × R) (p : Known) → Held p ts

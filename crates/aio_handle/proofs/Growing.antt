@@ -47,6 +47,17 @@ look-on h w p q m = record {
   looks = (look h (packed w) ∷ [], ap (λ (z : Known). z.looks) m.is);
 }
 
+pub grows-none : (p : Known) → Grows p p []
+grows-none p = record {
+  number = refl;
+  config = refl;
+  out = refl;
+  marks = sym (append-nil p.marks);
+  seen = λ h. omega arith;
+  aims = λ e i. i;
+  looks = ([], sym (append-nil p.looks));
+}
+
 pub grows-then : (p q r : Known) (xs ys : List Mark) → Grows p q xs → Grows q r ys
     → Grows p r (xs ++ ys)
 grows-then p q r xs ys a b = record {

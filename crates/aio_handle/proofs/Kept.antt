@@ -54,6 +54,15 @@ kept-where-same t p q s aims =
       aims = aims;
     }
 
+pub kept-then : (t : WaitRef) (p q r : Known) → IsKept t p q → IsKept t q r → IsKept t p r
+kept-then t p q r a b = record {
+  defined = λ d. b.defined (a.defined d);
+  staged = λ d. b.staged (a.staged d);
+  in_flight = λ d. b.in_flight (a.in_flight d);
+  local = λ d. b.local (a.local d);
+  aims = λ aim i. b.aims aim (a.aims aim i);
+}
+
 -- what is taken up has no owner's mark
 pub kept-taking-up : (t : WaitRef) (held : List Mark) (p q : Known) (a b c d : ℕ)
     → TakesUp held p q a b c d → IsKept t p q

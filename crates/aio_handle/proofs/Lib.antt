@@ -21,3 +21,6 @@ pub mod Trying
 pub mod Balance
 pub mod Kept
 pub mod Claiming
+pub mod Holding
+pub mod Rooms
+pub mod Failing

@@ -1,11 +1,12 @@
 -- Calls that take incarnations up, one after the other.
-use Rattle.std.proofs.Common.{◌≡◌, ℕ, List, [], ◌∷◌, ◌++◌, refl, subst, arith}
+use Rattle.std.proofs.Common.{◌≡◌, ℕ, List, [], ◌∷◌, ◌++◌, refl, subst, append_assoc, arith}
+use Rattle.aio_word.specs.declared.Mark.{Mark}
 use Rattle.aio_word.specs.declared.Known.{Known}
 use Rattle.aio_word.specs.declared.Word.{Word}
 use Rattle.aio_word.specs.declared.WaitRef.{WaitRef}
 use Rattle.aio_word.specs.declared.Kind.TheVariants as kind
 use Rattle.aio_word.specs.declared.Step.TheVariants as event
-use Rattle.aio_word.specs.Tokens.{Grows, io_marks, failed_marks, mark_at}
+use Rattle.aio_word.specs.Tokens.{Grows, Took, io_marks, failed_marks, mark_at}
 use Rattle.aio_word.proofs.Frames.{took-more, io-more, failed-more}
 use Rattle.aio_handle.specs.Executing.{TakesUp}
 use Rattle.aio_handle.specs.LifeWords.{unclaimed, claimed}
@@ -23,13 +24,15 @@ takes_nothing p q reads faults g = record {
 }
 
 -- two calls that take up, one after the other
-pub takes_then : (p q r : Known) (reads reads' reads'' faults faults' faults'' : ℕ)
-    → TakesUp [] p q reads reads' faults faults' → TakesUp [] q r reads' reads'' faults' faults''
-    → TakesUp [] p r reads reads'' faults faults''
-takes_then p q r reads reads' reads'' faults faults' faults'' a b = record {
+pub takes_then_held : (held : List Mark) (p q r : Known)
+    (reads reads' reads'' faults faults' faults'' : ℕ)
+    → TakesUp held p q reads reads' faults faults' → TakesUp [] q r reads' reads'' faults' faults''
+    → TakesUp held p r reads reads'' faults faults''
+takes_then_held held p q r reads reads' reads'' faults faults' faults'' a b = record {
   more = a.more ++ b.more;
   grows = grows-then p q r a.more b.more a.grows b.grows;
-  took = took-more a.more b.more a.took b.took;
+  took = subst (λ (z : List Mark). Took z) (append_assoc held a.more b.more)
+      (took-more (held ++ a.more) b.more a.took b.took);
   pays = record {
     read_each = λ lt.
         let m = io-more a.more b.more in
@@ -41,6 +44,11 @@ takes_then p q r reads reads' reads'' faults faults' faults'' a b = record {
         let x = a.pays.fault_each (omega arith) in omega arith;
   };
 }
+
+pub takes_then : (p q r : Known) (reads reads' reads'' faults faults' faults'' : ℕ)
+    → TakesUp [] p q reads reads' faults faults' → TakesUp [] q r reads' reads'' faults' faults''
+    → TakesUp [] p r reads reads'' faults faults''
+takes_then = takes_then_held []
 
 -- a claim that was won, and a call that ends what was claimed
 pub claims_then : (t u : WaitRef) (aim : List ℕ) (p q r : Known)

@@ -16,3 +16,4 @@ pub mod Executing
 pub mod Tried
 pub mod Trials
 pub mod Kept
+pub mod Held

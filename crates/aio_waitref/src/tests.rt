@@ -169,6 +169,20 @@ fn launched<W: World>(table: &Table<Note, W>, actor: &mut Actor<Note, W>) -> Opt
     Some(table.submit(actor, token))
 }
 
+/// The same of a backend's second handle, while the I/O of its first one is in flight.
+fn second_launched<W: World>(
+    table: &Table<Note, W>,
+    actor: &mut Actor<Note, W>,
+) -> Option<InFlight<W>>
+    requires table { IsOf table.now actor.old }
+    requires backend { actor.old.known.number < table.now.config.backends }
+    ensures same { IsSame actor.old actor.new }
+    ensures token { IfSome result (λ t. IsInFlight actor.new.known t) }
+{
+    launched(table, actor)?;
+    launched(table, actor)
+}
+
 /// An I/O that nobody has claimed, up to claim.
 fn claimed_by<W: World>(
     table: &Table<Note, W>,
@@ -185,9 +199,11 @@ fn claimed_by<W: World>(
     }
 }
 
-/// What came of an owner's wait: the class of its record, and how often its executor was called.
+/// What came of an owner's wait: its record's handle and class, and how often its executor was
+/// called.
 #[derive(Clone, Copy, Debug, PartialEq, Eq)]
 struct Waited {
+    handle: u32,
     class: Class,
     calls: u64,
 }
@@ -205,6 +221,7 @@ fn wait_counted<W: World, T: Wait>(
     let mut runner = Ender::<W>::new();
     let local = wait_own(rt, table, &mut owner, token, &mut runner);
     Waited {
+        handle: local.record().handle(),
         class: local.record().ended(),
         calls: runner.calls,
     }
@@ -230,6 +247,7 @@ fn owner_executes_its_own_unclaimed_io(rt: HostRuntime) -> Result<(), AllocError
         panic!(&rt; "a handle is free")
     };
     let whole = Waited {
+        handle: 0,
         class: Class::Whole,
         calls: 1,
     };
@@ -308,23 +326,23 @@ fn owner_beside_runner<W: World + Send + Sync, T: Threads + Wait + Sync>(
     waited
 }
 
-/// An I/O that a runner has claimed before its owner begins to wait, and that it ends short so many
-/// turns after that.
+/// An I/O of handle 5 that a runner has claimed before its owner begins to wait, and that it ends
+/// short so many turns after that. The owner is the second of two backends with four handles each.
 fn claimed_before<W: World + Send + Sync, T: Threads + Wait + Sync>(
     rt: &T,
     alloc: Global,
     turns: u32,
 ) -> Result<Option<Waited>, AllocError>
-    requires { W.handles ≡ 1 }
+    requires { W.handles ≡ 8 }
 {
-    let (table, mut actors) = Table::<Note, W>::open(alloc, 1, 1, 1, 0)?;
+    let (table, mut actors) = Table::<Note, W>::open(alloc, 2, 4, 1, 0)?;
     let Some(mut runner) = last(&table, &mut actors) else {
         return Ok(None);
     };
     let Some(mut owner) = last(&table, &mut actors) else {
         return Ok(None);
     };
-    let Some(token) = launched(&table, &mut owner) else {
+    let Some(token) = second_launched(&table, &mut owner) else {
         return Ok(None);
     };
     let Some(claimed) = claimed_by(&table, &mut runner, token.reference()) else {
@@ -335,6 +353,7 @@ fn claimed_before<W: World + Send + Sync, T: Threads + Wait + Sync>(
 }
 
 const SHORT: Waited = Waited {
+    handle: 5,
     class: Class::Short,
     calls: 0,
 };
@@ -403,15 +422,16 @@ fn two_wait<W: World + Send + Sync, T: Threads + Wait + Sync>(
     )
 }
 
-/// The owner and two others wait for one I/O, which a fourth actor has claimed and ends short.
+/// The owner and two others wait for one I/O of handle 5, which a fourth actor has claimed and
+/// ends short.
 fn three_wait<W: World + Send + Sync, T: Threads + Wait + Sync>(
     rt: &T,
     alloc: Global,
     turns: u32,
 ) -> Result<Option<(Waited, (u64, u64))>, AllocError>
-    requires { W.handles ≡ 1 }
+    requires { W.handles ≡ 8 }
 {
-    let (table, mut actors) = Table::<Note, W>::open(alloc, 1, 1, 3, 0)?;
+    let (table, mut actors) = Table::<Note, W>::open(alloc, 2, 4, 3, 0)?;
     let Some(mut fourth) = last(&table, &mut actors) else {
         return Ok(None);
     };
@@ -424,7 +444,7 @@ fn three_wait<W: World + Send + Sync, T: Threads + Wait + Sync>(
     let Some(mut owner) = last(&table, &mut actors) else {
         return Ok(None);
     };
-    let Some(token) = launched(&table, &mut owner) else {
+    let Some(token) = second_launched(&table, &mut owner) else {
         return Ok(None);
     };
     let reference = token.reference();

@@ -66,7 +66,12 @@ abbrev pub is_failed : Kind → Bool
 is_failed (kind.Io class) = number_of_class class == 3
 is_failed _ = false
 
--- how many Claimed marks, Io marks and failed Io marks a list has
+-- whether it is a Local mark, the result, of an operation that failed
+abbrev pub is_failed_result : Kind → Bool
+is_failed_result (kind.Local class) = number_of_class class == 3
+is_failed_result _ = false
+
+-- how many Claimed marks, Io marks, failed Io marks and failed Local marks a list has
 abbrev pub claimed_marks : List Mark → ℕ
 claimed_marks ms = count_by is_claim ms
 
@@ -75,6 +80,9 @@ io_marks ms = count_by is_io ms
 
 abbrev pub failed_marks : List Mark → ℕ
 failed_marks ms = count_by (λ m. is_failed m.kind) ms
+
+abbrev pub failed_results : List Mark → ℕ
+failed_results ms = count_by (λ m. is_failed_result m.kind) ms
 
 -- marks of incarnations that were taken up, each claimed, executed and completed
 pub record Took (more : List Mark) : Type 0 where
