@@ -50,7 +50,7 @@ spread o lt ms H G bound =
     (λ m. one_if (is_mark h (8 * g + o) m)) ms
     (λ m _. mark-at-place o h g m lt (order-small m.kind))))
 
-sum-le : {A : Type 0} (f g : A → ℕ) (xs : List A) → ((x : A) → IsIn x xs → f x ≤ g x)
+pub sum-le : {A : Type 0} (f g : A → ℕ) (xs : List A) → ((x : A) → IsIn x xs → f x ≤ g x)
     → sum_by f xs ≤ sum_by g xs
 sum-le f g [] le = omega arith
 sum-le f g (x ∷ xs) le = let a = le x (inl refl) in let b = sum-le f g xs (λ y i. le y (inr i)) in

@@ -25,18 +25,12 @@ use Rattle.aio_word.proofs.Parts.{sum-in}
 use Rattle.aio_word.proofs.Totals.{upto, upto-same, buckets, swapped, sum-same}
 use Rattle.aio_handle.specs.Closing.{IsExecutedIn}
 use Rattle.aio_handle.proofs.Views.{there}
-use Rattle.aio_handle.proofs.Balance.{executed-in}
+use Rattle.aio_handle.proofs.Balance.{executed-in, sum-le}
 
 upto-le : (f g : ℕ → ℕ) (n : ℕ) → ((i : ℕ) → i < n → f i ≤ g i) → upto f n ≤ upto g n
 upto-le f g zero h = omega arith
 upto-le f g (suc n) h = let r = upto-le f g n (λ i lt. h i (omega arith)) in
     let e = h n (omega arith) in omega arith
-
-sum-le : {A : Type 0} (f g : A → ℕ) (xs : List A) → ((x : A) → f x ≤ g x)
-    → sum_by f xs ≤ sum_by g xs
-sum-le f g [] le = omega arith
-sum-le f g (x ∷ xs) le = let a = le x in let b = sum-le f g xs le in
-    let d = sum_by-cons f x xs in let e = sum_by-cons g x xs in omega arith
 
 -- a sum above 0 has an element above 0
 some-in : {A : Type 0} (f : A → ℕ) (xs : List A) → 0 < sum_by f xs
@@ -149,8 +143,8 @@ module _ (c : Config) (ws : List Word) (parts : List Known) (s : Stands c ws par
       let (q, j, io) = executed-in c ws parts s p i (ref h g) Failed (is-there h g p more) in
       let (w, word) = there ws h (let wide = s.wide in omega arith) in
       let few = sum-le (spot is_failed_result h g) (λ (p : Known). at (ref h g) a_local p.marks)
-          parts (λ p. sum-le (λ (m : Mark). cond (here is_failed_result h g m) 1 0)
-          (λ m. cond (is_mark h (8 * g + 6) m) 1 0) p.marks (is-local h g)) in
+          parts (λ p _. sum-le (λ (m : Mark). cond (here is_failed_result h g m) 1 0)
+          (λ m. cond (is_mark h (8 * g + 6) m) 1 0) p.marks (λ m _. is-local h g m)) in
       let one = one-stands c parts h w (s.each_handle h w word) g in
       let inside = sum-in (λ (m : Mark). cond (here is_failed h g m) 1 0) q.marks
           (mark_at (ref h g) (kind.Io Failed)) io in

@@ -15,7 +15,7 @@ use page_check::World;
 use std::marker::{Model, PhantomData};
 
 /// Why no handle is handed out.
-#[derive(Clone, Copy)]
+#[derive(Clone, Copy, Debug, PartialEq, Eq)]
 pub enum AcquireRefusal {
     /// The actor has a handle out, which it has neither defined nor released.
     OneIsOut,

@@ -171,7 +171,7 @@ fn one_is_out_until_it_is_released(rt: HostRuntime) -> Result<(), AllocError> {
     let Some((refusal, reference)) = acquired_twice::<Brand>(rt.alloc())? else {
         panic!(&rt; "a handle is free")
     };
-    assert!(&rt; matches!(refusal, AcquireRefusal::OneIsOut));
+    assert!(&rt; refusal == AcquireRefusal::OneIsOut);
     assert!(&rt; reference.handle == 0 && reference.generation == 0);
     Ok(())
 }
@@ -231,10 +231,10 @@ fn each_handle_is_given_once(rt: HostRuntime) -> Result<(), AllocError> {
     let Some((out, one, other, none)) = both_handles::<Brand>(rt.alloc())? else {
         panic!(&rt; "a handle is free")
     };
-    assert!(&rt; matches!(out, AcquireRefusal::OneIsOut));
+    assert!(&rt; out == AcquireRefusal::OneIsOut);
     assert!(&rt; one.handle != other.handle && one.handle < 2 && other.handle < 2);
     assert!(&rt; one.generation == 0 && other.generation == 0);
-    assert!(&rt; matches!(none, AcquireRefusal::NoneFree));
+    assert!(&rt; none == AcquireRefusal::NoneFree);
     Ok(())
 }
 
@@ -267,7 +267,7 @@ fn the_last_generation_is_not_given(rt: HostRuntime) -> Result<(), AllocError> {
     let Some((none, backend, runner)) = at_the_end::<Brand>(rt.alloc())? else {
         panic!(&rt; "no handle is free")
     };
-    assert!(&rt; matches!(none, AcquireRefusal::NoneFree));
+    assert!(&rt; none == AcquireRefusal::NoneFree);
     assert!(&rt; backend == (0, 0) && runner == (0, 1));
     Ok(())
 }
@@ -397,7 +397,7 @@ fn a_life_is_counted_once(rt: HostRuntime) -> Result<(), AllocError> {
     let Some((refusal, totals)) = lived_once::<Brand>(rt.alloc())? else {
         panic!(&rt; "a handle is free")
     };
-    assert!(&rt; matches!(refusal, AcquireRefusal::OneIsOut));
+    assert!(&rt; refusal == AcquireRefusal::OneIsOut);
     assert!(&rt; totals == (1, 1, 0));
     Ok(())
 }
@@ -428,7 +428,7 @@ fn one_life_before_the_last_generation(rt: HostRuntime) -> Result<(), AllocError
     let Some((refusal, totals)) = lived_to_the_end::<Brand>(rt.alloc())? else {
         panic!(&rt; "a handle is free")
     };
-    assert!(&rt; matches!(refusal, AcquireRefusal::NoneFree));
+    assert!(&rt; refusal == AcquireRefusal::NoneFree);
     assert!(&rt; totals == (1, 1, 0));
     Ok(())
 }

@@ -144,7 +144,7 @@ pub struct Mark {
 }
 
 /// One atomic step of an actor on a word: the handle, and the packed word that was found.
-#[derive(Clone, Copy)]
+#[derive(Clone, Copy, Debug, PartialEq, Eq)]
 pub struct Look {
     pub handle: u32,
     pub word: u64,
