@@ -50,11 +50,16 @@ fn expect_page<R: Abort + AllocGlobal>(
     )
 }
 
+// A body that always answers that there is no memory gives no listing.
+#[test]
+fn always_out_of_memory(rt: HostRuntime) -> Result<(), Fail> {
+    expect_page(&rt, "one empty page", EMPTY, (E_LINE, "", 0))
+}
+
 #[test]
 fn pages_one_by_one(rt: HostRuntime) -> Result<(), Fail> {
     let one: &[u8] = &[28, 0, 0xd8, 0x1f, 0, 32, 4, 32];
-    let rows: [(&str, Parts<'_>, (&str, &str, u8)); 10] = [
-        ("one empty page", EMPTY, (E_LINE, "", 0)),
+    let rows: [(&str, Parts<'_>, (&str, &str, u8)); 9] = [
         ("a page of zeros", ZEROS, ("page 0 0 new\n", "", 0)),
         ("zeros but one byte", DAMAGED, ("", "invalid page 0 0\n", 1)),
         (
@@ -117,9 +122,9 @@ fn a_part_of_a_block_is_no_block(rt: HostRuntime) -> Result<(), Fail> {
     for size in [0, 8191] {
         let files = vec![in alloc; (String::from_str(alloc, "e")?, vec![in alloc; 0u8; size]?)]?;
         let (report, out, err) = run(&rt, files, STEADY, &["scan", "e"], &[], &[])?;
-        assert_eq!(rt; out.bytes().len(), 0);
-        assert_eq!(rt; err.bytes().len(), 0);
-        assert_eq!(rt; report.status, 0);
+        assert_eq!(rt; out.bytes().len(), 0, "{size} bytes");
+        assert_eq!(rt; err.bytes().len(), 0, "{size} bytes");
+        assert_eq!(rt; report.status, 0, "{size} bytes");
     }
     Ok(())
 }
@@ -253,25 +258,25 @@ fn an_error_stream_that_fails_after_3_bytes(rt: HostRuntime) -> Result<(), Fail>
 
 #[test]
 fn words_that_are_no_command(rt: HostRuntime) -> Result<(), Fail> {
-    let rows: [&[&str]; 13] = [
-        &[],
-        &["scan"],
-        &["scan", ""],
-        &["scan", "-f"],
-        &["list", "f"],
-        &["scan", "f", "--to", "0"],
-        &["scan", "--from=0", "f"],
-        &["scan", "--to", "0", "--from", "0", "f"],
-        &["scan", "--from", "131072", "f"],
-        &["scan", "--from", "+1", "f"],
-        &["scan", "--from", "00000001", "f"],
-        &["scan", "--from", "", "f"],
-        &["scan", "--from", "0", "--from", "0", "f"],
+    let rows: [(&str, &[&str]); 13] = [
+        ("no words", &[]),
+        ("no file", &["scan"]),
+        ("an empty name", &["scan", ""]),
+        ("a name that begins with -", &["scan", "-f"]),
+        ("no scan", &["list", "f"]),
+        ("an option behind the file", &["scan", "f", "--to", "0"]),
+        ("an option with =", &["scan", "--from=0", "f"]),
+        ("to before from", &["scan", "--to", "0", "--from", "0", "f"]),
+        ("from 131072", &["scan", "--from", "131072", "f"]),
+        ("a sign", &["scan", "--from", "+1", "f"]),
+        ("eight digits", &["scan", "--from", "00000001", "f"]),
+        ("no number", &["scan", "--from", "", "f"]),
+        ("from twice", &["scan", "--from", "0", "--from", "0", "f"]),
     ];
-    for words in rows {
+    for (name, words) in rows {
         expect(
             &rt,
-            "no command",
+            name,
             (&[EMPTY], &[]),
             STEADY,
             words,

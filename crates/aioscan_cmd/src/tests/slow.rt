@@ -153,7 +153,7 @@ fn words_of(alloc: Global, asked: &Asked) -> Result<Vec<&'static str>, AllocErro
 fn random_requests(rt: HostRuntime) -> Result<(), Fail> {
     let alloc = rt.alloc();
     let mut state = 20261126;
-    for _ in 0..60 {
+    for request in 0..60 {
         let a = random_file(alloc, &mut state)?;
         let b = random_file(alloc, &mut state)?;
         let asked = random_asked(alloc, &mut state)?;
@@ -165,9 +165,9 @@ fn random_requests(rt: HostRuntime) -> Result<(), Fail> {
             (String::from_str(alloc, "b")?, b),
         ]?;
         let (report, out, err) = run(&rt, files, STEADY, words.as_slice(), &[], &[])?;
-        assert_eq!(rt; out.bytes(), text.as_str().as_bytes());
-        assert_eq!(rt; err.bytes(), line.as_str().as_bytes());
-        assert_eq!(rt; report.status, status);
+        assert_eq!(rt; out.bytes(), text.as_str().as_bytes(), "request {request}");
+        assert_eq!(rt; err.bytes(), line.as_str().as_bytes(), "request {request}");
+        assert_eq!(rt; report.status, status, "request {request}");
     }
     Ok(())
 }

@@ -104,11 +104,11 @@ fn lengths_that_nothing_tells(rt: HostRuntime) -> Result<(), Fail> {
         let mut out = MemSink::make(alloc, Vec::new(alloc));
         let mut err = MemSink::make(alloc, Vec::new(alloc));
         let report = aioscan(&rt, alloc, words.as_slice(), &mut shelf, &mut out, &mut err);
-        assert_eq!(rt; out.bytes().len(), 0);
-        assert_eq!(rt; err.bytes(), line.as_bytes());
-        assert_eq!(rt; report.status, status);
-        assert_eq!(rt; shelf.opens, 1);
-        assert_eq!(rt; (shelf.lengths, shelf.reads), calls);
+        assert_eq!(rt; out.bytes().len(), 0, "length {length}");
+        assert_eq!(rt; err.bytes(), line.as_bytes(), "length {length}");
+        assert_eq!(rt; report.status, status, "length {length}");
+        assert_eq!(rt; shelf.opens, 1, "length {length}");
+        assert_eq!(rt; (shelf.lengths, shelf.reads), calls, "length {length}");
     }
     Ok(())
 }

@@ -1,5 +1,4 @@
-use Rattle.std.proofs.Common.{◌∙◌, ap, length}
-use Rattle.aio_disk.specs.Counts.{raised_by}
+use Rattle.std.proofs.Common.{◌∙◌, ap, length, rules}
 use Rattle.aio_disk.specs.Shelf.{told_of}
 use Rattle.aioscan_cmd.specs.Command.{relations_of}
 use Rattle.aioscan_cmd.proofs.EndOfRun.{ran_out_of_memory, ran_without_disk, ran_on_shelf}
@@ -27,5 +26,4 @@ returns-clause-ran g c =
     (c.in-Ok-open.ensures.contents
     ∙ ap (told_of (g.S.Shelf.told c.args.shelf.now)) names) (ap length c.in-Ok.ensures)
     c.in-Ok-open.ensures.no_reads
-    (c.take_back.ensures.reads
-    ∙ ap (raised_by _) c.in-Ok-open.ensures.reads) c.scan_disk-outcome.ensures.ran
+    (search rules) c.scan_disk-outcome.ensures.ran
