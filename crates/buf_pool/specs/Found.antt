@@ -10,14 +10,15 @@ use Rattle.buf_pool.specs.declared.pin.Pin.{Pin}
 use Rattle.buf_pool.specs.declared.pool.Found.{Found}
 use Rattle.buf_pool.specs.declared.pool.Found.TheVariants as found
 use Rattle.aio_callback.specs.Good.{IsGood}
+use Rattle.buf_pool.specs.Pinned.{page_in}
 
 -- the tag that a pin was asked for
 abbrev pub pinned_tag : {W : Type 0} → Pin W → Tag
-pinned_tag pin = pin.carried.0
+pinned_tag pin = pin.tag
 
 -- the page that a pin shows
 abbrev pub pinned_page : {W : Type 0} → Pin W → List ℕ
-pinned_page pin = pin.carried.1
+pinned_page pin = page_in pin.claim.value
 
 -- a pin shows a good page of the tag, and the reference of an I/O is in range
 abbrev pub IsFound : {W : Type 0} → Option Told → ℕ → Tag → Found W → Type 0

@@ -4,4 +4,6 @@ pub mod Answers
 pub mod Probes
 pub mod Sound
 pub mod Wanted
+pub mod Carried
+pub mod Pinned
 pub mod Found

@@ -1,17 +1,20 @@
 //! A pin on a page of the pool.
-ghost use Rattle.std.specs.Prelude.{◌≡◌};
+ghost use Rattle.std.specs.Prelude.{◌≡◌, true};
+ghost use Rattle.buf_pool.specs.Pinned.{carries_tag};
 
 use crate::carried::CarriedPage;
 use crate::frame::Tag;
+use counted_slot::Claim;
 use page_check::{Page, World};
-use std::marker::PhantomData;
 
-/// A pin: it shows the page of its tag for its whole life. It must be spent by `Pool::unpin`, until
-/// which its frame takes no other page.
+/// A pin: a reader's right on a frame, which shows the page of its tag in place, for its whole
+/// life. It must be spent by `Pool::unpin`, until which its frame takes no other page.
 pub struct Pin<'p, W: World> {
     pub(crate) frame: u32,
-    pub(crate) carried: CarriedPage<W>,
-    pub(crate) of: PhantomData<&'p ()>,
+    pub(crate) tag: Tag,
+    pub(crate) claim: Claim<'p, Option<CarriedPage<W>>>,
+    ghost reads: { claim.right ≡ 1 },
+    ghost carries: { carries_tag claim.value tag ≡ true },
 }
 
 impl<'p, W: World> Pin<'p, W> {
@@ -22,7 +25,7 @@ impl<'p, W: World> Pin<'p, W> {
     pub fn tag(&self) -> Tag
         ensures { result ≡ pinned_tag self.now }
     {
-        self.carried.tag()
+        self.tag
     }
 
     /// The page: the told one of the tag, and valid.
@@ -31,6 +34,9 @@ impl<'p, W: World> Pin<'p, W> {
         ensures good { IsGood W.told (pinned_tag self.now).relation (pinned_tag self.now).block
             result.now }
     {
-        self.carried.page()
+        match self.claim.get() {
+            Some(carried) => &carried.page,
+            None => unreachable!(),
+        }
     }
 }

@@ -2,16 +2,19 @@
 ghost use Rattle.std.specs.Prelude.{◌≡◌, ◌<◌, ◌≤◌, IfSome};
 ghost use Rattle.aio_callback.specs.Good.{IsGood};
 
-use crate::carried::CarriedPage;
 use crate::frame::Tag;
 use crate::index::{Begun, Look, PoolIndex};
 use crate::pin::Pin;
+use crate::slot::PageSlot;
 use aio_callback::Places;
 use aio_word::WaitRef;
 use page_check::{Page, World};
 use std::alloc::{AllocError, Global};
-use std::marker::PhantomData;
-use std::sync::{Mutex, Wait};
+use std::hint::spin_loop;
+use std::sync::{Mutex, MutexGuard, Wait};
+
+// How long one who comes to a taken lock pauses before each further try.
+const PAUSES: [u32; 7] = [16, 32, 64, 128, 256, 256, 256];
 
 /// What `lookup` finds.
 pub enum Found<'p, W: World> {
@@ -23,39 +26,54 @@ pub enum Found<'p, W: World> {
     Absent,
 }
 
-/// The pool: an index behind a lock, and for each frame a page behind a lock of its own. A page is
-/// always the told, valid page of the tag that it carries. No call holds two locks at once.
+/// The pool: an index behind a lock, and the memory of each frame, which has no lock. What is in a
+/// frame's memory is always the told, valid page of the tag that it carries.
 #[derive(Drop)]
 pub struct Pool<W: World> {
     index: Mutex<PoolIndex<W>>,
-    pages: Vec<Mutex<Option<CarriedPage<W>>>>,
-    alloc: Global,
+    slots: Vec<PageSlot<W>>,
 }
 
 impl<W: World> Pool<W> {
     ghost use Rattle.buf_pool.specs.Found.{IsFound, IsLookInRange, IsBegunInRange};
+    ghost use Rattle.buf_pool.specs.Found.{pinned_tag, pinned_page};
 
-    /// A pool of so many frames, 16 to 16384, all of them free.
+    /// A pool of so many frames, 16 to 16384, all of them free. All memory of the pool is taken
+    /// here.
     pub fn open(alloc: Global, frames: u32) -> Result<Pool<W>, AllocError>
         requires { (16 ≤ frames) × (frames ≤ 16384) }
     {
         let index = PoolIndex::open(alloc, frames)?;
-        let mut pages = Vec::with_capacity(alloc, frames as usize)?;
+        let mut slots = Vec::with_capacity(alloc, frames as usize)?;
         for _ in 0..frames {
-            pages.push(Mutex::new(None))?;
+            slots.push(PageSlot::open(alloc)?)?;
         }
         Ok(Pool {
             index: Mutex::new(index),
-            pages,
-            alloc,
+            slots,
         })
+    }
+
+    // The index. Its lock is held for some tens of nanoseconds at a time, so who finds it taken
+    // tries again for a while before it sleeps. The pauses grow, so that whoever has the index in
+    // its processor's cache makes several calls before the next one has it there.
+    fn index<R: Wait>(&self, rt: &R) -> MutexGuard<'_, PoolIndex<W>> {
+        for pauses in PAUSES {
+            if let Some(index) = self.index.try_lock() {
+                return index;
+            }
+            for _ in 0..pauses {
+                spin_loop();
+            }
+        }
+        self.index.lock(rt)
     }
 
     /// What the index has of the tag now.
     pub fn peek<R: Wait>(&self, rt: &R, tag: Tag) -> Look
         ensures { IsLookInRange W.handles result }
     {
-        self.index.lock(rt).look(tag)
+        self.index(rt).look(tag)
     }
 
     // Pins the page of the tag in the index: its frame, where there is a page that can take one
@@ -63,7 +81,7 @@ impl<W: World> Pool<W> {
     fn pin_entry<R: Wait>(&self, rt: &R, tag: Tag) -> Look
         ensures { IsLookInRange W.handles result }
     {
-        let mut index = self.index.lock(rt);
+        let mut index = self.index(rt);
         let look = index.look(tag);
         if let Look::Hit(frame) = look {
             match index.pins(frame) {
@@ -76,21 +94,29 @@ impl<W: World> Pool<W> {
 
     // Takes a pin off the frame in the index.
     fn unpin_entry<R: Wait>(&self, rt: &R, frame: u32) {
-        let mut index = self.index.lock(rt);
+        let mut index = self.index(rt);
         match index.pins(frame) {
             Some(pins) if pins > 0 => index.unpin(frame),
             _ => {}
         }
     }
 
-    // The page of the frame, where it carries the tag.
-    fn share<R: Wait>(&self, rt: &R, frame: u32, tag: Tag) -> Option<CarriedPage<W>>
-        ensures { IfSome result (λ carried. carried.0 ≡ tag) }
+    // A reader's right on the page of the frame, where it carries the tag.
+    fn pin_page(&self, frame: u32, tag: Tag) -> Option<Pin<'_, W>>
+        ensures tag { IfSome result (λ pin. pinned_tag pin ≡ tag) }
+        ensures good { IfSome result
+            (λ pin. IsGood W.told tag.relation tag.block (pinned_page pin)) }
     {
-        let page = self.pages.get(frame as usize)?.lock(rt);
-        match &*page {
-            Some(carried) => carried.share(tag),
-            None => None,
+        self.slots.get(frame as usize)?.pin(frame, tag)
+    }
+
+    // Copies the page into the frame's memory; whether it did.
+    fn write(&self, frame: u32, tag: Tag, page: &Page) -> bool
+        requires { IsGood W.told tag.relation tag.block page.now }
+    {
+        match self.slots.get(frame as usize) {
+            Some(slot) => slot.write(tag, page),
+            None => false,
         }
     }
 
@@ -103,12 +129,8 @@ impl<W: World> Pool<W> {
             Look::Busy(reference) => return Found::Busy(reference),
             Look::Absent => return Found::Absent,
         };
-        match self.share(rt, frame, tag) {
-            Some(carried) => Found::Hit(Pin {
-                frame,
-                carried,
-                of: PhantomData,
-            }),
+        match self.pin_page(frame, tag) {
+            Some(pin) => Found::Hit(pin),
             None => {
                 self.unpin_entry(rt, frame);
                 Found::Absent
@@ -120,10 +142,10 @@ impl<W: World> Pool<W> {
     pub fn unpin<R: Wait>(&self, rt: &R, pin: Pin<'_, W>) {
         let Pin {
             frame,
-            carried,
-            of: _,
+            tag: _,
+            claim,
         } = pin;
-        drop(carried);
+        let _ = claim.leave();
         self.unpin_entry(rt, frame);
     }
 
@@ -132,21 +154,7 @@ impl<W: World> Pool<W> {
         requires { reference.handle < W.handles }
         ensures { IsBegunInRange W.handles result }
     {
-        self.index.lock(rt).begin(tag, reference)
-    }
-
-    // Puts a copy of the page into the frame; whether there was memory for it.
-    fn put<R: Wait>(&self, rt: &R, frame: u32, tag: Tag, page: &Page) -> bool
-        requires { IsGood W.told tag.relation tag.block page.now }
-    {
-        let Some(slot) = self.pages.get(frame as usize) else {
-            return false;
-        };
-        let Some(carried) = CarriedPage::copy(self.alloc, tag, page) else {
-            return false;
-        };
-        *slot.lock(rt) = Some(carried);
-        true
+        self.index(rt).begin(tag, reference)
     }
 }
 
@@ -158,8 +166,9 @@ impl<W: World> Places<W> for &Pool<W> {
     ghost finished = { λ _. None };
 
     /// Ends the reading of the block's page by the I/O of the reference: a copy of the page goes
-    /// into the frame, where it is valid without pins. Where there is no page, or no memory for the
-    /// copy, the entry is dropped. Where the I/O reads no such page into the pool nothing is done.
+    /// into the frame, where it is valid without pins. Where there is no page, or the frame refuses
+    /// the turn for writing, the entry is dropped. Where the I/O reads no such page into the pool
+    /// nothing is done.
     fn finish<T: Wait>(
         &mut self,
         rt: &T,
@@ -169,13 +178,13 @@ impl<W: World> Places<W> for &Pool<W> {
         page: Option<&Page>,
     ) {
         let tag = Tag { relation, block };
-        let Some(frame) = self.index.lock(rt).frame(tag, reference) else {
+        let Some(frame) = self.index(rt).frame(tag, reference) else {
             return;
         };
         let kept = match page {
-            Some(page) => self.put(rt, frame, tag, page),
+            Some(page) => self.write(frame, tag, page),
             None => false,
         };
-        let _ = self.index.lock(rt).end(tag, reference, kept);
+        let _ = self.index(rt).end(tag, reference, kept);
     }
 }

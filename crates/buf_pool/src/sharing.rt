@@ -3,7 +3,7 @@ ghost use Rattle.std.specs.Prelude.{◌≡◌, ◌<◌, None, IfOk, IfSome};
 ghost use Rattle.page_check.specs.Verdict.{IsValid};
 ghost use Rattle.aio_callback.specs.Good.{IsGood};
 
-use crate::{Begun, Found, Look, Pool, Tag};
+use crate::{Begun, Found, Look, Pin, Pool, Tag};
 use aio_callback::Places;
 use aio_word::WaitRef;
 use page_check::{Page, Verdict, World, check, header};
@@ -29,14 +29,23 @@ const LATER: WaitRef = WaitRef {
     generation: 1,
 };
 
-/// An empty heap page with the block's number in the last four bytes of its header.
+/// An empty heap page with the block's number in the last four bytes of its header and in its last
+/// byte.
 fn page_of(alloc: Global, block: u8) -> Result<Option<Page>, AllocError>
     ensures { IfOk result (λ found. IfSome found IsValid) }
 {
     let mut page = Page::zeroed(alloc)?;
     let bytes = page.bytes_mut();
     // Lower 24, upper and special 8192, page size 8192 with version 4.
-    for (at, byte) in [(12, 24), (15, 32), (17, 32), (18, 4), (19, 32), (20, block)] {
+    for (at, byte) in [
+        (12, 24),
+        (15, 32),
+        (17, 32),
+        (18, 4),
+        (19, 32),
+        (20, block),
+        (8191, block),
+    ] {
         if at < bytes.len() {
             bytes[at] = byte;
         }
@@ -98,6 +107,14 @@ enum Shown {
     Nothing,
 }
 
+/// Whether the pin shows the block, from its header to its last byte.
+fn shows<W: World>(pin: &Pin<'_, W>, tag: Tag) -> bool {
+    let last = pin.page().bytes().last().copied();
+    pin.tag() == tag
+        && header(pin.page()).prune_xid == tag.block
+        && last.map(u32::from) == Some(tag.block)
+}
+
 /// Looks the block up, and reads it into the pool where it is not there.
 fn visit<W: World, R: Wait>(
     rt: &R,
@@ -115,7 +132,7 @@ fn visit<W: World, R: Wait>(
     };
     match pool.lookup(rt, tag) {
         Found::Hit(pin) => {
-            let right = header(pin.page()).prune_xid == tag.block && pin.tag() == tag;
+            let right = shows(&pin, tag);
             pool.unpin(rt, pin);
             Ok(if right { Shown::Right } else { Shown::Wrong })
         }
@@ -185,5 +202,175 @@ fn visit_by_two<W: World + Send + Sync, R: Threads + Wait + Sync>(
 #[test]
 fn two_threads_pin_the_pages_that_they_asked_for(rt: HostRuntime) -> Result<(), AllocError> {
     assert!(&rt; visit_by_two::<Brand, HostRuntime>(&rt, rt.alloc())?);
+    Ok(())
+}
+
+/// Reads a block into the pool; whether a frame was taken for it.
+fn read_into<W: World, R: Wait>(rt: &R, pool: &Pool<W>, block: u32, page: &Page) -> bool
+    requires told { W.told ≡ None }
+    requires range { 1 < W.handles }
+    requires valid { IsValid page.now }
+{
+    let tag = Tag { relation: 0, block };
+    if !matches!(pool.begin(rt, tag, MINE), Begun::Yes(_)) {
+        return false;
+    }
+    let mut places = pool;
+    places.finish(rt, tag.relation, tag.block, MINE, Some(page));
+    true
+}
+
+/// A pin on block 7.
+fn pin_seven<'p, W: World, R: Wait>(rt: &R, pool: &'p Pool<W>) -> Option<Pin<'p, W>> {
+    match pool.lookup(rt, SEVEN) {
+        Found::Hit(pin) => Some(pin),
+        Found::Busy(_) | Found::Absent => None,
+    }
+}
+
+/// Reads 1,000 other blocks into the pool; whether each found a frame.
+fn read_others<W: World, R: Wait>(rt: &R, alloc: Global, pool: &Pool<W>) -> Result<bool, AllocError>
+    requires { (W.told ≡ None) × (W.handles ≡ 2) }
+{
+    let Some(page) = page_of(alloc, 1)? else {
+        return Ok(false);
+    };
+    for block in 1000..2000 {
+        if !read_into(rt, pool, block, &page) {
+            return Ok(false);
+        }
+    }
+    Ok(true)
+}
+
+/// Looks block 7 up 1,000 times; whether each pin showed it.
+fn look_at_seven<W: World, R: Wait>(rt: &R, pool: &Pool<W>) -> bool {
+    for _ in 0u32..1000 {
+        let Some(pin) = pin_seven(rt, pool) else {
+            return false;
+        };
+        let right = shows(&pin, SEVEN);
+        pool.unpin(rt, pin);
+        if !right {
+            return false;
+        }
+    }
+    true
+}
+
+/// Whether a pinned page stands and is found while two threads read others and look it up.
+fn pin_while_others_are_read<W: World + Send + Sync, R: Threads + Wait + Sync>(
+    rt: &R,
+    alloc: Global,
+) -> Result<bool, AllocError>
+    requires { (W.told ≡ None) × (W.handles ≡ 2) }
+{
+    let pool: Pool<W> = Pool::open(alloc, 16)?;
+    let Some(page) = page_of(alloc, 7)? else {
+        return Ok(false);
+    };
+    let begun = read_into(rt, &pool, SEVEN.block, &page);
+    let Some(pin) = pin_seven(rt, &pool) else {
+        return Ok(false);
+    };
+    let shared = &pool;
+    let (read, found) = thread::join(
+        rt,
+        move || -> Result<bool, AllocError>
+            requires { (W.told ≡ None) × (W.handles ≡ 2) }
+        { read_others(rt, alloc, shared) },
+        move || -> bool { look_at_seven(rt, shared) },
+    );
+    let same = shows(&pin, SEVEN) && pool.peek(rt, SEVEN) == Look::Hit(pin.frame);
+    pool.unpin(rt, pin);
+    Ok(begun && read? && found && same)
+}
+
+#[test]
+fn a_pinned_page_stands_while_others_are_read(rt: HostRuntime) -> Result<(), AllocError> {
+    assert!(&rt; pin_while_others_are_read::<Brand, HostRuntime>(&rt, rt.alloc())?);
+    Ok(())
+}
+
+/// The block for which the frame of block 7 is taken.
+const NEXT: Tag = Tag {
+    relation: 0,
+    block: 23,
+};
+
+/// What comes of a read into a frame whose page is still shown by a pin, and of one after it.
+#[derive(Clone, Copy)]
+struct Refused {
+    frame: u32,
+    taken: Begun,
+    while_pinned: Look,
+    shown: bool,
+    after: Look,
+}
+
+/// Begins 16 blocks, the last of them `NEXT`, which takes the one frame that has a page. The index
+/// has no pin on that page, and a pin shows it.
+fn write_under_a_pin<W: World, R: Wait>(
+    rt: &R,
+    pool: &Pool<W>,
+    pin: Pin<'_, W>,
+    page: &Page,
+) -> Refused
+    requires told { W.told ≡ None }
+    requires range { 1 < W.handles }
+    requires valid { IsValid page.now }
+{
+    for block in 8..NEXT.block {
+        let _ = pool.begin(rt, Tag { relation: 0, block }, MINE);
+    }
+    let frame = pin.frame;
+    let taken = pool.begin(rt, NEXT, MINE);
+    let mut places = pool;
+    places.finish(rt, NEXT.relation, NEXT.block, MINE, Some(page));
+    let while_pinned = pool.peek(rt, NEXT);
+    let shown = shows(&pin, SEVEN);
+    pool.unpin(rt, pin);
+    let _ = read_into(rt, pool, NEXT.block, page);
+    Refused {
+        frame,
+        taken,
+        while_pinned,
+        shown,
+        after: pool.peek(rt, NEXT),
+    }
+}
+
+/// Reads block 7 into two pools and pins it in both. The pin of the second is spent at the first,
+/// whose index then has no pin on the page.
+fn refuse_a_writer<W: World, R: Wait>(rt: &R, alloc: Global) -> Result<Option<Refused>, AllocError>
+    requires { (W.told ≡ None) × (W.handles ≡ 2) }
+{
+    let pool: Pool<W> = Pool::open(alloc, 16)?;
+    let second: Pool<W> = Pool::open(alloc, 16)?;
+    let Some(page) = page_of(alloc, 7)? else {
+        return Ok(None);
+    };
+    let _ = read_into(rt, &pool, SEVEN.block, &page);
+    let _ = read_into(rt, &second, SEVEN.block, &page);
+    if let Some(stray) = pin_seven(rt, &second) {
+        let Some(pin) = pin_seven(rt, &pool) else {
+            second.unpin(rt, stray);
+            return Ok(None);
+        };
+        pool.unpin(rt, stray);
+        return Ok(Some(write_under_a_pin(rt, &pool, pin, &page)));
+    }
+    Ok(None)
+}
+
+#[test]
+fn a_frame_that_is_read_refuses_a_writer(rt: HostRuntime) -> Result<(), AllocError> {
+    let Some(refused) = refuse_a_writer::<Brand, HostRuntime>(&rt, rt.alloc())? else {
+        panic!(&rt; "block 7 is pinned")
+    };
+    assert_eq!(rt; refused.taken, Begun::Yes(refused.frame));
+    assert_eq!(rt; refused.while_pinned, Look::Absent);
+    assert!(&rt; refused.shown);
+    assert_eq!(rt; refused.after, Look::Hit(refused.frame));
     Ok(())
 }

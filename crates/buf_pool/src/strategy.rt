@@ -79,13 +79,16 @@ pub(crate) struct Clock {
 }
 
 impl Clock {
-    /// Marks the frame as used.
+    /// Marks the frame as used. A mark that stands is not written again: the frames' marks share
+    /// lines of the processors' caches.
     pub(crate) fn touch(&mut self, frame: usize)
         requires { frame < length self.old.used.items }
         ensures size { length self.new.used.items ≡ length self.old.used.items }
         ensures hand { self.new.hand ≡ self.old.hand }
     {
-        self.used[frame] = true;
+        if !self.used[frame] {
+            self.used[frame] = true;
+        }
     }
 
     // One round of the hand: it takes the marks off the frames without pins, and stops at the
