@@ -4,8 +4,8 @@ use Rattle.std.proofs.Common.{is_none, is_some, false, refl, arith, ◌⊎◌, �
 use Rattle.std.proofs.lemmas.List.{get_or-set_same, get_or-set_other, length-set}
 use Rattle.std.proofs.lemmas.Bool.{cases_lt, cases_eq, false≢true}
 use Rattle.std.proofs.lemmas.Nat.{mod_below}
-use Rattle.buf_pool.specs.declared.frame.Tag.{Tag}
-use Rattle.buf_pool.specs.declared.frame.Frame.{Frame}
+use Rattle.buf_pool.specs.declared.descriptor.Tag.{Tag}
+use Rattle.buf_pool.specs.declared.descriptor.Descriptor.{Descriptor}
 use Rattle.buf_pool.specs.Frames.{tag_at, IsAbsent}
 use Rattle.buf_pool.specs.Probes.{slot_at, home_of, probe, Reaches, KeepsTaken, IsIndexed}
 use Rattle.buf_pool.specs.Probes.{empty_slots}
@@ -77,7 +77,7 @@ no_empty_slot slots tag some h =
     (λ step b. let held = taken_holds _ (h step b) in rw held.1 refl))
 
 -- where the search passed no frame with the tag, and came to an empty slot or round the table, no entry has the tag
-pub absent_after : (slots : List (Option ℕ)) (frames : List Frame) (tag : Tag) (step : ℕ) →
+pub absent_after : (slots : List (Option ℕ)) (frames : List Descriptor) (tag : Tag) (step : ℕ) →
     IsIndexed slots frames
     → ((k f : ℕ) → k < step → probe slots tag k ≡ Some f → tag_at frames f ≡ Some tag → ⊥)
     → (probe slots tag step ≡ None) ⊎ (length slots ≤ step) → IsAbsent frames tag

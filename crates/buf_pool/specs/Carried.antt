@@ -1,7 +1,7 @@
 -- What the memory of a frame holds, whenever a reader or a writer comes to it.
 use Rattle.std.specs.Prelude.{ℕ, List, Option, IfSome}
 use Rattle.page_check.specs.Told.{Told}
-use Rattle.buf_pool.specs.declared.frame.Tag.{Tag}
+use Rattle.buf_pool.specs.declared.descriptor.Tag.{Tag}
 use Rattle.aio_callback.specs.Good.{IsGood}
 
 -- it carries no tag, or a tag whose good page it is

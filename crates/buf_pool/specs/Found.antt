@@ -1,7 +1,7 @@
 -- What `lookup` finds.
 use Rattle.std.specs.Prelude.{◌≡◌, ℕ, ◌<◌, List, Option, ⊤}
 use Rattle.page_check.specs.Told.{Told}
-use Rattle.buf_pool.specs.declared.frame.Tag.{Tag}
+use Rattle.buf_pool.specs.declared.descriptor.Tag.{Tag}
 use Rattle.buf_pool.specs.declared.index.Look.{Look}
 use Rattle.buf_pool.specs.declared.index.Look.TheVariants as look
 use Rattle.buf_pool.specs.declared.index.Begun.{Begun}

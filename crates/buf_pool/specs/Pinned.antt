@@ -1,6 +1,6 @@
 -- What a reader of a frame sees.
 use Rattle.std.specs.Prelude.{ℕ, ◌==◌, ◌&&◌, Bool, false, List, [], Option, Some, None}
-use Rattle.buf_pool.specs.declared.frame.Tag.{Tag}
+use Rattle.buf_pool.specs.declared.descriptor.Tag.{Tag}
 use Rattle.buf_pool.specs.declared.carried.CarriedPage.{CarriedPage}
 
 -- whether this is the tag

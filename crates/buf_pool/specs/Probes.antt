@@ -1,18 +1,22 @@
 -- How the table finds the frame of a tag: it looks at one slot after the other, from the tag's own
 -- slot on, round the table.
-use Rattle.std.specs.Prelude.{◌≡◌, ℕ, ◌+◌, ◌*◌, ◌%◌, ◌<◌, List, Option, Some, None, length}
+use Rattle.std.specs.Prelude.{◌≡◌, ℕ, ◌+◌, ◌*◌, ◌^◌, ◌/◌, ◌%◌, ◌<◌, List, Option, Some, None, length}
 use Rattle.std.specs.Prelude.{slice_index_or, count_by, is_none}
-use Rattle.buf_pool.specs.declared.frame.Tag.{Tag}
-use Rattle.buf_pool.specs.declared.frame.Frame.{Frame}
+use Rattle.buf_pool.specs.declared.descriptor.Tag.{Tag}
+use Rattle.buf_pool.specs.declared.descriptor.Descriptor.{Descriptor}
 use Rattle.buf_pool.specs.Frames.{tag_at}
 
 -- the slot of this number; past the last it is empty
 abbrev pub slot_at : List (Option ℕ) → ℕ → Option ℕ
 slot_at slots k = slice_index_or slots k None
 
+-- the hash of the tag: the high half of a product of 64 bits (Fibonacci hashing)
+unfoldable pub hash_of : Tag → ℕ
+hash_of tag = (tag.relation * 2 ^ 32 + tag.block) * 0x9E37_79B9_7F4A_7C15 % 2 ^ 64 / 2 ^ 32
+
 -- the slot at which the search for the tag begins
 unfoldable pub home_of : Tag → ℕ → ℕ
-home_of tag size = (tag.relation * 0x3C6E_F35F + tag.block * 0x4F1B_BCF5) % size
+home_of tag size = hash_of tag % size
 
 -- the slot that the search for the tag looks at after this many steps
 abbrev pub probe : List (Option ℕ) → Tag → ℕ → Option ℕ
@@ -31,7 +35,7 @@ pub record KeepsTaken (old new : List (Option ℕ)) : Type 0 where
   pub taken : (k : ℕ) (f : ℕ) → slot_at old k ≡ Some f → slot_at new k ≡ Some f
 
 -- the search for the tag of each entry comes to its frame
-abbrev pub IsIndexed : List (Option ℕ) → List Frame → Type 0
+abbrev pub IsIndexed : List (Option ℕ) → List Descriptor → Type 0
 IsIndexed slots frames = (f : ℕ) (tag : Tag) → tag_at frames f ≡ Some tag → Reaches slots tag f
 
 -- how many slots are empty

@@ -1,7 +1,7 @@
 //! What the memory of a frame holds.
 ghost use Rattle.buf_pool.specs.Carried.{Carries};
 
-use crate::frame::Tag;
+use crate::descriptor::Tag;
 use counted_slot::Fits;
 use page_check::{Page, World};
 use std::marker::PhantomData;

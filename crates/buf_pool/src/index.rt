@@ -1,16 +1,16 @@
 //! The index of the pool.
-ghost use Rattle.std.specs.Prelude.{◌≡◌, ◌-◌, ◌+◌, ◌^◌, ◌<◌, ◌≤◌, length, false, Some, MatchOption};
+ghost use Rattle.std.specs.Prelude.{◌≡◌, ℕ, ◌-◌, ◌+◌, ◌^◌, ◌<◌, ◌≤◌, length, false, Some, MatchOption};
 ghost use Rattle.std.specs.Prelude.{IsSomeAnd, IfOk, IfSome, List, replicate, slice_set};
 ghost use Rattle.std.specs.Prelude.{if◌then◌else◌};
 ghost use Rattle.aio_word.specs.declared.WaitRef.{WaitRef};
-ghost use Rattle.buf_pool.specs.declared.frame.Tag.{Tag};
-ghost use Rattle.buf_pool.specs.declared.frame.Frame.{Frame};
-ghost use Rattle.buf_pool.specs.declared.frame.Frame.TheVariants.{Free, InProgress};
-ghost use Rattle.buf_pool.specs.Frames.{frame_at, tag_of, tag_at, pins_at, repinned, is_free};
+ghost use Rattle.buf_pool.specs.declared.descriptor.Tag.{Tag};
+ghost use Rattle.buf_pool.specs.declared.descriptor.Descriptor.{Descriptor};
+ghost use Rattle.buf_pool.specs.declared.descriptor.Descriptor.TheVariants.{Free, InProgress};
+ghost use Rattle.buf_pool.specs.Frames.{descriptor_at, tag_of, tag_at, pins_at, repinned, is_free};
 ghost use Rattle.buf_pool.specs.Frames.{IsAbsent, IsFrameOf};
 ghost use Rattle.buf_pool.specs.Lawful.{PoolLawful};
 
-use crate::frame::{Frame, Tag};
+use crate::descriptor::{Descriptor, Tag};
 use crate::strategy::{Clock, FreeFrames, Wanted, find_round};
 use crate::table::{TagTable, find};
 use aio_word::WaitRef;
@@ -46,7 +46,7 @@ pub enum Begun {
 /// see it as the list of what the frames hold, by their numbers.
 #[derive(Drop)]
 pub struct PoolIndex<W: World> {
-    frames: Vec<Frame>,
+    frames: Vec<Descriptor>,
     table: TagTable,
     clock: Clock,
     free: FreeFrames,
@@ -55,10 +55,10 @@ pub struct PoolIndex<W: World> {
 
 impl<W: World> Model for PoolIndex<W> {
     ghost use Rattle.std.specs.Prelude.{List};
-    ghost use Rattle.buf_pool.specs.declared.frame.Frame.{Frame};
+    ghost use Rattle.buf_pool.specs.declared.descriptor.Descriptor.{Descriptor};
     ghost use Rattle.buf_pool.specs.Sound.{IsTable, IsClock, AreFrames};
 
-    ghost Value = { List Frame };
+    ghost Value = { List Descriptor };
 
     ghost view = { λ s. s.frames.items };
 
@@ -69,7 +69,7 @@ impl<W: World> Model for PoolIndex<W> {
 
 impl<W: World> PoolIndex<W> {
     ghost use Rattle.buf_pool.specs.Answers.{IsNotInProgress, IsLook, IsFull, IsTakeable, HasBegun};
-    ghost use Rattle.buf_pool.specs.Answers.{ended};
+    ghost use Rattle.buf_pool.specs.Answers.{ended, HasPinned, HasNoPin};
 
     /// An index of so many frames, 16 to 16384, all of them free. All memory of the index is taken
     /// here.
@@ -79,7 +79,7 @@ impl<W: World> PoolIndex<W> {
     {
         let count = frames as usize;
         Ok(PoolIndex {
-            frames: Vec::from_elem(alloc, Frame::Free, count)?,
+            frames: Vec::from_elem(alloc, Descriptor::Free, count)?,
             table: TagTable {
                 slots: Vec::from_elem(alloc, None, 4 * count)?,
                 left: 4 * count,
@@ -111,9 +111,9 @@ impl<W: World> PoolIndex<W> {
             return Look::Absent;
         };
         match self.frames[frame as usize] {
-            Frame::Free => unreachable!(),
-            Frame::InProgress(_, reference) => Look::Busy(reference),
-            Frame::Valid(..) => Look::Hit(frame),
+            Descriptor::Free => unreachable!(),
+            Descriptor::InProgress(_, reference) => Look::Busy(reference),
+            Descriptor::Valid(..) => Look::Hit(frame),
         }
     }
 
@@ -122,14 +122,14 @@ impl<W: World> PoolIndex<W> {
         ensures { result ≡ pins_at self.now frame }
     {
         match self.frames.get(frame as usize) {
-            Some(Frame::Valid(_, pins)) => Some(*pins),
-            Some(Frame::Free | Frame::InProgress(..)) | None => None,
+            Some(Descriptor::Valid(_, pins)) => Some(*pins),
+            Some(Descriptor::Free | Descriptor::InProgress(..)) | None => None,
         }
     }
 
     // Puts another entry of the same tag at the frame, or none.
-    fn change(&mut self, frame: u32, entry: Frame)
-        requires taken { (frame < length self.old) × (is_free (frame_at self.old frame) ≡ false) }
+    fn change(&mut self, frame: u32, entry: Descriptor)
+        requires taken { (frame < length self.old) × (is_free (descriptor_at self.old frame) ≡ false) }
         requires tag { (tag : Tag) → tag_of entry ≡ Some tag → tag_at self.old frame ≡ Some tag }
         requires over { (tag : Tag) (reference : WaitRef) → entry ≡ InProgress tag reference → ⊥ }
         ensures frames { self.new ≡ slice_set self.old frame entry }
@@ -149,7 +149,7 @@ impl<W: World> PoolIndex<W> {
         ensures lawful { PoolLawful W.handles self.new }
     {
         let at = frame as usize;
-        let entry = Frame::InProgress(tag, reference);
+        let entry = Descriptor::InProgress(tag, reference);
         self.free.note(at, &self.frames[at], &entry);
         self.frames[at] = entry;
         self.table.add(&self.frames, tag, frame);
@@ -176,9 +176,9 @@ impl<W: World> PoolIndex<W> {
             (λ pins. self.new ≡ repinned self.old frame (pins + 1)) }
         ensures lawful { PoolLawful W.handles self.new }
     {
-        if let Some(Frame::Valid(tag, pins)) = self.frames.get(frame as usize).copied() {
+        if let Some(Descriptor::Valid(tag, pins)) = self.frames.get(frame as usize).copied() {
             self.clock.touch(frame as usize);
-            self.change(frame, Frame::Valid(tag, pins + 1));
+            self.change(frame, Descriptor::Valid(tag, pins + 1));
         }
     }
 
@@ -189,8 +189,36 @@ impl<W: World> PoolIndex<W> {
             (λ pins. self.new ≡ repinned self.old frame (pins - 1)) }
         ensures lawful { PoolLawful W.handles self.new }
     {
-        if let Some(Frame::Valid(tag, pins)) = self.frames.get(frame as usize).copied() {
-            self.change(frame, Frame::Valid(tag, pins - 1));
+        if let Some(Descriptor::Valid(tag, pins)) = self.frames.get(frame as usize).copied() {
+            self.change(frame, Descriptor::Valid(tag, pins - 1));
+        }
+    }
+
+    /// What the entry of the tag says, with one pin more where it is a page. Absent also where the
+    /// page has as many pins as can be counted.
+    pub(crate) fn look_and_pin(&mut self, tag: Tag) -> Look
+        ensures answer { HasPinned self.old self.new tag result }
+        ensures lawful { PoolLawful W.handles self.new }
+    {
+        let look = self.look(tag);
+        if let Look::Hit(frame) = look {
+            match self.pins(frame) {
+                Some(pins) if pins < u32::MAX => self.pin(frame),
+                _ => return Look::Absent,
+            }
+        }
+        look
+    }
+
+    /// One pin less on the page in the frame, where there is one with a pin.
+    pub(crate) fn unpin_one(&mut self, frame: u32)
+        ensures one { (pins : ℕ) → pins_at self.old frame ≡ Some (pins + 1)
+            → self.new ≡ repinned self.old frame pins }
+        ensures none { HasNoPin (pins_at self.old frame) → self.new ≡ self.old }
+    {
+        match self.pins(frame) {
+            Some(pins) if pins > 0 => self.unpin(frame),
+            _ => {}
         }
     }
 
@@ -216,7 +244,7 @@ impl<W: World> PoolIndex<W> {
     /// The frame that awaits the page of the tag under the reference; None where there is none.
     pub fn frame(&self, tag: Tag, reference: WaitRef) -> Option<u32>
         ensures answer { MatchOption result (IsNotInProgress self.now tag reference)
-            (λ f. frame_at self.now f ≡ InProgress tag reference) }
+            (λ f. descriptor_at self.now f ≡ InProgress tag reference) }
         ensures lawful { PoolLawful W.handles self.now }
     {
         let frame = self.find(tag)?;
@@ -233,15 +261,15 @@ impl<W: World> PoolIndex<W> {
     pub fn end(&mut self, tag: Tag, reference: WaitRef, kept: bool) -> Option<u32>
         ensures answer { MatchOption result
             (IsNotInProgress self.old tag reference × (self.new ≡ self.old))
-            (λ f. (frame_at self.old f ≡ InProgress tag reference)
+            (λ f. (descriptor_at self.old f ≡ InProgress tag reference)
             × (self.new ≡ slice_set self.old f (ended tag kept))) }
         ensures lawful { PoolLawful W.handles self.new }
     {
         let frame = self.frame(tag, reference)?;
         let entry = if kept {
-            Frame::Valid(tag, 0)
+            Descriptor::Valid(tag, 0)
         } else {
-            Frame::Free
+            Descriptor::Free
         };
         self.change(frame, entry);
         Some(frame)

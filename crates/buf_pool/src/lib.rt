@@ -13,15 +13,16 @@
 #![tactic(auto)]
 
 mod carried;
-mod frame;
+mod descriptor;
 mod index;
+mod part;
 mod pin;
 mod pool;
 mod slot;
 mod strategy;
 mod table;
 
-pub use frame::{Frame, Tag};
+pub use descriptor::{Descriptor, Tag};
 pub use index::{Begun, Look, PoolIndex};
 pub use pin::Pin;
 pub use pool::{Found, Pool};

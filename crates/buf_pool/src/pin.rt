@@ -3,7 +3,7 @@ ghost use Rattle.std.specs.Prelude.{◌≡◌, true};
 ghost use Rattle.buf_pool.specs.Pinned.{carries_tag};
 
 use crate::carried::CarriedPage;
-use crate::frame::Tag;
+use crate::descriptor::Tag;
 use counted_slot::Claim;
 use page_check::{Page, World};
 

@@ -1,20 +1,19 @@
 //! The pool behind its locks.
-ghost use Rattle.std.specs.Prelude.{◌≡◌, ◌<◌, ◌≤◌, IfSome};
-ghost use Rattle.aio_callback.specs.Good.{IsGood};
+ghost use Rattle.std.specs.Prelude.{◌<◌, ◌≤◌, length};
 
-use crate::frame::Tag;
-use crate::index::{Begun, Look, PoolIndex};
+use crate::descriptor::Tag;
+use crate::index::{Begun, Look};
+use crate::part::Part;
 use crate::pin::Pin;
-use crate::slot::PageSlot;
 use aio_callback::Places;
 use aio_word::WaitRef;
 use page_check::{Page, World};
 use std::alloc::{AllocError, Global};
-use std::hint::spin_loop;
-use std::sync::{Mutex, MutexGuard, Wait};
+use std::sync::Wait;
 
-// How long one who comes to a taken lock pauses before each further try.
-const PAUSES: [u32; 7] = [16, 32, 64, 128, 256, 256, 256];
+/// The least frames of a part, and the most parts (`NUM_BUFFER_PARTITIONS` of `lwlock.h`).
+const LEAST_FRAMES: u32 = 16;
+const MOST_PARTS: u32 = 128;
 
 /// What `lookup` finds.
 pub enum Found<'p, W: World> {
@@ -26,135 +25,78 @@ pub enum Found<'p, W: World> {
     Absent,
 }
 
-/// The pool: an index behind a lock, and the memory of each frame, which has no lock. What is in a
-/// frame's memory is always the told, valid page of the tag that it carries.
+/// The pool: parts with some of the frames each. What is in a frame's memory is always the told,
+/// valid page of the tag that it carries.
 #[derive(Drop)]
 pub struct Pool<W: World> {
-    index: Mutex<PoolIndex<W>>,
-    slots: Vec<PageSlot<W>>,
+    parts: Vec<Part<W>>,
+    ghost some: { 0 < length parts.items },
 }
 
 impl<W: World> Pool<W> {
     ghost use Rattle.buf_pool.specs.Found.{IsFound, IsLookInRange, IsBegunInRange};
-    ghost use Rattle.buf_pool.specs.Found.{pinned_tag, pinned_page};
 
     /// A pool of so many frames, 16 to 16384, all of them free. All memory of the pool is taken
     /// here.
     pub fn open(alloc: Global, frames: u32) -> Result<Pool<W>, AllocError>
         requires { (16 ≤ frames) × (frames ≤ 16384) }
     {
-        let index = PoolIndex::open(alloc, frames)?;
-        let mut slots = Vec::with_capacity(alloc, frames as usize)?;
-        for _ in 0..frames {
-            slots.push(PageSlot::open(alloc)?)?;
+        let count = MOST_PARTS.min(frames / LEAST_FRAMES);
+        let mut parts = Vec::with_capacity(alloc, count as usize)?;
+        for part in 0..count {
+            // The frames that are over are shared out to the first parts.
+            let size = frames / count + u32::from(part < frames % count);
+            parts.push(Part::open(alloc, size)?)?;
         }
-        Ok(Pool {
-            index: Mutex::new(index),
-            slots,
-        })
+        Ok(Pool { parts })
     }
 
-    // The index. Its lock is held for some tens of nanoseconds at a time, so who finds it taken
-    // tries again for a while before it sleeps. The pauses grow, so that whoever has the index in
-    // its processor's cache makes several calls before the next one has it there.
-    fn index<R: Wait>(&self, rt: &R) -> MutexGuard<'_, PoolIndex<W>> {
-        for pauses in PAUSES {
-            if let Some(index) = self.index.try_lock() {
-                return index;
-            }
-            for _ in 0..pauses {
-                spin_loop();
-            }
-        }
-        self.index.lock(rt)
+    // The part to which the tag falls. Blocks that follow each other fall to different parts.
+    fn part(&self, tag: Tag) -> &Part<W> {
+        let place = u64::from(tag.relation) + u64::from(tag.block);
+        &self.parts[(place % self.parts.len() as u64) as usize]
     }
 
     /// What the index has of the tag now.
     pub fn peek<R: Wait>(&self, rt: &R, tag: Tag) -> Look
         ensures { IsLookInRange W.handles result }
     {
-        self.index(rt).look(tag)
-    }
-
-    // Pins the page of the tag in the index: its frame, where there is a page that can take one
-    // more pin.
-    fn pin_entry<R: Wait>(&self, rt: &R, tag: Tag) -> Look
-        ensures { IsLookInRange W.handles result }
-    {
-        let mut index = self.index(rt);
-        let look = index.look(tag);
-        if let Look::Hit(frame) = look {
-            match index.pins(frame) {
-                Some(pins) if pins < u32::MAX => index.pin(frame),
-                _ => return Look::Absent,
-            }
-        }
-        look
-    }
-
-    // Takes a pin off the frame in the index.
-    fn unpin_entry<R: Wait>(&self, rt: &R, frame: u32) {
-        let mut index = self.index(rt);
-        match index.pins(frame) {
-            Some(pins) if pins > 0 => index.unpin(frame),
-            _ => {}
-        }
-    }
-
-    // A reader's right on the page of the frame, where it carries the tag.
-    fn pin_page(&self, frame: u32, tag: Tag) -> Option<Pin<'_, W>>
-        ensures tag { IfSome result (λ pin. pinned_tag pin ≡ tag) }
-        ensures good { IfSome result
-            (λ pin. IsGood W.told tag.relation tag.block (pinned_page pin)) }
-    {
-        self.slots.get(frame as usize)?.pin(frame, tag)
-    }
-
-    // Copies the page into the frame's memory; whether it did.
-    fn write(&self, frame: u32, tag: Tag, page: &Page) -> bool
-        requires { IsGood W.told tag.relation tag.block page.now }
-    {
-        match self.slots.get(frame as usize) {
-            Some(slot) => slot.write(tag, page),
-            None => false,
-        }
+        self.part(tag).look(rt, tag)
     }
 
     /// The page of the tag, pinned, where it is in the pool.
     pub fn lookup<R: Wait>(&self, rt: &R, tag: Tag) -> Found<'_, W>
         ensures { IsFound W.told W.handles tag result }
     {
-        let frame = match self.pin_entry(rt, tag) {
+        let part = self.part(tag);
+        let frame = match part.look_and_pin(rt, tag) {
             Look::Hit(frame) => frame,
             Look::Busy(reference) => return Found::Busy(reference),
             Look::Absent => return Found::Absent,
         };
-        match self.pin_page(frame, tag) {
+        match part.pin_page(frame, tag) {
             Some(pin) => Found::Hit(pin),
             None => {
-                self.unpin_entry(rt, frame);
+                part.unpin_one(rt, frame);
                 Found::Absent
             }
         }
     }
 
-    /// Ends the pin.
+    /// Ends the pin, which is one of this pool.
     pub fn unpin<R: Wait>(&self, rt: &R, pin: Pin<'_, W>) {
-        let Pin {
-            frame,
-            tag: _,
-            claim,
-        } = pin;
+        let Pin { frame, tag, claim } = pin;
         let _ = claim.leave();
-        self.unpin_entry(rt, frame);
+        self.part(tag).unpin_one(rt, frame);
     }
 
-    /// Begins the reading of the tag's page by the I/O of the reference, as `PoolIndex::begin`.
+    /// Begins the reading of the tag's page by the I/O of the reference, as `PoolIndex::begin` in
+    /// the tag's part.
     pub fn begin<R: Wait>(&self, rt: &R, tag: Tag, reference: WaitRef) -> Begun
         requires { reference.handle < W.handles }
         ensures { IsBegunInRange W.handles result }
     {
-        self.index(rt).begin(tag, reference)
+        self.part(tag).begin(rt, tag, reference)
     }
 }
 
@@ -178,13 +120,6 @@ impl<W: World> Places<W> for &Pool<W> {
         page: Option<&Page>,
     ) {
         let tag = Tag { relation, block };
-        let Some(frame) = self.index(rt).frame(tag, reference) else {
-            return;
-        };
-        let kept = match page {
-            Some(page) => self.write(frame, tag, page),
-            None => false,
-        };
-        let _ = self.index(rt).end(tag, reference, kept);
+        self.part(tag).finish(rt, tag, reference, page);
     }
 }

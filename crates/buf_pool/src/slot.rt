@@ -6,7 +6,7 @@ ghost use Rattle.buf_pool.specs.Found.{pinned_tag, pinned_page};
 ghost use Rattle.aio_callback.specs.Good.{IsGood};
 
 use crate::carried::CarriedPage;
-use crate::frame::Tag;
+use crate::descriptor::Tag;
 use crate::pin::Pin;
 use counted_slot::{Claim, Counted, FREE, MOST_READERS, ONE_READER, PRESENT, TAKEN};
 use page_check::{Page, World};

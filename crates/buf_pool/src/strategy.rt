@@ -1,10 +1,10 @@
 //! Which frame is taken for a new entry.
 ghost use Rattle.std.specs.Prelude.{◌≡◌, ℕ, ◌+◌, ◌<◌, ◌≤◌, length, true, IfSome, if◌then◌else◌};
-ghost use Rattle.buf_pool.specs.Frames.{frame_at, is_free, is_unpinned};
+ghost use Rattle.buf_pool.specs.Frames.{descriptor_at, is_free, is_unpinned};
 ghost use Rattle.buf_pool.specs.Wanted.{is_wanted, IsSearchAnswer};
 ghost use Rattle.buf_pool.specs.Sound.{IsClock};
 
-use crate::frame::Frame;
+use crate::descriptor::Descriptor;
 
 /// What a search over the frames looks for.
 #[derive(Clone, Copy)]
@@ -14,7 +14,7 @@ pub(crate) enum Wanted {
 }
 
 impl Wanted {
-    fn is(self, frame: &Frame) -> bool
+    fn is(self, frame: &Descriptor) -> bool
         ensures { result ≡ is_wanted self frame.now }
     {
         match self {
@@ -25,7 +25,7 @@ impl Wanted {
 }
 
 /// The first such frame from `start` on, round the frames.
-pub(crate) fn find_round(frames: &[Frame], start: usize, wanted: Wanted) -> Option<u32>
+pub(crate) fn find_round(frames: &[Descriptor], start: usize, wanted: Wanted) -> Option<u32>
     requires start { start < length frames.now }
     requires size { length frames.now ≤ 16384 }
     ensures { IsSearchAnswer (is_wanted wanted) frames.now result }
@@ -49,7 +49,7 @@ pub(crate) struct FreeFrames {
 
 impl FreeFrames {
     /// One frame changes: a frame that gets free is the first that the next search finds.
-    pub(crate) fn note(&mut self, at: usize, old: &Frame, new: &Frame)
+    pub(crate) fn note(&mut self, at: usize, old: &Descriptor, new: &Descriptor)
         requires most { self.old.count ≤ 16384 }
         requires counted { is_free old.now ≡ true → 0 < self.old.count }
         ensures count { self.new.count + (if is_free old.now then 1 else 0)
@@ -93,12 +93,12 @@ impl Clock {
 
     // One round of the hand: it takes the marks off the frames without pins, and stops at the
     // first that has none.
-    fn sweep(&mut self, frames: &[Frame]) -> Option<u32>
+    fn sweep(&mut self, frames: &[Descriptor]) -> Option<u32>
         requires clock { IsClock self.old.used.items self.old.hand frames.now }
         requires size { length frames.now ≤ 16384 }
         ensures clock { IsClock self.new.used.items self.new.hand frames.now }
         ensures found { IfSome result
-            (λ f. (f < length frames.now) × (is_unpinned (frame_at frames.now f) ≡ true)) }
+            (λ f. (f < length frames.now) × (is_unpinned (descriptor_at frames.now f) ≡ true)) }
     {
         let size = frames.len();
         for _ in 0..size {
@@ -116,7 +116,7 @@ impl Clock {
 
     /// A valid entry without pins: one that was not used for a round of the hand, else the first
     /// from the hand on.
-    pub(crate) fn victim(&mut self, frames: &[Frame]) -> Option<u32>
+    pub(crate) fn victim(&mut self, frames: &[Descriptor]) -> Option<u32>
         requires clock { IsClock self.old.used.items self.old.hand frames.now }
         requires size { length frames.now ≤ 16384 }
         ensures clock { IsClock self.new.used.items self.new.hand frames.now }

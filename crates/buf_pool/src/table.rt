@@ -1,25 +1,32 @@
 //! The table that finds the frame of a tag, after `buf_table.c`.
 ghost use Rattle.std.specs.Prelude.{◌≡◌, ◌≢◌, ℕ, ◌+◌, ◌*◌, ◌<◌, ◌≤◌, length, Some, IsTrue, ◌↔◌};
-ghost use Rattle.buf_pool.specs.declared.frame.Tag.{Tag};
+ghost use Rattle.buf_pool.specs.declared.descriptor.Tag.{Tag};
 ghost use Rattle.buf_pool.specs.Frames.{tag_at, IsFrameOf};
-ghost use Rattle.buf_pool.specs.Probes.{home_of, Reaches, KeepsTaken, IsIndexed, empty_slots};
+ghost use Rattle.buf_pool.specs.Probes.{hash_of, home_of, Reaches, KeepsTaken, IsIndexed, empty_slots};
 ghost use Rattle.buf_pool.specs.Sound.{IsTable};
 
-use crate::frame::{Frame, Tag};
+use crate::descriptor::{Descriptor, Tag};
 
-// The slot at which the search for the tag begins. Blocks that follow each other lie far apart, so
-// that the slots of two relations do not grow together.
+// The hash of the tag. The high bits of the product depend on each bit of the tag, so that blocks
+// at equal distances, as every 64th, do not come to one slot.
+fn hash(tag: Tag) -> u64
+    ensures { result ≡ hash_of tag }
+{
+    let key = u64::from(tag.relation) * (1 << 32) + u64::from(tag.block);
+    key.wrapping_mul(0x9E37_79B9_7F4A_7C15) / (1 << 32)
+}
+
+// The slot at which the search for the tag begins.
 fn home(tag: Tag, size: usize) -> usize
     requires { 0 < size }
     ensures home { result ≡ home_of tag size }
     ensures range { result < size }
 {
-    let mixed = u64::from(tag.relation) * 0x3C6E_F35F + u64::from(tag.block) * 0x4F1B_BCF5;
-    (mixed % size as u64) as usize
+    (hash(tag) % size as u64) as usize
 }
 
 // Whether the entry at the frame has the tag.
-fn carries(frames: &[Frame], frame: u32, tag: Tag) -> bool
+fn carries(frames: &[Descriptor], frame: u32, tag: Tag) -> bool
     ensures { IsTrue result ↔ (tag_at frames.now frame ≡ Some tag) }
 {
     match frames.get(frame as usize) {
@@ -29,7 +36,7 @@ fn carries(frames: &[Frame], frame: u32, tag: Tag) -> bool
 }
 
 /// The frame of the tag.
-pub(crate) fn find(slots: &[Option<u32>], frames: &[Frame], tag: Tag) -> Option<u32>
+pub(crate) fn find(slots: &[Option<u32>], frames: &[Descriptor], tag: Tag) -> Option<u32>
     requires size { (0 < length slots.now) × (length slots.now ≤ 65536) }
     requires indexed { IsIndexed slots.now frames.now }
     ensures { IsFrameOf frames.now tag result }
@@ -71,7 +78,7 @@ fn insert(slots: &mut [Option<u32>], tag: Tag, frame: u32)
 }
 
 // Empties the table and puts in the frames that have an entry.
-fn rebuild(slots: &mut [Option<u32>], frames: &[Frame])
+fn rebuild(slots: &mut [Option<u32>], frames: &[Descriptor])
     requires size { (length slots.old ≤ 65536) × (length frames.now < length slots.old) }
     ensures size { length slots.new ≡ length slots.old }
     ensures indexed { IsIndexed slots.new frames.now }
@@ -97,7 +104,7 @@ pub(crate) struct TagTable {
 
 impl TagTable {
     /// Puts in the frame, which now has an entry of the tag.
-    pub(crate) fn add(&mut self, frames: &[Frame], tag: Tag, frame: u32)
+    pub(crate) fn add(&mut self, frames: &[Descriptor], tag: Tag, frame: u32)
         requires size { (length self.old.slots.items ≡ 4 * length frames.now)
             × (0 < length frames.now) × (length frames.now ≤ 16384) }
         requires left { self.old.left ≤ empty_slots self.old.slots.items }

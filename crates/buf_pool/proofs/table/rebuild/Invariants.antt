@@ -1,5 +1,5 @@
 use Rattle.std.proofs.Common.{◌≡◌, ℕ, ◌+◌, ◌<◌, ◌≤◌, Some, length}
-use Rattle.buf_pool.specs.declared.frame.Tag.{Tag}
+use Rattle.buf_pool.specs.declared.descriptor.Tag.{Tag}
 use Rattle.buf_pool.specs.Frames.{tag_at}
 use Rattle.buf_pool.specs.Probes.{Reaches, empty_slots}
 use Rattle.buf_pool.proofs.table.rebuild.Given as goal

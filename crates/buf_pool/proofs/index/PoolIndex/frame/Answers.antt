@@ -1,7 +1,7 @@
 use Rattle.std.proofs.Common.{◌≡◌, ◌<◌, ◌∙◌, ap, sym, length}
 use Rattle.std.proofs.lemmas.List.{get_or_read}
 use Rattle.std.proofs.lemmas.Bool.{false≢true}
-use Rattle.buf_pool.specs.declared.frame.Frame.TheVariants.{Free, InProgress}
+use Rattle.buf_pool.specs.declared.descriptor.Descriptor.TheVariants.{Free, InProgress}
 use Rattle.buf_pool.specs.Frames.{tag_of}
 use Rattle.buf_pool.proofs.index.PoolIndex.frame.Goals as goal
 

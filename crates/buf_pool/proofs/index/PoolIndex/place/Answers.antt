@@ -1,6 +1,6 @@
 use Rattle.std.proofs.Common.{◌≡◌, ◌∙◌, ◌<◌, length, set, count_by}
 use Rattle.std.proofs.lemmas.List.{length-set, get_or_read}
-use Rattle.buf_pool.specs.declared.frame.Frame.TheVariants.{Free, InProgress}
+use Rattle.buf_pool.specs.declared.descriptor.Descriptor.TheVariants.{Free, InProgress}
 use Rattle.buf_pool.specs.Frames.{is_free}
 use Rattle.buf_pool.proofs.Counts.{counted_after}
 use Rattle.buf_pool.proofs.Changing.{Fits, absent_fits, lawful_set, frames_set}

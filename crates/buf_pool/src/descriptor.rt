@@ -1,6 +1,6 @@
 //! What a frame holds.
 ghost use Rattle.std.specs.Prelude.{◌≡◌, IsTrue, ◌↔◌};
-ghost use Rattle.buf_pool.specs.declared.frame.Frame.TheVariants.{InProgress};
+ghost use Rattle.buf_pool.specs.declared.descriptor.Descriptor.TheVariants.{InProgress};
 ghost use Rattle.buf_pool.specs.Frames.{tag_of, is_free, is_unpinned};
 
 use aio_word::WaitRef;
@@ -14,7 +14,7 @@ pub struct Tag {
 
 /// What a frame holds, after `BufferDesc` of `buf_internals.h`.
 #[derive(Clone, Copy, Debug, PartialEq, Eq)]
-pub enum Frame {
+pub enum Descriptor {
     /// Nothing.
     Free,
     /// The frame awaits the page of the tag, which the I/O of the reference reads.
@@ -23,14 +23,14 @@ pub enum Frame {
     Valid(Tag, u32),
 }
 
-impl Frame {
+impl Descriptor {
     /// The tag of the entry, if there is one.
     pub(crate) fn tag(&self) -> Option<Tag>
         ensures { result ≡ tag_of self.now }
     {
         match self {
-            Frame::Free => None,
-            Frame::InProgress(tag, _) | Frame::Valid(tag, _) => Some(*tag),
+            Descriptor::Free => None,
+            Descriptor::InProgress(tag, _) | Descriptor::Valid(tag, _) => Some(*tag),
         }
     }
 
@@ -38,15 +38,15 @@ impl Frame {
     pub(crate) fn awaits(&self, tag: Tag, reference: WaitRef) -> bool
         ensures { IsTrue result ↔ (self.now ≡ InProgress tag reference) }
     {
-        *self == Frame::InProgress(tag, reference)
+        *self == Descriptor::InProgress(tag, reference)
     }
 
     pub(crate) fn is_free(&self) -> bool
         ensures { result ≡ is_free self.now }
     {
         match self {
-            Frame::Free => true,
-            Frame::InProgress(..) | Frame::Valid(..) => false,
+            Descriptor::Free => true,
+            Descriptor::InProgress(..) | Descriptor::Valid(..) => false,
         }
     }
 
@@ -55,8 +55,8 @@ impl Frame {
         ensures { result ≡ is_unpinned self.now }
     {
         match self {
-            Frame::Free | Frame::InProgress(..) => false,
-            Frame::Valid(_, pins) => *pins == 0,
+            Descriptor::Free | Descriptor::InProgress(..) => false,
+            Descriptor::Valid(_, pins) => *pins == 0,
         }
     }
 }
