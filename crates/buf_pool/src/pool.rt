@@ -7,6 +7,7 @@ use crate::part::Part;
 use crate::pin::Pin;
 use aio_callback::Places;
 use aio_word::WaitRef;
+use crossbeam_utils::CachePadded;
 use page_check::{Page, World};
 use std::alloc::{AllocError, Global};
 use std::sync::Wait;
@@ -29,7 +30,8 @@ pub enum Found<'p, W: World> {
 /// valid page of the tag that it carries.
 #[derive(Drop)]
 pub struct Pool<W: World> {
-    parts: Vec<Part<W>>,
+    // Each on cache lines of its own, so that who locks one does not take a neighbour's away.
+    parts: Vec<CachePadded<Part<W>>>,
     ghost some: { 0 < length parts.items },
 }
 
@@ -46,7 +48,7 @@ impl<W: World> Pool<W> {
         for part in 0..count {
             // The frames that are over are shared out to the first parts.
             let size = frames / count + u32::from(part < frames % count);
-            parts.push(Part::open(alloc, size)?)?;
+            parts.push(CachePadded::new(Part::open(alloc, size)?))?;
         }
         Ok(Pool { parts })
     }

@@ -1,5 +1,5 @@
 //! Ends of reads, and two threads over one pool.
-ghost use Rattle.std.specs.Prelude.{◌≡◌, ◌<◌, None, IfOk, IfSome};
+ghost use Rattle.std.specs.Prelude.{◌≡◌, ◌<◌, ◌≤◌, None, IfOk, IfSome};
 ghost use Rattle.page_check.specs.Verdict.{IsValid};
 ghost use Rattle.aio_callback.specs.Good.{IsGood};
 
