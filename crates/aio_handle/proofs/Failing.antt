@@ -1,29 +1,25 @@
 -- Each failed result has a failed execution of its own: as many failed results stand over all lists
 -- as failed executions at most.
 use Rattle.std.proofs.Common.{◌≡◌, ℕ, zero, suc, ◌+◌, ◌*◌, ◌<◌, ◌≤◌, ◌==◌, ◌&&◌, Bool, true, false}
-use Rattle.std.proofs.Common.{cond, nat_lt, List, [], ◌∷◌, sum_by, count_by, refl, sym, ap, ◌∙◌}
+use Rattle.std.proofs.Common.{cond, nat_lt, List, [], ◌∷◌, sum_by, count_by, refl, ap, ◌∙◌}
 use Rattle.std.proofs.Common.{subst, inl, inr, arith}
 use Rattle.std.proofs.lemmas.List.Sums.{sum_by-cons}
 use Rattle.std.proofs.lemmas.Bool.Decides.{nat_tests}
 use mathlib.Core.Logic.{dite}
-use mathlib.Core.Option.{some}
 use native.Mathlib.Decide.{ℕ_discrete, dec_le}
-use lib.ListN.{get_elem?}
 use Rattle.aio_word.specs.declared.Config.{Config}
-use Rattle.aio_word.specs.declared.Class.{Class}
 use Rattle.aio_word.specs.declared.Class.TheVariants.{Unended, Whole, Short, Failed}
 use Rattle.aio_word.specs.declared.Kind.{Kind}
 use Rattle.aio_word.specs.declared.Kind.TheVariants as kind
 use Rattle.aio_word.specs.declared.Mark.{Mark}
 use Rattle.aio_word.specs.declared.Word.{Word}
 use Rattle.aio_word.specs.declared.Known.{Known}
-use Rattle.aio_word.specs.Words.{number_of_class, place_of}
-use Rattle.aio_word.specs.Events.{handles, order, is_mark, times, at, ref, mark_at, a_local}
+use Rattle.aio_word.specs.Words.{place_of}
+use Rattle.aio_word.specs.Events.{handles, order, is_mark, at, ref, mark_at, a_local}
 use Rattle.aio_word.specs.Stands.{IsIn, one_if, stands, HandleStands, Stands}
 use Rattle.aio_word.specs.Tokens.{is_failed, is_failed_result, failed_marks, failed_results}
 use Rattle.aio_word.proofs.Parts.{sum-in}
 use Rattle.aio_word.proofs.Totals.{upto, upto-same, buckets, swapped, sum-same}
-use Rattle.aio_handle.specs.Closing.{IsExecutedIn}
 use Rattle.aio_handle.proofs.Views.{there}
 use Rattle.aio_handle.proofs.Balance.{executed-in, sum-le}
 
@@ -97,7 +93,7 @@ is-there : (h g : ℕ) (p : Known) → 0 < spot is_failed_result h g p
 is-there h g p lt =
     let (m, i, more) = some-in (λ (x : Mark). cond (here is_failed_result h g x) 1 0) p.marks lt in
     let (b, k, l) = parts-true (is_failed_result m.kind) m.handle h m.generation g
-        (one-true (here is_failed_result h g m) more) in
+    (one-true (here is_failed_result h g m) more) in
     let same : m ≡ mark_at (ref h g) (kind.Local Failed) =
     subst (λ (x : ℕ). m ≡ record { handle = x; generation = g; kind = kind.Local Failed }) k
     (subst (λ (x : ℕ). m ≡ record { handle = m.handle; generation = x; kind = kind.Local Failed }) l
@@ -113,7 +109,7 @@ is-local : (h g : ℕ) (m : Mark) → cond (here is_failed_result h g m) 1 0
     ≤ cond (is_mark h (8 * g + 6) m) 1 0
 is-local h g m = dite (dec_le 1 (cond (here is_failed_result h g m) 1 0))
     (λ yes. let (b, k, l) = parts-true (is_failed_result m.kind) m.handle h m.generation g
-        (one-true (here is_failed_result h g m) (omega arith)) in
+    (one-true (here is_failed_result h g m) (omega arith)) in
     let six : order m.kind ≡ 6 = ap order (failed-is m.kind b) in grind (arith, nat_tests))
     (λ no. omega arith)
 
@@ -126,9 +122,9 @@ one-stands : (c : Config) (parts : List Known) (h : ℕ) (w : Word) → HandleSt
 one-stands c parts h w s g = dite (dec_le c.start g)
     (λ lo. dite (ℕ_discrete g w.generation)
     (λ same. let now = s.now a_local in
-        let b = at-most (nat_lt 6 (place_of w)) in
-        let e : stands (ref h g) a_local parts ≡ stands (ref h w.generation) a_local parts =
-        ap (λ (x : ℕ). stands (ref h x) a_local parts) same in omega arith)
+    let b = at-most (nat_lt 6 (place_of w)) in
+    let e : stands (ref h g) a_local parts ≡ stands (ref h w.generation) a_local parts =
+    ap (λ (x : ℕ). stands (ref h x) a_local parts) same in omega arith)
     (λ ne. dite (dec_le g w.generation)
     (λ le. let o = s.over g lo (omega arith) a_local in omega arith)
     (λ gt. let n = s.none g (inr (omega arith)) a_local in omega arith)))
@@ -143,11 +139,11 @@ module _ (c : Config) (ws : List Word) (parts : List Known) (s : Stands c ws par
       let (q, j, io) = executed-in c ws parts s p i (ref h g) Failed (is-there h g p more) in
       let (w, word) = there ws h (let wide = s.wide in omega arith) in
       let few = sum-le (spot is_failed_result h g) (λ (p : Known). at (ref h g) a_local p.marks)
-          parts (λ p _. sum-le (λ (m : Mark). cond (here is_failed_result h g m) 1 0)
-          (λ m. cond (is_mark h (8 * g + 6) m) 1 0) p.marks (λ m _. is-local h g m)) in
+      parts (λ p _. sum-le (λ (m : Mark). cond (here is_failed_result h g m) 1 0)
+      (λ m. cond (is_mark h (8 * g + 6) m) 1 0) p.marks (λ m _. is-local h g m)) in
       let one = one-stands c parts h w (s.each_handle h w word) g in
       let inside = sum-in (λ (m : Mark). cond (here is_failed h g m) 1 0) q.marks
-          (mark_at (ref h g) (kind.Io Failed)) io in
+      (mark_at (ref h g) (kind.Io Failed)) io in
       let self = self-here h g in
       let outside = sum-in (spot is_failed h g) parts q j in
       omega arith)
@@ -161,13 +157,13 @@ module _ (c : Config) (ws : List Word) (parts : List Known) (s : Stands c ws par
       → (m.handle < handles c) × (m.generation < G) = λ p i m j. (
         (s.each_list p i).in_range m j,
         (let a = sum-in (λ (x : Mark). x.generation) p.marks m j in
-        let b = sum-in (λ (x : Known). sum_by (λ (m : Mark). m.generation) x.marks) parts p i in
-        omega arith),
+            let b = sum-in (λ (x : Known). sum_by (λ (m : Mark). m.generation) x.marks) parts p i in
+            omega arith),
       ) in
       let left = spread-all is_failed_result (handles c) G parts bound in
       let right = spread-all is_failed (handles c) G parts bound in
       let le = upto-le (λ h. upto (λ g. sum_by (spot is_failed_result h g) parts) G)
-          (λ h. upto (λ g. sum_by (spot is_failed h g) parts) G) (handles c)
-          (λ h lt. upto-le (λ g. sum_by (spot is_failed_result h g) parts)
-          (λ g. sum_by (spot is_failed h g) parts) G (λ g _. at-spot h g lt)) in
+      (λ h. upto (λ g. sum_by (spot is_failed h g) parts) G) (handles c)
+      (λ h lt. upto-le (λ g. sum_by (spot is_failed_result h g) parts)
+      (λ g. sum_by (spot is_failed h g) parts) G (λ g _. at-spot h g lt)) in
       omega arith

@@ -1,5 +1,7 @@
 -- An actor goes on: claims, looks, and what follows on another.
-use Rattle.std.proofs.Common.{◌≡◌, ℕ, List, [], ◌∷◌, ◌++◌, refl, sym, ap, ◌∙◌, subst, arith, append_assoc, append-nil, ◌≢◌, ◌⊎◌, ⊎_elim, ◌==◌, ◌&&◌, Bool, true, false, sum_by, inl, inr, ◌<◌, ◌*◌, ◌+◌}
+use Rattle.std.proofs.Common.{◌≡◌, ℕ, List, [], ◌∷◌, ◌++◌, refl, sym, ap, ◌∙◌, subst, arith}
+use Rattle.std.proofs.Common.{append_assoc, append-nil, ◌≢◌, ◌⊎◌, ⊎_elim, ◌==◌, ◌&&◌, Bool, true}
+use Rattle.std.proofs.Common.{false, sum_by, inl, inr, ◌<◌, ◌*◌, ◌+◌}
 use Rattle.std.proofs.lemmas.Bool.Decides.{nat_tests}
 use Rattle.std.proofs.lemmas.List.Sums.{sum_by-cons}
 use mathlib.Core.Logic.{dite}

@@ -15,7 +15,7 @@ use Rattle.aio_word.specs.declared.Known.{Known}
 use Rattle.aio_word.specs.Words.{place_of}
 use Rattle.aio_word.specs.Events.{ref, order, noted, leaves}
 use Rattle.aio_word.specs.Stands.{IsIn, seen_of}
-use Rattle.aio_word.specs.Tokens.{owned, Keeps, IsClaimed, IsExecuted, mark_at}
+use Rattle.aio_word.specs.Tokens.{owned, Keeps, IsClaimed, mark_at}
 use Rattle.aio_word.proofs.Parts.{in-left}
 use Rattle.aio_word.proofs.Steps.{mark, place-small, counted-in}
 use Rattle.aio_word.proofs.Frames.{spot, at-more, at-place}

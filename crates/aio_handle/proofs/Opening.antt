@@ -1,5 +1,8 @@
 -- A new table meets the rule: each handle is Idle at the first generation, and nobody knows more.
-use Rattle.std.proofs.Common.{◌≡◌, ◌≢◌, ℕ, zero, suc, ◌+◌, ◌-◌, ◌*◌, ◌^◌, ◌<◌, ◌≤◌, ◌==◌, Bool, true, false, List, [], ◌∷◌, ◌++◌, map, length, get_or, replicate, sum_by, le_refl, refl, sym, ap, ◌∙◌, subst, ⊎_elim, arith, length-append, append-nil, Option, Some, None, slice_get}
+use Rattle.std.proofs.Common.{◌≡◌, ◌≢◌, ℕ, zero, suc, ◌+◌, ◌-◌, ◌*◌, ◌^◌, ◌<◌, ◌≤◌, ◌==◌, Bool}
+use Rattle.std.proofs.Common.{true, false, List, [], ◌∷◌, ◌++◌, map, length, get_or, replicate}
+use Rattle.std.proofs.Common.{sum_by, le_refl, refl, sym, ap, ◌∙◌, subst, ⊎_elim, arith}
+use Rattle.std.proofs.Common.{length-append, append-nil, Option, Some, None, slice_get}
 use Rattle.std.proofs.lemmas.List.Sums.{sum_by-cons}
 use Rattle.std.proofs.lemmas.Bool.Decides.{nat_tests}
 use mathlib.Core.Logic.{dite}
@@ -27,7 +30,8 @@ use Rattle.aio_handle.specs.Shown.{IsConfig}
 use Rattle.aio_handle.specs.declared.own.OwnHandle.{OwnHandle}
 use Rattle.aio_handle.specs.Own.{own_at, blank}
 use Rattle.aio_handle.specs.Remembered.{handle_at, Owns}
-use Rattle.aio_handle.specs.Ruled.{newcomer, newcomers, opened, KnownStands, HandleRuled, IsActor, Ruled}
+use Rattle.aio_handle.specs.Ruled.{newcomer, newcomers, opened, KnownStands, HandleRuled, IsActor}
+use Rattle.aio_handle.specs.Ruled.{Ruled}
 
 abbrev first : Config → Word
 first c = word_in Idle false Unended c.start

@@ -1,6 +1,9 @@
 -- What an actor remembers stays right over its events and looks, and tells which of its handles
 -- are free.
-use Rattle.std.proofs.Common.{◌≡◌, ◌≢◌, ◌↔◌, ℕ, ◌+◌, ◌*◌, ◌/◌, ◌%◌, ◌^◌, ◌-◌, ◌<◌, ◌≤◌, ◌==◌, ◌&&◌, nat_lt, min, ◌⊎◌, ⊎_elim, inl, inr, Bool, true, false, List, [], ◌∷◌, ◌++◌, length, set, length-set, refl, sym, ap, ◌∙◌, subst, arith, Option, Some, None}
+use Rattle.std.proofs.Common.{◌≡◌, ◌≢◌, ◌↔◌, ℕ, ◌+◌, ◌*◌, ◌/◌, ◌%◌, ◌^◌, ◌-◌, ◌<◌, ◌≤◌, ◌==◌, ◌&&◌}
+use Rattle.std.proofs.Common.{nat_lt, min, ◌⊎◌, ⊎_elim, inl, inr, Bool, true, false, List, [], ◌∷◌}
+use Rattle.std.proofs.Common.{◌++◌, length, set, length-set, refl, sym, ap, ◌∙◌, subst, arith}
+use Rattle.std.proofs.Common.{Option, Some, None}
 use Rattle.std.proofs.lemmas.List.{get_or-set_same, get_or-set_other}
 use Rattle.std.proofs.lemmas.List.Sums.{sum_by_push}
 use Rattle.std.proofs.lemmas.Nat.{div_below, mod_below, div-mul-add}
@@ -155,25 +158,25 @@ unspent-reclaimed : (c : Config) (p q : Known) (h g' : ℕ) → q.number ≡ p.n
     → AreUnspent c p → AreUnspent c q
 unspent-reclaimed c p q h g' en em gen u i g own-i le = dite (ℕ_discrete i h)
     (λ e.
-        let own-h : q.number ≡ owner c h = subst (λ (z : ℕ). q.number ≡ owner c z) e own-i in
-        let le-h : c.start + lives h q.marks ≤ g =
-        subst (λ (z : ℕ). c.start + lives z q.marks ≤ g) e le in
-        let more : lives h q.marks ≡ lives h p.marks + 1 = ap (lives h) em ∙
-        lives-more h g' p.marks in
-        let old : times h (8 * g + 7) p.marks ≡ 0 = u h g (sym en ∙ own-h) (omega arith) in
-        let push = times-push h (8 * g + 7) p.marks (mark h g' kind.Reclaimed) in
-        let no = rank-else (h == h) (8 * g' + 7) (8 * g + 7) (λ x. omega arith) in
-        let here : times h (8 * g + 7) q.marks ≡ 0 = ap (times h (8 * g + 7)) em ∙
-        (push ∙ (omega arith)) in
-        subst (λ (z : ℕ). times z (8 * g + 7) q.marks ≡ 0) (sym e) here)
+    let own-h : q.number ≡ owner c h = subst (λ (z : ℕ). q.number ≡ owner c z) e own-i in
+    let le-h : c.start + lives h q.marks ≤ g =
+    subst (λ (z : ℕ). c.start + lives z q.marks ≤ g) e le in
+    let more : lives h q.marks ≡ lives h p.marks + 1 = ap (lives h) em ∙
+    lives-more h g' p.marks in
+    let old : times h (8 * g + 7) p.marks ≡ 0 = u h g (sym en ∙ own-h) (omega arith) in
+    let push = times-push h (8 * g + 7) p.marks (mark h g' kind.Reclaimed) in
+    let no = rank-else (h == h) (8 * g' + 7) (8 * g + 7) (λ x. omega arith) in
+    let here : times h (8 * g + 7) q.marks ≡ 0 = ap (times h (8 * g + 7)) em ∙
+    (push ∙ (omega arith)) in
+    subst (λ (z : ℕ). times z (8 * g + 7) q.marks ≡ 0) (sym e) here)
     (λ ne.
-        let same : lives i q.marks ≡ lives i p.marks = ap (lives i) em ∙
-        (let push = lives-push i h g' kind.Reclaimed p.marks in
-        let no = handle-else i h (7 == 7) ne in push ∙ (omega arith)) in
-        let old : times i (8 * g + 7) p.marks ≡ 0 = u i g (sym en ∙ own-i) (omega arith) in
-        let push = times-push i (8 * g + 7) p.marks (mark h g' kind.Reclaimed) in
-        let no = handle-else i h (8 * g' + 7 == 8 * g + 7) ne in
-        ap (times i (8 * g + 7)) em ∙ (push ∙ (omega arith)))
+    let same : lives i q.marks ≡ lives i p.marks = ap (lives i) em ∙
+    (let push = lives-push i h g' kind.Reclaimed p.marks in
+    let no = handle-else i h (7 == 7) ne in push ∙ (omega arith)) in
+    let old : times i (8 * g + 7) p.marks ≡ 0 = u i g (sym en ∙ own-i) (omega arith) in
+    let push = times-push i (8 * g + 7) p.marks (mark h g' kind.Reclaimed) in
+    let no = handle-else i h (8 * g' + 7 == 8 * g + 7) ne in
+    ap (times i (8 * g + 7)) em ∙ (push ∙ (omega arith)))
 
 module _ (c : Config) (own : List OwnHandle) (turn claims : ℕ) (b : Bool) where
   pub remembers-looked : (h : ℕ) (w : Word) (p q : Known) → Looked h w p q
@@ -546,6 +549,6 @@ served-at-rest c p room backend r rests none =
     let (h, lt, own-h, is) = r.exact backend in
     ⊎_elim (λ le. omega arith)
     (λ amid.
-        let over = rests.1 (ref h (generation_of c p h)) in
-        let one = amid.0 in
-        let two = amid.1 in omega arith) (none h lt own-h)
+    let over = rests.1 (ref h (generation_of c p h)) in
+    let one = amid.0 in
+    let two = amid.1 in omega arith) (none h lt own-h)

@@ -41,5 +41,5 @@ served c p q room ended refusal.NoneFree backend r lt same lived rests none =
     let few = lived h in
     ⊎_elim (λ last. omega arith)
     (λ amid.
-        let over = rests.1 (ref h (generation_of c q h)) in
-        let (defined, kept) = amid in omega arith) (none.1 h range (same ∙ own))
+    let over = rests.1 (ref h (generation_of c q h)) in
+    let (defined, kept) = amid in omega arith) (none.1 h range (same ∙ own))

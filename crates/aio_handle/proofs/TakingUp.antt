@@ -2,7 +2,6 @@
 use Rattle.std.proofs.Common.{◌≡◌, ℕ, List, [], ◌∷◌, ◌++◌, refl, subst, append_assoc, arith}
 use Rattle.aio_word.specs.declared.Mark.{Mark}
 use Rattle.aio_word.specs.declared.Known.{Known}
-use Rattle.aio_word.specs.declared.Word.{Word}
 use Rattle.aio_word.specs.declared.WaitRef.{WaitRef}
 use Rattle.aio_word.specs.declared.Kind.TheVariants as kind
 use Rattle.aio_word.specs.declared.Step.TheVariants as event
@@ -10,8 +9,8 @@ use Rattle.aio_word.specs.Tokens.{Grows, Took, io_marks, failed_marks, mark_at}
 use Rattle.aio_word.proofs.Frames.{took-more, io-more, failed-more}
 use Rattle.aio_handle.specs.Executing.{TakesUp}
 use Rattle.aio_handle.specs.LifeWords.{unclaimed, claimed}
-use Rattle.aio_handle.specs.Made.{Made, Looked}
-use Rattle.aio_handle.proofs.Growing.{look-on, claim-grows, grows-then, took-nothing}
+use Rattle.aio_handle.specs.Made.{Made}
+use Rattle.aio_handle.proofs.Growing.{claim-grows, grows-then, took-nothing}
 
 -- an actor that only looked has taken nothing up
 pub takes_nothing : (p q : Known) (reads faults : ℕ) → Grows p q []

@@ -1,5 +1,6 @@
 //! The executor's calls: an I/O is claimed, executed and shared.
-ghost use Rattle.std.specs.Prelude.{◌≡◌, ◌≢◌, ◌<◌, [], true, false, Some, None, IfSome, IfNone, IsTrue, IsFalse};
+ghost use Rattle.std.specs.Prelude.{◌≡◌, ◌≢◌, ◌<◌, [], true, false, Some, None, IfSome, IfNone};
+ghost use Rattle.std.specs.Prelude.{IsTrue, IsFalse};
 ghost use Rattle.aio_word.specs.declared.Class.{Class};
 ghost use Rattle.aio_word.specs.declared.Class.TheVariants.{Unended};
 ghost use Rattle.aio_word.specs.declared.Step.TheVariants.{Claim, Io, Shared};

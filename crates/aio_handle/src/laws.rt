@@ -13,7 +13,8 @@ ghost use Rattle.aio_word.specs.declared.WaitRef.{WaitRef};
 ghost use Rattle.aio_word.specs.declared.Word.{Word};
 ghost use Rattle.aio_word.specs.Events.{mark_at, ref, lives};
 ghost use Rattle.aio_word.specs.Stands.{IsIn, Stands, seen_of};
-ghost use Rattle.aio_word.specs.Tokens.{Grows, Keeps, IsClaimed, io_marks, claimed_marks, failed_marks, failed_results};
+ghost use Rattle.aio_word.specs.Tokens.{Grows, Keeps, IsClaimed, io_marks, claimed_marks};
+ghost use Rattle.aio_word.specs.Tokens.{failed_marks, failed_results};
 ghost use Rattle.aio_word.specs.Words.{last_generation};
 ghost use Rattle.aio_handle.specs.declared.actor.AcquireRefusal.{AcquireRefusal};
 ghost use Rattle.aio_handle.specs.Closing.{Ends, IsExecutedIn, IsAtRest};
@@ -95,9 +96,9 @@ pub fn failed_results_are_failed_executions()
         ≤ sum_by (λ (p : Known). failed_marks p.marks) parts }
 {}
 
-/// A backend at rest is never refused a handle where fewer lives of a handle have ended since it had
-/// this room. `Actor::room` gives the room, and with none ended since, it is that of the list
-/// itself.
+/// A backend at rest is never refused a handle where fewer lives of each handle have ended since
+/// than it then had room for. `Actor::room` gives the room; with none ended since, it is the room
+/// that it has.
 pub fn a_backend_at_rest_with_room_is_served()
     ensures { (c : Config) (p q : Known) (room ended : ℕ) (why : AcquireRefusal)
         → p.number < c.backends → IsRoom c p room → ended < room → q.number ≡ p.number

@@ -1,5 +1,6 @@
 //! The table of handles.
-ghost use Rattle.std.specs.Prelude.{◌≡◌, ◌*◌, ◌^◌, ◌<◌, [], false, List, ◌∷◌, ◌+◌, ◌≤◌, IfOk, length};
+ghost use Rattle.std.specs.Prelude.{◌≡◌, ◌*◌, ◌^◌, ◌<◌, [], false, List, ◌∷◌, ◌+◌, ◌≤◌, IfOk};
+ghost use Rattle.std.specs.Prelude.{length};
 ghost use Rattle.aio_word.specs.declared.Class.{Class};
 ghost use Rattle.aio_word.specs.declared.Word.{Word};
 ghost use Rattle.aio_word.specs.declared.Known.{Known};
@@ -39,7 +40,8 @@ impl<R: Record, W: World> Model for Table<R, W> {
 
     ghost view = { λ t. record { table = t.inner.shared.table_id; config = t.config } };
 
-    ghost invariant = { λ t. (t.inner.shared.key ≡ t.config) × (t.inner.shared.table_id.words ≡ handles t.config)
+    ghost invariant = { λ t. (t.inner.shared.key ≡ t.config)
+        × (t.inner.shared.table_id.words ≡ handles t.config)
         × (t.inner.shared.table_id.slots ≡ handles t.config) × (handles t.config ≡ W.handles)
         × IsConfig t.config × (t.sleepers ≡ handles t.config) };
 }
@@ -76,7 +78,8 @@ impl<R: Record, W: World> Table<R, W> {
     /// A table whose handles are all Idle at generation `start`, and its actors in the order of
     /// their numbers, the backends first: backend `b` owns the handles from `b * per_backend` to
     /// `(b + 1) * per_backend - 1`. It takes all memory that the table and its actors ever take:
-    /// a word, a slot with room for a record, a count of sleepers and an owner's note for each handle.
+    /// a word, a slot with room for a record, a count of sleepers and an owner's note for each
+    /// handle.
     pub fn open(
         alloc: Global,
         backends: u32,

@@ -43,5 +43,7 @@ returns-clause-some g c =
     (own_at c.as_slice-own.result.now c.in-Some.place).generation)) c.self.view_is
     (subst (λ (z : Config × WaitRef). (z.1.handle < handles z.0)
     × IsFree z.0 (known_of c.self.inside.seat.me.0) z.1)
-    (λ k. (sym c.self.invariant.0.config k,
-    t (number k) (own_at (sym own k) c.in-Some.place).generation)) free)
+    (λ k. (
+      sym c.self.invariant.0.config k,
+      t (number k) (own_at (sym own k) c.in-Some.place).generation,
+    )) free)
