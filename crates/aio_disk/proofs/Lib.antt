@@ -1,2 +1,4 @@
 pub mod Logs
 pub mod Shorts
+pub mod Sources
+pub mod Runs

@@ -7,3 +7,4 @@ pub mod Steady
 pub mod Script
 pub mod Scripted
 pub mod MemSink
+pub mod Source

@@ -1,15 +1,13 @@
 //! Real files as disks.
-ghost use Rattle.std.specs.Prelude.{◌≡◌, ◌≤◌, ◌<◌, ◌^◌, None, length, IfOk};
+ghost use Rattle.std.specs.Prelude.{◌≡◌, ◌≤◌, None, length, IfOk};
 
+use crate::source::{RUN, count_blocks, read_blocks};
 use crate::{DeviceFault, Disk, OpenFault, Shelf};
 use page_check::{PAGE_SIZE, Page};
 use std::fs::{self, File, FileType};
-use std::io::{self, Seek, SeekFrom};
-use std::os::unix::fs::{FileExt, FileTypeExt};
+use std::io;
+use std::os::unix::fs::FileTypeExt;
 use std::rt::Files;
-
-/// How many blocks one system call reads at most.
-const RUN: usize = 16;
 
 /// Relation files that are open for reading, and room for one run of blocks. It does not tell
 /// what they hold.
@@ -20,97 +18,7 @@ pub struct FileDisk {
     faults: u64,
     length_faults: u64,
     reads: u64,
-}
-
-// How many whole blocks a file has, by its end (`FileSize` of `fd.c`).
-fn file_blocks(mut file: &File) -> io::Result<u32> {
-    let blocks = file.seek(SeekFrom::End(0))? / PAGE_SIZE as u64;
-    Ok(blocks.min(u64::from(u32::MAX)) as u32)
-}
-
-// Reads until the bytes hold at least one whole block, or to the file's end, and says how many
-// bytes.
-fn read_some(file: &File, offset: u64, bytes: &mut [u8]) -> io::Result<usize>
-    requires { offset < 2 ^ 62 }
-    ensures { IfOk result (λ n. n ≤ length bytes.new) }
-{
-    let mut done = 0;
-    for _ in 0..u64::MAX {
-        if done >= bytes.len().min(PAGE_SIZE) {
-            return Ok(done);
-        }
-        match file.read_at(&mut bytes[done..], offset + done as u64) {
-            Ok(0) => return Ok(done),
-            Ok(n) => done += n,
-            Err(e) if e.kind() == io::ErrorKind::Interrupted => {}
-            Err(e) => return Err(e),
-        }
-    }
-    Ok(done)
-}
-
-// Reads one block in place, and says how many whole blocks that gave.
-fn read_block(file: &File, block: u64, page: &mut Page) -> io::Result<usize>
-    requires { block < 2 ^ 33 }
-    ensures { IfOk result (λ n. n ≤ 1) }
-{
-    let got = read_some(file, block * PAGE_SIZE as u64, page.bytes_mut())?;
-    Ok(got / PAGE_SIZE)
-}
-
-// Reads a run of blocks by way of the buffer, and says how many.
-fn read_run(file: &File, block: u64, buffer: &mut [u8], pages: &mut [Page]) -> io::Result<usize>
-    requires { block < 2 ^ 33 }
-    ensures { IfOk result (λ n. n ≤ length pages.new) }
-{
-    let room = pages.len().min(buffer.len() / PAGE_SIZE);
-    let bytes = &mut buffer[..room * PAGE_SIZE];
-    let got = read_some(file, block * PAGE_SIZE as u64, bytes)?;
-    let count = got / PAGE_SIZE;
-    for index in 0..count {
-        let start = index * PAGE_SIZE;
-        pages[index]
-            .bytes_mut()
-            .copy_from_slice(&bytes[start..start + PAGE_SIZE]);
-    }
-    Ok(count)
-}
-
-// Reads run by run, and says how many blocks. It ends at a run that is not whole, and at a fault
-// behind a whole block.
-fn read_runs(file: &File, first: u32, buffer: &mut [u8], pages: &mut [Page]) -> io::Result<usize>
-    requires { length pages.old ≤ 128 }
-    ensures { IfOk result (λ n. n ≤ length pages.new) }
-{
-    let mut done = 0;
-    for start in (0..pages.len()).step_by(RUN) {
-        let end = pages.len().min(start + RUN);
-        match read_run(
-            file,
-            u64::from(first) + start as u64,
-            buffer,
-            &mut pages[start..end],
-        ) {
-            Ok(count) => done = start + count,
-            Err(_) if start > 0 => return Ok(done),
-            Err(e) => return Err(e),
-        }
-        if done < end {
-            return Ok(done);
-        }
-    }
-    Ok(done)
-}
-
-// Reads whole blocks, and says how many.
-fn read_blocks(file: &File, first: u32, buffer: &mut [u8], pages: &mut [Page]) -> io::Result<usize>
-    requires { length pages.old ≤ 128 }
-    ensures { IfOk result (λ n. n ≤ length pages.new) }
-{
-    match pages {
-        [page] => read_block(file, u64::from(first), page),
-        _ => read_runs(file, first, buffer, pages),
-    }
+    ghost room: { 131072 ≤ length buffer.items },
 }
 
 impl Disk for FileDisk {
@@ -125,21 +33,19 @@ impl Disk for FileDisk {
     ghost reads = { λ disk. disk.reads };
 
     fn blocks(&mut self, relation: u32) -> Result<u32, DeviceFault> {
-        match file_blocks(&self.files[relation as usize]) {
-            Ok(blocks) => Ok(blocks),
-            Err(_) => {
-                self.length_faults = self.length_faults.saturating_add(1);
-                Err(DeviceFault)
-            }
+        let blocks = count_blocks(&mut self.files[relation as usize]);
+        if blocks.is_err() {
+            self.length_faults = self.length_faults.saturating_add(1);
         }
+        blocks
     }
 
     /// Reads in place where one page is asked for, and else by runs of up to 16 blocks, each of
     /// them one system call. After a fault behind a whole block it answers the pages before it.
     fn read(&mut self, relation: u32, first: u32, pages: &mut [Page]) -> Result<u32, DeviceFault> {
         self.reads = self.reads.saturating_add(1);
-        let buffer = self.buffer.as_mut_slice();
-        match read_blocks(&self.files[relation as usize], first, buffer, pages) {
+        let file = &mut self.files[relation as usize];
+        match read_blocks(file, first, self.buffer.as_mut_slice(), pages) {
             Ok(count) => Ok(count as u32),
             Err(_) => {
                 self.faults = self.faults.saturating_add(1);

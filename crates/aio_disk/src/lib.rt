@@ -24,6 +24,7 @@ mod script;
 mod shared;
 mod shelf;
 mod sink;
+mod source;
 mod std_sink;
 mod steady;
 

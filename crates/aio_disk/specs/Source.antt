@@ -1,0 +1,80 @@
+-- What a source of bytes tells, and what its calls give.
+use Rattle.std.specs.Prelude.{◌≡◌, ◌⊎◌, ℕ, ◌+◌, ◌-◌, ◌^◌, ◌<◌, ◌≤◌, List, [], ◌∷◌, take, drop, length, min}
+use Rattle.std.specs.Prelude.{Option, IfSome, Result, Ok, Err}
+use Rattle.std.specs.Option.{option_map}
+use Rattle.page_check.specs.Told.{told_in}
+use Rattle.aio_disk.specs.Disk.{ReadsPages}
+use Rattle.aio_disk.specs.declared.source.ReadFault.{ReadFault}
+use Rattle.aio_disk.specs.declared.source.ReadFault.TheVariants.{Device, Interrupted}
+
+-- the bytes, how often a call has failed, and how often one was interrupted
+pub record Source : Type 0 where
+  pub bytes : List ℕ
+  pub faults : ℕ
+  pub interrupts : ℕ
+
+-- with so many faults and interrupted calls more
+abbrev pub later : ℕ → ℕ → Source → Source
+later faults interrupts source = record source {
+  faults = source.faults + faults;
+  interrupts = source.interrupts + interrupts;
+}
+
+-- so many calls have failed, and at least so many were interrupted
+abbrev pub Passed : Option Source → Option Source → ℕ → ℕ → Type 0
+Passed before now faults interrupts =
+    (more : ℕ) × (now ≡ option_map (later faults (interrupts + more)) before)
+
+-- no call failed
+abbrev pub NoneFailed : Option Source → Option Source → Type 0
+NoneFailed before now = Passed before now 0 0
+
+-- one call failed, or 2^64 - 1 calls were interrupted
+abbrev pub OneFailed : Option Source → Option Source → Type 0
+OneFailed before now = Passed before now 1 0 ⊎ Passed before now 0 (2 ^ 64 - 1)
+
+-- the first n bytes that were given are those from an offset on
+abbrev pub HoldsBytes : List ℕ → ℕ → ℕ → List ℕ → Type 0
+HoldsBytes bytes offset n given = take n given ≡ take n (drop offset bytes)
+
+-- some bytes were given: none at the end alone
+pub record GivesBytes (bytes : List ℕ) (offset n : ℕ) (given : List ℕ) : Type 0 where
+  pub held : HoldsBytes bytes offset n given
+  pub some : n ≡ 0 → 0 < length given → length bytes ≤ offset
+
+-- a whole block was given, or all that there is room for, or all up to the end
+pub record GivesBlock (bytes : List ℕ) (offset n : ℕ) (given : List ℕ) : Type 0 where
+  pub held : HoldsBytes bytes offset n given
+  pub enough : (min (length given) 8192 ≤ n) ⊎ (length bytes ≤ offset + n)
+
+-- the size, or a fault
+abbrev pub AnswersSize : {E : Type 0} → Option Source → Option Source → Result ℕ E → Type 0
+AnswersSize before now (Ok n) =
+    (now ≡ before) × IfSome before (λ source. n ≡ length source.bytes)
+AnswersSize before now (Err fault) = now ≡ option_map (later 1 0) before
+
+-- some bytes, or a fault, or nothing since the call was interrupted
+abbrev pub AnswersBytes : Option Source → Option Source → ℕ → List ℕ → Result ℕ ReadFault → Type 0
+AnswersBytes before now offset given (Ok n) =
+    (now ≡ before) × IfSome before (λ source. GivesBytes source.bytes offset n given)
+AnswersBytes before now offset given (Err Device) = now ≡ option_map (later 1 0) before
+AnswersBytes before now offset given (Err Interrupted) = now ≡ option_map (later 0 1) before
+
+-- the pages of blocks from `first` on
+abbrev pub ReadsBlocks : Source → ℕ → ℕ → List (List ℕ) → Type 0
+ReadsBlocks source first n pages = ReadsPages (told_in (source.bytes ∷ [])) 0 first n pages
+
+-- one run of blocks: their pages, or a fault
+abbrev pub GivesRun : {E : Type 0} → Option Source → Option Source → ℕ → List (List ℕ) → Result ℕ E
+    → Type 0
+GivesRun before now first pages (Ok n) =
+    NoneFailed before now × IfSome before (λ source. ReadsBlocks source first n pages)
+GivesRun before now first pages (Err fault) = OneFailed before now
+
+-- blocks: their pages, where a fault comes only behind one of them, or a fault
+abbrev pub GivesBlocks : {E : Type 0} → Option Source → Option Source → ℕ → List (List ℕ) → Result ℕ E
+    → Type 0
+GivesBlocks before now first pages (Ok n) =
+    (NoneFailed before now ⊎ ((0 < n) × OneFailed before now))
+    × IfSome before (λ source. ReadsBlocks source first n pages)
+GivesBlocks before now first pages (Err fault) = OneFailed before now

@@ -1,0 +1,203 @@
+//! What real files are read by: bytes that come in parts, and calls that fail or are interrupted.
+ghost use Rattle.std.specs.Prelude.{◌≡◌, ◌≤◌, ◌<◌, ◌+◌, ◌*◌, ◌^◌, ◌⊎◌, ◌∷◌, [], length, None, IfOk};
+ghost use Rattle.std.specs.Prelude.{IfSome, Option, MatchResult};
+ghost use Rattle.std.specs.Option.{option_map};
+ghost use Rattle.page_check.specs.Told.{block_count};
+ghost use Rattle.aio_disk.specs.Source.{Source, later, NoneFailed, OneFailed, GivesBytes, GivesBlock};
+ghost use Rattle.aio_disk.specs.Source.{AnswersSize, AnswersBytes, GivesRun, GivesBlocks};
+
+use crate::DeviceFault;
+use crate::shared::copy_blocks;
+use page_check::{PAGE_SIZE, Page};
+use std::fs::File;
+use std::io::{self, Seek, SeekFrom};
+use std::os::unix::fs::FileExt;
+
+/// How many blocks are read at once at most.
+pub(crate) const RUN: usize = 16;
+
+/// Why a read gave nothing.
+#[derive(Clone, Copy)]
+pub(crate) enum ReadFault {
+    /// The device failed.
+    Device,
+    /// A signal came first (`EINTR`): the call is to be made again.
+    Interrupted,
+}
+
+/// The bytes of one relation. It may tell them, and which of its calls failed.
+pub(crate) trait ByteSource {
+    /// What it tells.
+    ghost told: { Self → Option Source };
+
+    /// How many bytes there are.
+    fn size(&mut self) -> Result<u64, DeviceFault>
+        ensures { AnswersSize (told self.old) (told self.new) result };
+
+    /// Reads some bytes from an offset on, and says how many: none at the end alone.
+    fn read_at(&mut self, bytes: &mut [u8], offset: u64) -> Result<usize, ReadFault>
+        ensures few { IfOk result (λ n. n ≤ length bytes.new) }
+        ensures bytes { AnswersBytes (told self.old) (told self.new) offset bytes.new result };
+}
+
+impl ByteSource for File {
+    ghost told = { λ file. None };
+
+    fn size(&mut self) -> Result<u64, DeviceFault> {
+        self.seek(SeekFrom::End(0)).map_err(|_| DeviceFault)
+    }
+
+    fn read_at(&mut self, bytes: &mut [u8], offset: u64) -> Result<usize, ReadFault> {
+        match FileExt::read_at(self, bytes, offset) {
+            Ok(count) => Ok(count),
+            Err(error) if error.kind() == io::ErrorKind::Interrupted => Err(ReadFault::Interrupted),
+            Err(_) => Err(ReadFault::Device),
+        }
+    }
+}
+
+/// How many whole blocks there are (`FileSize` of `fd.c`).
+#[tactic(auto, unfolding(page_check::specs::Told::block_count))]
+pub(crate) fn count_blocks<S: ByteSource>(source: &mut S) -> Result<u32, DeviceFault>
+    ensures { MatchResult result
+        (λ n. (S.told source.new ≡ S.told source.old)
+        × IfSome (S.told source.old) (λ told. n ≡ block_count told.bytes))
+        (λ _. S.told source.new ≡ option_map (later 1 0) (S.told source.old)) }
+{
+    match source.size() {
+        Ok(size) => Ok((size / PAGE_SIZE as u64).min(u64::from(u32::MAX)) as u32),
+        Err(fault) => Err(fault),
+    }
+}
+
+// Reads some bytes, and makes a call that was interrupted again.
+fn read_part<S: ByteSource>(
+    source: &mut S,
+    bytes: &mut [u8],
+    offset: u64,
+) -> Result<usize, DeviceFault>
+    ensures few { IfOk result (λ n. n ≤ length bytes.new) }
+    ensures bytes { MatchResult result
+        (λ n. NoneFailed (S.told source.old) (S.told source.new)
+        × IfSome (S.told source.old) (λ told. GivesBytes told.bytes offset n bytes.new))
+        (λ _. OneFailed (S.told source.old) (S.told source.new)) }
+{
+    for _ in 0..u64::MAX {
+        match source.read_at(bytes, offset) {
+            Ok(count) => return Ok(count),
+            Err(ReadFault::Device) => return Err(DeviceFault),
+            Err(ReadFault::Interrupted) => {}
+        }
+    }
+    Err(DeviceFault)
+}
+
+// Reads until the bytes hold at least one whole block, or to the end, and says how many bytes.
+fn read_some<S: ByteSource>(
+    source: &mut S,
+    bytes: &mut [u8],
+    offset: u64,
+) -> Result<usize, DeviceFault>
+    requires { offset < 2 ^ 62 }
+    ensures few { IfOk result (λ n. n ≤ length bytes.new) }
+    ensures bytes { MatchResult result
+        (λ n. NoneFailed (S.told source.old) (S.told source.new)
+        × IfSome (S.told source.old) (λ told. GivesBlock told.bytes offset n bytes.new))
+        (λ _. OneFailed (S.told source.old) (S.told source.new)) }
+{
+    let mut done = 0;
+    while done < bytes.len().min(PAGE_SIZE) {
+        match read_part(source, &mut bytes[done..], offset + done as u64) {
+            Ok(0) => return Ok(done),
+            Ok(count) => done += count,
+            Err(fault) => return Err(fault),
+        }
+    }
+    Ok(done)
+}
+
+// Reads one block in place, and says how many that gave.
+fn read_page<S: ByteSource>(
+    source: &mut S,
+    first: u32,
+    page: &mut Page,
+) -> Result<usize, DeviceFault>
+    requires { first + 1 < 2 ^ 32 }
+    ensures few { IfOk result (λ n. n ≤ 1) }
+    ensures pages { GivesRun (S.told source.old) (S.told source.new) first (page.new ∷ []) result }
+{
+    let offset = PAGE_SIZE as u64 * u64::from(first);
+    match read_some(source, page.bytes_mut(), offset) {
+        Ok(got) => Ok(got / PAGE_SIZE),
+        Err(fault) => Err(fault),
+    }
+}
+
+// Reads a run of blocks by way of the buffer, and says how many.
+fn read_run<S: ByteSource>(
+    source: &mut S,
+    first: u32,
+    buffer: &mut [u8],
+    pages: &mut [Page],
+) -> Result<usize, DeviceFault>
+    requires some { 0 < length pages.old }
+    requires few { length pages.old ≤ 16 }
+    requires room { 131072 ≤ length buffer.old }
+    requires blocks { first + length pages.old < 2 ^ 32 }
+    ensures few { IfOk result (λ n. n ≤ length pages.new) }
+    ensures pages { GivesRun (S.told source.old) (S.told source.new) first pages.new result }
+{
+    let bytes = &mut buffer[..pages.len() * PAGE_SIZE];
+    match read_some(source, bytes, PAGE_SIZE as u64 * u64::from(first)) {
+        Ok(got) => Ok(copy_blocks(&bytes[..got], 0, u32::MAX, pages) as usize),
+        Err(fault) => Err(fault),
+    }
+}
+
+// Reads run by run, and says how many blocks. It ends at a run that is not whole, and at a fault
+// behind a whole block.
+fn read_runs<S: ByteSource>(
+    source: &mut S,
+    first: u32,
+    buffer: &mut [u8],
+    pages: &mut [Page],
+) -> Result<usize, DeviceFault>
+    requires some { 0 < length pages.old }
+    requires room { 131072 ≤ length buffer.old }
+    requires blocks { first + length pages.old < 2 ^ 32 }
+    ensures few { IfOk result (λ n. n ≤ length pages.new) }
+    ensures pages { GivesBlocks (S.told source.old) (S.told source.new) first pages.new result }
+{
+    let mut done = 0;
+    while done < pages.len() {
+        let end = pages.len().min(done + RUN);
+        match read_run(source, first + done as u32, buffer, &mut pages[done..end]) {
+            Ok(count) if count < end - done => return Ok(done + count),
+            Ok(_) => done = end,
+            Err(_) if done > 0 => return Ok(done),
+            Err(fault) => return Err(fault),
+        }
+    }
+    Ok(done)
+}
+
+/// Reads the pages of whole blocks, and says how many: none only from the end on. One page is read
+/// in place, and more by runs. After a fault behind a whole block it gives the pages before it.
+pub(crate) fn read_blocks<S: ByteSource>(
+    source: &mut S,
+    first: u32,
+    buffer: &mut [u8],
+    pages: &mut [Page],
+) -> Result<usize, DeviceFault>
+    requires some { 0 < length pages.old }
+    requires room { 131072 ≤ length buffer.old }
+    ensures few { IfOk result (λ n. n ≤ length pages.new) }
+    ensures pages { GivesBlocks (S.told source.old) (S.told source.new) first pages.new result }
+{
+    let room = pages.len().min((u32::MAX - first) as usize);
+    match &mut pages[..room] {
+        [] => Ok(0),
+        [page] => read_page(source, first, page),
+        pages => read_runs(source, first, buffer, pages),
+    }
+}
