@@ -1,0 +1,6 @@
+mod Counting
+mod Keeping
+mod Missing
+mod Reading
+mod Seeing
+mod Trying

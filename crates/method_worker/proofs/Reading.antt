@@ -1,0 +1,40 @@
+-- The lists of a seat that reads and pops.
+use Rattle.std.proofs.Common.{◌≡◌, ℕ, List, [], ◌∷◌, ◌++◌, sym, ap, ◌∙◌, subst, append-nil, append_assoc}
+use Rattle.atomic_table.specs.Seated.{TableId}
+use Rattle.aio_word.specs.declared.WaitRef.{WaitRef}
+use Rattle.method_worker.specs.declared.log.Log.{Log}
+use Rattle.method_worker.specs.declared.log.Notes.{Notes}
+use Rattle.method_worker.specs.Words.{notes}
+use Rattle.method_worker.specs.Shown.{Seating, seating}
+use Rattle.method_worker.specs.Seats.{Reads}
+
+-- the seat s read a closing word, and popped nothing
+pub read-none : (s : Seating) (a b a' b' : TableId) (v v' : Log) (n n' : Notes) (word : ℕ)
+    → seating a b v n ≡ s → v' ≡ v → n' ≡ notes n.closes (n.loads ++ word ∷ [])
+    → Reads [] (word ∷ []) s (seating a' b' v' n')
+read-none s a b a' b' v v' n n' word is same noted = subst
+    (λ (z : Seating). Reads [] (word ∷ []) z (seating a' b' v' n')) is (record {
+      pushes = ap (λ (u : Log). u.pushes) same;
+      pops = ap (λ (u : Log). u.pops) same ∙ sym (append-nil v.pops);
+      loads = ap (λ (m : Notes). m.loads) noted;
+      closes = ap (λ (m : Notes). m.closes) noted;
+    })
+
+pub reads-nothing : (s : Seating) → Reads [] [] s s
+reads-nothing s = record {
+  pushes = λ _. s.pushes;
+  pops = sym (append-nil s.pops);
+  loads = sym (append-nil s.loads);
+  closes = λ _. s.closes;
+}
+
+-- two calls that read, one after the other
+pub reads-then : (s s' s'' : Seating) (refs refs' : List WaitRef) (words words' : List ℕ)
+    → Reads refs words s s' → Reads refs' words' s' s''
+    → Reads (refs ++ refs') (words ++ words') s s''
+reads-then s s' s'' refs refs' words words' a b = record {
+  pushes = b.pushes ∙ a.pushes;
+  pops = b.pops ∙ (ap (λ (l : List WaitRef). l ++ refs') a.pops ∙ append_assoc s.pops refs refs');
+  loads = b.loads ∙ (ap (λ (l : List ℕ). l ++ words') a.loads ∙ append_assoc s.loads words words');
+  closes = b.closes ∙ a.closes;
+}

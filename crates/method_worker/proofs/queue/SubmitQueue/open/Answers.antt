@@ -1,0 +1,56 @@
+use Rattle.std.proofs.Common.{◌≡◌, ◌≢◌, ℕ, ◌+◌, ◌≤◌, ◌++◌, [], ◌∷◌, List, sym, subst, arith, rules}
+use Rattle.std.specs.List.{All}
+use Rattle.std.proofs.lemmas.List.Elements.{All-push}
+use Rattle.method_worker.specs.Shown.{Queue, Seating, IsNew, IsSeatOf}
+use Rattle.method_worker.proofs.queue.SubmitQueue.open.Goals as goal
+
+-- a seat of a queue of two seats is one of a queue of several
+of-several : (q : Queue) (n : ℕ) (s : Seating) → n ≢ 1 → IsNew q 2 s → IsNew q n s
+of-several q n s ne i = record {
+  of = i.of;
+  alone = λ e. absurd (ne e);
+  pushes = i.pushes;
+  pops = i.pops;
+  loads = i.loads;
+  closes = i.closes;
+}
+
+new-more : (q : Queue) (n : ℕ) (ss ss' : List Seating) (s : Seating) → ss' ≡ ss ++ s ∷ []
+    → All (IsNew q n) ss → IsNew q n s → All (IsNew q n) ss'
+new-more q n ss ss' s e all one = subst (λ (l : List Seating). All (IsNew q n) l) (sym e)
+    (All-push (IsNew q n) ss s all one)
+
+-- the first seat, with the parts that are left
+first-new : (q : Queue) (n m : ℕ) (s : Seating) → IsSeatOf q s → s.parts + m ≡ 49 → n + 1 ≤ m + 1
+    → m ≤ n → s.pushes ≡ [] → s.pops ≡ [] → s.loads ≡ [] → s.closes ≡ [] → IsNew q n s
+first-new q n m s of parts lo hi pushes pops loads closes = record {
+  of = of;
+  alone = λ e. omega (arith, parts, lo, hi, e);
+  pushes = pushes;
+  pops = pops;
+  loads = loads;
+  closes = closes;
+}
+
+pub loop-preserved : goal.loop-preserved
+loop-preserved g c =
+    let i = c.loop.invariant in
+    let more = c.loop-test.true in
+    let ne : c.args.seats ≢ 1 = λ e. omega (arith, i.count) in
+    record {
+      of = search rules;
+      parts = omega (arith, i.parts, c.seat-seat.ensures.parts);
+      pushes = search rules;
+      pops = search rules;
+      loads = search rules;
+      closes = search rules;
+      count = search rules;
+      all = new-more _ c.args.seats c.loop.all.items _ c.seat-seat.result c.push_reserved.ensures.items
+          i.all (of-several _ _ _ ne c.seat-seat.ensures.new);
+    }
+
+pub returns-clause-seats : goal.returns-clause-seats
+returns-clause-seats g c =
+    let i = c.loop.invariant in
+    new-more _ c.args.seats c.loop.all.items _ c.loop.first c.push_reserved-2.ensures.items i.all
+    (first-new _ c.args.seats c.loop.counter c.loop.first i.of i.parts (search rules) (search rules) i.pushes i.pops i.loads i.closes)

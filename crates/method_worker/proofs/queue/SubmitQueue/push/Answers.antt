@@ -1,0 +1,21 @@
+use Rattle.std.proofs.Common.{◌∙◌, refl, subst}
+use Rattle.crossbeam_queue.specs.Passes.{view}
+use Rattle.method_worker.specs.Shown.{Seating, seating}
+use Rattle.method_worker.specs.Seats.{WasFull}
+use Rattle.method_worker.proofs.Counting.{puts, learns, was-full}
+use Rattle.method_worker.proofs.queue.SubmitQueue.push.Goals as goal
+
+pub push_as-requires-clause-rule : goal.push_as-requires-clause-rule
+push_as-requires-clause-rule g c = (puts _ _ _ _ _ c.seat.invariant.1 c.requires.range, learns _ _ _)
+
+pub returns-in-Err-clause-full : goal.returns-in-Err-clause-full
+returns-in-Err-clause-full g c =
+    let old = c.seat.inside in
+    let new = c.push_as.new.pass in
+    let (is, same, held) = c.in-Err.ensures.rule in
+    let table = c.push_as.ensures.queue.0 in (
+      is,
+      (λ k. seating (table k) old.chair.table_id (same k) old.chair.me.0) ∙ c.seat.view_is,
+      subst (λ (s : Seating). WasFull g.W.World.handles s) c.seat.view_is
+          (was-full g.W.World.handles _ (view old.pass) _ refl c.self.invariant.0 held),
+    )

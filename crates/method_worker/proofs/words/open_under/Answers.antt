@@ -1,0 +1,6 @@
+use Rattle.std.proofs.Common.{rules}
+use Rattle.method_worker.proofs.Keeping.{opens}
+use Rattle.method_worker.proofs.words.open_under.Goals as goal
+
+pub store-requires : goal.store-requires
+store-requires c = (c.requires.fits.0, search rules, opens _ _ _ _)

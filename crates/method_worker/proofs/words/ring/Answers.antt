@@ -1,0 +1,6 @@
+use Rattle.std.proofs.Common.{rules, ◌+◌, ◌%◌, ◌^◌}
+use Rattle.method_worker.proofs.Keeping.{rings}
+use Rattle.method_worker.proofs.words.ring.Goals as goal
+
+pub fetch_add-requires : goal.fetch_add-requires
+fetch_add-requires c = (c.requires.fits.0, search rules, rings _ _ _ (λ n. (n + 1) % 2 ^ 64))

@@ -1,0 +1,7 @@
+pub mod Counted
+pub mod Words
+pub mod Shown
+pub mod Seats
+pub mod Began
+pub mod Working
+pub mod Trials

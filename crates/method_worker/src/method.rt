@@ -1,0 +1,57 @@
+//! The method that hands I/Os to workers.
+ghost use Rattle.std.specs.Prelude.{◌≡◌, ◌<◌, [], ◌∷◌, None};
+ghost use Rattle.aio_handle.specs.Executing.{TakesUp};
+ghost use Rattle.aio_handle.specs.Shown.{IsOf, IsSame};
+ghost use Rattle.method_worker.specs.Began.{Begins};
+ghost use Rattle.method_worker.specs.Shown.{IsSeatOf, IsSameSeat};
+
+use crate::queue::{QueueFull, QueueSeat, SubmitQueue};
+use crate::worker::take_up;
+use aio_batch::Method;
+use aio_callback::ReadIo;
+use aio_handle::{Actor, Execute, Table};
+use aio_word::WaitRef;
+use page_check::World;
+use std::sync::Wait;
+
+/// Pushes each I/O for the workers (`io_method=worker`, `pgaio_worker_submit` of
+/// `method_worker.c`). Where the queue is full, it tries to claim the I/O and executes it.
+#[derive(Drop)]
+pub struct WorkerMethod<'q, W: World> {
+    pub queue: &'q SubmitQueue<W>,
+    /// A seat of the queue.
+    pub seat: QueueSeat,
+    pub ghost of: { IsSeatOf queue.now seat },
+}
+
+impl<'q, W: World> Method<ReadIo, W> for WorkerMethod<'q, W> {
+    ghost heard = { λ _. None };
+
+    ghost stands_on = { λ m. m.queue.now.line ∷ m.queue.now.words ∷ [] };
+
+    fn begun<E: Execute<ReadIo, W>, T: Wait>(
+        &mut self,
+        rt: &T,
+        table: &Table<ReadIo, W>,
+        actor: &mut Actor<ReadIo, W>,
+        runner: &mut E,
+        reference: WaitRef,
+    )
+        requires table { IsOf table.now actor.old }
+        requires told { (E.told runner.old ≡ W.told) × (E.relations runner.old ≡ W.relations) }
+        requires range { reference.handle < W.handles }
+        ensures same { IsSame actor.old actor.new }
+        ensures told { (E.told runner.new ≡ E.told runner.old)
+            × (E.relations runner.new ≡ E.relations runner.old) }
+        ensures marks { TakesUp [] actor.old.known actor.new.known (E.reads runner.old)
+            (E.reads runner.new) (E.faults runner.old) (E.faults runner.new) }
+        ensures queue { self.new.queue.now ≡ self.old.queue.now }
+        ensures seat { IsSameSeat self.old.seat self.new.seat }
+        ensures begun { Begins W.handles reference self.old.seat self.new.seat actor.old.known
+            actor.new.known }
+    {
+        if let Err(QueueFull(reference)) = self.queue.push(rt, &mut self.seat, reference) {
+            take_up(rt, table, actor, runner, reference);
+        }
+    }
+}

@@ -1,0 +1,229 @@
+//! The submission queue and its seats.
+ghost use Rattle.std.specs.Prelude.{◌≡◌, ◌≤◌, ◌<◌, ◌+◌, ◌-◌, ◌^◌, ◌++◌, [], ◌∷◌, ℕ, List, min};
+ghost use Rattle.std.specs.Prelude.{length, IfOk, IfErr, OnOk};
+ghost use Rattle.aio_word.specs.declared.WaitRef.{WaitRef};
+ghost use Rattle.std.specs.List.{All};
+ghost use Rattle.method_worker.specs.Shown.{IsNew, IsSeatOf, IsSameSeat};
+ghost use Rattle.method_worker.specs.Seats.{MayHold, WasFull, Pushed, Popped, Closed};
+
+use crate::log::{Log, Notes};
+use crate::rule::{Cut, Line, LinePass, Puts, Takes};
+use crate::words::{
+    Chair, Words, another_chair, close_under, heard, load_closing, open_under, open_words, ring,
+    sleep, wake_all, wake_one,
+};
+use aio_word::WaitRef;
+use page_check::World;
+use std::alloc::{AllocError, Global};
+use std::marker::Model;
+use std::sync::Wait;
+use std::sync::atomic::{AtomicU64, Ordering};
+
+/// How many references the queue has room for.
+const ROOM: usize = 64;
+
+/// The greatest number of reopenings that is counted.
+const LAST_REOPENING: u64 = (1 << 63) - 1;
+
+/// What a pop answers.
+#[derive(Clone, Copy, Debug, PartialEq, Eq)]
+pub enum Pop {
+    /// The oldest entry.
+    Entry(WaitRef),
+    /// There is none, and the queue is open.
+    Empty,
+    /// There is none, and the queue is closed.
+    Closed,
+}
+
+/// The queue has 64 entries: the reference comes back.
+#[derive(Clone, Copy, Debug, PartialEq, Eq)]
+pub struct QueueFull(pub WaitRef);
+
+/// The submission queue of I/Os for workers (`PgAioWorkerSubmissionQueue` of `method_worker.c`): 64
+/// references, first in, first out, without a lock. Contracts see which queue it is, and how often
+/// it was opened again.
+#[derive(Drop)]
+pub struct SubmitQueue<W: World> {
+    line: Line<W>,
+    words: Words,
+    reopened: u64,
+    // How many workers are about to sleep on the bell, or asleep.
+    sleepers: AtomicU64,
+}
+
+impl<W: World> Model for SubmitQueue<W> {
+    ghost use Rattle.std.specs.Prelude.{◌≡◌, ◌<◌, ◌^◌};
+    ghost use Rattle.crossbeam_queue.specs.Passes.{ruled_capacity};
+    ghost use Rattle.method_worker.specs.Shown.{Queue};
+
+    ghost Value = { Queue };
+
+    ghost view = { λ q. record {
+      line = q.line.table.shared.table_id;
+      words = q.words.shared.table_id;
+      reopened = q.reopened;
+    } };
+
+    ghost invariant = { λ q. (ruled_capacity q.line ≡ 64) × (q.words.shared.table_id.words ≡ 2)
+        × (q.reopened < 2 ^ 63) };
+}
+
+/// A seat of a queue: who pushes and pops, one thread at a time. Contracts see what it has pushed
+/// and popped, the closing words that it has read, and the numbers of reopenings under which it has
+/// closed the queue.
+#[derive(Drop)]
+pub struct QueueSeat {
+    pass: LinePass,
+    chair: Chair,
+}
+
+impl Model for QueueSeat {
+    ghost use Rattle.std.specs.Prelude.{◌≡◌, ◌<◌, []};
+    ghost use Rattle.method_worker.specs.Shown.{Seating, seating};
+
+    ghost Value = { Seating };
+
+    ghost view = { λ s. seating s.pass.table_id s.chair.table_id s.pass.me.0.client s.chair.me.0 };
+
+    ghost invariant = { λ s. (s.pass.me.1 ≡ []) × (0 < s.pass.me.0.client.parts)
+        × (s.chair.me.1 ≡ []) };
+}
+
+impl<W: World> SubmitQueue<W> {
+    /// An open queue with no entries, and this many seats. It takes all memory that the queue ever
+    /// takes.
+    pub fn open(alloc: Global, seats: u32) -> Result<(SubmitQueue<W>, Vec<QueueSeat>), AllocError>
+        requires seats { (1 ≤ seats) × (seats ≤ 48) }
+        ensures queue { IfOk result (λ q. q.0.reopened ≡ 0) }
+        ensures count { IfOk result (λ q. length q.1.items ≡ seats) }
+        ensures seats { IfOk result (λ q. All (IsNew q.0 seats) q.1.items) }
+    {
+        let mut all = Vec::with_capacity(alloc, seats as usize)?;
+        let (line, pass) = Line::ruled(alloc, ROOM)?;
+        let (words, chair) = open_words(alloc)?;
+        let queue = SubmitQueue {
+            line,
+            words,
+            reopened: 0,
+            sleepers: AtomicU64::new(0),
+        };
+        let mut first = QueueSeat { pass, chair };
+        for _ in 1..seats {
+            let seat = queue.seat(&mut first);
+            all.push_reserved(seat);
+        }
+        all.push_reserved(first);
+        Ok((queue, all))
+    }
+
+    // A further seat, for one of the parts of this one.
+    fn seat(&self, first: &mut QueueSeat) -> QueueSeat
+        requires queue { IsSeatOf self.now first.old }
+        requires parts { 1 < first.old.parts }
+        ensures queue { IsSeatOf self.now first.new }
+        ensures parts { first.new.parts + 1 ≡ first.old.parts }
+        ensures same { (first.new.pushes ≡ first.old.pushes) × (first.new.pops ≡ first.old.pops)
+            × (first.new.loads ≡ first.old.loads) × (first.new.closes ≡ first.old.closes) }
+        ensures new { IsNew self.now 2 result }
+    {
+        QueueSeat {
+            pass: self.line.another::<Cut>(&mut first.pass),
+            chair: another_chair(&self.words, &mut first.chair),
+        }
+    }
+
+    /// Puts the reference at the back (`pgaio_worker_submission_queue_insert`), and wakes one
+    /// worker that sleeps. It makes a system call only where one sleeps.
+    ///
+    /// `QueueFull` comes only where at some moment of the call 64 entries stood in the queue; it
+    /// gives the reference back, and nothing is changed.
+    pub fn push<T: Wait>(
+        &self,
+        rt: &T,
+        seat: &mut QueueSeat,
+        reference: WaitRef,
+    ) -> Result<(), QueueFull>
+        requires queue { IsSeatOf self.now seat.old }
+        requires range { reference.handle < W.handles }
+        ensures same { IsSameSeat seat.old seat.new }
+        ensures pushed { OnOk result (Pushed reference seat.old seat.new) }
+        ensures moment { OnOk result ((items : List WaitRef)
+            × MayHold W.handles seat.new (items ++ reference ∷ [])) }
+        ensures full { IfErr result
+            (λ e. (e.0 ≡ reference) × (seat.new ≡ seat.old) × WasFull W.handles seat.old) }
+    {
+        if let Err(reference) = self
+            .line
+            .push_as::<Puts<W>, T>(rt, &mut seat.pass, reference)
+        {
+            return Err(QueueFull(reference));
+        }
+        ring(&self.words, &mut seat.chair);
+        if self.sleepers.load(Ordering::SeqCst) > 0 {
+            wake_one(&self.words);
+        }
+        Ok(())
+    }
+
+    /// Takes the oldest entry (`pgaio_worker_submission_queue_consume`).
+    ///
+    /// It reads the closing word first. Where it then finds no entry at some moment of the call,
+    /// the answer is `Closed` after a word that said so, and else `Empty`.
+    pub fn pop<T: Wait>(&self, rt: &T, seat: &mut QueueSeat) -> Pop
+        requires queue { IsSeatOf self.now seat.old }
+        ensures same { IsSameSeat seat.old seat.new }
+        ensures popped { (word : ℕ) × Popped W.handles word seat.old seat.new result }
+    {
+        let word = load_closing(&self.words, &mut seat.chair);
+        if let Some(reference) = self.line.pop_as::<Takes<W>, T>(rt, &mut seat.pass) {
+            return Pop::Entry(reference);
+        }
+        if word % 2 == 1 {
+            return Pop::Closed;
+        }
+        Pop::Empty
+    }
+
+    /// Closes the queue, and wakes all workers that sleep. Entries stay and are still popped. A
+    /// queue that is closed stays so.
+    pub fn close<T: Wait>(&self, rt: &T, seat: &mut QueueSeat)
+        requires queue { IsSeatOf self.now seat.old }
+        ensures same { IsSameSeat seat.old seat.new }
+        ensures closed { Closed self.now.reopened seat.old seat.new }
+    {
+        let _ = rt;
+        close_under(&self.words, &mut seat.chair, self.reopened);
+        ring(&self.words, &mut seat.chair);
+        if self.sleepers.load(Ordering::SeqCst) > 0 {
+            wake_all(&self.words);
+        }
+    }
+
+    /// Opens the queue again. Its entries stay. Reopenings are counted up to 2^63 - 1.
+    pub fn reopen(&mut self, seat: &mut QueueSeat)
+        requires queue { IsSeatOf self.old seat.old }
+        ensures queue { (self.new.line ≡ self.old.line) × (self.new.words ≡ self.old.words) }
+        ensures number { self.new.reopened ≡ min (self.old.reopened + 1) (2 ^ 63 - 1) }
+        ensures seat { seat.new ≡ seat.old }
+    {
+        if self.reopened < LAST_REOPENING {
+            self.reopened += 1;
+        }
+        open_under(&self.words, &mut seat.chair, self.reopened);
+    }
+
+    /// The bell, which each push and each close raises.
+    pub(crate) fn bell(&self) -> u64 {
+        heard(&self.words)
+    }
+
+    // Sleeps until a push or a close since this bell was read, or a wake for no reason. Who sleeps
+    // is counted before the bell is looked at for the last time, and the bell is raised before the
+    // count is read: so either the count shows the sleeper or it does not sleep.
+    pub(crate) fn rest<T: Wait>(&self, rt: &T, bell: u64) {
+        self.sleepers.fetch_add(1, Ordering::SeqCst);
+        sleep(rt, &self.words, bell);
+        self.sleepers.fetch_sub(1, Ordering::SeqCst);
+    }
+}
