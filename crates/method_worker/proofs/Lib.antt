@@ -1,6 +1,5 @@
 mod Counting
 mod Keeping
-mod Missing
 mod Reading
 mod Seeing
 mod Trying

@@ -4,7 +4,6 @@ use Rattle.std.specs.List.{All}
 use Rattle.std.proofs.lemmas.List.Elements.{All-push, All-append, All-nil}
 use Rattle.aio_word.specs.declared.Known.{Known}
 use Rattle.aio_word.specs.declared.Kind.TheVariants as kind
-use Rattle.aio_word.specs.declared.Step.TheVariants as event
 use Rattle.aio_word.specs.declared.Look.{Look}
 use Rattle.aio_word.specs.declared.Mark.{Mark}
 use Rattle.aio_word.specs.declared.WaitRef.{WaitRef}
@@ -13,9 +12,7 @@ use Rattle.aio_word.specs.Words.{packed}
 use Rattle.aio_word.specs.Tokens.{Grows, mark_at}
 use Rattle.aio_word.proofs.Parts.{in-left, in-right}
 use Rattle.aio_handle.specs.Changes.{look}
-use Rattle.aio_handle.specs.Executing.{TakesUp}
-use Rattle.aio_handle.specs.LifeWords.{unclaimed, claimed}
-use Rattle.aio_handle.specs.Made.{Made, Looked}
+use Rattle.aio_handle.specs.Tried.{Won, Lost}
 use Rattle.aio_handle.proofs.Growing.{claim-grows, grows-then}
 use Rattle.std.proofs.lemmas.Bool.{false≢true}
 use Rattle.method_worker.specs.Shown.{Seating}
@@ -24,27 +21,34 @@ use Rattle.method_worker.specs.Working.{Claims, FindsTaken, SeesTo, Turned, Work
 use Rattle.method_worker.proofs.Reading.{reads-nothing, reads-then}
 
 -- a claim that was won, and what the executor did then
-pub claims-then : (t : WaitRef) (held : List Mark) (aim : List ℕ) (p q r : Known) (reads reads' faults faults' : ℕ)
-    → Made event.Claim t.handle (unclaimed t.generation) (claimed t.generation) aim p q
-    → TakesUp held q r reads reads' faults faults' → SeesTo p r t
-claims-then t held aim p q r reads reads' faults faults' m a = inl (record {
-  more = (mark_at t kind.Claimed ∷ []) ++ a.more;
-  marks = (grows-then p q r (mark_at t kind.Claimed ∷ []) a.more
-      (claim-grows t.handle t.generation aim p q m) a.grows).marks;
-  claimed = inl refl;
-})
+sees-won : (t : WaitRef) (p q : Known) (reads reads' faults faults' : ℕ)
+    → Won t p q reads reads' faults faults' → SeesTo p q t
+sees-won t p q reads reads' faults faults' w =
+    inl (record {
+      more = (mark_at t kind.Claimed ∷ []) ++ w.ended.more;
+      marks = (grows-then p w.between q (mark_at t kind.Claimed ∷ []) w.ended.more
+          (claim-grows t.handle t.generation w.aim p w.between w.made) w.ended.grows).marks;
+      claimed = inl refl;
+    })
 
 -- a claim that was lost
-pub finds-taken : (t : WaitRef) (w : Word) (p q : Known) → Looked t.handle w p q
-    → w ≢ unclaimed t.generation → SeesTo p q t
-finds-taken t w p q l ne = inr (record {
-  more = look t.handle (packed w) ∷ [];
-  looks = ap (λ (z : Known). z.looks) l.is;
-  word = w;
-  lawful = l.lawful;
-  found = inl refl;
-  other = ne;
-})
+sees-lost : (t : WaitRef) (p q : Known) → Lost t p q → SeesTo p q t
+sees-lost t p q l =
+    inr (record {
+      more = look t.handle (packed l.found) ∷ [];
+      looks = ap (λ (z : Known). z.looks) l.looked.is;
+      word = l.found;
+      lawful = l.looked.lawful;
+      found = inl refl;
+      other = l.other;
+    })
+
+-- whether the claim was won or lost, the actor saw to the I/O
+pub sees-tried : (won : Bool) (t : WaitRef) (p q : Known) (reads reads' faults faults' : ℕ)
+    → (won ≡ true → Won t p q reads reads' faults faults') → (won ≡ false → Lost t p q) → SeesTo p q t
+sees-tried true t p q reads reads' faults faults' w l =
+    sees-won t p q reads reads' faults faults' (w refl)
+sees-tried false t p q reads reads' faults faults' w l = sees-lost t p q (l refl)
 
 pub sees-later : (t : WaitRef) (ms : List Mark) (p q r : Known) → SeesTo p q t → Grows q r ms → SeesTo p r t
 sees-later t ms p q r s g = ⊎_elim

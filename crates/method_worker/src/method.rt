@@ -6,7 +6,6 @@ ghost use Rattle.method_worker.specs.Began.{Begins};
 ghost use Rattle.method_worker.specs.Shown.{IsSeatOf, IsSameSeat};
 
 use crate::queue::{QueueFull, QueueSeat, SubmitQueue};
-use crate::worker::take_up;
 use aio_batch::Method;
 use aio_callback::ReadIo;
 use aio_handle::{Actor, Execute, Table};
@@ -51,7 +50,7 @@ impl<'q, W: World> Method<ReadIo, W> for WorkerMethod<'q, W> {
             actor.new.known }
     {
         if let Err(QueueFull(reference)) = self.queue.push(rt, &mut self.seat, reference) {
-            take_up(rt, table, actor, runner, reference);
+            table.try_execute(rt, actor, reference, runner);
         }
     }
 }

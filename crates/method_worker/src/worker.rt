@@ -1,42 +1,15 @@
 //! The worker's loop.
-ghost use Rattle.std.specs.Prelude.{◌≡◌, ◌<◌, []};
+ghost use Rattle.std.specs.Prelude.{◌≡◌, []};
 ghost use Rattle.aio_handle.specs.Executing.{TakesUp};
 ghost use Rattle.aio_handle.specs.Shown.{IsOf, IsSame};
-ghost use Rattle.method_worker.specs.Began.{SeesClaim};
 ghost use Rattle.method_worker.specs.Shown.{IsSeatOf, IsSameSeat};
-ghost use Rattle.method_worker.specs.Working.{SeesTo, Turned, Works};
+ghost use Rattle.method_worker.specs.Working.{Turned, Works};
 
 use crate::queue::{Pop, QueueSeat, SubmitQueue};
 use aio_callback::ReadIo;
 use aio_handle::{Actor, Execute, Table};
-use aio_word::WaitRef;
 use page_check::World;
 use std::sync::Wait;
-
-/// Claims the I/O and executes it, where nobody else has claimed it.
-pub(crate) fn take_up<W: World, E: Execute<ReadIo, W>, T: Wait>(
-    rt: &T,
-    table: &Table<ReadIo, W>,
-    actor: &mut Actor<ReadIo, W>,
-    runner: &mut E,
-    reference: WaitRef,
-)
-    requires table { IsOf table.now actor.old }
-    requires told { (E.told runner.old ≡ W.told) × (E.relations runner.old ≡ W.relations) }
-    requires range { reference.handle < W.handles }
-    ensures same { IsSame actor.old actor.new }
-    ensures told { (E.told runner.new ≡ E.told runner.old)
-        × (E.relations runner.new ≡ E.relations runner.old) }
-    ensures marks { TakesUp [] actor.old.known actor.new.known (E.reads runner.old)
-        (E.reads runner.new) (E.faults runner.old) (E.faults runner.new) }
-    ensures sees { SeesClaim reference actor.old.known actor.new.known }
-    ensures each { SeesTo actor.old.known actor.new.known reference }
-{
-    actor.keeps();
-    if let Some(claimed) = table.claim(actor, reference) {
-        runner.execute(rt, table, actor, claimed);
-    }
-}
 
 /// One turn of a worker: it pops once, and sees to the entry, or sleeps where the queue is empty
 /// and open. The answer is whether there may be more: false where the queue is empty and closed.
@@ -62,7 +35,7 @@ fn turn<W: World, E: Execute<ReadIo, W>, T: Wait>(
     let bell = queue.bell();
     match queue.pop(rt, seat) {
         Pop::Entry(reference) => {
-            take_up(rt, table, actor, runner, reference);
+            table.try_execute(rt, actor, reference, runner);
             return true;
         }
         Pop::Empty => {
