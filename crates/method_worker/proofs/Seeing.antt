@@ -1,5 +1,5 @@
 -- What a worker saw to stays so, whatever comes before or after.
-use Rattle.std.proofs.Common.{◌≡◌, ◌≢◌, ℕ, Bool, true, false, List, [], ◌∷◌, ◌++◌, refl, sym, ap, ◌∙◌, subst, inl, inr, ⊎_elim, append_assoc, append-nil, arith}
+use Rattle.std.proofs.Common.{◌≡◌, ℕ, Bool, true, false, List, [], ◌∷◌, ◌++◌, refl, sym, ap, ◌∙◌, subst, inl, inr, ⊎_elim, append_assoc, append-nil}
 use Rattle.std.specs.List.{All}
 use Rattle.std.proofs.lemmas.List.Elements.{All-push, All-append, All-nil}
 use Rattle.aio_word.specs.declared.Known.{Known}
@@ -7,7 +7,6 @@ use Rattle.aio_word.specs.declared.Kind.TheVariants as kind
 use Rattle.aio_word.specs.declared.Look.{Look}
 use Rattle.aio_word.specs.declared.Mark.{Mark}
 use Rattle.aio_word.specs.declared.WaitRef.{WaitRef}
-use Rattle.aio_word.specs.declared.Word.{Word}
 use Rattle.aio_word.specs.Words.{packed}
 use Rattle.aio_word.specs.Tokens.{Grows, mark_at}
 use Rattle.aio_word.proofs.Parts.{in-left, in-right}
@@ -131,14 +130,3 @@ turned-last handles s s' s'' p q r ns false i now t is = record {
   closed = t.2;
 }
 turned-last handles s s' s'' p q r ns true i now t is = absurd (false≢true (sym is))
-
-pub grows-none : (p : Known) → Grows p p []
-grows-none p = record {
-  number = refl;
-  config = refl;
-  out = refl;
-  marks = sym (append-nil p.marks);
-  seen = λ h. omega arith;
-  aims = λ e i. i;
-  looks = ([], sym (append-nil p.looks));
-}

@@ -79,7 +79,6 @@ fn submitted<W: World>(
     requires some { 0 < W.relations }
     requires room { 1 ≤ length io.pages }
     ensures same { IsSame actor.old actor.new }
-    ensures number { actor.new.known.number ≡ actor.old.known.number }
     ensures token { IfSome result (λ t. (t ≡ token) × IsInFlight actor.new.known t) }
     ensures out { IfSome result (λ _. actor.new.known.out ≡ None) }
     ensures begins { IfSome result (λ _. Begins token actor.old.known actor.new.known) }
@@ -110,7 +109,6 @@ fn launch<W: World, M: Method<ReadIo, W>, T: Wait>(
     requires some { 0 < W.relations }
     requires room { 1 ≤ length io.pages }
     ensures same { IsSame actor.old actor.new }
-    ensures number { actor.new.known.number ≡ actor.old.known.number }
     ensures token { IfSome result (λ t. IsInFlight actor.new.known t) }
     ensures kept { IfSome result (λ t. (u : WaitRef) → IsInFlight actor.old.known u
         → (u ≢ t) × IsInFlight actor.new.known u) }
@@ -138,7 +136,6 @@ fn take_in<W: World>(
     requires table { IsOf table.now actor.old }
     requires token { IsInFlight actor.old.known token }
     ensures same { IsSame actor.old actor.new }
-    ensures number { actor.new.known.number ≡ actor.old.known.number }
     ensures kept { (u : WaitRef) → u ≢ token → IsInFlight actor.old.known u
         → IsInFlight actor.new.known u }
     ensures owes { IsTrue result → (ts : List WaitRef) → Owes (token ∷ ts) actor.old.known
@@ -167,7 +164,6 @@ fn last<W: World>(
     ensures actor { IfSome result
         (λ a. a ≡ record {
           table = table.now.table;
-          config = table.now.config;
           known =
               newcomer table.now.config (length actors.new.items);
         }) }

@@ -7,8 +7,8 @@ returns-in-Entry-clause-turned g c =
     let (word, rest) = c.in-Entry.ensures.popped in
     let tried = c.try_execute.ensures in
     let seen =
-        sees-tried c.try_execute.result c.in-Entry.reference c.args.actor.now.known
-        c.try_execute.new.actor.known _ _ _ _ (λ e. (tried.won e).1) (λ e. (tried.lost e).1) in
+    sees-tried c.try_execute.result c.in-Entry.reference c.args.actor.now.known
+    c.try_execute.new.actor.known _ _ _ _ (λ e. (tried.won e).1) (λ e. (tried.lost e).1) in
     (c.in-Entry.reference ∷ [], word ∷ [], rest.0, each-of-one _ _ _ seen)
 
 pub returns-in-Empty-clause-turned : goal.returns-in-Empty-clause-turned

@@ -1,7 +1,8 @@
 use Rattle.std.proofs.Common.{rules, ◌∙◌, refl}
 use Rattle.aio_word.specs.declared.Known.{Known}
 use Rattle.aio_handle.proofs.TakingUp.{takes_then, takes_nothing}
-use Rattle.method_worker.proofs.Seeing.{turned-more, turned-last, begins-work, grows-none}
+use Rattle.aio_handle.proofs.Growing.{grows-none}
+use Rattle.method_worker.proofs.Seeing.{turned-more, turned-last, begins-work}
 use Rattle.method_worker.proofs.worker.work.Goals as goal
 
 pub loop-preserved : goal.loop-preserved

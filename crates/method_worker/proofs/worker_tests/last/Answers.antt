@@ -11,12 +11,12 @@ new-before t xs ys x e all i d lt = let a : AreNew t 0 (xs ++ x ∷ []) = subst
     sym (push-old xs x d i lt) ∙ a i d (omega (arith, length-append xs (x ∷ [])))
 
 new-last : (t : Named) (xs ys : List Standing) (x : Standing) → ys ≡ xs ++ x ∷ [] → AreNew t 0 ys
-    → x ≡ record { table = t.table; config = t.config; known = newcomer t.config (length xs) }
+    → x ≡ record { table = t.table; known = newcomer t.config (length xs) }
 new-last t xs ys x e all = let a : AreNew t 0 (xs ++ x ∷ []) = subst
     (λ (z : List Standing). AreNew t 0 z) e all in
     sym (push-last xs x x) ∙
     (a (length xs) x (omega (arith, length-append xs (x ∷ []))) ∙ ap
-    (λ (n : ℕ). record { table = t.table; config = t.config; known = newcomer t.config n })
+    (λ (n : ℕ). record { table = t.table; known = newcomer t.config n })
     (let same : 0 + length xs ≡ length xs = omega arith in same))
 
 pub returns-in-Some-clause-left : goal.returns-in-Some-clause-left
