@@ -1,5 +1,6 @@
 -- The lists of a seat that reads and pops.
-use Rattle.std.proofs.Common.{◌≡◌, ℕ, List, [], ◌∷◌, ◌++◌, sym, ap, ◌∙◌, subst, append-nil, append_assoc}
+use Rattle.std.proofs.Common.{◌≡◌, ℕ, List, [], ◌∷◌, ◌++◌, sym, ap, ◌∙◌, subst, append-nil}
+use Rattle.std.proofs.Common.{append_assoc}
 use Rattle.atomic_table.specs.Seated.{TableId}
 use Rattle.aio_word.specs.declared.WaitRef.{WaitRef}
 use Rattle.method_worker.specs.declared.log.Log.{Log}

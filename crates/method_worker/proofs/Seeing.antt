@@ -1,5 +1,6 @@
 -- What a worker saw to stays so, whatever comes before or after.
-use Rattle.std.proofs.Common.{◌≡◌, ℕ, Bool, true, false, List, [], ◌∷◌, ◌++◌, refl, sym, ap, ◌∙◌, subst, inl, inr, ⊎_elim, append_assoc, append-nil}
+use Rattle.std.proofs.Common.{◌≡◌, ℕ, Bool, true, false, List, [], ◌∷◌, ◌++◌, refl, sym, ap, ◌∙◌}
+use Rattle.std.proofs.Common.{subst, inl, inr, ⊎_elim, append_assoc, append-nil}
 use Rattle.std.specs.List.{All}
 use Rattle.std.proofs.lemmas.List.Elements.{All-push, All-append, All-nil}
 use Rattle.aio_word.specs.declared.Known.{Known}
@@ -44,12 +45,14 @@ sees-lost t p q l =
 
 -- whether the claim was won or lost, the actor saw to the I/O
 pub sees-tried : (won : Bool) (t : WaitRef) (p q : Known) (reads reads' faults faults' : ℕ)
-    → (won ≡ true → Won t p q reads reads' faults faults') → (won ≡ false → Lost t p q) → SeesTo p q t
+    → (won ≡ true → Won t p q reads reads' faults faults') → (won ≡ false → Lost t p q)
+    → SeesTo p q t
 sees-tried true t p q reads reads' faults faults' w l =
     sees-won t p q reads reads' faults faults' (w refl)
 sees-tried false t p q reads reads' faults faults' w l = sees-lost t p q (l refl)
 
-pub sees-later : (t : WaitRef) (ms : List Mark) (p q r : Known) → SeesTo p q t → Grows q r ms → SeesTo p r t
+pub sees-later : (t : WaitRef) (ms : List Mark) (p q r : Known) → SeesTo p q t → Grows q r ms
+    → SeesTo p r t
 sees-later t ms p q r s g = ⊎_elim
     (λ (c : Claims t p q). inl (record {
       more = c.more ++ ms;
@@ -58,30 +61,35 @@ sees-later t ms p q r s g = ⊎_elim
     }))
     (λ (f : FindsTaken t p q). inr (record {
       more = f.more ++ g.looks.0;
-      looks = g.looks.1 ∙ (ap (λ (l : List Look). l ++ g.looks.0) f.looks ∙ append_assoc p.looks f.more g.looks.0);
+      looks = g.looks.1 ∙ (ap (λ (l : List Look). l ++ g.looks.0) f.looks
+          ∙ append_assoc p.looks f.more g.looks.0);
       word = f.word;
       lawful = f.lawful;
       found = in-left (look t.handle (packed f.word)) f.more g.looks.0 f.found;
       other = f.other;
     })) s
 
-pub sees-earlier : (t : WaitRef) (ms : List Mark) (p q r : Known) → Grows p q ms → SeesTo q r t → SeesTo p r t
+pub sees-earlier : (t : WaitRef) (ms : List Mark) (p q r : Known) → Grows p q ms → SeesTo q r t
+    → SeesTo p r t
 sees-earlier t ms p q r g s = ⊎_elim
     (λ (c : Claims t q r). inl (record {
       more = ms ++ c.more;
-      marks = c.marks ∙ (ap (λ (l : List Mark). l ++ c.more) g.marks ∙ append_assoc p.marks ms c.more);
+      marks = c.marks ∙ (ap (λ (l : List Mark). l ++ c.more) g.marks
+          ∙ append_assoc p.marks ms c.more);
       claimed = in-right (mark_at t kind.Claimed) ms c.more c.claimed;
     }))
     (λ (f : FindsTaken t q r). inr (record {
       more = g.looks.0 ++ f.more;
-      looks = f.looks ∙ (ap (λ (l : List Look). l ++ f.more) g.looks.1 ∙ append_assoc p.looks g.looks.0 f.more);
+      looks = f.looks ∙ (ap (λ (l : List Look). l ++ f.more) g.looks.1
+          ∙ append_assoc p.looks g.looks.0 f.more);
       word = f.word;
       lawful = f.lawful;
       found = in-right (look t.handle (packed f.word)) g.looks.0 f.more f.found;
       other = f.other;
     })) s
 
-pub each-later : (ts : List WaitRef) (ms : List Mark) (p q r : Known) → All (SeesTo p q) ts → Grows q r ms → All (SeesTo p r) ts
+pub each-later : (ts : List WaitRef) (ms : List Mark) (p q r : Known) → All (SeesTo p q) ts
+    → Grows q r ms → All (SeesTo p r) ts
 each-later ts ms p q r all g = λ k d lt. sees-later _ ms p q r (all k d lt) g
 
 pub each-of-none : (p q : Known) → All (SeesTo p q) []

@@ -15,7 +15,8 @@ loop-preserved g c =
     let same = c.turn.ensures.same in
     let told = c.turn.ensures.told in
     let more = turned-more g.W.World.handles c.args.seat.now c.loop.seat c.turn.new.seat p q r
-    i.takes.more c.turn.ensures.marks.more c.turn.result i.works i.takes.grows c.turn.ensures.marks.grows c.turn.ensures.turned
+    i.takes.more c.turn.ensures.marks.more c.turn.result i.works i.takes.grows
+    c.turn.ensures.marks.grows c.turn.ensures.turned
     (search rules) in
     record {
       can_next = tt;
@@ -38,7 +39,8 @@ loop-init g c = record {
   table = c.requires.table;
   same = (refl, refl, refl);
   told = c.requires.told;
-  takes = takes_nothing c.args.actor.now.known c.args.actor.now.known _ _ (grows-none c.args.actor.now.known);
+  takes = takes_nothing c.args.actor.now.known c.args.actor.now.known _ _
+      (grows-none c.args.actor.now.known);
   works = begins-work c.args.seat.now c.args.actor.now.known;
 }
 

@@ -13,8 +13,10 @@ invariant-loop g l = record {
   seat : IsSameSeat l.fn.seat l.seat;
   table : IsOf l.table l.actor;
   same : IsSame l.fn.actor l.actor;
-  told : (g.E.Execute.told l.runner ≡ g.W.World.told) × (g.E.Execute.relations l.runner ≡ g.W.World.relations);
-  takes : TakesUp [] l.fn.actor.known l.actor.known (g.E.Execute.reads l.fn.runner) (g.E.Execute.reads l.runner)
+  told : (g.E.Execute.told l.runner ≡ g.W.World.told)
+      × (g.E.Execute.relations l.runner ≡ g.W.World.relations);
+  takes : TakesUp [] l.fn.actor.known l.actor.known (g.E.Execute.reads l.fn.runner)
+      (g.E.Execute.reads l.runner)
       (g.E.Execute.faults l.fn.runner) (g.E.Execute.faults l.runner);
   works : IsAtWork l.fn.seat l.seat l.fn.actor.known l.actor.known;
 }

@@ -1,4 +1,5 @@
-use Rattle.std.proofs.Common.{◌≡◌, ℕ, ◌+◌, List, [], ◌∷◌, ◌++◌, length, sym, ap, ◌∙◌, subst, arith, length-append}
+use Rattle.std.proofs.Common.{◌≡◌, ℕ, ◌+◌, List, [], ◌∷◌, ◌++◌, length, sym, ap, ◌∙◌, subst, arith}
+use Rattle.std.proofs.Common.{length-append}
 use Rattle.aio_handle.specs.Ruled.{newcomer}
 use Rattle.aio_handle.specs.Shown.{Named, Standing, AreNew}
 use Rattle.aio_handle.proofs.Opening.{push-old, push-last}
@@ -21,8 +22,10 @@ new-last t xs ys x e all = let a : AreNew t 0 (xs ++ x ∷ []) = subst
 
 pub returns-in-Some-clause-left : goal.returns-in-Some-clause-left
 returns-in-Some-clause-left g c =
-    new-before c.args.table.now c.pop.new.self.items c.args.actors.now.items c.in-Some.actor c.in-Some.ensures.items c.requires
+    new-before c.args.table.now c.pop.new.self.items c.args.actors.now.items c.in-Some.actor
+    c.in-Some.ensures.items c.requires
 
 pub returns-in-Some-clause-actor : goal.returns-in-Some-clause-actor
 returns-in-Some-clause-actor g c =
-    new-last c.args.table.now c.pop.new.self.items c.args.actors.now.items c.in-Some.actor c.in-Some.ensures.items c.requires
+    new-last c.args.table.now c.pop.new.self.items c.args.actors.now.items c.in-Some.actor
+    c.in-Some.ensures.items c.requires

@@ -10,7 +10,8 @@ pub returns-clause-token : goal.returns-clause-token
 returns-clause-token g c =
     let r : Known = c.submitted.new.actor.known in
     let s : Known = c.begun.new.actor.known in
-    (c.taking_up_keeps_tokens.ensures c.in_ok-token.token _ r s _ _ _ _ c.begun.ensures.marks).in_flight
+    (c.taking_up_keeps_tokens.ensures c.in_ok-token.token _ r s _ _ _ _
+    c.begun.ensures.marks).in_flight
     c.in_ok-token.ensures.token.1
 
 pub returns-clause-kept : goal.returns-clause-kept
@@ -19,9 +20,13 @@ returns-clause-kept g c u flies =
     let q : Known = c.acquire.new.actor.known in
     let r : Known = c.submitted.new.actor.known in
     let s : Known = c.begun.new.actor.known in
-    let one = (c.events_keep_other_tokens.ensures.unused u event.HandOut _ _ _ _ p q c.in-Ok.ensures.event (λ x. x)).in_flight flies in
-    let two = c.in_ok-token.ensures.kept u one in
-    (two.0, (c.taking_up_keeps_tokens.ensures u _ r s _ _ _ _ c.begun.ensures.marks).in_flight two.1)
+    let one = (c.events_keep_other_tokens.ensures.unused u event.HandOut _ _ _ _ p q
+    c.in-Ok.ensures.event (λ x. x)).in_flight flies in
+    let two = c.in_ok-token.ensures.kept u one in (
+      two.0,
+      (c.taking_up_keeps_tokens.ensures u _ r s _ _ _ _ c.begun.ensures.marks).in_flight
+          two.1,
+    )
 
 pub returns-clause-owes : goal.returns-clause-owes
 returns-clause-owes g c ts o =

@@ -34,5 +34,7 @@ returns-clause-kept g c u ne flies =
     let back = c.reclaim.ensures.event in
     let same : c.in-Ready.local.0 ≡ c.args.token = c.in-Ready.ensures.ready.0 in
     let one = (c.looking_keeps_tokens.ensures u _ _ p4 got.between got.looked).in_flight flies in
-    let two = (c.events_keep_other_tokens.ensures.elsewhere u event.Local _ _ _ _ got.between p5 got.made ne).in_flight one in
-    (c.events_keep_other_tokens.ensures.elsewhere u event.Reclaim _ _ _ _ p5 p6 back.1 (λ e. ne (e ∙ same))).in_flight two
+    let two = (c.events_keep_other_tokens.ensures.elsewhere u event.Local _ _ _ _ got.between p5
+    got.made ne).in_flight one in
+    (c.events_keep_other_tokens.ensures.elsewhere u event.Reclaim _ _ _ _ p5 p6 back.1
+    (λ e. ne (e ∙ same))).in_flight two

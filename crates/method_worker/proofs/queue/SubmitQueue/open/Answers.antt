@@ -45,7 +45,8 @@ loop-preserved g c =
       loads = search rules;
       closes = search rules;
       count = search rules;
-      all = new-more _ c.args.seats c.loop.all.items _ c.seat-seat.result c.push_reserved.ensures.items
+      all = new-more _ c.args.seats c.loop.all.items _ c.seat-seat.result
+          c.push_reserved.ensures.items
           i.all (of-several _ _ _ ne c.seat-seat.ensures.new);
     }
 
@@ -53,4 +54,5 @@ pub returns-clause-seats : goal.returns-clause-seats
 returns-clause-seats g c =
     let i = c.loop.invariant in
     new-more _ c.args.seats c.loop.all.items _ c.loop.first c.push_reserved-2.ensures.items i.all
-    (first-new _ c.args.seats c.loop.counter c.loop.first i.of i.parts (search rules) (search rules) i.pushes i.pops i.loads i.closes)
+    (first-new _ c.args.seats c.loop.counter c.loop.first i.of i.parts (search rules) (search rules)
+    i.pushes i.pops i.loads i.closes)

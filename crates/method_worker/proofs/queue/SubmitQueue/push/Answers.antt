@@ -6,7 +6,8 @@ use Rattle.method_worker.proofs.Counting.{puts, learns, was-full}
 use Rattle.method_worker.proofs.queue.SubmitQueue.push.Goals as goal
 
 pub push_as-requires-clause-rule : goal.push_as-requires-clause-rule
-push_as-requires-clause-rule g c = (puts _ _ _ _ _ c.seat.invariant.1 c.requires.range, learns _ _ _)
+push_as-requires-clause-rule g c =
+    (puts _ _ _ _ _ c.seat.invariant.1 c.requires.range, learns _ _ _)
 
 pub returns-in-Err-clause-full : goal.returns-in-Err-clause-full
 returns-in-Err-clause-full g c =

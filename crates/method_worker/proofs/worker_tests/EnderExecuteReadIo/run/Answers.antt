@@ -23,8 +23,11 @@ returns-clause-marks g c =
     let m : Known = c.complete_io.new.actor.known in
     let q : Known = c.complete_shared-2.new.actor.known in
     let same : r.label.ended ≡ c.class.result = search rules in
-    subst (λ (o : Option (WaitRef × Reading)). IfSome o (λ x. TakesUp (mark_at x.0 kind.Claimed ∷ [])
+    subst (λ (o : Option (WaitRef × Reading)). IfSome o
+    (λ x. TakesUp (mark_at x.0 kind.Claimed ∷ [])
     c.args.actor.now.known q c.args.self.now.calls c.saturating_add-self.result 0 0))
     (sym (sym c.take.ensures.value ∙ c.in-Some.is))
-    (ended-whole t.0 c.args.actor.now.known m q c.class.result r.label.ended _ _ (search rules) (search rules)
-    same (c.class.ensures ∙ whole-class _) (λ below. let e = c.saturating_add-self.ensures in omega arith))
+    (ended-whole t.0 c.args.actor.now.known m q c.class.result r.label.ended _ _ (search rules)
+    (search rules)
+    same (c.class.ensures ∙ whole-class _) (λ below. let e =
+    c.saturating_add-self.ensures in omega arith))
