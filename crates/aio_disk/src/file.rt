@@ -287,11 +287,10 @@ mod tests {
         Ok(disk.read(0, 0, pages.as_mut_slice()).is_err())
     }
 
-    // A disk over a file that is open for writing alone: each read of it fails.
-    fn unreadable<R: Files<File = File> + AllocGlobal>(rt: &R) -> Result<FileDisk, Fail> {
-        let alloc = rt.alloc();
+    // A disk over one file, however it was opened.
+    fn disk_over(alloc: Global, file: File) -> Result<FileDisk, AllocError> {
         let mut files = Vec::new(alloc);
-        files.push(File::create(rt, "write_only")?)?;
+        files.push(file)?;
         Ok(FileDisk {
             files,
             buffer: vec![in alloc; 0u8; RUN * PAGE_SIZE]?,
@@ -301,15 +300,29 @@ mod tests {
         })
     }
 
+    // Each read of a file that is open for writing alone fails.
     #[test]
     fn reads_that_fail_are_counted(rt: HostRuntime) -> Result<(), Fail> {
-        let mut disk = unreadable(&rt)?;
+        let mut disk = disk_over(rt.alloc(), File::create(&rt, "write_only")?)?;
         assert!(rt; fails(&rt, &mut disk, 1)?);
         assert!(rt; fails(&rt, &mut disk, 3)?);
         assert!(rt; fails(&rt, &mut disk, 128)?);
         assert_eq!(rt; disk.faults, 3);
         assert_eq!(rt; disk.reads, 3);
         fs::remove_file(&rt, "write_only")?;
+        Ok(())
+    }
+
+    // This file cannot seek to its end.
+    #[test]
+    fn lengths_that_fail_are_counted(rt: HostRuntime) -> Result<(), Fail> {
+        let mut disk = disk_over(rt.alloc(), File::open(&rt, "/proc/version")?)?;
+        assert!(rt; 0 < disk.files.len());
+        assert!(rt; disk.blocks(0).is_err());
+        assert_eq!(rt; disk.length_faults, 1);
+        let mut shelf = FileShelf::new(&rt);
+        shelf.take_back(disk);
+        assert_eq!(rt; (shelf.length_faults, shelf.faults), (1, 0));
         Ok(())
     }
 
