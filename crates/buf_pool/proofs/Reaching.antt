@@ -1,13 +1,15 @@
 -- What the search in the table comes to, after a change.
-use Rattle.std.proofs.Common.{◌≡◌, ℕ, ◌+◌, ◌%◌, ◌<◌, ◌≤◌, List, Option, Some, None, length, set}
+use Rattle.std.proofs.Common.{◌≡◌, ℕ, ◌+◌, ◌*◌, ◌^◌, ◌%◌, ◌<◌, ◌≤◌, List, Option, Some, None}
+use Rattle.std.proofs.Common.{length, set}
 use Rattle.std.proofs.Common.{is_none, is_some, false, refl, arith, ◌⊎◌, ⊎_elim, ◌∙◌, sym, subst}
 use Rattle.std.proofs.lemmas.List.{get_or-set_same, get_or-set_other, length-set}
 use Rattle.std.proofs.lemmas.Bool.{cases_lt, cases_eq, false≢true}
 use Rattle.std.proofs.lemmas.Nat.{mod_below}
+use Rattle.std.proofs.Math.Nat.{div-lt_iff_lt-mul, mul-lt-mul_of_pos_right}
 use Rattle.buf_pool.specs.declared.descriptor.Tag.{Tag}
 use Rattle.buf_pool.specs.declared.descriptor.Descriptor.{Descriptor}
 use Rattle.buf_pool.specs.Frames.{tag_at, IsAbsent}
-use Rattle.buf_pool.specs.Probes.{slot_at, home_of, probe, Reaches, KeepsTaken, IsIndexed}
+use Rattle.buf_pool.specs.Probes.{slot_at, hash_of, home_of, probe, Reaches, KeepsTaken, IsIndexed}
 use Rattle.buf_pool.specs.Probes.{empty_slots}
 use Rattle.buf_pool.proofs.Rounds.{all_round}
 use Rattle.buf_pool.proofs.Counts.{count_none}
@@ -66,6 +68,22 @@ reaches_new slots tag f step within some before empty =
           cc;
     }
 
+-- the slot at which a search begins is one of the table
+pub hash_below : (tag : Tag) → hash_of tag < 2 ^ 32
+unfolding hash_of
+hash_below tag =
+    (div-lt_iff_lt-mul {k = 2 ^ 32} {x = (tag.relation * 2 ^ 32 + tag.block) * 0x9E37_79B9_7F4A_7C15
+    % 2 ^ 64} {y = 2 ^ 32} (omega arith)).1
+    (mod_below ((tag.relation * 2 ^ 32 + tag.block) * 0x9E37_79B9_7F4A_7C15) (2 ^ 64) (omega arith))
+
+pub home_below : (tag : Tag) (size : ℕ) → 0 < size → home_of tag size < size
+unfolding home_of
+home_below tag size some =
+    let scaled : hash_of tag * size < 2 ^ 32 * size =
+    mul-lt-mul_of_pos_right (hash_below tag) some in
+    (div-lt_iff_lt-mul {k = 2 ^ 32} {x = hash_of tag * size} {y = size} (omega arith)).1
+    (omega (arith, scaled))
+
 -- where the search finds no empty slot in a whole round there is none
 pub no_empty_slot : (slots : List (Option ℕ)) (tag : Tag) → 0 < length slots →
     ((k : ℕ) → k < length slots → probe slots tag k ≡ None → ⊥) → empty_slots slots ≡ 0
@@ -73,10 +91,11 @@ unfolding home_of
 no_empty_slot slots tag some h =
     count_none (λ s. is_none s) None slots
     (all_round (λ at. is_none (slot_at slots at) ≡ false) (length slots)
-    (home_of tag (length slots)) (mod_below _ _ some)
+    (home_of tag (length slots)) (home_below tag (length slots) some)
     (λ step b. let held = taken_holds _ (h step b) in rw held.1 refl))
 
--- where the search passed no frame with the tag, and came to an empty slot or round the table, no entry has the tag
+-- where the search passed no frame with the tag, and came to an empty slot or round the table, no
+-- entry has the tag
 pub absent_after : (slots : List (Option ℕ)) (frames : List Descriptor) (tag : Tag) (step : ℕ) →
     IsIndexed slots frames
     → ((k f : ℕ) → k < step → probe slots tag k ≡ Some f → tag_at frames f ≡ Some tag → ⊥)

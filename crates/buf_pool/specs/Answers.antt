@@ -9,7 +9,7 @@ use Rattle.buf_pool.specs.declared.index.Look.{Look}
 use Rattle.buf_pool.specs.declared.index.Look.TheVariants as look
 use Rattle.buf_pool.specs.declared.index.Begun.{Begun}
 use Rattle.buf_pool.specs.declared.index.Begun.TheVariants as begun
-use Rattle.buf_pool.specs.Frames.{descriptor_at, is_free, IsHeld, IsAbsent, pins_at, repinned}
+use Rattle.buf_pool.specs.Frames.{descriptor_at, is_free, IsHeld, IsAbsent, repinned}
 
 -- the entry of the tag is valid, at this frame
 abbrev pub IsValidAt : List Descriptor → Tag → ℕ → Type 0

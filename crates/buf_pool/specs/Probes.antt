@@ -14,9 +14,9 @@ slot_at slots k = slice_index_or slots k None
 unfoldable pub hash_of : Tag → ℕ
 hash_of tag = (tag.relation * 2 ^ 32 + tag.block) * 0x9E37_79B9_7F4A_7C15 % 2 ^ 64 / 2 ^ 32
 
--- the slot at which the search for the tag begins
+-- the slot at which the search for the tag begins: the hash, scaled to the size of the table
 unfoldable pub home_of : Tag → ℕ → ℕ
-home_of tag size = hash_of tag % size
+home_of tag size = hash_of tag * size / 2 ^ 32
 
 -- the slot that the search for the tag looks at after this many steps
 abbrev pub probe : List (Option ℕ) → Tag → ℕ → Option ℕ

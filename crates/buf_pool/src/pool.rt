@@ -1,5 +1,5 @@
 //! The pool behind its locks.
-ghost use Rattle.std.specs.Prelude.{◌<◌, ◌≤◌, length};
+ghost use Rattle.std.specs.Prelude.{◌*◌, ◌<◌, ◌≤◌, length};
 
 use crate::descriptor::Tag;
 use crate::index::{Begun, Look};
@@ -14,7 +14,21 @@ use std::sync::Wait;
 
 /// The least frames of a part, and the most parts (`NUM_BUFFER_PARTITIONS` of `lwlock.h`).
 const LEAST_FRAMES: u32 = 16;
+
 const MOST_PARTS: u32 = 128;
+
+// How many parts a pool of so many frames has: the greatest power of two that leaves each part its
+// least frames, and no more than the most.
+fn part_count(frames: u32) -> u32
+    requires { 16 ≤ frames }
+    ensures { (1 ≤ result) × (16 * result ≤ frames) }
+{
+    let mut count = 1;
+    while count < MOST_PARTS && 2 * count <= frames / LEAST_FRAMES {
+        count *= 2;
+    }
+    count
+}
 
 /// What `lookup` finds.
 pub enum Found<'p, W: World> {
@@ -43,7 +57,7 @@ impl<W: World> Pool<W> {
     pub fn open(alloc: Global, frames: u32) -> Result<Pool<W>, AllocError>
         requires { (16 ≤ frames) × (frames ≤ 16384) }
     {
-        let count = MOST_PARTS.min(frames / LEAST_FRAMES);
+        let count = part_count(frames);
         let mut parts = Vec::with_capacity(alloc, count as usize)?;
         for part in 0..count {
             // The frames that are over are shared out to the first parts.
@@ -56,7 +70,8 @@ impl<W: World> Pool<W> {
     // The part to which the tag falls. Blocks that follow each other fall to different parts.
     fn part(&self, tag: Tag) -> &Part<W> {
         let place = u64::from(tag.relation) + u64::from(tag.block);
-        &self.parts[(place % self.parts.len() as u64) as usize]
+        // The number of parts is a power of two, so this is the remainder.
+        &self.parts[(place & (self.parts.len() as u64 - 1)) as usize]
     }
 
     /// What the index has of the tag now.

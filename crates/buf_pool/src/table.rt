@@ -1,5 +1,6 @@
 //! The table that finds the frame of a tag, after `buf_table.c`.
-ghost use Rattle.std.specs.Prelude.{◌≡◌, ◌≢◌, ℕ, ◌+◌, ◌*◌, ◌<◌, ◌≤◌, length, Some, IsTrue, ◌↔◌};
+ghost use Rattle.std.specs.Prelude.{◌≡◌, ◌≢◌, ℕ, ◌+◌, ◌*◌, ◌^◌, ◌<◌, ◌≤◌, length, Some, IsTrue};
+ghost use Rattle.std.specs.Prelude.{◌↔◌};
 ghost use Rattle.buf_pool.specs.declared.descriptor.Tag.{Tag};
 ghost use Rattle.buf_pool.specs.Frames.{tag_at, IsFrameOf};
 ghost use Rattle.buf_pool.specs.Probes.{hash_of, home_of, Reaches, KeepsTaken, IsIndexed, empty_slots};
@@ -10,7 +11,8 @@ use crate::descriptor::{Descriptor, Tag};
 // The hash of the tag. The high bits of the product depend on each bit of the tag, so that blocks
 // at equal distances, as every 64th, do not come to one slot.
 fn hash(tag: Tag) -> u64
-    ensures { result ≡ hash_of tag }
+    ensures hash { result ≡ hash_of tag }
+    ensures range { result < 2 ^ 32 }
 {
     let key = u64::from(tag.relation) * (1 << 32) + u64::from(tag.block);
     key.wrapping_mul(0x9E37_79B9_7F4A_7C15) / (1 << 32)
@@ -18,11 +20,11 @@ fn hash(tag: Tag) -> u64
 
 // The slot at which the search for the tag begins.
 fn home(tag: Tag, size: usize) -> usize
-    requires { 0 < size }
+    requires { (0 < size) × (size ≤ 65536) }
     ensures home { result ≡ home_of tag size }
     ensures range { result < size }
 {
-    (hash(tag) % size as u64) as usize
+    (hash(tag) * size as u64 / (1 << 32)) as usize
 }
 
 // Whether the entry at the frame has the tag.

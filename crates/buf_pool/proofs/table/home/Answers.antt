@@ -3,4 +3,4 @@ use Rattle.buf_pool.proofs.table.home.Goals as goal
 
 pub returns-clause-home : goal.returns-clause-home
 unfolding home_of
-returns-clause-home c = rw (← c.hash.ensures)
+returns-clause-home c = rw (← c.hash.ensures.hash)
