@@ -30,11 +30,13 @@ get_positive (n ∷ numbers) (suc k) all = get_positive numbers k (both _ _ all)
 -- so is one of the first list of a disk
 find_positive : (lists : List (ℕ × Vec ℕ Global)) (disk k : ℕ)
     → list_all (λ shorts. are_positive shorts.1.items) lists ≡ true
-    → IsPositive (short_in k (option_map (λ shorts. shorts.1.items) (find (λ shorts. shorts.0 == disk) lists)))
+    → IsPositive (short_in k
+    (option_map (λ shorts. shorts.1.items) (find (λ shorts. shorts.0 == disk) lists)))
 find_positive [] disk k all = tt
 find_positive (first ∷ lists) disk k all =
     let rest : Option (ℕ × Vec ℕ Global) = find (λ shorts. shorts.0 == disk) lists in
-    elim (first.0 == disk) as (λ b. IsPositive (short_in k (option_map (λ shorts. shorts.1.items) (cond b (Some first) rest)))) [
+    elim (first.0 == disk) as (λ b. IsPositive
+    (short_in k (option_map (λ shorts. shorts.1.items) (cond b (Some first) rest)))) [
       | true ↦ get_positive first.1.items k (both _ _ all).0
       | false ↦ find_positive lists disk k (both _ _ all).1
     ]
@@ -43,7 +45,8 @@ find_positive (first ∷ lists) disk k all =
 pub most_positive : (script : Script) (disk k : ℕ) → has_positive_shorts script ≡ true
     → 0 < unwrap_or (short_answer script disk k) (2 ^ 32 - 1)
 most_positive script disk k positive =
-    elim (short_answer script disk k) as (λ short. IsPositive short → 0 < unwrap_or short (2 ^ 32 - 1)) [
+    elim (short_answer script disk k)
+    as (λ short. IsPositive short → 0 < unwrap_or short (2 ^ 32 - 1)) [
       | Some n ↦ λ above. above
       | None ↦ λ _. lit< tt
     ] (find_positive script.shorts.items disk (k - 1) positive)

@@ -10,7 +10,8 @@
 //! [`SteadyShelf`], [`MemShelf`] and [`MemSink`] are in memory and tell all. Their own calls have
 //! exact clauses: which call fails, how many pages a read gives, what the log of reads then
 //! holds. [`FileShelf`] and [`StdSink`] are the real files and streams, and tell nothing: what
-//! they give is the system's, and tests alone show it.
+//! they give is the system's, and tests alone show it. How the bytes of a file become pages, and
+//! where its faults go, is proved over any source of bytes that tells them (`source.rt`).
 #![tactic(auto)]
 
 mod disk;

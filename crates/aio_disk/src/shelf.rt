@@ -36,7 +36,8 @@ pub trait Shelf {
         ensures later { (counts self.old).open_faults ≤ (counts self.new).open_faults }
         ensures device { IsErrOf result Device
             → Rose (counts self.old).open_faults (counts self.new).open_faults }
-        ensures memory { IsErrOf result Memory → (counts self.new).open_faults ≡ (counts self.old).open_faults }
+        ensures memory { IsErrOf result Memory
+            → (counts self.new).open_faults ≡ (counts self.old).open_faults }
         ensures told { told self.new ≡ told self.old }
         ensures length_faults { (counts self.new).length_faults ≡ (counts self.old).length_faults }
         ensures faults { (counts self.new).faults ≡ (counts self.old).faults }
@@ -48,6 +49,8 @@ pub trait Shelf {
         ensures open_faults { (counts self.new).open_faults ≡ (counts self.old).open_faults }
         ensures length_faults { RisesBy (Self.Disk.length_faults disk)
             (counts self.old).length_faults (counts self.new).length_faults }
-        ensures faults { RisesBy (Self.Disk.faults disk) (counts self.old).faults (counts self.new).faults }
-        ensures reads { (counts self.new).reads ≡ raised_by (Self.Disk.reads disk) (counts self.old).reads };
+        ensures faults { RisesBy (Self.Disk.faults disk)
+            (counts self.old).faults (counts self.new).faults }
+        ensures reads { (counts self.new).reads
+            ≡ raised_by (Self.Disk.reads disk) (counts self.old).reads };
 }

@@ -3,7 +3,8 @@ ghost use Rattle.std.specs.Prelude.{◌≡◌, ◌≤◌, ◌<◌, ◌+◌, ◌*
 ghost use Rattle.std.specs.Prelude.{IfSome, Option, MatchResult};
 ghost use Rattle.std.specs.Option.{option_map};
 ghost use Rattle.page_check.specs.Told.{block_count};
-ghost use Rattle.aio_disk.specs.Source.{Source, later, NoneFailed, OneFailed, GivesBytes, GivesBlock};
+ghost use Rattle.aio_disk.specs.Source.{Source, later, NoneFailed, OneFailed, GivesBytes};
+ghost use Rattle.aio_disk.specs.Source.{GivesBlock};
 ghost use Rattle.aio_disk.specs.Source.{AnswersSize, AnswersBytes, GivesRun, GivesBlocks};
 
 use crate::DeviceFault;

@@ -129,7 +129,8 @@ telling_by : (verdict other_verdict : Verdict) (relation block : ℕ) (page : Li
     → block < 2 ^ 32 → r < 2 ^ 32 → b < 2 ^ 32
     → IsValid page → IsValid other → first_line r b other ≡ first_line relation block page
     → (r ≡ relation) × (b ≡ block) × PrintsSame page other
-telling_by Bad other_verdict relation block page r b other is other_is r0 b0 r1 b1 valid other_valid same = absurd (valid is)
+telling_by Bad other_verdict relation block page r b other is other_is r0 b0 r1 b1 valid other_valid
+    same = absurd (valid is)
 telling_by Zero Bad relation block page r b other is other_is r0 b0 r1 b1 valid other_valid same =
     absurd (other_valid other_is)
 telling_by Sane Bad relation block page r b other is other_is r0 b0 r1 b1 valid other_valid same =

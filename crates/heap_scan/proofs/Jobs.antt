@@ -20,7 +20,8 @@ module _ {P : Type 0} where
       flat_map-append (λ (g : Given P). page_text_of g.entry.relation g.entry.block g.page) xs ys
 
   -- a job that was listed to its end, and then another
-  unfoldable pub job_append : (found : Option Reader) (may : Entry P → Type 0) (xs ys : List (Entry P))
+  unfoldable pub job_append : (found : Option Reader) (may : Entry P → Type 0)
+      (xs ys : List (Entry P))
       (front back : List ℕ) (end : Option Ending) → IsJobAnswer found may xs front (Some End)
       → IsJobAnswer found may ys back end → IsJobAnswer found may (xs ++ ys) (front ++ back) end
   job_append found may xs ys front back end first second = record {
@@ -33,7 +34,8 @@ module _ {P : Type 0} where
   }
 
   -- a job that did not reach the end of its blocks is one of more
-  unfoldable pub job_more : (found : Option Reader) (may : Entry P → Type 0) (xs ys : List (Entry P))
+  unfoldable pub job_more : (found : Option Reader) (may : Entry P → Type 0)
+      (xs ys : List (Entry P))
       (text : List ℕ) (end : Option Ending) → IsEarly end → IsJobAnswer found may xs text end
       → IsJobAnswer found may (xs ++ ys) text end
   job_more found may xs ys text end early job = record {

@@ -96,7 +96,8 @@ pub line_count-page_line : (relation block : ℕ) (header : PageHeader) (items :
 line_count-page_line relation block header items =
     let pieces : List (List ℕ) = codes "page " ∷ decimal relation ∷ codes " " ∷ decimal block
     ∷ codes " lower " ∷ decimal header.lower ∷ codes " upper " ∷ decimal header.upper
-    ∷ codes " special " ∷ decimal header.special ∷ codes " items " ∷ decimal items ∷ codes "\n" ∷ [] in
+    ∷ codes " special " ∷ decimal header.special ∷ codes " items " ∷ decimal items
+    ∷ codes "\n" ∷ [] in
     omega (
       arith,
       line_count-concat pieces,

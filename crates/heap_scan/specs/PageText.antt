@@ -21,8 +21,8 @@ word_of Dead = codes "dead"
 -- `item I WORD OFFSET LENGTH`, for a line pointer with its number
 abbrev pub item_line : ℕ × LinePointer → List ℕ
 item_line item =
-    concat (codes "item " ∷ decimal item.0 ∷ codes " " ∷ word_of item.1.kind ∷ codes " " ∷ decimal item.1.offset
-    ∷ codes " " ∷ decimal item.1.length ∷ codes "\n" ∷ [])
+    concat (codes "item " ∷ decimal item.0 ∷ codes " " ∷ word_of item.1.kind
+    ∷ codes " " ∷ decimal item.1.offset ∷ codes " " ∷ decimal item.1.length ∷ codes "\n" ∷ [])
 
 -- the lines of line pointers, which are numbered from 1 as in `ItemPointerData`
 unfoldable pub item_lines : List LinePointer → List ℕ
@@ -38,7 +38,8 @@ abbrev pub page_line : ℕ → ℕ → PageHeader → ℕ → List ℕ
 page_line relation block header items =
     concat (codes "page " ∷ decimal relation ∷ codes " " ∷ decimal block
     ∷ codes " lower " ∷ decimal header.lower ∷ codes " upper " ∷ decimal header.upper
-    ∷ codes " special " ∷ decimal header.special ∷ codes " items " ∷ decimal items ∷ codes "\n" ∷ [])
+    ∷ codes " special " ∷ decimal header.special ∷ codes " items " ∷ decimal items
+    ∷ codes "\n" ∷ [])
 
 -- the first line: by the verdict, that the page is new, or its header
 abbrev pub first_line_by : Verdict → ℕ → ℕ → List ℕ → List ℕ

@@ -9,7 +9,8 @@ use Rattle.page_check.specs.declared.verdict.Verdict.TheVariants.{Zero, Sane, Ba
 use Rattle.page_check.specs.Verdict.{verdict_of, IsValid}
 use Rattle.page_check.specs.Told.{Told, blocks_of, page_of}
 use Rattle.page_check.specs.SynchronousAnswer.{Entry, Given, Found, Page, Damaged, Absent, Reader}
-use Rattle.page_check.specs.SynchronousAnswer.{found_at, found_by, found_for, is_page, page_in, can_read}
+use Rattle.page_check.specs.SynchronousAnswer.{found_at, found_by, found_for, is_page, page_in}
+use Rattle.page_check.specs.SynchronousAnswer.{can_read}
 use Rattle.page_check.specs.SynchronousAnswer.{given_for, read_count, pages_of, stop_of}
 
 found_valid : (v : Verdict) (page : List ℕ) → v ≢ Bad → found_by v page ≡ Page page

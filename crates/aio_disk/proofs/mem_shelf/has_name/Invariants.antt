@@ -3,4 +3,6 @@ use Rattle.aio_disk.specs.Shelf.{file_of, has_name}
 use Rattle.aio_disk.proofs.mem_shelf.has_name.Given as goal
 
 abbrev pub invariant-loop-file : goal.invariant-loop-file
-invariant-loop-file l = has_name (map file_of l.files) l.name ≡ has_name (map file_of (drop l.file-index l.files)) l.name
+invariant-loop-file l =
+    has_name (map file_of l.files) l.name
+    ≡ has_name (map file_of (drop l.file-index l.files)) l.name

@@ -5,4 +5,9 @@ use Rattle.page_check.specs.Told.{page_at}
 use Rattle.aio_disk.proofs.shared.copy_blocks.Goals as goal
 
 pub loop-index-preserved : goal.loop-index-preserved
-loop-index-preserved c = grind (arith, common_steps, map-range_with_len_more (page_at c.args.bytes.now) c.args.first c.loop-index.index)
+loop-index-preserved c =
+    grind (
+      arith,
+      common_steps,
+      map-range_with_len_more (page_at c.args.bytes.now) c.args.first c.loop-index.index,
+    )

@@ -16,7 +16,8 @@ returns-then-has_sane_header-clause-zero c =
     let sane : is_sane (header_of c.args.page.now) ≡ true = cc in
     (λ e. cc, λ zeros. absurd (zero_not_sane _ (zero_where_all _ zeros) sane))
 
-pub returns-then-has_sane_header-clause-exclusive : goal.returns-then-has_sane_header-clause-exclusive
+pub returns-then-has_sane_header-clause-exclusive :
+    goal.returns-then-has_sane_header-clause-exclusive
 returns-then-has_sane_header-clause-exclusive c = zero_excludes_sane _
 
 pub returns-then-is_zero_page-clause-verdict : goal.returns-then-is_zero_page-clause-verdict
