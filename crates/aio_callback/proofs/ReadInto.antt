@@ -1,15 +1,16 @@
 -- A record whose first pages were read.
 use Rattle.std.proofs.Common.{◌≡◌, ℕ, ◌≤◌, List, ◌++◌, take, drop, length, refl}
-use Rattle.std.proofs.Common.{◌∙◌}
+use Rattle.std.proofs.Common.{◌∙◌, ◌∷◌, map, ap, sym}
 use Rattle.std.proofs.Common.{arith, Option, Some, None}
 use Rattle.std.specs.Prelude.{IfSome}
-use Rattle.std.specs.List.{refill}
+use Rattle.std.specs.List.{refill, length_refill}
 use Rattle.std.proofs.lemmas.List.{take-append-le, take-take}
 use Rattle.page_check.specs.Told.{Told}
 use Rattle.aio_disk.specs.Disk.{ReadsPages}
 use Rattle.aio_callback.specs.declared.chain.Raw.{Raw}
 use Rattle.aio_callback.specs.declared.chain.Raw.TheVariants.{Read, Failed}
 use Rattle.aio_callback.specs.Reading.{Reading, IsToldRead, Answered, with_pages}
+use Rattle.aio_callback.specs.Reading.{aim_in, number_of_id}
 
 first_stay : {X : Type 0} (n size : ℕ) (before pages : List X) → n ≤ length pages
     → length pages ≤ size → take n (refill size before pages) ≡ take n pages
@@ -47,3 +48,9 @@ answered_by told r answer pages size room h = record {
   is = refl;
   told_read = told_still told r answer pages size room h;
 }
+
+-- what is written into the pages leaves what the record is aimed at
+pub aim_stays : (r : Reading) (pages : List (List ℕ)) → aim_in (with_pages r pages) ≡ aim_in r
+aim_stays r pages =
+    ap (λ (n : ℕ). n ∷ r.relation ∷ r.first ∷ r.count ∷ map number_of_id r.ids)
+    (sym (length_refill (length r.pages) r.pages pages refl))

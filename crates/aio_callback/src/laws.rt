@@ -29,3 +29,8 @@ pub fn answered_by_its_read()
 pub fn an_aim_names_the_read()
     ensures { (r s : Reading) → aim_in r ≡ aim_in s → ReadsAs r s }
 {}
+
+/// What is written into the pages that a record lends leaves what it is aimed at.
+pub fn lent_pages_leave_the_aim()
+    ensures { (r : Reading) (pages : List (List ℕ)) → aim_in (with_pages r pages) ≡ aim_in r }
+{}

@@ -1,8 +1,7 @@
 -- What a runner takes up: the one incarnation that it was handed.
-use Rattle.std.proofs.Common.{◌≡◌, ℕ, ◌≤◌, List, [], ◌∷◌, Option, length, map, refl, sym, ap, ◌∙◌}
+use Rattle.std.proofs.Common.{◌≡◌, ℕ, ◌≤◌, List, [], ◌∷◌, Option, refl, sym, ◌∙◌}
 use Rattle.std.proofs.Common.{subst, arith}
 use Rattle.page_check.specs.Told.{Told}
-use Rattle.std.specs.List.{length_refill}
 use Rattle.aio_disk.specs.Counts.{raised_by, Rose}
 use Rattle.aio_word.specs.declared.Class.{Class}
 use Rattle.aio_word.specs.declared.Class.TheVariants.{Unended, Whole, Short, Failed}
@@ -14,7 +13,7 @@ use Rattle.aio_handle.specs.Executing.{TakesUp, Pays}
 use Rattle.aio_handle.specs.LifeWords.{claimed, executed, completed}
 use Rattle.aio_handle.specs.Made.{Made}
 use Rattle.aio_handle.proofs.Growing.{took-one, grows-then, io-grows, share-grows}
-use Rattle.aio_callback.specs.Reading.{Reading, Completed, aim_in, number_of_id, with_pages}
+use Rattle.aio_callback.specs.Reading.{Reading, Completed, aim_in}
 use Rattle.aio_callback.specs.Finished.{Finish, Grew, finishes, reference_in}
 use Rattle.method_sync.specs.Executed.{IsExecutedAs}
 use Rattle.aio_word.specs.declared.Step.TheVariants as event
@@ -73,9 +72,3 @@ pub takes-executed : (told : Option Told) (t : WaitRef) (aim : List ℕ) (p q : 
     → faults ≤ faults' → TakesUp (mark_at t kind.Claimed ∷ []) p q reads reads' faults faults'
 takes-executed told t aim p q before after reads reads' faults faults' x one later =
     takes-one x.reading.label.ended t p q reads reads' faults faults' x.grows one later x.failed
-
--- the pages of a read change nothing of what it is aimed at
-pub aim-read : (r : Reading) (pages : List (List ℕ)) → aim_in (with_pages r pages) ≡ aim_in r
-aim-read r pages =
-    ap (λ (n : ℕ). n ∷ r.relation ∷ r.first ∷ r.count ∷ map number_of_id r.ids)
-    (sym (length_refill (length r.pages) r.pages pages refl))

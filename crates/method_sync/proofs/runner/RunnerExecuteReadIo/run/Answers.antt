@@ -7,7 +7,8 @@ use Rattle.aio_word.specs.declared.Kind.TheVariants as kind
 use Rattle.aio_word.specs.Tokens.{mark_at}
 use Rattle.aio_handle.specs.Executing.{TakesUp}
 use Rattle.method_sync.specs.Executed.{IsExecutedAs}
-use Rattle.method_sync.proofs.Running.{executed-as, takes-executed, aim-read}
+use Rattle.aio_callback.proofs.ReadInto.{aim_stays}
+use Rattle.method_sync.proofs.Running.{executed-as, takes-executed}
 use Rattle.method_sync.proofs.runner.RunnerExecuteReadIo.run.Goals as goal
 
 pub returns-clause-executed : goal.returns-clause-executed
@@ -21,7 +22,7 @@ returns-clause-executed g c =
     let read : c.record_mut-2.result.now ≡ with_pages t.1 c.read.new.pages = search rules in
     let aimed : aim_in r ≡ aim_in t.1 = c.complete_shared.ensures.aim ∙ (ap (λ z. aim_in z) kept
     ∙ (ap (λ z. aim_in z) c.answer.ensures ∙ (ap (λ z. aim_in z) read
-    ∙ aim-read t.1 c.read.new.pages))) in
+    ∙ aim_stays t.1 c.read.new.pages))) in
     subst (λ (o : Option (WaitRef × Reading)). IfSome o (λ x. IsExecutedAs g.W.World.told x.0
     (aim_in x.1) c.args.actor.now.known q (g.P.Places.finished c.args.self.now.places)
     (g.P.Places.finished c.complete_shared.new.places) (g.D.Disk.faults c.args.self.now.disk)

@@ -1,0 +1,5 @@
+use Rattle.aio_callback.proofs.ReadInto.{aim_stays}
+use Rattle.aio_callback.proofs.laws.lent_pages_leave_the_aim.Goals as goal
+
+pub returns : goal.returns
+returns c = aim_stays
