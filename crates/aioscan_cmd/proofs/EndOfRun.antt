@@ -1,16 +1,17 @@
 -- How a run over an opened disk ends, by what its lengths and its blocks gave.
-use Rattle.std.proofs.Common.{◌≡◌, ℕ, ◌+◌, ◌<◌, List, length, get_or, refl, ap, arith, subst}
+use Rattle.std.proofs.Common.{◌≡◌, ℕ, ◌+◌, ◌<◌, ◌≤◌, List, length, get_or, refl, ap, arith, subst}
 use Rattle.std.proofs.Common.{true, false, sym}
 use Rattle.std.specs.Prelude.{Option, Some, None, IfSome, slice_index, nat_lt, cond}
 use Rattle.std.proofs.lemmas.Bool.Decides.{nat_tests}
 use Rattle.page_check.specs.Told.{Told, blocks_of}
-use Rattle.page_check.specs.SynchronousAnswer.{reader_of}
+use Rattle.page_check.specs.SynchronousAnswer.{Reader, reader_of}
 use Rattle.aio_disk.specs.Counts.{raised_by}
+use Rattle.aio_handle.specs.Executing.{last_count}
 use Rattle.aioscan_cmd.specs.Command.{Command, length_limit, relations_of}
 use Rattle.aioscan_cmd.specs.RequestList.{Request, requests_of}
-use Rattle.aioscan_cmd.specs.Outcomes.{is_refused, stopped_at}
+use Rattle.aioscan_cmd.specs.Outcomes.{is_refused}
 use Rattle.aioscan_cmd.specs.Lengths.{HasLengths, HasNoLengths}
-use Rattle.aioscan_cmd.specs.Reading.{Seen, seen, Lists, reads_behind}
+use Rattle.aioscan_cmd.specs.Reading.{Seen, seen, Lists}
 use Rattle.aioscan_cmd.specs.Run.{Ran, EarlierFit, FitsInOrder, lengths_known}
 use Rattle.aioscan_cmd.specs.declared.report.Outcome.{Outcome}
 use Rattle.aioscan_cmd.specs.declared.report.Outcome.TheVariants.{Done, Invalid, Usage, CannotOpen}
@@ -45,7 +46,8 @@ pub ran_out_of_memory : (told : Option Told) (relations : ℕ) (command : Comman
 ran_out_of_memory told relations command s = record {
   answered = long_at 0;
   in_order = tt;
-  lists = λ is. lists_nothing _ _ s;
+  lists = λ is. lists_nothing _ _ s.written;
+  few_reads = λ _. omega arith;
   untouched = λ is. refl;
 }
 
@@ -56,6 +58,7 @@ ran_without_disk told relations command s = record {
   answered = long_at 0;
   in_order = tt;
   lists = λ is. absurd (cc);
+  few_reads = λ _. omega arith;
   untouched = λ is. refl;
 }
 
@@ -66,12 +69,14 @@ ran_into_refusal told relations command s (NoLength r) has = record {
   answered = long_at r;
   in_order = (has.0, earlier_known told r has.1);
   lists = λ is. absurd (cc);
+  few_reads = λ _. omega arith;
   untouched = λ is. refl;
 }
 ran_into_refusal told relations command s (TooLong r) has = record {
   answered = long_at r;
   in_order = (has.0, long_known told r has.2, earlier_known told r has.1);
   lists = λ is. absurd (cc);
+  few_reads = λ _. omega arith;
   untouched = λ is. refl;
 }
 ran_into_refusal told relations command s NoMemory has = ran_out_of_memory told relations command s
@@ -120,37 +125,24 @@ refused_not o not is = absurd (cc)
 
 -- blocks were listed, all of them or up to a stop
 pub ran_listed : (told now : Option Told) (relations : ℕ) (command : Command) (lengths : List ℕ)
-    (b a : Seen) (o : Outcome) → now ≡ told → relations ≡ length (relations_of command)
-    → HasLengths told relations lengths
-    → Lists (reader_of now) (requests_of (slice_index lengths) command) b a o
-    → Ran told relations command b a o
-ran_listed told now relations command lengths b a o same all has lists =
+    (output after : Option (List ℕ)) (read : ℕ) (o : Outcome) → now ≡ told
+    → relations ≡ length (relations_of command) → HasLengths told relations lengths
+    → Lists (reader_of now) (requests_of (slice_index lengths) command) output after o
+    → (read < last_count → read ≤ length (requests_of (slice_index lengths) command))
+    → Ran told relations command (seen output 0) (seen after read) o
+ran_listed told now relations command lengths output after read o same all has lists few =
     let requests = same_requests told relations command lengths all has in record {
       answered = slice_index lengths;
       in_order =
           fits_where_listed _ relations o lists.begun (lengths_fit told relations lengths has);
-      lists = λ is. lists_same (reader_of told) _ _ b a o requests (rw (← same) lists);
+      lists = λ is. lists_same (reader_of told) _ _ output after o requests (rw (← same) lists);
+      few_reads = λ below. omega (arith, few below, ap length requests);
       untouched = λ is. absurd (refused_not o lists.begun is);
     }
 
-raised_twice : (n before middle now read : ℕ) → read ≡ raised_by n 0 → now ≡ raised_by read before
-    → now ≡ raised_by n before
-raised_twice n before middle now read first second = omega arith
-
-shelf_lists : (told : Option Told) (requests : List Request) (output after : Option (List ℕ))
-    (read reads now : ℕ) (o : Outcome) → now ≡ raised_by read reads
-    → Lists (reader_of told) requests (seen output 0) (seen after read) o
-    → Lists (reader_of told) requests (seen output reads) (seen after now) o
-shelf_lists told requests output after read reads now o back lists = record {
-  begun = lists.begun;
-  text = lists.text;
-  answer = lists.answer;
-  here = lists.here;
-  grew = lists.grew;
-  reads =
-      raised_twice (length lists.answer.pages + reads_behind (stopped_at o)) reads 0 now read
-      lists.reads back;
-}
+shelf_few : (read reads now most : ℕ) → now ≡ raised_by read reads
+    → (read < last_count → read ≤ 0 + most) → now < last_count → now ≤ reads + most
+shelf_few read reads now most back few below = omega (arith, back, few)
 
 shelf_untouched : (output after : Option (List ℕ)) (read reads now : ℕ)
     → now ≡ raised_by read reads → seen after read ≡ seen output 0
@@ -163,17 +155,16 @@ shelf_untouched output after read reads now back same =
 
 -- a disk that was not read before is taken back
 pub ran_on_shelf : (told now : Option Told) (relations count : ℕ) (command : Command)
-    (output after : Option (List ℕ)) (fresh read reads total : ℕ) (o : Outcome) → now ≡ told
-    → count ≡ relations → fresh ≡ 0 → total ≡ raised_by read reads
-    → Ran now count command (seen output fresh) (seen after read) o
+    (output after : Option (List ℕ)) (read reads total : ℕ) (o : Outcome) → now ≡ told
+    → count ≡ relations → total ≡ raised_by read reads
+    → Ran now count command (seen output 0) (seen after read) o
     → Ran told relations command (seen output reads) (seen after total) o
-ran_on_shelf told now relations count command output after fresh read reads total o same all none back ran =
-    let P : ℕ → Type 0 = λ n. Ran now count command (seen output n) (seen after read) o in
-    let run = subst P none ran in
+ran_on_shelf told now relations count command output after read reads total o same all back run =
     rw (← same, ← all) (record {
       answered = run.answered;
       in_order = run.in_order;
-      lists = λ is. shelf_lists now _ output after read reads total o back (run.lists is);
+      lists = run.lists;
+      few_reads = shelf_few read reads total _ back run.few_reads;
       untouched = λ is. shelf_untouched output after read reads total back (run.untouched is);
     })
 
@@ -186,15 +177,11 @@ ran_still told relations command output reads now o same ran =
     let P : ℕ → Type 0 = λ n. Ran told relations command (seen output reads) (seen output n) o in
     subst P (sym same) ran
 
--- blocks listed by the same lengths, behind calls that read nothing
-pub lists_from : (told : Option Told) (lengths same : List ℕ) (command : Command)
-    (output : Option (List ℕ)) (reads fresh : ℕ) (a : Seen) (o : Outcome) → same ≡ lengths
-    → fresh ≡ reads
-    → Lists (reader_of told) (requests_of (slice_index same) command) (seen output fresh) a o
-    → Lists (reader_of told) (requests_of (slice_index lengths) command) (seen output reads) a o
-lists_from told lengths same command output reads fresh a o is kept lists =
-    let P : List ℕ → Type 0 = λ l.
-    Lists (reader_of told) (requests_of (slice_index l) command) (seen output reads) a o in
-    let Q : ℕ → Type 0 = λ n.
-    Lists (reader_of told) (requests_of (slice_index same) command) (seen output n) a o in
-    subst P is (subst Q kept lists)
+-- blocks that were listed by the same lengths
+pub lists_from : (found : Option Reader) (lengths same : List ℕ) (command : Command)
+    (b a : Option (List ℕ)) (o : Outcome) → same ≡ lengths
+    → Lists found (requests_of (slice_index same) command) b a o
+    → Lists found (requests_of (slice_index lengths) command) b a o
+lists_from found lengths same command b a o is lists =
+    let P : List ℕ → Type 0 = λ l. Lists found (requests_of (slice_index l) command) b a o in
+    subst P is lists

@@ -1,22 +1,21 @@
 -- FILE words that are listed one after the other.
 use Rattle.std.proofs.Common.{◌≡◌, ◌≢◌, ℕ, ◌+◌, ◌<◌, ◌≤◌, List, [], ◌∷◌, ◌++◌, map, take, drop, length}
 use Rattle.std.proofs.Common.{get_or, refl, sym, ap, ◌∙◌, subst, arith, suc}
-use Rattle.std.proofs.Common.{append-nil}
+use Rattle.std.proofs.Common.{append-nil, length-append}
 use Rattle.std.specs.Prelude.{Option, string_bytes, String}
 use Rattle.std.specs.declared.alloc.Global.{Global}
 use Rattle.std.specs.List.{flat_map}
 use Rattle.std.proofs.lemmas.Grind.{flat_map-append}
 use Rattle.std.proofs.lemmas.List.{take_more, take_all, take-append-drop, length-map, get_or-map}
 use Rattle.std.proofs.lemmas.List.Concat.{flat_map-cons}
-use Rattle.page_check.specs.Told.{Told}
-use Rattle.page_check.specs.SynchronousAnswer.{reader_of}
+use Rattle.page_check.specs.SynchronousAnswer.{Reader}
 use Rattle.aioscan_cmd.specs.declared.report.Outcome.{Outcome}
 use Rattle.aioscan_cmd.specs.declared.report.Outcome.TheVariants.{Done}
 use Rattle.aioscan_cmd.specs.Command.{Command, relations_of, relation_number}
 use Rattle.aioscan_cmd.proofs.Names.{place_of_name}
 use Rattle.aioscan_cmd.specs.RequestList.{Request, block_range, first_block, asked_count}
 use Rattle.aioscan_cmd.specs.RequestList.{requests_of_file, requests_of}
-use Rattle.aioscan_cmd.specs.Reading.{Seen, Lists}
+use Rattle.aioscan_cmd.specs.Reading.{Lists}
 use Rattle.aioscan_cmd.proofs.Lists.{lists_append, lists_more, lists_same}
 
 -- what the first k FILE words add
@@ -54,33 +53,53 @@ requests_up_to-rest lengths command k =
     ∙ flat_map-append F (take k command.files) (drop k command.files)
 
 -- the next FILE word was listed
-pub lists_file : (told now : Option Told) (lengths : ℕ → ℕ) (command : Command) (k : ℕ)
-    (name : List ℕ) (b m a : Seen) → now ≡ told → k < length command.files
+pub lists_file : (found : Option Reader) (lengths : ℕ → ℕ) (command : Command) (k : ℕ)
+    (name : List ℕ) (b m a : Option (List ℕ)) → k < length command.files
     → get_or command.files k [] ≡ name
-    → Lists (reader_of told) (requests_up_to k lengths command) b m Done
-    → Lists (reader_of now) (requests_of_file lengths command name) m a Done
-    → Lists (reader_of told) (requests_up_to (k + 1) lengths command) b a Done
-lists_file told now lengths command k name b m a same below is front here =
-    lists_same (reader_of told) _ _ b a Done
+    → Lists found (requests_up_to k lengths command) b m Done
+    → Lists found (requests_of_file lengths command name) m a Done
+    → Lists found (requests_up_to (k + 1) lengths command) b a Done
+lists_file found lengths command k name b m a below is front here =
+    lists_same found _ _ b a Done
     (sym (requests_up_to-more lengths command k name below is))
-    (lists_append (reader_of told) (requests_up_to k lengths command)
-    (requests_of_file lengths command name) b m a Done front (rw (← same) here))
+    (lists_append found (requests_up_to k lengths command)
+    (requests_of_file lengths command name) b m a Done front here)
 
 -- the next FILE word ended it
-pub file_stopped : (told now : Option Told) (lengths : ℕ → ℕ) (command : Command) (k : ℕ)
-    (name : List ℕ) (b m a : Seen) (o : Outcome) → now ≡ told → k < length command.files
+pub file_stopped : (found : Option Reader) (lengths : ℕ → ℕ) (command : Command) (k : ℕ)
+    (name : List ℕ) (b m a : Option (List ℕ)) (o : Outcome) → k < length command.files
     → get_or command.files k [] ≡ name → o ≢ Done
-    → Lists (reader_of told) (requests_up_to k lengths command) b m Done
-    → Lists (reader_of now) (requests_of_file lengths command name) m a o
-    → Lists (reader_of told) (requests_of lengths command) b a o
-file_stopped told now lengths command k name b m a o same below is stops front here =
-    let more = lists_append (reader_of told) (requests_up_to k lengths command)
-    (requests_of_file lengths command name) b m a o front (rw (← same) here) in
-    let P : List Request → Type 0 = λ l. Lists (reader_of told) l b a o in
+    → Lists found (requests_up_to k lengths command) b m Done
+    → Lists found (requests_of_file lengths command name) m a o
+    → Lists found (requests_of lengths command) b a o
+file_stopped found lengths command k name b m a o below is stops front here =
+    let more = lists_append found (requests_up_to k lengths command)
+    (requests_of_file lengths command name) b m a o front here in
+    let P : List Request → Type 0 = λ l. Lists found l b a o in
     subst P (sym (requests_up_to-rest lengths command (k + 1)))
-    (lists_more (reader_of told) (requests_up_to (k + 1) lengths command)
+    (lists_more found (requests_up_to (k + 1) lengths command)
     (flat_map (requests_of_file lengths command) (drop (k + 1) command.files)) b a o stops
     (subst P (sym (requests_up_to-more lengths command k name below is)) more))
+
+-- so many blocks more
+pub length_up_to-more : (lengths : ℕ → ℕ) (command : Command) (k : ℕ) (name : List ℕ)
+    → k < length command.files → get_or command.files k [] ≡ name
+    → length (requests_up_to (k + 1) lengths command)
+    ≡ length (requests_up_to k lengths command) + length (requests_of_file lengths command name)
+length_up_to-more lengths command k name below is =
+    ap length (requests_up_to-more lengths command k name below is)
+    ∙ length-append (requests_up_to k lengths command) (requests_of_file lengths command name)
+
+-- and no more than all
+pub length_up_to-all : (lengths : ℕ → ℕ) (command : Command) (k : ℕ)
+    → length (requests_up_to k lengths command) ≤ length (requests_of lengths command)
+length_up_to-all lengths command k =
+    let rest = flat_map (requests_of_file lengths command) (drop k command.files) in
+    omega (
+      arith,
+      ap length (requests_up_to-rest lengths command k),
+      length-append (requests_up_to k lengths command) rest,
+    )
 
 -- the number of a relation that the words name is one of those that there are
 pub relation_number-below : (command : Command) (k : ℕ) (name : List ℕ) → k < length command.files

@@ -3,10 +3,12 @@ pub mod Names
 pub mod MoreLengths
 pub mod Growing
 pub mod Lists
-pub mod OneBlock
 pub mod Causing
-pub mod Ranges
+pub mod Shown
+pub mod Streams
 pub mod Files
 pub mod EndOfRun
 pub mod TopClauses
 pub mod Rows
+pub mod Opening
+pub mod Counted

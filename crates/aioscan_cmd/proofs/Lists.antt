@@ -12,11 +12,10 @@ use Rattle.page_check.proofs.AnswersOfBlocks.{answered_invalid, answered_past_en
 use Rattle.heap_scan.specs.PageText.{page_text_of}
 use Rattle.heap_scan.specs.Listing.{listing}
 use Rattle.heap_scan.proofs.Jobs.{job_append, job_more, IsEarly}
-use Rattle.aio_disk.specs.Counts.{raised_by}
 use Rattle.aio_disk.specs.Sink.{Grew}
 use Rattle.aioscan_cmd.specs.RequestList.{Request, Page, request}
 use Rattle.aioscan_cmd.specs.Outcomes.{ending_of, stopped_at}
-use Rattle.aioscan_cmd.specs.Reading.{Seen, seen, GrewBy, reads_behind, Lists, ShowsPage}
+use Rattle.aioscan_cmd.specs.Reading.{GrewBy, Lists}
 use Rattle.aioscan_cmd.specs.declared.report.Outcome.{Outcome}
 use Rattle.aioscan_cmd.specs.declared.report.Outcome.TheVariants.{Done, Invalid, Usage, CannotOpen}
 use Rattle.aioscan_cmd.specs.declared.report.Outcome.TheVariants.{NoLength, Unread, CannotWrite}
@@ -24,16 +23,12 @@ use Rattle.aioscan_cmd.specs.declared.report.Outcome.TheVariants.{NoMemory, Miss
 use Rattle.aioscan_cmd.proofs.Growing.{Grew-nothing, Grew-append, GrewByPrefix-nothing}
 use Rattle.aioscan_cmd.proofs.Growing.{GrewByPrefix-append}
 
-no_listing : listing (let none : List Page = [] in none) ≡ []
+pub no_listing : listing (let none : List Page = [] in none) ≡ []
 unfolding listing
 no_listing = refl
 
-one_listing : (g : Page) → page_text_of g.entry.relation g.entry.block g.page ≡ listing (g ∷ [])
-unfolding listing
-one_listing g = sym (append-nil (page_text_of g.entry.relation g.entry.block g.page))
-
 -- no blocks
-pub lists_none : (found : Option Reader) (s : Seen) → Lists found [] s s Done
+pub lists_none : (found : Option Reader) (s : Option (List ℕ)) → Lists found [] s s Done
 lists_none found s = record {
   begun = refl;
   text = [];
@@ -43,8 +38,7 @@ lists_none found s = record {
     answers = answered_no_block found (λ _. ⊤);
   };
   here = λ e is. absurd (cc);
-  grew = Grew-nothing s.written;
-  reads = omega arith;
+  grew = Grew-nothing s;
 }
 
 GrewBy-append : (o : Outcome) (b m a : Option (List ℕ)) (xs ys : List ℕ) → Grew b m xs
@@ -60,12 +54,8 @@ GrewBy-append CannotOpen b m a xs ys first second = Grew-append b m a xs ys firs
 GrewBy-append (NoLength r) b m a xs ys first second = Grew-append b m a xs ys first second
 GrewBy-append (TooLong r) b m a xs ys first second = Grew-append b m a xs ys first second
 
-reads_append : (f g k before middle now : ℕ) → middle ≡ raised_by (f + 0) before
-    → now ≡ raised_by (g + k) middle → now ≡ raised_by (f + g + k) before
-reads_append f g k before middle now first second = omega arith
-
 -- some blocks to their end, and then some more
-pub lists_append : (found : Option Reader) (xs ys : List Request) (b m a : Seen) (o : Outcome)
+pub lists_append : (found : Option Reader) (xs ys : List Request) (b m a : Option (List ℕ)) (o : Outcome)
     → Lists found xs b m Done → Lists found ys m a o → Lists found (xs ++ ys) b a o
 unfolding job_append
 lists_append found xs ys b m a o front back =
@@ -84,11 +74,7 @@ lists_append found xs ys b m a o front back =
           ap (slice_get (xs ++ ys)) (size ∙ ap (λ (i : ℕ). i + k) all)
           ∙ slice_get_back xs ys k ∙ back.here e is);
       grew =
-          GrewBy-append o b.written m.written a.written front.text back.text front.grew back.grew;
-      reads =
-          reads_append n k (reads_behind (stopped_at o)) b.reads m.reads a.reads front.reads
-          back.reads
-          ∙ ap (λ (i : ℕ). raised_by (i + reads_behind (stopped_at o)) b.reads) (sym size);
+          GrewBy-append o b m a front.text back.text front.grew back.grew;
     }
 
 none_early : IsEarly None
@@ -110,7 +96,7 @@ early (NoLength r) stops = none_early
 early (TooLong r) stops = none_early
 
 -- listing stopped, whatever is asked for behind
-pub lists_more : (found : Option Reader) (xs ys : List Request) (b a : Seen) (o : Outcome)
+pub lists_more : (found : Option Reader) (xs ys : List Request) (b a : Option (List ℕ)) (o : Outcome)
     → o ≢ Done → Lists found xs b a o → Lists found (xs ++ ys) b a o
 unfolding job_more
 lists_more found xs ys b a o stops front = record {
@@ -120,16 +106,15 @@ lists_more found xs ys b a o stops front = record {
       job_more found (λ _. ⊤) xs ys front.text (ending_of o) (early o stops) front.answer;
   here = λ e is. slice_get_front xs ys (length front.answer.pages) e (front.here e is);
   grew = front.grew;
-  reads = front.reads;
 }
 
-pub lists_same : (found : Option Reader) (xs ys : List Request) (b a : Seen) (o : Outcome)
+pub lists_same : (found : Option Reader) (xs ys : List Request) (b a : Option (List ℕ)) (o : Outcome)
     → xs ≡ ys → Lists found xs b a o → Lists found ys b a o
 lists_same found xs ys b a o same lists =
     let P : List Request → Type 0 = λ l. Lists found l b a o in subst P same lists
 
--- there was no memory before a block was read
-pub lists_nothing : (found : Option Reader) (xs : List Request) (s : Seen)
+-- there was no memory before a page was given
+pub lists_nothing : (found : Option Reader) (xs : List Request) (s : Option (List ℕ))
     → Lists found xs s s NoMemory
 lists_nothing found xs s = record {
   begun = refl;
@@ -137,109 +122,5 @@ lists_nothing found xs s = record {
   answer =
       record { pages = []; text_is = sym no_listing; answers = answered_none found (λ _. ⊤) xs };
   here = λ e is. absurd (cc);
-  grew = GrewByPrefix-nothing s.written s.written [] refl;
-  reads = omega arith;
+  grew = GrewByPrefix-nothing s s [] refl;
 }
-
--- one block that was not read
-pub block_unread : (found : Option Reader) (r b : ℕ) (output : Option (List ℕ)) (reads now : ℕ)
-    → now ≡ raised_by 1 reads
-    → Lists found (request r b ∷ []) (seen output reads) (seen output now) (Unread r b)
-block_unread found r b output reads now made = record {
-  begun = refl;
-  text = [];
-  answer = record {
-    pages = [];
-    text_is = sym no_listing;
-    answers = answered_unread found (λ _. ⊤) (request r b) tt;
-  };
-  here = λ e is. is;
-  grew = Grew-nothing output;
-  reads = omega (arith, made);
-}
-
--- one that the relation does not have
-pub block_missing : (found : Option Reader) (r b : ℕ) (output : Option (List ℕ)) (reads now : ℕ)
-    → IfSome found (λ f. found_for f (request r b) ≡ Absent) → now ≡ raised_by 1 reads
-    → Lists found (request r b ∷ []) (seen output reads) (seen output now) (Missing r b)
-block_missing found r b output reads now absent made = record {
-  begun = refl;
-  text = [];
-  answer = record {
-    pages = [];
-    text_is = sym no_listing;
-    answers = answered_past_end found (λ _. ⊤) (request r b) absent;
-  };
-  here = λ e is. is;
-  grew = Grew-nothing output;
-  reads = omega (arith, made);
-}
-
--- what was read of one block
-pub record OneRead (found : Option Reader) (r b : ℕ) (page : List ℕ) : Type 0 where
-  pub valid : IsValid page → IfSome found (λ f. found_for f (request r b) ≡ FoundPage page)
-  pub bad : (IsValid page → ⊥) → IfSome found (λ f. found_for f (request r b) ≡ Damaged)
-
--- and its page shown
-pub block_shown : (found : Option Reader) (r b : ℕ) (page : List ℕ)
-    (before after : Option (List ℕ)) (reads now : ℕ) (o : Outcome) → OneRead found r b page
-    → ShowsPage page r b before after o → now ≡ raised_by 1 reads
-    → Lists found (request r b ∷ []) (seen before reads) (seen after now) o
-block_shown found r b page before after reads now Done read shows made = record {
-  begun = refl;
-  text = page_text_of r b page;
-  answer = record {
-    pages = record { entry = request r b; page = page } ∷ [];
-    text_is = one_listing (record { entry = request r b; page = page });
-    answers =
-        answered_last_page found (λ _. ⊤) (request r b) page shows.0 (read.valid shows.0);
-  };
-  here = λ e is. absurd (cc);
-  grew = shows.1;
-  reads = omega (arith, made);
-}
-block_shown found r b page before after reads now (Invalid s c) read shows made =
-    let bad = shows.0 in
-    let same = shows.3 in
-    rw (shows.1, shows.2, same) (record {
-      begun = refl;
-      text = [];
-      answer = record {
-        pages = [];
-        text_is = sym no_listing;
-        answers = answered_invalid found (λ _. ⊤) (request r b) (read.bad (λ valid. valid bad));
-      };
-      here = λ e is. is;
-      grew = Grew-nothing before;
-      reads = omega (arith, made);
-    })
-block_shown found r b page before after reads now CannotWrite read shows made = record {
-  begun = refl;
-  text = page_text_of r b page;
-  answer = record {
-    pages = record { entry = request r b; page = page } ∷ [];
-    text_is = one_listing (record { entry = request r b; page = page });
-    answers = answered_page found (λ _. ⊤) (request r b) page shows.0 (read.valid shows.0);
-  };
-  here = λ e is. absurd (cc);
-  grew = shows.1;
-  reads = omega (arith, made);
-}
-block_shown found r b page before after reads now NoMemory read shows made = record {
-  begun = refl;
-  text = page_text_of r b page;
-  answer = record {
-    pages = record { entry = request r b; page = page } ∷ [];
-    text_is = one_listing (record { entry = request r b; page = page });
-    answers = answered_page found (λ _. ⊤) (request r b) page shows.0 (read.valid shows.0);
-  };
-  here = λ e is. absurd (cc);
-  grew = shows.1;
-  reads = omega (arith, made);
-}
-block_shown found r b page before after reads now (Missing s c) read shows made = absurd shows
-block_shown found r b page before after reads now (Unread s c) read shows made = absurd shows
-block_shown found r b page before after reads now Usage read shows made = absurd shows
-block_shown found r b page before after reads now CannotOpen read shows made = absurd shows
-block_shown found r b page before after reads now (NoLength s) read shows made = absurd shows
-block_shown found r b page before after reads now (TooLong s) read shows made = absurd shows

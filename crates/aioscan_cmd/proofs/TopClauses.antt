@@ -51,7 +51,7 @@ missing_by Absent r b is = refl
 
 -- a run over contents that are told: its pages are the first of synchronous reads
 module _ (f : Reader) (requests : List Request) (b a : Seen) (o : Outcome)
-    (lists : Lists (Some f) requests b a o) where
+    (lists : Lists (Some f) requests b.written a.written o) where
   -- all of them
   text_all : length lists.answer.pages ≡ length (pages_of f requests)
       → lists.text ≡ listing (pages_of f requests)

@@ -9,11 +9,6 @@ use Rattle.aioscan_cmd.specs.declared.report.Outcome.TheVariants.{Usage, CannotO
 use Rattle.aioscan_cmd.specs.declared.report.Outcome.TheVariants.{Unread, CannotWrite, NoMemory}
 use Rattle.aioscan_cmd.specs.declared.report.Outcome.TheVariants.{TooLong}
 
--- what one disk counts, none of whose opens failed
-abbrev pub disk_counts : ℕ → ℕ → ℕ → ShelfCounts
-disk_counts lengths failed made =
-    record { open_faults = 0; length_faults = lengths; faults = failed; reads = made }
-
 -- no count fell
 pub record NoneFell (before now : ShelfCounts) : Type 0 where
   pub open_faults : before.open_faults ≤ now.open_faults
@@ -30,6 +25,12 @@ pub record HasCauses (before now : ShelfCounts) (write_faults_before write_fault
   pub no_length : (r : ℕ) → outcome ≡ NoLength r → Rose before.length_faults now.length_faults
   pub unread : (r b : ℕ) → outcome ≡ Unread r b → Rose before.faults now.faults
   pub cannot_write : outcome ≡ CannotWrite → Rose write_faults_before write_faults_now
+
+-- what a disk that had counted nothing has counted by the end of a run
+pub record HasScanned (length_faults faults reads : ℕ) (outcome : Outcome) : Type 0 where
+  pub no_length : (r : ℕ) → outcome ≡ NoLength r → 0 < length_faults
+  pub unread : (r b : ℕ) → outcome ≡ Unread r b → 0 < faults
+  pub refused : is_refused outcome ≡ true → (faults ≡ 0) × (reads ≡ 0)
 
 -- the words are read first; blocks are read only once a disk was opened and each length was had
 pub record CallsInOrder (before now : ShelfCounts) (outcome : Outcome) : Type 0 where

@@ -3,6 +3,7 @@ pub mod Words
 pub mod RequestList
 pub mod Outcomes
 pub mod Reading
+pub mod Streams
 pub mod Run
 pub mod Causes
 pub mod ErrorLine

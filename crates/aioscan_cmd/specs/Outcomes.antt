@@ -1,6 +1,6 @@
 -- The exit status of an outcome, and the line that names it.
 use Rattle.std.specs.Prelude.{ℕ, List, [], ◌∷◌, codes, decimal, Bool, true, false}
-use Rattle.std.specs.Prelude.{Option, Some, None, Result, Ok, Err}
+use Rattle.std.specs.Prelude.{Option, Some, None}
 use Rattle.std.specs.List.{concat}
 use Rattle.page_check.specs.SynchronousAnswer.{Ending, End, PastEnd, Invalid as EndsInvalid}
 use Rattle.page_check.specs.SynchronousAnswer.{Unread as EndsUnread}
@@ -76,8 +76,3 @@ ending_of (NoLength r) = None
 ending_of CannotWrite = None
 ending_of NoMemory = None
 ending_of (TooLong r) = None
-
--- the outcome of a call that answers Ok where all was done
-abbrev pub outcome_in : Result (Unit {0}) Outcome → Outcome
-outcome_in (Ok u) = Done
-outcome_in (Err outcome) = outcome

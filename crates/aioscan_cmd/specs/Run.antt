@@ -1,5 +1,5 @@
 -- What a run asks for, and what one thread's synchronous reads of it give.
-use Rattle.std.specs.Prelude.{◌≡◌, ℕ, ◌<◌, ◌≤◌, List, length, take, slice_get, Option, Some, None}
+use Rattle.std.specs.Prelude.{◌≡◌, ℕ, ◌+◌, ◌<◌, ◌≤◌, List, length, take, slice_get, Option, Some, None}
 use Rattle.std.specs.Prelude.{IfSome, false, true}
 use Rattle.page_check.specs.Told.{Told, blocks_of}
 use Rattle.page_check.specs.SynchronousAnswer.{Found, Page as FoundPage, Damaged, Absent, found_for}
@@ -7,6 +7,7 @@ use Rattle.page_check.specs.SynchronousAnswer.{Reader, found_at, reader_of, page
 use Rattle.heap_scan.specs.Listing.{listing}
 use Rattle.aio_disk.specs.Shelf.{Files, told_of}
 use Rattle.aio_disk.specs.Sink.{Grew, GrewByPrefix}
+use Rattle.aio_handle.specs.Executing.{last_count}
 use Rattle.aioscan_cmd.specs.Command.{Command, length_limit, relations_of}
 use Rattle.aioscan_cmd.specs.RequestList.{Request, Page, request, requests_of}
 use Rattle.aioscan_cmd.specs.Outcomes.{is_refused}
@@ -105,7 +106,11 @@ pub record Ran (told : Option Told) (relations : ℕ) (command : Command) (befor
   pub answered : ℕ → ℕ
   pub in_order : FitsInOrder (lengths_known told answered) relations outcome
   pub lists : is_refused outcome ≡ false
-      → Lists (reader_of told) (requests_of (lengths_known told answered) command) before now outcome
+      → Lists (reader_of told) (requests_of (lengths_known told answered) command) before.written
+      now.written outcome
+  -- as far as the count goes, there were no more reads than blocks that were asked for
+  pub few_reads : now.reads < last_count
+      → now.reads ≤ before.reads + length (requests_of (lengths_known told answered) command)
   pub untouched : is_refused outcome ≡ true → now ≡ before
 
 abbrev pub RanOn : Option Files → Option Command → Seen → Seen → Outcome → Type 0

@@ -7,6 +7,7 @@
 //! that does not tell, less is known, and the contract says how much.
 #![tactic(auto)]
 
+mod engine;
 mod error_line;
 mod lengths;
 mod lister;

@@ -17,9 +17,11 @@ use crate::words::{Command, read_command};
 use crate::{Outcome, Report};
 use aio_disk::{OpenFault, Shelf, Sink};
 use std::alloc::Global;
+use std::sync::Wait;
 
 // Opens a disk for the relations, and lists what the command asks for.
-fn run_command<S: Shelf, O: Sink>(
+fn run_command<R: Wait, S: Shelf, O: Sink>(
+    rt: &R,
     alloc: Global,
     command: &Command<'_>,
     shelf: &mut S,
@@ -42,8 +44,8 @@ fn run_command<S: Shelf, O: Sink>(
     match shelf.open(relations.names()) {
         Err(OpenFault::Device) => Outcome::CannotOpen,
         Err(OpenFault::Memory) => Outcome::NoMemory,
-        Ok(mut disk) => {
-            let outcome = scan_disk(alloc, command, &relations, &mut disk, out);
+        Ok(disk) => {
+            let (disk, outcome) = scan_disk(rt, alloc, command, &relations, disk, out);
             shelf.take_back(disk);
             outcome
         }
@@ -51,7 +53,13 @@ fn run_command<S: Shelf, O: Sink>(
 }
 
 // Reads the words, and lists what they ask for.
-fn run<S: Shelf, O: Sink>(alloc: Global, words: &[String], shelf: &mut S, out: &mut O) -> Outcome
+fn run<R: Wait, S: Shelf, O: Sink>(
+    rt: &R,
+    alloc: Global,
+    words: &[String],
+    shelf: &mut S,
+    out: &mut O,
+) -> Outcome
     ensures usage { (result ≡ Outcome.Usage) ↔ (command_of (map string_bytes words.now) ≡ None) }
     ensures ran { RanOn (S.told shelf.old) (command_of (map string_bytes words.now))
         (seen (O.written out.old) (S.counts shelf.old).reads)
@@ -66,7 +74,7 @@ fn run<S: Shelf, O: Sink>(alloc: Global, words: &[String], shelf: &mut S, out: &
         (λ c. AllThereIfTold (S.told shelf.old) (relations_of c)) }
 {
     match read_command(words) {
-        Some(command) => run_command(alloc, &command, shelf, out),
+        Some(command) => run_command(rt, alloc, &command, shelf, out),
         None => Outcome::Usage,
     }
 }
@@ -76,11 +84,11 @@ fn run<S: Shelf, O: Sink>(alloc: Global, words: &[String], shelf: &mut S, out: &
 /// The words are `scan`, then at most one `--from N`, then at most one `--to N`, then 1 to 1024
 /// files, without the program's name. Relations are the distinct files, numbered from 0 in the
 /// order of their first appearance. One disk is opened for all of them; their lengths are taken,
-/// in order, before anything is written; then each file's blocks are read, in order, one at a time,
-/// and each page's text goes to `out` by one write. A line on `err` names what ended the run, where
+/// in order, before anything is written; then each file's blocks are read through one stream, which
+/// reads neighbours together, and each page's text goes to `out` by one write. A line on `err` names what ended the run, where
 /// that is not the end of the list. The disk is taken back in every case.
-pub fn aioscan<R, S: Shelf, O: Sink, E: Sink>(
-    _rt: &R,
+pub fn aioscan<R: Wait, S: Shelf, O: Sink, E: Sink>(
+    rt: &R,
     alloc: Global,
     words: &[String],
     shelf: &mut S,
@@ -118,7 +126,7 @@ pub fn aioscan<R, S: Shelf, O: Sink, E: Sink>(
     ensures totals { (result.incarnations ≡ 0) × (result.by_workers ≡ 0)
         × (result.by_backends ≡ 0) }
 {
-    let outcome = run(alloc, words, shelf, out);
+    let outcome = run(rt, alloc, words, shelf, out);
     let line = write_line(alloc, outcome, err);
     Report {
         status: status(outcome),

@@ -3,6 +3,7 @@ use crate::{Report, aioscan};
 use aio_disk::{MemShelf, MemSink, Script, have_distinct_names};
 use std::alloc::{AllocError, Global};
 use std::process::Abort;
+use std::sync::Wait;
 use std::test::Fail;
 
 /// A page of zeros, but with these bytes at these offsets.
@@ -48,7 +49,7 @@ pub(crate) type Fails<'a> = (&'a [u64], &'a [(u32, u64)], &'a [(u32, u64)]);
 pub(crate) const STEADY: Fails<'static> = (&[], &[], &[]);
 
 /// The report of a run over files in memory, and what it left on the two sinks.
-pub(crate) fn run<R: Abort + AllocGlobal>(
+pub(crate) fn run<R: Abort + AllocGlobal + Wait>(
     rt: &R,
     files: Vec<(String, Vec<u8>)>,
     fails: Fails<'_>,

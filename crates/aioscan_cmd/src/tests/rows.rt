@@ -3,6 +3,7 @@ use super::outside::{DAMAGED, EMPTY, Fails, Parts, STEADY, ZEROS, file_of, run};
 use crate::Line;
 use std::process::Abort;
 use std::slice::from_ref;
+use std::sync::Wait;
 use std::test::Fail;
 
 const E_LINE: &str = "page 0 0 lower 24 upper 8192 special 8192 items 0\n";
@@ -10,7 +11,7 @@ const E_LINE: &str = "page 0 0 lower 24 upper 8192 special 8192 items 0\n";
 const USAGE: &str = "usage: aioscan [options] FILE...\n";
 
 // Runs over `f` and `g`, and compares the output, the line and the status.
-fn expect<R: Abort + AllocGlobal>(
+fn expect<R: Abort + AllocGlobal + Wait>(
     rt: &R,
     name: &str,
     files: (&[Parts<'_>], &[Parts<'_>]),
@@ -33,7 +34,7 @@ fn expect<R: Abort + AllocGlobal>(
 }
 
 // `scan f` over one file.
-fn expect_page<R: Abort + AllocGlobal>(
+fn expect_page<R: Abort + AllocGlobal + Wait>(
     rt: &R,
     name: &str,
     parts: Parts<'_>,

@@ -22,8 +22,7 @@ returns-clause-ran g c =
     ran_on_shelf
     (told_of (g.S.Shelf.told c.args.shelf.now) (relations_of c.args.command.now))
     (g.S.Disk.Disk.told c.in-Ok-open.disk) _ _
-    c.args.command.now (g.O.Sink.written c.args.out.now) _ _ _ _ _ _
+    c.args.command.now (g.O.Sink.written c.args.out.now) _ _ _ _ _
     (c.in-Ok-open.ensures.contents
     ∙ ap (told_of (g.S.Shelf.told c.args.shelf.now)) names) (ap length c.in-Ok.ensures)
-    c.in-Ok-open.ensures.no_reads
-    (search rules) c.scan_disk-outcome.ensures.ran
+    (search rules) c.scan_disk-disk.ensures.ran

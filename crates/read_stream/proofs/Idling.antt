@@ -1,0 +1,150 @@
+-- Calls that leave an owner's books as they are: what was defined, taken and reclaimed.
+use Rattle.std.proofs.Common.{◌≡◌, ◌≢◌, ℕ, ◌+◌, ◌*◌, List, [], ◌∷◌, ◌++◌, refl, sym, ap}
+use Rattle.std.proofs.Common.{◌∙◌}
+use Rattle.std.proofs.Common.{arith, append_assoc, append-nil, ◌==◌, ◌&&◌}
+use Rattle.std.proofs.lemmas.List.Sums.{sum_by-append, sum_by-cons}
+use Rattle.std.proofs.lemmas.Bool.Decides.{nat_tests}
+use Rattle.aio_word.specs.declared.Kind.{Kind}
+use Rattle.aio_word.specs.declared.Kind.TheVariants as kind
+use Rattle.aio_word.specs.declared.Known.{Known}
+use Rattle.aio_word.specs.declared.Mark.{Mark}
+use Rattle.aio_word.specs.declared.Step.TheVariants as event
+use Rattle.aio_word.specs.declared.Word.{Word}
+use Rattle.aio_word.specs.declared.WaitRef.{WaitRef}
+use Rattle.aio_word.specs.Events.{order, mark_at, ref, lives, is_mark}
+use Rattle.aio_word.specs.Stands.{one_if}
+use Rattle.aio_word.proofs.Frames.{spot, at-more, at-place}
+use Rattle.aio_handle.specs.Executing.{TakesUp}
+use Rattle.aio_handle.specs.Made.{Made, Looked}
+use Rattle.read_stream.specs.Went.{local_marks}
+
+-- the marks at one place over all incarnations, and at one place of one handle
+pub locals-more : (ms more : List Mark)
+    → local_marks (ms ++ more) ≡ local_marks ms + local_marks more
+locals-more ms more = sum_by-append (λ m. one_if (order m.kind == 6)) ms more
+
+pub lives-append : (h : ℕ) (ms more : List Mark)
+    → lives h (ms ++ more) ≡ lives h ms + lives h more
+lives-append h ms more =
+    sum_by-append (λ m. one_if ((m.handle == h) && (order m.kind == 7))) ms more
+
+mark-counts : (m : Mark) (i : ℕ) (ms : List Mark)
+    → spot (ref m.handle m.generation) i (m ∷ ms)
+    ≡ one_if (is_mark m.handle (8 * m.generation + i) m) + spot (ref m.handle m.generation) i ms
+mark-counts m i ms = sum_by-cons (λ x. one_if (is_mark m.handle (8 * m.generation + i) x)) m ms
+
+here-one : (m : Mark) (i : ℕ) → order m.kind ≡ i
+    → one_if (is_mark m.handle (8 * m.generation + i) m) ≡ 1
+here-one m i e = grind (arith, nat_tests)
+
+none-behind : (t : WaitRef) (i : ℕ) (m : Mark) (ms : List Mark) → spot t i (m ∷ ms) ≡ 0
+    → spot t i ms ≡ 0
+none-behind t i m ms e =
+    let c = sum_by-cons (λ x. one_if (is_mark t.handle (8 * t.generation + i) x)) m ms in
+    omega arith
+
+-- no incarnation has a mark at the place: so there is none
+pub no-locals : (ms : List Mark) → ((t : WaitRef) → spot t 6 ms ≡ 0) → local_marks ms ≡ 0
+no-locals [] none = refl
+no-locals (m ∷ ms) none =
+    let i = no-locals ms (λ t. none-behind t 6 m ms (none t)) in
+    let c = sum_by-cons (λ x. one_if (order x.kind == 6)) m ms in
+    let z = none (ref m.handle m.generation) in
+    let s = mark-counts m 6 ms in
+    let not_here : order m.kind ≢ 6 = λ e. (let h = here-one m 6 e in omega arith) in
+    let zero_here : one_if (order m.kind == 6) ≡ 0 = grind (arith, nat_tests) in
+    omega arith
+
+pub no-lives : (h : ℕ) (ms : List Mark) → ((t : WaitRef) → spot t 7 ms ≡ 0) → lives h ms ≡ 0
+no-lives h [] none = refl
+no-lives h (m ∷ ms) none =
+    let i = no-lives h ms (λ t. none-behind t 7 m ms (none t)) in
+    let c = sum_by-cons (λ x. one_if ((x.handle == h) && (order x.kind == 7))) m ms in
+    let z = none (ref m.handle m.generation) in
+    let s = mark-counts m 7 ms in
+    let not_here : order m.kind ≢ 7 = λ e. (let h = here-one m 7 e in omega arith) in
+    let zero_here : one_if ((m.handle == h) && (order m.kind == 7)) ≡ 0 =
+    grind (arith, nat_tests) in
+    omega arith
+
+-- q has defined, taken and reclaimed as much as p
+pub record Idles (p q : Known) : Type 0 where
+  pub number : q.number ≡ p.number
+  pub config : q.config ≡ p.config
+  pub defined : (t : WaitRef) → spot t 0 q.marks ≡ spot t 0 p.marks
+  pub reclaimed : (t : WaitRef) → spot t 7 q.marks ≡ spot t 7 p.marks
+  pub locals : local_marks q.marks ≡ local_marks p.marks
+  pub lived : (h : ℕ) → lives h q.marks ≡ lives h p.marks
+  pub more : List Mark
+  pub grown : q.marks ≡ p.marks ++ more
+
+pub idles-then : (p q r : Known) → Idles p q → Idles q r → Idles p r
+idles-then p q r a b = record {
+  number = b.number ∙ a.number;
+  config = b.config ∙ a.config;
+  defined = λ t. b.defined t ∙ a.defined t;
+  reclaimed = λ t. b.reclaimed t ∙ a.reclaimed t;
+  locals = b.locals ∙ a.locals;
+  lived = λ h. b.lived h ∙ a.lived h;
+  more = a.more ++ b.more;
+  grown = b.grown
+      ∙ (ap (λ (z : List Mark). z ++ b.more) a.grown ∙ append_assoc p.marks a.more b.more);
+}
+
+idles-growing : (p q : Known) (more : List Mark) → q.number ≡ p.number → q.config ≡ p.config
+    → q.marks ≡ p.marks ++ more
+    → ((t : WaitRef) → spot t 0 more ≡ 0) → ((t : WaitRef) → spot t 6 more ≡ 0)
+    → ((t : WaitRef) → spot t 7 more ≡ 0) → Idles p q
+idles-growing p q more number config marks none0 none6 none7 = record {
+  number = number;
+  config = config;
+  defined = λ t. ap (λ (z : List Mark). spot t 0 z) marks
+      ∙ (let a = at-more t 0 p.marks more in let b = none0 t in omega arith);
+  reclaimed = λ t. ap (λ (z : List Mark). spot t 7 z) marks
+      ∙ (let a = at-more t 7 p.marks more in let b = none7 t in omega arith);
+  locals = ap local_marks marks
+      ∙ (let a = locals-more p.marks more in let b = no-locals more none6 in omega arith);
+  lived = λ h. ap (lives h) marks
+      ∙ (let a = lives-append h p.marks more in let b = no-lives h more none7 in omega arith);
+  more = more;
+  grown = marks;
+}
+
+pub idles-taking-up : (p q : Known) (a b c d : ℕ) → TakesUp [] p q a b c d → Idles p q
+idles-taking-up p q a b c d k = idles-growing p q k.more k.grows.number k.grows.config k.grows.marks
+    (λ t. let o = k.took.owners t in omega arith)
+    (λ t. let o = k.took.owners t in omega arith)
+    (λ t. let o = k.took.owners t in omega arith)
+
+idles-same : (p q : Known) → q.number ≡ p.number → q.config ≡ p.config → q.marks ≡ p.marks
+    → Idles p q
+idles-same p q number config marks = idles-growing p q [] number config
+    (marks ∙ sym (append-nil p.marks)) (λ t. refl) (λ t. refl) (λ t. refl)
+
+pub idles-looking : (h : ℕ) (w : Word) (p q : Known) → Looked h w p q → Idles p q
+idles-looking h w p q l = idles-same p q (ap (λ (z : Known). z.number) l.is)
+    (ap (λ (z : Known). z.config) l.is) (ap (λ (z : Known). z.marks) l.is)
+
+pub idles-handing : (h : ℕ) (w w' : Word) (aim : List ℕ) (p q : Known)
+    → Made event.HandOut h w w' aim p q → Idles p q
+idles-handing h w w' aim p q m = idles-same p q (ap (λ (z : Known). z.number) m.is)
+    (ap (λ (z : Known). z.config) m.is) (ap (λ (z : Known). z.marks) m.is)
+
+idles-mark : (t : WaitRef) (k : Kind) (p q : Known) → q.number ≡ p.number → q.config ≡ p.config
+    → q.marks ≡ p.marks ++ mark_at t k ∷ [] → order k ≢ 0 → order k ≢ 6 → order k ≢ 7 → Idles p q
+idles-mark t k p q number config marks no0 no6 no7 =
+    idles-growing p q (mark_at t k ∷ []) number config marks
+    (λ u. at-place u t 0 k [] no0 (omega arith)) (λ u. at-place u t 6 k [] no6 (omega arith))
+    (λ u. at-place u t 7 k [] no7 (omega arith))
+
+pub idles-staging : (h : ℕ) (w w' : Word) (aim : List ℕ) (p q : Known)
+    → Made event.Stage h w w' aim p q → Idles p q
+idles-staging h w w' aim p q m = idles-mark (ref h w.generation) kind.Staged p q
+    (ap (λ (z : Known). z.number) m.is) (ap (λ (z : Known). z.config) m.is)
+    (ap (λ (z : Known). z.marks) m.is) (λ e. omega arith) (λ e. omega arith) (λ e. omega arith)
+
+pub idles-submitting : (h : ℕ) (w w' : Word) (aim : List ℕ) (p q : Known)
+    → Made event.Submit h w w' aim p q → Idles p q
+idles-submitting h w w' aim p q m = idles-mark (ref h w.generation) kind.Submitted p q
+    (ap (λ (z : Known). z.number) m.is) (ap (λ (z : Known). z.config) m.is)
+    (ap (λ (z : Known). z.marks) m.is) (λ e. omega arith) (λ e. omega arith) (λ e. omega arith)

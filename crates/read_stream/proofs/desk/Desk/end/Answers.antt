@@ -1,0 +1,25 @@
+use Rattle.std.proofs.Common.{◌≡◌, [], ◌∷◌, ◌++◌, subst, sym, ap, arith, length, refl}
+use Rattle.std.specs.Prelude.{Some, IfSome}
+use Rattle.read_stream.specs.Open.{count_some}
+use Rattle.aio_callback.specs.Reading.{Reading}
+use Rattle.circular_buffer.specs.Buffer.{buffer}
+use Rattle.read_stream.specs.declared.reads.Reads.{Reads}
+use Rattle.read_stream.specs.Issued.{Issued}
+use Rattle.read_stream.proofs.Moving.{more-free}
+use Rattle.read_stream.proofs.desk.Desk.end.Goals as goal
+
+pub finish-requires-clause-issued : goal.finish-requires-clause-issued
+finish-requires-clause-issued g c =
+    let W : Type 0 = g.row.W.Denot in
+    let s : Reads W = c.args.self.now.reads in
+    let io : Reading = c.in-Some.io in
+    let all = c.requires.all in
+    let now : c.args.current ≡ Some io = c.in-Some.is in
+    let one : count_some c.args.current ≡ 1 = ap (λ z. count_some z) now in
+    let fits : length io.pages ≡ c.args.scope.now.combine =
+    subst (λ z. IfSome z (λ x. length x.pages ≡ c.args.scope.now.combine)) now
+    c.requires.current in
+    subst (λ (z : Reads W). Issued c.args.scope.now g.W.World.told g.W.World.relations
+    c.args.actor.now.known z) (sym c.release.ensures)
+    (more-free c.args.scope.now g.W.World.told g.W.World.relations c.args.actor.now.known s io
+    (buffer (s.free.items ++ io ∷ []) s.free.capacity) refl (omega arith) fits c.requires.issued).0

@@ -1,0 +1,10 @@
+use Rattle.read_stream.proofs.Answered.{page_is_next, stop_is_next}
+use Rattle.read_stream.proofs.laws.parts_are_answers.Goals as goal
+
+pub returns-clause-page : goal.returns-clause-page
+returns-clause-page g c = λ s told relations list k b info rest here far p io taken has is.
+    page_is_next s told relations list k b info rest here far p io taken has is
+
+pub returns-clause-stop : goal.returns-clause-stop
+returns-clause-stop g c = λ s told relations list k b info rest here far p io taken has end is.
+    stop_is_next s told relations list k b info rest here far p io taken has end is

@@ -1,0 +1,81 @@
+use Rattle.std.proofs.Common.{◌≡◌, arith, refl, sym, ◌∙◌, ap}
+use Rattle.aio_result.specs.declared.AioResult.{AioResult}
+use Rattle.aio_callback.specs.Reading.{Reading}
+use Rattle.read_stream.proofs.PartCases.{part_rest, part_invalid, part_unread, part_past}
+use Rattle.read_stream.proofs.parts.part_of.Goals as goal
+
+pub returns-then-result-eq2 : goal.returns-then-result-eq2
+returns-then-result-eq2 g c =
+    let io : Reading = c.args.io.now in
+    let law = c.stream_records_end_in_five_ways.ensures in
+    let case = law.case g.W.World.told g.W.World.relations io c.requires.fits c.requires.ended
+    c.requires.ids in
+    let given = law.given io c.requires.ids in
+    let good = c.good-good.ensures.value in
+    let first = c.first.ensures in
+    let is : c.result-result.result ≡ io.result = c.result-result.ensures in
+    let id : c.result-result.result.id ≡ io.result.id = ap (λ (z : AioResult). z.id) is in
+    let two = c.if-result-eq2.true in
+    let below = c.if-index-good.false in
+    let above = c.if-index-good-2.false in (
+      refl,
+      part_invalid g.W.World.told io c.args.block c.requires.has case (omega arith)
+          (ap (λ (z : AioResult). z.status) (sym is) ∙ c.in-Error.is) (omega arith),
+    )
+
+pub returns-then-result-eq1 : goal.returns-then-result-eq1
+returns-then-result-eq1 g c =
+    let io : Reading = c.args.io.now in
+    let law = c.stream_records_end_in_five_ways.ensures in
+    let case = law.case g.W.World.told g.W.World.relations io c.requires.fits c.requires.ended
+    c.requires.ids in
+    let given = law.given io c.requires.ids in
+    let good = c.good-good.ensures.value in
+    let first = c.first.ensures in
+    let is : c.result-result.result ≡ io.result = c.result-result.ensures in
+    let id : c.result-result.result.id ≡ io.result.id = ap (λ (z : AioResult). z.id) is in
+    let er : c.result-result.result.error ≡ io.result.error = ap (λ (z : AioResult). z.error) is in
+    let two = c.if-result-eq2.false in
+    let one = c.if-result-eq1.true in
+    let below = c.if-index-good.false in
+    let above = c.if-index-good-2.false in
+    let both = part_unread g.W.World.told io c.args.block c.requires.has case (omega arith)
+    (ap (λ (z : AioResult). z.status) (sym is) ∙ c.in-Error.is) (λ e. two (id ∙ e))
+    (omega arith) in
+    (refl, both.0, both.1)
+
+pub returns-else-result-eq1 : goal.returns-else-result-eq1
+returns-else-result-eq1 g c =
+    let io : Reading = c.args.io.now in
+    let law = c.stream_records_end_in_five_ways.ensures in
+    let case = law.case g.W.World.told g.W.World.relations io c.requires.fits c.requires.ended
+    c.requires.ids in
+    let given = law.given io c.requires.ids in
+    let good = c.good-good.ensures.value in
+    let first = c.first.ensures in
+    let is : c.result-result.result ≡ io.result = c.result-result.ensures in
+    let id : c.result-result.result.id ≡ io.result.id = ap (λ (z : AioResult). z.id) is in
+    let er : c.result-result.result.error ≡ io.result.error = ap (λ (z : AioResult). z.error) is in
+    let two = c.if-result-eq2.false in
+    let one = c.if-result-eq1.false in
+    let below = c.if-index-good.false in
+    let above = c.if-index-good-2.false in (
+      refl,
+      part_past g.W.World.told io c.args.block c.requires.has case (omega arith)
+          (ap (λ (z : AioResult). z.status) (sym is) ∙ c.in-Error.is) (λ e. two (id ∙ e))
+          (λ e. one (er ∙ e)),
+    )
+
+pub returns-in_default : goal.returns-in_default
+returns-in_default g c =
+    let io : Reading = c.args.io.now in
+    let law = c.stream_records_end_in_five_ways.ensures in
+    let case = law.case g.W.World.told g.W.World.relations io c.requires.fits c.requires.ended
+    c.requires.ids in
+    let given = law.given io c.requires.ids in
+    let good = c.good-good.ensures.value in
+    let first = c.first.ensures in
+    let is : c.result-result.result ≡ io.result = c.result-result.ensures in
+    let below = c.if-index-good.false in
+    part_rest g.W.World.told io c.args.block c.requires.has case (omega arith)
+    (λ e. c.in_default.not-Error (ap (λ (z : AioResult). z.status) is ∙ e))

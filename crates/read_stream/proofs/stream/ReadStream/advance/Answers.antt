@@ -1,0 +1,114 @@
+use Rattle.std.proofs.Common.{◌≡◌, ◌<◌, refl, ap, sym, subst, arith, ◌∙◌}
+use Rattle.std.specs.Prelude.{Option}
+use Rattle.aio_word.specs.declared.Known.{Known}
+use Rattle.aio_word.specs.declared.Config.{Config}
+use Rattle.aio_handle.specs.Shown.{Standing}
+use Rattle.aio_callback.specs.Reading.{Reading}
+use Rattle.read_stream.specs.declared.answer.Step.{Step}
+use Rattle.read_stream.specs.declared.scope.Scope.{Scope}
+use Rattle.read_stream.specs.declared.stream.ReadStream.{ReadStream}
+use Rattle.read_stream.specs.Answering.{said_by}
+use Rattle.read_stream.specs.Open.{IsBetween, IsGiving, shown}
+use Rattle.read_stream.proofs.Giving.{between_known, next_kept}
+use Rattle.read_stream.proofs.Going.{went_then}
+use Rattle.read_stream.proofs.Steady.{keeps_then}
+use Rattle.read_stream.proofs.stream.ReadStream.advance.Goals as goal
+
+pub serve-requires-clause-giving : goal.serve-requires-clause-giving
+serve-requires-clause-giving g c =
+    let s : ReadStream g.row.W.Denot g.row.S.Denot g.row.P.Denot = c.let_go.new.self in
+    let n : ReadStream g.row.W.Denot g.row.S.Denot g.row.P.Denot = c.start_last.new.self in
+    let a = c.look_ahead.ensures.stays in
+    let b = c.submit.ensures.stays in
+    let d = c.start_last.ensures.stays in
+    subst (λ (z : Option Reading). IsGiving z n.step)
+    (sym (d.current ∙ (b.current ∙ a.current)))
+    (subst (λ (z : Step g.row.P.Denot). IsGiving s.current z) (sym (d.step ∙ (b.step ∙ a.step)))
+    c.let_go.ensures.giving)
+
+pub returns-clause-went : goal.returns-clause-went
+returns-clause-went g c =
+    let p : Known = c.args.actor.now.known in
+    let q : Known = c.serve.new.actor.known in
+    went_then p c.look_ahead.new.actor.known q _ _ _ _ _ _ c.look_ahead.ensures.went
+    (went_then c.look_ahead.new.actor.known c.submit.new.actor.known q _ _ _ _ _ _
+    c.submit.ensures.went
+    (went_then c.submit.new.actor.known c.start_last.new.actor.known q _ _ _ _ _ _
+    c.start_last.ensures.went c.serve.ensures.went))
+
+pub returns-clause-answer : goal.returns-clause-answer
+returns-clause-answer g c =
+    let s : ReadStream g.row.W.Denot g.row.S.Denot g.row.P.Denot = c.args.self.now in
+    let l : ReadStream g.row.W.Denot g.row.S.Denot g.row.P.Denot = c.let_go.new.self in
+    let m : ReadStream g.row.W.Denot g.row.S.Denot g.row.P.Denot = c.look_ahead.new.self in
+    let b : ReadStream g.row.W.Denot g.row.S.Denot g.row.P.Denot = c.submit.new.self in
+    let t : ReadStream g.row.W.Denot g.row.S.Denot g.row.P.Denot = c.start_last.new.self in
+    let n : ReadStream g.row.W.Denot g.row.S.Denot g.row.P.Denot = c.serve.new.self in
+    let keeps = keeps_then s l t c.let_go.ensures.moves.keeps
+    (keeps_then l m t c.look_ahead.ensures.stays.keeps
+    (keeps_then m b t c.submit.ensures.stays.keeps c.start_last.ensures.stays.keeps)) in
+    let given = c.start_last.ensures.stays.given ∙ (c.submit.ensures.stays.given
+    ∙ (c.look_ahead.ensures.stays.given ∙ c.let_go.ensures.moves.given)) in
+    next_kept g.S.BlockSource.left g.W.World.told g.W.World.relations g.W.World.handles
+    c.serve.new.actor.known s t (said_by n.scope.relation n.step (shown n)) keeps given
+    c.serve.ensures.answer
+
+pub returns-clause-follows : goal.returns-clause-follows
+returns-clause-follows g c =
+    let s : ReadStream g.row.W.Denot g.row.S.Denot g.row.P.Denot = c.args.self.now in
+    let l : ReadStream g.row.W.Denot g.row.S.Denot g.row.P.Denot = c.let_go.new.self in
+    let m : ReadStream g.row.W.Denot g.row.S.Denot g.row.P.Denot = c.look_ahead.new.self in
+    let b : ReadStream g.row.W.Denot g.row.S.Denot g.row.P.Denot = c.submit.new.self in
+    let t : ReadStream g.row.W.Denot g.row.S.Denot g.row.P.Denot = c.start_last.new.self in
+    let n : ReadStream g.row.W.Denot g.row.S.Denot g.row.P.Denot = c.serve.new.self in
+    let keeps = keeps_then s l n c.let_go.ensures.moves.keeps
+    (keeps_then l m n c.look_ahead.ensures.stays.keeps
+    (keeps_then m b n c.submit.ensures.stays.keeps
+    (keeps_then b t n c.start_last.ensures.stays.keeps c.serve.ensures.keeps))) in
+    let given = c.start_last.ensures.stays.given ∙ (c.submit.ensures.stays.given
+    ∙ (c.look_ahead.ensures.stays.given ∙ c.let_go.ensures.moves.given)) in
+    let more = c.serve.ensures.given in
+    let is : c.of.result.value ≡ c.serve.new.actor = c.of.ensures in
+    let was : n.scope.was.value ≡ s.scope.was.value =
+    ap (λ (z : Scope g.row.W.Denot). z.was.value) keeps.scope in
+    let was_open = c.requires.is_open in
+    let actor = c.requires.actor in
+    let w1 = c.look_ahead.ensures.went in
+    let w2 = c.submit.ensures.went in
+    let w3 = c.start_last.ensures.went in
+    let w4 = c.serve.ensures.went in
+    let config : c.serve.new.actor.config ≡ s.actor_is.value.config =
+    c.serve.ensures.same.1 ∙ (c.start_last.ensures.same.1 ∙ (c.submit.ensures.same.1
+    ∙ (c.look_ahead.ensures.same.1 ∙ ap (λ (z : Standing). z.config) actor))) in
+    let backends : c.serve.new.actor.config.backends ≡ s.actor_is.value.config.backends =
+    ap (λ (z : Config). z.backends) config in
+    let number : c.serve.new.actor.known.number ≡ s.actor_is.value.known.number =
+    w4.number ∙ (w3.number ∙ (w2.number ∙ (w1.number
+    ∙ ap (λ (z : Standing). z.known.number) actor))) in
+    let backend : c.serve.new.actor.known.number < c.serve.new.actor.config.backends =
+    let z = was_open.backend in omega arith in
+    record {
+      desk = keeps.desk;
+      source = ap (λ z. z.value) keeps.source_was;
+      actor_was = was;
+      actor_is = is;
+      relation = ap (λ (z : Scope g.row.W.Denot). z.relation) keeps.scope;
+      given = omega arith;
+      found = refl;
+      is_open = record {
+        same = (
+          ap (λ (z : Standing). z.table) is
+              ∙ (c.serve.ensures.same.0 ∙ (c.start_last.ensures.same.0 ∙ (c.submit.ensures.same.0
+              ∙ (c.look_ahead.ensures.same.0 ∙ (ap (λ (z : Standing). z.table) actor
+              ∙ (was_open.same.0 ∙ sym (ap (λ (z : Standing). z.table) was))))))),
+          ap (λ (z : Standing). z.config) is
+              ∙ (config ∙ (was_open.same.1 ∙ sym (ap (λ (z : Standing). z.config) was))),
+        );
+        backend = subst (λ (z : Standing). z.known.number < z.config.backends) (sym is) backend;
+        between = subst (λ (z : Standing). IsBetween g.S.BlockSource.left g.W.World.told
+            g.W.World.relations g.W.World.handles z.known (record n { actor_is = c.of.result }))
+            (sym is)
+            (between_known g.S.BlockSource.left g.W.World.told g.W.World.relations
+            g.W.World.handles c.serve.new.actor.known n c.of.result c.serve.ensures.between);
+      };
+    }

@@ -1,0 +1,37 @@
+use Rattle.std.proofs.Common.{◌++◌, [], ap, refl, sym}
+use Rattle.std.specs.Prelude.{Option}
+use Rattle.aio_word.specs.declared.Known.{Known}
+use Rattle.read_plan.specs.declared.runs.Run.{Run}
+use Rattle.read_stream.specs.declared.reads.Reads.{Reads}
+use Rattle.read_stream.specs.declared.stream.ReadStream.{ReadStream}
+use Rattle.read_stream.specs.Open.{pending_in}
+use Rattle.read_stream.proofs.Flown.{are-for-later}
+use Rattle.read_stream.proofs.Going.{went_taking_up, went_then}
+use Rattle.read_stream.proofs.Looking.{underway_plan}
+use Rattle.read_stream.proofs.Serving.{same_far, underway_reads}
+use Rattle.read_stream.proofs.Submitted.{issued-taking-up}
+use Rattle.read_stream.proofs.stream.ReadStream.wait_for.Goals as goal
+
+pub returns-clause-went : goal.returns-clause-went
+returns-clause-went g c =
+    went_then c.args.actor.now.known c.submit.new.actor.known c.wait.new.actor.known _ _ _ _ _ _
+    c.submit.ensures.went
+    (went_taking_up c.submit.new.actor.known c.wait.new.actor.known _ _ _ _ c.wait.ensures.marks)
+
+pub returns-clause-underway : goal.returns-clause-underway
+returns-clause-underway g c = λ hand u.
+    let n : ReadStream g.row.W.Denot g.row.S.Denot g.row.P.Denot = c.submit.new.self in
+    let reads : Reads g.row.W.Denot = n.desk.now.reads in
+    let p : Known = c.submit.new.actor.known in
+    let q : Known = c.wait.new.actor.known in
+    let went = went_taking_up p q _ _ _ _ c.wait.ensures.marks in
+    let v = c.submit.ensures.underway hand u in
+    let far = same_far n.plan c.waited.new.self _ c.waited.ensures in
+    underway_plan g.S.BlockSource.left g.W.World.told g.W.World.relations g.W.World.handles q n
+    c.waited.new.self hand [] [] 0 far.0
+    (ap (λ (z : Option Run). pending_in z ++ []) (sym far.1))
+    (underway_reads g.S.BlockSource.left g.W.World.told g.W.World.relations g.W.World.handles p q n
+    _ _ _ _ went reads hand [] 0
+    (issued-taking-up n.scope [] g.W.World.told g.W.World.relations p q reads _ _ _ _
+    c.wait.ensures.marks v.steady.issued) v.steady.staged refl refl refl refl
+    (λ runs a. are-for-later n.scope p q reads reads runs went.aims refl refl refl a) v)

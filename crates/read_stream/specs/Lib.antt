@@ -1,0 +1,5 @@
+pub mod Went
+pub mod Issued
+pub mod Answering
+pub mod Parts
+pub mod Open

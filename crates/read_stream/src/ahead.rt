@@ -1,0 +1,394 @@
+//! How a stream looks ahead.
+ghost use Rattle.std.specs.Prelude.{◌≡◌, ◌<◌, ◌≤◌, ◌+◌, ◌-◌, ◌^◌, ◌++◌, List, ℕ, [], ◌∷◌};
+ghost use Rattle.std.specs.Prelude.{length, IsTrue, IfSome, true, false, ◌⊎◌};
+ghost use Rattle.aio_handle.specs.Shown.{IsOf, IsSame};
+ghost use Rattle.read_plan.specs.Plans.{MayLookAhead};
+ghost use Rattle.read_plan.specs.Runs.{IsRun};
+ghost use Rattle.read_plan.specs.declared.runs.Run.{Run};
+ghost use Rattle.read_stream.specs.Issued.{Issued, AreFor};
+ghost use Rattle.read_stream.specs.Open.{Asks, Puts, Starts, Stays, Underway, UnderwayBut, rest_of};
+ghost use Rattle.read_stream.specs.Open.{IsWant, blocks_by, runs_by};
+ghost use Rattle.read_stream.specs.Went.{Went};
+
+use crate::queue::{Asked, Want};
+use crate::ring::push;
+use crate::stream::ReadStream;
+use aio_batch::Method;
+use aio_callback::ReadIo;
+use aio_handle::{Actor, Execute, Table};
+use block_source::BlockSource;
+use buf_pool::{Look, Tag};
+use page_check::World;
+use read_plan::{Offer, Run};
+use std::sync::Wait;
+
+impl<'d, 'p, W: World, S: BlockSource<P> + Drop, P: Copy> ReadStream<'d, 'p, W, S, P> {
+    // Starts the run by a free record.
+    fn start<M: Method<ReadIo, W>, E: Execute<ReadIo, W>, T: Wait>(
+        &mut self,
+        rt: &T,
+        table: &Table<ReadIo, W>,
+        actor: &mut Actor<ReadIo, W>,
+        method: &mut M,
+        runner: &mut E,
+        run: Run,
+    )
+        requires table { IsOf table.now actor.old }
+        requires scope { IsOf table.now self.old.scope.was.value }
+        requires backend { actor.old.known.number < table.now.config.backends }
+        requires told { (E.told runner.old ≡ W.told) × (E.relations runner.old ≡ W.relations) }
+        requires issued { Issued self.old.scope W.told W.relations actor.old.known
+            self.old.desk.now.reads }
+        requires relation { self.old.scope.relation < W.relations }
+        requires run { IsRun self.old.scope.combine run }
+        requires free { 0 < length self.old.desk.now.reads.free.items }
+        requires few { length self.old.desk.now.reads.batch < 32 }
+        requires plan { self.old.plan.ios_in_progress < 2 ^ 32 - 1 }
+        requires credit { 0 < self.old.desk.now.reads.credit }
+        requires room { length self.old.desk.now.wants.items < self.old.desk.now.wants.capacity }
+        ensures same { IsSame actor.old actor.new }
+        ensures told { (E.told runner.new ≡ E.told runner.old)
+            × (E.relations runner.new ≡ E.relations runner.old) }
+        ensures went { Went actor.old.known actor.new.known (E.reads runner.old)
+            (E.reads runner.new) (E.faults runner.old) (E.faults runner.new) }
+        ensures stands_on { M.stands_on method.new ≡ M.stands_on method.old }
+        ensures issued { Issued self.new.scope W.told W.relations actor.new.known
+            self.new.desk.now.reads }
+        ensures few { length self.new.desk.now.reads.batch < 32 }
+        ensures runs { (runs : List Run) → AreFor self.old.scope actor.old.known
+            self.old.desk.now.reads runs → AreFor self.new.scope actor.new.known
+            self.new.desk.now.reads (runs ++ run ∷ []) }
+        ensures starts { Starts run self.old self.new }
+    {
+        let Some(io) = self.desk.reads.free.pop_front() else {
+            unreachable!()
+        };
+        self.plan.started();
+        push(&mut self.desk.wants, Want::Run(run));
+        self.desk.reads.start(
+            rt,
+            &self.scope,
+            self.pool,
+            table,
+            actor,
+            method,
+            runner,
+            io,
+            run,
+        );
+    }
+
+    // Starts the pending run, where there is one. The blocks behind it stay behind.
+    fn start_pending<M: Method<ReadIo, W>, E: Execute<ReadIo, W>, T: Wait>(
+        &mut self,
+        rt: &T,
+        table: &Table<ReadIo, W>,
+        actor: &mut Actor<ReadIo, W>,
+        method: &mut M,
+        runner: &mut E,
+    )
+        requires table { IsOf table.now actor.old }
+        requires scope { IsOf table.now self.old.scope.was.value }
+        requires backend { actor.old.known.number < table.now.config.backends }
+        requires told { (E.told runner.old ≡ W.told) × (E.relations runner.old ≡ W.relations) }
+        requires underway { (behind : List ℕ) × UnderwayBut S.left W.told W.relations W.handles
+            (rest_of self.old.current self.old.step) behind 0 actor.old.known self.old }
+        requires free { 1 < length self.old.desk.now.reads.free.items }
+        ensures same { IsSame actor.old actor.new }
+        ensures told { (E.told runner.new ≡ E.told runner.old)
+            × (E.relations runner.new ≡ E.relations runner.old) }
+        ensures went { Went actor.old.known actor.new.known (E.reads runner.old)
+            (E.reads runner.new) (E.faults runner.old) (E.faults runner.new) }
+        ensures stands_on { M.stands_on method.new ≡ M.stands_on method.old }
+        ensures underway { (behind : List ℕ) → UnderwayBut S.left W.told W.relations W.handles
+            (rest_of self.old.current self.old.step) behind 0 actor.old.known self.old
+            → UnderwayBut S.left W.told W.relations W.handles
+            (rest_of self.new.current self.new.step) behind 0 actor.new.known self.new }
+        ensures none { self.new.plan.pending ≡ None }
+        ensures stays { Stays self.old self.new }
+        ensures ahead { (self.new.plan.blocks_ahead ≡ self.old.plan.blocks_ahead)
+            × (self.new.over ≡ self.old.over) × (self.new.source ≡ self.old.source)
+            × (self.new.desk.now.queue ≡ self.old.desk.now.queue) }
+    {
+        if let Some(run) = self.plan.take_pending() {
+            self.start(rt, table, actor, method, runner, run);
+        }
+    }
+
+    // Starts the pending run, where it is whole.
+    fn start_whole<M: Method<ReadIo, W>, E: Execute<ReadIo, W>, T: Wait>(
+        &mut self,
+        rt: &T,
+        table: &Table<ReadIo, W>,
+        actor: &mut Actor<ReadIo, W>,
+        method: &mut M,
+        runner: &mut E,
+    )
+        requires table { IsOf table.now actor.old }
+        requires scope { IsOf table.now self.old.scope.was.value }
+        requires backend { actor.old.known.number < table.now.config.backends }
+        requires told { (E.told runner.old ≡ W.told) × (E.relations runner.old ≡ W.relations) }
+        requires underway { Underway S.left W.told W.relations W.handles actor.old.known self.old }
+        requires free { 1 < length self.old.desk.now.reads.free.items }
+        ensures same { IsSame actor.old actor.new }
+        ensures told { (E.told runner.new ≡ E.told runner.old)
+            × (E.relations runner.new ≡ E.relations runner.old) }
+        ensures went { Went actor.old.known actor.new.known (E.reads runner.old)
+            (E.reads runner.new) (E.faults runner.old) (E.faults runner.new) }
+        ensures stands_on { M.stands_on method.new ≡ M.stands_on method.old }
+        ensures underway { Underway S.left W.told W.relations W.handles actor.new.known self.new }
+        ensures stays { Stays self.old self.new }
+        ensures ahead { (self.new.plan.blocks_ahead ≡ self.old.plan.blocks_ahead)
+            × (self.new.over ≡ self.old.over) }
+    {
+        if self.is_whole() {
+            self.start_pending(rt, table, actor, method, runner);
+        }
+    }
+
+    // Offers the block to the plan, and starts a run that is whole.
+    fn offer<M: Method<ReadIo, W>, E: Execute<ReadIo, W>, T: Wait>(
+        &mut self,
+        rt: &T,
+        table: &Table<ReadIo, W>,
+        actor: &mut Actor<ReadIo, W>,
+        method: &mut M,
+        runner: &mut E,
+        block: u32,
+    )
+        requires table { IsOf table.now actor.old }
+        requires scope { IsOf table.now self.old.scope.was.value }
+        requires backend { actor.old.known.number < table.now.config.backends }
+        requires told { (E.told runner.old ≡ W.told) × (E.relations runner.old ≡ W.relations) }
+        requires underway { UnderwayBut S.left W.told W.relations W.handles
+            (rest_of self.old.current self.old.step) (block ∷ []) 0 actor.old.known self.old }
+        requires free { 1 < length self.old.desk.now.reads.free.items }
+        ensures same { IsSame actor.old actor.new }
+        ensures told { (E.told runner.new ≡ E.told runner.old)
+            × (E.relations runner.new ≡ E.relations runner.old) }
+        ensures went { Went actor.old.known actor.new.known (E.reads runner.old)
+            (E.reads runner.new) (E.faults runner.old) (E.faults runner.new) }
+        ensures stands_on { M.stands_on method.new ≡ M.stands_on method.old }
+        ensures underway { Underway S.left W.told W.relations W.handles actor.new.known self.new }
+        ensures stays { Stays self.old self.new }
+        ensures ahead { (self.new.plan.blocks_ahead ≡ self.old.plan.blocks_ahead)
+            × (self.new.over ≡ self.old.over) }
+    {
+        match self.plan.offer(block) {
+            Offer::Flush(run) => self.start(rt, table, actor, method, runner, run),
+            Offer::Start | Offer::Extended => {
+                self.start_whole(rt, table, actor, method, runner);
+            }
+        }
+    }
+
+    // Whether the pending run has as many blocks as a run may have.
+    fn is_whole(&self) -> bool {
+        match self.plan.pending() {
+            Some(run) => run.count == self.desk.combine,
+            None => false,
+        }
+    }
+
+    // The block from where the pool has it or awaits it now.
+    fn from_pool<T: Wait>(&self, rt: &T, block: u32) -> Option<Want>
+        ensures { IfSome result (λ w. IsWant self.now.desk.now.combine W.handles w
+            × (blocks_by w ≡ block ∷ []) × (runs_by w ≡ [])) }
+    {
+        let tag = Tag {
+            relation: self.scope.relation,
+            block,
+        };
+        match self.pool.peek(rt, tag) {
+            Look::Hit(_) => Some(Want::Look(block)),
+            Look::Busy(reference) => Some(Want::Join(block, reference)),
+            Look::Absent => None,
+        }
+    }
+
+    // The block is wanted from the pool.
+    fn put(&mut self, want: Want)
+        requires { length self.old.desk.now.wants.items < self.old.desk.now.wants.capacity }
+        ensures { Puts want self.old self.new }
+    {
+        push(&mut self.desk.wants, want);
+        if let Want::Look(_) = want {
+            self.plan.hit();
+        }
+    }
+
+    // Puts the block into the queue.
+    fn ask(&mut self, block: u32, per_buffer_data: P)
+        requires room { length self.old.desk.now.queue.items < self.old.desk.now.queue.capacity }
+        requires ahead { self.old.plan.blocks_ahead < 2 ^ 32 - 1 }
+        requires credit { self.old.desk.now.reads.credit < 2 ^ 64 - 1 }
+        ensures { Asks (record { block = block; per_buffer_data = per_buffer_data })
+            self.old self.new }
+    {
+        let asked = Asked {
+            block,
+            per_buffer_data,
+        };
+        push(&mut self.desk.queue, asked);
+        self.plan.taken();
+        self.desk.reads.credit += 1;
+    }
+
+    // Starts the pending run, and has the block from the pool.
+    fn look_for<M: Method<ReadIo, W>, E: Execute<ReadIo, W>, T: Wait>(
+        &mut self,
+        rt: &T,
+        table: &Table<ReadIo, W>,
+        actor: &mut Actor<ReadIo, W>,
+        method: &mut M,
+        runner: &mut E,
+        want: Want,
+    )
+        requires table { IsOf table.now actor.old }
+        requires scope { IsOf table.now self.old.scope.was.value }
+        requires backend { actor.old.known.number < table.now.config.backends }
+        requires told { (E.told runner.old ≡ W.told) × (E.relations runner.old ≡ W.relations) }
+        requires underway { UnderwayBut S.left W.told W.relations W.handles
+            (rest_of self.old.current self.old.step) (blocks_by want) 0 actor.old.known self.old }
+        requires want { IsWant self.old.desk.now.combine W.handles want × (runs_by want ≡ [])
+            × (length (blocks_by want) ≡ 1) }
+        requires free { 1 < length self.old.desk.now.reads.free.items }
+        ensures same { IsSame actor.old actor.new }
+        ensures told { (E.told runner.new ≡ E.told runner.old)
+            × (E.relations runner.new ≡ E.relations runner.old) }
+        ensures went { Went actor.old.known actor.new.known (E.reads runner.old)
+            (E.reads runner.new) (E.faults runner.old) (E.faults runner.new) }
+        ensures stands_on { M.stands_on method.new ≡ M.stands_on method.old }
+        ensures underway { Underway S.left W.told W.relations W.handles actor.new.known self.new }
+        ensures stays { Stays self.old self.new }
+        ensures ahead { (self.new.plan.blocks_ahead ≡ self.old.plan.blocks_ahead)
+            × (self.new.over ≡ self.old.over) }
+    {
+        self.start_pending(rt, table, actor, method, runner);
+        self.put(want);
+    }
+
+    // Takes one block from the source, if there is one, and starts what is to be started then.
+    fn take_next<M: Method<ReadIo, W>, E: Execute<ReadIo, W>, T: Wait>(
+        &mut self,
+        rt: &T,
+        table: &Table<ReadIo, W>,
+        actor: &mut Actor<ReadIo, W>,
+        method: &mut M,
+        runner: &mut E,
+    )
+        requires table { IsOf table.now actor.old }
+        requires scope { IsOf table.now self.old.scope.was.value }
+        requires backend { actor.old.known.number < table.now.config.backends }
+        requires told { (E.told runner.old ≡ W.told) × (E.relations runner.old ≡ W.relations) }
+        requires underway { Underway S.left W.told W.relations W.handles actor.old.known self.old }
+        requires ahead { MayLookAhead self.old.plan }
+        ensures same { IsSame actor.old actor.new }
+        ensures told { (E.told runner.new ≡ E.told runner.old)
+            × (E.relations runner.new ≡ E.relations runner.old) }
+        ensures went { Went actor.old.known actor.new.known (E.reads runner.old)
+            (E.reads runner.new) (E.faults runner.old) (E.faults runner.new) }
+        ensures stands_on { M.stands_on method.new ≡ M.stands_on method.old }
+        ensures underway { Underway S.left W.told W.relations W.handles actor.new.known self.new }
+        ensures stays { Stays self.old self.new }
+        ensures progress { IsTrue self.new.over
+            ⊎ (self.new.plan.blocks_ahead ≡ self.old.plan.blocks_ahead + 1) }
+        ensures no_less { self.old.plan.blocks_ahead ≤ self.new.plan.blocks_ahead }
+        ensures few { self.old.plan.blocks_ahead < 16384 }
+    {
+        let _ = self.plan.distance();
+        let Some(taken) = self.source.next() else {
+            self.over = true;
+            return;
+        };
+        let want = self.from_pool(rt, taken.0);
+        self.ask(taken.0, taken.1);
+        match want {
+            Some(want) => self.look_for(rt, table, actor, method, runner, want),
+            None => self.offer(rt, table, actor, method, runner, taken.0),
+        }
+    }
+
+    // Whether a run that is pending is started though it is not whole: the source has ended, or
+    // nothing is wanted before it, and fewer I/Os are in use than may be.
+    fn may_start_last(&self) -> bool
+        ensures free { IsTrue result → 1 < length self.now.desk.now.reads.free.items }
+        ensures alone { self.now.desk.now.wants.items ≡ [] → self.now.current ≡ None
+            → 1 < length self.now.desk.now.reads.free.items → IsTrue result }
+    {
+        let is_alone = self.desk.wants.is_empty() && self.current.is_none();
+        (self.over || is_alone) && self.desk.reads.free.len() > 1
+    }
+
+    // Starts the pending run, where it is the last one now.
+    pub(crate) fn start_last<M: Method<ReadIo, W>, E: Execute<ReadIo, W>, T: Wait>(
+        &mut self,
+        rt: &T,
+        table: &Table<ReadIo, W>,
+        actor: &mut Actor<ReadIo, W>,
+        method: &mut M,
+        runner: &mut E,
+    )
+        requires table { IsOf table.now actor.old }
+        requires scope { IsOf table.now self.old.scope.was.value }
+        requires backend { actor.old.known.number < table.now.config.backends }
+        requires told { (E.told runner.old ≡ W.told) × (E.relations runner.old ≡ W.relations) }
+        requires underway { Underway S.left W.told W.relations W.handles actor.old.known self.old }
+        ensures same { IsSame actor.old actor.new }
+        ensures told { (E.told runner.new ≡ E.told runner.old)
+            × (E.relations runner.new ≡ E.relations runner.old) }
+        ensures went { Went actor.old.known actor.new.known (E.reads runner.old)
+            (E.reads runner.new) (E.faults runner.old) (E.faults runner.new) }
+        ensures stands_on { M.stands_on method.new ≡ M.stands_on method.old }
+        ensures underway { Underway S.left W.told W.relations W.handles actor.new.known self.new }
+        ensures stays { Stays self.old self.new }
+        ensures none { self.new.desk.now.wants.items ≡ [] → self.new.current ≡ None
+            → self.new.plan.pending ≡ None }
+        ensures kept { (self.new.desk.now.queue ≡ self.old.desk.now.queue)
+            × (self.new.source ≡ self.old.source) }
+    {
+        if self.may_start_last() {
+            self.start_pending(rt, table, actor, method, runner);
+        }
+    }
+
+    // Whether another block is to be taken from the source.
+    fn wants_more(&self) -> bool
+        ensures more { IsTrue result → MayLookAhead self.now.plan }
+        ensures goes_on { IsTrue result → self.now.over ≡ false }
+        ensures idle { (IsTrue result → ⊥) → self.now.plan.blocks_ahead ≡ 0
+            → self.now.plan.ios_in_progress ≡ 0 → self.now.over ≡ true }
+    {
+        !self.over && self.plan.may_look_ahead()
+    }
+
+    // Takes blocks from the source as far as the plan wants, and starts their reads.
+    pub(crate) fn look_ahead<M: Method<ReadIo, W>, E: Execute<ReadIo, W>, T: Wait>(
+        &mut self,
+        rt: &T,
+        table: &Table<ReadIo, W>,
+        actor: &mut Actor<ReadIo, W>,
+        method: &mut M,
+        runner: &mut E,
+    )
+        requires table { IsOf table.now actor.old }
+        requires scope { IsOf table.now self.old.scope.was.value }
+        requires backend { actor.old.known.number < table.now.config.backends }
+        requires told { (E.told runner.old ≡ W.told) × (E.relations runner.old ≡ W.relations) }
+        requires underway { Underway S.left W.told W.relations W.handles actor.old.known self.old }
+        ensures same { IsSame actor.old actor.new }
+        ensures told { (E.told runner.new ≡ E.told runner.old)
+            × (E.relations runner.new ≡ E.relations runner.old) }
+        ensures went { Went actor.old.known actor.new.known (E.reads runner.old)
+            (E.reads runner.new) (E.faults runner.old) (E.faults runner.new) }
+        ensures stands_on { M.stands_on method.new ≡ M.stands_on method.old }
+        ensures underway { Underway S.left W.told W.relations W.handles actor.new.known self.new }
+        ensures stays { Stays self.old self.new }
+        ensures ended { self.new.desk.now.queue.items ≡ [] → self.new.current ≡ None
+            → S.left self.new.source ≡ [] }
+    {
+        while self.wants_more() {
+            self.take_next(rt, table, actor, method, runner);
+        }
+    }
+}

@@ -1,0 +1,38 @@
+//! What a stream answers.
+use page_check::Page;
+
+/// What [`ReadStream::next`](crate::ReadStream::next) gives. The page and the caller's data are
+/// lent until the next call.
+#[derive(Clone, Copy)]
+pub enum Next<'s, P> {
+    /// The page of the block, and the data that the source gave with it.
+    Page(&'s Page, u32, &'s P),
+    /// The source has no further block.
+    End,
+    /// The page of this block is not valid.
+    Invalid(u32),
+    /// The block could not be read.
+    Unread(u32),
+    /// The relation has no such block.
+    PastEnd(u32),
+}
+
+/// How a stream has ended.
+#[derive(Clone, Copy, Debug, PartialEq, Eq)]
+pub enum Ending {
+    End,
+    Invalid(u32),
+    Unread(u32),
+    PastEnd(u32),
+}
+
+/// What the last call found.
+#[derive(Clone, Copy)]
+pub enum Step<P: Copy> {
+    /// Nothing was asked for yet.
+    Start,
+    /// The page of the block is lent.
+    Page(u32, P),
+    /// The stream has ended or failed, and says so from now on.
+    Stop(Ending),
+}

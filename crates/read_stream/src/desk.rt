@@ -1,0 +1,125 @@
+//! The memory of a stream.
+ghost use Rattle.std.specs.Prelude.{◌≡◌, ◌≤◌, ◌+◌, IfOk, IfSome, length};
+ghost use Rattle.aio_handle.specs.Shown.{IsOf, IsSame};
+ghost use Rattle.read_stream.specs.Issued.{Issued, records_in, made_in};
+ghost use Rattle.read_stream.specs.Open.{IsSameDesk, count_some};
+ghost use Rattle.read_stream.specs.Went.{Went};
+ghost use Rattle.read_stream.specs.Open.{AreSettings, IsFree};
+
+use crate::queue::{Asked, Want};
+use crate::reads::Reads;
+use crate::scope::Scope;
+use aio_batch::Method;
+use aio_callback::ReadIo;
+use aio_handle::{Actor, Execute, Table};
+use circular_buffer::HeapCircularBuffer;
+use page_check::World;
+use std::alloc::{AllocError, Global};
+use std::sync::Wait;
+
+/// How a stream reads.
+#[derive(Clone, Copy, Debug, PartialEq, Eq)]
+pub struct Settings {
+    /// The most blocks of one I/O, 1 to 128 (`io_combine_limit`).
+    pub combine: u32,
+    /// The most I/Os under way, 1 to 64.
+    pub ios: u32,
+    /// The most blocks ahead, 1 to 16384.
+    pub limit: u32,
+    /// Whether it looks far ahead from the first block on (`READ_STREAM_FULL`).
+    pub full: bool,
+    /// Whether I/Os are submitted together.
+    pub batch: bool,
+}
+
+/// The memory of one stream after the other: records, the queue and the batch.
+#[derive(Drop)]
+pub struct Desk<W: World, P: Copy> {
+    pub(crate) combine: u32,
+    pub(crate) ios: u32,
+    pub(crate) limit: u32,
+    pub(crate) full: bool,
+    pub(crate) batched: bool,
+    // The blocks that were taken from the source and not given.
+    pub(crate) queue: HeapCircularBuffer<Asked<P>>,
+    // How they are to be had, but for those at hand and those of the pending run.
+    pub(crate) wants: HeapCircularBuffer<Want>,
+    pub(crate) reads: Reads<W>,
+}
+
+impl<W: World, P: Copy> Desk<W, P> {
+    /// A desk for streams with these settings. It takes all the memory that its streams need: one
+    /// record more than there may be I/Os under way, for a block that has left the pool again.
+    pub fn open(alloc: Global, settings: &Settings) -> Result<Desk<W, P>, AllocError>
+        requires settings { AreSettings settings.now.combine settings.now.ios settings.now.limit }
+        ensures free { IfOk result IsFree }
+        ensures settings { IfOk result (λ d. (d.combine ≡ settings.now.combine)
+            × (d.ios ≡ settings.now.ios) × (d.limit ≡ settings.now.limit)
+            × (d.full ≡ settings.now.full) × (d.batched ≡ settings.now.batch)) }
+    {
+        Ok(Desk {
+            combine: settings.combine,
+            ios: settings.ios,
+            limit: settings.limit,
+            full: settings.full,
+            batched: settings.batch,
+            queue: HeapCircularBuffer::with_capacity(alloc, settings.limit as usize)?,
+            wants: HeapCircularBuffer::with_capacity(alloc, settings.limit as usize)?,
+            reads: Reads::make(alloc, settings.ios + 1, settings.combine)?,
+        })
+    }
+
+    // For a new stream: it has made no I/O yet.
+    pub(crate) fn begin(&mut self)
+        ensures { self.new ≡ record self.old {
+          reads = record self.old.reads { taken_in = 0; credit = 0 };
+        } }
+    {
+        self.reads.taken_in = 0;
+        self.reads.credit = 0;
+    }
+
+    // A stream has ended: its I/Os are taken in, and `current` is its record besides. The answer is
+    // how many were taken in.
+    pub(crate) fn end<M: Method<ReadIo, W>, E: Execute<ReadIo, W>, T: Wait>(
+        &mut self,
+        rt: &T,
+        scope: &Scope<W>,
+        table: &Table<ReadIo, W>,
+        actor: &mut Actor<ReadIo, W>,
+        method: &mut M,
+        runner: &mut E,
+        current: Option<ReadIo>,
+    ) -> u64
+        requires table { IsOf table.now actor.old }
+        requires scope { IsOf table.now scope.now.was.value }
+        requires told { (E.told runner.old ≡ W.told) × (E.relations runner.old ≡ W.relations) }
+        requires settings { AreSettings self.old.combine self.old.ios self.old.limit }
+        requires desk { (scope.now.combine ≡ self.old.combine)
+            × (scope.now.total ≡ self.old.ios + 1) × (self.old.limit ≤ self.old.queue.capacity)
+            × (self.old.limit ≤ self.old.wants.capacity) }
+        requires issued { Issued scope.now W.told W.relations actor.old.known self.old.reads }
+        requires current { IfSome current (λ io. length io.pages ≡ scope.now.combine) }
+        requires all { records_in self.old.reads + count_some current ≡ scope.now.total }
+        ensures same { IsSame actor.old actor.new }
+        ensures told { (E.told runner.new ≡ E.told runner.old)
+            × (E.relations runner.new ≡ E.relations runner.old) }
+        ensures went { Went actor.old.known actor.new.known (E.reads runner.old)
+            (E.reads runner.new) (E.faults runner.old) (E.faults runner.new) }
+        ensures stands_on { M.stands_on method.new ≡ M.stands_on method.old }
+        ensures issued { Issued scope.now W.told W.relations actor.new.known self.new.reads }
+        ensures free { IsFree self.new × IsSameDesk self.old self.new }
+        ensures count { (result ≡ self.new.reads.taken_in)
+            × (made_in self.new.reads ≡ made_in self.old.reads) }
+    {
+        self.queue.clear();
+        self.wants.clear();
+        match current {
+            Some(io) => {
+                self.reads.release(io);
+                self.reads.finish(rt, scope, table, actor, method, runner)
+            }
+            None => self.reads.finish(rt, scope, table, actor, method, runner),
+        }
+    }
+}

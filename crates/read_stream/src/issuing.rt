@@ -1,0 +1,322 @@
+//! The calls that start a stream's I/Os.
+ghost use Rattle.std.specs.Prelude.{◌≡◌, ◌≤◌, ◌<◌, ◌+◌, ◌^◌, [], ◌∷◌, ◌++◌, length, IfSome, IfNone};
+ghost use Rattle.std.specs.Prelude.{ℕ, List};
+ghost use Rattle.aio_word.specs.declared.WaitRef.{WaitRef};
+ghost use Rattle.aio_word.specs.Stands.{IsIn};
+ghost use Rattle.aio_word.specs.Tokens.{IsStaged};
+ghost use Rattle.aio_handle.specs.Free.{HasNoneFree};
+ghost use Rattle.aio_handle.specs.Shown.{IsOf, IsSame};
+ghost use Rattle.aio_callback.specs.Reading.{Reading, aimed_at};
+ghost use Rattle.aio_callback.specs.Cases.{stream_ids};
+ghost use Rattle.read_plan.specs.declared.runs.Run.{Run};
+ghost use Rattle.read_plan.specs.Runs.{IsRun};
+ghost use Rattle.read_stream.specs.Issued.{Issued, IssuedBut, IsAimed, IsNew, IsTakenIn, HandedBy};
+ghost use Rattle.read_stream.specs.Issued.{AreFor, records_in, made_in};
+ghost use Rattle.read_stream.specs.Went.{Went};
+
+use crate::reads::Reads;
+use crate::ring::push;
+use crate::scope::Scope;
+use aio_batch::Method;
+use aio_callback::{CallbackId, ReadIo};
+use aio_handle::{Actor, Execute, HandedOut, Staged, Table};
+use aio_word::WaitRef;
+use buf_pool::{Pool, Tag};
+use page_check::World;
+use read_plan::Run;
+use std::sync::Wait;
+
+/// How many staged I/Os a batch has room for.
+const MOST_STAGED: usize = 32;
+
+/// The callbacks of a stream's reads. They run from the last to the first.
+const IDS: [CallbackId; 3] = [CallbackId::Count, CallbackId::Buffer, CallbackId::File];
+
+/// Tells the pool that the blocks of the run are read by the I/O of the reference. A block that it
+/// does not take is read all the same.
+fn begin_blocks<W: World, T: Wait>(
+    rt: &T,
+    pool: &Pool<W>,
+    relation: u32,
+    run: Run,
+    reference: WaitRef,
+)
+    requires range { reference.handle < W.handles }
+    requires top { run.first + run.count ≤ 2 ^ 32 }
+{
+    for index in 0..run.count {
+        let tag = Tag {
+            relation,
+            block: run.first + index,
+        };
+        let _ = pool.begin(rt, tag, reference);
+    }
+}
+
+/// The record, aimed at the run.
+fn aimed(mut io: ReadIo, relation: u32, run: Run) -> ReadIo
+    requires some { 1 ≤ run.count }
+    requires room { run.count ≤ length io.pages }
+    requires top { run.first + run.count ≤ 2 ^ 32 }
+    ensures { result ≡ aimed_at relation run.first run.count stream_ids io }
+{
+    match io.aim(relation, run.first, run.count, &IDS) {
+        Ok(()) => io,
+        Err(_) => unreachable!(),
+    }
+}
+
+impl<W: World> Reads<W> {
+    /// Submits what is staged, in the order of staging.
+    pub fn submit<M: Method<ReadIo, W>, E: Execute<ReadIo, W>, T: Wait>(
+        &mut self,
+        rt: &T,
+        scope: &Scope<W>,
+        table: &Table<ReadIo, W>,
+        actor: &mut Actor<ReadIo, W>,
+        method: &mut M,
+        runner: &mut E,
+    )
+        requires table { IsOf table.now actor.old }
+        requires scope { IsOf table.now scope.now.was.value }
+        requires told { (E.told runner.old ≡ W.told) × (E.relations runner.old ≡ W.relations) }
+        requires issued { Issued scope.now W.told W.relations actor.old.known self.old }
+        ensures same { IsSame actor.old actor.new }
+        ensures told { (E.told runner.new ≡ E.told runner.old)
+            × (E.relations runner.new ≡ E.relations runner.old) }
+        ensures stands_on { M.stands_on method.new ≡ M.stands_on method.old }
+        ensures went { Went actor.old.known actor.new.known (E.reads runner.old)
+            (E.reads runner.new) (E.faults runner.old) (E.faults runner.new) }
+        ensures issued { Issued scope.now W.told W.relations actor.new.known self.new }
+        ensures none { self.new.batch ≡ [] }
+        ensures all { (records_in self.new ≡ records_in self.old)
+            × (made_in self.new ≡ made_in self.old)
+            × (self.new.free ≡ self.old.free) × (self.new.credit ≡ self.old.credit) }
+        ensures runs { (runs : List Run) → AreFor scope.now actor.old.known self.old runs
+            → AreFor scope.now actor.new.known self.new runs }
+    {
+        while let Some(token) = self.batch.submit_next(rt, table, actor, method, runner) {
+            push(&mut self.flights, token);
+        }
+    }
+
+    // One of the actor's handles that is free now.
+    fn hand_out(
+        &self,
+        scope: &Scope<W>,
+        table: &Table<ReadIo, W>,
+        actor: &mut Actor<ReadIo, W>,
+    ) -> Option<HandedOut<W>>
+        requires table { IsOf table.now actor.old }
+        requires backend { actor.old.known.number < table.now.config.backends }
+        requires issued { Issued scope.now W.told W.relations actor.old.known self.now }
+        ensures same { IsSame actor.old actor.new }
+        ensures handed { IfSome result (λ t. (reads faults : ℕ) → HandedBy scope.now W.told
+            W.relations actor.old.known actor.new.known reads reads faults faults self.now t) }
+        ensures none { IfNone result ((actor.new ≡ actor.old)
+            × HasNoneFree table.now.config actor.old.known) }
+    {
+        actor.keeps();
+        match table.acquire(actor) {
+            Ok(token) => {
+                actor.keeps();
+                Some(token)
+            }
+            Err(_) => None,
+        }
+    }
+
+    // A handle of the actor. Where none is free, the oldest I/O is taken in, and then one is.
+    fn acquire<M: Method<ReadIo, W>, E: Execute<ReadIo, W>, T: Wait>(
+        &mut self,
+        rt: &T,
+        scope: &Scope<W>,
+        table: &Table<ReadIo, W>,
+        actor: &mut Actor<ReadIo, W>,
+        method: &mut M,
+        runner: &mut E,
+    ) -> HandedOut<W>
+        requires table { IsOf table.now actor.old }
+        requires scope { IsOf table.now scope.now.was.value }
+        requires backend { actor.old.known.number < table.now.config.backends }
+        requires told { (E.told runner.old ≡ W.told) × (E.relations runner.old ≡ W.relations) }
+        requires issued { Issued scope.now W.told W.relations actor.old.known self.old }
+        requires credit { made_in self.old < scope.now.most }
+        ensures same { IsSame actor.old actor.new }
+        ensures told { (E.told runner.new ≡ E.told runner.old)
+            × (E.relations runner.new ≡ E.relations runner.old) }
+        ensures stands_on { M.stands_on method.new ≡ M.stands_on method.old }
+        ensures handed { HandedBy scope.now W.told W.relations actor.old.known actor.new.known
+            (E.reads runner.old) (E.reads runner.new) (E.faults runner.old) (E.faults runner.new)
+            self.new result }
+        ensures all { (records_in self.new ≡ records_in self.old)
+            × (made_in self.new ≡ made_in self.old)
+            × (self.new.free ≡ self.old.free) × (self.new.credit ≡ self.old.credit) }
+        ensures batch { length self.new.batch ≤ length self.old.batch }
+        ensures runs { (runs : List Run) → AreFor scope.now actor.old.known self.old runs
+            → AreFor scope.now actor.new.known self.new runs }
+    {
+        if let Some(token) = self.hand_out(scope, table, actor) {
+            return token;
+        }
+        self.submit(rt, scope, table, actor, method, runner);
+        self.take_in(rt, scope, table, actor, runner);
+        match self.hand_out(scope, table, actor) {
+            Some(token) => token,
+            None => unreachable!(),
+        }
+    }
+
+    // Stages an I/O over the run by the record.
+    fn stage<M: Method<ReadIo, W>, E: Execute<ReadIo, W>, T: Wait>(
+        &mut self,
+        rt: &T,
+        scope: &Scope<W>,
+        pool: &Pool<W>,
+        table: &Table<ReadIo, W>,
+        actor: &mut Actor<ReadIo, W>,
+        method: &mut M,
+        runner: &mut E,
+        io: ReadIo,
+        run: Run,
+    ) -> Staged<ReadIo, W>
+        requires table { IsOf table.now actor.old }
+        requires scope { IsOf table.now scope.now.was.value }
+        requires backend { actor.old.known.number < table.now.config.backends }
+        requires told { (E.told runner.old ≡ W.told) × (E.relations runner.old ≡ W.relations) }
+        requires issued { Issued scope.now W.told W.relations actor.old.known self.old }
+        requires relation { scope.now.relation < W.relations }
+        requires record { length io.pages ≡ scope.now.combine }
+        requires run { IsRun scope.now.combine run }
+        requires credit { 0 < self.old.credit }
+        ensures same { IsSame actor.old actor.new }
+        ensures told { (E.told runner.new ≡ E.told runner.old)
+            × (E.relations runner.new ≡ E.relations runner.old) }
+        ensures stands_on { M.stands_on method.new ≡ M.stands_on method.old }
+        ensures went { Went actor.old.known actor.new.known (E.reads runner.old)
+            (E.reads runner.new) (E.faults runner.old) (E.faults runner.new) }
+        ensures issued { IssuedBut (result.0 ∷ []) scope.now W.told W.relations actor.new.known
+            self.new }
+        ensures token { IsStaged actor.new.known result.0 × IsAimed scope.now result.1
+            × IsNew scope.now result.0 }
+        ensures run { (result.1.first ≡ run.first) × (result.1.count ≡ run.count) }
+        ensures apart { (u : WaitRef × Reading) → IsIn u self.new.batch → (u.0 ≡ result.0 → ⊥) }
+        ensures all { (records_in self.new ≡ records_in self.old)
+            × (made_in self.old ≡ made_in self.new + 1) × (self.new.free ≡ self.old.free)
+            × (self.old.credit ≡ self.new.credit + 1) }
+        ensures batch { length self.new.batch ≤ length self.old.batch }
+        ensures runs { (runs : List Run) → AreFor scope.now actor.old.known self.old runs
+            → AreFor scope.now actor.new.known self.new runs }
+    {
+        self.credit -= 1;
+        let token = self.acquire(rt, scope, table, actor, method, runner);
+        let io = aimed(io, scope.relation, run);
+        let token = table.define(actor, token, io);
+        begin_blocks(rt, pool, scope.relation, run, token.reference());
+        table.stage(actor, token)
+    }
+
+    // Puts the staged I/O into the batch.
+    fn put(&mut self, token: Staged<ReadIo, W>)
+        requires { length self.old.batch < 32 }
+        ensures { self.new ≡ record self.old { batch = self.old.batch ++ token ∷ [] } }
+    {
+        if self.batch.push(token).is_err() {
+            unreachable!()
+        }
+    }
+
+    /// Starts a read of the run by the record. It is submitted where the batch is full, or where
+    /// I/Os are not submitted together.
+    pub fn start<M: Method<ReadIo, W>, E: Execute<ReadIo, W>, T: Wait>(
+        &mut self,
+        rt: &T,
+        scope: &Scope<W>,
+        pool: &Pool<W>,
+        table: &Table<ReadIo, W>,
+        actor: &mut Actor<ReadIo, W>,
+        method: &mut M,
+        runner: &mut E,
+        io: ReadIo,
+        run: Run,
+    )
+        requires table { IsOf table.now actor.old }
+        requires scope { IsOf table.now scope.now.was.value }
+        requires backend { actor.old.known.number < table.now.config.backends }
+        requires told { (E.told runner.old ≡ W.told) × (E.relations runner.old ≡ W.relations) }
+        requires issued { Issued scope.now W.told W.relations actor.old.known self.old }
+        requires relation { scope.now.relation < W.relations }
+        requires few { length self.old.batch < 32 }
+        requires room { records_in self.old < scope.now.total }
+        requires record { length io.pages ≡ scope.now.combine }
+        requires run { IsRun scope.now.combine run }
+        requires credit { 0 < self.old.credit }
+        ensures same { IsSame actor.old actor.new }
+        ensures told { (E.told runner.new ≡ E.told runner.old)
+            × (E.relations runner.new ≡ E.relations runner.old) }
+        ensures stands_on { M.stands_on method.new ≡ M.stands_on method.old }
+        ensures went { Went actor.old.known actor.new.known (E.reads runner.old)
+            (E.reads runner.new) (E.faults runner.old) (E.faults runner.new) }
+        ensures issued { Issued scope.now W.told W.relations actor.new.known self.new }
+        ensures few { length self.new.batch < 32 }
+        ensures all { (records_in self.new ≡ records_in self.old + 1)
+            × (made_in self.new ≡ made_in self.old) × (self.new.free ≡ self.old.free) }
+        ensures runs { (runs : List Run) → AreFor scope.now actor.old.known self.old runs
+            → AreFor scope.now actor.new.known self.new (runs ++ run ∷ []) }
+        ensures credit { self.old.credit ≡ self.new.credit + 1 }
+    {
+        let token = self.stage(rt, scope, pool, table, actor, method, runner, io, run);
+        self.put(token);
+        if !scope.batched || self.batch.len() == MOST_STAGED {
+            self.submit(rt, scope, table, actor, method, runner);
+        }
+    }
+
+    /// Reads the run by the record, at once.
+    pub fn read<M: Method<ReadIo, W>, E: Execute<ReadIo, W>, T: Wait>(
+        &mut self,
+        rt: &T,
+        scope: &Scope<W>,
+        pool: &Pool<W>,
+        table: &Table<ReadIo, W>,
+        actor: &mut Actor<ReadIo, W>,
+        method: &mut M,
+        runner: &mut E,
+        io: ReadIo,
+        run: Run,
+    ) -> ReadIo
+        requires table { IsOf table.now actor.old }
+        requires scope { IsOf table.now scope.now.was.value }
+        requires backend { actor.old.known.number < table.now.config.backends }
+        requires told { (E.told runner.old ≡ W.told) × (E.relations runner.old ≡ W.relations) }
+        requires issued { Issued scope.now W.told W.relations actor.old.known self.old }
+        requires room { records_in self.old < scope.now.total }
+        requires relation { scope.now.relation < W.relations }
+        requires record { length io.pages ≡ scope.now.combine }
+        requires run { IsRun scope.now.combine run }
+        requires credit { 0 < self.old.credit }
+        ensures same { IsSame actor.old actor.new }
+        ensures told { (E.told runner.new ≡ E.told runner.old)
+            × (E.relations runner.new ≡ E.relations runner.old) }
+        ensures stands_on { M.stands_on method.new ≡ M.stands_on method.old }
+        ensures went { Went actor.old.known actor.new.known (E.reads runner.old)
+            (E.reads runner.new) (E.faults runner.old) (E.faults runner.new) }
+        ensures issued { Issued scope.now W.told W.relations actor.new.known self.new }
+        ensures record { IsTakenIn scope.now W.told W.relations actor.new.known result }
+        ensures run { (result.first ≡ run.first) × (result.count ≡ run.count) }
+        ensures none { self.new.batch ≡ [] }
+        ensures all { (records_in self.new ≡ records_in self.old)
+            × (made_in self.new ≡ made_in self.old) × (self.new.free ≡ self.old.free) }
+        ensures runs { (runs : List Run) → AreFor scope.now actor.old.known self.old runs
+            → AreFor scope.now actor.new.known self.new runs }
+        ensures credit { self.old.credit ≡ self.new.credit + 1 }
+    {
+        self.submit(rt, scope, table, actor, method, runner);
+        let token = self.stage(rt, scope, pool, table, actor, method, runner, io, run);
+        self.put(token);
+        let Some(token) = self.batch.submit_next(rt, table, actor, method, runner) else {
+            unreachable!()
+        };
+        self.settle(rt, scope, table, actor, runner, token)
+    }
+}

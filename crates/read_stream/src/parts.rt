@@ -1,0 +1,54 @@
+//! What a record that was taken in has for one of its blocks.
+ghost use Rattle.std.specs.Prelude.{◌≡◌, ◌≢◌, ◌<◌, ◌-◌};
+ghost use Rattle.aio_word.specs.declared.Class.TheVariants.{Unended};
+ghost use Rattle.aio_callback.specs.Cases.{stream_ids};
+ghost use Rattle.aio_callback.specs.Reading.{Fits};
+ghost use Rattle.read_stream.specs.Parts.{IsPart, Has};
+
+use crate::answer::Ending;
+use aio_callback::{ReadIo, laws};
+use aio_result::Status;
+use page_check::World;
+
+/// What a record has for a block.
+#[derive(Clone, Copy)]
+pub enum Part {
+    /// Its page, which is good.
+    Page,
+    /// Nothing: the read ended before it.
+    Rest,
+    /// What stops the stream there.
+    Stop(Ending),
+}
+
+/// What the record has for the block, which is one of those that it was to read.
+pub(crate) fn part_of<W: World>(io: &ReadIo, block: u32) -> Part
+    requires fits { Fits W.told W.relations io.now }
+    requires ended { io.now.label.ended ≢ Unended }
+    requires ids { io.now.ids ≡ stream_ids }
+    requires has { Has io.now block }
+    ensures { IsPart W.told io.now block result }
+{
+    laws::stream_records_end_in_five_ways();
+    let index = block - io.first();
+    let good = io.good();
+    if index < good {
+        return Part::Page;
+    }
+    let result = io.result();
+    if index > good {
+        return Part::Rest;
+    }
+    match result.status {
+        Status::Error => {
+            if result.id == 2 {
+                Part::Stop(Ending::Invalid(block))
+            } else if result.error == 1 {
+                Part::Stop(Ending::Unread(block))
+            } else {
+                Part::Stop(Ending::PastEnd(block))
+            }
+        }
+        _ => Part::Rest,
+    }
+}
