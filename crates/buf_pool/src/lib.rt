@@ -16,6 +16,7 @@ mod carried;
 mod descriptor;
 mod index;
 mod part;
+mod parts;
 mod pin;
 mod pool;
 mod slot;

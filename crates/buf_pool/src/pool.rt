@@ -1,9 +1,10 @@
 //! The pool behind its locks.
-ghost use Rattle.std.specs.Prelude.{◌*◌, ◌<◌, ◌≤◌, length};
+ghost use Rattle.std.specs.Prelude.{◌*◌, ◌<◌, ◌≤◌};
 
 use crate::descriptor::Tag;
 use crate::index::{Begun, Look};
 use crate::part::Part;
+use crate::parts::Parts;
 use crate::pin::Pin;
 use aio_callback::Places;
 use aio_word::WaitRef;
@@ -45,8 +46,7 @@ pub enum Found<'p, W: World> {
 #[derive(Drop)]
 pub struct Pool<W: World> {
     // Each on cache lines of its own, so that who locks one does not take a neighbour's away.
-    parts: Vec<CachePadded<Part<W>>>,
-    ghost some: { 0 < length parts.items },
+    parts: Parts<CachePadded<Part<W>>>,
 }
 
 impl<W: World> Pool<W> {
@@ -64,14 +64,15 @@ impl<W: World> Pool<W> {
             let size = frames / count + u32::from(part < frames % count);
             parts.push(CachePadded::new(Part::open(alloc, size)?))?;
         }
-        Ok(Pool { parts })
+        Ok(Pool {
+            parts: Parts::of(parts),
+        })
     }
 
     // The part to which the tag falls. Blocks that follow each other fall to different parts.
     fn part(&self, tag: Tag) -> &Part<W> {
-        let place = u64::from(tag.relation) + u64::from(tag.block);
-        // The number of parts is a power of two, so this is the remainder.
-        &self.parts[(place & (self.parts.len() as u64 - 1)) as usize]
+        self.parts
+            .at(u64::from(tag.relation) + u64::from(tag.block))
     }
 
     /// What the index has of the tag now.

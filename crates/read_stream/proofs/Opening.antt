@@ -22,7 +22,7 @@ module _ {W : Type 0} where
 
   pub opened-issued : (c : Scope W) (told : Option Told) (relations : ℕ) (r : Reads W)
       → IsReady c.combine c.total r → IsAtRest (was_known c) → c.most < 2 ^ 58
-      → IsRoom c.was.value.config (was_known c) c.most
+      → IsRoom c.was.value.known.config (was_known c) c.most
       → Issued c told relations (was_known c) (begun r)
   opened-issued c told relations r ready rest small room =
       let p : Known = was_known c in

@@ -16,7 +16,7 @@ use Rattle.read_stream.specs.declared.scope.Scope.{Scope}
 use Rattle.read_stream.specs.Issued.{Issued, HasIdle, references, was_known, made_in}
 
 module _ {W : Type 0} (c : Scope W) (told : Option Told) (relations : ℕ) (k : Config) (p : Known)
-    (s : Reads W) (same : c.was.value.config ≡ k) (i : Issued c told relations p s) where
+    (s : Reads W) (same : c.was.value.known.config ≡ k) (i : Issued c told relations p s) where
   abbrev room : IsRoom k (was_known c) c.most
   room = subst (λ (z : Config). IsRoom z (was_known c) c.most) same i.room_was
 

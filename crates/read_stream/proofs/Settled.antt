@@ -27,7 +27,8 @@ use Rattle.aio_handle.specs.Made.{Made, LivedAlone, generation_of}
 use Rattle.aio_handle.proofs.Kept.{kept-taking-up, kept-looking, kept-elsewhere}
 use Rattle.aio_handle.proofs.Keeps.{lives-push}
 use Rattle.aio_batch.specs.Held.{Held}
-use Rattle.aio_batch.proofs.Holding.{kept-then, held-kept}
+use Rattle.aio_handle.proofs.Kept.{kept-then}
+use Rattle.aio_batch.proofs.Holding.{held-kept}
 use Rattle.aio_waitref.specs.Waiting.{WaitsAndTakes}
 use Rattle.aio_callback.specs.Reading.{Reading, Fits, ReadsAs, aim_in, settled_of}
 use Rattle.aio_callback.specs.Finished.{reference_in}
@@ -257,7 +258,7 @@ module _ (p m q : Known) (t : WaitRef) (l : Label) (a b d e : ℕ) (class : Clas
       pub settled-reading : (s : Reads W) (x y : Reading) → y ≡ settled_of x → x.label ≡ l
           → IsFlying c p t → IssuedBut (t ∷ []) c told relations p s
           → Fits told relations y → ((aim : List ℕ) → IsIn (t, aim) p.aims → aim_in x ≡ aim)
-          → (actors c.was.value.config ≡ 1 → LivedAlone t x.label.ended m)
+          → (actors c.was.value.known.config ≡ 1 → LivedAlone t x.label.ended m)
           → IsTakenIn c told relations q y
       settled-reading s x y is labelled flying i fits aimed alone =
           let o = w.taken in

@@ -20,7 +20,8 @@ use Rattle.aio_handle.specs.LifeWords.{idle, handed, defined, staged}
 use Rattle.aio_handle.specs.Made.{Made}
 use Rattle.aio_handle.proofs.Kept.{kept-unused, kept-defining, kept-elsewhere}
 use Rattle.aio_handle.proofs.Keeps.{lives-same}
-use Rattle.aio_batch.proofs.Holding.{kept-then, held-kept}
+use Rattle.aio_handle.proofs.Kept.{kept-then}
+use Rattle.aio_batch.proofs.Holding.{held-kept}
 use Rattle.aio_callback.specs.Reading.{Reading, ReadsAs, aim_in, aimed_at}
 use Rattle.aio_callback.specs.Cases.{stream_ids}
 use Rattle.aio_callback.proofs.Aims.{reads-as}

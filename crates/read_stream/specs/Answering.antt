@@ -42,7 +42,7 @@ pub record IsFailedRead (was : Standing) (now : Known) (relation block : ℕ) (i
   pub first : io.first ≡ block
   pub failed : io.label.ended ≡ Failed
   pub taken : IsSince was.known now (mark_at (reference_in io) (kind.Local Failed))
-  pub alone : actors was.config ≡ 1
+  pub alone : actors was.known.config ≡ 1
       → IsSince was.known now (mark_at (reference_in io) (kind.Io Failed))
 
 module _ {P : Type 0} where

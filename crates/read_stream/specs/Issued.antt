@@ -77,7 +77,7 @@ module _ {W : Type 0} (c : Scope W) where
     pub ended : r.label.ended ≢ Unended
     pub aimed : IsAimed r
     pub local : IsSince was_known p (mark_at (reference_in r) (kind.Local r.label.ended))
-    pub alone : actors c.was.value.config ≡ 1
+    pub alone : actors c.was.value.known.config ≡ 1
         → IsSince was_known p (mark_at (reference_in r) (kind.Io r.label.ended))
 
   -- the I/O of this incarnation is to read so many blocks from the first on
@@ -144,7 +144,7 @@ module _ {W : Type 0} where
     pub most : made_in s + length loose ≤ c.most
     pub small : c.most < 2 ^ 58
     -- no more I/Os than each handle could have lives when the stream was opened
-    pub room_was : IsRoom c.was.value.config (was_known c) c.most
+    pub room_was : IsRoom c.was.value.known.config (was_known c) c.most
     -- how many were taken in
     pub taken : local_marks p.marks ≡ local_marks (was_known c).marks + s.taken_in
     pub lived : (h : ℕ) → lives h p.marks ≤ lives h (was_known c).marks + s.taken_in

@@ -230,7 +230,7 @@ module _ {W S P : Type 0} (left : S → List (ℕ × P)) (told : Option Told)
 
   pub record IsOpen (s : ReadStream W S P) : Type 0 where
     pub same : IsSame s.scope.was.value s.actor_is.value
-    pub backend : s.actor_is.value.known.number < s.actor_is.value.config.backends
+    pub backend : s.actor_is.value.known.number < s.actor_is.value.known.config.backends
     pub between : IsBetween s.actor_is.value.known s
 
   -- the same stream after a call that left its actor so and gave this answer

@@ -64,9 +64,9 @@ impl<'d, 'p, W: World, S: BlockSource<P> + Drop, P: Copy> ReadStream<'d, 'p, W, 
         source: S,
     ) -> ReadStream<'d, 'p, W, S, P>
         requires desk { IsFree desk.old }
-        requires backend { actor.now.known.number < actor.now.config.backends }
+        requires backend { actor.now.known.number < actor.now.known.config.backends }
         requires rest { IsAtRest actor.now.known }
-        requires room { (room : ℕ) × IsRoom actor.now.config actor.now.known room
+        requires room { (room : ℕ) × IsRoom actor.now.known.config actor.now.known room
             × (length (S.left source) ≤ room) }
         requires relation { relation < W.relations }
         ensures desk { result.desk.ghost_name ≡ desk.entry.ghost_name }

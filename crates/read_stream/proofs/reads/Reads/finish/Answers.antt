@@ -38,7 +38,7 @@ loop-io-preserved g c =
     let made = rest.2 in
     let was = inv.9 in (
       (same.0 ∙ inv.0.0, same.1 ∙ inv.0.1),
-      (same.0 ∙ inv.1.0, same.1 ∙ inv.1.1),
+      (same.0 ∙ inv.1.0, same.1 ∙ inv.1.1, same.2 ∙ inv.1.2),
       told.0 ∙ inv.2,
       told.1 ∙ inv.3,
       told.0 ∙ inv.4,

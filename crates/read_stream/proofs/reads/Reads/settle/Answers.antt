@@ -98,14 +98,14 @@ returns-clause-idle g c =
     let m : Known = c.wait_own-local.new.actor.known in
     let q : Known = c.reclaim-io.new.actor.known in
     let t : WaitRef = c.args.token in
-    let config : c.reclaim-io.new.actor.config ≡ c.args.table.now.config =
+    let config : c.reclaim-io.new.actor.known.config ≡ c.args.table.now.config =
     c.reclaim-io.ensures.same.1 ∙ (c.wait_own-local.ensures.same.1 ∙ c.requires.table.1) in
     idle-now p m q t l.1.label _ _ _ _ c.reclaim-io.ensures.event.0
     c.wait_own-local.ensures.taken
     (reclaims t l.0 c.reclaim-io.ensures.event.0 m q c.wait_own-local.ensures.token.0
     c.reclaim-io.ensures.event.1)
     c.args.table.now.config
-    (c.keeps_generations.ensures.config ∙ config) c.keeps.ensures
+    config c.keeps.ensures
 
 pub returns-clause-runs : goal.returns-clause-runs
 returns-clause-runs g c = λ runs. are-for-later c.args.scope.now c.args.actor.now.known

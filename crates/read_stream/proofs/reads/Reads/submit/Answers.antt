@@ -37,7 +37,7 @@ loop-token-preserved g c =
     let parts = length-append s.flights.items (t ∷ []) in
     let went : Went p q _ _ _ _ = went_submitting aim_in s.batch after t p q _ _ _ _ n in (
       (same.0 ∙ inv.0.0, same.1 ∙ inv.0.1),
-      (same.0 ∙ inv.1.0, same.1 ∙ inv.1.1),
+      (same.0 ∙ inv.1.0, same.1 ∙ inv.1.1, same.2 ∙ inv.1.2),
       told.0 ∙ inv.2,
       told.1 ∙ inv.3,
       told.0 ∙ inv.4,

@@ -77,15 +77,15 @@ returns-clause-follows g c =
     let w2 = c.submit.ensures.went in
     let w3 = c.start_last.ensures.went in
     let w4 = c.serve.ensures.went in
-    let config : c.serve.new.actor.config ≡ s.actor_is.value.config =
+    let config : c.serve.new.actor.known.config ≡ s.actor_is.value.known.config =
     c.serve.ensures.same.1 ∙ (c.start_last.ensures.same.1 ∙ (c.submit.ensures.same.1
-    ∙ (c.look_ahead.ensures.same.1 ∙ ap (λ (z : Standing). z.config) actor))) in
-    let backends : c.serve.new.actor.config.backends ≡ s.actor_is.value.config.backends =
+    ∙ (c.look_ahead.ensures.same.1 ∙ ap (λ (z : Standing). z.known.config) actor))) in
+    let backends : c.serve.new.actor.known.config.backends ≡ s.actor_is.value.known.config.backends =
     ap (λ (z : Config). z.backends) config in
     let number : c.serve.new.actor.known.number ≡ s.actor_is.value.known.number =
     w4.number ∙ (w3.number ∙ (w2.number ∙ (w1.number
     ∙ ap (λ (z : Standing). z.known.number) actor))) in
-    let backend : c.serve.new.actor.known.number < c.serve.new.actor.config.backends =
+    let backend : c.serve.new.actor.known.number < c.serve.new.actor.known.config.backends =
     let z = was_open.backend in omega arith in
     record {
       desk = keeps.desk;
@@ -101,10 +101,12 @@ returns-clause-follows g c =
               ∙ (c.serve.ensures.same.0 ∙ (c.start_last.ensures.same.0 ∙ (c.submit.ensures.same.0
               ∙ (c.look_ahead.ensures.same.0 ∙ (ap (λ (z : Standing). z.table) actor
               ∙ (was_open.same.0 ∙ sym (ap (λ (z : Standing). z.table) was))))))),
-          ap (λ (z : Standing). z.config) is
-              ∙ (config ∙ (was_open.same.1 ∙ sym (ap (λ (z : Standing). z.config) was))),
+          ap (λ (z : Standing). z.known.config) is
+              ∙ (config ∙ (was_open.same.1 ∙ sym (ap (λ (z : Standing). z.known.config) was))),
+          ap (λ (z : Standing). z.known.number) is
+              ∙ (number ∙ (was_open.same.2 ∙ sym (ap (λ (z : Standing). z.known.number) was))),
         );
-        backend = subst (λ (z : Standing). z.known.number < z.config.backends) (sym is) backend;
+        backend = subst (λ (z : Standing). z.known.number < z.known.config.backends) (sym is) backend;
         between = subst (λ (z : Standing). IsBetween g.S.BlockSource.left g.W.World.told
             g.W.World.relations g.W.World.handles z.known (record n { actor_is = c.of.result }))
             (sym is)

@@ -1,7 +1,7 @@
 use Rattle.std.proofs.Common.{sym, subst}
 use Rattle.aio_callback.specs.Good.{IsGood}
 use Rattle.buf_pool.specs.Found.{pinned_page}
-use Rattle.buf_pool.specs.declared.frame.Tag.{Tag}
+use Rattle.buf_pool.specs.declared.descriptor.Tag.{Tag}
 use Rattle.read_stream.specs.declared.stream.ReadStream.{ReadStream}
 use Rattle.read_stream.specs.Open.{Reaches}
 use Rattle.read_stream.proofs.Going.{went_nothing}

@@ -25,7 +25,7 @@ is-true false e = absurd (cc)
 pub loop-self-init : goal.loop-self-init
 loop-self-init g c = (
   (c.requires.table.0, c.requires.table.1),
-  (refl, refl),
+  (refl, refl, refl),
   (c.requires.scope.0, c.requires.scope.1),
   c.requires.backend,
   c.requires.told.0,
@@ -68,7 +68,7 @@ loop-self-preserved g c =
     let told = c.take_next.ensures.told in
     let stays = c.take_next.ensures.stays in (
       (same.0 ∙ inv.0.0, same.1 ∙ inv.0.1),
-      (same.0 ∙ inv.1.0, same.1 ∙ inv.1.1),
+      (same.0 ∙ inv.1.0, same.1 ∙ inv.1.1, same.2 ∙ inv.1.2),
       subst (λ (z : Scope g.row.W.Denot). IsOf c.args.table.now z.was.value)
           (sym stays.keeps.scope) inv.2,
       (let n = c.take_next.ensures.went.number in let b = inv.3 in omega arith),

@@ -55,7 +55,7 @@ returns-clause-is_open g c =
     let now : Standing = c.of-2.result.value in
     let is-was : was ≡ a = c.of.ensures in
     let is-now : now ≡ a = c.of-2.ensures in
-    let small = room_below a.config a.known c.room.result c.requires.backend c.room.ensures in
+    let small = room_below a.known.config a.known c.room.result c.requires.backend c.room.ensures in
     let scope : Scope W = record {
       relation = c.args.relation;
       combine = d.combine;
@@ -68,10 +68,10 @@ returns-clause-is_open g c =
     c.requires.rest in
     let issued : Issued scope g.W.World.told g.W.World.relations was.known (begun d.reads) =
     opened-issued scope g.W.World.told g.W.World.relations d.reads c.requires.desk.ready rest
-    small (subst (λ (z : Standing). IsRoom z.config z.known c.room.result) (sym is-was)
+    small (subst (λ (z : Standing). IsRoom z.known.config z.known c.room.result) (sym is-was)
     c.room.ensures) in
     let (room, is-room, long) = c.requires.room in
-    let below = room_is_one a.config a.known c.room.result room c.requires.backend c.room.ensures
+    let below = room_is_one a.known.config a.known c.room.result room c.requires.backend c.room.ensures
     is-room in
     let src = c.of-source_was.ensures in
     let long' : length (g.S.BlockSource.left c.of-source_was.result.value)
@@ -89,9 +89,12 @@ returns-clause-is_open g c =
     record {
       same = (
         ap (λ (z : Standing). z.table) is-now ∙ sym (ap (λ (z : Standing). z.table) is-was),
-        ap (λ (z : Standing). z.config) is-now ∙ sym (ap (λ (z : Standing). z.config) is-was),
+        ap (λ (z : Standing). z.known.config) is-now
+            ∙ sym (ap (λ (z : Standing). z.known.config) is-was),
+        ap (λ (z : Standing). z.known.number) is-now
+            ∙ sym (ap (λ (z : Standing). z.known.number) is-was),
       );
-      backend = subst (λ (z : Standing). z.known.number < z.config.backends) (sym is-now)
+      backend = subst (λ (z : Standing). z.known.number < z.known.config.backends) (sym is-now)
           c.requires.backend;
       between = record {
         steady = record {
