@@ -1,6 +1,7 @@
 -- Where all words are Idle and there is one actor, it has executed as many I/Os as it took in.
 use Rattle.std.proofs.Common.{◌≡◌, ◌≢◌, ℕ, zero, suc, ◌+◌, ◌*◌, ◌<◌, ◌≤◌, ◌==◌, ◌&&◌, Bool, true}
-use Rattle.std.proofs.Common.{List, [], ◌∷◌, ◌++◌, map, length, get_or, sum_by, count_by, refl, sym, ap, ◌∙◌}
+use Rattle.std.proofs.Common.{List, [], ◌∷◌, ◌++◌, map, length, get_or, sum_by, count_by, refl, sym}
+use Rattle.std.proofs.Common.{ap, ◌∙◌}
 use Rattle.std.proofs.Common.{subst, inl, inr, ⊎_elim, arith, nat_lt, lit<}
 use Rattle.std.proofs.lemmas.List.Sums.{sum_by-cons}
 use Rattle.std.proofs.lemmas.Bool.Decides.{nat_tests}
@@ -126,7 +127,8 @@ pub few_reads : (c : Config) (words : List Word) (actors : List Standing) (a : S
     → ((h : ℕ) (w : Word) → get_elem? words h ≡ some w → w.state ≡ Idle)
     → was.marks ≡ [] → Went was a.known fresh reads faults faults' → TookAtMost blocks was a.known
     → fresh ≡ 0 → reads < last_count → reads ≤ blocks
-few_reads c words actors a was blocks fresh reads faults faults' one all idle none went took unread below =
+few_reads c words actors a was blocks fresh reads faults faults' one all idle none went took unread
+    below =
     let P : List Standing → Type 0 = λ l. Stands c words (map known_in l) in
     let same = executed_as_taken c words a.known (subst P one all)
     (λ h w at. ap (λ (x : State). place_in x w.claimed) (idle h w at)) in

@@ -1,5 +1,6 @@
 -- FILE words that are listed one after the other.
-use Rattle.std.proofs.Common.{◌≡◌, ◌≢◌, ℕ, ◌+◌, ◌<◌, ◌≤◌, List, [], ◌∷◌, ◌++◌, map, take, drop, length}
+use Rattle.std.proofs.Common.{◌≡◌, ◌≢◌, ℕ, ◌+◌, ◌<◌, ◌≤◌, List, [], ◌∷◌, ◌++◌, map, take, drop}
+use Rattle.std.proofs.Common.{length}
 use Rattle.std.proofs.Common.{get_or, refl, sym, ap, ◌∙◌, subst, arith, suc}
 use Rattle.std.proofs.Common.{append-nil, length-append}
 use Rattle.std.specs.Prelude.{Option, string_bytes, String}
@@ -128,7 +129,8 @@ pub number_in_range : (command : Command) (files : List (String Global)) (k : �
     → file ≡ get_or files k file → text ≡ string_bytes file
     → names ≡ relations_of command → number ≡ relation_number text names → count ≡ length names
     → number < count
-number_in_range command files k file text names number count same below is text_is names_are number_is count_is =
+number_in_range command files k file text names number count same below is text_is names_are
+    number_is count_is =
     let at = name_at command files k file same below is in
     let inside = relation_number-below command k (string_bytes file) at.0 at.1 in
     rw (count_is, names_are, number_is, text_is, names_are) inside
@@ -140,7 +142,8 @@ pub range_of_file : (lengths : ℕ → ℕ) (command : Command) (name text : Lis
     → first ≡ first_block command
     → count ≡ asked_count command (lengths number)
     → requests_of_file lengths command name ≡ block_range number first count
-range_of_file lengths command name text names number first count text_is names_are number_is first_is count_is =
+range_of_file lengths command name text names number first count text_is names_are number_is
+    first_is count_is =
     let n : number ≡ relation_number name (relations_of command) =
     rw (← text_is, ← names_are) number_is in
     rw (first_is, count_is, n) refl

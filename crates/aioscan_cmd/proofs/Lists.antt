@@ -55,7 +55,8 @@ GrewBy-append (NoLength r) b m a xs ys first second = Grew-append b m a xs ys fi
 GrewBy-append (TooLong r) b m a xs ys first second = Grew-append b m a xs ys first second
 
 -- some blocks to their end, and then some more
-pub lists_append : (found : Option Reader) (xs ys : List Request) (b m a : Option (List ℕ)) (o : Outcome)
+pub lists_append : (found : Option Reader) (xs ys : List Request) (b m a : Option (List ℕ))
+    (o : Outcome)
     → Lists found xs b m Done → Lists found ys m a o → Lists found (xs ++ ys) b a o
 unfolding job_append
 lists_append found xs ys b m a o front back =
@@ -96,7 +97,8 @@ early (NoLength r) stops = none_early
 early (TooLong r) stops = none_early
 
 -- listing stopped, whatever is asked for behind
-pub lists_more : (found : Option Reader) (xs ys : List Request) (b a : Option (List ℕ)) (o : Outcome)
+pub lists_more : (found : Option Reader) (xs ys : List Request) (b a : Option (List ℕ))
+    (o : Outcome)
     → o ≢ Done → Lists found xs b a o → Lists found (xs ++ ys) b a o
 unfolding job_more
 lists_more found xs ys b a o stops front = record {
@@ -108,7 +110,8 @@ lists_more found xs ys b a o stops front = record {
   grew = front.grew;
 }
 
-pub lists_same : (found : Option Reader) (xs ys : List Request) (b a : Option (List ℕ)) (o : Outcome)
+pub lists_same : (found : Option Reader) (xs ys : List Request) (b a : Option (List ℕ))
+    (o : Outcome)
     → xs ≡ ys → Lists found xs b a o → Lists found ys b a o
 lists_same found xs ys b a o same lists =
     let P : List Request → Type 0 = λ l. Lists found l b a o in subst P same lists

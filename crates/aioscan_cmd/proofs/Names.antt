@@ -1,6 +1,7 @@
 -- Distinct names: which there are, one more, and their places.
 use Rattle.std.proofs.Common.{◌≡◌, ℕ, ◌+◌, ◌<◌, ◌≤◌, List, [], ◌∷◌, ◌++◌, length, map}
-use Rattle.std.proofs.Common.{get_or, refl, sym, ap, ◌∙◌, subst, arith, Bool, true, false, ◌||◌, not}
+use Rattle.std.proofs.Common.{get_or, refl, sym, ap, ◌∙◌, subst, arith, Bool, true, false, ◌||◌}
+use Rattle.std.proofs.Common.{not}
 use Rattle.std.proofs.Common.{cond, append-nil}
 use Rattle.std.specs.Prelude.{Some, None, nat_lt, unwrap_or}
 use Rattle.std.specs.List.{position}

@@ -1,5 +1,6 @@
 -- A table with one backend, just opened.
-use Rattle.std.proofs.Common.{◌≡◌, ◌<◌, ◌+◌, ◌-◌, ℕ, List, [], ◌∷◌, ◌++◌, map, length, refl, sym, ap, ◌∙◌}
+use Rattle.std.proofs.Common.{◌≡◌, ◌<◌, ◌+◌, ◌-◌, ℕ, List, [], ◌∷◌, ◌++◌, map, length, refl, sym}
+use Rattle.std.proofs.Common.{ap, ◌∙◌}
 use Rattle.std.proofs.Common.{subst, arith, ⊎_elim}
 use Rattle.std.specs.Prelude.{Option, Some, slice_index_or}
 use Rattle.aio_word.specs.declared.Config.{Config}
@@ -37,8 +38,10 @@ idle_at_start t a d config new free =
     new ∙ ap {B = Standing} (λ (k : Config). record { table = t.table; known = newcomer k 0 })
     config in record {
       of = (ap (λ (x : Standing). x.table) new, ap (λ (x : Standing). x.known.config) new);
-      backend = subst (λ (x : Standing). x.known.number < x.known.config.backends) (sym is) (omega arith);
-      alone = subst (λ (x : Standing). x.known.config.backends + x.known.config.runners ≡ 1) (sym is) refl;
+      backend = subst (λ (x : Standing). x.known.number < x.known.config.backends) (sym is)
+          (omega arith);
+      alone = subst (λ (x : Standing). x.known.config.backends + x.known.config.runners
+          ≡ 1) (sym is) refl;
       start = ap (λ (x : Standing). x.known.config.start) is;
       rest = (ap (λ (x : Standing). x.known.out) is, λ e.
           (let none = ap (λ (x : Standing). x.known.marks) is in rw none (omega arith)));
@@ -55,7 +58,8 @@ empty (a ∷ l) none = absurd (omega (arith, none))
 -- the one actor is all that there are
 pub one_actor : (actors before : List Standing) (a : Standing) → length before ≡ 0
     → actors ≡ before ++ a ∷ [] → actors ≡ a ∷ []
-one_actor actors before a none all = all ∙ ap (λ (l : List Standing). l ++ a ∷ []) (empty before none)
+one_actor actors before a none all = all
+    ∙ ap (λ (l : List Standing). l ++ a ∷ []) (empty before none)
 
 pub quiet_one : (actors : List Standing) (a : Standing) → actors ≡ a ∷ [] → IsAtRest a.known
     → IsQuiet (map known_in actors)

@@ -1,5 +1,6 @@
 -- The pages that a stream has answered so far, and what comes of the next answer.
-use Rattle.std.proofs.Common.{◌≡◌, ◌≢◌, ℕ, zero, suc, ◌+◌, ◌<◌, ◌≤◌, Bool, true, false, List, [], ◌∷◌}
+use Rattle.std.proofs.Common.{◌≡◌, ◌≢◌, ℕ, zero, suc, ◌+◌, ◌<◌, ◌≤◌, Bool, true, false, List, []}
+use Rattle.std.proofs.Common.{◌∷◌}
 use Rattle.std.proofs.Common.{◌++◌, length, map, take, refl, sym, ap, ◌∙◌, subst, arith, append-nil}
 use Rattle.std.proofs.Common.{length-append, ◌⊎◌, ⊎_elim, inl, inr}
 use Rattle.std.specs.Prelude.{Option, Some, None, slice_get, if◌then◌else◌, nat_le, ⊤}
@@ -9,7 +10,8 @@ use Rattle.page_check.specs.Told.{Told, blocks_of, page_of}
 use Rattle.page_check.specs.declared.verdict.Verdict.{Verdict}
 use Rattle.page_check.specs.declared.verdict.Verdict.TheVariants.{Zero, Sane, Bad}
 use Rattle.page_check.specs.Verdict.{verdict_of, IsValid}
-use Rattle.page_check.specs.SynchronousAnswer.{Entry, Given, Found, Damaged, Absent, found_at, Reader}
+use Rattle.page_check.specs.SynchronousAnswer.{Entry, Given, Found, Damaged, Absent, found_at}
+use Rattle.page_check.specs.SynchronousAnswer.{Reader}
 use Rattle.page_check.specs.SynchronousAnswer.{Page as FoundPage, found_by, found_for, is_page}
 use Rattle.page_check.specs.SynchronousAnswer.{page_in, reader_of, read_count, pages_of, stop_of}
 use Rattle.page_check.specs.SynchronousAnswer.{ending_at, ending_in, ending_of as reader_ending}
@@ -36,7 +38,8 @@ use Rattle.aioscan_cmd.specs.declared.report.Outcome.TheVariants.{NoMemory, Miss
 use Rattle.aioscan_cmd.proofs.Growing.{Grew-nothing, Grew-append, GrewByPrefix-append, Grew-same}
 use Rattle.aioscan_cmd.proofs.Lists.{no_listing}
 
-one_listing : (g : GivenPage) → page_text_of g.entry.relation g.entry.block g.page ≡ listing (g ∷ [])
+one_listing : (g : GivenPage) → page_text_of g.entry.relation g.entry.block g.page
+    ≡ listing (g ∷ [])
 unfolding listing
 one_listing g = sym (append-nil (page_text_of g.entry.relation g.entry.block g.page))
 
@@ -73,7 +76,8 @@ found_at-valid told relation block is =
     found-valid (nat_le (blocks_of told relation) block) (verdict_of (page_of told relation block))
     (page_of told relation block) refl is
 
-given_at_none : (g : GivenPage) (k : ℕ) → slice_get (let none : List GivenPage = [] in none) k ≡ Some g
+given_at_none : (g : GivenPage) (k : ℕ) → slice_get (let none : List GivenPage = [] in none) k
+    ≡ Some g
     → ⊥
 given_at_none g k is = cc
 
@@ -101,7 +105,8 @@ module _ (told : Told) where
       let P : GivenPage → Type 0 = λ h. IsValid h.page in
       subst P same (found_at-valid told e.relation e.block can)
   valid_first e es true can rest (suc k) g is =
-      rest k g (ap (λ (l : List GivenPage). slice_get l (suc k)) (sym (pages_of-more f e es can)) ∙ is)
+      rest k g (ap (λ (l : List GivenPage). slice_get l (suc k)) (sym (pages_of-more f e es can))
+          ∙ is)
 
   pages_valid : (es : List Request) → AreValid es
   pages_valid [] = λ k g is. absurd (given_at_none g k

@@ -1,5 +1,6 @@
 -- What the contracts of a stream give to whoever lists its pages.
-use Rattle.std.proofs.Common.{◌≡◌, ℕ, zero, suc, ◌+◌, ◌<◌, ◌≤◌, Bool, true, cond, List, [], ◌∷◌, ◌++◌}
+use Rattle.std.proofs.Common.{◌≡◌, ℕ, zero, suc, ◌+◌, ◌<◌, ◌≤◌, Bool, true, cond, List, [], ◌∷◌}
+use Rattle.std.proofs.Common.{◌++◌}
 use Rattle.std.proofs.Common.{length, map, sum_by, refl, sym, ap, ◌∙◌, subst, arith, ⊎_elim, lit<}
 use Rattle.std.specs.Prelude.{Option, Some, None, slice_get, IfSome}
 use Rattle.std.specs.List.{range_with_len}

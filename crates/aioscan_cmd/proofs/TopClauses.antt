@@ -184,23 +184,30 @@ pub complete : (run : SynchronousRun) (before now : ShelfCounts) (wb wn : ℕ)
     → IsComplete run before now wb wn o
 complete run before now wb wn b a Done words causes fits writes opens lengths reads failed fit =
     inl (sym writes.0)
-complete run before now wb wn b a (Invalid r k) words causes fits writes opens lengths reads failed fit =
+complete run before now wb wn b a (Invalid r k) words causes fits writes opens lengths reads failed
+    fit =
     inl (sym writes.0)
-complete run before now wb wn b a (Missing r k) words causes fits writes opens lengths reads failed fit =
+complete run before now wb wn b a (Missing r k) words causes fits writes opens lengths reads failed
+    fit =
     inl (sym writes.0)
 complete run before now wb wn b a NoMemory words causes fits writes opens lengths reads failed fit =
     inr refl
-complete run before now wb wn b a (Unread r k) words causes fits writes opens lengths reads failed fit =
+complete run before now wb wn b a (Unread r k) words causes fits writes opens lengths reads failed
+    fit =
     absurd (reads (causes.unread r k refl))
-complete run before now wb wn b a CannotWrite words causes fits writes opens lengths reads failed fit =
+complete run before now wb wn b a CannotWrite words causes fits writes opens lengths reads failed
+    fit =
     absurd (failed (causes.cannot_write refl))
 complete run before now wb wn b a Usage words causes fits writes opens lengths reads failed fit =
     absurd (words refl)
-complete run before now wb wn b a CannotOpen words causes fits writes opens lengths reads failed fit =
+complete run before now wb wn b a CannotOpen words causes fits writes opens lengths reads failed fit
+    =
     absurd (opens (causes.cannot_open refl))
-complete run before now wb wn b a (NoLength r) words causes fits writes opens lengths reads failed fit =
+complete run before now wb wn b a (NoLength r) words causes fits writes opens lengths reads failed
+    fit =
     absurd (lengths (causes.no_length r refl))
-complete run before now wb wn b a (TooLong r) words causes fits writes opens lengths reads failed fit =
+complete run before now wb wn b a (TooLong r) words causes fits writes opens lengths reads failed
+    fit =
     absurd (let within = fit r fits.0 in let long = fits.1 in omega arith)
 
 -- over a shelf that tells, what holds of each run holds of this one

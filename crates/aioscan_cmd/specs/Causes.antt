@@ -32,9 +32,11 @@ pub record HasScanned (length_faults faults reads : ℕ) (outcome : Outcome) : T
   pub unread : (r b : ℕ) → outcome ≡ Unread r b → 0 < faults
   pub refused : is_refused outcome ≡ true → (faults ≡ 0) × (reads ≡ 0)
 
--- the words are read first; blocks are read only once a disk was opened and each length was had
+-- the words are read first; lengths are taken only once a disk was opened, and blocks are read only
+-- once each length was had
 pub record CallsInOrder (before now : ShelfCounts) (outcome : Outcome) : Type 0 where
   pub usage : outcome ≡ Usage → now ≡ before
+  pub cannot_open : outcome ≡ CannotOpen → now.length_faults ≡ before.length_faults
   pub refused : is_refused outcome ≡ true
       → (now.faults ≡ before.faults) × (now.reads ≡ before.reads)
 

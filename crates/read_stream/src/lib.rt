@@ -1,5 +1,19 @@
 //! Read streams: the pages of the blocks that a source names, one after the other, read ahead
 //! (`read_stream.c` and `read_stream.h` of PostgreSQL).
+//!
+//! A [`ReadStream`] takes blocks from its source, combines neighbours into runs, reads each run by
+//! an I/O handle of its actor, takes pages that are in the pool from there, and joins reads of
+//! others. It gives the pages in the source's order. All memory is taken by [`Desk::open`]; a desk
+//! serves one stream after the other.
+//!
+//! # What the contracts mean
+//!
+//! The answer of each call of [`ReadStream::next`] is what one thread's synchronous reads of the
+//! source's list give next (`IsNext` of page_check, over the list as it was at the opening), or
+//! `Unread` at the block where a read of this stream has failed, whose record the stream keeps and
+//! whose mark stands in the actor's list. An ending is given again by each later call. After
+//! [`ReadStream::close`] no token of the stream is out and its desk is free. When a stream looks
+//! ahead and what it combines is no part of any contract.
 #![tactic(auto)]
 
 mod ahead;
@@ -16,8 +30,6 @@ mod scope;
 mod serve;
 mod stream;
 mod taking_in;
-#[cfg(test)]
-mod tests;
 
 pub use answer::Next;
 pub use desk::{Desk, Settings};

@@ -309,7 +309,8 @@ impl<'d, 'p, W: World, S: BlockSource<P> + Drop, P: Copy> ReadStream<'d, 'p, W, 
         ensures moves { Moves self.old self.new }
     {
         self.wait_for(rt, table, actor, method, runner, reference);
-        match self.pool.lookup(rt, self.tag(block)) {
+        let found = self.pool.lookup(rt, self.tag(block));
+        match found {
             Found::Hit(pin) => self.hold(rt, pin),
             Found::Busy(_) | Found::Absent => {
                 self.read_block(rt, table, actor, method, runner, block);

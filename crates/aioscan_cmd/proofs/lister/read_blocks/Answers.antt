@@ -1,4 +1,5 @@
-use Rattle.std.proofs.Common.{rules, ◌≡◌, ◌≤◌, ◌+◌, ℕ, List, length, refl, sym, ap, ◌∙◌, subst, arith}
+use Rattle.std.proofs.Common.{rules, ◌≡◌, ◌≤◌, ◌+◌, ℕ, List, length, refl, sym, ap, ◌∙◌, subst}
+use Rattle.std.proofs.Common.{arith}
 use Rattle.std.specs.Prelude.{Option}
 use Rattle.page_check.specs.SynchronousAnswer.{reader_of}
 use Rattle.aio_handle.specs.Shown.{Standing}
@@ -59,8 +60,10 @@ returns-clause-few g c =
 pub returns-clause-lists : goal.returns-clause-lists
 returns-clause-lists g c =
     lists_same _ _ _ _ _ _
-    (ap (entries_of c.args.blocks.now.relation) (c.open-stream.ensures.source ∙ c.new-source.ensures)
-    ∙ range_entries c.args.blocks.now.relation c.args.blocks.now.first c.args.blocks.now.count) c.show_all-outcome.ensures.lists
+    (ap (entries_of c.args.blocks.now.relation) (c.open-stream.ensures.source
+        ∙ c.new-source.ensures)
+    ∙ range_entries c.args.blocks.now.relation c.args.blocks.now.first c.args.blocks.now.count)
+        c.show_all-outcome.ensures.lists
 
 pub returns-clause-unread : goal.returns-clause-unread
 returns-clause-unread g c = λ r b names.

@@ -7,7 +7,8 @@ use Rattle.aio_handle.specs.Shown.{Standing}
 use Rattle.read_stream.specs.Answering.{said, pages_in, entries_of, MayBeUnread}
 use Rattle.read_stream.proofs.Going.{went_nothing, went_then}
 use Rattle.aioscan_cmd.proofs.Shown.{nothing_yet, next_valid}
-use Rattle.aioscan_cmd.proofs.Streams.{at_place, are_of, shown_more, nearer, shown_end, failed_behind}
+use Rattle.aioscan_cmd.proofs.Streams.{at_place, are_of, shown_more, nearer, shown_end}
+use Rattle.aioscan_cmd.proofs.Streams.{failed_behind}
 use Rattle.aioscan_cmd.proofs.lister.show_all.Goals as goal
 
 pub loop-outcome-init : goal.loop-outcome-init
