@@ -43,8 +43,11 @@ idle_at_start t a d config new free =
       alone = subst (λ (x : Standing). x.known.config.backends + x.known.config.runners
           ≡ 1) (sym is) refl;
       start = ap (λ (x : Standing). x.known.config.start) is;
-      rest = (ap (λ (x : Standing). x.known.out) is, λ e.
-          (let none = ap (λ (x : Standing). x.known.marks) is in rw none (omega arith)));
+      rest = (
+        ap (λ (x : Standing). x.known.out) is,
+        λ e.
+            (let none = ap (λ (x : Standing). x.known.marks) is in rw none (omega arith)),
+      );
       free = free;
     }
 

@@ -106,7 +106,7 @@ module _ (told : Told) where
       subst P same (found_at-valid told e.relation e.block can)
   valid_first e es true can rest (suc k) g is =
       rest k g (ap (λ (l : List GivenPage). slice_get l (suc k)) (sym (pages_of-more f e es can))
-          ∙ is)
+      ∙ is)
 
   pages_valid : (es : List Request) → AreValid es
   pages_valid [] = λ k g is. absurd (given_at_none g k

@@ -161,7 +161,16 @@ fn read_blocks<W: World, E: Execute<ReadIo, W>, T: Wait, O: Sink>(
     prove!(blocks.count as u64 <= room);
     let source = Range::new(blocks.first, blocks.count);
     let mut stream = ReadStream::open(desk, pool, actor, blocks.relation, source);
-    let outcome = show_all(rt, table, actor, runner, &mut stream, blocks.relation, text, out);
+    let outcome = show_all(
+        rt,
+        table,
+        actor,
+        runner,
+        &mut stream,
+        blocks.relation,
+        text,
+        out,
+    );
     let (_, desk) = stream.close(rt, table, actor, &mut SyncMethod, runner);
     give_back(desk);
     outcome

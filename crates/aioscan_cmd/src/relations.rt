@@ -17,7 +17,8 @@ fn is_named(names: &[String], name: &str) -> bool
 
 // Adds a name, where it is new.
 fn add_name(names: &mut Vec<String>, name: &String) -> Result<(), AllocError>
-    ensures { OnOk result ((earlier : List (List ℕ)) → map string_bytes names.old.items ≡ distinct earlier
+    ensures { OnOk result ((earlier : List (List ℕ))
+        → map string_bytes names.old.items ≡ distinct earlier
         → map string_bytes names.new.items ≡ distinct (earlier ++ string_bytes name.now ∷ [])) }
 {
     if is_named(names.as_slice(), name.as_str()) {

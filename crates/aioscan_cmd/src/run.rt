@@ -85,8 +85,8 @@ fn run<R: Wait, S: Shelf, O: Sink>(
 /// files, without the program's name. Relations are the distinct files, numbered from 0 in the
 /// order of their first appearance. One disk is opened for all of them; their lengths are taken,
 /// in order, before anything is written; then each file's blocks are read through one stream, which
-/// reads neighbours together, and each page's text goes to `out` by one write. A line on `err` names what ended the run, where
-/// that is not the end of the list. The disk is taken back in every case.
+/// reads neighbours together, and each page's text goes to `out` by one write. A line on `err` names
+/// what ended the run, where that is not the end of the list. The disk is taken back in every case.
 pub fn aioscan<R: Wait, S: Shelf, O: Sink, E: Sink>(
     rt: &R,
     alloc: Global,

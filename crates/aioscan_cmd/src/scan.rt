@@ -110,10 +110,7 @@ fn list_disk<W: World, D: Disk, T: Wait, O: Sink>(
         desk,
     } = engine;
     let places = &pool;
-    let runner = Runner {
-        disk,
-        places,
-    };
+    let runner = Runner { disk, places };
     let mut backend = Backend {
         table: &table,
         pool: places,
@@ -122,7 +119,15 @@ fn list_disk<W: World, D: Disk, T: Wait, O: Sink>(
         desk,
     };
     let mut text = Vec::new(alloc);
-    let outcome = list_files(rt, &mut backend, command, relations, lengths, &mut text, out);
+    let outcome = list_files(
+        rt,
+        &mut backend,
+        command,
+        relations,
+        lengths,
+        &mut text,
+        out,
+    );
     let Backend {
         table: _,
         pool: _,
@@ -157,7 +162,15 @@ pub(crate) fn scan_disk<D: Disk, T: Wait, O: Sink>(
 {
     match take_lengths(alloc, &mut disk, relations.count()) {
         Ok(lengths) => {
-            list_disk::<Brand, D, T, O>(rt, alloc, command, relations, lengths.as_slice(), disk, out)
+            list_disk::<Brand, D, T, O>(
+                rt,
+                alloc,
+                command,
+                relations,
+                lengths.as_slice(),
+                disk,
+                out,
+            )
         }
         Err(outcome) => (disk, outcome),
     }

@@ -1,5 +1,6 @@
 //! Whole runs.
 mod outside;
+mod reads;
 mod rows;
 mod slow;
 mod untold;

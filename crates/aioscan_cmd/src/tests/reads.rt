@@ -42,7 +42,12 @@ fn reads_of<R: Abort + AllocGlobal + Wait>(
 
 #[test]
 fn runs_grow_with_the_distance(rt: HostRuntime) -> Result<(), Fail> {
-    let eight: &[Read] = &[(0, 1, Some(1)), (1, 2, Some(2)), (3, 4, Some(4)), (7, 1, Some(1))];
+    let eight: &[Read] = &[
+        (0, 1, Some(1)),
+        (1, 2, Some(2)),
+        (3, 4, Some(4)),
+        (7, 1, Some(1)),
+    ];
     assert_eq!(&rt; reads_of(&rt, 8, &[])?.as_slice(), eight, "8 pages");
     let many: &[Read] = &[
         (0, 1, Some(1)),
@@ -62,7 +67,12 @@ fn runs_grow_with_the_distance(rt: HostRuntime) -> Result<(), Fail> {
 fn a_short_read_is_taken_up(rt: HostRuntime) -> Result<(), Fail> {
     // The second read gives one page of two. While its rest is read, the look-ahead takes the other
     // blocks, which are then one run.
-    let wanted: &[Read] = &[(0, 1, Some(1)), (1, 2, Some(1)), (2, 1, Some(1)), (3, 5, Some(5))];
+    let wanted: &[Read] = &[
+        (0, 1, Some(1)),
+        (1, 2, Some(1)),
+        (2, 1, Some(1)),
+        (3, 5, Some(5)),
+    ];
     assert_eq!(&rt; reads_of(&rt, 8, &[1, 1])?.as_slice(), wanted);
     Ok(())
 }

@@ -1,15 +1,11 @@
-use Rattle.std.proofs.Common.{rules, ◌≡◌, ◌≤◌, ◌+◌, ℕ, List, length, refl, sym, ap, ◌∙◌, subst}
+use Rattle.std.proofs.Common.{rules, length, sym, ap, ◌∙◌, subst}
 use Rattle.std.proofs.Common.{arith}
-use Rattle.std.specs.Prelude.{Option}
-use Rattle.page_check.specs.SynchronousAnswer.{reader_of}
 use Rattle.aio_handle.specs.Shown.{Standing}
 use Rattle.aio_word.specs.Events.{lives}
 use Rattle.read_stream.specs.Open.{IsFree}
 use Rattle.read_stream.specs.Answering.{entries_of}
 use Rattle.read_stream.specs.Went.{local_marks}
 use Rattle.read_stream.proofs.Going.{went_then}
-use Rattle.aioscan_cmd.specs.RequestList.{Request}
-use Rattle.aioscan_cmd.specs.Reading.{Lists}
 use Rattle.aioscan_cmd.proofs.Lists.{lists_same}
 use Rattle.aioscan_cmd.proofs.Streams.{range_entries, range_length, failed_still}
 use Rattle.aioscan_cmd.proofs.lister.read_blocks.Goals as goal
@@ -61,9 +57,9 @@ pub returns-clause-lists : goal.returns-clause-lists
 returns-clause-lists g c =
     lists_same _ _ _ _ _ _
     (ap (entries_of c.args.blocks.now.relation) (c.open-stream.ensures.source
-        ∙ c.new-source.ensures)
+    ∙ c.new-source.ensures)
     ∙ range_entries c.args.blocks.now.relation c.args.blocks.now.first c.args.blocks.now.count)
-        c.show_all-outcome.ensures.lists
+    c.show_all-outcome.ensures.lists
 
 pub returns-clause-unread : goal.returns-clause-unread
 returns-clause-unread g c = λ r b names.

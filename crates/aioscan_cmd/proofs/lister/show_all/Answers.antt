@@ -1,7 +1,4 @@
-use Rattle.std.proofs.Common.{rules, ◌≡◌, ◌+◌, ◌<◌, ℕ, refl, sym, ap, ◌∙◌, subst, arith, length}
-use Rattle.std.proofs.lemmas.List.{length-map}
-use Rattle.page_check.specs.SynchronousAnswer.{reader_of}
-use Rattle.aio_word.specs.declared.Config.{Config}
+use Rattle.std.proofs.Common.{rules, ◌+◌, ℕ, refl, sym, ap, ◌∙◌, arith}
 use Rattle.aio_word.specs.Events.{actors}
 use Rattle.aio_handle.specs.Shown.{Standing}
 use Rattle.read_stream.specs.Answering.{said, pages_in, entries_of, MayBeUnread}

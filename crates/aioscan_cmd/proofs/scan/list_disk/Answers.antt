@@ -1,4 +1,4 @@
-use Rattle.std.proofs.Common.{rules, ◌≡◌, ◌<◌, ◌≤◌, length, arith, vec_len}
+use Rattle.std.proofs.Common.{◌≡◌, arith, vec_len}
 use Rattle.aioscan_cmd.proofs.Lists.{lists_nothing}
 use Rattle.aioscan_cmd.proofs.Opening.{one_actor, quiet_one}
 use Rattle.aioscan_cmd.proofs.Counted.{few_reads}

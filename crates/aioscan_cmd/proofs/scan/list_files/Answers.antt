@@ -1,5 +1,4 @@
-use Rattle.std.proofs.Common.{◌≡◌, ◌≤◌, ◌+◌, ◌∙◌, ℕ, [], List, rules, arith, refl, sym, ap, length}
-use Rattle.std.proofs.Common.{subst}
+use Rattle.std.proofs.Common.{◌≤◌, ◌+◌, ◌∙◌, ℕ, List, arith, refl, sym, ap, length}
 use Rattle.std.specs.Prelude.{string_bytes, slice_index}
 use Rattle.std.proofs.lemmas.List.{length-map}
 use Rattle.aio_word.specs.declared.Mark.{Mark}
@@ -29,9 +28,9 @@ pub bounds-lengths-relation : goal.bounds-lengths-relation
 bounds-lengths-relation g c =
     number_in_range
     c.args.command.now c.files-file-items.result.now c.loop-file.file-index c.file-item.result _ _ _
-        _
+    _
     (sym c.files-file-items.ensures.files) c.loop-file-test.true c.file-item.is
-        c.as_str.ensures.value c.requires.relations c.number_of-relation.ensures
+    c.as_str.ensures.value c.requires.relations c.number_of-relation.ensures
     c.requires.lengths
 
 pub offset_bounds-lengths-relation : goal.offset_bounds-lengths-relation
@@ -39,9 +38,9 @@ offset_bounds-lengths-relation g c =
     let inside =
     number_in_range
     c.args.command.now c.files-file-items.result.now c.loop-file.file-index c.file-item.result _ _ _
-        (length c.args.relations.now)
+    (length c.args.relations.now)
     (sym c.files-file-items.ensures.files) c.loop-file-test.true c.file-item.is
-        c.as_str.ensures.value c.requires.relations c.number_of-relation.ensures
+    c.as_str.ensures.value c.requires.relations c.number_of-relation.ensures
     refl in
     omega arith
 
@@ -50,9 +49,9 @@ overflow_cast-relation g c =
     let inside =
     number_in_range
     c.args.command.now c.files-file-items.result.now c.loop-file.file-index c.file-item.result _ _ _
-        (length c.args.relations.now)
+    (length c.args.relations.now)
     (sym c.files-file-items.ensures.files) c.loop-file-test.true c.file-item.is
-        c.as_str.ensures.value c.requires.relations c.number_of-relation.ensures
+    c.as_str.ensures.value c.requires.relations c.number_of-relation.ensures
     refl in
     omega arith
 
@@ -61,9 +60,9 @@ list_blocks-requires-clause-blocks g c =
     let inside =
     number_in_range
     c.args.command.now c.files-file-items.result.now c.loop-file.file-index c.file-item.result _ _ _
-        (length c.args.relations.now)
+    (length c.args.relations.now)
     (sym c.files-file-items.ensures.files) c.loop-file-test.true c.file-item.is
-        c.as_str.ensures.value c.requires.relations c.number_of-relation.ensures
+    c.as_str.ensures.value c.requires.relations c.number_of-relation.ensures
     refl in
     let count = c.asked_count-count.ensures.few (c.requires.fit c.number_of-relation.result) in
     record {
@@ -80,7 +79,7 @@ loop-file-preserved g c =
     let range = range_of_file (slice_index c.args.lengths.now) c.args.command.now
     (string_bytes c.file-item.result) _ _ _ _ _
     c.as_str.ensures.value c.requires.relations c.number_of-relation.ensures
-        c.first_block-first.ensures.block c.asked_count-count.ensures.count in
+    c.first_block-first.ensures.block c.asked_count-count.ensures.count in
     let count = c.asked_count-count.ensures.few (c.requires.fit c.number_of-relation.result) in
     let more = length_up_to-more (slice_index c.args.lengths.now) c.args.command.now
     c.loop-file.file-index (string_bytes c.file-item.result) at.0 at.1
@@ -112,7 +111,7 @@ returns-in_default g c =
     let range = range_of_file (slice_index c.args.lengths.now) c.args.command.now
     (string_bytes c.file-item.result) _ _ _ _ _
     c.as_str.ensures.value c.requires.relations c.number_of-relation.ensures
-        c.first_block-first.ensures.block c.asked_count-count.ensures.count in
+    c.first_block-first.ensures.block c.asked_count-count.ensures.count in
     let more = length_up_to-more (slice_index c.args.lengths.now) c.args.command.now
     c.loop-file.file-index (string_bytes c.file-item.result) at.0 at.1
     ∙ ap (λ (n : ℕ). length (requests_up_to c.loop-file.file-index
@@ -142,8 +141,12 @@ pub returns-clause-lists : goal.returns-clause-lists
 returns-clause-lists g c =
     let command = c.args.command.now in
     let all : length command.files ≤ c.loop-file.file-index =
-    omega (arith, length-map c.files-file-items.result.now string_bytes, ap length
-        c.files-file-items.ensures.files) in
+    omega (
+      arith,
+      length-map c.files-file-items.result.now string_bytes,
+      ap length
+          c.files-file-items.ensures.files,
+    ) in
     let same = requests_up_to-all
     (slice_index c.args.lengths.now) command c.loop-file.file-index all in
     lists_same _ _ _ _ _ _ same c.loop-file.invariant.lists

@@ -1,4 +1,4 @@
-use Rattle.std.proofs.Common.{◌≡◌, ◌≤◌, ◌*◌, ℕ, length}
+use Rattle.std.proofs.Common.{◌≡◌, ◌≤◌, ◌*◌, length}
 use Rattle.std.specs.Prelude.{slice_index}
 use Rattle.page_check.specs.SynchronousAnswer.{reader_of}
 use Rattle.read_stream.specs.Went.{Went}

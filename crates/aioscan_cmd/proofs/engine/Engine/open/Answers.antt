@@ -1,4 +1,4 @@
-use Rattle.std.proofs.Common.{◌≡◌, arith, refl, rules, vec_len}
+use Rattle.std.proofs.Common.{◌≡◌, arith, vec_len}
 use Rattle.aioscan_cmd.proofs.Opening.{only_actor, idle_at_start, no_marks}
 use Rattle.aioscan_cmd.proofs.engine.Engine.open.Goals as goal
 
