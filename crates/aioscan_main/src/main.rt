@@ -1,6 +1,7 @@
 //! The program `aioscan`: hands the words, the files and the two standard streams to the top call,
 //! and ends with its status.
 #![tactic(auto)]
+
 ghost use Rattle.std.specs.Prelude.{◌≡◌};
 ghost use Rattle.std.specs.Process.{exit_status};
 
