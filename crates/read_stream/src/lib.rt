@@ -30,6 +30,10 @@ mod scope;
 mod serve;
 mod stream;
 mod taking_in;
+#[cfg(test)]
+mod tests;
+#[cfg(test)]
+mod trials;
 
 pub use answer::Next;
 pub use desk::{Desk, Settings};
