@@ -1,4 +1,6 @@
 //! Streams with the sync method, answer by answer.
+ghost use Rattle.std.specs.Prelude.{◌+◌, ◌^◌, ◌≤◌};
+
 use crate::Settings;
 use crate::trials::{Answer, Plan, Shelved, USUAL, blocks, file_of, page, run, usual, whole};
 use std::alloc::Global;
@@ -11,7 +13,9 @@ pub(crate) fn wanted(
     pages: u32,
     end: Answer,
     times: u32,
-) -> Result<Vec<Answer>, Fail> {
+) -> Result<Vec<Answer>, Fail>
+    requires { first + pages ≤ 2 ^ 28 }
+{
     let mut all = Vec::new(alloc);
     for block in first..first + pages {
         all.push(page(block))?;

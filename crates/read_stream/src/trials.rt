@@ -1,5 +1,5 @@
 //! What tests read: streams over disks in memory, with the sync method.
-ghost use Rattle.std.specs.Prelude.{◌≡◌, ◌+◌, ◌*◌, ◌^◌, ◌<◌, ◌≤◌, length};
+ghost use Rattle.std.specs.Prelude.{◌≡◌, ◌+◌, ◌*◌, ◌^◌, ◌<◌, ◌≤◌, length, IsTrue};
 ghost use Rattle.aio_handle.specs.Closing.{IsAtRest};
 ghost use Rattle.aio_handle.specs.Shown.{IsOf, IsSame};
 ghost use Rattle.read_stream.specs.Open.{AreSettings, IsOpen};
@@ -63,6 +63,29 @@ pub(crate) struct Plan {
     pub calls: u32,
     /// A read of block 0 that another backend has submitted, and nobody has claimed.
     pub other: bool,
+}
+
+// Whether a table, a pool and a desk may be opened so.
+fn is_in_range(plan: &Plan) -> bool
+    ensures handles { IsTrue result → (1 ≤ plan.now.handles) × (plan.now.handles ≤ 64) }
+    ensures frames { IsTrue result → (16 ≤ plan.now.frames) × (plan.now.frames ≤ 16384) }
+    ensures combine { IsTrue result → (1 ≤ plan.now.settings.combine)
+        × (plan.now.settings.combine ≤ 128) }
+    ensures ios { IsTrue result → (1 ≤ plan.now.settings.ios) × (plan.now.settings.ios ≤ 64) }
+    ensures limit { IsTrue result → (1 ≤ plan.now.settings.limit)
+        × (plan.now.settings.limit ≤ 16384) }
+{
+    let Plan {
+        handles,
+        frames,
+        settings,
+        calls: _,
+        other: _,
+    } = *plan;
+    let memory = 1 <= handles && handles <= 64 && 16 <= frames && frames <= 16384;
+    let reads = 1 <= settings.combine && settings.combine <= 128;
+    let ahead = 1 <= settings.limit && settings.limit <= 16384;
+    memory && reads && ahead && 1 <= settings.ios && settings.ios <= 64
 }
 
 pub(crate) const USUAL: Settings = Settings {
@@ -199,8 +222,12 @@ fn two_streams<W: World, E: Execute<ReadIo, W>, T: Wait>(
 {
     let settings = &plan.settings;
     let calls = first.len().min(1000) as u32;
-    answers(rt, alloc, settings, calls, pool, table, actor, runner, first)?;
-    answers(rt, alloc, settings, plan.calls, pool, table, actor, runner, list)
+    answers(
+        rt, alloc, settings, calls, pool, table, actor, runner, first,
+    )?;
+    answers(
+        rt, alloc, settings, plan.calls, pool, table, actor, runner, list,
+    )
 }
 
 /// The same over a table, a pool and a desk of its own, behind a stream over the first list, and
@@ -232,7 +259,17 @@ fn read_all<W: World, D: Disk, T: Wait>(
             if plan.other {
                 submit_other(rt, &pool, &table, &mut other, ReadIo::make(alloc, 1)?);
             }
-            two_streams(rt, alloc, plan, &pool, &table, &mut actor, &mut runner, first, list)?
+            two_streams(
+                rt,
+                alloc,
+                plan,
+                &pool,
+                &table,
+                &mut actor,
+                &mut runner,
+                first,
+                list,
+            )?
         }
         _ => (Vec::new(alloc), 0),
     };
@@ -307,12 +344,7 @@ pub(crate) fn run<R: Abort + AllocGlobal + Wait>(
     shelved: Shelved,
     plan: &Plan,
     list: Vec<(u32, u32)>,
-) -> Result<Outcome, Fail>
-    requires handles_in { (1 ≤ plan.now.handles) × (plan.now.handles ≤ 64) }
-    requires frames { (16 ≤ plan.now.frames) × (plan.now.frames ≤ 16384) }
-    requires settings { AreSettings plan.now.settings.combine plan.now.settings.ios
-        plan.now.settings.limit }
-{
+) -> Result<Outcome, Fail> {
     let alloc = rt.alloc();
     let Shelved {
         files,
@@ -328,6 +360,7 @@ pub(crate) fn run<R: Abort + AllocGlobal + Wait>(
     };
     assert!(rt; aio_disk::have_distinct_names(files.as_slice()));
     assert!(rt; script.has_positive_shorts());
+    assert!(rt; is_in_range(plan));
     let mut shelf = MemShelf::make(alloc, files, script, 300)?;
     let names = vec![in alloc; String::from_str(alloc, "f")?]?;
     let disk = shelf.open(names.as_slice()).ok().ok_or("no disk")?;
