@@ -23,6 +23,8 @@ mod issuing;
 mod laws;
 mod parts;
 mod queue;
+#[cfg(test)]
+mod random_streams;
 mod reach;
 mod reads;
 mod ring;

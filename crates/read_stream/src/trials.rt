@@ -6,9 +6,8 @@ ghost use Rattle.read_stream.specs.Open.{AreSettings, IsOpen};
 
 use crate::{Desk, Next, ReadStream, Settings};
 use aio_callback::{CallbackId, ReadIo};
-use aio_disk::{Disk, MemDisk, MemShelf, ReadEntry, Script, Shelf};
+use aio_disk::{Disk, MemDisk, MemShelf, Script, Shelf};
 use aio_handle::{Actor, Execute, Table};
-use aio_word::WaitRef;
 use block_source::Listed;
 use buf_pool::{Pool, Tag};
 use method_sync::{Runner, SyncMethod};
