@@ -139,7 +139,7 @@ fn compare<R: Abort + AllocGlobal + Wait>(rt: &R, seed: u64) -> Result<u32, Fail
     let alloc = rt.alloc();
     let mut numbers = Numbers(seed);
     let mut stopped = 0u32;
-    for round in 0..200u32 {
+    for round in 0..500u32 {
         let blocks = 4 + numbers.below(9);
         let bad = if numbers.below(3) == 0 {
             Some(numbers.below(blocks))
