@@ -134,7 +134,7 @@ fn agree(all: &[Answer], slow: &[Answer], list: &[(u32, u32)], may_fail: bool) -
     all.len() == slow.len()
 }
 
-/// Two hundred random streams, and how many of them a failed read stopped.
+/// Five hundred random streams, and how many of them a failed read stopped.
 fn compare<R: Abort + AllocGlobal + Wait>(rt: &R, seed: u64) -> Result<u32, Fail> {
     let alloc = rt.alloc();
     let mut numbers = Numbers(seed);
