@@ -62,7 +62,7 @@ returns-in_default-clause-cause c =
     let none : next_word_of c.args.self.now.config c.args.self.now.machine c.args.event
     c.index.result.now ≡ None = sym c.next_word.ensures ∙ c.in_default.is in (
       refl,
-      ap Some c.pack.ensures
+      ap Some (omega (arith, c.pack.ensures))
           ∙ sym (ap packed_if there),
       unmade c.args.self.now.config c.args.self.now.machine
           c.args.event c.index.result.now there none,
