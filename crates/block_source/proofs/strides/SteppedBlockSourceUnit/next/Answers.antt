@@ -6,5 +6,8 @@ pub returns : goal.returns
 returns c =
     let some : 0 < c.self.inside.count = omega arith in
     record {
-      first = rw (← c.self.view_is, stepped_first c.self.inside.next c.self.inside.step _ some);
+      first = rw (← c.self.view_is) (grind (
+        arith,
+        stepped_first c.self.inside.next c.self.inside.step c.self.inside.count some,
+      ));
     }
