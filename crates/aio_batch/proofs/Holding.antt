@@ -1,5 +1,5 @@
 -- The tokens of a batch, over the calls of their actor.
-use Rattle.std.proofs.Common.{◌≡◌, ◌≢◌, ℕ, List, [], ◌∷◌, ◌++◌, sym, subst, arith}
+use Rattle.std.proofs.Common.{◌≢◌, ℕ, List, [], ◌∷◌, ◌++◌, sym, subst, arith}
 use Rattle.aio_word.specs.declared.Step.TheVariants as event
 use Rattle.aio_word.specs.declared.Known.{Known}
 use Rattle.aio_word.specs.declared.WaitRef.{WaitRef}
@@ -8,7 +8,6 @@ use Rattle.aio_word.specs.Tokens.{IsDefined, IsStaged, IsInFlight, IsLocal}
 use Rattle.aio_handle.specs.Kept.{IsKept}
 use Rattle.aio_handle.specs.LifeWords.{defined, staged, unclaimed}
 use Rattle.aio_handle.specs.Made.{Made}
-use Rattle.aio_handle.specs.Executing.{TakesUp}
 use Rattle.aio_handle.proofs.Holding.{held-moved, held-in, held-push as are-held-push}
 use Rattle.aio_handle.proofs.Kept.{kept-then, kept-taking-up, kept-elsewhere, aims-kept}
 use Rattle.aio_batch.specs.Held.{Held}
@@ -31,17 +30,16 @@ module _ {R : Type 0} where
   held-push = are-held-push of IsStaged
 
   -- the first is submitted and begun, and the others stay
-  pub held-rest : (before after : List (WaitRef × R)) (token : WaitRef × R) (aim : List ℕ)
-      (p q r : Known) (a b c d : ℕ) → before ≡ token ∷ after
-      → Made event.Submit token.0.handle (staged token.0.generation)
-      (unclaimed token.0.generation) aim p q
-      → TakesUp [] q r a b c d → Held p before → Held r after
-  held-rest before after token aim p q r a b c d first made begun held =
-      let h : Held p (token ∷ after) = subst (λ (z : List (WaitRef × R)). Held p z) first held in
-      held-kept p r after (λ u i. kept-then u.0 p q r
-      (kept-elsewhere u.0 event.Submit token.0.handle (staged token.0.generation)
-      (unclaimed token.0.generation) aim p q made (h.1 u i))
-      (kept-taking-up u.0 [] q r a b c d begun)) h.2
+  pub held-next : (aim_in : R → List ℕ) (before after : List (WaitRef × R)) (t : WaitRef)
+      (p q : Known) (a b c d : ℕ) → Held p before → IsNext aim_in before after t p q a b c d
+      → Held q after
+  held-next aim_in before after t p q a b c d held n =
+      let h : Held p (n.token ∷ after) = subst (λ (z : List (WaitRef × R)). Held p z) n.first held
+      in held-kept p q after (λ u i. kept-then u.0 p n.between q
+      (kept-elsewhere u.0 event.Submit t.handle (staged t.generation) (unclaimed t.generation)
+      (aim_in n.token.1) p n.between n.made
+      (subst (λ (z : WaitRef). u.0 ≢ z) (sym n.reference) (h.1 u i)))
+      (kept-taking-up u.0 [] n.between q a b c d n.begun)) h.2
 
   -- each token but the one that is submitted stays, and a token that is not staged is another
   pub kept-submitting : (aim_in : R → List ℕ) (before after : List (WaitRef × R)) (t u : WaitRef)
