@@ -1,5 +1,6 @@
 -- A table of one actor: its list has all marks of an incarnation.
-use Rattle.std.proofs.Common.{◌≡◌, ◌≢◌, ℕ, ◌+◌, ◌*◌, ◌<◌, List, [], ◌∷◌, ◌++◌, length, sum_by, refl, sym, ap, ◌∙◌, subst, inr, ⊎_elim, arith, nat_lt}
+use Rattle.std.proofs.Common.{◌≡◌, ◌≢◌, ℕ, ◌+◌, ◌*◌, ◌<◌, List, [], ◌∷◌, ◌++◌, length}
+use Rattle.std.proofs.Common.{sum_by, refl, sym, ap, ◌∙◌, subst, inr, ⊎_elim, arith, nat_lt}
 use Rattle.std.proofs.lemmas.Bool.Decides.{nat_tests}
 use Rattle.std.proofs.lemmas.List.Sums.{sum_by-cons}
 use mathlib.Core.Logic.{dite}
@@ -11,7 +12,8 @@ use Rattle.aio_word.specs.declared.Kind.TheVariants as kind
 use Rattle.aio_word.specs.declared.Step.TheVariants as event
 use Rattle.aio_word.specs.declared.Known.{Known}
 use Rattle.aio_word.specs.declared.Mark.{Mark}
-use Rattle.aio_word.specs.Events.{actors, handles, owner, order, rank_of_mark, is_mark, times, at, ref}
+use Rattle.aio_word.specs.Events.{actors, handles, owner, order, rank_of_mark}
+use Rattle.aio_word.specs.Events.{is_mark, times, at, ref}
 use Rattle.aio_word.proofs.Parts.{in-left}
 use Rattle.aio_word.proofs.Steps.{mark, counted-in}
 use Rattle.aio_word.proofs.Noted.{noted-list}

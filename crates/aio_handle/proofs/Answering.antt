@@ -1,5 +1,6 @@
 -- Small steps of the calls' answers.
-use Rattle.std.proofs.Common.{◌≡◌, ◌≢◌, ℕ, ◌<◌, sym, ap, subst, refl, arith, List, Bool, true, false, not, ◌+◌, ◌*◌, ◌≤◌}
+use Rattle.std.proofs.Common.{◌≡◌, ◌≢◌, ℕ, ◌<◌, sym, ap, subst, refl, arith}
+use Rattle.std.proofs.Common.{List, Bool, IsTrue, true, false, not, ◌+◌, ◌*◌, ◌≤◌, ◌↔◌}
 use mathlib.Core.Logic.{dite}
 use native.Mathlib.Decide.{ℕ_discrete}
 use Rattle.aio_word.specs.declared.WaitRef.{WaitRef}
@@ -10,10 +11,11 @@ use Rattle.aio_word.specs.declared.Step.{Step as Event}
 use Rattle.aio_word.specs.Words.{last_generation}
 use Rattle.aio_word.specs.declared.State.{State}
 use Rattle.aio_word.specs.declared.State.TheVariants.{CompletedShared}
-use Rattle.aio_word.specs.Words.{IsLawful, ClaimFits, packed, place_in, place_of, rank_of}
+use Rattle.aio_word.specs.Words.{IsDone, IsLawful, ClaimFits, packed, place_in, place_of, rank_of}
 use Rattle.aio_word.specs.Stands.{IsIn, seen_of}
 use Rattle.aio_word.specs.Tokens.{IsInFlight}
-use Rattle.aio_handle.specs.Made.{Made, Looked, IsCompleted}
+use Rattle.aio_word.proofs.Reaching.{shared-stands}
+use Rattle.aio_handle.specs.Made.{Made, Looked, Checked, IsCompleted}
 use Rattle.aio_handle.specs.LifeWords.{completed}
 use Rattle.aio_handle.proofs.Finding.{word-is}
 use Rattle.aio_handle.proofs.Tokening.{begun-of}
@@ -40,6 +42,16 @@ pub flight-looked : (h : ℕ) (w : Word) (p q : Known) (t : WaitRef) → Looked 
     → IsInFlight q t
 flight-looked h w p q t m f = subst (λ (z : Known). IsInFlight z t) (sym m.is)
     record { since = f.since; until = f.until }
+
+-- what a look tells whoever asked about an incarnation
+pub checked : (p q : Known) (t : WaitRef) (answer : Bool) (w : Word) → Looked t.handle w p q
+    → (IsTrue answer ↔ IsDone w t.generation) → Checked t answer p q
+checked p q t answer w look exact = record {
+  word = w;
+  looked = look;
+  exact = exact;
+  shared = λ yes lo. shared-stands p.config p t.handle w t.generation look.moment lo (exact.0 yes);
+}
 
 pub rank-completed : (w : Word) (g : ℕ) → IsCompleted w g → rank_of w ≡ 8 * g + 6
 rank-completed w g (s, e) = let pl : place_of w ≡ 6 = ap (λ (z : State). place_in z w.claimed) s in

@@ -72,7 +72,8 @@ grows-then p q r xs ys a b = record {
   looks = (
     a.looks.0 ++ b.looks.0,
     b.looks.1 ∙
-        (ap (λ (z : List Look). z ++ b.looks.0) a.looks.1 ∙ append_assoc p.looks a.looks.0 b.looks.0),
+        (ap (λ (z : List Look). z ++ b.looks.0) a.looks.1 ∙ append_assoc p.looks a.looks.0
+        b.looks.0),
   );
 }
 

@@ -1,5 +1,8 @@
 -- A step on one handle keeps the rule of the table.
-use Rattle.std.proofs.Common.{◌≡◌, ◌≢◌, ℕ, suc, ◌+◌, ◌*◌, ◌<◌, ◌≤◌, ◌⊎◌, ◌↔◌, ◌&&◌, max, Bool, true, false, List, [], ◌∷◌, ◌++◌, length, get_or, set, sum_by, ◌==◌, le_refl, refl, sym, ap, ◌∙◌, subst, inl, ⊎_elim, arith, length-set, Option, Some, None, slice_get}
+use Rattle.std.proofs.Common.{◌≡◌, ◌≢◌, ℕ, suc, ◌+◌, ◌*◌, ◌<◌, ◌≤◌, ◌⊎◌, ◌↔◌}
+use Rattle.std.proofs.Common.{◌&&◌, max, Bool, true, false, List, [], ◌∷◌, ◌++◌}
+use Rattle.std.proofs.Common.{length, get_or, set, sum_by, ◌==◌, le_refl, refl, sym, ap, ◌∙◌}
+use Rattle.std.proofs.Common.{subst, inl, ⊎_elim, arith, length-set, Option, Some, None, slice_get}
 use Rattle.std.proofs.lemmas.List.{get_or-set_same, get_or-set_other}
 use Rattle.std.proofs.lemmas.List.Sums.{sum_by_push}
 use Rattle.std.proofs.lemmas.Bool.Decides.{nat_tests}
@@ -20,7 +23,8 @@ use Rattle.aio_word.specs.declared.WaitRef.{WaitRef}
 use Rattle.aio_word.specs.declared.Word.{Word}
 use Rattle.aio_word.specs.declared.Known.{Known}
 use Rattle.aio_word.specs.Words.{packed, place_of, rank_of}
-use Rattle.aio_word.specs.Events.{Machine, Reached, next, handles, owner, order, times, ref, lives, after, leaves, may, noted, is_free}
+use Rattle.aio_word.specs.Events.{Machine, Reached, next, handles, owner, order, times}
+use Rattle.aio_word.specs.Events.{ref, lives, after, leaves, may, noted, is_free}
 use Rattle.aio_word.specs.Stands.{IsIn, IsOwners, one_if, seen_of, ListStands, IsMachine}
 use Rattle.aio_word.specs.Ranked.{HandleRanked, Ranked}
 use Rattle.aio_word.proofs.Parts.{in-append, in-left, in-right, in-replaced, in-here, sum-replaced}
@@ -33,7 +37,8 @@ use Rattle.aio_handle.specs.declared.record.Label.{Label}
 use Rattle.aio_handle.specs.Ruled.{joined, KnownStands, SlotStands, HandleRuled, IsActor, Ruled}
 use Rattle.aio_handle.specs.Changes.{changed, looked}
 use Rattle.aio_handle.specs.Made.{Made, Looked, IsByOwner, generation_of}
-use Rattle.aio_handle.proofs.Finding.{Finds, stood-here, ruled-here, actor-here, others, numbered-here, before-here, moment-here}
+use Rattle.aio_handle.proofs.Finding.{Finds, stood-here, ruled-here, actor-here}
+use Rattle.aio_handle.proofs.Finding.{others, numbered-here, before-here, moment-here}
 
 -- a step by an actor that need not be the owner
 pub record Works (w w' : Word) : Type 0 where
@@ -160,7 +165,8 @@ module _ {R : Type 0} (label : R → Label) (aim_in : R → List ℕ) (Fits : R 
         views =
             set s.views id (p' ∷ []);
       }
-  assembled homes' home' wide others' mine w' p' n here alone ruled' elsewhere actor' m' reached' is' =
+  assembled homes' home' wide others' mine w' p' n here alone ruled' elsewhere actor' m' reached'
+      is' =
       let now = f.lying.now in
       let then : joined (set s.views id (p' ∷ [])) ≡ front ++ p' ∷ back = f.lying.then (p' ∷ []) in
       record {
@@ -417,7 +423,8 @@ module _ {R : Type 0} (label : R → Label) (aim_in : R → List ℕ) (Fits : R 
             aims = in-old q.aims k.aims;
             submitted = λ o _. ⊎_elim
                 (λ own. absurd (others label aim_in Fits c s r id h p f q i (o ∙ sym own)))
-                (λ (x : Works w w'). in-same h w.generation w'.generation ruled.aim aim' q.aims x.generation (d.same_aim x.place x.generation) (k.submitted o x.place)) d.who;
+                (λ (x : Works w w'). in-same h w.generation w'.generation ruled.aim aim' q.aims
+                x.generation (d.same_aim x.place x.generation) (k.submitted o x.place)) d.who;
             held = λ lt more.
                 let st = (stood c (front ++ p ∷ back) h w before q j
                 (8 * w'.generation + 3) more).1 in

@@ -239,7 +239,8 @@ module _ {R : Type 0} (label : R → Label) (aim_in : R → List ℕ) (Fits : R 
         (replicate (handles c) (first c)) z) (sym (append-nil all)) record {
           words = refl;
           lists = λ p i. let t = new-in c 0 (actors c) p i in
-              subst (λ (z : Known). slice_get (replicate (actors c) []) z.number ≡ Some z.marks) t.is
+              subst (λ (z : Known). slice_get (replicate (actors c) []) z.number ≡ Some z.marks)
+              t.is
               (at-inside (actors c) t.number [] (let x = t.high in omega arith));
           all = length-replicate (actors c) [];
         };

@@ -1,10 +1,14 @@
 -- The owner's steps keep the rule.
-use Rattle.std.proofs.Common.{◌≡◌, ◌≢◌, ℕ, ◌+◌, ◌*◌, ◌%◌, ◌^◌, ◌<◌, ◌≤◌, ◌↔◌, nat_lt, true, not, List, [], ◌∷◌, length, get_or, set, refl, sym, ap, ◌∙◌, subst, inl, inr, arith, length-set, Option, Some, None}
+use Rattle.std.proofs.Common.{◌≡◌, ◌≢◌, ℕ, ◌+◌, ◌*◌, ◌%◌, ◌^◌, ◌<◌}
+use Rattle.std.proofs.Common.{◌≤◌, ◌↔◌, nat_lt, true, not, List, [], ◌∷◌}
+use Rattle.std.proofs.Common.{length, get_or, set, refl, sym, ap, ◌∙◌, subst}
+use Rattle.std.proofs.Common.{inl, inr, arith, length-set, Option, Some, None}
 use Rattle.std.proofs.lemmas.Bool.Decides.{nat_tests}
 use mathlib.Core.Option.{some, none, some-injective}
 use mathlib.Core.Option as maybe
 use lib.ListN.{get_elem?}
-use Rattle.atomic_table.specs.Table.{State, Me, step, rest, put_back, keeps as stays, takes, gives, Allows}
+use Rattle.atomic_table.specs.Table.{State, Me, step, rest, put_back}
+use Rattle.atomic_table.specs.Table.{keeps as stays, takes, gives, Allows}
 use Rattle.atomic_table.proofs.Lists.{set_here, set_else}
 use Rattle.aio_word.specs.declared.Config.{Config}
 use Rattle.aio_word.specs.declared.Class.{Class}
@@ -30,10 +34,12 @@ use Rattle.aio_handle.specs.LifeWords.{idle, handed, defined, staged, unclaimed,
 use Rattle.aio_handle.specs.Steps.{Makes, Hands, Releases, Reclaims, Submits, Gets}
 use Rattle.aio_handle.specs.Seats.{IsAway}
 use Rattle.aio_handle.proofs.Views.{there, below}
-use Rattle.aio_handle.proofs.Finding.{same-number, Finds, finds, refined, stood-here, ruled-here, knows, actor-here, here-in}
+use Rattle.aio_handle.proofs.Finding.{same-number, Finds, finds, refined, stood-here}
+use Rattle.aio_handle.proofs.Finding.{ruled-here, knows, actor-here, here-in}
 use Rattle.aio_handle.proofs.Keeps.{Does, Goes, lives-same, lives-more, marked, quiet, keeps, made}
 use Rattle.aio_handle.proofs.Away.{home-not-away}
-use Rattle.aio_handle.proofs.Where.{none-some, owns, handed-word, idle-word, defined-word, staged-word, completed-word, taken-word}
+use Rattle.aio_handle.proofs.Where.{none-some, owns, handed-word, idle-word}
+use Rattle.aio_handle.proofs.Where.{defined-word, staged-word, completed-word, taken-word}
 
 some-same : (a b : WaitRef) → Some a ≡ Some b → a ≡ b
 some-same a b e = cc
@@ -107,7 +113,8 @@ module _ {R : Type 0} (label : R → Label) (aim_in : R → List ℕ) (Fits : R 
               set s.views id (changed event.Define h (handed g) (defined g) [] p ∷ []);
         }
     define-keeps = keeps label aim_in Fits c s r id h p fo range event.Define (defined g) []
-        (ruled-here label aim_in Fits c s r id h p fo).aim define-goes define-does s.homes f0.home refl (λ i ne. refl) f0.home_is
+        (ruled-here label aim_in Fits c s r id h p fo).aim define-goes define-does s.homes f0.home
+        refl (λ i ne. refl) f0.home_is
         (ruled-here label aim_in Fits c s r id h p fo).slot (λ x. absurd (cc))
 
     pub define-made : Made event.Define h (handed g) (defined g) [] p
@@ -283,7 +290,8 @@ module _ {R : Type 0} (label : R → Label) (aim_in : R → List ℕ) (Fits : R 
               set s.views id (changed event.Stage h (defined g) (staged g) [] p ∷ []);
         }
     stage-keeps = keeps label aim_in Fits c s r id h p fd range event.Stage (staged g) []
-        (ruled-here label aim_in Fits c s r id h p fd).aim stage-goes stage-does s.homes f0.home refl (λ i ne. refl) f0.home_is
+        (ruled-here label aim_in Fits c s r id h p fd).aim stage-goes stage-does s.homes f0.home
+        refl (λ i ne. refl) f0.home_is
         (ruled-here label aim_in Fits c s r id h p fd).slot (λ x. absurd (cc))
 
     pub stage-made : Made event.Stage h (defined g) (staged g) [] p
@@ -560,7 +568,17 @@ module _ {R : Type 0} (label : R → Label) (aim_in : R → List ℕ) (Fits : R 
                   set s.views id (q ∷ []);
             }) (sym is)
             (hand-keeps label aim_in Fits c s r id h p f range g own out gen until room),
-        (p, q, g, mine, refl, hand-found label aim_in Fits c s r id h p f range g own out gen until room, is, hand-made label aim_in Fits c s r id h p f range g own out gen until room),
+        (
+          p,
+          q,
+          g,
+          mine,
+          refl,
+          hand-found label aim_in Fits c s r id h p f range g own out gen until
+              room,
+          is,
+          hand-made label aim_in Fits c s r id h p f range g own out gen until room,
+        ),
       )
 
   pub releases : (slots id h g new : ℕ) (me : Me (Option R) (List Known)) (p : Known)
@@ -632,7 +650,17 @@ module _ {R : Type 0} (label : R → Label) (aim_in : R → List ℕ) (Fits : R 
         subst (λ (z : ℕ). Ruled label aim_in Fits c
             record { words = set s.words h z; homes = s.homes; views = set s.views id (q ∷ []) })
             (sym is) (stage-keeps label aim_in Fits c s r id h p f range g t),
-        (p, q, g, mine, refl, stage-found label aim_in Fits c s r id h p f range g t, is, stage-made label aim_in Fits c s r id h p f range g t),
+        (
+          p,
+          q,
+          g,
+          mine,
+          refl,
+          stage-found label aim_in Fits c s r id h p f range g t,
+          is,
+          stage-made
+              label aim_in Fits c s r id h p f range g t,
+        ),
       )
 
   pub submits : (slots id h g new : ℕ) (me : Me (Option R) (List Known)) (p : Known) (x : R)
@@ -706,7 +734,8 @@ module _ {R : Type 0} (label : R → Label) (aim_in : R → List ℕ) (Fits : R 
           get-aimed label aim_in Fits c s r id h p f range g t saw-it,
           hold.2.fits,
           (λ n u saw-n. ap (λ (z : Word). z.generation)
-              (sym (completed-word label aim_in Fits c s r id h p f g t saw-it) ∙ completed-word label aim_in Fits c s r id h p f n u saw-n)),
+              (sym (completed-word label aim_in Fits c s r id h p f g t saw-it) ∙ completed-word
+              label aim_in Fits c s r id h p f n u saw-n)),
         ),
       )
 
@@ -725,5 +754,19 @@ module _ {R : Type 0} (label : R → Label) (aim_in : R → List ℕ) (Fits : R 
         gives,
         tt,
         gave s id h (packed (idle (g + 1))) new p q me None seat (sym is) first keep,
-        (class, (p, q, g, mine, refl, reclaim-found label aim_in Fits c s r id h p f range g t, is, reclaim-made label aim_in Fits c s r id h p f range g t, gone s id h (packed (idle (g + 1))) p q None seat range (below s.homes h f.home f.home_is) keep)),
+        (
+          class,
+          (
+            p,
+            q,
+            g,
+            mine,
+            refl,
+            reclaim-found label aim_in Fits c s r id h p f range g t,
+            is,
+            reclaim-made label aim_in Fits c s r id h p f range g t,
+            gone s id h
+                (packed (idle (g + 1))) p q None seat range (below s.homes h f.home f.home_is) keep,
+          ),
+        ),
       )

@@ -1,5 +1,6 @@
 -- What an actor remembers stays right over a call's step, from what the step tells.
-use Rattle.std.proofs.Common.{◌≡◌, ◌≢◌, ℕ, ◌+◌, ◌-◌, ◌^◌, min, Bool, List, [], ◌∷◌, sym, ap, subst, Option}
+use Rattle.std.proofs.Common.{◌≡◌, ◌≢◌, ℕ, ◌+◌, ◌-◌, ◌^◌, min, Bool}
+use Rattle.std.proofs.Common.{List, [], ◌∷◌, sym, ap, subst, Option}
 use mathlib.Core.Option.{none}
 use Rattle.atomic_table.specs.Table.{Me, step}
 use Rattle.aio_word.specs.declared.Config.{Config}
@@ -13,7 +14,8 @@ use Rattle.aio_handle.specs.LifeWords.{completed, taken}
 use Rattle.aio_handle.specs.Seats.{known_of}
 use Rattle.aio_handle.specs.Steps.{Returns, Claims, Gets, Loads}
 use Rattle.aio_handle.specs.Remembered.{Remembers}
-use Rattle.aio_handle.proofs.Remembering.{IsPlain, remembers-plain, remembers-looked, remembers-claimed}
+use Rattle.aio_handle.proofs.Remembering.{IsPlain, remembers-plain}
+use Rattle.aio_handle.proofs.Remembering.{remembers-looked, remembers-claimed}
 
 module _ (c : Config) (own : List OwnHandle) (turn claims : ℕ) (b : Bool) where
   -- over a step from what one seat knows to what it knows then

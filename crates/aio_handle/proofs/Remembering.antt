@@ -383,7 +383,8 @@ module _ (c : Config) (own : List OwnHandle) (turn claims : ℕ) (b : Bool) wher
             (let push = times-push i (8 * n + 0) p.marks (mark h g kind.Reclaimed) in let no =
             handle-else i h (8 * g + 7 == 8 * n + 0) (λ x. ne (x ∙ at)) in
             push ∙ (omega arith)))) r.owns;
-        unspent = unspent-reclaimed c p q h g (ap (λ (z : Known). z.number) m.is) marks gen r.unspent;
+        unspent = unspent-reclaimed c p q h g (ap (λ (z : Known). z.number) m.is) marks gen
+            r.unspent;
         turn_in = subst (λ (z : ℕ). turn ≤ z)
             (sym (length-set own k record { generation = g + 1; is_defined = false })) r.turn_in;
         out = out-same b p q (ap (λ (z : Known). z.out) m.is) r.out;

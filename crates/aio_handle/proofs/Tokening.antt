@@ -1,5 +1,8 @@
 -- What an event tells its actor: what it saw, which token it has, and what it keeps of the others.
-use Rattle.std.proofs.Common.{◌≡◌, ◌≢◌, ℕ, zero, suc, ◌+◌, ◌*◌, ◌<◌, ◌≤◌, ◌⊎◌, ◌==◌, ◌&&◌, max, Bool, true, false, List, [], ◌∷◌, ◌++◌, get_or, set, refl, sym, ap, ◌∙◌, subst, inl, inr, ⊎_elim, arith, Option, Some, None, le_refl}
+use Rattle.std.proofs.Common.{◌≡◌, ◌≢◌, ℕ, zero, suc, ◌+◌, ◌*◌, ◌<◌, ◌≤◌}
+use Rattle.std.proofs.Common.{◌⊎◌, ◌==◌, ◌&&◌, max, Bool, true, false, List, []}
+use Rattle.std.proofs.Common.{◌∷◌, ◌++◌, get_or, set, refl, sym, ap, ◌∙◌, subst}
+use Rattle.std.proofs.Common.{inl, inr, ⊎_elim, arith, Option, Some, None, le_refl}
 use Rattle.std.proofs.lemmas.Bool.Decides.{nat_tests}
 use mathlib.Core.Logic.{dite}
 use native.Mathlib.Decide.{dec_le}
@@ -15,7 +18,8 @@ use Rattle.aio_word.specs.declared.Known.{Known}
 use Rattle.aio_word.specs.Words.{place_of, rank_of}
 use Rattle.aio_word.specs.Events.{order, times, ref, noted, leaves}
 use Rattle.aio_word.specs.Stands.{IsIn, one_if, seen_of}
-use Rattle.aio_word.specs.Tokens.{IsDefined, IsStaged, IsInFlight, IsLocal, IsClaimed, IsExecuted, Keeps}
+use Rattle.aio_word.specs.Tokens.{IsDefined, IsStaged, IsInFlight, IsLocal}
+use Rattle.aio_word.specs.Tokens.{IsClaimed, IsExecuted, Keeps}
 use Rattle.aio_word.proofs.Parts.{in-right}
 use Rattle.aio_word.proofs.Steps.{mark, times-push}
 use Rattle.aio_word.proofs.Rows.{Begun, marked-row}
@@ -24,7 +28,8 @@ use Rattle.aio_word.proofs.Noted.{no-mark}
 use Rattle.aio_word.proofs.Frames.{keeps-mark}
 use Rattle.aio_handle.specs.Changes.{changed, looked}
 use Rattle.aio_handle.specs.Made.{Made, Looked}
-use Rattle.aio_handle.specs.LifeWords.{handed, defined, staged, unclaimed, claimed, executed, completed, taken}
+use Rattle.aio_handle.specs.LifeWords.{handed, defined, staged, unclaimed}
+use Rattle.aio_handle.specs.LifeWords.{claimed, executed, completed, taken}
 use Rattle.aio_handle.specs.Seats.{IsAway}
 
 -- with the greatest pair a pair never falls
@@ -114,7 +119,8 @@ module _ (h g : ℕ) (aim : List ℕ) (p q : Known) (kp : Keeps (seen_of p) p.ma
   defined-token m = let n = none-later (seen_of p) h g kind.Defined p.marks kp m.before in
       subst (λ (z : Known). IsDefined z (ref h g)) (sym m.is) record {
         since = stands-new (seen_of p) h g kind.Defined p.marks kp m.before;
-        until = let a = n 1 (omega arith) in let b = n 2 (omega arith) in let c = n 6 (omega arith) in
+        until = let a = n 1 (omega arith) in let b = n 2 (omega arith) in let c = n 6 (omega arith)
+            in
             let d = n 7 (omega arith) in omega arith;
       }
 
@@ -122,7 +128,8 @@ module _ (h g : ℕ) (aim : List ℕ) (p q : Known) (kp : Keeps (seen_of p) p.ma
   staged-token m = let n = none-later (seen_of p) h g kind.Staged p.marks kp m.before in
       subst (λ (z : Known). IsStaged z (ref h g)) (sym m.is) record {
         since = stands-new (seen_of p) h g kind.Staged p.marks kp m.before;
-        until = let b = n 2 (omega arith) in let c = n 6 (omega arith) in let d = n 7 (omega arith) in
+        until = let b = n 2 (omega arith) in let c = n 6 (omega arith) in let d = n 7 (omega arith)
+            in
             omega arith;
       }
 
@@ -146,7 +153,8 @@ module _ (h g : ℕ) (aim : List ℕ) (p q : Known) (kp : Keeps (seen_of p) p.ma
       → IsExecuted class q (ref h g)
   executed-token class m = let n = none-later (seen_of p) h g (kind.Io class) p.marks kp m.before in
       subst (λ (z : Known). IsExecuted class z (ref h g)) (sym m.is) record {
-        since = in-right (mark h g (kind.Io class)) p.marks (mark h g (kind.Io class) ∷ []) (inl refl);
+        since = in-right (mark h g (kind.Io class)) p.marks (mark h g (kind.Io class) ∷ [])
+            (inl refl);
         until = n 5 (omega arith);
       }
 

@@ -1,5 +1,8 @@
 -- What the tests' calls do to the lives of an actor's handles.
-use Rattle.std.proofs.Common.{◌≡◌, ◌≢◌, ℕ, ◌+◌, ◌*◌, ◌<◌, ◌≤◌, ◌==◌, ◌&&◌, List, [], ◌∷◌, sum_by, refl, ap, ◌∙◌, subst, inr, ⊎_elim, map, arith, ◌++◌, sym, length, get_or, length-append, None}
+use Rattle.std.proofs.Common.{◌≡◌, ◌≢◌, ℕ, ◌+◌, ◌*◌, ◌<◌, ◌≤◌}
+use Rattle.std.proofs.Common.{◌==◌, ◌&&◌, List, [], ◌∷◌, sum_by, refl}
+use Rattle.std.proofs.Common.{ap, ◌∙◌, subst, inr, ⊎_elim, map, arith}
+use Rattle.std.proofs.Common.{◌++◌, sym, length, get_or, length-append, None}
 use Rattle.std.proofs.lemmas.List.Sums.{sum_by-cons}
 use Rattle.aio_word.specs.declared.Class.{Class}
 use Rattle.aio_word.specs.declared.Step.{Step as Event}

@@ -1,11 +1,15 @@
 -- What an actor's list tells of the word of a handle.
-use Rattle.std.proofs.Common.{◌≡◌, ℕ, ◌+◌, ◌*◌, ◌<◌, ◌≤◌, ◌⊎◌, Bool, true, false, List, ◌∷◌, ◌++◌, refl, sym, ◌∙◌, subst, inl, inr, ⊎_elim, arith, Option, Some, None}
+use Rattle.std.proofs.Common.{◌≡◌, ℕ, ◌+◌, ◌*◌, ◌<◌, ◌≤◌, ◌⊎◌, Bool, true, false, List, ◌∷◌}
+use Rattle.std.proofs.Common.{◌++◌, refl, sym, ◌∙◌, subst, inl}
+use Rattle.std.proofs.Common.{inr, ⊎_elim, arith, Option, Some, None}
 use Rattle.atomic_table.specs.Table.{State}
 use Rattle.aio_word.specs.declared.Config.{Config}
 use Rattle.aio_word.specs.declared.Class.{Class}
 use Rattle.aio_word.specs.declared.Class.TheVariants.{Unended}
 use Rattle.aio_word.specs.declared.State.{State as WordState}
-use Rattle.aio_word.specs.declared.State.TheVariants.{Idle, HandedOut, Defined, Staged, Submitted, CompletedIo, CompletedShared, CompletedLocal}
+use Rattle.aio_word.specs.declared.State.TheVariants.{Idle, HandedOut, Defined, Staged}
+use Rattle.aio_word.specs.declared.State.TheVariants.{Submitted, CompletedIo}
+use Rattle.aio_word.specs.declared.State.TheVariants.{CompletedShared, CompletedLocal}
 use Rattle.aio_word.specs.declared.Kind.TheVariants as kind
 use Rattle.aio_word.specs.declared.Word.{Word}
 use Rattle.aio_word.specs.declared.Known.{Known}
@@ -19,8 +23,10 @@ use Rattle.aio_word.proofs.Owners.{owner-at, owner-below, claimer-at, claimer-be
 use Rattle.aio_word.proofs.Rows.{is-defined, is-staged, is-claimed, is-io, is-completed, is-taken}
 use Rattle.aio_handle.specs.declared.record.Label.{Label}
 use Rattle.aio_handle.specs.Ruled.{Ruled}
-use Rattle.aio_handle.specs.LifeWords.{idle, handed, defined, staged, claimed, executed, completed, taken}
-use Rattle.aio_handle.proofs.Finding.{word-is, Finds, stood-here, knows, actor-here, lists-here, numbered-here}
+use Rattle.aio_handle.specs.LifeWords.{idle, handed, defined, staged}
+use Rattle.aio_handle.specs.LifeWords.{claimed, executed, completed, taken}
+use Rattle.aio_handle.proofs.Finding.{word-is, Finds, stood-here, knows}
+use Rattle.aio_handle.proofs.Finding.{actor-here, lists-here, numbered-here}
 
 pub zero-left : (a b : ℕ) → a + b ≡ 0 → a ≡ 0
 zero-left a b e = omega arith

@@ -1,10 +1,14 @@
 -- The steps of whoever claims keep the rule, and so does a look.
-use Rattle.std.proofs.Common.{◌≡◌, ◌≢◌, ℕ, ◌+◌, ◌*◌, ◌<◌, ◌==◌, nat_lt, Bool, true, false, not, cond, eqb, List, [], ◌∷◌, get_or, set, refl, sym, ap, ◌∙◌, subst, inl, inr, arith, length-set, Option, Some}
+use Rattle.std.proofs.Common.{◌≡◌, ◌≢◌, ℕ, ◌+◌, ◌*◌, ◌<◌, ◌==◌, nat_lt}
+use Rattle.std.proofs.Common.{Bool, true, false, not, cond, eqb, List}
+use Rattle.std.proofs.Common.{[], ◌∷◌, get_or, set, refl, sym, ap, ◌∙◌}
+use Rattle.std.proofs.Common.{subst, inl, inr, arith, length-set, Option, Some}
 use Rattle.std.proofs.lemmas.Bool.Decides.{nat_tests}
 use mathlib.Core.Option.{some, none}
 use lib.ListN.{get_elem?}
 use prog.Atomic.{either}
-use Rattle.atomic_table.specs.Table.{State, Me, Act, step, rest, keeps as stays, takes, gives, Allows, Valid, stepped, carried_after}
+use Rattle.atomic_table.specs.Table.{State, Me, Act, step, rest, keeps as stays}
+use Rattle.atomic_table.specs.Table.{takes, gives, Allows, Valid, stepped, carried_after}
 use Rattle.atomic_table.proofs.Lists.{exchanged, set_here, set_else}
 use Rattle.aio_word.specs.declared.Config.{Config}
 use Rattle.aio_word.specs.declared.Class.{Class}
@@ -27,7 +31,8 @@ use Rattle.aio_handle.specs.Made.{Made}
 use Rattle.aio_handle.specs.LifeWords.{unclaimed, claimed, executed, completed}
 use Rattle.aio_handle.specs.Steps.{Executes, Shares, Claims, Loads}
 use Rattle.aio_handle.proofs.Views.{below}
-use Rattle.aio_handle.proofs.Finding.{same-number, word-is, Finds, finds, refined, stood-here, ruled-here, knows, actor-here}
+use Rattle.aio_handle.proofs.Finding.{same-number, word-is, Finds, finds, refined}
+use Rattle.aio_handle.proofs.Finding.{stood-here, ruled-here, knows, actor-here}
 use Rattle.aio_handle.proofs.Keeps.{Does, Goes, lives-same, marked, keeps, made, look-keeps, saw}
 use Rattle.aio_handle.proofs.Where.{claimed-word, has-claimed, executed-word}
 use Rattle.aio_handle.proofs.Owning.{still, gave, gone}
@@ -230,7 +235,8 @@ module _ {R : Type 0} (label : R → Label) (aim_in : R → List ℕ) (Fits : R 
             homes =
                 set s.homes h (some (Some x));
             views =
-                set s.views id (changed event.Shared h (executed class g) (completed class g) [] p ∷ []);
+                set s.views id (changed event.Shared h (executed class g) (completed class g) [] p
+                ∷ []);
           }
       share-keeps = keeps label aim_in Fits c s r id h p fe range event.Shared
           (completed class g) []
@@ -307,8 +313,18 @@ module _ {R : Type 0} (label : R → Label) (aim_in : R → List ℕ) (Fits : R 
           p,
           q,
           mine,
-          (λ _.
-              (g, (hold.0, hit ∙ is_old, refl, claim-made label aim_in Fits c s r id h p f range g free, hold.2.labelled, hold.2.fits))),
+          (λ _. (
+            g,
+            (
+              hold.0,
+              hit ∙ is_old,
+              refl,
+              claim-made label aim_in Fits c s r id h p f range g
+                  free,
+              hold.2.labelled,
+              hold.2.fits,
+            ),
+          )),
           (λ miss. absurd (miss hit)),
         ),
       ))
@@ -343,7 +359,18 @@ module _ {R : Type 0} (label : R → Label) (aim_in : R → List ℕ) (Fits : R 
         subst (λ (z : ℕ). Ruled label aim_in Fits c
             record { words = set s.words h z; homes = s.homes; views = set s.views id (q ∷ []) })
             (sym same) (io-keeps label aim_in Fits c s r id h p f range g t class ended),
-        (p, q, g, class, mine, refl, io-found label aim_in Fits c s r id h p f range g t class ended, same, io-made label aim_in Fits c s r id h p f range g t class ended),
+        (
+          p,
+          q,
+          g,
+          class,
+          mine,
+          refl,
+          io-found label aim_in Fits c s r id h p f range g t class
+              ended,
+          same,
+          io-made label aim_in Fits c s r id h p f range g t class ended,
+        ),
       )
 
   pub shares : (slots id h g new : ℕ) (class : Class) (me : Me (Option R) (List Known)) (p : Known)
@@ -358,7 +385,8 @@ module _ {R : Type 0} (label : R → Label) (aim_in : R → List ℕ) (Fits : R 
       let seat : get_elem? s.views id ≡ some (p ∷ []) = at ∙ ap some mine in
       let f = finds label aim_in Fits c s r id h p seat range in
       let q : Known = changed event.Shared h (executed class g) (completed class g) [] p in
-      let keep = share-keeps label aim_in Fits c s r id h p f range g class t x labelled aimed fits in (
+      let keep = share-keeps label aim_in Fits c s r id h p f range g class t x labelled aimed fits
+      in (
         q ∷ [],
         gives,
         tt,

@@ -3,7 +3,9 @@ use Rattle.std.specs.Prelude.{ℕ, true, false}
 use Rattle.aio_word.specs.declared.Word.{Word}
 use Rattle.aio_word.specs.declared.Class.{Class}
 use Rattle.aio_word.specs.declared.Class.TheVariants.{Unended}
-use Rattle.aio_word.specs.declared.State.TheVariants.{Idle, HandedOut, Defined, Staged, Submitted, CompletedIo, CompletedShared, CompletedLocal}
+use Rattle.aio_word.specs.declared.State.TheVariants.{Idle, HandedOut, Defined, Staged}
+use Rattle.aio_word.specs.declared.State.TheVariants.{Submitted, CompletedIo}
+use Rattle.aio_word.specs.declared.State.TheVariants.{CompletedShared, CompletedLocal}
 use Rattle.aio_word.specs.Events.{word_in}
 
 -- the words of a life

@@ -11,7 +11,8 @@ use Rattle.aio_word.specs.Stands.{IsIn, seen_of}
 use Rattle.aio_word.specs.Tokens.{IsInFlight}
 use Rattle.aio_handle.specs.declared.record.Label.{Label}
 use Rattle.aio_handle.specs.Labels.{bound}
-use Rattle.aio_handle.specs.LifeWords.{idle, handed, staged, unclaimed, claimed, executed, completed, taken}
+use Rattle.aio_handle.specs.LifeWords.{idle, handed, staged, unclaimed}
+use Rattle.aio_handle.specs.LifeWords.{claimed, executed, completed, taken}
 use Rattle.aio_handle.specs.Made.{Made, Looked}
 use Rattle.aio_handle.specs.Seats.{IsAway}
 use Rattle.aio_word.specs.declared.Step.TheVariants as step

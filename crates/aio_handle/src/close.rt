@@ -2,14 +2,15 @@
 ghost use Rattle.std.specs.Prelude.{◌≡◌, ◌<◌, ◌+◌, ◌^◌, ◌-◌, All, map, length, min};
 ghost use Rattle.std.specs.Mem.Slots.{IsFull};
 ghost use Rattle.aio_word.specs.Events.{actors as actors_of};
-ghost use Rattle.aio_word.specs.Totals.{by_backends as claimed_by_backends, by_runners as claimed_by_runners};
+ghost use Rattle.aio_word.specs.Totals.{by_backends as claimed_by_backends};
+ghost use Rattle.aio_word.specs.Totals.{by_runners as claimed_by_runners};
 ghost use Rattle.aio_handle.specs.Shown.{IsOf, known_in};
 ghost use Rattle.aio_handle.specs.Closing.{IsQuiet, Ends, AreTotals};
 
 use crate::actor::Actor;
-use crate::plays::{Blank, CutOff, Merge};
 use crate::record::Record;
 use crate::rule::View;
+use crate::steps::{Blank, CutOff, Merge};
 use crate::table::Table;
 use aio_word::Config;
 use atomic_table::{Closed, Seat};

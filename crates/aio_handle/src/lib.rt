@@ -18,19 +18,19 @@
 #![tactic(auto)]
 
 mod actor;
+mod claimer_calls;
 mod close;
 mod execute;
-mod executor;
 mod front;
 pub mod laws;
 mod lends;
 mod looks;
 mod own;
-mod owner;
-mod plays;
+mod owner_calls;
 mod record;
 mod rule;
 mod sleepers;
+mod steps;
 mod table;
 #[cfg(test)]
 mod tests;

@@ -6,8 +6,8 @@ ghost use Rattle.aio_word.specs.Tokens.{IsSeenDone};
 ghost use Rattle.aio_handle.specs.Made.{Looked, Checked};
 
 use crate::actor::Actor;
-use crate::plays::LookAt;
 use crate::record::Record;
+use crate::steps::LookAt;
 use crate::table::Table;
 use aio_word::{WaitRef, done, unpack};
 use page_check::World;

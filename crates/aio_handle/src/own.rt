@@ -1,5 +1,6 @@
 //! What an actor remembers of its own handles, so that no call reads a word to find a free one.
-ghost use Rattle.std.specs.Prelude.{◌≡◌, ◌<◌, ◌≤◌, ◌↔◌, ◌%◌, ℕ, IsTrue, IfSome, IfNone, length, slice_set};
+ghost use Rattle.std.specs.Prelude.{◌≡◌, ◌<◌, ◌≤◌, ◌↔◌, ◌%◌, ℕ};
+ghost use Rattle.std.specs.Prelude.{IsTrue, IfSome, IfNone, length, slice_set};
 ghost use Rattle.aio_word.specs.Words.{last_generation};
 ghost use Rattle.aio_handle.specs.declared.own.OwnHandle.{OwnHandle};
 ghost use Rattle.aio_handle.specs.Own.{own_at, IsFreeHandle, HasRoom};

@@ -10,10 +10,10 @@ ghost use Rattle.aio_handle.specs.Ruled.{newcomer};
 
 use crate::actor::Actor;
 use crate::own::OwnHandle;
-use crate::plays::Deal;
 use crate::record::Record;
 use crate::rule::{Handles, View};
 use crate::sleepers::Sleepers;
+use crate::steps::Deal;
 use aio_word::{Class, Config, State, Word, pack};
 use atomic_table::Seat;
 use page_check::World;

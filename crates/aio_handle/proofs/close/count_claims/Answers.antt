@@ -14,8 +14,14 @@ loop-k-preserved g c =
     let of-runners : Known → ℕ =
     λ p. cond (nat_lt p.number c.args.config.now.backends) 0 (claimed_marks p.marks) in
     record {
-      backends = counts-on of-backends c.args.actors.now c.loop-k.k c.index-actors-k.result c.loop-k.by_backends c.claims-backend.result.0 c.saturating_add-by_backends.result c.loop-k-test.true c.index-actors-k.is c.loop-k.invariant.backends c.claims-backend.ensures.backend c.saturating_add-by_backends.ensures;
-      runners = counts-on of-runners c.args.actors.now c.loop-k.k c.index-actors-k.result c.loop-k.by_runners c.claims-backend.result.1 c.saturating_add-by_runners.result c.loop-k-test.true c.index-actors-k.is c.loop-k.invariant.runners c.claims-backend.ensures.runner c.saturating_add-by_runners.ensures;
+      backends = counts-on of-backends c.args.actors.now c.loop-k.k c.index-actors-k.result
+          c.loop-k.by_backends c.claims-backend.result.0 c.saturating_add-by_backends.result
+          c.loop-k-test.true c.index-actors-k.is c.loop-k.invariant.backends
+          c.claims-backend.ensures.backend c.saturating_add-by_backends.ensures;
+      runners = counts-on of-runners c.args.actors.now c.loop-k.k c.index-actors-k.result
+          c.loop-k.by_runners c.claims-backend.result.1 c.saturating_add-by_runners.result
+          c.loop-k-test.true c.index-actors-k.is c.loop-k.invariant.runners
+          c.claims-backend.ensures.runner c.saturating_add-by_runners.ensures;
     }
 
 pub returns : goal.returns

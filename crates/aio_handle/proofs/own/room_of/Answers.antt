@@ -23,7 +23,10 @@ one-more own n greatest new lt is g = record {
 
 pub loop-handle-preserved : goal.loop-handle-preserved
 loop-handle-preserved c =
-    let g = one-more c.args.own.now c.loop-handle.handle-index c.loop-handle.greatest c.max-greatest.result c.loop-handle-test.true c.max-greatest.ensures record { each = c.loop-handle.invariant.each; one = c.loop-handle.invariant.one } in record { each = g.each; one = g.one }
+    let g = one-more c.args.own.now c.loop-handle.handle-index c.loop-handle.greatest
+    c.max-greatest.result c.loop-handle-test.true c.max-greatest.ensures
+    record { each = c.loop-handle.invariant.each; one = c.loop-handle.invariant.one }
+    in record { each = g.each; one = g.one }
 
 pub returns : goal.returns
 returns c =

@@ -32,7 +32,8 @@ returns-clause-some g c =
     (subst (λ (z : Standing). z.known.number < z.known.config.backends)
     (sym c.self.view_is) c.requires.backend) in
     let free = tells-free c.self.inside.config c.self.inside.own.items
-    (known_of c.self.inside.seat.me.0) c.in-Some.place c.self.invariant.2.owns got.0 backend got.1 in
+    (known_of c.self.inside.seat.me.0) c.in-Some.place c.self.invariant.2.owns got.0 backend got.1
+    in
     let t : ℕ → ℕ → WaitRef =
     λ n k. ref (n * c.self.inside.config.per_backend + c.in-Some.place) k in
     subst (λ (z : Standing).

@@ -11,7 +11,8 @@ hand_out-requires-clause-free g c κs within = (
   subst (λ (z : Standing). z.known.out ≡ None) c.actor.view_is
       (none-out c.actor.inside.is_out
       (known_of c.actor.inside.seat.me.0) c.actor.invariant.2.out c.if-actor.false),
-  subst (λ z. IsFree z c.args.actor.now.known c.in-Some.reference) c.requires.table.1 c.in-Some.ensures.some.1,
+  subst (λ z. IsFree z c.args.actor.now.known c.in-Some.reference) c.requires.table.1
+      c.in-Some.ensures.some.1,
 )
 
 pub returns-in-Some-clause-free : goal.returns-in-Some-clause-free
@@ -21,7 +22,8 @@ returns-in-Some-clause-free g c = (
       (known_of c.actor.inside.seat.me.0) c.actor.invariant.2.out c.if-actor.false),
   subst (λ (t : WaitRef). IsFree c.args.self.now.config c.args.actor.now.known t)
       (sym c.hand_out.ensures.token.0)
-      (subst (λ z. IsFree z c.args.actor.now.known c.in-Some.reference) c.requires.table.1 c.in-Some.ensures.some.1),
+      (subst (λ z. IsFree z c.args.actor.now.known c.in-Some.reference) c.requires.table.1
+      c.in-Some.ensures.some.1),
 )
 
 pub returns-in-None-clause-refused : goal.returns-in-None-clause-refused

@@ -1,14 +1,14 @@
-use Rattle.std.proofs.Common.{◌≡◌, ℕ, ◌<◌, sym, ap, ◌∙◌, subst}
+use Rattle.std.proofs.Common.{rules, ◌≡◌, ℕ, ◌<◌, sym, ap, ◌∙◌, subst}
 use Rattle.aio_word.specs.declared.Known.{Known}
 use Rattle.aio_word.specs.declared.Word.{Word}
 use Rattle.aio_word.specs.Events.{handles}
-use Rattle.aio_word.proofs.Reaching.{shared-stands}
 use Rattle.aio_word.proofs.Packing.{packed-injective}
 use Rattle.aio_handle.specs.Seats.{known_of}
 use Rattle.aio_handle.specs.Made.{Looked}
 use Rattle.aio_handle.proofs.Working.{loads}
 use Rattle.aio_handle.proofs.Calling.{looks-seated, looks-saw}
 use Rattle.aio_handle.proofs.Recalling.{recalls-loaded}
+use Rattle.aio_handle.proofs.Answering.{checked}
 use Rattle.aio_handle.proofs.table.Table.check.Goals as goal
 
 pub load-number-requires : goal.load-number-requires
@@ -27,15 +27,20 @@ load-number-requires g c =
 
 pub invariant_of-actor : goal.invariant_of-actor
 invariant_of-actor g c = (
-  looks-seated c.self.inside.inner.shared.table_id.slots c.args.reference.handle 0 0 _ _ _ _ _ c.actor.invariant.0 c.load-number.ensures.2,
+  looks-seated c.self.inside.inner.shared.table_id.slots c.args.reference.handle 0 0 _ _ _ _ _
+      c.actor.invariant.0 c.load-number.ensures.2,
   c.actor.invariant.1,
-  recalls-loaded c.actor.inside.config c.actor.inside.own.items c.actor.inside.turn c.actor.inside.claims c.actor.inside.is_out c.self.inside.inner.shared.table_id.slots c.args.reference.handle _ c.actor.inside.seat.me c.load-number.new.seat.me c.load-number.ensures.2 c.actor.invariant.2,
+  recalls-loaded c.actor.inside.config c.actor.inside.own.items c.actor.inside.turn
+      c.actor.inside.claims c.actor.inside.is_out c.self.inside.inner.shared.table_id.slots
+      c.args.reference.handle _ c.actor.inside.seat.me c.load-number.new.seat.me
+      c.load-number.ensures.2 c.actor.invariant.2,
 )
 
 pub returns-clause-look : goal.returns-clause-look
 returns-clause-look g c =
     let (w, found, lk) =
-    looks-saw c.self.inside.inner.shared.table_id.slots c.args.reference.handle 0 0 _ c.actor.inside.seat.me c.load-number.new.seat.me c.load-number.ensures.2 in
+    looks-saw c.self.inside.inner.shared.table_id.slots c.args.reference.handle 0 0 _
+    c.actor.inside.seat.me c.load-number.new.seat.me c.load-number.ensures.2 in
     let same : w ≡ c.in-Ok.word = packed-injective w c.in-Ok.word
     (found ∙ sym c.in-Ok.ensures.ok.1) in
     let look : Looked c.args.reference.handle c.in-Ok.word c.args.actor.now.known
@@ -43,9 +48,5 @@ returns-clause-look g c =
     (λ (z : Known). Looked c.args.reference.handle c.in-Ok.word z
     (known_of c.load-number.new.seat.me.0)) (ap (λ x. x.known) c.actor.view_is)
     (subst (λ (z : Word). Looked c.args.reference.handle z (known_of c.actor.inside.seat.me.0)
-    (known_of c.load-number.new.seat.me.0)) same lk) in record {
-      word = c.in-Ok.word;
-      looked = look;
-      exact = c.done.ensures;
-      shared = λ yes lo. shared-stands c.args.actor.now.known.config c.args.actor.now.known c.args.reference.handle c.in-Ok.word c.args.reference.generation look.moment lo (c.done.ensures.0 yes);
-    }
+    (known_of c.load-number.new.seat.me.0)) same lk) in
+    checked _ _ c.args.reference _ c.in-Ok.word look (search rules)

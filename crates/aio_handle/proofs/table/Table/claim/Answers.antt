@@ -28,9 +28,13 @@ load-requires g c =
 
 pub invariant_of-actor : goal.invariant_of-actor
 invariant_of-actor g c = (
-  looks-seated c.self.inside.inner.shared.table_id.slots c.args.reference.handle 0 0 _ _ _ _ _ c.actor.invariant.0 c.load.ensures.2,
+  looks-seated c.self.inside.inner.shared.table_id.slots c.args.reference.handle 0 0 _ _ _ _ _
+      c.actor.invariant.0 c.load.ensures.2,
   c.actor.invariant.1,
-  recalls-loaded c.actor.inside.config c.actor.inside.own.items c.actor.inside.turn c.actor.inside.claims c.actor.inside.is_out c.self.inside.inner.shared.table_id.slots c.args.reference.handle _ c.actor.inside.seat.me c.load.new.seat.me c.load.ensures.2 c.actor.invariant.2,
+  recalls-loaded c.actor.inside.config c.actor.inside.own.items c.actor.inside.turn
+      c.actor.inside.claims c.actor.inside.is_out c.self.inside.inner.shared.table_id.slots
+      c.args.reference.handle _ c.actor.inside.seat.me c.load.new.seat.me c.load.ensures.2
+      c.actor.invariant.2,
 )
 
 pub compare_exchange-found-requires : goal.compare_exchange-found-requires
@@ -42,15 +46,25 @@ compare_exchange-found-requires g c =
           (c.requires.table.0 ∙ sym (ap (λ x. x.table) c.self.view_is))),
       subst (λ (z : ℕ). h < z) (sym c.self.invariant.1) range,
       claims g.R.Record.label g.R.Record.aim
-          (g.R.Record.fits g.W.World.told g.W.World.relations) _ _ _ h c.args.reference.generation _ _ _ (known_of c.actor.inside.seat.me.0) c.number_of-old.ensures c.number_of-new.ensures c.actor.invariant.0.one (subst (λ z. h < handles z) (sym c.self.invariant.0) range),
+          (g.R.Record.fits g.W.World.told g.W.World.relations) _ _ _ h c.args.reference.generation _
+          _ _ (known_of c.actor.inside.seat.me.0) c.number_of-old.ensures
+          c.number_of-new.ensures c.actor.invariant.0.one
+          (subst (λ z. h < handles z) (sym c.self.invariant.0) range),
     )
 
 pub invariant_of-actor-then-found-old : goal.invariant_of-actor-then-found-old
 invariant_of-actor-then-found-old g c = (
   lost-seated g.R.Record.label g.R.Record.aim
-      (g.R.Record.fits g.W.World.told g.W.World.relations) c.self.inside.inner.shared.table_id.slots c.args.reference.handle _ c.number_of-new.result _ _ _ c.compare_exchange-found.ensures.2 _ _ c.if-found-old.true c.actor.invariant.0,
+      (g.R.Record.fits g.W.World.told g.W.World.relations) c.self.inside.inner.shared.table_id.slots
+      c.args.reference.handle _ c.number_of-new.result _ _ _ c.compare_exchange-found.ensures.2
+      _ _ c.if-found-old.true c.actor.invariant.0,
   c.actor.invariant.1,
-  recalls-lost c.actor.inside.config c.actor.inside.own.items c.actor.inside.turn c.actor.inside.claims c.actor.inside.is_out g.R.Record.label g.R.Record.aim (g.R.Record.fits g.W.World.told g.W.World.relations) c.self.inside.inner.shared.table_id.slots c.args.reference.handle c.actor.inside.seat.me c.compare_exchange-found.new.seat.me _ c.number_of-new.result _ c.compare_exchange-found.ensures.2 c.if-found-old.true c.actor.invariant.2,
+  recalls-lost c.actor.inside.config c.actor.inside.own.items c.actor.inside.turn
+      c.actor.inside.claims c.actor.inside.is_out g.R.Record.label g.R.Record.aim
+      (g.R.Record.fits g.W.World.told g.W.World.relations) c.self.inside.inner.shared.table_id.slots
+      c.args.reference.handle c.actor.inside.seat.me c.compare_exchange-found.new.seat.me _
+      c.number_of-new.result _ c.compare_exchange-found.ensures.2 c.if-found-old.true
+      c.actor.invariant.2,
 )
 
 pub exchange-requires : goal.exchange-requires
@@ -59,23 +73,39 @@ exchange-requires g c = (
       (ap (λ x. x.table) c.actor.view_is ∙
       (c.requires.table.0 ∙ sym (ap (λ x. x.table) c.self.view_is))),
   taken-first g.R.Record.label g.R.Record.aim
-      (g.R.Record.fits g.W.World.told g.W.World.relations) c.self.inside.inner.shared.table_id.slots c.args.reference.handle _ c.number_of-new.result _ _ _ c.compare_exchange-found.ensures.2 c.if-found-old.false,
+      (g.R.Record.fits g.W.World.told g.W.World.relations) c.self.inside.inner.shared.table_id.slots
+      c.args.reference.handle _ c.number_of-new.result _ _ _ c.compare_exchange-found.ensures.2
+      c.if-found-old.false,
 )
 
 pub invariant_of-actor-in-Some : goal.invariant_of-actor-in-Some
 invariant_of-actor-in-Some g c = (
   won-seated g.R.Record.label g.R.Record.aim
-      (g.R.Record.fits g.W.World.told g.W.World.relations) c.self.inside.inner.shared.table_id.slots c.args.reference.handle _ c.number_of-new.result _ _ _ c.compare_exchange-found.ensures.2 _ _ c.if-found-old.false _ c.exchange.ensures.3 c.actor.invariant.0,
+      (g.R.Record.fits g.W.World.told g.W.World.relations) c.self.inside.inner.shared.table_id.slots
+      c.args.reference.handle _ c.number_of-new.result _ _ _ c.compare_exchange-found.ensures.2
+      _ _ c.if-found-old.false _ c.exchange.ensures.3 c.actor.invariant.0,
   c.actor.invariant.1,
-  subst (λ z. Remembers c.actor.inside.config c.actor.inside.own.items c.actor.inside.turn c.actor.inside.is_out c.saturating_add-actor-inside.result (known_of z)) (sym (ap (λ x. x.0) c.exchange.ensures.3)) (recalls-won c.actor.inside.config c.actor.inside.own.items c.actor.inside.turn c.actor.inside.claims c.actor.inside.is_out g.R.Record.label g.R.Record.aim (g.R.Record.fits g.W.World.told g.W.World.relations) c.self.inside.inner.shared.table_id.slots c.args.reference.handle c.actor.inside.seat.me c.compare_exchange-found.new.seat.me _ c.number_of-new.result _ c.saturating_add-actor-inside.result c.compare_exchange-found.ensures.2 c.if-found-old.false c.saturating_add-actor-inside.ensures c.actor.invariant.2),
+  subst (λ z. Remembers c.actor.inside.config c.actor.inside.own.items c.actor.inside.turn
+      c.actor.inside.is_out c.saturating_add-actor-inside.result (known_of z))
+      (sym (ap (λ x. x.0) c.exchange.ensures.3)) (recalls-won c.actor.inside.config
+      c.actor.inside.own.items c.actor.inside.turn c.actor.inside.claims c.actor.inside.is_out
+      g.R.Record.label g.R.Record.aim (g.R.Record.fits g.W.World.told g.W.World.relations)
+      c.self.inside.inner.shared.table_id.slots c.args.reference.handle c.actor.inside.seat.me
+      c.compare_exchange-found.new.seat.me _ c.number_of-new.result _
+      c.saturating_add-actor-inside.result c.compare_exchange-found.ensures.2 c.if-found-old.false
+      c.saturating_add-actor-inside.ensures c.actor.invariant.2),
 )
 
 pub invariant_of-result : goal.invariant_of-result
 invariant_of-result g c =
     let md = won-made g.R.Record.label g.R.Record.aim
-    (g.R.Record.fits g.W.World.told g.W.World.relations) c.self.inside.inner.shared.table_id.slots c.args.reference.handle _ c.number_of-new.result _ c.actor.inside.seat.me c.compare_exchange-found.new.seat.me c.compare_exchange-found.ensures.2 c.args.reference.generation c.if-found-old.false c.number_of-old.ensures c.in-Some.io
+    (g.R.Record.fits g.W.World.told g.W.World.relations) c.self.inside.inner.shared.table_id.slots
+    c.args.reference.handle _ c.number_of-new.result _ c.actor.inside.seat.me
+    c.compare_exchange-found.new.seat.me c.compare_exchange-found.ensures.2
+    c.args.reference.generation c.if-found-old.false c.number_of-old.ensures c.in-Some.io
     (c.exchange.ensures.2 ∙ ap
-    (λ z. (c.args.reference.handle, z) ∷ rest c.compare_exchange-found.new.seat.me.1) c.in-Some.is) c.exchange.new.seat.me (ap (λ x. x.0) c.exchange.ensures.3) in record {
+    (λ z. (c.args.reference.handle, z) ∷ rest c.compare_exchange-found.new.seat.me.1) c.in-Some.is)
+    c.exchange.new.seat.me (ap (λ x. x.0) c.exchange.ensures.3) in record {
       handle = c.requires.range;
       generation = below-last event.Claim c.args.reference.handle
           (unclaimed c.args.reference.generation) (claimed c.args.reference.generation)
@@ -86,9 +116,13 @@ invariant_of-result g c =
 pub returns-clause-token : goal.returns-clause-token
 returns-clause-token g c =
     let md = won-made g.R.Record.label g.R.Record.aim
-    (g.R.Record.fits g.W.World.told g.W.World.relations) c.self.inside.inner.shared.table_id.slots c.args.reference.handle _ c.number_of-new.result _ c.actor.inside.seat.me c.compare_exchange-found.new.seat.me c.compare_exchange-found.ensures.2 c.args.reference.generation c.if-found-old.false c.number_of-old.ensures c.in-Some.io
+    (g.R.Record.fits g.W.World.told g.W.World.relations) c.self.inside.inner.shared.table_id.slots
+    c.args.reference.handle _ c.number_of-new.result _ c.actor.inside.seat.me
+    c.compare_exchange-found.new.seat.me c.compare_exchange-found.ensures.2
+    c.args.reference.generation c.if-found-old.false c.number_of-old.ensures c.in-Some.io
     (c.exchange.ensures.2 ∙ ap
-    (λ z. (c.args.reference.handle, z) ∷ rest c.compare_exchange-found.new.seat.me.1) c.in-Some.is) c.exchange.new.seat.me (ap (λ x. x.0) c.exchange.ensures.3) in (
+    (λ z. (c.args.reference.handle, z) ∷ rest c.compare_exchange-found.new.seat.me.1) c.in-Some.is)
+    c.exchange.new.seat.me (ap (λ x. x.0) c.exchange.ensures.3) in (
       claimed-token c.args.reference.handle c.args.reference.generation
           (g.R.Record.aim c.in-Some.io) (known_of c.actor.inside.seat.me.0)
           (known_of c.exchange.new.seat.me.0) c.actor.invariant.0.keeps md.0,

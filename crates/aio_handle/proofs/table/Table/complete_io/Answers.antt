@@ -20,23 +20,34 @@ swap-requires g c =
     let range : h < handles c.self.inside.config = subst (λ (z : ℕ). h < z)
     (sym c.self.invariant.3) c.claimed.invariant.handle in
     let t = inward (IsClaimed)
-    (known_of c.actor.inside.seat.me.0) c.args.actor.now.known c.claimed.inside.reference c.args.claimed.now.0 (ap (λ x. x.known) c.actor.view_is) (ap (λ z. z.0) c.claimed.view_is) (c.requires.token) in (
+    (known_of c.actor.inside.seat.me.0) c.args.actor.now.known c.claimed.inside.reference
+    c.args.claimed.now.0 (ap (λ x. x.known) c.actor.view_is) (ap (λ z. z.0) c.claimed.view_is)
+    (c.requires.token) in (
       (ap (λ x. x.table) c.actor.view_is ∙
           (c.requires.table.0 ∙ sym (ap (λ x. x.table) c.self.view_is))),
       subst (λ (z : ℕ). h < z) (sym c.self.invariant.1) range,
       executes g.R.Record.label g.R.Record.aim
-          (g.R.Record.fits g.W.World.told g.W.World.relations) _ _ _ h c.claimed.inside.reference.generation _ c.args.class _ (known_of c.actor.inside.seat.me.0) c.number_of-word.ensures c.requires.class c.actor.invariant.0.one (subst (λ z. h < handles z) (sym c.self.invariant.0) range) t,
+          (g.R.Record.fits g.W.World.told g.W.World.relations) _ _ _ h
+          c.claimed.inside.reference.generation _ c.args.class _
+          (known_of c.actor.inside.seat.me.0) c.number_of-word.ensures c.requires.class
+          c.actor.invariant.0.one (subst (λ z. h < handles z) (sym c.self.invariant.0) range) t,
     )
 
 pub invariant_of-actor : goal.invariant_of-actor
 invariant_of-actor g c =
     let t = inward (IsClaimed)
-    (known_of c.actor.inside.seat.me.0) c.args.actor.now.known c.claimed.inside.reference c.args.claimed.now.0 (ap (λ x. x.known) c.actor.view_is) (ap (λ z. z.0) c.claimed.view_is) (c.requires.token) in (
-      executes-seated c.self.inside.inner.shared.table_id.slots c.claimed.inside.reference.handle c.claimed.inside.reference.generation _ _ _ _ _ _ c.actor.invariant.0 (claimed-away (known_of c.actor.inside.seat.me.0) _ _ t) c.swap.ensures.2,
+    (known_of c.actor.inside.seat.me.0) c.args.actor.now.known c.claimed.inside.reference
+    c.args.claimed.now.0 (ap (λ x. x.known) c.actor.view_is) (ap (λ z. z.0) c.claimed.view_is)
+    (c.requires.token) in (
+      executes-seated c.self.inside.inner.shared.table_id.slots c.claimed.inside.reference.handle
+          c.claimed.inside.reference.generation _ _ _ _ _ _ c.actor.invariant.0
+          (claimed-away (known_of c.actor.inside.seat.me.0) _ _ t) c.swap.ensures.2,
       c.actor.invariant.1,
       remembers-plain _ _ _ _ _ (event.Io c.args.class) c.claimed.inside.reference.handle _ _ []
           (known_of c.actor.inside.seat.me.0) (known_of c.swap.new.seat.me.0)
-          (executes-made c.self.inside.inner.shared.table_id.slots c.claimed.inside.reference.handle c.claimed.inside.reference.generation _ _ c.actor.inside.seat.me c.swap.new.seat.me c.args.class c.number_of-word.ensures c.swap.ensures.2) tt c.actor.invariant.2,
+          (executes-made c.self.inside.inner.shared.table_id.slots c.claimed.inside.reference.handle
+          c.claimed.inside.reference.generation _ _ c.actor.inside.seat.me c.swap.new.seat.me
+          c.args.class c.number_of-word.ensures c.swap.ensures.2) tt c.actor.invariant.2,
     )
 
 pub returns-clause-token : goal.returns-clause-token
@@ -47,7 +58,9 @@ returns-clause-token g c = (
       (executed-token c.claimed.inside.reference.handle c.claimed.inside.reference.generation []
       (known_of c.actor.inside.seat.me.0)
       (known_of c.swap.new.seat.me.0) c.actor.invariant.0.keeps c.args.class
-      (executes-made c.self.inside.inner.shared.table_id.slots c.claimed.inside.reference.handle c.claimed.inside.reference.generation _ _ c.actor.inside.seat.me c.swap.new.seat.me c.args.class c.number_of-word.ensures c.swap.ensures.2)),
+      (executes-made c.self.inside.inner.shared.table_id.slots c.claimed.inside.reference.handle
+      c.claimed.inside.reference.generation _ _ c.actor.inside.seat.me c.swap.new.seat.me
+      c.args.class c.number_of-word.ensures c.swap.ensures.2)),
 )
 
 pub returns-clause-event : goal.returns-clause-event
@@ -55,4 +68,6 @@ returns-clause-event g c =
     subst (λ (z : WaitRef × Known). Made (event.Io c.args.class) z.0.handle (claimed z.0.generation)
     (executed c.args.class z.0.generation) [] z.1 (known_of c.swap.new.seat.me.0))
     (λ k. ((c.claimed.view_is k).0, (c.actor.view_is k).known))
-    (executes-made c.self.inside.inner.shared.table_id.slots c.claimed.inside.reference.handle c.claimed.inside.reference.generation _ _ c.actor.inside.seat.me c.swap.new.seat.me c.args.class c.number_of-word.ensures c.swap.ensures.2)
+    (executes-made c.self.inside.inner.shared.table_id.slots c.claimed.inside.reference.handle
+    c.claimed.inside.reference.generation _ _ c.actor.inside.seat.me c.swap.new.seat.me
+    c.args.class c.number_of-word.ensures c.swap.ensures.2)

@@ -64,7 +64,29 @@ swap-requires g c =
           (c.requires.table.0 ∙ sym (ap (λ x. x.table) c.self.view_is)))),
       subst (λ (z : ℕ). h < z) (sym c.self.invariant.1) range,
       shares g.R.Record.label g.R.Record.aim
-          (g.R.Record.fits g.W.World.told g.W.World.relations) _ _ _ h c.claimed.inside.reference.generation _ (g.R.Record.label c.claimed.inside.io).ended _ (known_of c.actor.inside.seat.me.0) c.claimed.inside.io (c.number_of-word.ensures ∙ ap (λ z. packed (completed z c.claimed.inside.reference.generation)) c.ended.ensures) (ap (λ x. x.0) c.exchange.ensures.3 ∙ (ap (λ x. x.0) c.bring.ensures.2 ∙ c.actor.invariant.0.one)) (f ∙ ap (λ z. (h, Some c.claimed.inside.io) ∷ rest z) (sym f)) (subst (λ z. h < handles z) (sym c.self.invariant.0) range) t (subst (λ (z : WaitRef × g.row.R.Denot). g.R.Record.label z.1 ≡ record { handle = z.0.handle; generation = z.0.generation; ended = (g.R.Record.label z.1).ended; settled = false }) (sym c.claimed.view_is) c.requires.label) (subst (λ (z : Known). IsIn (c.claimed.inside.reference, g.R.Record.aim c.claimed.inside.io) z.aims) (sym (ap (λ x. x.known) c.actor.view_is)) (subst (λ (z : WaitRef × g.row.R.Denot). IsIn (z.0, g.R.Record.aim z.1) c.args.actor.now.known.aims) (sym c.claimed.view_is) c.requires.aim)) (subst (λ (z : WaitRef × g.row.R.Denot). g.R.Record.fits g.W.World.told g.W.World.relations z.1) (sym c.claimed.view_is) c.requires.fits),
+          (g.R.Record.fits g.W.World.told g.W.World.relations) _ _ _ h
+          c.claimed.inside.reference.generation _ (g.R.Record.label c.claimed.inside.io).ended _
+          (known_of c.actor.inside.seat.me.0) c.claimed.inside.io
+          (c.number_of-word.ensures ∙ ap (λ z. packed
+          (completed z c.claimed.inside.reference.generation)) c.ended.ensures)
+          (ap (λ x. x.0) c.exchange.ensures.3 ∙ (ap (λ x. x.0) c.bring.ensures.2
+          ∙ c.actor.invariant.0.one)) (f ∙ ap (λ z. (h, Some c.claimed.inside.io) ∷ rest z)
+          (sym f)) (subst (λ z. h < handles z) (sym c.self.invariant.0) range) t
+          (subst (λ (z : WaitRef × g.row.R.Denot). g.R.Record.label z.1
+          ≡ record {
+            handle = z.0.handle;
+            generation = z.0.generation;
+            ended =
+                (g.R.Record.label z.1).ended;
+            settled = false;
+          }) (sym c.claimed.view_is)
+          c.requires.label) (subst (λ (z : Known). IsIn
+          (c.claimed.inside.reference, g.R.Record.aim c.claimed.inside.io) z.aims)
+          (sym (ap (λ x. x.known) c.actor.view_is))
+          (subst (λ (z : WaitRef × g.row.R.Denot). IsIn (z.0, g.R.Record.aim z.1)
+          c.args.actor.now.known.aims) (sym c.claimed.view_is) c.requires.aim))
+          (subst (λ (z : WaitRef × g.row.R.Denot). g.R.Record.fits g.W.World.told
+          g.W.World.relations z.1) (sym c.claimed.view_is) c.requires.fits),
     )
 
 pub invariant_of-actor : goal.invariant_of-actor
@@ -76,9 +98,25 @@ invariant_of-actor g c =
     (subst (λ (z : WaitRef × g.row.R.Denot). IsExecuted
     (g.R.Record.label z.1).ended c.args.actor.now.known z.0)
     (sym c.claimed.view_is) c.requires.token.0) in (
-      returns-seated c.self.inside.inner.shared.table_id.slots c.claimed.inside.reference.handle c.claimed.inside.reference.generation _ _ c.actor.inside.seat.me c.exchange.new.seat.me _ (ap (λ x. x.0) c.exchange.ensures.3 ∙ ap (λ x. x.0) c.bring.ensures.2) (ap (λ x. rest x.1) c.exchange.ensures.3 ∙ ap (λ x. rest x.1) c.bring.ensures.2) _ _ event.Shared (executed c.swap.ensures.2.0) (completed c.swap.ensures.2.0) [] c.actor.invariant.0 (executed-away (g.R.Record.label c.claimed.inside.io).ended (known_of c.actor.inside.seat.me.0) _ c.claimed.inside.reference.generation (counted-in (mark c.claimed.inside.reference.handle c.claimed.inside.reference.generation (kind.Io (g.R.Record.label c.claimed.inside.io).ended)) (known_of c.actor.inside.seat.me.0).marks t.since) t.until) c.swap.ensures.2.1,
+      returns-seated c.self.inside.inner.shared.table_id.slots c.claimed.inside.reference.handle
+          c.claimed.inside.reference.generation _ _ c.actor.inside.seat.me c.exchange.new.seat.me _
+          (ap (λ x. x.0) c.exchange.ensures.3 ∙ ap (λ x. x.0) c.bring.ensures.2)
+          (ap (λ x. rest x.1) c.exchange.ensures.3 ∙ ap (λ x. rest x.1) c.bring.ensures.2) _ _
+          event.Shared (executed c.swap.ensures.2.0) (completed c.swap.ensures.2.0) []
+          c.actor.invariant.0 (executed-away (g.R.Record.label c.claimed.inside.io).ended
+          (known_of c.actor.inside.seat.me.0) _ c.claimed.inside.reference.generation
+          (counted-in (mark c.claimed.inside.reference.handle c.claimed.inside.reference.generation
+          (kind.Io (g.R.Record.label c.claimed.inside.io).ended))
+          (known_of c.actor.inside.seat.me.0).marks t.since) t.until) c.swap.ensures.2.1,
       c.actor.invariant.1,
-      recalls-returned c.actor.inside.config c.actor.inside.own.items c.actor.inside.turn c.actor.inside.claims c.actor.inside.is_out c.self.inside.inner.shared.table_id.slots c.claimed.inside.reference.handle _ _ c.exchange.new.seat.me c.swap.new.seat.me event.Shared (executed c.swap.ensures.2.0) (completed c.swap.ensures.2.0) [] tt c.swap.ensures.2.1 (subst (λ z. Remembers c.actor.inside.config c.actor.inside.own.items c.actor.inside.turn c.actor.inside.is_out c.actor.inside.claims (known_of z)) (sym (ap (λ x. x.0) c.exchange.ensures.3 ∙ ap (λ x. x.0) c.bring.ensures.2)) c.actor.invariant.2),
+      recalls-returned c.actor.inside.config c.actor.inside.own.items c.actor.inside.turn
+          c.actor.inside.claims c.actor.inside.is_out c.self.inside.inner.shared.table_id.slots
+          c.claimed.inside.reference.handle _ _ c.exchange.new.seat.me c.swap.new.seat.me
+          event.Shared (executed c.swap.ensures.2.0) (completed c.swap.ensures.2.0) [] tt
+          c.swap.ensures.2.1 (subst (λ z. Remembers c.actor.inside.config c.actor.inside.own.items
+          c.actor.inside.turn c.actor.inside.is_out c.actor.inside.claims (known_of z))
+          (sym (ap (λ x. x.0) c.exchange.ensures.3 ∙ ap (λ x. x.0) c.bring.ensures.2))
+          c.actor.invariant.2),
     )
 
 pub returns-clause-event : goal.returns-clause-event
@@ -92,7 +130,10 @@ returns-clause-event g c =
     (sym wrote ∙ c.number_of-word.ensures)) ∙ c.ended.ensures in
     let wr = c.number_of-word.ensures ∙ ap (λ z. packed (completed z n))
     (c.ended.ensures ∙ sym ec) in
-    let md = returns-made c.self.inside.inner.shared.table_id.slots h n _ _ c.actor.inside.seat.me c.exchange.new.seat.me c.swap.new.seat.me (ap (λ x. x.0) c.exchange.ensures.3 ∙ ap (λ x. x.0) c.bring.ensures.2) (ap (λ x. rest x.1) c.exchange.ensures.3 ∙ ap (λ x. rest x.1) c.bring.ensures.2)
+    let md = returns-made c.self.inside.inner.shared.table_id.slots h n _ _ c.actor.inside.seat.me
+    c.exchange.new.seat.me c.swap.new.seat.me (ap (λ x. x.0) c.exchange.ensures.3 ∙ ap
+    (λ x. x.0) c.bring.ensures.2) (ap (λ x. rest x.1) c.exchange.ensures.3 ∙ ap (λ x. rest x.1)
+    c.bring.ensures.2)
     event.Shared (executed class) (completed class) []
     (by-generation (completed class) (λ x. refl)) wr c.swap.ensures.2.1 in
     subst (λ (z : (WaitRef × g.row.R.Denot) × Known). Made event.Shared z.0.0.handle

@@ -17,7 +17,9 @@ split_seat-requires g c =
           (some-handles c.self.inside.config c.self.invariant.4),
       subst (λ (v : List Known). Splits
           (Ruled g.R.Record.label g.R.Record.aim
-          (g.R.Record.fits g.W.World.told g.W.World.relations) c.self.inside.inner.shared.key) c.args.seat.now.id v (behind_of v) (front_of v)) (sym (ap (λ x. x.0) is))
+          (g.R.Record.fits g.W.World.told g.W.World.relations) c.self.inside.inner.shared.key)
+          c.args.seat.now.id v (behind_of v) (front_of v)) (sym (ap (λ x. x.0) is))
           (deals g.R.Record.label g.R.Record.aim
-          (g.R.Record.fits g.W.World.told g.W.World.relations) c.self.inside.inner.shared.key c.args.seat.now.id _ ps),
+          (g.R.Record.fits g.W.World.told g.W.World.relations) c.self.inside.inner.shared.key
+          c.args.seat.now.id _ ps),
     )

@@ -22,23 +22,45 @@ swap-requires g c =
     let range : h < handles c.self.inside.config = subst (λ (z : ℕ). h < z)
     (sym c.self.invariant.3) c.token.invariant.handle in
     let t = inward (λ k t. k.out ≡ Some t)
-    (known_of c.actor.inside.seat.me.0) c.args.actor.now.known c.token.inside.reference c.args.token (ap (λ x. x.known) c.actor.view_is) (c.token.view_is) (c.requires.token) in (
+    (known_of c.actor.inside.seat.me.0) c.args.actor.now.known c.token.inside.reference c.args.token
+    (ap (λ x. x.known) c.actor.view_is) (c.token.view_is) (c.requires.token) in (
       (ap (λ x. x.table) c.actor.view_is ∙
           (c.requires.table.0 ∙ sym (ap (λ x. x.table) c.self.view_is))),
       subst (λ (z : ℕ). h < z) (sym c.self.invariant.1) range,
       defines g.R.Record.label g.R.Record.aim
-          (g.R.Record.fits g.W.World.told g.W.World.relations) _ _ _ h c.token.inside.reference.generation _ _ (known_of c.actor.inside.seat.me.0) c.number_of-word.ensures c.actor.invariant.0.one (subst (λ z. h < handles z) (sym c.self.invariant.0) range) t,
+          (g.R.Record.fits g.W.World.told g.W.World.relations) _ _ _ h
+          c.token.inside.reference.generation _ _ (known_of c.actor.inside.seat.me.0)
+          c.number_of-word.ensures c.actor.invariant.0.one
+          (subst (λ z. h < handles z) (sym c.self.invariant.0) range) t,
     )
 
 pub invariant_of-actor : goal.invariant_of-actor
 invariant_of-actor g c =
     let t = inward (λ k t. k.out ≡ Some t)
-    (known_of c.actor.inside.seat.me.0) c.args.actor.now.known c.token.inside.reference c.args.token (ap (λ x. x.known) c.actor.view_is) (c.token.view_is) (c.requires.token) in (
-      makes-seated c.self.inside.inner.shared.table_id.slots c.token.inside.reference.handle c.token.inside.reference.generation _ _ _ _ _ _ event.Define handed defined c.actor.invariant.0 (c.token.inside.reference.generation, inl t) c.swap.ensures.2,
+    (known_of c.actor.inside.seat.me.0) c.args.actor.now.known c.token.inside.reference c.args.token
+    (ap (λ x. x.known) c.actor.view_is) (c.token.view_is) (c.requires.token) in (
+      makes-seated c.self.inside.inner.shared.table_id.slots c.token.inside.reference.handle
+          c.token.inside.reference.generation _ _ _ _ _ _ event.Define handed defined
+          c.actor.invariant.0 (c.token.inside.reference.generation, inl t) c.swap.ensures.2,
       c.actor.invariant.1,
       (let same = (sym c.actor.invariant.0.config ∙ ap (λ x. x.known.config) c.actor.view_is) ∙
           (c.requires.table.1 ∙ sym (ap (λ x. x.config) c.self.view_is)) in let md =
-          (makes-made c.self.inside.inner.shared.table_id.slots c.token.inside.reference.handle c.token.inside.reference.generation _ _ c.actor.inside.seat.me c.swap.new.seat.me event.Define handed defined (λ x. refl) c.number_of-word.ensures c.swap.ensures.2) in let at = owner-place c.actor.inside.config c.actor.inside.own.items event.Define c.token.inside.reference.handle _ _ [] (known_of c.actor.inside.seat.me.0) (known_of c.swap.new.seat.me.0) md tt c.actor.invariant.0.config (subst (λ z. c.token.inside.reference.handle < handles z) (sym same) (subst (λ (z : ℕ). c.token.inside.reference.handle < z) (sym c.self.invariant.3) c.token.invariant.handle)) c.actor.invariant.2.owns in subst (λ xs. Remembers c.actor.inside.config xs c.actor.inside.turn false c.actor.inside.claims (known_of c.swap.new.seat.me.0)) (sym c.remember.ensures) (remembers-defined _ _ _ _ _ c.token.inside.reference.handle c.token.inside.reference.generation _ [] (known_of c.actor.inside.seat.me.0) (known_of c.swap.new.seat.me.0) md c.actor.invariant.0.config c.actor.invariant.0.keeps at.1 at.0 c.token.invariant.generation c.actor.invariant.2)),
+          (makes-made c.self.inside.inner.shared.table_id.slots c.token.inside.reference.handle
+          c.token.inside.reference.generation _ _ c.actor.inside.seat.me c.swap.new.seat.me
+          event.Define handed defined (λ x. refl) c.number_of-word.ensures c.swap.ensures.2)
+          in let at = owner-place c.actor.inside.config c.actor.inside.own.items event.Define
+          c.token.inside.reference.handle _ _ [] (known_of c.actor.inside.seat.me.0)
+          (known_of c.swap.new.seat.me.0) md tt c.actor.invariant.0.config
+          (subst (λ z. c.token.inside.reference.handle < handles z) (sym same)
+          (subst (λ (z : ℕ). c.token.inside.reference.handle < z) (sym c.self.invariant.3)
+          c.token.invariant.handle)) c.actor.invariant.2.owns in subst
+          (λ xs. Remembers c.actor.inside.config xs c.actor.inside.turn false
+          c.actor.inside.claims (known_of c.swap.new.seat.me.0)) (sym c.remember.ensures)
+          (remembers-defined _ _ _ _ _ c.token.inside.reference.handle
+          c.token.inside.reference.generation _ [] (known_of c.actor.inside.seat.me.0)
+          (known_of c.swap.new.seat.me.0) md c.actor.invariant.0.config
+          c.actor.invariant.0.keeps at.1 at.0 c.token.invariant.generation
+          c.actor.invariant.2)),
     )
 
 pub returns-clause-token : goal.returns-clause-token
@@ -47,15 +69,24 @@ returns-clause-token g c = (
   c.bind.ensures.aim,
   (defined-token c.token.inside.reference.handle c.token.inside.reference.generation []
       (known_of c.actor.inside.seat.me.0) (known_of c.swap.new.seat.me.0) c.actor.invariant.0.keeps
-      (makes-made c.self.inside.inner.shared.table_id.slots c.token.inside.reference.handle c.token.inside.reference.generation _ _ c.actor.inside.seat.me c.swap.new.seat.me event.Define handed defined (λ x. refl) c.number_of-word.ensures c.swap.ensures.2)),
+      (makes-made c.self.inside.inner.shared.table_id.slots c.token.inside.reference.handle
+      c.token.inside.reference.generation _ _ c.actor.inside.seat.me c.swap.new.seat.me
+      event.Define handed defined (λ x. refl) c.number_of-word.ensures c.swap.ensures.2)),
 )
 
 pub remember-requires : goal.remember-requires
 remember-requires g c =
     let same = (sym c.actor.invariant.0.config ∙ ap (λ x. x.known.config) c.actor.view_is) ∙
     (c.requires.table.1 ∙ sym (ap (λ x. x.config) c.self.view_is)) in
-    let md = (makes-made c.self.inside.inner.shared.table_id.slots c.token.inside.reference.handle c.token.inside.reference.generation _ _ c.actor.inside.seat.me c.swap.new.seat.me event.Define handed defined (λ x. refl) c.number_of-word.ensures c.swap.ensures.2) in
-    let at = owner-place c.actor.inside.config c.actor.inside.own.items event.Define c.token.inside.reference.handle _ _ [] (known_of c.actor.inside.seat.me.0) (known_of c.swap.new.seat.me.0) md tt c.actor.invariant.0.config (subst (λ z. c.token.inside.reference.handle < handles z) (sym same) (subst (λ (z : ℕ). c.token.inside.reference.handle < z) (sym c.self.invariant.3) c.token.invariant.handle)) c.actor.invariant.2.owns in record {
+    let md = (makes-made c.self.inside.inner.shared.table_id.slots c.token.inside.reference.handle
+    c.token.inside.reference.generation _ _ c.actor.inside.seat.me c.swap.new.seat.me
+    event.Define handed defined (λ x. refl) c.number_of-word.ensures c.swap.ensures.2) in
+    let at = owner-place c.actor.inside.config c.actor.inside.own.items event.Define
+    c.token.inside.reference.handle _ _ [] (known_of c.actor.inside.seat.me.0)
+    (known_of c.swap.new.seat.me.0) md tt c.actor.invariant.0.config
+    (subst (λ z. c.token.inside.reference.handle < handles z) (sym same)
+    (subst (λ (z : ℕ). c.token.inside.reference.handle < z) (sym c.self.invariant.3)
+    c.token.invariant.handle)) c.actor.invariant.2.owns in record {
       some = c.actor.invariant.1.per_backend.0;
       range = at.0;
     }
@@ -65,4 +96,6 @@ returns-clause-event g c = subst
     (λ (z : WaitRef × Known). Made event.Define z.0.handle (handed z.0.generation)
     (defined z.0.generation) [] z.1 (known_of c.swap.new.seat.me.0))
     (λ k. (c.token.view_is k, (c.actor.view_is k).known))
-    (makes-made c.self.inside.inner.shared.table_id.slots c.token.inside.reference.handle c.token.inside.reference.generation _ _ c.actor.inside.seat.me c.swap.new.seat.me event.Define handed defined (λ x. refl) c.number_of-word.ensures c.swap.ensures.2)
+    (makes-made c.self.inside.inner.shared.table_id.slots c.token.inside.reference.handle
+    c.token.inside.reference.generation _ _ c.actor.inside.seat.me c.swap.new.seat.me
+    event.Define handed defined (λ x. refl) c.number_of-word.ensures c.swap.ensures.2)

@@ -16,7 +16,8 @@ returns g c =
     × (by_backends z (map known_in c.args.actors.items) + by_runners z
     (map known_in c.args.actors.items) < 2 ^ 128 - 1)) config
     (ended g.R.Record.label g.R.Record.aim
-    (g.R.Record.fits g.W.World.told g.W.World.relations) c.self.inside.inner.shared.key _ c.gather-seat.result.me.0 c.args.actors.items _ _ c.gather-seat.ensures.lists
+    (g.R.Record.fits g.W.World.told g.W.World.relations) c.self.inside.inner.shared.key _
+    c.gather-seat.result.me.0 c.args.actors.items _ _ c.gather-seat.ensures.lists
     (c.requires.all ∙ ap actors (sym config))
     (subst (λ (z : Config). IsConfig z)
     (sym c.self.invariant.0) c.self.invariant.4) c.requires.quiet v.2) in

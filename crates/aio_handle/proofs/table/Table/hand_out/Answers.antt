@@ -26,7 +26,11 @@ swap-requires g c =
           (c.requires.table.0 ∙ sym (ap (λ x. x.table) c.self.view_is))),
       subst (λ (z : ℕ). h < z) (sym c.self.invariant.1) range,
       hands g.R.Record.label g.R.Record.aim
-          (g.R.Record.fits g.W.World.told g.W.World.relations) _ _ _ h c.args.reference.generation _ _ (known_of c.actor.inside.seat.me.0) c.number_of-word.ensures c.actor.invariant.0.one (subst (λ z. h < handles z) (sym c.self.invariant.0) range) (λ _. subst (λ z. (known_of c.actor.inside.seat.me.0).number ≡ owner z h) (sym key) t.own) (ap (λ x. x.known.out) c.actor.view_is ∙ c.requires.free.0)
+          (g.R.Record.fits g.W.World.told g.W.World.relations) _ _ _ h c.args.reference.generation _
+          _ (known_of c.actor.inside.seat.me.0) c.number_of-word.ensures c.actor.invariant.0.one
+          (subst (λ z. h < handles z) (sym c.self.invariant.0) range)
+          (λ _. subst (λ z. (known_of c.actor.inside.seat.me.0).number ≡ owner z h) (sym key)
+          t.own) (ap (λ x. x.known.out) c.actor.view_is ∙ c.requires.free.0)
           (λ _. subst (λ z. c.args.reference.generation ≡ z.start + lives h
           (known_of c.actor.inside.seat.me.0).marks)
           (sym key) t.generation) t.undefined t.below,
@@ -34,9 +38,21 @@ swap-requires g c =
 
 pub invariant_of-actor : goal.invariant_of-actor
 invariant_of-actor g c = (
-  hands-seated c.self.inside.inner.shared.table_id.slots c.args.reference.handle c.args.reference.generation _ _ _ _ _ _ c.actor.invariant.0 c.swap.ensures.2,
+  hands-seated c.self.inside.inner.shared.table_id.slots c.args.reference.handle
+      c.args.reference.generation _ _ _ _ _ _ c.actor.invariant.0 c.swap.ensures.2,
   c.actor.invariant.1,
   (let same = (sym c.actor.invariant.0.config ∙ ap (λ x. x.known.config) c.actor.view_is) ∙
       (c.requires.table.1 ∙ sym (ap (λ x. x.config) c.self.view_is)) in let md =
-      (hands-made c.self.inside.inner.shared.table_id.slots c.args.reference.handle c.args.reference.generation _ _ c.actor.inside.seat.me c.swap.new.seat.me c.number_of-word.ensures c.swap.ensures.2) in let range = subst (λ z. c.args.reference.handle < handles z) (sym ((sym c.actor.invariant.0.config ∙ ap (λ x. x.known.config) c.actor.view_is) ∙ c.requires.table.1)) c.requires.range in let at = owner-place c.actor.inside.config c.actor.inside.own.items event.HandOut c.args.reference.handle _ _ [] (known_of c.actor.inside.seat.me.0) (known_of c.swap.new.seat.me.0) md tt c.actor.invariant.0.config range c.actor.invariant.2.owns in let n = c.place_of.ensures.value in remembers-handed _ _ _ _ _ c.args.reference.handle c.args.reference.generation _ [] (known_of c.actor.inside.seat.me.0) (known_of c.swap.new.seat.me.0) md (let lt = at.0 in omega arith) c.actor.invariant.2),
+      (hands-made c.self.inside.inner.shared.table_id.slots c.args.reference.handle
+      c.args.reference.generation _ _ c.actor.inside.seat.me c.swap.new.seat.me
+      c.number_of-word.ensures c.swap.ensures.2) in let range = subst
+      (λ z. c.args.reference.handle < handles z)
+      (sym ((sym c.actor.invariant.0.config ∙ ap (λ x. x.known.config) c.actor.view_is)
+      ∙ c.requires.table.1)) c.requires.range in let at = owner-place c.actor.inside.config
+      c.actor.inside.own.items event.HandOut c.args.reference.handle _ _ []
+      (known_of c.actor.inside.seat.me.0) (known_of c.swap.new.seat.me.0) md tt
+      c.actor.invariant.0.config range c.actor.invariant.2.owns in let n =
+      c.place_of.ensures.value in remembers-handed _ _ _ _ _ c.args.reference.handle
+      c.args.reference.generation _ [] (known_of c.actor.inside.seat.me.0)
+      (known_of c.swap.new.seat.me.0) md (let lt = at.0 in omega arith) c.actor.invariant.2),
 )

@@ -60,10 +60,12 @@ loop-n-preserved g c =
                 c.args.runners;
             start =
                 c.args.start;
-          } c.loop-n.n _ _ _ c.loop-n-test.true c.loop-n.invariant.view c.in_ok-actor.ensures.seat.1;
+          } c.loop-n.n _ _ _ c.loop-n-test.true c.loop-n.invariant.view
+          c.in_ok-actor.ensures.seat.1;
       many = search rules;
       room = search rules;
       same = search rules;
       new = subst (λ (xs : List Standing). AreNew t 0 xs) (sym c.push_reserved.ensures.items)
-          (new-push t c.loop-n.n c.loop-n.actors.items c.in_ok-actor.actor c.loop-n.invariant.many c.loop-n.invariant.new c.in_ok-actor.ensures.actor);
+          (new-push t c.loop-n.n c.loop-n.actors.items c.in_ok-actor.actor c.loop-n.invariant.many
+          c.loop-n.invariant.new c.in_ok-actor.ensures.actor);
     }

@@ -21,7 +21,9 @@ swap-requires g c =
     let range : h < handles c.self.inside.config = subst (λ (z : ℕ). h < z)
     (sym c.self.invariant.3) c.token.invariant.handle in
     let t = inward (IsLocal)
-    (known_of c.actor.inside.seat.me.0) c.args.actor.now.known c.token.inside.reference c.args.token.0 (ap (λ x. x.known) c.actor.view_is) (ap (λ z. z.0) c.token.view_is) (c.requires.token) in
+    (known_of c.actor.inside.seat.me.0) c.args.actor.now.known c.token.inside.reference
+    c.args.token.0 (ap (λ x. x.known) c.actor.view_is) (ap (λ z. z.0) c.token.view_is)
+    (c.requires.token) in
     let f = ap (λ x. x.1) c.bring.ensures.2 in
     let b = brought-none _ _ h c.actor.inside.seat.me c.actor.invariant.0
     (local-away (known_of c.actor.inside.seat.me.0) _ _ t) in (
@@ -30,26 +32,62 @@ swap-requires g c =
           (c.requires.table.0 ∙ sym (ap (λ x. x.table) c.self.view_is))),
       subst (λ (z : ℕ). h < z) (sym c.self.invariant.1) range,
       reclaims g.R.Record.label g.R.Record.aim
-          (g.R.Record.fits g.W.World.told g.W.World.relations) _ _ _ h c.token.inside.reference.generation _ _ (known_of c.actor.inside.seat.me.0) c.number_of-word.ensures (ap (λ x. x.0) c.bring.ensures.2 ∙ c.actor.invariant.0.one) (f ∙ (b ∙ ap (λ z. (h, None) ∷ rest z) (sym f))) (subst (λ z. h < handles z) (sym c.self.invariant.0) range) t,
+          (g.R.Record.fits g.W.World.told g.W.World.relations) _ _ _ h
+          c.token.inside.reference.generation _ _ (known_of c.actor.inside.seat.me.0)
+          c.number_of-word.ensures (ap (λ x. x.0) c.bring.ensures.2 ∙ c.actor.invariant.0.one)
+          (f ∙ (b ∙ ap (λ z. (h, None) ∷ rest z) (sym f)))
+          (subst (λ z. h < handles z) (sym c.self.invariant.0) range) t,
     )
 
 pub invariant_of-actor : goal.invariant_of-actor
 invariant_of-actor g c =
     let t = inward (IsLocal)
-    (known_of c.actor.inside.seat.me.0) c.args.actor.now.known c.token.inside.reference c.args.token.0 (ap (λ x. x.known) c.actor.view_is) (ap (λ z. z.0) c.token.view_is) (c.requires.token) in (
-      returns-seated c.self.inside.inner.shared.table_id.slots c.token.inside.reference.handle c.token.inside.reference.generation _ _ c.actor.inside.seat.me c.bring.new.seat.me _ (ap (λ x. x.0) c.bring.ensures.2) (ap (λ x. rest x.1) c.bring.ensures.2) _ _ event.Reclaim (taken c.swap.ensures.2.0) (λ x. idle (x + 1)) [] c.actor.invariant.0 (local-away (known_of c.actor.inside.seat.me.0) _ _ t) c.swap.ensures.2.1,
+    (known_of c.actor.inside.seat.me.0) c.args.actor.now.known c.token.inside.reference
+    c.args.token.0 (ap (λ x. x.known) c.actor.view_is) (ap (λ z. z.0) c.token.view_is)
+    (c.requires.token) in (
+      returns-seated c.self.inside.inner.shared.table_id.slots c.token.inside.reference.handle
+          c.token.inside.reference.generation _ _ c.actor.inside.seat.me c.bring.new.seat.me _
+          (ap (λ x. x.0) c.bring.ensures.2) (ap (λ x. rest x.1) c.bring.ensures.2) _ _ event.Reclaim
+          (taken c.swap.ensures.2.0) (λ x. idle (x + 1)) [] c.actor.invariant.0
+          (local-away (known_of c.actor.inside.seat.me.0) _ _ t) c.swap.ensures.2.1,
       c.actor.invariant.1,
       (let same = (sym c.actor.invariant.0.config ∙ ap (λ x. x.known.config) c.actor.view_is) ∙
           (c.requires.table.1 ∙ sym (ap (λ x. x.config) c.self.view_is)) in let md =
-          (returns-made c.self.inside.inner.shared.table_id.slots c.token.inside.reference.handle c.token.inside.reference.generation _ _ c.actor.inside.seat.me c.bring.new.seat.me c.swap.new.seat.me (ap (λ x. x.0) c.bring.ensures.2) (ap (λ x. rest x.1) c.bring.ensures.2) event.Reclaim (taken c.swap.ensures.2.0) (λ x. idle (x + 1)) [] by-next c.number_of-word.ensures c.swap.ensures.2.1) in let at = owner-place c.actor.inside.config c.actor.inside.own.items event.Reclaim c.token.inside.reference.handle _ _ [] (known_of c.actor.inside.seat.me.0) (known_of c.swap.new.seat.me.0) md tt c.actor.invariant.0.config (subst (λ z. c.token.inside.reference.handle < handles z) (sym same) (subst (λ (z : ℕ). c.token.inside.reference.handle < z) (sym c.self.invariant.3) c.token.invariant.handle)) c.actor.invariant.2.owns in subst (λ xs. Remembers c.actor.inside.config xs c.actor.inside.turn c.actor.inside.is_out c.actor.inside.claims (known_of c.swap.new.seat.me.0)) (sym c.remember.ensures) (remembers-reclaimed _ _ _ _ _ c.token.inside.reference.handle c.token.inside.reference.generation _ c.swap.ensures.2.0 [] (known_of c.actor.inside.seat.me.0) (known_of c.swap.new.seat.me.0) md c.actor.invariant.0.config c.actor.invariant.0.keeps at.1 at.0 c.token.invariant.generation c.actor.invariant.2)),
+          (returns-made c.self.inside.inner.shared.table_id.slots c.token.inside.reference.handle
+          c.token.inside.reference.generation _ _ c.actor.inside.seat.me c.bring.new.seat.me
+          c.swap.new.seat.me (ap (λ x. x.0) c.bring.ensures.2)
+          (ap (λ x. rest x.1) c.bring.ensures.2) event.Reclaim (taken c.swap.ensures.2.0)
+          (λ x. idle (x + 1)) [] by-next c.number_of-word.ensures c.swap.ensures.2.1)
+          in let at = owner-place c.actor.inside.config c.actor.inside.own.items event.Reclaim
+          c.token.inside.reference.handle _ _ [] (known_of c.actor.inside.seat.me.0)
+          (known_of c.swap.new.seat.me.0) md tt c.actor.invariant.0.config
+          (subst (λ z. c.token.inside.reference.handle < handles z) (sym same)
+          (subst (λ (z : ℕ). c.token.inside.reference.handle < z) (sym c.self.invariant.3)
+          c.token.invariant.handle)) c.actor.invariant.2.owns in subst
+          (λ xs. Remembers c.actor.inside.config xs c.actor.inside.turn c.actor.inside.is_out
+          c.actor.inside.claims (known_of c.swap.new.seat.me.0)) (sym c.remember.ensures)
+          (remembers-reclaimed _ _ _ _ _ c.token.inside.reference.handle
+          c.token.inside.reference.generation _ c.swap.ensures.2.0 []
+          (known_of c.actor.inside.seat.me.0) (known_of c.swap.new.seat.me.0) md
+          c.actor.invariant.0.config c.actor.invariant.0.keeps at.1 at.0
+          c.token.invariant.generation c.actor.invariant.2)),
     )
 
 pub remember-requires : goal.remember-requires
 remember-requires g c =
     let same = (sym c.actor.invariant.0.config ∙ ap (λ x. x.known.config) c.actor.view_is) ∙
     (c.requires.table.1 ∙ sym (ap (λ x. x.config) c.self.view_is)) in
-    let md = (returns-made c.self.inside.inner.shared.table_id.slots c.token.inside.reference.handle c.token.inside.reference.generation _ _ c.actor.inside.seat.me c.bring.new.seat.me c.swap.new.seat.me (ap (λ x. x.0) c.bring.ensures.2) (ap (λ x. rest x.1) c.bring.ensures.2) event.Reclaim (taken c.swap.ensures.2.0) (λ x. idle (x + 1)) [] by-next c.number_of-word.ensures c.swap.ensures.2.1) in
-    let at = owner-place c.actor.inside.config c.actor.inside.own.items event.Reclaim c.token.inside.reference.handle _ _ [] (known_of c.actor.inside.seat.me.0) (known_of c.swap.new.seat.me.0) md tt c.actor.invariant.0.config (subst (λ z. c.token.inside.reference.handle < handles z) (sym same) (subst (λ (z : ℕ). c.token.inside.reference.handle < z) (sym c.self.invariant.3) c.token.invariant.handle)) c.actor.invariant.2.owns in record {
+    let md = (returns-made c.self.inside.inner.shared.table_id.slots c.token.inside.reference.handle
+    c.token.inside.reference.generation _ _ c.actor.inside.seat.me c.bring.new.seat.me
+    c.swap.new.seat.me (ap (λ x. x.0) c.bring.ensures.2) (ap (λ x. rest x.1) c.bring.ensures.2)
+    event.Reclaim (taken c.swap.ensures.2.0) (λ x. idle (x + 1)) [] by-next
+    c.number_of-word.ensures c.swap.ensures.2.1) in
+    let at = owner-place c.actor.inside.config c.actor.inside.own.items event.Reclaim
+    c.token.inside.reference.handle _ _ [] (known_of c.actor.inside.seat.me.0)
+    (known_of c.swap.new.seat.me.0) md tt c.actor.invariant.0.config
+    (subst (λ z. c.token.inside.reference.handle < handles z) (sym same)
+    (subst (λ (z : ℕ). c.token.inside.reference.handle < z) (sym c.self.invariant.3)
+    c.token.invariant.handle)) c.actor.invariant.2.owns in record {
       some = c.actor.invariant.1.per_backend.0;
       range = at.0;
     }

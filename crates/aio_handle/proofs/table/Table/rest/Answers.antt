@@ -22,7 +22,11 @@ load-found-requires g c =
 
 pub invariant_of-actor : goal.invariant_of-actor
 invariant_of-actor g c = (
-  looks-seated c.self.inside.inner.shared.table_id.slots c.args.reference.handle 0 0 _ _ _ _ _ c.actor.invariant.0 c.load-found.ensures.2,
+  looks-seated c.self.inside.inner.shared.table_id.slots c.args.reference.handle 0 0 _ _ _ _ _
+      c.actor.invariant.0 c.load-found.ensures.2,
   c.actor.invariant.1,
-  recalls-loaded c.actor.inside.config c.actor.inside.own.items c.actor.inside.turn c.actor.inside.claims c.actor.inside.is_out c.self.inside.inner.shared.table_id.slots c.args.reference.handle _ c.actor.inside.seat.me c.load-found.new.seat.me c.load-found.ensures.2 c.actor.invariant.2,
+  recalls-loaded c.actor.inside.config c.actor.inside.own.items c.actor.inside.turn
+      c.actor.inside.claims c.actor.inside.is_out c.self.inside.inner.shared.table_id.slots
+      c.args.reference.handle _ c.actor.inside.seat.me c.load-found.new.seat.me
+      c.load-found.ensures.2 c.actor.invariant.2,
 )

@@ -20,23 +20,36 @@ swap-requires g c =
     let range : h < handles c.self.inside.config = subst (λ (z : ℕ). h < z)
     (sym c.self.invariant.3) c.token.invariant.0.handle in
     let t = inward (IsDefined)
-    (known_of c.actor.inside.seat.me.0) c.args.actor.now.known c.token.inside.reference c.args.token.0 (ap (λ x. x.known) c.actor.view_is) (ap (λ z. z.0) c.token.view_is) (c.requires.token) in (
+    (known_of c.actor.inside.seat.me.0) c.args.actor.now.known c.token.inside.reference
+    c.args.token.0 (ap (λ x. x.known) c.actor.view_is) (ap (λ z. z.0) c.token.view_is)
+    (c.requires.token) in (
       (ap (λ x. x.table) c.actor.view_is ∙
           (c.requires.table.0 ∙ sym (ap (λ x. x.table) c.self.view_is))),
       subst (λ (z : ℕ). h < z) (sym c.self.invariant.1) range,
       stages g.R.Record.label g.R.Record.aim
-          (g.R.Record.fits g.W.World.told g.W.World.relations) _ _ _ h c.token.inside.reference.generation _ _ (known_of c.actor.inside.seat.me.0) c.number_of-word.ensures c.actor.invariant.0.one (subst (λ z. h < handles z) (sym c.self.invariant.0) range) t,
+          (g.R.Record.fits g.W.World.told g.W.World.relations) _ _ _ h
+          c.token.inside.reference.generation _ _ (known_of c.actor.inside.seat.me.0)
+          c.number_of-word.ensures c.actor.invariant.0.one
+          (subst (λ z. h < handles z) (sym c.self.invariant.0) range) t,
     )
 
 pub invariant_of-actor : goal.invariant_of-actor
 invariant_of-actor g c =
     let t = inward (IsDefined)
-    (known_of c.actor.inside.seat.me.0) c.args.actor.now.known c.token.inside.reference c.args.token.0 (ap (λ x. x.known) c.actor.view_is) (ap (λ z. z.0) c.token.view_is) (c.requires.token) in (
-      makes-seated c.self.inside.inner.shared.table_id.slots c.token.inside.reference.handle c.token.inside.reference.generation _ _ _ _ _ _ event.Stage defined staged c.actor.invariant.0 (defined-away (known_of c.actor.inside.seat.me.0) _ _ t) c.swap.ensures.2,
+    (known_of c.actor.inside.seat.me.0) c.args.actor.now.known c.token.inside.reference
+    c.args.token.0 (ap (λ x. x.known) c.actor.view_is) (ap (λ z. z.0) c.token.view_is)
+    (c.requires.token) in (
+      makes-seated c.self.inside.inner.shared.table_id.slots c.token.inside.reference.handle
+          c.token.inside.reference.generation _ _ _ _ _ _ event.Stage defined staged
+          c.actor.invariant.0 (defined-away (known_of c.actor.inside.seat.me.0) _ _ t)
+          c.swap.ensures.2,
       c.actor.invariant.1,
       remembers-plain _ _ _ _ _ event.Stage c.token.inside.reference.handle _ _ []
           (known_of c.actor.inside.seat.me.0) (known_of c.swap.new.seat.me.0)
-          (makes-made c.self.inside.inner.shared.table_id.slots c.token.inside.reference.handle c.token.inside.reference.generation _ _ c.actor.inside.seat.me c.swap.new.seat.me event.Stage defined staged (λ x. refl) c.number_of-word.ensures c.swap.ensures.2) tt c.actor.invariant.2,
+          (makes-made c.self.inside.inner.shared.table_id.slots c.token.inside.reference.handle
+          c.token.inside.reference.generation _ _ c.actor.inside.seat.me c.swap.new.seat.me
+          event.Stage defined staged (λ x. refl) c.number_of-word.ensures c.swap.ensures.2) tt
+          c.actor.invariant.2,
     )
 
 pub returns-clause-token : goal.returns-clause-token
@@ -44,7 +57,9 @@ returns-clause-token g c = (
   c.token.view_is,
   (staged-token c.token.inside.reference.handle c.token.inside.reference.generation []
       (known_of c.actor.inside.seat.me.0) (known_of c.swap.new.seat.me.0) c.actor.invariant.0.keeps
-      (makes-made c.self.inside.inner.shared.table_id.slots c.token.inside.reference.handle c.token.inside.reference.generation _ _ c.actor.inside.seat.me c.swap.new.seat.me event.Stage defined staged (λ x. refl) c.number_of-word.ensures c.swap.ensures.2)),
+      (makes-made c.self.inside.inner.shared.table_id.slots c.token.inside.reference.handle
+      c.token.inside.reference.generation _ _ c.actor.inside.seat.me c.swap.new.seat.me
+      event.Stage defined staged (λ x. refl) c.number_of-word.ensures c.swap.ensures.2)),
 )
 
 pub returns-clause-event : goal.returns-clause-event
@@ -52,4 +67,6 @@ returns-clause-event g c =
     subst (λ (z : WaitRef × Known). Made event.Stage z.0.handle (defined z.0.generation)
     (staged z.0.generation) [] z.1 (known_of c.swap.new.seat.me.0))
     (λ k. ((c.token.view_is k).0, (c.actor.view_is k).known))
-    (makes-made c.self.inside.inner.shared.table_id.slots c.token.inside.reference.handle c.token.inside.reference.generation _ _ c.actor.inside.seat.me c.swap.new.seat.me event.Stage defined staged (λ x. refl) c.number_of-word.ensures c.swap.ensures.2)
+    (makes-made c.self.inside.inner.shared.table_id.slots c.token.inside.reference.handle
+    c.token.inside.reference.generation _ _ c.actor.inside.seat.me c.swap.new.seat.me
+    event.Stage defined staged (λ x. refl) c.number_of-word.ensures c.swap.ensures.2)

@@ -21,7 +21,9 @@ use Rattle.aio_handle.proofs.table.Table.submit.Goals as goal
 pub exchange-requires : goal.exchange-requires
 exchange-requires g c =
     let t = inward (IsStaged)
-    (known_of c.actor.inside.seat.me.0) c.args.actor.now.known c.token.inside.reference c.args.token.0 (ap (λ x. x.known) c.actor.view_is) (ap (λ z. z.0) c.token.view_is) (c.requires.token) in
+    (known_of c.actor.inside.seat.me.0) c.args.actor.now.known c.token.inside.reference
+    c.args.token.0 (ap (λ x. x.known) c.actor.view_is) (ap (λ z. z.0) c.token.view_is)
+    (c.requires.token) in
     let b = brought-first c.token.inside.reference.handle _ c.actor.inside.seat.me.1
     (c.actor.invariant.0.carried c.token.inside.reference.handle
     (staged-away (known_of c.actor.inside.seat.me.0) _ _ t)) in
@@ -38,7 +40,9 @@ swap-requires g c =
     let range : h < handles c.self.inside.config = subst (λ (z : ℕ). h < z)
     (sym c.self.invariant.3) c.token.invariant.0.handle in
     let t = inward (IsStaged)
-    (known_of c.actor.inside.seat.me.0) c.args.actor.now.known c.token.inside.reference c.args.token.0 (ap (λ x. x.known) c.actor.view_is) (ap (λ z. z.0) c.token.view_is) (c.requires.token) in
+    (known_of c.actor.inside.seat.me.0) c.args.actor.now.known c.token.inside.reference
+    c.args.token.0 (ap (λ x. x.known) c.actor.view_is) (ap (λ z. z.0) c.token.view_is)
+    (c.requires.token) in
     let f = ap (λ x. x.1) c.exchange.ensures.3 in (
       c.exchange.ensures.0 ∙
           (c.bring.ensures.0 ∙
@@ -46,16 +50,36 @@ swap-requires g c =
           (c.requires.table.0 ∙ sym (ap (λ x. x.table) c.self.view_is)))),
       subst (λ (z : ℕ). h < z) (sym c.self.invariant.1) range,
       submits g.R.Record.label g.R.Record.aim
-          (g.R.Record.fits g.W.World.told g.W.World.relations) _ _ _ h c.token.inside.reference.generation _ _ (known_of c.actor.inside.seat.me.0) c.token.inside.io c.number_of-word.ensures (ap (λ x. x.0) c.exchange.ensures.3 ∙ (ap (λ x. x.0) c.bring.ensures.2 ∙ c.actor.invariant.0.one)) (f ∙ ap (λ z. (h, Some c.token.inside.io) ∷ rest z) (sym f)) (subst (λ z. h < handles z) (sym c.self.invariant.0) range) t c.token.invariant.1 c.token.invariant.2,
+          (g.R.Record.fits g.W.World.told g.W.World.relations) _ _ _ h
+          c.token.inside.reference.generation _ _ (known_of c.actor.inside.seat.me.0)
+          c.token.inside.io c.number_of-word.ensures
+          (ap (λ x. x.0) c.exchange.ensures.3 ∙ (ap (λ x. x.0) c.bring.ensures.2
+          ∙ c.actor.invariant.0.one)) (f ∙ ap (λ z. (h, Some c.token.inside.io) ∷ rest z)
+          (sym f)) (subst (λ z. h < handles z) (sym c.self.invariant.0) range) t
+          c.token.invariant.1 c.token.invariant.2,
     )
 
 pub invariant_of-actor : goal.invariant_of-actor
 invariant_of-actor g c =
     let t = inward (IsStaged)
-    (known_of c.actor.inside.seat.me.0) c.args.actor.now.known c.token.inside.reference c.args.token.0 (ap (λ x. x.known) c.actor.view_is) (ap (λ z. z.0) c.token.view_is) (c.requires.token) in (
-      returns-seated c.self.inside.inner.shared.table_id.slots c.token.inside.reference.handle c.token.inside.reference.generation _ _ c.actor.inside.seat.me c.exchange.new.seat.me _ (ap (λ x. x.0) c.exchange.ensures.3 ∙ ap (λ x. x.0) c.bring.ensures.2) (ap (λ x. rest x.1) c.exchange.ensures.3 ∙ ap (λ x. rest x.1) c.bring.ensures.2) _ _ event.Submit staged unclaimed _ c.actor.invariant.0 (staged-away (known_of c.actor.inside.seat.me.0) _ _ t) c.swap.ensures.2.2,
+    (known_of c.actor.inside.seat.me.0) c.args.actor.now.known c.token.inside.reference
+    c.args.token.0 (ap (λ x. x.known) c.actor.view_is) (ap (λ z. z.0) c.token.view_is)
+    (c.requires.token) in (
+      returns-seated c.self.inside.inner.shared.table_id.slots c.token.inside.reference.handle
+          c.token.inside.reference.generation _ _ c.actor.inside.seat.me c.exchange.new.seat.me _
+          (ap (λ x. x.0) c.exchange.ensures.3 ∙ ap (λ x. x.0) c.bring.ensures.2)
+          (ap (λ x. rest x.1) c.exchange.ensures.3 ∙ ap (λ x. rest x.1) c.bring.ensures.2) _ _
+          event.Submit staged unclaimed _ c.actor.invariant.0
+          (staged-away (known_of c.actor.inside.seat.me.0) _ _ t) c.swap.ensures.2.2,
       c.actor.invariant.1,
-      recalls-returned c.actor.inside.config c.actor.inside.own.items c.actor.inside.turn c.actor.inside.claims c.actor.inside.is_out c.self.inside.inner.shared.table_id.slots c.token.inside.reference.handle _ _ c.exchange.new.seat.me c.swap.new.seat.me event.Submit staged unclaimed _ tt c.swap.ensures.2.2 (subst (λ z. Remembers c.actor.inside.config c.actor.inside.own.items c.actor.inside.turn c.actor.inside.is_out c.actor.inside.claims (known_of z)) (sym (ap (λ x. x.0) c.exchange.ensures.3 ∙ ap (λ x. x.0) c.bring.ensures.2)) c.actor.invariant.2),
+      recalls-returned c.actor.inside.config c.actor.inside.own.items c.actor.inside.turn
+          c.actor.inside.claims c.actor.inside.is_out c.self.inside.inner.shared.table_id.slots
+          c.token.inside.reference.handle _ _ c.exchange.new.seat.me c.swap.new.seat.me event.Submit
+          staged unclaimed _ tt c.swap.ensures.2.2 (subst
+          (λ z. Remembers c.actor.inside.config c.actor.inside.own.items c.actor.inside.turn
+          c.actor.inside.is_out c.actor.inside.claims (known_of z))
+          (sym (ap (λ x. x.0) c.exchange.ensures.3 ∙ ap (λ x. x.0) c.bring.ensures.2))
+          c.actor.invariant.2),
     )
 
 pub returns-clause-token : goal.returns-clause-token
@@ -63,7 +87,10 @@ returns-clause-token g c =
     let h : ℕ = c.token.inside.reference.handle in
     let n : ℕ = c.token.inside.reference.generation in
     let q : Known = known_of c.swap.new.seat.me.0 in
-    let md = returns-made c.self.inside.inner.shared.table_id.slots h n _ _ c.actor.inside.seat.me c.exchange.new.seat.me c.swap.new.seat.me (ap (λ x. x.0) c.exchange.ensures.3 ∙ ap (λ x. x.0) c.bring.ensures.2) (ap (λ x. rest x.1) c.exchange.ensures.3 ∙ ap (λ x. rest x.1) c.bring.ensures.2)
+    let md = returns-made c.self.inside.inner.shared.table_id.slots h n _ _ c.actor.inside.seat.me
+    c.exchange.new.seat.me c.swap.new.seat.me (ap (λ x. x.0) c.exchange.ensures.3 ∙ ap
+    (λ x. x.0) c.bring.ensures.2) (ap (λ x. rest x.1) c.exchange.ensures.3 ∙ ap (λ x. rest x.1)
+    c.bring.ensures.2)
     event.Submit staged unclaimed (g.R.Record.aim c.swap.ensures.2.0)
     (by-generation unclaimed (λ x. refl)) c.number_of-word.ensures c.swap.ensures.2.2 in
     let er = same-front h c.swap.ensures.2.0 c.token.inside.io _ _ _ c.swap.ensures.2.1
@@ -82,7 +109,10 @@ pub returns-clause-event : goal.returns-clause-event
 returns-clause-event g c =
     let h : ℕ = c.token.inside.reference.handle in
     let n : ℕ = c.token.inside.reference.generation in
-    let md = returns-made c.self.inside.inner.shared.table_id.slots h n _ _ c.actor.inside.seat.me c.exchange.new.seat.me c.swap.new.seat.me (ap (λ x. x.0) c.exchange.ensures.3 ∙ ap (λ x. x.0) c.bring.ensures.2) (ap (λ x. rest x.1) c.exchange.ensures.3 ∙ ap (λ x. rest x.1) c.bring.ensures.2)
+    let md = returns-made c.self.inside.inner.shared.table_id.slots h n _ _ c.actor.inside.seat.me
+    c.exchange.new.seat.me c.swap.new.seat.me (ap (λ x. x.0) c.exchange.ensures.3 ∙ ap
+    (λ x. x.0) c.bring.ensures.2) (ap (λ x. rest x.1) c.exchange.ensures.3 ∙ ap (λ x. rest x.1)
+    c.bring.ensures.2)
     event.Submit staged unclaimed (g.R.Record.aim c.swap.ensures.2.0)
     (by-generation unclaimed (λ x. refl)) c.number_of-word.ensures c.swap.ensures.2.2 in
     let er = same-front h c.swap.ensures.2.0 c.token.inside.io _ _ _ c.swap.ensures.2.1

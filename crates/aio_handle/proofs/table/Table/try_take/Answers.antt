@@ -18,7 +18,8 @@ use Rattle.aio_word.specs.declared.Step.TheVariants as event
 use Rattle.aio_handle.proofs.Tokening.{begun-of}
 use Rattle.aio_word.specs.Events.{actors}
 use Rattle.aio_word.specs.declared.Config.{Config}
-use Rattle.aio_handle.proofs.Answering.{not-both, inward, flight-looked, seen-completed, note-looked}
+use Rattle.aio_handle.proofs.Answering.{not-both, inward, flight-looked}
+use Rattle.aio_handle.proofs.Answering.{seen-completed, note-looked}
 use Rattle.aio_handle.proofs.Working.{loads}
 use Rattle.aio_handle.proofs.Owning.{gets}
 use Rattle.aio_handle.proofs.Tokening.{local-token}
@@ -43,9 +44,13 @@ load-found-requires g c =
 
 pub invariant_of-actor : goal.invariant_of-actor
 invariant_of-actor g c = (
-  looks-seated c.self.inside.inner.shared.table_id.slots c.token.inside.reference.handle 0 0 _ _ _ _ _ c.actor.invariant.0 c.load-found.ensures.2,
+  looks-seated c.self.inside.inner.shared.table_id.slots c.token.inside.reference.handle 0 0 _ _ _ _
+      _ c.actor.invariant.0 c.load-found.ensures.2,
   c.actor.invariant.1,
-  (recalls-loaded c.actor.inside.config c.actor.inside.own.items c.actor.inside.turn c.actor.inside.claims c.actor.inside.is_out c.self.inside.inner.shared.table_id.slots c.token.inside.reference.handle _ c.actor.inside.seat.me c.load-found.new.seat.me c.load-found.ensures.2 c.actor.invariant.2),
+  (recalls-loaded c.actor.inside.config c.actor.inside.own.items c.actor.inside.turn
+      c.actor.inside.claims c.actor.inside.is_out c.self.inside.inner.shared.table_id.slots
+      c.token.inside.reference.handle _ c.actor.inside.seat.me c.load-found.new.seat.me
+      c.load-found.ensures.2 c.actor.invariant.2),
 )
 
 pub fetch_add-requires : goal.fetch_add-requires
@@ -54,18 +59,22 @@ fetch_add-requires g c =
     let range : h < handles c.self.inside.config = subst (λ (z : ℕ). h < z)
     (sym c.self.invariant.3) c.token.invariant.handle in
     let (w, found, lk0) =
-    looks-saw c.self.inside.inner.shared.table_id.slots c.token.inside.reference.handle 0 0 _ c.actor.inside.seat.me c.load-found.new.seat.me c.load-found.ensures.2 in
+    looks-saw c.self.inside.inner.shared.table_id.slots c.token.inside.reference.handle 0 0 _
+    c.actor.inside.seat.me c.load-found.new.seat.me c.load-found.ensures.2 in
     let word : Word = c.in-Ok.word in
     let same : w ≡ word = packed-injective w word (found ∙ sym c.in-Ok.ensures.ok.1) in
     let mid : Known = known_of c.load-found.new.seat.me.0 in
     let lk : Looked c.token.inside.reference.handle word (known_of c.actor.inside.seat.me.0) mid =
     subst (λ (z : Word). Looked c.token.inside.reference.handle z
     (known_of c.actor.inside.seat.me.0) mid) same lk0 in
-    let sit = looks-seated c.self.inside.inner.shared.table_id.slots c.token.inside.reference.handle 0 0 _ _ _ c.actor.inside.config c.actor.inside.number c.actor.invariant.0 c.load-found.ensures.2 in
+    let sit = looks-seated c.self.inside.inner.shared.table_id.slots c.token.inside.reference.handle
+    0 0 _ _ _ c.actor.inside.config c.actor.inside.number c.actor.invariant.0
+    c.load-found.ensures.2 in
     let don : IsCompleted word c.token.inside.reference.generation =
     c.is_completed.ensures.0 c.if-not-is_completed.false in
     let t = inward (IsInFlight)
-    (known_of c.actor.inside.seat.me.0) c.args.actor.now.known c.token.inside.reference c.args.token (ap (λ x. x.known) c.actor.view_is) (c.token.view_is) (c.requires.token) in
+    (known_of c.actor.inside.seat.me.0) c.args.actor.now.known c.token.inside.reference c.args.token
+    (ap (λ x. x.known) c.actor.view_is) (c.token.view_is) (c.requires.token) in
     let t2 = flight-looked c.token.inside.reference.handle word
     (known_of c.actor.inside.seat.me.0) mid c.token.inside.reference lk t in
     let saw-it = seen-completed c.token.inside.reference.handle word
@@ -75,7 +84,9 @@ fetch_add-requires g c =
           (c.requires.table.0 ∙ sym (ap (λ x. x.table) c.self.view_is))),
       subst (λ (z : ℕ). h < z) (sym c.self.invariant.1) range,
       gets g.R.Record.label g.R.Record.aim
-          (g.R.Record.fits g.W.World.told g.W.World.relations) _ _ _ h c.token.inside.reference.generation _ mid sit.one (subst (λ z. h < handles z) (sym c.self.invariant.0) range) t2 saw-it,
+          (g.R.Record.fits g.W.World.told g.W.World.relations) _ _ _ h
+          c.token.inside.reference.generation _ mid sit.one
+          (subst (λ z. h < handles z) (sym c.self.invariant.0) range) t2 saw-it,
     )
 
 pub exchange-requires : goal.exchange-requires
@@ -85,44 +96,68 @@ exchange-requires g c = (
       (ap (λ x. x.table) c.actor.view_is ∙
       (c.requires.table.0 ∙ sym (ap (λ x. x.table) c.self.view_is)))),
   got-first g.R.Record.label g.R.Record.aim
-      (g.R.Record.fits g.W.World.told g.W.World.relations) c.self.inside.inner.shared.table_id.slots c.token.inside.reference.handle _ _ _ c.fetch_add.ensures.2,
+      (g.R.Record.fits g.W.World.told g.W.World.relations) c.self.inside.inner.shared.table_id.slots
+      c.token.inside.reference.handle _ _ _ c.fetch_add.ensures.2,
 )
 
 pub invariant_of-actor-2 : goal.invariant_of-actor-2
 invariant_of-actor-2 g c =
-    let sit = looks-seated c.self.inside.inner.shared.table_id.slots c.token.inside.reference.handle 0 0 _ _ _ c.actor.inside.config c.actor.inside.number c.actor.invariant.0 c.load-found.ensures.2 in (
+    let sit = looks-seated c.self.inside.inner.shared.table_id.slots c.token.inside.reference.handle
+    0 0 _ _ _ c.actor.inside.config c.actor.inside.number c.actor.invariant.0
+    c.load-found.ensures.2 in (
       got-seated g.R.Record.label g.R.Record.aim
-          (g.R.Record.fits g.W.World.told g.W.World.relations) c.self.inside.inner.shared.table_id.slots c.token.inside.reference.handle _ _ _ c.fetch_add.ensures.2 _ _ _ c.exchange.ensures.3 sit,
+          (g.R.Record.fits g.W.World.told g.W.World.relations)
+          c.self.inside.inner.shared.table_id.slots c.token.inside.reference.handle _ _ _
+          c.fetch_add.ensures.2 _ _ _ c.exchange.ensures.3 sit,
       c.actor.invariant.1,
-      subst (λ z. Remembers c.actor.inside.config c.actor.inside.own.items c.actor.inside.turn c.actor.inside.is_out c.actor.inside.claims (known_of z)) (sym (ap (λ x. x.0) c.exchange.ensures.3)) (recalls-got c.actor.inside.config c.actor.inside.own.items c.actor.inside.turn c.actor.inside.claims c.actor.inside.is_out g.R.Record.label g.R.Record.aim (g.R.Record.fits g.W.World.told g.W.World.relations) c.self.inside.inner.shared.table_id.slots c.token.inside.reference.handle c.load-found.new.seat.me c.fetch_add.new.seat.me _ c.fetch_add.ensures.2 (recalls-loaded c.actor.inside.config c.actor.inside.own.items c.actor.inside.turn c.actor.inside.claims c.actor.inside.is_out c.self.inside.inner.shared.table_id.slots c.token.inside.reference.handle _ c.actor.inside.seat.me c.load-found.new.seat.me c.load-found.ensures.2 c.actor.invariant.2)),
+      subst (λ z. Remembers c.actor.inside.config c.actor.inside.own.items c.actor.inside.turn
+          c.actor.inside.is_out c.actor.inside.claims (known_of z))
+          (sym (ap (λ x. x.0) c.exchange.ensures.3))
+          (recalls-got c.actor.inside.config c.actor.inside.own.items c.actor.inside.turn
+          c.actor.inside.claims c.actor.inside.is_out g.R.Record.label g.R.Record.aim
+          (g.R.Record.fits g.W.World.told g.W.World.relations)
+          c.self.inside.inner.shared.table_id.slots c.token.inside.reference.handle
+          c.load-found.new.seat.me c.fetch_add.new.seat.me _ c.fetch_add.ensures.2
+          (recalls-loaded c.actor.inside.config c.actor.inside.own.items c.actor.inside.turn
+          c.actor.inside.claims c.actor.inside.is_out c.self.inside.inner.shared.table_id.slots
+          c.token.inside.reference.handle _ c.actor.inside.seat.me c.load-found.new.seat.me
+          c.load-found.ensures.2 c.actor.invariant.2)),
     )
 
 pub returns-clause-ready : goal.returns-clause-ready
 returns-clause-ready g c =
     let (w, found, lk0) =
-    looks-saw c.self.inside.inner.shared.table_id.slots c.token.inside.reference.handle 0 0 _ c.actor.inside.seat.me c.load-found.new.seat.me c.load-found.ensures.2 in
+    looks-saw c.self.inside.inner.shared.table_id.slots c.token.inside.reference.handle 0 0 _
+    c.actor.inside.seat.me c.load-found.new.seat.me c.load-found.ensures.2 in
     let word : Word = c.in-Ok.word in
     let same : w ≡ word = packed-injective w word (found ∙ sym c.in-Ok.ensures.ok.1) in
     let mid : Known = known_of c.load-found.new.seat.me.0 in
     let lk : Looked c.token.inside.reference.handle word (known_of c.actor.inside.seat.me.0) mid =
     subst (λ (z : Word). Looked c.token.inside.reference.handle z
     (known_of c.actor.inside.seat.me.0) mid) same lk0 in
-    let sit = looks-seated c.self.inside.inner.shared.table_id.slots c.token.inside.reference.handle 0 0 _ _ _ c.actor.inside.config c.actor.inside.number c.actor.invariant.0 c.load-found.ensures.2 in
+    let sit = looks-seated c.self.inside.inner.shared.table_id.slots c.token.inside.reference.handle
+    0 0 _ _ _ c.actor.inside.config c.actor.inside.number c.actor.invariant.0
+    c.load-found.ensures.2 in
     let don : IsCompleted word c.token.inside.reference.generation =
     c.is_completed.ensures.0 c.if-not-is_completed.false in
     let t = inward (IsInFlight)
-    (known_of c.actor.inside.seat.me.0) c.args.actor.now.known c.token.inside.reference c.args.token (ap (λ x. x.known) c.actor.view_is) (c.token.view_is) (c.requires.token) in
+    (known_of c.actor.inside.seat.me.0) c.args.actor.now.known c.token.inside.reference c.args.token
+    (ap (λ x. x.known) c.actor.view_is) (c.token.view_is) (c.requires.token) in
     let t2 = flight-looked c.token.inside.reference.handle word
     (known_of c.actor.inside.seat.me.0) mid c.token.inside.reference lk t in
     let saw-it = seen-completed c.token.inside.reference.handle word
     (known_of c.actor.inside.seat.me.0) mid c.token.inside.reference.generation lk don in
     let made0 = got-told g.R.Record.label g.R.Record.aim
-    (g.R.Record.fits g.W.World.told g.W.World.relations) c.self.inside.inner.shared.table_id.slots c.token.inside.reference.handle _ c.load-found.new.seat.me c.fetch_add.new.seat.me c.fetch_add.ensures.2 c.token.inside.reference.generation t2 saw-it c.in-Some.io
+    (g.R.Record.fits g.W.World.told g.W.World.relations) c.self.inside.inner.shared.table_id.slots
+    c.token.inside.reference.handle _ c.load-found.new.seat.me c.fetch_add.new.seat.me
+    c.fetch_add.ensures.2 c.token.inside.reference.generation t2 saw-it c.in-Some.io
     (c.exchange.ensures.2 ∙ ap
-    (λ z. (c.token.inside.reference.handle, z) ∷ rest c.fetch_add.new.seat.me.1) c.in-Some.is) c.exchange.new.seat.me (ap (λ x. x.0) c.exchange.ensures.3) in
+    (λ z. (c.token.inside.reference.handle, z) ∷ rest c.fetch_add.new.seat.me.1) c.in-Some.is)
+    c.exchange.new.seat.me (ap (λ x. x.0) c.exchange.ensures.3) in
     let q : Known = known_of c.exchange.new.seat.me.0 in (
       c.token.view_is,
-      (local-token c.token.inside.reference.handle c.token.inside.reference.generation [] mid q sit.keeps made0.0 made0.1),
+      (local-token c.token.inside.reference.handle c.token.inside.reference.generation [] mid q
+          sit.keeps made0.0 made0.1),
       subst (λ (z : WaitRef × Known). TakesOut z.0 z.1 q (g.R.Record.label c.in-Some.io))
           (λ k. (c.token.view_is k, (c.actor.view_is k).known)) record {
             between = mid;
@@ -141,26 +176,33 @@ returns-clause-ready g c =
 pub returns-clause-record : goal.returns-clause-record
 returns-clause-record g c =
     let (w, found, lk0) =
-    looks-saw c.self.inside.inner.shared.table_id.slots c.token.inside.reference.handle 0 0 _ c.actor.inside.seat.me c.load-found.new.seat.me c.load-found.ensures.2 in
+    looks-saw c.self.inside.inner.shared.table_id.slots c.token.inside.reference.handle 0 0 _
+    c.actor.inside.seat.me c.load-found.new.seat.me c.load-found.ensures.2 in
     let word : Word = c.in-Ok.word in
     let same : w ≡ word = packed-injective w word (found ∙ sym c.in-Ok.ensures.ok.1) in
     let mid : Known = known_of c.load-found.new.seat.me.0 in
     let lk : Looked c.token.inside.reference.handle word (known_of c.actor.inside.seat.me.0) mid =
     subst (λ (z : Word). Looked c.token.inside.reference.handle z
     (known_of c.actor.inside.seat.me.0) mid) same lk0 in
-    let sit = looks-seated c.self.inside.inner.shared.table_id.slots c.token.inside.reference.handle 0 0 _ _ _ c.actor.inside.config c.actor.inside.number c.actor.invariant.0 c.load-found.ensures.2 in
+    let sit = looks-seated c.self.inside.inner.shared.table_id.slots c.token.inside.reference.handle
+    0 0 _ _ _ c.actor.inside.config c.actor.inside.number c.actor.invariant.0
+    c.load-found.ensures.2 in
     let don : IsCompleted word c.token.inside.reference.generation =
     c.is_completed.ensures.0 c.if-not-is_completed.false in
     let t = inward (IsInFlight)
-    (known_of c.actor.inside.seat.me.0) c.args.actor.now.known c.token.inside.reference c.args.token (ap (λ x. x.known) c.actor.view_is) (c.token.view_is) (c.requires.token) in
+    (known_of c.actor.inside.seat.me.0) c.args.actor.now.known c.token.inside.reference c.args.token
+    (ap (λ x. x.known) c.actor.view_is) (c.token.view_is) (c.requires.token) in
     let t2 = flight-looked c.token.inside.reference.handle word
     (known_of c.actor.inside.seat.me.0) mid c.token.inside.reference lk t in
     let saw-it = seen-completed c.token.inside.reference.handle word
     (known_of c.actor.inside.seat.me.0) mid c.token.inside.reference.generation lk don in
     let made0 = got-told g.R.Record.label g.R.Record.aim
-    (g.R.Record.fits g.W.World.told g.W.World.relations) c.self.inside.inner.shared.table_id.slots c.token.inside.reference.handle _ c.load-found.new.seat.me c.fetch_add.new.seat.me c.fetch_add.ensures.2 c.token.inside.reference.generation t2 saw-it c.in-Some.io
+    (g.R.Record.fits g.W.World.told g.W.World.relations) c.self.inside.inner.shared.table_id.slots
+    c.token.inside.reference.handle _ c.load-found.new.seat.me c.fetch_add.new.seat.me
+    c.fetch_add.ensures.2 c.token.inside.reference.generation t2 saw-it c.in-Some.io
     (c.exchange.ensures.2 ∙ ap
-    (λ z. (c.token.inside.reference.handle, z) ∷ rest c.fetch_add.new.seat.me.1) c.in-Some.is) c.exchange.new.seat.me (ap (λ x. x.0) c.exchange.ensures.3) in (
+    (λ z. (c.token.inside.reference.handle, z) ∷ rest c.fetch_add.new.seat.me.1) c.in-Some.is)
+    c.exchange.new.seat.me (ap (λ x. x.0) c.exchange.ensures.3) in (
       made0.4,
       subst (λ (z : WaitRef × Known). (aim : List ℕ) → IsIn (z.0, aim) z.1.aims
           → g.R.Record.aim c.in-Some.io ≡ aim) (λ k. (c.token.view_is k, (c.actor.view_is k).known))
@@ -172,26 +214,33 @@ returns-clause-record g c =
 pub returns-clause-alone : goal.returns-clause-alone
 returns-clause-alone g c =
     let (w, found, lk0) =
-    looks-saw c.self.inside.inner.shared.table_id.slots c.token.inside.reference.handle 0 0 _ c.actor.inside.seat.me c.load-found.new.seat.me c.load-found.ensures.2 in
+    looks-saw c.self.inside.inner.shared.table_id.slots c.token.inside.reference.handle 0 0 _
+    c.actor.inside.seat.me c.load-found.new.seat.me c.load-found.ensures.2 in
     let word : Word = c.in-Ok.word in
     let same : w ≡ word = packed-injective w word (found ∙ sym c.in-Ok.ensures.ok.1) in
     let mid : Known = known_of c.load-found.new.seat.me.0 in
     let lk : Looked c.token.inside.reference.handle word (known_of c.actor.inside.seat.me.0) mid =
     subst (λ (z : Word). Looked c.token.inside.reference.handle z
     (known_of c.actor.inside.seat.me.0) mid) same lk0 in
-    let sit = looks-seated c.self.inside.inner.shared.table_id.slots c.token.inside.reference.handle 0 0 _ _ _ c.actor.inside.config c.actor.inside.number c.actor.invariant.0 c.load-found.ensures.2 in
+    let sit = looks-seated c.self.inside.inner.shared.table_id.slots c.token.inside.reference.handle
+    0 0 _ _ _ c.actor.inside.config c.actor.inside.number c.actor.invariant.0
+    c.load-found.ensures.2 in
     let don : IsCompleted word c.token.inside.reference.generation =
     c.is_completed.ensures.0 c.if-not-is_completed.false in
     let t = inward (IsInFlight)
-    (known_of c.actor.inside.seat.me.0) c.args.actor.now.known c.token.inside.reference c.args.token (ap (λ x. x.known) c.actor.view_is) (c.token.view_is) (c.requires.token) in
+    (known_of c.actor.inside.seat.me.0) c.args.actor.now.known c.token.inside.reference c.args.token
+    (ap (λ x. x.known) c.actor.view_is) (c.token.view_is) (c.requires.token) in
     let t2 = flight-looked c.token.inside.reference.handle word
     (known_of c.actor.inside.seat.me.0) mid c.token.inside.reference lk t in
     let saw-it = seen-completed c.token.inside.reference.handle word
     (known_of c.actor.inside.seat.me.0) mid c.token.inside.reference.generation lk don in
     let made0 = got-told g.R.Record.label g.R.Record.aim
-    (g.R.Record.fits g.W.World.told g.W.World.relations) c.self.inside.inner.shared.table_id.slots c.token.inside.reference.handle _ c.load-found.new.seat.me c.fetch_add.new.seat.me c.fetch_add.ensures.2 c.token.inside.reference.generation t2 saw-it c.in-Some.io
+    (g.R.Record.fits g.W.World.told g.W.World.relations) c.self.inside.inner.shared.table_id.slots
+    c.token.inside.reference.handle _ c.load-found.new.seat.me c.fetch_add.new.seat.me
+    c.fetch_add.ensures.2 c.token.inside.reference.generation t2 saw-it c.in-Some.io
     (c.exchange.ensures.2 ∙ ap
-    (λ z. (c.token.inside.reference.handle, z) ∷ rest c.fetch_add.new.seat.me.1) c.in-Some.is) c.exchange.new.seat.me (ap (λ x. x.0) c.exchange.ensures.3) in
+    (λ z. (c.token.inside.reference.handle, z) ∷ rest c.fetch_add.new.seat.me.1) c.in-Some.is)
+    c.exchange.new.seat.me (ap (λ x. x.0) c.exchange.ensures.3) in
     let same-config = (sym c.actor.invariant.0.config ∙ ap (λ x. x.known.config) c.actor.view_is) ∙
     (c.requires.table.1 ∙ sym (ap (λ x. x.config) c.self.view_is)) in
     let range = subst (λ z. c.token.inside.reference.handle < handles z) (sym same-config)
@@ -200,12 +249,17 @@ returns-clause-alone g c =
     λ one. subst (λ (z : Class). LivedAlone c.token.inside.reference z
     (known_of c.exchange.new.seat.me.0)) (sym (ap (λ (l : Label). l.ended) made0.2))
     (lived c.actor.inside.config mid
-    (known_of c.exchange.new.seat.me.0) c.token.inside.reference.handle made0.0 c.token.inside.reference.generation [] sit.keeps sit.config range made0.1 (subst (λ (z : Config). actors z ≡ 1) (sym ((sym c.actor.invariant.0.config ∙ ap (λ x. x.known.config) c.actor.view_is) ∙ c.requires.table.1)) one))
+    (known_of c.exchange.new.seat.me.0) c.token.inside.reference.handle made0.0
+    c.token.inside.reference.generation [] sit.keeps sit.config range made0.1
+    (subst (λ (z : Config). actors z ≡ 1) (sym
+    ((sym c.actor.invariant.0.config ∙ ap (λ x. x.known.config) c.actor.view_is)
+    ∙ c.requires.table.1)) one))
 
 pub returns-then-not-is_completed-clause-not_yet : goal.returns-then-not-is_completed-clause-not_yet
 returns-then-not-is_completed-clause-not_yet g c =
     let (w, found, lk0) =
-    looks-saw c.self.inside.inner.shared.table_id.slots c.token.inside.reference.handle 0 0 _ c.actor.inside.seat.me c.load-found.new.seat.me c.load-found.ensures.2 in
+    looks-saw c.self.inside.inner.shared.table_id.slots c.token.inside.reference.handle 0 0 _
+    c.actor.inside.seat.me c.load-found.new.seat.me c.load-found.ensures.2 in
     let word : Word = c.in-Ok.word in
     let same : w ≡ word = packed-injective w word (found ∙ sym c.in-Ok.ensures.ok.1) in
     let mid : Known = known_of c.load-found.new.seat.me.0 in
@@ -213,7 +267,8 @@ returns-then-not-is_completed-clause-not_yet g c =
     subst (λ (z : Word). Looked c.token.inside.reference.handle z
     (known_of c.actor.inside.seat.me.0) mid) same lk0 in
     let t = inward (IsInFlight)
-    (known_of c.actor.inside.seat.me.0) c.args.actor.now.known c.token.inside.reference c.args.token (ap (λ x. x.known) c.actor.view_is) (c.token.view_is) (c.requires.token) in
+    (known_of c.actor.inside.seat.me.0) c.args.actor.now.known c.token.inside.reference c.args.token
+    (ap (λ x. x.known) c.actor.view_is) (c.token.view_is) (c.requires.token) in
     let early : IsCompleted word c.token.inside.reference.generation → ⊥ =
     λ d. not-both c.is_completed.result
     (c.is_completed.ensures.1 d) c.if-not-is_completed.true in (

@@ -1,0 +1,77 @@
+//! Whole lives of handles, and how they are counted.
+ghost use Rattle.std.specs.Prelude.{◌≡◌};
+
+use crate::tests::note::{Note, closed, hand_in, last, live, live_on, nobody};
+use crate::{AcquireRefusal, Table};
+use page_check::World;
+use std::alloc::{AllocError, Global};
+use std::marker::Brand;
+
+/// Acquire, release, acquire, a refusal, and a whole life of what was acquired.
+fn lived_once<W: World>(
+    alloc: Global,
+) -> Result<Option<(AcquireRefusal, (u128, u128, u128))>, AllocError>
+    requires { W.handles ≡ 1 }
+{
+    let (table, mut actors) = Table::<Note, W>::open(alloc, 1, 1, 0, 0)?;
+    let Some(mut actor) = last(&table, &mut actors) else {
+        return Ok(None);
+    };
+    let Ok(token) = table.acquire(&mut actor) else {
+        return Ok(None);
+    };
+    table.release(&mut actor, token);
+    let Ok(token) = table.acquire(&mut actor) else {
+        return Ok(None);
+    };
+    let Err(refusal) = table.acquire(&mut actor) else {
+        return Ok(None);
+    };
+    if !live_on(&table, &mut actor, token) {
+        return Ok(None);
+    }
+    let mut all = nobody(&table, alloc);
+    hand_in(&table, &mut all, actor)?;
+    Ok(Some((refusal, closed(table, all))))
+}
+
+#[test]
+fn a_life_is_counted_once(rt: HostRuntime) -> Result<(), AllocError> {
+    let Some((refusal, totals)) = lived_once::<Brand>(rt.alloc())? else {
+        panic!(&rt; "a handle is free")
+    };
+    assert!(&rt; refusal == AcquireRefusal::OneIsOut);
+    assert!(&rt; totals == (1, 1, 0));
+    Ok(())
+}
+
+/// The last life of a handle, and the refusal after it.
+fn lived_to_the_end<W: World>(
+    alloc: Global,
+) -> Result<Option<(AcquireRefusal, (u128, u128, u128))>, AllocError>
+    requires { W.handles ≡ 1 }
+{
+    let (table, mut actors) = Table::<Note, W>::open(alloc, 1, 1, 0, (1 << 58) - 2)?;
+    let Some(mut actor) = last(&table, &mut actors) else {
+        return Ok(None);
+    };
+    if !live(&table, &mut actor) {
+        return Ok(None);
+    }
+    let Err(refusal) = table.acquire(&mut actor) else {
+        return Ok(None);
+    };
+    let mut all = nobody(&table, alloc);
+    hand_in(&table, &mut all, actor)?;
+    Ok(Some((refusal, closed(table, all))))
+}
+
+#[test]
+fn one_life_before_the_last_generation(rt: HostRuntime) -> Result<(), AllocError> {
+    let Some((refusal, totals)) = lived_to_the_end::<Brand>(rt.alloc())? else {
+        panic!(&rt; "a handle is free")
+    };
+    assert!(&rt; refusal == AcquireRefusal::NoneFree);
+    assert!(&rt; totals == (1, 1, 0));
+    Ok(())
+}

@@ -1,0 +1,119 @@
+//! When a backend gets a handle, and why it gets none.
+ghost use Rattle.std.specs.Prelude.{◌≡◌};
+
+use crate::tests::note::{Note, fresh, last, submitted};
+use crate::{AcquireRefusal, Table};
+use aio_word::WaitRef;
+use page_check::World;
+use std::alloc::{AllocError, Global};
+use std::marker::Brand;
+
+/// Acquire, release, acquire, and one more acquire, whose refusal comes back with the reference
+/// of what is then defined.
+fn acquired_twice<W: World>(alloc: Global) -> Result<Option<(AcquireRefusal, WaitRef)>, AllocError>
+    requires { W.handles ≡ 1 }
+{
+    let (table, mut actors) = Table::<Note, W>::open(alloc, 1, 1, 0, 0)?;
+    let Some(mut actor) = last(&table, &mut actors) else {
+        return Ok(None);
+    };
+    let Ok(token) = table.acquire(&mut actor) else {
+        return Ok(None);
+    };
+    table.release(&mut actor, token);
+    let Ok(token) = table.acquire(&mut actor) else {
+        return Ok(None);
+    };
+    let Err(refusal) = table.acquire(&mut actor) else {
+        return Ok(None);
+    };
+    let defined = table.define(&mut actor, token, fresh());
+    Ok(Some((refusal, defined.reference())))
+}
+
+#[test]
+fn one_is_out_until_it_is_released(rt: HostRuntime) -> Result<(), AllocError> {
+    let Some((refusal, reference)) = acquired_twice::<Brand>(rt.alloc())? else {
+        panic!(&rt; "a handle is free")
+    };
+    assert!(&rt; refusal == AcquireRefusal::OneIsOut);
+    assert!(&rt; reference.handle == 0 && reference.generation == 0);
+    Ok(())
+}
+
+/// The two handles of a backend, one after the other, and the refusals between.
+fn both_handles<W: World>(
+    alloc: Global,
+) -> Result<Option<(AcquireRefusal, WaitRef, WaitRef, AcquireRefusal)>, AllocError>
+    requires { W.handles ≡ 2 }
+{
+    let (table, mut actors) = Table::<Note, W>::open(alloc, 1, 2, 0, 0)?;
+    let Some(mut actor) = last(&table, &mut actors) else {
+        return Ok(None);
+    };
+    let Ok(token) = table.acquire(&mut actor) else {
+        return Ok(None);
+    };
+    let Err(out) = table.acquire(&mut actor) else {
+        return Ok(None);
+    };
+    table.release(&mut actor, token);
+    let Ok(token) = table.acquire(&mut actor) else {
+        return Ok(None);
+    };
+    let one = submitted(&table, &mut actor, token);
+    let Ok(token) = table.acquire(&mut actor) else {
+        return Ok(None);
+    };
+    let other = table.define(&mut actor, token, fresh());
+    let Err(none) = table.acquire(&mut actor) else {
+        return Ok(None);
+    };
+    Ok(Some((out, one.reference(), other.reference(), none)))
+}
+
+#[test]
+fn each_handle_is_given_once(rt: HostRuntime) -> Result<(), AllocError> {
+    let Some((out, one, other, none)) = both_handles::<Brand>(rt.alloc())? else {
+        panic!(&rt; "a handle is free")
+    };
+    assert!(&rt; out == AcquireRefusal::OneIsOut);
+    assert!(&rt; one.handle != other.handle && one.handle < 2 && other.handle < 2);
+    assert!(&rt; one.generation == 0 && other.generation == 0);
+    assert!(&rt; none == AcquireRefusal::NoneFree);
+    Ok(())
+}
+
+/// The refusal of a backend whose handle begins at the last generation, its room and its number,
+/// and the room and the number of a runner.
+fn at_the_end<W: World>(
+    alloc: Global,
+) -> Result<Option<(AcquireRefusal, (u64, u32), (u64, u32))>, AllocError>
+    requires { W.handles ≡ 1 }
+{
+    let (table, mut actors) = Table::<Note, W>::open(alloc, 1, 1, 1, (1 << 58) - 1)?;
+    let Some(runner) = last(&table, &mut actors) else {
+        return Ok(None);
+    };
+    let Some(mut backend) = last(&table, &mut actors) else {
+        return Ok(None);
+    };
+    let Err(none) = table.acquire(&mut backend) else {
+        return Ok(None);
+    };
+    Ok(Some((
+        none,
+        (backend.room(), backend.number()),
+        (runner.room(), runner.number()),
+    )))
+}
+
+#[test]
+fn the_last_generation_is_not_given(rt: HostRuntime) -> Result<(), AllocError> {
+    let Some((none, backend, runner)) = at_the_end::<Brand>(rt.alloc())? else {
+        panic!(&rt; "no handle is free")
+    };
+    assert!(&rt; none == AcquireRefusal::NoneFree);
+    assert!(&rt; backend == (0, 0) && runner == (0, 1));
+    Ok(())
+}

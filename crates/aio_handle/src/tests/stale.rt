@@ -1,0 +1,76 @@
+//! References of generations before and after that of an I/O in flight.
+ghost use Rattle.std.specs.Prelude.{◌≡◌};
+
+use crate::tests::note::{Note, last, live, submitted};
+use crate::{Table, Take};
+use aio_word::WaitRef;
+use page_check::World;
+use std::alloc::{AllocError, Global};
+use std::marker::Brand;
+
+/// What the calls answer to references of the generations before, at and after that of an I/O in
+/// flight.
+#[derive(Drop)]
+struct Stale {
+    checks: [bool; 3],
+    claims: [bool; 3],
+    early: bool,
+}
+
+fn of_three_generations<W: World>(alloc: Global) -> Result<Option<Stale>, AllocError>
+    requires { W.handles ≡ 1 }
+{
+    let (table, mut actors) = Table::<Note, W>::open(alloc, 1, 1, 1, 5)?;
+    let Some(mut runner) = last(&table, &mut actors) else {
+        return Ok(None);
+    };
+    let Some(mut backend) = last(&table, &mut actors) else {
+        return Ok(None);
+    };
+    if !live(&table, &mut backend) {
+        return Ok(None);
+    }
+    let Ok(token) = table.acquire(&mut backend) else {
+        return Ok(None);
+    };
+    let token = submitted(&table, &mut backend, token);
+    let old = WaitRef {
+        handle: 0,
+        generation: 5,
+    };
+    let now = WaitRef {
+        handle: 0,
+        generation: 6,
+    };
+    let later = WaitRef {
+        handle: 0,
+        generation: 7,
+    };
+    let checks = [
+        table.check(&mut runner, old),
+        table.check(&mut runner, now),
+        table.check(&mut runner, later),
+    ];
+    let claims = [
+        table.claim(&mut runner, old).is_some(),
+        table.claim(&mut runner, now).is_some(),
+        table.claim(&mut runner, now).is_some(),
+    ];
+    let early = matches!(table.try_take(&mut backend, token), Take::NotYet(_));
+    Ok(Some(Stale {
+        checks,
+        claims,
+        early,
+    }))
+}
+
+#[test]
+fn stale_reference(rt: HostRuntime) -> Result<(), AllocError> {
+    let Some(stale) = of_three_generations::<Brand>(rt.alloc())? else {
+        panic!(&rt; "a handle is free")
+    };
+    assert!(&rt; stale.checks == [true, false, false]);
+    assert!(&rt; stale.claims == [false, true, false]);
+    assert!(&rt; stale.early);
+    Ok(())
+}
