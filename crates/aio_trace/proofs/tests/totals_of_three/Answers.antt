@@ -1,0 +1,10 @@
+use Rattle.aio_trace.proofs.tests.totals_of_three.Goals as goal
+
+pub life-requires-2-clause-owner : goal.life-requires-2-clause-owner
+life-requires-2-clause-owner g c = c.life.ensures.owner c.if-not-life.false
+
+pub life-requires-3-clause-owner : goal.life-requires-3-clause-owner
+life-requires-3-clause-owner g c = c.life-2.ensures.owner c.if-not-life-2.false
+
+pub hand_in-requires-clause-rests : goal.hand_in-requires-clause-rests
+hand_in-requires-clause-rests g c = c.life-3.ensures.owner c.if-not-life-3.false

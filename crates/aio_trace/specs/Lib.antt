@@ -1,0 +1,2 @@
+pub mod TotalsText
+pub mod Replay

@@ -1,0 +1,292 @@
+//! A run that goes wrong at its third event, and lines of totals, one of a table that was used.
+ghost use Rattle.std.specs.Prelude.{◌≡◌, ◌<◌, ◌+◌, IsTrue, IfOk, IfSome, length};
+ghost use Rattle.aio_word.specs.Tokens.{IsInFlight};
+ghost use Rattle.aio_handle.specs.Closing.{IsAtRest};
+ghost use Rattle.aio_handle.specs.Ruled.{newcomer};
+ghost use Rattle.aio_handle.specs.Shown.{IsOf, IsSame, AreNew};
+ghost use Rattle.aio_handle.specs.Trials.{EndsLife, IsLaunched, AreHandedIn};
+
+use crate::text::numbers_line;
+use crate::{ReplayAnswer, replay, totals_text};
+use aio_core::StepRefusal;
+use aio_handle::{Actor, InFlight, Label, Record, Table, Take, Totals};
+use aio_word::{Class, Event, Step, WaitRef};
+use page_check::World;
+use std::alloc::{AllocError, Global};
+use std::marker::Brand;
+use std::test::Fail;
+
+fn event(actor: u32, step: Step) -> Event {
+    Event {
+        actor,
+        handle: 0,
+        generation: 0,
+        step,
+    }
+}
+
+/// A claim of a handle that is defined and not submitted is the first bad event of its run; the
+/// two events before it are lawful, and the machine after them refuses the claim.
+#[test]
+fn a_claim_before_submit_is_bad(rt: HostRuntime) -> Result<(), Fail> {
+    let alloc = rt.alloc();
+    let claim = event(1, Step::Claim);
+    let events = [event(0, Step::HandOut), event(0, Step::Define), claim];
+    let whole = replay(alloc, 1, 1, 1, 0, &events);
+    assert!(rt; matches!(&whole, ReplayAnswer::FirstBad(2)));
+    let ReplayAnswer::Lawful(mut machine) = replay(alloc, 1, 1, 1, 0, &events[..2]) else {
+        panic!(rt; "the first two events are lawful")
+    };
+    let refused = StepRefusal::NotAllowed {
+        event: claim,
+        word: Some(2),
+    };
+    assert!(rt; machine.step(claim) == Err(refused));
+    Ok(())
+}
+
+#[test]
+fn numbers_of_up_to_39_digits(rt: HostRuntime) -> Result<(), Fail> {
+    let rows = [
+        (0, 0, 0, "incarnations 0 workers 0 backends 0\n"),
+        (28, 20, 8, "incarnations 28 workers 20 backends 8\n"),
+        (
+            18446744073709551616,
+            18446744073709551615,
+            1,
+            "incarnations 18446744073709551616 workers 18446744073709551615 backends 1\n",
+        ),
+        (
+            u128::MAX,
+            10,
+            340282366920938463463374607431768211445,
+            "incarnations 340282366920938463463374607431768211455 workers 10 \
+             backends 340282366920938463463374607431768211445\n",
+        ),
+    ];
+    for (incarnations, workers, backends, line) in rows {
+        let text = numbers_line(rt.alloc(), incarnations, workers, backends)?;
+        assert_eq!(rt; text.as_str(), line);
+    }
+    Ok(())
+}
+
+/// A record that reads nothing.
+#[derive(Drop)]
+struct Note {
+    label: Label,
+}
+
+impl Record for Note {
+    ghost use Rattle.std.specs.Prelude.{[]};
+
+    ghost label = { λ r. r.label };
+
+    ghost aim = { λ r. [] };
+
+    ghost fits = { λ told relations r. Unit {0} };
+
+    fn bind(&mut self, handle: u32, generation: u64) {
+        self.label = Label {
+            handle,
+            generation,
+            ended: Class::Unended,
+            settled: false,
+        };
+    }
+
+    fn handle(&self) -> u32 {
+        self.label.handle
+    }
+
+    fn generation(&self) -> u64 {
+        self.label.generation
+    }
+
+    fn ended(&self) -> Class {
+        self.label.ended
+    }
+
+    fn settled(&self) -> bool {
+        self.label.settled
+    }
+}
+
+fn fresh() -> Note {
+    Note {
+        label: Label {
+            handle: 0,
+            generation: 0,
+            ended: Class::Unended,
+            settled: false,
+        },
+    }
+}
+
+/// An I/O of a backend's handle that is free, up to submit.
+fn launched<W: World>(table: &Table<Note, W>, backend: &mut Actor<Note, W>) -> Option<InFlight<W>>
+    requires table { IsOf table.now backend.old }
+    requires backend { backend.old.known.number < table.now.config.backends }
+    requires rests { IsAtRest backend.old.known }
+    ensures same { IsSame backend.old backend.new }
+    ensures token { IfSome result (λ t. IsInFlight backend.new.known t) }
+    ensures launched { IfSome result (λ t. IsLaunched t backend.new.known) }
+{
+    let Ok(token) = table.acquire(backend) else {
+        return None;
+    };
+    let token = table.define(backend, token, fresh());
+    let token = table.stage(backend, token);
+    Some(table.submit(backend, token))
+}
+
+/// Claims an I/O and ends it whole, where nobody has claimed it before.
+fn executed<W: World>(
+    table: &Table<Note, W>,
+    actor: &mut Actor<Note, W>,
+    reference: WaitRef,
+) -> bool
+    requires table { IsOf table.now actor.old }
+    requires range { reference.handle < W.handles }
+    requires rests { IsAtRest actor.old.known }
+    ensures same { IsSame actor.old actor.new }
+    ensures rests { IsAtRest actor.new.known }
+{
+    let Some(mut claimed) = table.claim(actor, reference) else {
+        return false;
+    };
+    claimed.record_mut().label.ended = Class::Whole;
+    table.complete_io(actor, &mut claimed, Class::Whole);
+    table.complete_shared(actor, claimed);
+    true
+}
+
+/// The result of an I/O is taken and its handle reclaimed, where it has ended.
+fn taken_back<W: World>(
+    table: &Table<Note, W>,
+    backend: &mut Actor<Note, W>,
+    token: InFlight<W>,
+) -> bool
+    requires table { IsOf table.now backend.old }
+    requires token { IsInFlight backend.old.known token }
+    ensures same { IsSame backend.old backend.new }
+    ensures ended { IsTrue result → EndsLife token backend.old.known backend.new.known }
+{
+    let Take::Ready(mut local) = table.try_take(backend, token) else {
+        return false;
+    };
+    local.record_mut().label.settled = true;
+    table.reclaim(backend, local);
+    true
+}
+
+/// One life of a handle of the owner's, whose I/O the other actor executes.
+fn life<W: World>(
+    table: &Table<Note, W>,
+    owner: &mut Actor<Note, W>,
+    other: &mut Actor<Note, W>,
+) -> bool
+    requires table { IsOf table.now owner.old × IsOf table.now other.old }
+    requires backend { owner.old.known.number < table.now.config.backends }
+    requires owner { IsAtRest owner.old.known }
+    requires other { IsAtRest other.old.known }
+    ensures same { IsSame owner.old owner.new × IsSame other.old other.new }
+    ensures owner { IsTrue result → IsAtRest owner.new.known }
+    ensures other { IsAtRest other.new.known }
+{
+    let Some(token) = launched(table, owner) else {
+        return false;
+    };
+    executed(table, other, token.reference()) && taken_back(table, owner, token)
+}
+
+/// The last of the actors of a new table.
+fn last<W: World>(
+    table: &Table<Note, W>,
+    actors: &mut Vec<Actor<Note, W>>,
+) -> Option<Actor<Note, W>>
+    requires { AreNew table.now 0 actors.old.items }
+    ensures left { AreNew table.now 0 actors.new.items }
+    ensures number { 0 < length actors.old.items
+        → length actors.new.items + 1 ≡ length actors.old.items }
+    ensures actor { IfSome result
+        (λ a. a ≡ record {
+          table = table.now.table;
+          known =
+              newcomer table.now.config (length actors.new.items);
+        }) }
+{
+    match actors.pop() {
+        Some(actor) => Some(actor),
+        None => None,
+    }
+}
+
+/// No actor is handed in yet.
+fn nobody<W: World>(table: &Table<Note, W>, alloc: Global) -> Vec<Actor<Note, W>>
+    ensures all { AreHandedIn table.now result.items }
+    ensures count { length result.items ≡ 0 }
+{
+    let _ = table;
+    Vec::new(alloc)
+}
+
+/// Hands an actor in, which is at rest.
+fn hand_in<W: World>(
+    table: &Table<Note, W>,
+    actors: &mut Vec<Actor<Note, W>>,
+    actor: Actor<Note, W>,
+) -> Result<(), AllocError>
+    requires table { IsOf table.now actor }
+    requires rests { IsAtRest actor.known }
+    requires others { AreHandedIn table.now actors.old.items }
+    ensures all { IfOk result (λ _. AreHandedIn table.now actors.new.items) }
+    ensures count { IfOk result (λ _. length actors.new.items ≡ length actors.old.items + 1) }
+{
+    actors.push(actor)?;
+    Ok(())
+}
+
+/// The totals of three lives of a backend's handle, one executed by the runner and two by another
+/// backend.
+fn totals_of_three<W: World>(alloc: Global) -> Result<Option<Totals>, AllocError>
+    requires { W.handles ≡ 2 }
+{
+    let (table, mut actors) = Table::<Note, W>::open(alloc, 2, 1, 1, 0)?;
+    let Some(mut runner) = last(&table, &mut actors) else {
+        return Ok(None);
+    };
+    let Some(mut other) = last(&table, &mut actors) else {
+        return Ok(None);
+    };
+    let Some(mut owner) = last(&table, &mut actors) else {
+        return Ok(None);
+    };
+    if !life(&table, &mut owner, &mut other) {
+        return Ok(None);
+    }
+    if !life(&table, &mut owner, &mut runner) {
+        return Ok(None);
+    }
+    if !life(&table, &mut owner, &mut other) {
+        return Ok(None);
+    }
+    let mut all = nobody(&table, alloc);
+    hand_in(&table, &mut all, owner)?;
+    hand_in(&table, &mut all, other)?;
+    hand_in(&table, &mut all, runner)?;
+    Ok(Some(table.close(all)))
+}
+
+/// A worker is a runner, a backend is a backend, and the line stands behind what was there.
+#[test]
+fn a_runner_claims_one_of_three(rt: HostRuntime) -> Result<(), Fail> {
+    let Some(totals) = totals_of_three::<Brand>(rt.alloc())? else {
+        panic!(rt; "a handle is free")
+    };
+    let mut out = Vec::from_slice(rt.alloc(), b"before\n")?;
+    totals_text(&totals, &mut out)?;
+    let wanted = b"before\nincarnations 3 workers 1 backends 2\n";
+    assert_eq!(rt; out.as_slice(), wanted.as_slice());
+    Ok(())
+}
