@@ -3,3 +3,4 @@ pub mod Texts
 pub mod LineCounts
 pub mod FirstLines
 pub mod Jobs
+pub mod Summing

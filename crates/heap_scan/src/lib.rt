@@ -2,13 +2,16 @@
 //!
 //! `page_text` appends exactly the definition `page_text_of`, which is stated over the list of line
 //! pointers and decimal numbers, and two laws of that text stand beside it. `Listing` is the text
-//! of many pages.
+//! of many pages. `tally` adds a page to sums over pages, the definition `tallied`.
 #![tactic(auto)]
 
 mod backward;
+pub mod laws;
 mod lines;
+mod sums;
 mod text;
 
+pub use sums::{PageSums, tally};
 pub use text::page_text;
 
 #[cfg(test)]

@@ -1,5 +1,6 @@
-//! Texts of worked pages.
-use crate::page_text;
+//! Texts of worked pages, and sums over them.
+use crate::laws::a_page_adds_few;
+use crate::{PageSums, page_text, tally};
 use page_check::{Page, Verdict, check};
 use std::alloc::{AllocError, Global};
 use std::test::Fail;
@@ -77,5 +78,45 @@ fn items_up_to_2042(rt: HostRuntime) -> Result<(), Fail> {
     assert!(rt; check(&page) == Verdict::Sane);
     page_text(0, 0, &page, &mut out)?;
     assert_eq!(rt; out.as_slice(), wanted.as_str().as_bytes());
+    Ok(())
+}
+
+// The sums with one page more, where it is valid and they are small.
+fn with_page(mut sums: PageSums, page: &Page) -> PageSums {
+    let greatest = sums.pages.max(sums.zero).max(sums.items);
+    if greatest < 1_000_000 && check(page) != Verdict::Bad {
+        a_page_adds_few();
+        tally(page, &mut sums);
+    }
+    sums
+}
+
+// The pages of the texts above: each is counted once, one is all zeros, and they have 3, 1 and 2042
+// line pointers.
+#[test]
+fn sums_over_worked_pages(rt: HostRuntime) -> Result<(), Fail> {
+    let alloc = rt.alloc();
+    let rows: [((u16, u16, u16), &[u8], (u64, u64, u64)); 6] = [
+        ((24, 8192, 8192), &[], (1, 0, 0)),
+        ((0, 0, 0), &[], (2, 1, 0)),
+        ((20, 8184, 8184), &[], (3, 1, 0)),
+        (
+            (36, 8152, 8192),
+            &[0xd8, 0x9f, 0x50, 0, 5, 0, 1, 0, 0, 0x80, 1, 0],
+            (4, 1, 3),
+        ),
+        ((30, 8192, 8192), &[], (5, 1, 4)),
+        ((8192, 8192, 8192), &[], (6, 1, 2046)),
+    ];
+    let mut sums = PageSums::default();
+    for (bounds, items, (pages, zero, items_so_far)) in rows {
+        sums = with_page(sums, &page_of(alloc, bounds, items)?);
+        let wanted = PageSums {
+            pages,
+            zero,
+            items: items_so_far,
+        };
+        assert_eq!(rt; sums, wanted, "{pages} pages");
+    }
     Ok(())
 }

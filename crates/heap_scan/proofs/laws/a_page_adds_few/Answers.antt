@@ -1,0 +1,5 @@
+use Rattle.heap_scan.proofs.Summing.{adds_few}
+use Rattle.heap_scan.proofs.laws.a_page_adds_few.Goals as goal
+
+pub returns : goal.returns
+returns c = adds_few
