@@ -1,0 +1,180 @@
+-- The parts of backends and workers, and what was made of them.
+use Rattle.std.proofs.Common.{◌≡◌, ℕ, ◌+◌, ◌≤◌, List, [], ◌∷◌, ◌++◌, length, map, refl, sym}
+use Rattle.std.proofs.Common.{ap, ◌∙◌, subst, arith, append_assoc, length-append}
+use Rattle.std.specs.Prelude.{Option, Some, None, option_to_list}
+use Rattle.std.specs.Prelude.{◌*◌, ◌/◌, max, min, is_some, true}
+use Rattle.std.specs.List.{flat_map}
+use Rattle.std.specs.Vec.Iter.{into_iter_items}
+use Rattle.std.proofs.lemmas.Grind.{flat_map-append}
+use Rattle.std.proofs.lemmas.List.{map-append, length-map}
+use Rattle.std.proofs.lemmas.List.Elements.{All-append, All-nil}
+use Rattle.method_worker.specs.Shown.{Seating}
+use Rattle.read_stream.specs.Open.{IsFree}
+use Rattle.read_stream.specs.declared.desk.Desk.{Desk}
+use Rattle.read_stream.specs.declared.desk.Settings.{Settings}
+use Rattle.scan_rounds.specs.Opening.{AreStreamsOf, GivesHands, GivesBackends, GivesWorkers}
+use Rattle.scan_rounds.specs.Opening.{IsDeskFor}
+use Rattle.scan_rounds.specs.Rounds.{hand_of, hand_in}
+use Rattle.scan_rounds.specs.Scans.{actor_of, disk_of}
+use Rattle.scan_rounds.specs.declared.backend.Backend.{Backend}
+use Rattle.scan_rounds.specs.declared.hand.Hand.{Hand}
+use Rattle.scan_rounds.specs.declared.open.Parts.{Parts}
+use Rattle.scan_rounds.specs.declared.settings.ScanSettings.{ScanSettings}
+use Rattle.scan_rounds.specs.declared.worker.Worker.{Worker}
+
+-- two pieces of the front, one behind the other
+joined : {A : Type 0} (all us rest vs end : List A) → all ≡ us ++ rest → rest ≡ vs ++ end
+    → all ≡ (us ++ vs) ++ end
+joined {A} all us rest vs end e f =
+    e ∙ ap (λ (l : List A). us ++ l) f ∙ sym (append_assoc us vs end)
+
+mapped : {A B : Type 0} (f : A → B) (all rest end : List B) (us vs : List A)
+    → all ≡ map f us ++ rest → rest ≡ map f vs ++ end → all ≡ map f (us ++ vs) ++ end
+mapped {A} {B} f all rest end us vs e g = joined all (map f us) rest (map f vs) end e g
+    ∙ ap (λ (l : List B). l ++ end) (sym (map-append f us vs))
+
+flattened : {A B : Type 0} (f : A → List B) (all rest end : List B) (us vs : List A)
+    → all ≡ flat_map f us ++ rest → rest ≡ flat_map f vs ++ end
+    → all ≡ flat_map f (us ++ vs) ++ end
+flattened {A} {B} f all rest end us vs e g =
+    joined all (flat_map f us) rest (flat_map f vs) end e g
+    ∙ ap (λ (l : List B). l ++ end) (sym (flat_map-append f us vs))
+
+counted : {A B : Type 0} (f : A → B) (all rest : List B) (us : List A) → all ≡ map f us ++ rest
+    → length all ≡ length us + length rest
+counted f all rest us e =
+    let parts = ap length e ∙ length-append (map f us) rest in
+    let same = length-map us f in omega (arith, parts, same)
+
+one_at_most : (o : Option Seating) → length (option_to_list o) ≤ 1
+one_at_most None = omega arith
+one_at_most (Some s) = omega arith
+
+pub desk_for : {W : Type 0} (s : ScanSettings) (r : Settings) (d : Desk W (Unit {0})) → IsFree d
+    → (d.combine ≡ r.combine) × (d.ios ≡ r.ios) × (d.limit ≡ r.limit) × (d.full ≡ r.full)
+    × (d.batched ≡ r.batch) → AreStreamsOf s r → IsDeskFor s d
+desk_for s r d free same streams = record {
+  free = free;
+  streams = record {
+    combine = same.0 ∙ streams.combine;
+    ios = same.1 ∙ streams.ios;
+    limit = same.2 ∙ streams.limit
+        ∙ ap (λ (n : ℕ). max 1 (min (n * s.combine) (s.buffers / s.backends))) (sym same.1);
+    full = same.3 ∙ streams.full;
+    batch = same.4 ∙ streams.batch;
+  };
+}
+
+module _ {W D : Type 0} where
+  abbrev pub desk_in : Backend W D → Desk W (Unit {0})
+  desk_in b = b.desk
+
+  abbrev pub seats_in : Backend W D → List Seating
+  seats_in b = option_to_list b.seat
+
+  abbrev pub seat_in : Worker W D → Seating
+  seat_in w = w.seat
+
+  module _ (p q r : Parts W D) where
+    pub hands_more : (hs ks : List (Hand W D)) → GivesHands p q hs → GivesHands q r ks
+        → GivesHands p r (hs ++ ks)
+    hands_more hs ks g h = record {
+      actors = mapped actor_of _ _ _ hs ks g.actors h.actors;
+      disks = mapped disk_of _ _ _ hs ks g.disks h.disks;
+    }
+
+    pub backends_more : (bs cs : List (Backend W D)) → GivesBackends p q bs
+        → GivesBackends q r cs → GivesBackends p r (bs ++ cs)
+    backends_more bs cs g h = record {
+      hands = subst (λ (l : List (Hand W D)). GivesHands p r l) (sym (map-append hand_of bs cs))
+          (hands_more (map hand_of bs) (map hand_of cs) g.hands h.hands);
+      desks = mapped desk_in _ _ _ bs cs g.desks h.desks;
+      seats = flattened seats_in _ _ _ bs cs g.seats h.seats;
+      idle = All-append (λ (b : Backend W D). b.job.count ≡ 0) bs cs g.idle h.idle;
+      seated = λ some.
+          (let both = ap length h.seats ∙ length-append (flat_map seats_in cs) _ in
+          All-append (λ (b : Backend W D). is_some b.seat ≡ true) bs cs
+          (g.seated (omega (arith, both, some))) (h.seated some));
+    }
+
+    pub workers_more : (ws vs : List (Worker W D)) → GivesWorkers p q ws
+        → GivesWorkers q r vs → GivesWorkers p r (ws ++ vs)
+    workers_more ws vs g h = record {
+      hands = subst (λ (l : List (Hand W D)). GivesHands p r l) (sym (map-append hand_in ws vs))
+          (hands_more (map hand_in ws) (map hand_in vs) g.hands h.hands);
+      seats = mapped seat_in _ _ _ ws vs g.seats h.seats;
+      desks = h.desks ∙ g.desks;
+    }
+
+    -- in the list to which these were appended
+    pub backends_in : (bs cs all : List (Backend W D)) → all ≡ bs ++ cs → GivesBackends p q bs
+        → GivesBackends q r cs → GivesBackends p r all
+    backends_in bs cs all e g h = subst (λ (l : List (Backend W D)). GivesBackends p r l) (sym e)
+        (backends_more bs cs g h)
+
+    pub workers_among : (ws vs all : List (Worker W D)) → all ≡ ws ++ vs → GivesWorkers p q ws
+        → GivesWorkers q r vs → GivesWorkers p r all
+    workers_among ws vs all e g h = subst (λ (l : List (Worker W D)). GivesWorkers p r l) (sym e)
+        (workers_more ws vs g h)
+
+  pub no_backends : (p : Parts W D) → GivesBackends p p []
+  no_backends p = record {
+    hands = record { actors = refl; disks = refl };
+    desks = refl;
+    seats = refl;
+    idle = All-nil (λ (b : Backend W D). b.job.count ≡ 0);
+    seated = λ some. All-nil (λ (b : Backend W D). is_some b.seat ≡ true);
+  }
+
+  pub no_workers : (p : Parts W D) → GivesWorkers p p []
+  no_workers p =
+      record { hands = record { actors = refl; disks = refl }; seats = refl; desks = refl }
+
+  module _ (p r : Parts W D) where
+    pub actors_left : (hs : List (Hand W D)) → GivesHands p r hs
+        → length (into_iter_items p.actors) ≡ length hs + length (into_iter_items r.actors)
+    actors_left hs g = counted actor_of _ _ hs g.actors
+
+    pub disks_left : (hs : List (Hand W D)) → GivesHands p r hs
+        → length (into_iter_items p.disks) ≡ length hs + length (into_iter_items r.disks)
+    disks_left hs g =
+        let some : D → Option D = λ d. Some d in
+        let all = counted disk_of _ _ hs g.disks in
+        let was = length-map (into_iter_items p.disks) some in
+        let is = length-map (into_iter_items r.disks) some in omega (arith, all, was, is)
+
+    pub left_of_backends : (bs : List (Backend W D)) → GivesBackends p r bs
+        → (length (into_iter_items p.actors) ≡ length bs + length (into_iter_items r.actors))
+        × (length (into_iter_items p.disks) ≡ length bs + length (into_iter_items r.disks))
+        × (length (into_iter_items p.desks) ≡ length bs + length (into_iter_items r.desks))
+    left_of_backends bs g =
+        let many = length-map bs hand_of in
+        let actors = actors_left (map hand_of bs) g.hands in
+        let disks = disks_left (map hand_of bs) g.hands in
+        (omega (arith, many, actors), omega (arith, many, disks), counted desk_in _ _ bs g.desks)
+
+    pub left_of_workers : (ws : List (Worker W D)) → GivesWorkers p r ws
+        → (length (into_iter_items p.actors) ≡ length ws + length (into_iter_items r.actors))
+        × (length (into_iter_items p.disks) ≡ length ws + length (into_iter_items r.disks))
+        × (length (into_iter_items p.seats) ≡ length ws + length (into_iter_items r.seats))
+    left_of_workers ws g =
+        let many = length-map ws hand_in in
+        let actors = actors_left (map hand_in ws) g.hands in
+        let disks = disks_left (map hand_in ws) g.hands in
+        (omega (arith, many, actors), omega (arith, many, disks), counted seat_in _ _ ws g.seats)
+
+  few_seats : (bs : List (Backend W D)) → length (flat_map seats_in bs) ≤ length bs
+  few_seats [] = omega arith
+  few_seats (b ∷ bs) =
+      let rest = few_seats bs in
+      let one = one_at_most b.seat in
+      let both = length-append (option_to_list b.seat) (flat_map seats_in bs) in
+      omega (arith, rest, one, both)
+
+  -- a backend takes a seat at most
+  pub seats_least : (p r : Parts W D) (bs : List (Backend W D)) → GivesBackends p r bs
+      → length (into_iter_items p.seats) ≤ length bs + length (into_iter_items r.seats)
+  seats_least p r bs g =
+      let all = ap length g.seats
+      ∙ length-append (flat_map seats_in bs) (into_iter_items r.seats) in
+      let few = few_seats bs in omega (arith, all, few)

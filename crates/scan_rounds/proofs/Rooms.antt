@@ -1,0 +1,109 @@
+-- The room that backends have.
+use Rattle.std.proofs.Common.{◌≡◌, ℕ, ◌+◌, ◌-◌, ◌^◌, ◌<◌, ◌≤◌, List, [], ◌∷◌, length}
+use Rattle.std.proofs.Common.{get_or, take, min, sym, ap, ◌∙◌, subst, arith}
+use Rattle.std.specs.List.{All}
+use Rattle.std.specs.Prelude.{slice_index_or}
+use Rattle.std.proofs.Math.Nat.{min-le_left, min-le_right, min-eq_left, le-min}
+use Rattle.std.proofs.lemmas.List.{get_or-take, length-take, get_or_default}
+use mathlib.Core.Logic.{dite}
+use native.Mathlib.Decide.{ℕ_discrete}
+use Rattle.aio_word.specs.declared.Config.{Config}
+use Rattle.aio_word.specs.Events.{lives}
+use Rattle.aio_handle.specs.Free.{IsRoom}
+use Rattle.aio_handle.specs.Shown.{Standing, IsSame}
+use Rattle.aio_handle.proofs.Rooms.{room-is-one, room-bounded}
+use Rattle.scan_rounds.specs.Hands.{HasRoom}
+use Rattle.scan_rounds.specs.Rounds.{HaveRoom, IsLeastRoom}
+use Rattle.scan_rounds.specs.declared.backend.Backend.{Backend}
+
+pub fewer : (n m : ℕ) (a : Standing) → n ≤ m → HasRoom m a → HasRoom n a
+fewer n m a le has = (has.0, has.1, omega (arith, has.2))
+
+-- the room falls by no more than the lives that ended
+pub falls : (a b : Standing) (n k : ℕ) → IsSame a b → a.known.number < a.known.config.backends
+    → HasRoom n a → HasRoom k b
+    → ((h : ℕ) → lives h b.known.marks ≤ lives h a.known.marks + 64)
+    → (room : ℕ) × IsRoom b.known.config b.known room × (n ≤ room + 64)
+falls a b n k same backend before after lived =
+    let c : b.known.config ≡ a.known.config = same.1 in
+    let is : IsRoom a.known.config b.known after.0 =
+    subst (λ (x : Config). IsRoom x b.known after.0) c after.1 in
+    let still : b.known.number < a.known.config.backends = rw same.2 backend in
+    let e = is.exact still in
+    let own : a.known.number ≡ _ = sym same.2 ∙ e.2 in
+    let f = before.1.for_each e.0 e.1 own in
+    let more = lived e.0 in
+    (after.0, after.1, omega (arith, before.2, e.3))
+
+taken : {X : Type 0} (i : ℕ) (xs : List X) → i ≤ length xs → length (take i xs) ≡ i
+taken i xs le = length-take i xs ∙ min-eq_left {n = i} {m = length xs} le
+
+module _ {W D : Type 0} where
+  pub least_next : (least room r i : ℕ) (bs : List (Backend W D)) (b : Backend W D)
+      → i < length bs → b ≡ slice_index_or bs i b → HaveRoom least (take i bs)
+      → IsRoom b.hand.actor.known.config b.hand.actor.known room → r ≡ min least room
+      → HaveRoom r (take (i + 1) bs)
+  least_next least room r i bs b lt is have own same k d below =
+      let more = taken (i + 1) bs (omega arith) in
+      let here = taken i bs (omega arith) in
+      let left = min-le_left least room in
+      let right = min-le_right least room in
+      dite (ℕ_discrete k i)
+      (λ last. subst (λ (x : Backend W D). HasRoom r x.hand.actor)
+      (is ∙ (get_or_default bs i b d lt ∙ (ap (λ (n : ℕ). get_or bs n d) (sym last)
+      ∙ sym (get_or-take (i + 1) bs k d (omega arith))))) (room, own, omega arith))
+      (λ other.
+      let front : k < i = omega arith in
+      subst (λ (x : Backend W D). HasRoom r x.hand.actor)
+      (get_or-take i bs k d front ∙ sym (get_or-take (i + 1) bs k d (omega arith)))
+      (fewer r least (get_or (take i bs) k d).hand.actor (omega arith) (have k d (omega arith))))
+
+  pub greatest_next : (least room r i : ℕ) (bs : List (Backend W D)) (b : Backend W D)
+      → i < length bs → b ≡ slice_index_or bs i b
+      → ((n : ℕ) → n < 2 ^ 64 → HaveRoom n (take i bs) → n ≤ least)
+      → IsRoom b.hand.actor.known.config b.hand.actor.known room → r ≡ min least room
+      → (n : ℕ) → n < 2 ^ 64 → HaveRoom n (take (i + 1) bs) → n ≤ r
+  greatest_next least room r i bs b lt is greatest own same n small have =
+      let more = taken (i + 1) bs (omega arith) in
+      let here = taken i bs (omega arith) in
+      let front : n ≤ least = greatest n small (λ k d below.
+      (let near : k < i = omega arith in
+      subst (λ (x : Backend W D). HasRoom n x.hand.actor)
+      (get_or-take (i + 1) bs k d (omega arith) ∙ sym (get_or-take i bs k d near))
+      (have k d (omega arith)))) in
+      let last : HasRoom n b.hand.actor =
+      subst (λ (x : Backend W D). HasRoom n x.hand.actor)
+      (get_or-take (i + 1) bs i b (omega arith) ∙ sym is) (have i b (omega arith)) in
+      let one = room-is-one _ _ last.0 room last.1 own in
+      let fits : n ≤ room = omega (arith, last.2) in
+      let both : n ≤ min least room = le-min {k = n} {a = least} {b = room} front fits in
+      omega arith
+
+  -- of all of them
+  pub least_is : (least : ℕ) (bs : List (Backend W D)) → 1 ≤ length bs → least < 2 ^ 64
+      → HaveRoom least bs → ((n : ℕ) → n < 2 ^ 64 → HaveRoom n bs → n ≤ least)
+      → IsLeastRoom bs least
+  least_is least (b ∷ bs) some small have greatest = record {
+    have = have;
+    greatest = λ n all. (let one = all 0 b (omega arith) in
+        let bound = room-bounded _ _ one.0 one.1 in
+        greatest n (omega (arith, one.2)) all);
+  }
+  least_is least [] some small have greatest = absurd (omega arith)
+
+  -- after lives that ended in each
+  pub least_falls : (bs fs : List (Backend W D)) (n k : ℕ) → length fs ≡ length bs
+      → ((i : ℕ) (d : Backend W D) → i < length bs
+      → IsSame (slice_index_or bs i d).hand.actor (slice_index_or fs i d).hand.actor)
+      → All (λ (b : Backend W D). b.hand.actor.known.number < b.hand.actor.known.config.backends) bs
+      → ((i : ℕ) (d : Backend W D) → i < length bs → (h : ℕ)
+      → lives h (slice_index_or fs i d).hand.actor.known.marks
+      ≤ lives h (slice_index_or bs i d).hand.actor.known.marks + 64)
+      → HaveRoom n bs → IsLeastRoom fs k → n ≤ k + 64
+  least_falls bs fs n k same each backend lived before after =
+      let fewer : HaveRoom (n - 64) fs = λ i d lt.
+      (let inside : i < length bs = omega (arith, same) in
+      let one = falls _ _ n k (each i d inside) (backend i d inside) (before i d inside)
+      (after.have i d lt) (lived i d inside) in
+      (one.0, one.1, omega (arith, one.2))) in
+      let le = after.greatest (n - 64) fewer in omega arith

@@ -1,0 +1,295 @@
+-- What one round did to each backend and to each job.
+use Rattle.std.proofs.Common.{◌≡◌, ◌≢◌, ℕ, zero, suc, ◌+◌, ◌-◌, ◌^◌, ◌<◌, ◌≤◌, Bool, true, false, List, []}
+use Rattle.std.proofs.Common.{◌∷◌, length, map, sum_by, min, refl, sym}
+use Rattle.std.proofs.Common.{ap, ◌∙◌, subst, arith, cond}
+use Rattle.std.specs.Prelude.{slice_index_or, Option}
+use Rattle.std.specs.List.{All}
+use Rattle.std.proofs.lemmas.List.{length-map}
+use Rattle.std.proofs.lemmas.List.Sums.{sum_by-cons}
+use Rattle.std.proofs.Math.Nat.{min-le_left, max-le}
+use mathlib.Core.Logic.{dite}
+use native.Mathlib.Decide.{dec_le}
+use Rattle.page_check.specs.Told.{Told}
+use Rattle.page_check.specs.SynchronousAnswer.{reader_of}
+use Rattle.aio_disk.specs.Counts.{raised_by}
+use Rattle.aio_word.specs.Events.{lives}
+use Rattle.aio_word.specs.Tokens.{failed_results}
+use Rattle.aio_handle.specs.Shown.{Named}
+use Rattle.method_worker.specs.Shown.{Queue}
+use Rattle.read_stream.specs.Answering.{MayBeUnread}
+use Rattle.read_stream.specs.Went.{local_marks}
+use Rattle.scan_rounds.specs.Hands.{Meter, IsBackend, IsReady, Ran, GoesOn, HasRoom, MayRun}
+use Rattle.scan_rounds.specs.Jobs.{IsFresh, IsListed, is_unread, unread_among, blocks_among}
+use Rattle.scan_rounds.specs.Rounds.{Swapped, AreIdle, HaveRoom, AreListed, AllRan, AllGoOn}
+use Rattle.scan_rounds.specs.Rounds.{hand_of, results_of, taken_by}
+use Rattle.scan_rounds.specs.declared.hand.Hand.{Hand}
+use Rattle.scan_rounds.specs.declared.backend.Backend.{Backend}
+use Rattle.scan_rounds.specs.declared.job.Job.{Job}
+use Rattle.scan_rounds.proofs.Allowed.{may_run}
+use Rattle.scan_rounds.proofs.Swapping.{with_job}
+use Rattle.scan_rounds.proofs.Unread.{unread_counted, results_more}
+
+-- a count that was raised by so many
+pub raised_within : (count more before results after : ℕ) → count ≡ raised_by more before
+    → before ≤ results → results + more ≤ after → count ≤ after
+raised_within count more before results after is le sum =
+    let m = min-le_left (before + more) (2 ^ 64 - 1) in
+    let most : raised_by more before ≤ before + more =
+    max-le {a = before} {b = min (before + more) (2 ^ 64 - 1)} {k = before + more} (omega arith) m in
+    omega arith
+
+-- sums over two lists, and over a list that may be shorter
+module _ {X Y : Type 0} (f : X → ℕ) (w : Y → ℕ) where
+  none_more : (js : List Y) → length js ≤ 0 → sum_by w js ≡ 0
+  none_more [] le = refl
+  none_more (j ∷ js) le = absurd (omega arith)
+
+  pub at_most : (xs ys : List X) (js : List Y) → length ys ≡ length xs → length js ≤ length xs
+      → ((i : ℕ) (d : X) (j : Y) → i < length js
+      → f (slice_index_or ys i d) ≤ f (slice_index_or xs i d) + w (slice_index_or js i j))
+      → ((i : ℕ) (d : X) → length js ≤ i → i < length xs
+      → f (slice_index_or ys i d) ≤ f (slice_index_or xs i d))
+      → sum_by f ys ≤ sum_by f xs + sum_by w js
+  at_most [] [] js same few has none = omega arith
+  at_most [] (y ∷ ys) js same few has none = absurd (omega arith)
+  at_most (x ∷ xs) [] js same few has none = absurd (omega arith)
+  at_most (x ∷ xs) (y ∷ ys) [] same few has none =
+      let here = none 0 x (omega arith) (omega arith) in
+      let rest = at_most xs ys [] (omega arith) (omega arith) (λ i d j lt. absurd (omega arith))
+      (λ i d le lt. none (suc i) d (omega arith) (omega arith)) in
+      let a = sum_by-cons f x xs in let b = sum_by-cons f y ys in omega arith
+  at_most (x ∷ xs) (y ∷ ys) (j ∷ js) same few has none =
+      let here = has 0 x j (omega arith) in
+      let rest = at_most xs ys js (omega arith) (omega arith)
+      (λ i d k lt. has (suc i) d k (omega arith))
+      (λ i d le lt. none (suc i) d (omega arith) (omega arith)) in
+      let a = sum_by-cons f x xs in let b = sum_by-cons f y ys in
+      let c = sum_by-cons w j js in omega arith
+
+  pub at_least : (xs ys : List X) (js : List Y) → length ys ≡ length xs → length js ≤ length xs
+      → ((i : ℕ) (d : X) (j : Y) → i < length js
+      → f (slice_index_or xs i d) + w (slice_index_or js i j) ≤ f (slice_index_or ys i d))
+      → ((i : ℕ) (d : X) → length js ≤ i → i < length xs
+      → f (slice_index_or xs i d) ≤ f (slice_index_or ys i d))
+      → sum_by f xs + sum_by w js ≤ sum_by f ys
+  at_least [] [] [] same few has none = omega arith
+  at_least [] [] (j ∷ js) same few has none = absurd (omega arith)
+  at_least [] (y ∷ ys) js same few has none = absurd (omega arith)
+  at_least (x ∷ xs) [] js same few has none = absurd (omega arith)
+  at_least (x ∷ xs) (y ∷ ys) [] same few has none =
+      let here = none 0 x (omega arith) (omega arith) in
+      let rest = at_least xs ys [] (omega arith) (omega arith) (λ i d j lt. absurd (omega arith))
+      (λ i d le lt. none (suc i) d (omega arith) (omega arith)) in
+      let a = sum_by-cons f x xs in let b = sum_by-cons f y ys in omega arith
+  at_least (x ∷ xs) (y ∷ ys) (j ∷ js) same few has none =
+      let here = has 0 x j (omega arith) in
+      let rest = at_least xs ys js (omega arith) (omega arith)
+      (λ i d k lt. has (suc i) d k (omega arith))
+      (λ i d le lt. none (suc i) d (omega arith) (omega arith)) in
+      let a = sum_by-cons f x xs in let b = sum_by-cons f y ys in
+      let c = sum_by-cons w j js in omega arith
+
+module _ {W D : Type 0} (m : Meter D) (told : Option Told) (relations : ℕ) (t : Named) where
+  -- a fact of two backends' hands, among those of all
+  pub goes_at : (bs fs : List (Backend W D)) (i : ℕ) (d : Hand W D) → i < length bs → i < length fs
+      → ((e : Backend W D) → GoesOn m told relations t (slice_index_or bs i e).hand
+      (slice_index_or fs i e).hand)
+      → GoesOn m told relations t (slice_index_or (map hand_of bs) i d)
+      (slice_index_or (map hand_of fs) i d)
+  goes_at (b ∷ bs) (f ∷ fs) zero d lt lt' goes = goes b
+  goes_at (b ∷ bs) (f ∷ fs) (suc i) d lt lt' goes =
+      goes_at bs fs i d (omega arith) (omega arith) goes
+  goes_at [] fs i d lt lt' goes = absurd (omega arith)
+  goes_at (b ∷ bs) [] i d lt lt' goes = absurd (omega arith)
+
+module _ {W D : Type 0} (m : Meter D) (told : Option Told) (relations : ℕ) (t : Named)
+    (q : Queue) where
+  -- a backend that had this job, and what has become of both
+  pub record Did (b : Backend W D) (j : Job) (f : Backend W D) (l : Job) : Type 0 where
+    pub is : IsBackend m told relations t q f
+    pub idle : f.job.count ≡ 0
+    pub goes : GoesOn m told relations t b.hand f.hand
+    pub lived : (h : ℕ) → lives h f.hand.actor.known.marks ≤ lives h b.hand.actor.known.marks + 64
+    pub taken : local_marks f.hand.actor.known.marks
+        ≤ local_marks b.hand.actor.known.marks + j.count
+    pub listed : IsListed (reader_of told) (MayBeUnread b.hand.actor f.hand.actor.known) j l
+
+  -- a backend that had none
+  pub record Rested (b f : Backend W D) : Type 0 where
+    pub is : IsBackend m told relations t q f
+    pub idle : f.job.count ≡ 0
+    pub goes : GoesOn m told relations t b.hand f.hand
+    pub lived : (h : ℕ) → lives h f.hand.actor.known.marks ≤ lives h b.hand.actor.known.marks + 64
+    pub taken : local_marks f.hand.actor.known.marks ≤ local_marks b.hand.actor.known.marks
+
+  -- whatever its job is
+  with_any : (b : Backend W D) (j : Job) → IsBackend m told relations t q b
+      → IsBackend m told relations t q (with_job b j)
+  with_any b j is = record { hand = is.hand; backend = is.backend; desk = is.desk; seat = is.seat }
+
+  did_one : (b e : Backend W D) (j k : Job) → IsFresh relations j → k.count ≡ 0
+      → Ran m told relations t q (with_job b j) e → Did b j (with_job e k) e.job
+  did_one b e j k fresh none ran =
+      let some : j.count ≢ 0 = λ zero. (let few = fresh.few in absurd (omega arith)) in record {
+        is = with_any e k ran.is;
+        idle = none;
+        goes = ran.goes;
+        lived = ran.lived;
+        taken = ran.taken;
+        listed = ran.listed some;
+      }
+
+  rested_one : (b e : Backend W D) → b.job.count ≡ 0 → Ran m told relations t q b e → Rested b e
+  rested_one b e none ran =
+      let same = ran.idle none in record {
+        is = ran.is;
+        idle = ap (λ (j : Job). j.count) same ∙ none;
+        goes = ran.goes;
+        lived = ran.lived;
+        taken = (let few = ran.taken in omega arith);
+      }
+
+  ready_one : (room : ℕ) (b : Backend W D) (j : Job) → 64 ≤ room → HasRoom room b.hand.actor
+      → IsBackend m told relations t q b → (j.count ≢ 0 → IsFresh relations j)
+      → IsReady m told relations t q (with_job b j)
+  ready_one room b j enough has is fresh = record {
+    is = with_any b j is;
+    room = (has.0, has.1, omega (arith, has.2));
+    fresh = fresh;
+  }
+
+  -- a round: jobs to the backends, a run, jobs back
+  module _ (bs cs : List (Backend W D)) (js ks : List Job) (room : ℕ)
+      (backends : All (IsBackend m told relations t q) bs) (idle : AreIdle bs)
+      (fresh : All (IsFresh relations) js) (few : length js ≤ length bs) (enough : 64 ≤ room)
+      (rooms : HaveRoom room bs) (swapped : Swapped bs cs js ks) where
+    pub all_may : All (MayRun m told relations t q) cs
+    all_may i d lt =
+        let inside : i < length bs = omega (arith, swapped.backends_are) in
+        may_run m told relations t q (slice_index_or cs i d) (dite (dec_le (length js) i)
+        (λ behind.
+        subst (λ (x : Backend W D). IsReady m told relations t q x)
+        (sym (swapped.others i d behind inside))
+        (ready_one room (slice_index_or bs i d) (slice_index_or bs i d).job enough (rooms i d inside)
+        (backends i d inside) (λ some. absurd (some (idle i d inside)))))
+        (λ front.
+        let has : i < length js = omega arith in
+        let j : Job = (slice_index_or bs i d).job in
+        subst (λ (x : Backend W D). IsReady m told relations t q x)
+        (sym (swapped.handed i d j has).0)
+        (ready_one room (slice_index_or bs i d) (slice_index_or js i j) enough (rooms i d inside)
+        (backends i d inside) (λ some. fresh i j has))))
+
+    module _ (es fs : List (Backend W D)) (ls : List Job)
+        (ran : AllRan m told relations t q cs es) (again : Swapped es fs ks ls) where
+      pub did : (i : ℕ) (d : Backend W D) (j : Job) → i < length js
+          → Did (slice_index_or bs i d) (slice_index_or js i j) (slice_index_or fs i d)
+          (slice_index_or ls i j)
+      did i d j lt =
+          let inside : i < length bs = omega arith in
+          let behind : i < length cs = omega (arith, swapped.backends_are) in
+          let back : i < length ks = omega (arith, swapped.jobs_are) in
+          let to = swapped.handed i d j lt in
+          let from = again.handed i d j back in
+          let none : (slice_index_or ks i j).count ≡ 0 =
+          ap (λ (x : Job). x.count) to.1 ∙ idle i d inside in
+          let one = did_one (slice_index_or bs i d) (slice_index_or es i d) (slice_index_or js i j)
+          (slice_index_or ks i j) (fresh i j lt) none
+          (subst (λ (x : Backend W D). Ran m told relations t q x (slice_index_or es i d)) to.0
+          (ran.each i d behind)) in
+          subst (λ (x : Backend W D). Did (slice_index_or bs i d) (slice_index_or js i j) x
+          (slice_index_or ls i j)) (sym from.0)
+          (subst (λ (x : Job). Did (slice_index_or bs i d) (slice_index_or js i j)
+          (with_job (slice_index_or es i d) (slice_index_or ks i j)) x) (sym from.1) one)
+
+      pub rested : (i : ℕ) (d : Backend W D) → length js ≤ i → i < length bs
+          → Rested (slice_index_or bs i d) (slice_index_or fs i d)
+      rested i d le lt =
+          let behind : i < length cs = omega (arith, swapped.backends_are) in
+          let there : i < length es = omega (arith, ran.as_many) in
+          let back : length ks ≤ i = omega (arith, swapped.jobs_are) in
+          subst (λ (x : Backend W D). Rested (slice_index_or bs i d) x)
+          (sym (again.others i d back there))
+          (rested_one (slice_index_or bs i d) (slice_index_or es i d) (idle i d lt)
+          (subst (λ (x : Backend W D). Ran m told relations t q x (slice_index_or es i d))
+          (swapped.others i d le lt) (ran.each i d behind)))
+
+      pub same_length : length fs ≡ length bs
+      same_length = again.backends_are ∙ ran.as_many ∙ swapped.backends_are
+
+      pub backends_after : All (IsBackend m told relations t q) fs
+      backends_after i d lt =
+          let inside : i < length bs = omega (arith, same_length) in
+          dite (dec_le (length js) i) (λ behind. (rested i d behind inside).is)
+          (λ front. (did i d (slice_index_or bs i d).job (omega arith)).is)
+
+      pub idle_after : AreIdle fs
+      idle_after i d lt =
+          let inside : i < length bs = omega (arith, same_length) in
+          dite (dec_le (length js) i) (λ behind. (rested i d behind inside).idle)
+          (λ front. (did i d (slice_index_or bs i d).job (omega arith)).idle)
+
+      pub lived_after : (i : ℕ) (d : Backend W D) → i < length bs → (h : ℕ)
+          → lives h (slice_index_or fs i d).hand.actor.known.marks
+          ≤ lives h (slice_index_or bs i d).hand.actor.known.marks + 64
+      lived_after i d inside = dite (dec_le (length js) i)
+          (λ behind. (rested i d behind inside).lived)
+          (λ front. (did i d (slice_index_or bs i d).job (omega arith)).lived)
+
+      pub goes_after : (i : ℕ) (d : Backend W D) → i < length bs
+          → GoesOn m told relations t (slice_index_or bs i d).hand (slice_index_or fs i d).hand
+      goes_after i d inside = dite (dec_le (length js) i)
+          (λ behind. (rested i d behind inside).goes)
+          (λ front. (did i d (slice_index_or bs i d).job (omega arith)).goes)
+
+      pub listed_after : AreListed told bs fs js ls
+      listed_after = record {
+        jobs_are = again.jobs_are ∙ swapped.jobs_are;
+        each = λ i d j lt. (did i d j lt).listed;
+      }
+
+      pub goes_on_after : AllGoOn m told relations t (map hand_of bs) (map hand_of fs)
+      goes_on_after = record {
+        as_many = length-map fs hand_of ∙ (same_length ∙ sym (length-map bs hand_of));
+        each = λ i d lt. goes_mapped i d (omega (arith, length-map bs hand_of));
+      }
+        where
+          goes_mapped : (i : ℕ) (d : Hand W D) → i < length bs
+              → GoesOn m told relations t (slice_index_or (map hand_of bs) i d)
+              (slice_index_or (map hand_of fs) i d)
+          goes_mapped i d inside = goes_at m told relations t bs fs i d inside (omega (arith, same_length))
+              (λ e. goes_after i e inside)
+
+      pub taken_after : taken_by fs ≤ taken_by bs + blocks_among js
+      taken_after = at_most (λ (b : Backend W D). local_marks b.hand.actor.known.marks)
+          (λ (j : Job). j.count) bs fs js same_length few (λ i d j lt. (did i d j lt).taken)
+          (λ i d le lt. (rested i d le lt).taken)
+
+      pub unread_after : results_of bs + unread_among ls ≤ results_of fs
+      unread_after = at_least (λ (b : Backend W D). failed_results b.hand.actor.known.marks)
+          (λ (j : Job). cond (is_unread j.ending) 1 0) bs fs ls same_length
+          (omega (arith, again.jobs_are, swapped.jobs_are))
+          (λ i d j lt. unread_one i d j (omega (arith, again.jobs_are, swapped.jobs_are)))
+          (λ i d le lt. kept i d lt)
+        where
+          kept : (i : ℕ) (d : Backend W D) → i < length bs
+              → failed_results (slice_index_or bs i d).hand.actor.known.marks
+              ≤ failed_results (slice_index_or fs i d).hand.actor.known.marks
+          kept i d lt =
+              let goes = goes_after i d lt in
+              let more = results_more (slice_index_or bs i d).hand.actor.known.marks goes.more in
+              let same = ap failed_results goes.marks in
+              omega arith
+
+          unread_one : (i : ℕ) (d : Backend W D) (j : Job) → i < length js
+              → failed_results (slice_index_or bs i d).hand.actor.known.marks
+              + cond (is_unread (slice_index_or ls i j).ending) 1 0
+              ≤ failed_results (slice_index_or fs i d).hand.actor.known.marks
+          unread_one i d j lt = unread_or (is_unread (slice_index_or ls i j).ending) refl
+            where
+              unread_or : (u : Bool) → is_unread (slice_index_or ls i j).ending ≡ u
+                  → failed_results (slice_index_or bs i d).hand.actor.known.marks + cond u 1 0
+                  ≤ failed_results (slice_index_or fs i d).hand.actor.known.marks
+              unread_or true is = let one = did i d j lt in
+                  unread_counted (reader_of told) _ _ _ _ one.listed is
+              unread_or false is = let same = kept i d (omega arith) in omega arith

@@ -1,0 +1,326 @@
+-- The pages that a stream has answered so far, and what comes of the next answer.
+use Rattle.std.proofs.Common.{◌≡◌, ℕ, zero, suc, ◌+◌, ◌<◌, Bool, true, false, List, []}
+use Rattle.std.proofs.Common.{◌∷◌, ◌++◌, length, map, take, refl, sym, ap, ◌∙◌, subst, arith}
+use Rattle.std.proofs.Common.{append-nil, length-append}
+use Rattle.std.specs.Prelude.{Option, Some, None, slice_get, if◌then◌else◌, nat_le, ⊤}
+use Rattle.std.specs.List.{range_with_len}
+use Rattle.std.proofs.lemmas.Option.{slice_get_within}
+use Rattle.std.proofs.lemmas.List.{length-map}
+use Rattle.std.proofs.lemmas.List.FromFn.{length-range_with_len}
+use Rattle.page_check.specs.Told.{Told, blocks_of, page_of}
+use Rattle.page_check.specs.declared.verdict.Verdict.{Verdict}
+use Rattle.page_check.specs.declared.verdict.Verdict.TheVariants.{Zero, Sane, Bad}
+use Rattle.page_check.specs.Verdict.{verdict_of, IsValid}
+use Rattle.page_check.specs.SynchronousAnswer.{Entry, Given, Absent, found_at, Reader}
+use Rattle.page_check.specs.SynchronousAnswer.{found_by, is_page, page_in, reader_of, pages_of}
+use Rattle.page_check.specs.SynchronousAnswer.{can_read, given_for, Ending as SaidEnding, End}
+use Rattle.page_check.specs.SynchronousAnswer.{Invalid, PastEnd, Unread}
+use Rattle.page_check.specs.IsAnswer.{Next as Said, Page, Stop, IsAnswer, IsNext}
+use Rattle.page_check.specs.IsAnswer.{OneEnding, IsEnding}
+use Rattle.page_check.proofs.SynchronousReads.{read_count-cons, pages_of-none, pages_of-stop}
+use Rattle.page_check.proofs.AnswersInOrder.{answered_none, answered_next}
+use Rattle.page_check.proofs.Places.{count-within, pages_of-length}
+use Rattle.aio_word.specs.declared.Known.{Known}
+use Rattle.aio_handle.specs.Shown.{Standing}
+use Rattle.block_source.specs.Left.{consecutive, bare}
+use Rattle.heap_scan.specs.Listing.{listing}
+use Rattle.heap_scan.specs.Job.{IsJobAnswer, job_entries, block_entry, endings_of}
+use Rattle.heap_scan.specs.PageText.{page_text_of}
+use Rattle.heap_scan.proofs.Jobs.{listing-append}
+use Rattle.read_stream.specs.Answering.{entries_of, entry_of, MayBeUnread, said, pages_in}
+use Rattle.read_stream.specs.Went.{Went}
+use Rattle.read_stream.specs.declared.answer.Next.{Next as StreamNext}
+use Rattle.read_stream.proofs.Going.{since_later}
+use Rattle.scan_rounds.specs.Jobs.{said_end, ending_for}
+use Rattle.scan_rounds.specs.Showing.{IfPage, Shows}
+use Rattle.scan_rounds.specs.declared.job.Ending.{Ending}
+
+abbrev pub E : Type 0
+E = Entry (Unit {0})
+
+abbrev pub G : Type 0
+G = Given (Unit {0})
+
+abbrev pub Blocks : Type 0
+Blocks = List (ℕ × Unit {0})
+
+one_listing : (g : G) → page_text_of g.entry.relation g.entry.block g.page ≡ listing (g ∷ [])
+unfolding listing
+one_listing g = sym (append-nil (page_text_of g.entry.relation g.entry.block g.page))
+
+no_listing : listing (let none : List G = [] in none) ≡ []
+unfolding listing
+no_listing = refl
+
+-- a page of synchronous reads is valid
+found-valid : (absent : Bool) (v : Verdict) (page : List ℕ) → verdict_of page ≡ v
+    → is_page (if absent then Absent else found_by v page) ≡ true
+    → IsValid (page_in (if absent then Absent else found_by v page))
+found-valid true v page e is = absurd (cc)
+found-valid false Bad page e is = absurd (cc)
+found-valid false Zero page e is = λ bad. absurd (cc)
+found-valid false Sane page e is = λ bad. absurd (cc)
+
+found_at-valid : (told : Told) (relation block : ℕ) → is_page (found_at told relation block) ≡ true
+    → IsValid (page_in (found_at told relation block))
+unfolding found_at
+found_at-valid told relation block is =
+    found-valid (nat_le (blocks_of told relation) block) (verdict_of (page_of told relation block))
+    (page_of told relation block) refl is
+
+given_at_none : (g : G) (k : ℕ) → slice_get (let none : List G = [] in none) k
+    ≡ Some g
+    → ⊥
+given_at_none g k is = cc
+
+pages_of-more : (f : Reader) (e : E) (es : List E) → can_read f e ≡ true
+    → pages_of f (e ∷ es) ≡ given_for f e ∷ pages_of f es
+pages_of-more f e es can =
+    ap (λ (n : ℕ). map (given_for f) (take n (e ∷ es))) (read_count-cons f e es can)
+
+module _ (told : Told) where
+  abbrev f : Reader
+  f = found_at told
+
+  abbrev AreValid : List E → Type 0
+  AreValid es = (k : ℕ) (g : G) → slice_get (pages_of f es) k ≡ Some g → IsValid g.page
+
+  valid_first : (e : E) (es : List E) (b : Bool) → can_read f e ≡ b → AreValid es
+      → AreValid (e ∷ es)
+  valid_first e es false cannot rest k g is =
+      absurd (given_at_none g k
+      (ap (λ (l : List G). slice_get l k) (sym (pages_of-stop f e es cannot)) ∙ is))
+  valid_first e es true can rest zero g is =
+      let here : slice_get (given_for f e ∷ pages_of f es) 0 ≡ Some g =
+      ap (λ (l : List G). slice_get l 0) (sym (pages_of-more f e es can)) ∙ is in
+      let same : given_for f e ≡ g = cc in
+      let P : G → Type 0 = λ h. IsValid h.page in
+      subst P same (found_at-valid told e.relation e.block can)
+  valid_first e es true can rest (suc k) g is =
+      rest k g (ap (λ (l : List G). slice_get l (suc k)) (sym (pages_of-more f e es can))
+      ∙ is)
+
+  pages_valid : (es : List E) → AreValid es
+  pages_valid [] = λ k g is. absurd (given_at_none g k
+      (ap (λ (l : List G). slice_get l k) (sym (pages_of-none f)) ∙ is))
+  pages_valid (e ∷ es) = valid_first e es (can_read f e) refl (pages_valid es)
+
+-- a page that is answered next is valid
+pub next_valid : (told : Option Told) (may : E → Type 0) (entries : List E) (k : ℕ)
+    (next : Said (Unit {0})) → IsNext (reader_of told) may entries k next → IfPage next IsValid
+next_valid told may entries k (Stop end) is = tt
+next_valid None may entries k (Page g) is = is.0
+next_valid (Some t) may entries k (Page g) is = pages_valid t entries k g is
+
+-- and is that of an entry
+within_pages : (f : Reader) (entries : List E) (k : ℕ) (g : G)
+    → slice_get (pages_of f entries) k ≡ Some g → k < length entries
+within_pages f entries k g is =
+    let below = slice_get_within (pages_of f entries) k g is in
+    omega (arith, pages_of-length f entries, count-within f entries)
+
+pub page_within : (found : Option Reader) (may : E → Type 0) (entries : List E)
+    (k : ℕ) (g : G) → IsNext found may entries k (Page g) → k < length entries
+page_within None may entries k g is = slice_get_within entries k g.entry is.1
+page_within (Some f) may entries k g is = within_pages f entries k g is
+
+-- the text lists this many pages, which are the first answers
+pub record SoFar (found : Option Reader) (entries : List E) (given : ℕ) (text : List ℕ)
+    : Type 0 where
+  pub pages : List G
+  pub count : length pages ≡ given
+  pub text_is : text ≡ listing pages
+  pub answers : IsAnswer found (λ _. ⊤) entries (record { pages = pages; endings = [] })
+
+pub nothing_yet : (found : Option Reader) (entries : List E) (given : ℕ) (text : List ℕ)
+    → given ≡ 0 → text ≡ [] → SoFar found entries given text
+nothing_yet found entries given text none empty = record {
+  pages = [];
+  count = sym none;
+  text_is = empty ∙ sym no_listing;
+  answers = answered_none found (λ _. ⊤) entries;
+}
+
+-- whatever may be unread
+page_anyway : (found : Option Reader) (may : E → Type 0) (entries : List E) (k : ℕ) (g : G)
+    → IsNext found may entries k (Page g) → IsNext found (λ _. ⊤) entries k (Page g)
+page_anyway None may entries k g is = is
+page_anyway (Some f) may entries k g is = is
+
+pages_anyway : (found : Option Reader) (may : E → Type 0) (entries : List E) (pages : List G)
+    → IsAnswer found (λ _. ⊤) entries (record { pages = pages; endings = [] })
+    → IsAnswer found may entries (record { pages = pages; endings = [] })
+pages_anyway found may entries pages a = record { first = a.first; endings = tt }
+
+module _ (found : Option Reader) (may : E → Type 0) (entries : List E) (given : ℕ)
+    (next : Said (Unit {0})) (before after : List ℕ) (result : Option Ending) where
+  shown_on : (said : Said (Unit {0})) → SoFar found entries given before
+      → IsNext found may entries given said → Shows said before after None
+      → SoFar found entries (given + pages_in said) after
+  shown_on (Stop end) so_far is shows = absurd (cc)
+  shown_on (Page g) so_far is shows =
+      let P : ℕ → Type 0 = λ n. IsNext found may entries n (Page g) in
+      let here = page_anyway found may entries (length so_far.pages) g
+      (subst P (sym so_far.count) is) in record {
+        pages = so_far.pages ++ g ∷ [];
+        count = omega (arith, length-append so_far.pages (g ∷ []), so_far.count);
+        text_is = shows
+            ∙ ap (λ (l : List ℕ). l ++ page_text_of g.entry.relation g.entry.block g.page)
+            so_far.text_is
+            ∙ ap (λ (l : List ℕ). listing so_far.pages ++ l) (one_listing g)
+            ∙ sym (listing-append so_far.pages (g ∷ []));
+        answers =
+            answered_next found (λ _. ⊤) entries so_far.pages (Page g) so_far.answers here;
+      }
+
+  within_on : (said : Said (Unit {0})) → IsNext found may entries given said
+      → Shows said before after None → (pages_in said ≡ 1) × (given < length entries)
+  within_on (Stop end) is shows = absurd (cc)
+  within_on (Page g) is shows = (refl, page_within found may entries given g is)
+
+  -- the answer was shown, and the job goes on
+  pub shown_more : (given' : ℕ) → SoFar found entries given before
+      → IsNext found may entries given next → Shows next before after result → result ≡ None
+      → given' ≡ given + pages_in next → SoFar found entries given' after
+  shown_more given' so_far is shows none count =
+      subst (λ (n : ℕ). SoFar found entries n after) (sym count)
+      (shown_on next so_far is (subst (λ (x : Option Ending). Shows next before after x) none shows))
+
+  pub nearer : (given' : ℕ) → IsNext found may entries given next
+      → Shows next before after result → result ≡ None → given' ≡ given + pages_in next
+      → (given' ≡ given + 1) × (given < length entries)
+  nearer given' is shows none count =
+      let one = within_on next is
+      (subst (λ (x : Option Ending). Shows next before after x) none shows) in
+      (count ∙ ap (λ (n : ℕ). given + n) one.0, one.1)
+
+  end_said : (end : SaidEnding) → said_end (ending_for end) ≡ Some end
+  end_said End = refl
+  end_said (Invalid b) = refl
+  end_said (PastEnd b) = refl
+  end_said (Unread b) = refl
+
+  ended : (end : SaidEnding) → SoFar found entries given before
+      → IsNext found may entries given (Stop end)
+      → IsJobAnswer found may entries before (said_end (ending_for end))
+  ended end so_far is =
+      let P : ℕ → Type 0 = λ n. IsNext found may entries n (Stop end) in
+      let Q : Option SaidEnding → Type 0 = λ e. IsJobAnswer found may entries before e in
+      subst Q (sym (end_said end)) (record {
+        pages = so_far.pages;
+        text_is = so_far.text_is;
+        answers = answered_next found may entries so_far.pages (Stop end)
+            (pages_anyway found may entries so_far.pages so_far.answers)
+            (subst P (sym so_far.count) is);
+      })
+
+  cut : SoFar found entries given before → IsJobAnswer found may entries before None
+  cut so_far = record {
+    pages = so_far.pages;
+    text_is = so_far.text_is;
+    answers = pages_anyway found may entries so_far.pages so_far.answers;
+  }
+
+  last_of : (said : Said (Unit {0})) (e : Ending) → SoFar found entries given before
+      → IsNext found may entries given said → Shows said before after (Some e)
+      → IsJobAnswer found may entries after (said_end e)
+  last_of (Page g) e so_far is shows =
+      subst (λ (x : Ending). IsJobAnswer found may entries after (said_end x)) (sym shows.0)
+      (subst (λ (l : List ℕ). IsJobAnswer found may entries l None) (sym shows.1) (cut so_far))
+  last_of (Stop end) e so_far is shows =
+      let same : ending_for end ≡ e = cc in
+      subst (λ (x : Ending). IsJobAnswer found may entries after (said_end x)) same
+      (subst (λ (l : List ℕ). IsJobAnswer found may entries l (said_end (ending_for end)))
+      (sym shows.1) (ended end so_far is))
+
+  -- the last answer was shown
+  pub shown_end : (e : Ending) → SoFar found entries given before
+      → IsNext found may entries given next → Shows next before after result → result ≡ Some e
+      → IsJobAnswer found may entries after (said_end e)
+  shown_end e so_far is shows some = last_of next e so_far is
+      (subst (λ (x : Option Ending). Shows next before after x) some shows)
+
+-- an answer of the stream, where the stream is about these blocks
+pub at_place : (found : Option Reader) (p p' : Standing) (q : Known) (r r' : ℕ) (l l' : Blocks)
+    (k : ℕ) (a : StreamNext (Unit {0})) → p' ≡ p → r' ≡ r → l' ≡ l
+    → IsNext found (MayBeUnread p' q) (entries_of r' l') k (said r' a)
+    → IsNext found (MayBeUnread p q) (entries_of r l) k (said r a)
+at_place found p p' q r r' l l' k a ep er el is =
+    subst (λ (x : Standing). IsNext found (MayBeUnread x q) (entries_of r l) k (said r a)) ep
+    (subst (λ (x : ℕ). IsNext found (MayBeUnread p' q) (entries_of x l) k (said x a)) er
+    (subst (λ (x : Blocks). IsNext found (MayBeUnread p' q) (entries_of r' x) k (said r' a)) el is))
+
+mapped : (r : ℕ) (blocks : List ℕ)
+    → map (entry_of r) (map bare blocks) ≡ map (block_entry r) blocks
+mapped r [] = refl
+mapped r (b ∷ bs) = ap (λ (l : List E). block_entry r b ∷ l) (mapped r bs)
+
+-- the blocks that a range gives
+pub range_entries : (r first count : ℕ)
+    → entries_of r (consecutive first count) ≡ job_entries r first count
+range_entries r first count = mapped r (range_with_len first count)
+
+pub range_length : (first count : ℕ) → length (consecutive first count) ≡ count
+range_length first count =
+    length-map (range_with_len first count) bare ∙ length-range_with_len first count
+
+-- what may be unread may be so after more
+may_later : (was : Standing) (p q : Known) (reads reads' faults faults' : ℕ)
+    → Went p q reads reads' faults faults' → (e : E) → MayBeUnread was p e → MayBeUnread was q e
+may_later was p q reads reads' faults faults' w e (io, f) = (
+  io,
+  record {
+    relation_is = f.relation_is;
+    first = f.first;
+    failed = f.failed;
+    taken = since_later was.known p q _ reads reads' faults faults' f.taken w;
+    alone = λ one. since_later was.known p q _ reads reads' faults faults' (f.alone one) w;
+  },
+)
+
+ending_wider : (found : Option Reader) (may may' : E → Type 0) (entries : List E) (k : ℕ)
+    (end : SaidEnding) → ((e : E) → may e → may' e) → IsEnding found may entries k end
+    → IsEnding found may' entries k end
+ending_wider found may may' entries k (Unread b) wider is =
+    record { next = is.next; here = is.here; named = is.named; cause = wider is.next is.cause }
+ending_wider found may may' entries k End wider is = is
+ending_wider found may may' entries k (Invalid b) wider is = is
+ending_wider found may may' entries k (PastEnd b) wider is = is
+
+endings_wider : (found : Option Reader) (may may' : E → Type 0) (entries : List E) (k : ℕ)
+    (ends : List SaidEnding) → ((e : E) → may e → may' e)
+    → OneEnding (IsEnding found may entries k) ends
+    → OneEnding (IsEnding found may' entries k) ends
+endings_wider found may may' entries k [] wider is = tt
+endings_wider found may may' entries k (end ∷ more) wider is =
+    (ending_wider found may may' entries k end wider is.0, is.1)
+
+-- an entry that may be unread may be so later
+pub job_wider : (found : Option Reader) (may may' : E → Type 0) (entries : List E) (text : List ℕ)
+    (end : Option SaidEnding) → ((e : E) → may e → may' e)
+    → IsJobAnswer found may entries text end → IsJobAnswer found may' entries text end
+job_wider found may may' entries text end wider j = record {
+  pages = j.pages;
+  text_is = j.text_is;
+  answers = record {
+    first = j.answers.first;
+    endings = endings_wider found may may' entries (length j.pages) (endings_of end) wider
+        j.answers.endings;
+  };
+}
+
+-- the answer of the stream is that of the job, also once the stream was closed
+pub job_moved : (found : Option Reader) (p p' : Standing) (q z : Known)
+    (reads reads' faults faults' : ℕ) (relation first count : ℕ) (blocks : Blocks)
+    (text : List ℕ) (end : Option SaidEnding) → p' ≡ p → blocks ≡ consecutive first count
+    → Went q z reads reads' faults faults'
+    → IsJobAnswer found (MayBeUnread p' q) (entries_of relation blocks) text end
+    → IsJobAnswer found (MayBeUnread p z) (job_entries relation first count) text end
+job_moved found p p' q z reads reads' faults faults' relation first count blocks text end same list
+    w a =
+    subst (λ (es : List E). IsJobAnswer found (MayBeUnread p z) es text end)
+    (ap (entries_of relation) list ∙ range_entries relation first count)
+    (job_wider found (MayBeUnread p q) (MayBeUnread p z) (entries_of relation blocks) text end
+    (may_later p q z reads reads' faults faults' w)
+    (subst (λ (x : Standing). IsJobAnswer found (MayBeUnread x q) (entries_of relation blocks) text
+    end) same a))

@@ -1,0 +1,67 @@
+-- A job that ended in Unread has left the result of a failed I/O in its actor's list.
+use Rattle.std.proofs.Common.{◌≡◌, ℕ, ◌+◌, ◌≤◌, true, List, ◌++◌}
+use Rattle.std.proofs.Common.{cond, ap, arith}
+use Rattle.std.proofs.lemmas.List.Sums.{sum_by-append}
+use Rattle.std.specs.Prelude.{Option}
+use Rattle.page_check.specs.SynchronousAnswer.{Entry, Reader, Unread}
+use Rattle.page_check.specs.IsAnswer.{IsEnding}
+use Rattle.aio_word.specs.declared.Class.TheVariants.{Failed}
+use Rattle.aio_word.specs.declared.Kind.TheVariants as kind
+use Rattle.aio_word.specs.declared.Known.{Known}
+use Rattle.aio_word.specs.declared.Mark.{Mark}
+use Rattle.aio_word.specs.declared.WaitRef.{WaitRef}
+use Rattle.aio_word.specs.Events.{mark_at}
+use Rattle.aio_word.specs.Stands.{IsIn}
+use Rattle.aio_word.specs.Tokens.{failed_results, is_failed_result}
+use Rattle.aio_word.proofs.Parts.{sum-in}
+use Rattle.aio_handle.specs.Shown.{Standing}
+use Rattle.heap_scan.specs.Job.{IsJobAnswer}
+use Rattle.read_stream.specs.Answering.{MayBeUnread}
+use Rattle.scan_rounds.specs.Jobs.{IsListed, is_unread, said_end, entries_in}
+use Rattle.scan_rounds.specs.declared.job.Job.{Job}
+use Rattle.scan_rounds.specs.declared.job.Ending.{Ending}
+use Rattle.scan_rounds.specs.declared.job.Ending.TheVariants as ending
+
+abbrev E : Type 0
+E = Entry (Unit {0})
+
+pub results_more : (xs ys : List Mark)
+    → failed_results (xs ++ ys) ≡ failed_results xs + failed_results ys
+results_more xs ys = sum_by-append (λ (m : Mark). cond (is_failed_result m.kind) 1 0) xs ys
+
+failed_one : (p q : Known) (t : WaitRef) (more : List Mark) → q.marks ≡ p.marks ++ more
+    → IsIn (mark_at t (kind.Local Failed)) more
+    → failed_results p.marks + 1 ≤ failed_results q.marks
+failed_one p q t more grown i =
+    let one = sum-in (λ (m : Mark). cond (is_failed_result m.kind) 1 0) more
+    (mark_at t (kind.Local Failed)) i in
+    let all = results_more p.marks more in
+    let same : failed_results q.marks ≡ failed_results (p.marks ++ more) =
+    ap failed_results grown in
+    omega arith
+
+may_counted : (was : Standing) (q : Known) (e : E) → MayBeUnread was q e
+    → failed_results was.known.marks + 1 ≤ failed_results q.marks
+may_counted was q e (io, f) = failed_one was.known q _ f.taken.0 f.taken.1 f.taken.2
+
+cause_of : (found : Option Reader) (may : E → Type 0) (entries : List E) (k : ℕ) (b : ℕ)
+    → IsEnding found may entries k (Unread b) → (x : E) × may x
+cause_of found may entries k b is = (is.next, is.cause)
+
+unread_at : (found : Option Reader) (was : Standing) (q : Known) (j : Job) (text : List ℕ)
+    (e : Ending) → IsJobAnswer found (MayBeUnread was q) (entries_in j) text (said_end e)
+    → is_unread e ≡ true → failed_results was.known.marks + 1 ≤ failed_results q.marks
+unread_at found was q j text (ending.Unread b) a is =
+    let (x, may) = cause_of found (MayBeUnread was q) (entries_in j) _ b a.answers.endings.0 in
+    may_counted was q x may
+unread_at found was q j text ending.Pages a is = absurd (cc)
+unread_at found was q j text (ending.Invalid b) a is = absurd (cc)
+unread_at found was q j text (ending.PastEnd b) a is = absurd (cc)
+unread_at found was q j text ending.NoMemory a is = absurd (cc)
+
+-- a job that ended in Unread left one failed result more
+pub unread_counted : (found : Option Reader) (was : Standing) (q : Known) (j k : Job)
+    → IsListed found (MayBeUnread was q) j k → is_unread k.ending ≡ true
+    → failed_results was.known.marks + 1 ≤ failed_results q.marks
+unread_counted found was q j k l is =
+    unread_at found was q j k.text.items k.ending l.answer is

@@ -1,0 +1,35 @@
+use Rattle.std.proofs.Common.{refl, arith, ◌∙◌}
+use Rattle.scan_rounds.proofs.Going.{gone_nowhere, gone_then, as_many_hands}
+use Rattle.scan_rounds.proofs.course.all_rounds.Goals as goal
+
+pub loop-init : goal.loop-init
+loop-init g c = record {
+  waiting = c.requires.waiting;
+  jobs = refl;
+  backends = refl;
+  fewer = omega arith;
+  room = c.requires.room;
+  gone = gone_nowhere _ _ _ _ _ _ _ _ _ c.requires.waiting (omega arith);
+  follows = g.met.A.Agenda.follows_itself c.args.agenda.now;
+}
+
+pub loop-preserved : goal.loop-preserved
+loop-preserved g c =
+    let i = c.loop.invariant in
+    let e = c.next_round.ensures in record {
+      waiting = e.waiting;
+      jobs = e.jobs ∙ i.jobs;
+      backends = as_many_hands _ _ _ _ _ _ e.gone.go_on ∙ i.backends;
+      fewer = (let a = e.fewer in let b = i.fewer in omega arith);
+      room = (let a = e.gone.room in let b = i.room in let f = e.fewer in omega arith);
+      gone = gone_then _ _ _ _ _ _ _ _ _ _ _ _ _ _ _ _ i.gone e.gone
+          (let a = e.fewer in let b = i.fewer in omega arith) (omega arith);
+      follows = g.met.A.Agenda.follows_on _ _ _ i.follows e.follows;
+    }
+
+pub returns-then-not-next_round-clause-gone : goal.returns-then-not-next_round-clause-gone
+returns-then-not-next_round-clause-gone g c =
+    let i = c.loop.invariant in
+    let e = c.next_round.ensures in
+    gone_then _ _ _ _ _ _ _ _ _ _ _ _ _ _ _ _ i.gone e.gone
+    (let a = e.fewer in let b = i.fewer in omega arith) (omega arith)

@@ -1,0 +1,56 @@
+use Rattle.std.proofs.Common.{rules, sym, ap, subst, arith, List}
+use Rattle.std.specs.List.{All}
+use Rattle.scan_rounds.specs.Jobs.{IsFresh, AreAnswered, blocks_among}
+use Rattle.scan_rounds.specs.declared.job.Job.{Job}
+use Rattle.scan_rounds.proofs.Going.{gone_nowhere, answered_by, some_blocks}
+use Rattle.scan_rounds.proofs.course.next_round.Goals as goal
+
+pub returns-then-count-eq0-clause-gone : goal.returns-then-count-eq0-clause-gone
+returns-then-count-eq0-clause-gone g c =
+    gone_nowhere _ _ _ _ _ _ _ _ _ c.requires.waiting (let e = c.put-count.ensures.unread in omega arith)
+
+pub one_round-requires-clause-fresh : goal.one_round-requires-clause-fresh
+one_round-requires-clause-fresh g c κs within =
+    subst (λ (js : List Job). All (IsFresh g.W.World.relations) js)
+    (sym c.split_at_mut-front.ensures.front) c.put-count.ensures.fresh
+
+pub one_round-requires-clause-room : goal.one_round-requires-clause-room
+one_round-requires-clause-room g c κs within = (
+  c.requires.waiting.room,
+  (let some = some_blocks _ _ _ c.put-count.ensures.fresh (search rules)
+      (let same = c.put-count.ensures.few.1 in let jobs = c.requires.jobs in
+      let some = c.requires.waiting.some in omega arith) in
+      let left = c.put-count.ensures.left in let room = c.requires.room in omega arith),
+)
+
+pub returns-clause-gone : goal.returns-clause-gone
+returns-clause-gone g c =
+    let e = c.one_round.ensures in
+    let blocks = ap blocks_among c.split_at_mut-front.ensures.front in
+    let some = some_blocks _ _ _ c.put-count.ensures.fresh (search rules)
+    (let same = c.put-count.ensures.few.1 in let jobs = c.requires.jobs in
+    let some = c.requires.waiting.some in omega arith) in
+    let left = c.put-count.ensures.left in
+    let less = c.end.ensures.left in
+    record {
+      go_on = e.go_on;
+      room = (let r = e.room.1 in omega arith);
+      taken = (let n = e.taken in omega arith);
+      more = _;
+      raised = e.unread;
+      enough = (let a = c.put-count.ensures.unread in let b = c.end.ensures.unread in omega arith);
+    }
+
+pub returns-clause-follows : goal.returns-clause-follows
+returns-clause-follows g c =
+    c.end.ensures.follows _ _ c.put-count.ensures.puts
+    (subst (λ (js : List Job). AreAnswered _ js c.one_round.new.jobs)
+    c.split_at_mut-front.ensures.front (answered_by _ _ _ _ _ c.requires.waiting.some c.one_round.ensures.listed))
+
+pub returns-clause-nearer : goal.returns-clause-nearer
+returns-clause-nearer g c on =
+    let some = some_blocks _ _ _ c.put-count.ensures.fresh (search rules)
+    (let same = c.put-count.ensures.few.1 in let jobs = c.requires.jobs in
+    let some = c.requires.waiting.some in omega arith) in
+    let left = c.put-count.ensures.left in
+    let less = c.end.ensures.left in omega arith

@@ -1,0 +1,79 @@
+use Rattle.std.proofs.Common.{◌≡◌, ◌++◌, length, map, Some}
+use Rattle.std.proofs.Common.{sym, ◌∙◌, subst, arith}
+use Rattle.std.proofs.lemmas.Iterator.Adapters.{YieldsList-from_vec}
+use Rattle.std.proofs.lemmas.Iterator.Consumers.{YieldsList-turn, YieldsList-end}
+use Rattle.std.proofs.lemmas.List.{map-id}
+use Rattle.scan_rounds.specs.Rounds.{hand_in}
+use Rattle.scan_rounds.specs.Scans.{HasDisk, actor_of, disk_of}
+use Rattle.scan_rounds.proofs.finish.put_workers.Goals as goal
+
+pub put_down-requires-clause-hand : goal.put_down-requires-clause-hand
+put_down-requires-clause-hand g c κs within =
+    let from = c.into_iter-worker-iterator.ensures.into_iter_gives in
+    let (below, is) = YieldsList-turn
+    (YieldsList-from_vec {s = c.into_iter-worker-iterator.result} _ from.0
+    (from.1 ∙ c.args.workers.ok.0))
+    c.loop-worker.yielded c.loop-worker.worker-iterator c.loop-worker.yielded_by
+    c.next.result c.next.new.self c.in-Some.worker c.in-Some.is
+    c.next.ensures.steps in
+    subst (λ w. HasDisk w.hand) (sym is)
+    (c.requires.hands (length c.loop-worker.yielded) c.in-Some.worker below)
+
+pub put_down-requires-clause-actors : goal.put_down-requires-clause-actors
+put_down-requires-clause-actors g c κs within =
+    let from = c.into_iter-worker-iterator.ensures.into_iter_gives in
+    let (below, is) = YieldsList-turn
+    (YieldsList-from_vec {s = c.into_iter-worker-iterator.result} _ from.0
+    (from.1 ∙ c.args.workers.ok.0))
+    c.loop-worker.yielded c.loop-worker.worker-iterator c.loop-worker.yielded_by
+    c.next.result c.next.new.self c.in-Some.worker c.in-Some.is
+    c.next.ensures.steps in
+    omega (
+      arith,
+      c.args.workers.ok.0,
+      c.requires.actors,
+      c.loop-worker.invariant.lengths.0,
+      c.loop-worker.invariant.capacities.0,
+    )
+
+pub put_down-requires-clause-disks : goal.put_down-requires-clause-disks
+put_down-requires-clause-disks g c κs within =
+    let from = c.into_iter-worker-iterator.ensures.into_iter_gives in
+    let (below, is) = YieldsList-turn
+    (YieldsList-from_vec {s = c.into_iter-worker-iterator.result} _ from.0
+    (from.1 ∙ c.args.workers.ok.0))
+    c.loop-worker.yielded c.loop-worker.worker-iterator c.loop-worker.yielded_by
+    c.next.result c.next.new.self c.in-Some.worker c.in-Some.is
+    c.next.ensures.steps in
+    omega (
+      arith,
+      c.args.workers.ok.0,
+      c.requires.disks,
+      c.loop-worker.invariant.lengths.1,
+      c.loop-worker.invariant.capacities.1,
+    )
+
+pub returns-clause-actors : goal.returns-clause-actors
+returns-clause-actors g c =
+    let from = c.into_iter-worker-iterator.ensures.into_iter_gives in
+    let (same, long) = YieldsList-end
+    (YieldsList-from_vec {s = c.into_iter-worker-iterator.result} _ from.0
+    (from.1 ∙ c.args.workers.ok.0))
+    c.loop-worker.yielded c.loop-worker.worker-iterator c.loop-worker.yielded_by
+    c.next.result c.next.new.self c.in-None.is c.next.ensures.steps in
+    subst
+    (λ ws. c.loop-worker.actors.items ≡ c.args.actors.now.items ++ map actor_of (map hand_in ws))
+    (sym (map-id c.loop-worker.yielded) ∙ same) c.loop-worker.invariant.actors
+
+pub returns-clause-disks : goal.returns-clause-disks
+returns-clause-disks g c =
+    let from = c.into_iter-worker-iterator.ensures.into_iter_gives in
+    let (same, long) = YieldsList-end
+    (YieldsList-from_vec {s = c.into_iter-worker-iterator.result} _ from.0
+    (from.1 ∙ c.args.workers.ok.0))
+    c.loop-worker.yielded c.loop-worker.worker-iterator c.loop-worker.yielded_by
+    c.next.result c.next.new.self c.in-None.is c.next.ensures.steps in
+    subst
+    (λ ws. map Some c.loop-worker.disks.items
+    ≡ map Some c.args.disks.now.items ++ map disk_of (map hand_in ws))
+    (sym (map-id c.loop-worker.yielded) ∙ same) c.loop-worker.invariant.disks

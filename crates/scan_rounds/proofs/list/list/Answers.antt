@@ -1,0 +1,57 @@
+use Rattle.std.proofs.Common.{rules, length, sym, ap, ◌∙◌, subst, arith}
+use Rattle.aio_handle.specs.Shown.{Standing}
+use Rattle.aio_word.specs.Events.{lives}
+use Rattle.read_stream.specs.Open.{IsFree}
+use Rattle.read_stream.specs.Went.{local_marks}
+use Rattle.read_stream.proofs.Going.{went_then}
+use Rattle.scan_rounds.proofs.Showing.{range_length, job_moved}
+use Rattle.scan_rounds.proofs.list.list.Goals as goal
+
+pub open-stream-requires-clause-room : goal.open-stream-requires-clause-room
+open-stream-requires-clause-room g c =
+    let (room, is, enough) = c.requires.room in
+    let long = range_length c.args.job.now.first c.args.job.now.count in
+    let few = c.requires.job.few in
+    (room, is, rw c.new-source.ensures (omega arith))
+
+pub returns-clause-went : goal.returns-clause-went
+returns-clause-went g c =
+    went_then _ _ _ _ _ _ _ _ _ c.show_all-job.ensures.went c.close-desk.ensures.went
+
+pub returns-clause-desk : goal.returns-clause-desk
+returns-clause-desk g c =
+    let name = c.close-desk.ensures.desk.0
+    ∙ (c.show_all-job.ensures.desk ∙ c.open-stream.ensures.desk) in
+    subst (λ d. IsFree d) (sym (c.desk-1.given.1 (sym name) ∙ c.give_back.ensures))
+    c.close-desk.ensures.desk.1
+
+pub returns-clause-lived : goal.returns-clause-lived
+returns-clause-lived g c h =
+    let was = c.show_all-job.ensures.was.0 ∙ c.open-stream.ensures.actor.0 in
+    let blocks = ap length (c.show_all-job.ensures.was.1
+    ∙ (c.open-stream.ensures.source ∙ c.new-source.ensures)) in
+    let long = range_length c.args.job.now.first c.args.job.now.count in
+    let taken = c.close-desk.ensures.few in
+    let marks = ap (λ (a : Standing). lives h a.known.marks) was in
+    let ended = c.close-desk.ensures.lived h in
+    let few = c.requires.job.few in
+    omega arith
+
+pub returns-clause-job : goal.returns-clause-job
+returns-clause-job g c = record {
+  same = search rules;
+  answer = job_moved _ _ _ _ _ _ _ _ _ _ _ _ _ _ _ c.open-stream.ensures.actor.0
+      (c.open-stream.ensures.source ∙ c.new-source.ensures) c.close-desk.ensures.went
+      c.show_all-job.ensures.answer;
+}
+
+pub returns-clause-taken : goal.returns-clause-taken
+returns-clause-taken g c =
+    let was = c.show_all-job.ensures.was.0 ∙ c.open-stream.ensures.actor.0 in
+    let blocks = ap length (c.show_all-job.ensures.was.1
+    ∙ (c.open-stream.ensures.source ∙ c.new-source.ensures)) in
+    let long = range_length c.args.job.now.first c.args.job.now.count in
+    let marks = ap (λ (a : Standing). local_marks a.known.marks) was in
+    let taken = c.close-desk.ensures.few in
+    let count = c.close-desk.ensures.count in
+    omega arith

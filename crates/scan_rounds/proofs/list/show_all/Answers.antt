@@ -1,0 +1,75 @@
+use Rattle.std.proofs.Common.{rules, ◌+◌, ℕ, refl, sym, ap, ◌∙◌, arith}
+use Rattle.read_stream.specs.Answering.{said, pages_in, entries_of, MayBeUnread}
+use Rattle.read_stream.proofs.Going.{went_nothing, went_then}
+use Rattle.scan_rounds.proofs.Showing.{nothing_yet, next_valid, at_place, shown_more, nearer}
+use Rattle.scan_rounds.proofs.Showing.{shown_end}
+use Rattle.scan_rounds.proofs.list.show_all.Goals as goal
+
+pub loop-ending-init : goal.loop-ending-init
+loop-ending-init g c = record {
+  same = (refl, refl, refl);
+  of = search rules;
+  told = c.requires.told;
+  stands_on = refl;
+  went = went_nothing _ _ _;
+  actor_is = search rules;
+  place = search rules;
+  is_open = search rules;
+  was = (refl, refl);
+  desk = refl;
+  so_far = nothing_yet _ _ _ _ c.requires.none c.requires.text;
+}
+
+pub show-requires : goal.show-requires
+show-requires g c =
+    let i = c.loop-ending.invariant in
+    next_valid g.W.World.told
+    (MayBeUnread c.args.stream.now.scope.was.value c.next-answer.new.actor.known)
+    (entries_of c.args.relation c.args.stream.now.source_was.value) c.loop-ending.stream.given
+    (said c.args.relation c.next-answer.result)
+    (at_place _ _ _ _ _ _ _ _ _ _ i.was.0 i.place i.was.1 c.next-answer.ensures.answer)
+
+pub loop-ending-preserved : goal.loop-ending-preserved
+loop-ending-preserved g c =
+    let f = c.next-answer.follows.holds-at-none in
+    let i = c.loop-ending.invariant in
+    let s = c.next-answer.ensures.same in
+    record {
+      same = (s.0 ∙ i.same.0, s.1 ∙ i.same.1, s.2 ∙ i.same.2);
+      of = (s.0 ∙ i.of.0, s.1 ∙ i.of.1);
+      told = (c.next-answer.ensures.told.0 ∙ i.told.0, c.next-answer.ensures.told.1 ∙ i.told.1);
+      stands_on = c.next-answer.ensures.stands_on ∙ i.stands_on;
+      went = went_then _ _ _ _ _ _ _ _ _ i.went c.next-answer.ensures.went;
+      actor_is = sym f.actor_is;
+      place = f.relation ∙ i.place;
+      is_open = f.is_open;
+      was = (f.actor_was ∙ i.was.0, f.source ∙ i.was.1);
+      desk = f.desk ∙ i.desk;
+      so_far = shown_more _ _ _ _ _ _ _ _ _ i.so_far
+          (at_place _ _ _ _ _ _ _ _ _ _ i.was.0 i.place i.was.1 c.next-answer.ensures.answer)
+          c.show.ensures c.in_default.is
+          (f.given ∙ ap (λ (r : ℕ). c.loop-ending.stream.given
+          + pages_in (said r c.next-answer.result)) i.place);
+    }
+
+pub loop-ending-smaller : goal.loop-ending-smaller
+loop-ending-smaller g c =
+    let f = c.next-answer.follows.holds-at-none in
+    let i = c.loop-ending.invariant in
+    let near = nearer _ _ _ _ _ _ _ _ _
+    (at_place _ _ _ _ _ _ _ _ _ _ i.was.0 i.place i.was.1 c.next-answer.ensures.answer)
+    c.show.ensures c.in_default.is
+    (f.given ∙ ap (λ (r : ℕ). c.loop-ending.stream.given
+    + pages_in (said r c.next-answer.result)) i.place) in
+    omega arith
+
+pub returns-in-Some-clause-went : goal.returns-in-Some-clause-went
+returns-in-Some-clause-went g c =
+    went_then _ _ _ _ _ _ _ _ _ c.loop-ending.invariant.went c.next-answer.ensures.went
+
+pub returns-in-Some-clause-answer : goal.returns-in-Some-clause-answer
+returns-in-Some-clause-answer g c =
+    let i = c.loop-ending.invariant in
+    shown_end _ _ _ _ _ _ _ _ _ i.so_far
+    (at_place _ _ _ _ _ _ _ _ _ _ i.was.0 i.place i.was.1 c.next-answer.ensures.answer)
+    c.show.ensures c.in-Some.is

@@ -1,0 +1,35 @@
+use Rattle.std.proofs.Common.{arith, rules, sym, subst}
+use Rattle.scan_rounds.specs.Opening.{GivesWorkers}
+use Rattle.scan_rounds.proofs.Opening.{left_of_workers, no_workers, workers_among}
+use Rattle.scan_rounds.proofs.open.Parts.workers.Goals as goal
+
+pub loop-init : goal.loop-init
+loop-init g c = record {
+  made = subst (λ ws. GivesWorkers c.args.self.now c.args.self.now ws) (sym c.requires.empty.0)
+      (no_workers c.args.self.now);
+  so_far = search rules;
+  capacity = search rules;
+}
+
+pub worker-requires-clause-actor : goal.worker-requires-clause-actor
+worker-requires-clause-actor g c =
+    let left = left_of_workers _ _ _ c.loop.invariant.made in
+    omega (arith, left.0, c.requires.actors)
+
+pub worker-requires-clause-disk : goal.worker-requires-clause-disk
+worker-requires-clause-disk g c =
+    let left = left_of_workers _ _ _ c.loop.invariant.made in
+    omega (arith, left.1, c.requires.disks)
+
+pub worker-requires-clause-seat : goal.worker-requires-clause-seat
+worker-requires-clause-seat g c =
+    let left = left_of_workers _ _ _ c.loop.invariant.made in
+    omega (arith, left.2, c.requires.seats)
+
+pub loop-preserved : goal.loop-preserved
+loop-preserved g c = record {
+  made = workers_among _ _ _ _ _ _ c.push_reserved.ensures.items c.loop.invariant.made
+      c.worker.ensures;
+  so_far = search rules;
+  capacity = search rules;
+}

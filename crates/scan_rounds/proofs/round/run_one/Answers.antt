@@ -1,0 +1,5 @@
+use Rattle.scan_rounds.proofs.Allowed.{is_ready}
+use Rattle.scan_rounds.proofs.round.run_one.Goals as goal
+
+pub run-requires-after_bounds : goal.run-requires-after_bounds
+run-requires-after_bounds g c κs within = is_ready _ _ _ _ _ _ c.requires.may

@@ -1,0 +1,28 @@
+use Rattle.std.proofs.Common.{rules, List, ◌≤◌, arith, subst}
+use Rattle.std.proofs.lemmas.List.{take_all}
+use Rattle.std.proofs.Math.Nat.{min-le_left}
+use Rattle.scan_rounds.specs.Rounds.{HaveRoom}
+use Rattle.scan_rounds.proofs.Rooms.{least_next, greatest_next, least_is}
+use Rattle.scan_rounds.proofs.rounds.least_room.Goals as goal
+
+pub loop-backend-preserved : goal.loop-backend-preserved
+loop-backend-preserved g c = record {
+  small = (let m = min-le_left c.loop-backend.least c.room.result in omega arith);
+  have = least_next c.loop-backend.least c.room.result c.min-least.result
+      c.loop-backend.backend-index c.args.backends.now c.backend-item.result (search rules)
+      (search rules) c.loop-backend.invariant.have c.room.ensures (search rules);
+  greatest = greatest_next c.loop-backend.least c.room.result c.min-least.result
+      c.loop-backend.backend-index c.args.backends.now c.backend-item.result (search rules)
+      (search rules) c.loop-backend.invariant.greatest c.room.ensures (search rules);
+}
+
+pub returns : goal.returns
+returns g c =
+    let i = c.loop-backend.invariant in
+    let all = take_all c.loop-backend.backend-index c.args.backends.now (search rules) in
+    record {
+      least = least_is c.loop-backend.least c.args.backends.now c.requires.some i.small
+          (subst (λ (bs : List _). HaveRoom c.loop-backend.least bs) all i.have)
+          (λ n small. subst (λ (bs : List _). HaveRoom n bs → n ≤ c.loop-backend.least) all
+          (i.greatest n small));
+    }

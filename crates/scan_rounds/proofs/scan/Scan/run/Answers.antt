@@ -1,0 +1,23 @@
+use Rattle.std.proofs.Common.{rules, refl}
+use Rattle.scan_rounds.proofs.Again.{waiting_in, serving_in, scan_again}
+use Rattle.scan_rounds.proofs.scan.Scan.run.Goals as goal
+
+pub run_beside-own_workers-requires-clause-may : goal.run_beside-own_workers-requires-clause-may
+run_beside-own_workers-requires-clause-may g c κs within =
+    let q = c.reopen_queue.ensures.queue in
+    serving_in _ _ _ c.args.self.now _ _ _ c.requires.scan c.reopen_queue.ensures.table q.0 q.1
+    (search rules)
+
+pub run_beside-own_workers-requires-clause-waiting :
+    goal.run_beside-own_workers-requires-clause-waiting
+run_beside-own_workers-requires-clause-waiting g c κs within =
+    let q = c.reopen_queue.ensures.queue in
+    waiting_in _ _ _ c.args.self.now _ _ _ c.requires.scan c.reopen_queue.ensures.table q.0 q.1
+    (search rules)
+
+pub returns-clause-scan : goal.returns-clause-scan
+returns-clause-scan g c =
+    let e = c.run_beside-own_workers.ensures in
+    scan_again _ _ _ c.args.self.now _ _ _ c.requires.scan c.reopen_queue.ensures.table
+    (search rules) (search rules) e.waiting e.worked e.gone.go_on e.many.0 (search rules) refl refl
+    refl

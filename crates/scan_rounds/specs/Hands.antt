@@ -1,0 +1,97 @@
+-- An actor with its disk, between its calls, and what a round makes of it.
+use Rattle.std.specs.Prelude.{◌≡◌, ◌≢◌, ℕ, ◌+◌, ◌<◌, ◌≤◌, ◌++◌, List, Option, Some, IfSome}
+use Rattle.page_check.specs.Told.{Told}
+use Rattle.page_check.specs.SynchronousAnswer.{reader_of}
+use Rattle.aio_word.specs.declared.Mark.{Mark}
+use Rattle.aio_word.specs.Events.{lives}
+use Rattle.aio_handle.specs.Closing.{IsAtRest}
+use Rattle.aio_handle.specs.Executing.{Pays}
+use Rattle.aio_handle.specs.Free.{IsRoom}
+use Rattle.aio_handle.specs.Shown.{Named, Standing, IsOf, IsSame}
+use Rattle.read_stream.specs.Answering.{MayBeUnread}
+use Rattle.read_stream.specs.Open.{IsFree}
+use Rattle.read_stream.specs.Went.{local_marks}
+use Rattle.method_worker.specs.Shown.{Queue, IsSeatOf}
+use Rattle.scan_rounds.specs.Jobs.{IsFresh, IsListed}
+use Rattle.scan_rounds.specs.declared.hand.Hand.{Hand}
+use Rattle.scan_rounds.specs.declared.backend.Backend.{Backend}
+use Rattle.scan_rounds.specs.declared.worker.Worker.{Worker}
+
+-- the meanings of a disk
+pub record Meter (D : Type 0) : Type 0 where
+  pub tells : D → Option Told
+  pub has : D → ℕ
+  pub reads : D → ℕ
+  pub faults : D → ℕ
+
+abbrev pub meter : {D : Type 0} → (D → Option Told) → (D → ℕ) → (D → ℕ) → (D → ℕ) → Meter D
+meter tells has reads faults =
+    record { tells = tells; has = has; reads = reads; faults = faults }
+
+-- each of its handles can have so many lives more, at least
+abbrev pub HasRoom : ℕ → Standing → Type 0
+HasRoom least a = (room : ℕ) × IsRoom a.known.config a.known room × (least ≤ room)
+
+module _ {W D : Type 0} (m : Meter D) (told : Option Told) (relations : ℕ) (t : Named) where
+  -- the actor is of the table and has nothing out, and its disk tells the world
+  pub record IsHand (h : Hand W D) : Type 0 where
+    pub disk : D
+    pub held : h.disk ≡ Some disk
+    pub tells : (m.tells disk ≡ told) × (m.has disk ≡ relations)
+    pub of : IsOf t h.actor
+    pub rest : IsAtRest h.actor.known
+
+  -- the same actor went on by these marks, and its disk has counted a read for each I/O that it
+  -- has executed on the way, and a fault for each that failed
+  pub record GoesOn (h k : Hand W D) : Type 0 where
+    pub same : IsSame h.actor k.actor
+    pub more : List Mark
+    pub marks : k.actor.known.marks ≡ h.actor.known.marks ++ more
+    pub before : D
+    pub after : D
+    pub had : h.disk ≡ Some before
+    pub has : k.disk ≡ Some after
+    pub pays : Pays (m.reads before) (m.reads after) (m.faults before) (m.faults after) more
+
+  module _ (q : Queue) where
+    pub record IsBackend (b : Backend W D) : Type 0 where
+      pub hand : IsHand b.hand
+      pub backend : b.hand.actor.known.number < b.hand.actor.known.config.backends
+      pub desk : IsFree b.desk
+      pub seat : IfSome b.seat (IsSeatOf q)
+
+    -- it may do its job, if it has one
+    pub record IsReady (b : Backend W D) : Type 0 where
+      pub is : IsBackend b
+      pub room : HasRoom 64 b.hand.actor
+      pub fresh : b.job.count ≢ 0 → IsFresh relations b.job
+
+    -- it has done its job, if it had one
+    pub record Ran (b c : Backend W D) : Type 0 where
+      pub is : IsBackend c
+      pub goes : GoesOn b.hand c.hand
+      pub lived : (h : ℕ) → lives h c.hand.actor.known.marks
+          ≤ lives h b.hand.actor.known.marks + 64
+      pub taken : local_marks c.hand.actor.known.marks
+          ≤ local_marks b.hand.actor.known.marks + b.job.count
+      pub idle : b.job.count ≡ 0 → c.job ≡ b.job
+      pub listed : b.job.count ≢ 0
+          → IsListed (reader_of told) (MayBeUnread b.hand.actor c.hand.actor.known) b.job c.job
+
+    pub record IsWorker (w : Worker W D) : Type 0 where
+      pub hand : IsHand w.hand
+      pub worker : w.hand.actor.known.config.backends ≤ w.hand.actor.known.number
+      pub seat : IsSeatOf q w.seat
+
+    pub record Worked (w v : Worker W D) : Type 0 where
+      pub is : IsWorker v
+      pub goes : GoesOn w.hand v.hand
+
+-- as they stand among what a thread is given
+unfoldable pub MayRun : {W D : Type 0} → Meter D → Option Told → ℕ → Named → Queue → Backend W D
+    → Type 0
+MayRun m told relations t q b = IsReady m told relations t q b
+
+unfoldable pub MayServe : {W D : Type 0} → Meter D → Option Told → ℕ → Named → Queue → Worker W D
+    → Type 0
+MayServe m told relations t q w = IsWorker m told relations t q w

@@ -1,0 +1,64 @@
+-- What a job asks for, and what has become of it.
+use Rattle.std.specs.Prelude.{◌≡◌, ℕ, ◌+◌, ◌^◌, ◌<◌, ◌≤◌, List, [], length, count_by, sum_by, Option, Some}
+use Rattle.std.specs.Prelude.{None, Bool, true, false, slice_index_or, ⊤}
+use Rattle.page_check.specs.SynchronousAnswer.{Entry, Reader, Ending as SaidEnding, End}
+use Rattle.page_check.specs.SynchronousAnswer.{Invalid as SaidInvalid, PastEnd as SaidPastEnd}
+use Rattle.page_check.specs.SynchronousAnswer.{Unread as SaidUnread}
+use Rattle.heap_scan.specs.Job.{IsJobAnswer, job_entries}
+use Rattle.scan_rounds.specs.declared.job.Ending.{Ending}
+use Rattle.scan_rounds.specs.declared.job.Ending.TheVariants as ending
+use Rattle.scan_rounds.specs.declared.job.Job.{Job}
+
+-- the ending that was answered: none where there was no memory
+abbrev pub said_end : Ending → Option SaidEnding
+said_end ending.Pages = Some End
+said_end (ending.Invalid block) = Some (SaidInvalid block)
+said_end (ending.Unread block) = Some (SaidUnread block)
+said_end (ending.PastEnd block) = Some (SaidPastEnd block)
+said_end ending.NoMemory = None
+
+-- the ending of a job whose blocks were answered so
+abbrev pub ending_for : SaidEnding → Ending
+ending_for End = ending.Pages
+ending_for (SaidInvalid block) = ending.Invalid block
+ending_for (SaidUnread block) = ending.Unread block
+ending_for (SaidPastEnd block) = ending.PastEnd block
+
+abbrev pub is_unread : Ending → Bool
+is_unread (ending.Unread block) = true
+is_unread ending.Pages = false
+is_unread (ending.Invalid block) = false
+is_unread (ending.PastEnd block) = false
+is_unread ending.NoMemory = false
+
+-- how many of these jobs ended in Unread
+abbrev pub unread_among : List Job → ℕ
+unread_among jobs = count_by (λ j. is_unread j.ending) jobs
+
+-- how many blocks they ask for
+abbrev pub blocks_among : List Job → ℕ
+blocks_among jobs = sum_by (λ (j : Job). j.count) jobs
+
+-- a job that nobody has worked on
+pub record IsFresh (relations : ℕ) (j : Job) : Type 0 where
+  pub relation_in : j.relation < relations
+  pub few : (1 ≤ j.count) × (j.count ≤ 64)
+  pub within : j.first + j.count ≤ 2 ^ 32
+  pub no_text : j.text.items ≡ []
+  pub no_ending : j.ending ≡ ending.Pages
+
+-- the blocks that it asks for
+abbrev pub entries_in : Job → List (Entry (Unit {0}))
+entries_in j = job_entries j.relation j.first j.count
+
+-- what has become of a job: the same blocks, with the text and the ending of their answers
+pub record IsListed (found : Option Reader) (may : Entry (Unit {0}) → Type 0) (j k : Job)
+    : Type 0 where
+  pub same : (k.relation ≡ j.relation) × (k.first ≡ j.first) × (k.count ≡ j.count)
+  pub answer : IsJobAnswer found may (entries_in j) k.text.items (said_end k.ending)
+
+-- what has become of jobs that were put, whichever block may be unread
+pub record AreAnswered (found : Option Reader) (asked answered : List Job) : Type 0 where
+  pub as_many : length answered ≡ length asked
+  pub each : (i : ℕ) (j : Job) → i < length asked
+      → IsListed found (λ _. ⊤) (slice_index_or asked i j) (slice_index_or answered i j)

@@ -1,0 +1,145 @@
+-- The settings of a scan, and what they make.
+use Rattle.std.specs.Prelude.{◌≡◌, ℕ, ◌≤◌, ◌+◌, ◌*◌, ◌/◌, ◌++◌, List, [], length, map, min, max}
+use Rattle.std.specs.Prelude.{◌-◌, ◌^◌, Option, Some, vec_capacity, option_to_list}
+use Rattle.std.specs.Prelude.{◌<◌, Bool, true, false}
+use Rattle.std.specs.Option.{is_some}
+use Rattle.std.specs.List.{All, flat_map}
+use Rattle.std.specs.Vec.Iter.{into_iter_items}
+use Rattle.page_check.specs.Told.{Told}
+use Rattle.aio_word.specs.declared.Config.{Config}
+use Rattle.aio_handle.specs.Shown.{AreNew}
+use Rattle.method_worker.specs.Shown.{IsSeatOf}
+use Rattle.read_stream.specs.Open.{IsFree}
+use Rattle.read_stream.specs.declared.desk.Desk.{Desk}
+use Rattle.read_stream.specs.declared.desk.Settings.{Settings}
+use Rattle.scan_rounds.specs.Hands.{Meter}
+use Rattle.scan_rounds.specs.Rounds.{AreIdle, hand_of, hand_in, taken_by}
+use Rattle.scan_rounds.specs.Scans.{IsScan, actor_of, disk_of, opened_by}
+use Rattle.scan_rounds.specs.declared.backend.Backend.{Backend}
+use Rattle.scan_rounds.specs.declared.hand.Hand.{Hand}
+use Rattle.scan_rounds.specs.declared.memory.Lists.{Lists}
+use Rattle.scan_rounds.specs.declared.memory.Memory.{Memory}
+use Rattle.scan_rounds.specs.declared.open.Parts.{Parts}
+use Rattle.scan_rounds.specs.declared.scan.Scan.{Scan}
+use Rattle.scan_rounds.specs.declared.settings.MethodKind.{MethodKind}
+use Rattle.scan_rounds.specs.declared.settings.MethodKind.TheVariants as method
+use Rattle.scan_rounds.specs.declared.settings.ScanSettings.{ScanSettings}
+use Rattle.scan_rounds.specs.declared.worker.Worker.{Worker}
+
+-- how many workers there are by a method
+abbrev pub workers_by : MethodKind → ℕ → ℕ
+workers_by method.Sync workers = 0
+workers_by method.Worker workers = workers
+
+abbrev pub workers_in : ScanSettings → ℕ
+workers_in s = workers_by s.method s.workers
+
+-- the settings are in their ranges
+pub record AreSettings (s : ScanSettings) : Type 0 where
+  pub workers_in_range : (1 ≤ s.workers) × (s.workers ≤ 32)
+  pub backends_in_range : (1 ≤ s.backends) × (s.backends ≤ 16)
+  pub combine_in_range : (1 ≤ s.combine) × (s.combine ≤ 128)
+  pub concurrency_in_range : (1 ≤ s.concurrency) × (s.concurrency ≤ 256)
+  pub handles_in_range : (1 ≤ s.handles) × (s.handles ≤ 64)
+  pub buffers_in_range : (16 ≤ s.buffers) × (s.buffers ≤ 16384)
+
+-- the table of a scan
+abbrev pub config_of : ScanSettings → Config
+config_of s =
+    record {
+      backends = s.backends;
+      per_backend = s.handles;
+      runners = workers_in s;
+      start = 0;
+    }
+
+-- the settings of its streams
+pub record AreStreamsOf (s : ScanSettings) (r : Settings) : Type 0 where
+  pub combine : r.combine ≡ s.combine
+  pub ios : r.ios ≡ min s.concurrency s.handles
+  pub limit : r.limit ≡ max 1 (min (r.ios * s.combine) (s.buffers / s.backends))
+  pub full : r.full ≡ s.full
+  pub batch : r.batch ≡ s.batch
+
+-- whether there are workers by a method
+abbrev pub has_workers : MethodKind → Bool
+has_workers method.Sync = false
+has_workers method.Worker = true
+
+-- how the streams of a desk read
+abbrev pub reads_by : {W : Type 0} → Desk W (Unit {0}) → Settings
+reads_by d =
+    record {
+      combine = d.combine;
+      ios = d.ios;
+      limit = d.limit;
+      full = d.full;
+      batch = d.batched;
+    }
+
+-- a desk for the streams of a scan
+pub record IsDeskFor {W : Type 0} (s : ScanSettings) (d : Desk W (Unit {0})) : Type 0 where
+  pub free : IsFree d
+  pub streams : AreStreamsOf s (reads_by d)
+
+-- its streams read as the settings say, and it has a seat where there are workers
+pub record IsSetUp {W D : Type 0} (s : ScanSettings) (b : Backend W D) : Type 0 where
+  pub streams : AreStreamsOf s (reads_by b.desk)
+  pub seat : is_some b.seat ≡ has_workers s.method
+
+module _ {W D : Type 0} where
+  -- empty lists, with room for this many
+  pub record HasLists (backends workers : ℕ) (l : Lists W D) : Type 0 where
+    pub backends_fit : (l.backends.items ≡ []) × (backends ≤ vec_capacity l.backends)
+    pub workers_fit : (l.workers.items ≡ []) × (workers ≤ vec_capacity l.workers)
+    pub actors_fit : (l.actors.items ≡ []) × (backends + workers ≤ vec_capacity l.actors)
+    pub disks_fit : (l.disks.items ≡ []) × (backends + workers ≤ vec_capacity l.disks)
+
+  -- the memory of a scan with these settings, in which nothing was done
+  pub record IsMemory (s : ScanSettings) (m : Memory W D) : Type 0 where
+    pub config : m.common.table.config ≡ config_of s
+    pub actors_are : length m.actors.items ≡ s.backends + workers_in s
+    pub actors : AreNew m.common.table 0 m.actors.items
+    pub seats_are : length m.seats.items ≡ workers_by s.method (s.backends + s.workers)
+    pub seats : All (IsSeatOf m.common.queue) m.seats.items
+    pub desks_are : length m.desks.items ≡ s.backends
+    pub desks : All (IsDeskFor s) m.desks.items
+    pub jobs_are : length m.jobs.items ≡ s.backends
+    pub lists : HasLists s.backends (workers_in s) m.lists
+
+  -- the first actors and disks of the parts are those of the hands, and these are left
+  pub record GivesHands (p left : Parts W D) (hs : List (Hand W D)) : Type 0 where
+    pub actors : into_iter_items p.actors
+        ≡ map actor_of hs ++ into_iter_items left.actors
+    pub disks : map Some (into_iter_items p.disks)
+        ≡ map disk_of hs ++ map Some (into_iter_items left.disks)
+
+  -- the first parts are those of the backends, which have no job, and these are left
+  pub record GivesBackends (p left : Parts W D) (bs : List (Backend W D)) : Type 0 where
+    pub hands : GivesHands p left (map hand_of bs)
+    pub desks : into_iter_items p.desks
+        ≡ map (λ (b : Backend W D). b.desk) bs ++ into_iter_items left.desks
+    pub seats : into_iter_items p.seats
+        ≡ flat_map (λ (b : Backend W D). option_to_list b.seat) bs ++ into_iter_items left.seats
+    pub idle : AreIdle bs
+    -- each has a seat, if any is left
+    pub seated : 0 < length (into_iter_items left.seats)
+        → All (λ (b : Backend W D). is_some b.seat ≡ true) bs
+
+  -- the first parts are those of the workers, and these are left
+  pub record GivesWorkers (p left : Parts W D) (ws : List (Worker W D)) : Type 0 where
+    pub hands : GivesHands p left (map hand_in ws)
+    pub seats : into_iter_items p.seats
+        ≡ map (λ (w : Worker W D). w.seat) ws ++ into_iter_items left.seats
+    pub desks : left.desks ≡ p.desks
+
+-- a scan with these settings, just opened over these disks
+pub record IsOpened {W D : Type 0} (m : Meter D) (told : Option Told) (relations : ℕ)
+    (settings : ScanSettings) (disks : List D) (s : Scan W D) : Type 0 where
+  pub is : IsScan m told relations s
+  pub config : s.common.table.config ≡ config_of settings
+  pub set_up : All (IsSetUp settings) s.backends.items
+  pub opened : opened_by s ≡ disks
+  pub taken : taken_by s.backends.items ≡ 0
+  pub room : s.room ≡ 2 ^ 58 - 1
+  pub unread : s.unread ≡ 0

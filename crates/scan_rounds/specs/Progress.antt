@@ -1,0 +1,32 @@
+-- The backends of a scan between two rounds, and what some rounds have made of them.
+use Rattle.std.specs.Prelude.{◌≡◌, ℕ, ◌+◌, ◌*◌, ◌≤◌, List, length, map, Option}
+use Rattle.std.specs.List.{All}
+use Rattle.page_check.specs.Told.{Told}
+use Rattle.aio_disk.specs.Counts.{raised_by}
+use Rattle.aio_handle.specs.Shown.{Named}
+use Rattle.method_worker.specs.Shown.{Queue}
+use Rattle.scan_rounds.specs.Hands.{Meter, IsBackend}
+use Rattle.scan_rounds.specs.Rounds.{AreIdle, IsLeastRoom, AllGoOn, hand_of, results_of, taken_by}
+use Rattle.scan_rounds.specs.declared.backend.Backend.{Backend}
+use Rattle.scan_rounds.specs.declared.rounds.Counts.{Counts}
+
+module _ {W D : Type 0} (m : Meter D) (told : Option Told) (relations : ℕ) (t : Named) where
+  -- the backends wait for a round, and this is what was counted so far
+  pub record AreWaiting (q : Queue) (bs : List (Backend W D)) (counts : Counts) : Type 0 where
+    pub some : 1 ≤ length bs
+    pub backends : All (IsBackend m told relations t q) bs
+    pub idle : AreIdle bs
+    pub room : IsLeastRoom bs counts.room
+    -- each job that ended in Unread has left the result of a failed I/O
+    pub few_unread : counts.unread ≤ results_of bs
+
+  -- from the first state to the second so many blocks were asked for, and so many jobs ended in
+  -- Unread, at least
+  pub record HasGone (bs cs : List (Backend W D)) (before after : Counts) (blocks unread : ℕ)
+      : Type 0 where
+    pub go_on : AllGoOn m told relations t (map hand_of bs) (map hand_of cs)
+    pub room : before.room ≤ after.room + 64 * blocks
+    pub taken : taken_by cs ≤ taken_by bs + blocks
+    pub more : ℕ
+    pub raised : after.unread ≡ raised_by more before.unread
+    pub enough : unread ≤ more

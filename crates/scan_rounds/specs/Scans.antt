@@ -1,0 +1,108 @@
+-- A scan between its rounds, and what its end tells.
+use Rattle.std.specs.Prelude.{◌≡◌, ℕ, ◌+◌, ◌<◌, ◌≤◌, ◌++◌, List, [], length, map, sum_by, Option, Some}
+use Rattle.std.specs.Prelude.{vec_capacity, slice_index_or}
+use Rattle.std.specs.List.{All}
+use Rattle.page_check.specs.Told.{Told}
+use Rattle.aio_word.specs.declared.Config.{Config}
+use Rattle.aio_word.specs.declared.Known.{Known}
+use Rattle.aio_word.specs.Tokens.{io_marks, failed_marks}
+use Rattle.aio_handle.specs.Closing.{AreTotals, Tally}
+use Rattle.aio_handle.specs.Executing.{Pays, last_count}
+use Rattle.aio_handle.specs.Shown.{Standing, known_in}
+use Rattle.scan_rounds.specs.Hands.{Meter, IsBackend, IsWorker}
+use Rattle.scan_rounds.specs.Rounds.{AreIdle, IsLeastRoom, results_of, hand_of, hand_in}
+use Rattle.scan_rounds.specs.declared.hand.Hand.{Hand}
+use Rattle.scan_rounds.specs.declared.scan.Scan.{Scan}
+
+module _ {W D : Type 0} where
+  -- all actors, the backends first, with their disks
+  abbrev pub hands_of : Scan W D → List (Hand W D)
+  hands_of s = map hand_of s.backends.items ++ map hand_in s.workers.items
+
+  -- the disks, as they were when the scan was opened
+  abbrev pub opened_by : Scan W D → List D
+  opened_by s = s.opened.value.items
+
+  -- an actor and its disk, by themselves
+  abbrev pub actor_of : Hand W D → Standing
+  actor_of h = h.actor
+
+  abbrev pub disk_of : Hand W D → Option D
+  disk_of h = h.disk
+
+  -- the lists of these actors, in their order
+  abbrev pub lists_of : List (Hand W D) → List Known
+  lists_of hs = map known_in (map actor_of hs)
+
+  abbrev pub HasDisk : Hand W D → Type 0
+  HasDisk h = (disk : D) × (h.disk ≡ Some disk)
+
+-- the disk has counted, since it was so, a read for each I/O that the actor has executed, and a
+-- fault for each that failed
+pub record HasPaid {W D : Type 0} (m : Meter D) (opened : D) (h : Hand W D) : Type 0 where
+  pub disk : D
+  pub held : h.disk ≡ Some disk
+  pub pays : Pays (m.reads opened) (m.reads disk) (m.faults opened) (m.faults disk)
+      h.actor.known.marks
+
+module _ {W D : Type 0} (m : Meter D) (told : Option Told) (relations : ℕ) where
+  -- each disk has counted what its actor has executed since the scan was opened
+  pub record HavePaid (opened : List D) (hs : List (Hand W D)) : Type 0 where
+    pub as_many : length opened ≡ length hs
+    pub each : (i : ℕ) (o : D) (d : Hand W D) → i < length hs
+        → HasPaid m (slice_index_or opened i o) (slice_index_or hs i d)
+
+  pub record IsScan (s : Scan W D) : Type 0 where
+    pub backends_are : s.common.table.config.backends ≡ length s.backends.items
+    pub workers_are : s.common.table.config.runners ≡ length s.workers.items
+    pub some : 1 ≤ length s.backends.items
+    pub backends_stand : All (IsBackend m told relations s.common.table s.common.queue)
+        s.backends.items
+    pub workers_stand : All (IsWorker m told relations s.common.table s.common.queue)
+        s.workers.items
+    pub paid : HavePaid (opened_by s) (hands_of s)
+    pub idle : AreIdle s.backends.items
+    pub room : IsLeastRoom s.backends.items s.room
+    -- each job that ended in Unread has left the result of a failed I/O
+    pub few_unread : s.unread ≤ results_of s.backends.items
+    pub jobs_are : length s.jobs.items ≡ length s.backends.items
+    -- there is room for all actors and all disks at the end
+    pub no_actors : s.actors.items ≡ []
+    pub no_disks : s.disks.items ≡ []
+    pub actors_fit : length s.backends.items + length s.workers.items ≤ vec_capacity s.actors
+    pub disks_fit : length s.backends.items + length s.workers.items ≤ vec_capacity s.disks
+
+module _ {D : Type 0} (m : Meter D) (told : Option Told) (relations : ℕ) where
+  -- the numbers of the end, for disks that were so when the scan was opened, and are so now, and
+  -- for the lists of their actors, in the same order
+  pub record IsFinished (c : Config) (unread taken : ℕ) (opened disks : List D)
+      (parts : List Known) (totals : Tally) : Type 0 where
+    pub are : AreTotals c parts totals
+    pub parts_are : length parts ≡ length disks
+    pub disks_are : length disks ≡ length opened
+    pub tell : All (λ d. (m.tells d ≡ told) × (m.has d ≡ relations)) disks
+    -- each incarnation was one read
+    pub each_read : All (λ d. m.reads d < last_count) disks
+        → totals.incarnations + sum_by m.reads opened ≡ sum_by m.reads disks
+    -- and one result that a backend has taken
+    pub each_taken : totals.incarnations ≡ taken
+    -- each disk has counted a read for each I/O that its own actor has executed
+    pub each_own : (i : ℕ) (p : Known) (d : D) → i < length disks
+        → m.reads (slice_index_or disks i d) < last_count
+        → io_marks (slice_index_or parts i p).marks + m.reads (slice_index_or opened i d)
+        ≡ m.reads (slice_index_or disks i d)
+    -- no actor has more failed executions than its own disk has counted faults
+    pub each_fault : (i : ℕ) (p : Known) (d : D) → i < length disks
+        → m.faults (slice_index_or disks i d) < last_count
+        → failed_marks (slice_index_or parts i p).marks + m.faults (slice_index_or opened i d)
+        ≤ m.faults (slice_index_or disks i d)
+    -- each job that ended in Unread has a fault of its own
+    pub each_unread : All (λ d. m.faults d < last_count) disks
+        → unread + sum_by m.faults opened ≤ sum_by m.faults disks
+    pub no_workers : c.runners ≡ 0 → totals.by_runners ≡ 0
+
+-- the same backends and workers, over the same disks
+pub record IsSameScan {W D : Type 0} (s s' : Scan W D) : Type 0 where
+  pub config : s'.common.table.config ≡ s.common.table.config
+  pub as_many : length s'.backends.items ≡ length s.backends.items
+  pub opened : opened_by s' ≡ opened_by s

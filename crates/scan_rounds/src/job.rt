@@ -1,0 +1,62 @@
+//! What a backend is asked to list, and what it answers.
+ghost use Rattle.std.specs.Prelude.{◌≡◌, []};
+
+use std::alloc::Global;
+
+/// How a job ended.
+#[derive(Clone, Copy, Debug, PartialEq, Eq)]
+pub enum Ending {
+    /// All its pages were listed.
+    Pages,
+    /// The page of this block is not valid; the pages before it were listed.
+    Invalid(u32),
+    /// This block could not be read; the pages before it were listed.
+    Unread(u32),
+    /// The relation has no such block; the pages before it were listed.
+    PastEnd(u32),
+    /// There was no memory for a page's text; the pages before it were listed.
+    NoMemory,
+}
+
+/// Some blocks of a relation, and their text.
+#[derive(Drop)]
+pub struct Job {
+    pub relation: u32,
+    pub first: u32,
+    /// How many blocks, 1 to 64; 0 in a job that asks for none.
+    pub count: u32,
+    /// The text of the pages, in their order.
+    pub text: Vec<u8>,
+    pub ending: Ending,
+}
+
+impl Job {
+    /// A job that asks for no blocks yet. It takes no memory.
+    pub fn new(alloc: Global) -> Job
+        ensures count { result.count ≡ 0 }
+        ensures text { result.text.items ≡ [] }
+        ensures ending { result.ending ≡ Ending.Pages }
+    {
+        Job {
+            relation: 0,
+            first: 0,
+            count: 0,
+            text: Vec::new(alloc),
+            ending: Ending::Pages,
+        }
+    }
+
+    /// Asks for these blocks. The text is empty then, and keeps its memory.
+    pub fn ask(&mut self, relation: u32, first: u32, count: u32)
+        ensures blocks { (self.new.relation ≡ relation) × (self.new.first ≡ first)
+            × (self.new.count ≡ count) }
+        ensures text { self.new.text.items ≡ [] }
+        ensures ending { self.new.ending ≡ Ending.Pages }
+    {
+        self.relation = relation;
+        self.first = first;
+        self.count = count;
+        self.text.clear();
+        self.ending = Ending::Pages;
+    }
+}

@@ -1,0 +1,136 @@
+//! Lists the blocks of a job through a read stream.
+ghost use Rattle.std.specs.Prelude.{◌≡◌, ◌<◌, ◌≤◌, ◌+◌, ℕ, []};
+ghost use Rattle.page_check.specs.SynchronousAnswer.{reader_of};
+ghost use Rattle.page_check.specs.Verdict.{IsValid};
+ghost use Rattle.aio_word.specs.Events.{lives};
+ghost use Rattle.aio_handle.specs.Closing.{IsAtRest};
+ghost use Rattle.aio_handle.specs.Free.{IsRoom};
+ghost use Rattle.aio_handle.specs.Shown.{IsOf, IsSame};
+ghost use Rattle.heap_scan.specs.Job.{IsJobAnswer};
+ghost use Rattle.read_stream.specs.Answering.{MayBeUnread, entries_of, said};
+ghost use Rattle.read_stream.specs.Open.{IsFree, IsOpen};
+ghost use Rattle.read_stream.specs.Went.{Went, local_marks};
+ghost use Rattle.scan_rounds.specs.Jobs.{IsFresh, IsListed, said_end};
+ghost use Rattle.scan_rounds.specs.Showing.{IfPage, Shows};
+
+use crate::job::{Ending, Job};
+use aio_batch::Method;
+use aio_callback::ReadIo;
+use aio_handle::{Actor, Execute, Table};
+use block_source::Range;
+use buf_pool::Pool;
+use heap_scan::page_text;
+use page_check::World;
+use read_stream::{Desk, Next, ReadStream};
+use std::sync::Wait;
+
+// Appends the page that was answered. Some where the job has ended.
+fn show(relation: u32, answer: Next<'_, ()>, text: &mut Vec<u8>) -> Option<Ending>
+    requires { IfPage (said relation answer) IsValid }
+    ensures { Shows (said relation answer.entry) text.old.items text.new.items result }
+{
+    match answer {
+        Next::Page(page, block, _) => match page_text(relation, block, page, text) {
+            Ok(()) => None,
+            Err(_) => Some(Ending::NoMemory),
+        },
+        Next::End => Some(Ending::Pages),
+        Next::Invalid(block) => Some(Ending::Invalid(block)),
+        Next::Unread(block) => Some(Ending::Unread(block)),
+        Next::PastEnd(block) => Some(Ending::PastEnd(block)),
+    }
+}
+
+// Appends what the stream answers, up to its end.
+fn show_all<W: World, M: Method<ReadIo, W>, E: Execute<ReadIo, W>, T: Wait>(
+    rt: &T,
+    table: &Table<ReadIo, W>,
+    actor: &mut Actor<ReadIo, W>,
+    method: &mut M,
+    runner: &mut E,
+    stream: &mut ReadStream<'_, '_, W, Range, ()>,
+    relation: u32,
+    text: &mut Vec<u8>,
+) -> Ending
+    requires table { IsOf table.now actor.old }
+    requires told { (E.told runner.old ≡ W.told) × (E.relations runner.old ≡ W.relations) }
+    requires actor { actor.old ≡ stream.old.actor_is.value }
+    requires relation { stream.old.scope.relation ≡ relation }
+    requires is_open { IsOpen (λ r. r) W.told W.relations W.handles stream.old }
+    requires none { stream.old.given ≡ 0 }
+    requires text { text.old.items ≡ [] }
+    ensures same { IsSame actor.old actor.new }
+    ensures told { (E.told runner.new ≡ W.told) × (E.relations runner.new ≡ W.relations) }
+    ensures stands_on { M.stands_on method.new ≡ M.stands_on method.old }
+    ensures went { Went actor.old.known actor.new.known (E.reads runner.old) (E.reads runner.new)
+        (E.faults runner.old) (E.faults runner.new) }
+    ensures answer { IsJobAnswer (reader_of W.told)
+        (MayBeUnread stream.old.scope.was.value actor.new.known)
+        (entries_of relation stream.old.source_was.value) text.new.items (said_end result) }
+    ensures desk { stream.new.desk.ghost_name ≡ stream.old.desk.ghost_name }
+    ensures was { (stream.new.scope.was.value ≡ stream.old.scope.was.value)
+        × (stream.new.source_was.value ≡ stream.old.source_was.value) }
+    ensures actor { actor.new ≡ stream.new.actor_is.value }
+    ensures is_open { IsOpen (λ r. r) W.told W.relations W.handles stream.new }
+{
+    loop {
+        let answer = stream.next(rt, table, actor, method, runner);
+        if let Some(ending) = show(relation, answer, text) {
+            return ending;
+        }
+    }
+}
+
+// Ends the loan of a desk.
+fn give_back<W: World>(desk: &mut Desk<W, ()>)
+    ensures { desk.new ≡ desk.old }
+{
+    let _ = desk;
+}
+
+/// Lists the job's blocks.
+pub(crate) fn list<W: World, M: Method<ReadIo, W>, E: Execute<ReadIo, W>, T: Wait>(
+    rt: &T,
+    table: &Table<ReadIo, W>,
+    pool: &Pool<W>,
+    actor: &mut Actor<ReadIo, W>,
+    desk: &mut Desk<W, ()>,
+    method: &mut M,
+    runner: &mut E,
+    job: &mut Job,
+)
+    requires table { IsOf table.now actor.old }
+    requires backend { actor.old.known.number < actor.old.known.config.backends }
+    requires rest { IsAtRest actor.old.known }
+    requires room { (room : ℕ) × IsRoom actor.old.known.config actor.old.known room × (64 ≤ room) }
+    requires desk { IsFree desk.old }
+    requires told { (E.told runner.old ≡ W.told) × (E.relations runner.old ≡ W.relations) }
+    requires job { IsFresh W.relations job.old }
+    ensures same { IsSame actor.old actor.new }
+    ensures told { (E.told runner.new ≡ W.told) × (E.relations runner.new ≡ W.relations) }
+    ensures stands_on { M.stands_on method.new ≡ M.stands_on method.old }
+    ensures went { Went actor.old.known actor.new.known (E.reads runner.old) (E.reads runner.new)
+        (E.faults runner.old) (E.faults runner.new) }
+    ensures rest { IsAtRest actor.new.known }
+    ensures lived { (h : ℕ) → lives h actor.new.known.marks ≤ lives h actor.old.known.marks + 64 }
+    ensures taken { local_marks actor.new.known.marks
+        ≤ local_marks actor.old.known.marks + job.old.count }
+    ensures desk { IsFree desk.new }
+    ensures job { IsListed (reader_of W.told) (MayBeUnread actor.old actor.new.known) job.old
+        job.new }
+{
+    let source = Range::new(job.first, job.count);
+    let mut stream = ReadStream::open(desk, pool, actor, job.relation, source);
+    job.ending = show_all(
+        rt,
+        table,
+        actor,
+        method,
+        runner,
+        &mut stream,
+        job.relation,
+        &mut job.text,
+    );
+    let (_, desk) = stream.close(rt, table, actor, method, runner);
+    give_back(desk);
+}

@@ -1,0 +1,169 @@
+//! All memory of a scan.
+ghost use Rattle.std.specs.Prelude.{◌≡◌, ◌≤◌, ◌<◌, ◌+◌, ◌*◌, ◌^◌, length, IfOk};
+ghost use Rattle.std.specs.List.{All};
+ghost use Rattle.aio_handle.specs.Shown.{AreNew};
+ghost use Rattle.method_worker.specs.Shown.{IsSeatOf};
+ghost use Rattle.scan_rounds.specs.Opening.{AreSettings, AreStreamsOf, HasLists, IsDeskFor};
+ghost use Rattle.scan_rounds.specs.Opening.{IsMemory, config_of, workers_by, workers_in};
+
+use crate::backend::Backend;
+use crate::common::Common;
+use crate::job::Job;
+use crate::settings::{MethodKind, ScanSettings};
+use crate::worker::Worker;
+use aio_callback::ReadIo;
+use aio_disk::Disk;
+use aio_handle::{Actor, Table};
+use buf_pool::Pool;
+use method_worker::{QueueSeat, SubmitQueue};
+use page_check::World;
+use read_stream::{Desk, Settings};
+use std::alloc::{AllocError, Global};
+
+/// The lists of a scan, all empty.
+#[derive(Drop)]
+pub(crate) struct Lists<W: World, D: Disk> {
+    pub(crate) backends: Vec<Backend<W, D>>,
+    pub(crate) workers: Vec<Worker<W, D>>,
+    // For the end of the scan.
+    pub(crate) actors: Vec<Actor<ReadIo, W>>,
+    pub(crate) disks: Vec<D>,
+}
+
+/// All memory that a scan takes, but for the texts of jobs, before it has the disks.
+#[derive(Drop)]
+pub(crate) struct Memory<W: World, D: Disk> {
+    pub(crate) common: Common<W>,
+    // Those of the backends, and then those of the workers.
+    pub(crate) actors: Vec<Actor<ReadIo, W>>,
+    // None where there are no workers.
+    pub(crate) seats: Vec<QueueSeat>,
+    pub(crate) desks: Vec<Desk<W, ()>>,
+    pub(crate) jobs: Vec<Job>,
+    pub(crate) lists: Lists<W, D>,
+}
+
+// How the streams of a scan read. The frames of the pool are shared out to the backends.
+fn stream_settings(settings: &ScanSettings) -> Settings
+    requires { AreSettings settings.now }
+    ensures { AreStreamsOf settings.now result }
+{
+    let ios = settings.concurrency.min(settings.handles);
+    let share = settings.buffers / settings.backends;
+    Settings {
+        combine: settings.combine,
+        ios,
+        limit: share.min(ios * settings.combine).max(1),
+        full: settings.full,
+        batch: settings.batch,
+    }
+}
+
+// As many as there are with workers, and none without.
+pub(crate) fn by_method(method: MethodKind, count: u32) -> u32
+    ensures { result ≡ workers_by method count }
+{
+    match method {
+        MethodKind::Sync => 0,
+        MethodKind::Worker => count,
+    }
+}
+
+// A queue with this many seats. It has one at least, which is dropped where none is wanted.
+fn open_queue<W: World>(
+    alloc: Global,
+    count: u32,
+) -> Result<(SubmitQueue<W>, Vec<QueueSeat>), AllocError>
+    requires { count ≤ 48 }
+    ensures count { IfOk result (λ q. length q.1.items ≡ count) }
+    ensures seats { IfOk result (λ q. All (IsSeatOf q.0) q.1.items) }
+{
+    let (queue, mut seats) = SubmitQueue::open(alloc, count.max(1))?;
+    seats.truncate(count as usize);
+    Ok((queue, seats))
+}
+
+// A desk for each backend.
+fn open_desks<W: World>(
+    alloc: Global,
+    settings: &ScanSettings,
+) -> Result<Vec<Desk<W, ()>>, AllocError>
+    requires { AreSettings settings.now }
+    ensures count { IfOk result (λ d. length d.items ≡ settings.now.backends) }
+    ensures desks { IfOk result (λ d. All (IsDeskFor settings.now) d.items) }
+{
+    let streams = stream_settings(settings);
+    let mut desks = Vec::with_capacity(alloc, settings.backends as usize)?;
+    for _ in 0..settings.backends {
+        desks.push_reserved(Desk::open(alloc, &streams)?);
+    }
+    Ok(desks)
+}
+
+// So many jobs that ask for nothing.
+fn open_jobs(alloc: Global, count: u32) -> Result<Vec<Job>, AllocError>
+    ensures { IfOk result (λ j. length j.items ≡ count) }
+{
+    let mut jobs = Vec::with_capacity(alloc, count as usize)?;
+    for _ in 0..count {
+        jobs.push_reserved(Job::new(alloc));
+    }
+    Ok(jobs)
+}
+
+// The table with its actors, the pool, and the queue with its seats.
+fn open_common<W: World>(
+    alloc: Global,
+    settings: &ScanSettings,
+) -> Result<(Common<W>, Vec<Actor<ReadIo, W>>, Vec<QueueSeat>), AllocError>
+    requires settings { AreSettings settings.now }
+    requires handles { settings.now.backends * settings.now.handles ≡ W.handles }
+    ensures config { IfOk result (λ c. c.0.table.config ≡ config_of settings.now) }
+    ensures actors { IfOk result (λ c. AreNew c.0.table 0 c.1.items
+        × (length c.1.items ≡ settings.now.backends + workers_in settings.now)) }
+    ensures seats { IfOk result (λ c. All (IsSeatOf c.0.queue) c.2.items
+        × (length c.2.items
+        ≡ workers_by settings.now.method (settings.now.backends + settings.now.workers))) }
+{
+    let workers = by_method(settings.method, settings.workers);
+    let seats = by_method(settings.method, settings.backends + settings.workers);
+    let (table, actors) = Table::open(alloc, settings.backends, settings.handles, workers, 0)?;
+    let (queue, seats) = open_queue(alloc, seats)?;
+    let pool = Pool::open(alloc, settings.buffers)?;
+    Ok((Common { table, pool, queue }, actors, seats))
+}
+
+impl<W: World, D: Disk> Lists<W, D> {
+    fn open(alloc: Global, backends: u32, workers: u32) -> Result<Lists<W, D>, AllocError>
+        requires { backends + workers < 2 ^ 32 }
+        ensures { IfOk result (HasLists backends workers) }
+    {
+        let all = (backends + workers) as usize;
+        Ok(Lists {
+            backends: Vec::with_capacity(alloc, backends as usize)?,
+            workers: Vec::with_capacity(alloc, workers as usize)?,
+            actors: Vec::with_capacity(alloc, all)?,
+            disks: Vec::with_capacity(alloc, all)?,
+        })
+    }
+}
+
+impl<W: World, D: Disk> Memory<W, D> {
+    /// The memory of a scan with these settings.
+    pub(crate) fn open(alloc: Global, settings: &ScanSettings) -> Result<Memory<W, D>, AllocError>
+        requires settings { AreSettings settings.now }
+        requires handles { settings.now.backends * settings.now.handles ≡ W.handles }
+        ensures { IfOk result (IsMemory settings.now) }
+    {
+        let (common, actors, seats) = open_common(alloc, settings)?;
+        let workers = by_method(settings.method, settings.workers);
+        Ok(Memory {
+            common,
+            actors,
+            seats,
+            desks: open_desks(alloc, settings)?,
+            jobs: open_jobs(alloc, settings.backends)?,
+            lists: Lists::open(alloc, settings.backends, workers)?,
+        })
+    }
+}

@@ -1,0 +1,194 @@
+//! Opens a scan.
+ghost use Rattle.std.specs.Prelude.{◌≡◌, ◌≤◌, ◌<◌, ◌+◌, ◌*◌, ◌-◌, ◌^◌, ◌∷◌, [], length};
+ghost use Rattle.std.specs.Prelude.{IfErr, IfOk, vec_capacity};
+ghost use Rattle.std.specs.List.{All};
+ghost use Rattle.std.specs.Vec.Iter.{into_iter_items};
+ghost use Rattle.scan_rounds.specs.Hands.{meter};
+ghost use Rattle.scan_rounds.specs.Opening.{AreSettings, GivesBackends, GivesHands, GivesWorkers};
+ghost use Rattle.scan_rounds.specs.Opening.{IsMemory, IsOpened, IsSetUp, workers_in};
+ghost use Rattle.scan_rounds.specs.Rounds.{taken_by};
+ghost use Rattle.scan_rounds.specs.Scans.{IsScan, opened_by};
+
+use crate::backend::Backend;
+use crate::hand::Hand;
+use crate::job::Job;
+use crate::memory::{Memory, by_method};
+use crate::scan::Scan;
+use crate::settings::ScanSettings;
+use crate::worker::Worker;
+use aio_callback::ReadIo;
+use aio_disk::Disk;
+use aio_handle::Actor;
+use method_worker::QueueSeat;
+use page_check::World;
+use read_stream::Desk;
+use std::alloc::Global;
+use std::snapshot::Snapshot;
+use std::vec::IntoIter;
+
+/// How many lives a new handle can have.
+const NEW_ROOM: u64 = (1 << 58) - 1;
+
+/// What backends and workers are made of, in the order of their numbers.
+#[derive(Drop)]
+struct Parts<W: World, D: Disk> {
+    actors: IntoIter<Actor<ReadIo, W>, Global>,
+    disks: IntoIter<D, Global>,
+    seats: IntoIter<QueueSeat, Global>,
+    desks: IntoIter<Desk<W, ()>, Global>,
+}
+
+impl<W: World, D: Disk> Parts<W, D> {
+    // The next actor with the next disk.
+    fn hand(&mut self) -> Hand<W, D>
+        requires actor { 1 ≤ length (into_iter_items self.old.actors) }
+        requires disk { 1 ≤ length (into_iter_items self.old.disks) }
+        ensures hands { GivesHands self.old self.new (result ∷ []) }
+        ensures seats { self.new.seats ≡ self.old.seats }
+        ensures desks { self.new.desks ≡ self.old.desks }
+    {
+        let Some(actor) = self.actors.next() else {
+            unreachable!()
+        };
+        Hand {
+            disk: self.disks.next(),
+            actor,
+        }
+    }
+
+    // The next backend. It has a seat if there is one.
+    fn backend(&mut self, alloc: Global) -> Backend<W, D>
+        requires actor { 1 ≤ length (into_iter_items self.old.actors) }
+        requires disk { 1 ≤ length (into_iter_items self.old.disks) }
+        requires desk { 1 ≤ length (into_iter_items self.old.desks) }
+        ensures { GivesBackends self.old self.new (result ∷ []) }
+    {
+        let hand = self.hand();
+        let Some(desk) = self.desks.next() else {
+            unreachable!()
+        };
+        Backend {
+            hand,
+            desk,
+            seat: self.seats.next(),
+            job: Job::new(alloc),
+        }
+    }
+
+    // The next worker.
+    fn worker(&mut self) -> Worker<W, D>
+        requires actor { 1 ≤ length (into_iter_items self.old.actors) }
+        requires disk { 1 ≤ length (into_iter_items self.old.disks) }
+        requires seat { 1 ≤ length (into_iter_items self.old.seats) }
+        ensures { GivesWorkers self.old self.new (result ∷ []) }
+    {
+        let hand = self.hand();
+        let Some(seat) = self.seats.next() else {
+            unreachable!()
+        };
+        Worker { hand, seat }
+    }
+
+    // So many backends, in this list.
+    fn backends(
+        &mut self,
+        alloc: Global,
+        count: u32,
+        mut backends: Vec<Backend<W, D>>,
+    ) -> Vec<Backend<W, D>>
+        requires actors { count ≤ length (into_iter_items self.old.actors) }
+        requires disks { count ≤ length (into_iter_items self.old.disks) }
+        requires desks { count ≤ length (into_iter_items self.old.desks) }
+        requires empty { (backends.items ≡ []) × (count ≤ vec_capacity backends) }
+        ensures made { GivesBackends self.old self.new result.items }
+        ensures count { length result.items ≡ count }
+    {
+        for _ in 0..count {
+            backends.push_reserved(self.backend(alloc));
+        }
+        backends
+    }
+
+    // So many workers, in this list.
+    fn workers(&mut self, count: u32, mut workers: Vec<Worker<W, D>>) -> Vec<Worker<W, D>>
+        requires actors { count ≤ length (into_iter_items self.old.actors) }
+        requires disks { count ≤ length (into_iter_items self.old.disks) }
+        requires seats { count ≤ length (into_iter_items self.old.seats) }
+        requires empty { (workers.items ≡ []) × (count ≤ vec_capacity workers) }
+        ensures made { GivesWorkers self.old self.new result.items }
+        ensures count { length result.items ≡ count }
+    {
+        for _ in 0..count {
+            workers.push_reserved(self.worker());
+        }
+        workers
+    }
+}
+
+// A scan in this memory, over these disks.
+fn man<W: World, D: Disk>(
+    alloc: Global,
+    settings: &ScanSettings,
+    memory: Memory<W, D>,
+    disks: Vec<D>,
+) -> Scan<W, D>
+    requires settings { AreSettings settings.now }
+    requires memory { IsMemory settings.now memory }
+    requires disks { length disks.items ≡ settings.now.backends + workers_in settings.now }
+    requires tell { All (λ d. (D.told d ≡ W.told) × (D.relations d ≡ W.relations)) disks.items }
+    ensures { IsOpened (meter D.told D.relations D.reads D.faults) W.told W.relations settings.now
+        disks.items result }
+{
+    let opened = Snapshot::of(&disks);
+    let lists = memory.lists;
+    let mut parts = Parts {
+        actors: memory.actors.into_iter(),
+        disks: disks.into_iter(),
+        seats: memory.seats.into_iter(),
+        desks: memory.desks.into_iter(),
+    };
+    let backends = parts.backends(alloc, settings.backends, lists.backends);
+    let count = by_method(settings.method, settings.workers);
+    let workers = parts.workers(count, lists.workers);
+    Scan {
+        alloc,
+        common: memory.common,
+        backends,
+        workers,
+        jobs: memory.jobs,
+        room: NEW_ROOM,
+        unread: 0,
+        opened,
+        actors: lists.actors,
+        disks: lists.disks,
+    }
+}
+
+impl<W: World, D: Disk> Scan<W, D> {
+    /// A scan with these settings, over a disk for each backend and then for each worker. It takes
+    /// all memory that the scan ever takes, but for the texts of jobs; where there is none, the
+    /// disks come back as they are.
+    pub fn open(alloc: Global, settings: &ScanSettings, disks: Vec<D>) -> Result<Scan<W, D>, Vec<D>>
+        requires settings { AreSettings settings.now }
+        requires disks { length disks.items ≡ settings.now.backends + workers_in settings.now }
+        requires tell { All (λ d. (D.told d ≡ W.told) × (D.relations d ≡ W.relations)) disks.items }
+        requires handles { settings.now.backends * settings.now.handles ≡ W.handles }
+        ensures scan { IfOk result (λ s. IsScan (meter D.told D.relations D.reads D.faults) W.told
+            W.relations s) }
+        ensures numbers { IfOk result
+            (λ s. (s.common.table.config.backends ≡ settings.now.backends)
+            × (s.common.table.config.runners ≡ workers_in settings.now)
+            × (s.common.table.config.start ≡ 0)) }
+        ensures set_up { IfOk result (λ s. All (IsSetUp settings.now) s.backends.items) }
+        ensures opened { IfOk result (λ s. opened_by s ≡ disks.items) }
+        ensures taken { IfOk result (λ s. taken_by s.backends.items ≡ 0) }
+        ensures room { IfOk result (λ s. s.room ≡ 2 ^ 58 - 1) }
+        ensures unread { IfOk result (λ s. s.unread ≡ 0) }
+        ensures back { IfErr result (λ d. d ≡ disks) }
+    {
+        match Memory::open(alloc, settings) {
+            Ok(memory) => Ok(man(alloc, settings, memory, disks)),
+            Err(_) => Err(disks),
+        }
+    }
+}

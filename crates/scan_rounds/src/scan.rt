@@ -1,0 +1,50 @@
+//! A scan: backends and workers over one table.
+ghost use Rattle.std.specs.Prelude.{◌≡◌};
+
+use crate::backend::Backend;
+use crate::common::Common;
+use crate::job::Job;
+use crate::worker::Worker;
+use aio_callback::ReadIo;
+use aio_disk::Disk;
+use aio_handle::Actor;
+use page_check::World;
+use std::alloc::Global;
+use std::snapshot::Snapshot;
+
+/// Backends and workers over one table of handles, one pool and one submission queue.
+#[derive(Drop)]
+pub struct Scan<W: World, D: Disk> {
+    pub(crate) alloc: Global,
+    pub(crate) common: Common<W>,
+    // In the order of the actors' numbers.
+    pub(crate) backends: Vec<Backend<W, D>>,
+    pub(crate) workers: Vec<Worker<W, D>>,
+    // One for each backend, for a run of several rounds.
+    pub(crate) jobs: Vec<Job>,
+    // The least room of the backends.
+    pub(crate) room: u64,
+    // How many jobs have ended in Unread.
+    pub(crate) unread: u64,
+    // The disks as they were when the scan was opened, those of the backends first.
+    pub(crate) opened: Snapshot<Vec<D>>,
+    // Empty, with room for all actors and all disks.
+    pub(crate) actors: Vec<Actor<ReadIo, W>>,
+    pub(crate) disks: Vec<D>,
+}
+
+impl<W: World, D: Disk> Scan<W, D> {
+    /// The least room of its backends: how many more lives each of their handles can have.
+    pub fn room(&self) -> u64
+        ensures { result ≡ self.now.room }
+    {
+        self.room
+    }
+
+    /// How many jobs of its rounds so far have ended in Unread. It stays at its last value.
+    pub fn unread(&self) -> u64
+        ensures { result ≡ self.now.unread }
+    {
+        self.unread
+    }
+}

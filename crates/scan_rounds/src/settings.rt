@@ -1,0 +1,32 @@
+//! How a scan reads.
+
+/// Who executes I/O (`io_method`).
+#[derive(Clone, Copy, Debug, PartialEq, Eq)]
+pub enum MethodKind {
+    /// Each backend its own, at once.
+    Sync,
+    /// The workers.
+    Worker,
+}
+
+/// How a scan reads.
+#[derive(Clone, Copy, Debug, PartialEq, Eq)]
+pub struct ScanSettings {
+    pub method: MethodKind,
+    /// 1 to 32 (`io_workers`); they are made with `MethodKind::Worker` alone.
+    pub workers: u32,
+    /// 1 to 16.
+    pub backends: u32,
+    /// The most blocks of one I/O, 1 to 128 (`io_combine_limit`).
+    pub combine: u32,
+    /// The most I/Os of a stream under way, 1 to 256 (`effective_io_concurrency`).
+    pub concurrency: u32,
+    /// The handles of a backend, 1 to 64 (`io_max_concurrency`).
+    pub handles: u32,
+    /// The frames of the pool, 16 to 16384 (`shared_buffers`).
+    pub buffers: u32,
+    /// Whether I/Os are submitted together.
+    pub batch: bool,
+    /// Whether streams look far ahead from the first block on (`READ_STREAM_FULL`).
+    pub full: bool,
+}
