@@ -34,6 +34,10 @@ mod rounds;
 mod run;
 mod scan;
 mod settings;
+#[cfg(test)]
+mod tests;
+#[cfg(test)]
+mod trials;
 mod worker;
 
 pub use agenda::Agenda;

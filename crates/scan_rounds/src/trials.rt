@@ -1,0 +1,274 @@
+//! What tests list: rounds of jobs over disks of a shelf in memory.
+ghost use Rattle.std.specs.Prelude.{◌≡◌, ◌+◌, ◌*◌, ◌^◌, ◌<◌, ◌≤◌, ◌≢◌, length, map, IfOk, IfSome};
+ghost use Rattle.std.specs.Prelude.{IsTrue, string_bytes};
+ghost use Rattle.std.specs.List.{All};
+ghost use Rattle.aio_disk.specs.Shelf.{told_of};
+ghost use Rattle.scan_rounds.specs.Hands.{meter};
+ghost use Rattle.scan_rounds.specs.Jobs.{IsFresh};
+ghost use Rattle.scan_rounds.specs.Opening.{AreSettings, workers_in};
+ghost use Rattle.scan_rounds.specs.Scans.{IsScan};
+
+use crate::{Ending, Job, MethodKind, Scan, ScanSettings};
+use aio_disk::{Disk, MemShelf, Script, Shelf};
+use page_check::World;
+use std::alloc::{AllocError, Global};
+use std::marker::Brand;
+use std::process::Abort;
+use std::sync::Wait;
+use std::test::Fail;
+use std::thread::Threads;
+
+/// The settings that a scan has unless a test says otherwise.
+pub(crate) const USUAL: ScanSettings = ScanSettings {
+    method: MethodKind::Worker,
+    workers: 3,
+    backends: 2,
+    combine: 16,
+    concurrency: 16,
+    handles: 16,
+    buffers: 128,
+    batch: false,
+    full: false,
+};
+
+/// Some blocks of relation 0: the first, and how many.
+pub(crate) type Blocks = (u32, u32);
+
+/// What became of a job.
+#[derive(Drop)]
+pub(crate) struct Shown {
+    pub text: Vec<u8>,
+    pub ending: Ending,
+}
+
+/// What became of all jobs, and the numbers of the end.
+#[derive(Drop)]
+pub(crate) struct Outcome {
+    pub jobs: Vec<Shown>,
+    pub unread: u64,
+    pub incarnations: u128,
+    pub by_workers: u128,
+    pub by_backends: u128,
+}
+
+// Whether a scan may be opened so.
+fn is_in_range(settings: &ScanSettings) -> bool
+    ensures { IsTrue result → AreSettings settings.now }
+{
+    let ScanSettings {
+        method: _,
+        workers,
+        backends,
+        combine,
+        concurrency,
+        handles,
+        buffers,
+        batch: _,
+        full: _,
+    } = *settings;
+    let actors = 1 <= workers && workers <= 32 && 1 <= backends && backends <= 16;
+    let reads = 1 <= combine && combine <= 128 && 1 <= concurrency && concurrency <= 256;
+    let memory = 1 <= handles && handles <= 64 && 16 <= buffers && buffers <= 16384;
+    actors && reads && memory
+}
+
+// How many disks a scan has.
+fn disk_count(settings: &ScanSettings) -> usize
+    requires { AreSettings settings.now }
+    ensures { result ≡ settings.now.backends + workers_in settings.now }
+{
+    let workers = match settings.method {
+        MethodKind::Sync => 0,
+        MethodKind::Worker => settings.workers,
+    };
+    (settings.backends + workers) as usize
+}
+
+// Opens so many disks of one relation.
+fn open_disks<S: Shelf>(
+    alloc: Global,
+    shelf: &mut S,
+    names: &[String],
+    count: usize,
+) -> Result<Vec<S::Disk>, Fail>
+    ensures count { IfOk result (λ disks. length disks.items ≡ count) }
+    ensures tell { IfOk result (λ disks. All (λ d.
+        (S.Disk.told d ≡ told_of (S.told shelf.old) (map string_bytes names.now))
+        × (S.Disk.relations d ≡ length names.now)) disks.items) }
+{
+    let mut disks = Vec::new(alloc);
+    for _ in 0..count {
+        let disk = shelf.open(names).ok().ok_or("no disk")?;
+        disks.push(disk)?;
+    }
+    Ok(disks)
+}
+
+// A job for the blocks, where they are some that a job may have.
+fn job_for(alloc: Global, blocks: Blocks) -> Option<Job>
+    ensures { IfSome result (IsFresh 1) }
+{
+    let (first, count) = blocks;
+    if count < 1 || count > 64 || first > 1000 {
+        return None;
+    }
+    let mut job = Job::new(alloc);
+    job.ask(0, first, count);
+    Some(job)
+}
+
+// Jobs for these blocks.
+fn jobs_for(alloc: Global, round: &[Blocks]) -> Result<Vec<Job>, Fail>
+    ensures fresh { IfOk result (λ jobs. All (IsFresh 1) jobs.items) }
+    ensures count { IfOk result (λ jobs. length jobs.items ≡ length round.now) }
+{
+    let mut jobs = Vec::new(alloc);
+    for blocks in round {
+        jobs.push(job_for(alloc, *blocks).ok_or("no job")?)?;
+    }
+    Ok(jobs)
+}
+
+// One round, and what became of its jobs.
+fn list_round<W: World + Send + Sync, D: Disk, R: Threads + Wait + Sync>(
+    rt: &R,
+    alloc: Global,
+    scan: &mut Scan<W, D>,
+    round: &[Blocks],
+    all: &mut Vec<Shown>,
+) -> Result<(), Fail>
+    requires scan { IsScan (meter D.told D.relations D.reads D.faults) W.told W.relations scan.old }
+    requires one { W.relations ≡ 1 }
+    ensures scan { IsScan (meter D.told D.relations D.reads D.faults) W.told W.relations scan.new }
+{
+    let mut jobs = jobs_for(alloc, round)?;
+    if jobs.is_empty() || jobs.len() > scan.backends.len() || scan.room() < 64 {
+        return Err(Fail::from("no round"));
+    }
+    scan.round(rt, jobs.as_mut_slice());
+    for job in jobs {
+        let Job { text, ending, .. } = job;
+        all.push(Shown { text, ending })?;
+    }
+    Ok(())
+}
+
+// All rounds, one after the other.
+fn list_rounds<W: World + Send + Sync, D: Disk, R: Threads + Wait + Sync>(
+    rt: &R,
+    alloc: Global,
+    scan: &mut Scan<W, D>,
+    rounds: &[Vec<Blocks>],
+    all: &mut Vec<Shown>,
+) -> Result<(), Fail>
+    requires scan { IsScan (meter D.told D.relations D.reads D.faults) W.told W.relations scan.old }
+    requires one { W.relations ≡ 1 }
+    ensures scan { IsScan (meter D.told D.relations D.reads D.faults) W.told W.relations scan.new }
+{
+    for round in rounds {
+        list_round(rt, alloc, scan, round.as_slice(), all)?;
+    }
+    Ok(())
+}
+
+// A scan over disks of the shelf, from its opening to its end.
+fn scan_shelf<W: World + Send + Sync, S: Shelf, R: Threads + Wait + Sync>(
+    rt: &R,
+    alloc: Global,
+    settings: &ScanSettings,
+    shelf: &mut S,
+    names: &[String],
+    rounds: &[Vec<Blocks>],
+) -> Result<Outcome, Fail>
+    requires settings { AreSettings settings.now }
+    requires told { told_of (S.told shelf.old) (map string_bytes names.now) ≡ W.told }
+    requires one { (W.relations ≡ length names.now) × (length names.now ≡ 1) }
+    requires handles { settings.now.backends * settings.now.handles ≡ W.handles }
+{
+    let disks = open_disks(alloc, shelf, names, disk_count(settings))?;
+    let Ok(mut scan) = Scan::<W, S::Disk>::open(alloc, settings, disks) else {
+        return Err(Fail::from("no memory for a scan"));
+    };
+    let mut jobs = Vec::new(alloc);
+    let listed = list_rounds(rt, alloc, &mut scan, rounds, &mut jobs);
+    let unread = scan.unread();
+    let (totals, disks) = scan.finish();
+    for disk in disks {
+        shelf.take_back(disk);
+    }
+    listed?;
+    Ok(Outcome {
+        jobs,
+        unread,
+        incarnations: totals.incarnations(),
+        by_workers: totals.by_runners(),
+        by_backends: totals.by_backends(),
+    })
+}
+
+/// The same, where the shelf fixes what all objects of the scan agree on.
+pub(crate) fn scan_over<S: Shelf, R: Abort + AllocGlobal + Threads + Wait + Sync>(
+    rt: &R,
+    settings: &ScanSettings,
+    shelf: &mut S,
+    rounds: &[Vec<Blocks>],
+) -> Result<Outcome, Fail> {
+    let alloc = rt.alloc();
+    assert!(rt; is_in_range(settings));
+    let names = vec![in alloc; String::from_str(alloc, "f")?]?;
+    scan_shelf::<Brand, S, R>(rt, alloc, settings, shelf, names.as_slice(), rounds)
+}
+
+/// The header of a page without items: lower 24, upper and special 8192, version 4.
+const EMPTY_PAGE: [u8; 20] = [
+    0, 0, 0, 0, 0, 0, 0, 0, 0, 0, 0, 0, 24, 0, 0, 32, 0, 32, 4, 32,
+];
+
+/// A file `f` of so many empty pages, and a flag that makes one bad.
+pub(crate) fn file_of(
+    alloc: Global,
+    blocks: u32,
+    bad: Option<u32>,
+) -> Result<Vec<(String, Vec<u8>)>, Fail> {
+    let mut bytes = Vec::new(alloc);
+    for block in 0..blocks {
+        let mut header = EMPTY_PAGE;
+        if bad == Some(block) {
+            header[10] = 8;
+        }
+        bytes.extend_from_slice(&header)?;
+        bytes.extend_from_slice(&[0; 8172])?;
+    }
+    Ok(vec![in alloc; (String::from_str(alloc, "f")?, bytes)]?)
+}
+
+/// A shelf of that file whose reads fail so: (disk, read).
+pub(crate) fn shelf_of<R: Abort + AllocGlobal>(
+    rt: &R,
+    files: Vec<(String, Vec<u8>)>,
+    fail_reads: Vec<(u32, u64)>,
+) -> Result<MemShelf, Fail> {
+    let alloc = rt.alloc();
+    let script = Script {
+        fail_opens: Vec::new(alloc),
+        fail_lengths: Vec::new(alloc),
+        fail_reads,
+        shorts: Vec::new(alloc),
+    };
+    assert!(rt; aio_disk::have_distinct_names(files.as_slice()));
+    assert!(rt; script.has_positive_shorts());
+    Ok(MemShelf::make(alloc, files, script, 0)?)
+}
+
+/// The lines of so many empty pages of relation 0.
+pub(crate) fn lines(alloc: Global, first: u32, count: u32) -> Result<Vec<u8>, Fail>
+    requires { first + count ≤ 2 ^ 28 }
+{
+    let mut text = String::new(alloc);
+    for block in first..first + count {
+        text.push_str("page 0 ")?;
+        text.push_str(block.to_string(alloc)?.as_str())?;
+        text.push_str(" lower 24 upper 8192 special 8192 items 0\n")?;
+    }
+    Ok(text.into_bytes())
+}
