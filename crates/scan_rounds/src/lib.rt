@@ -24,6 +24,8 @@ mod backend;
 mod common;
 mod course;
 mod finish;
+#[cfg(test)]
+mod gate;
 mod hand;
 mod job;
 mod list;

@@ -10,7 +10,7 @@ use std::test::Fail;
 use std::thread::Threads;
 
 /// Compares what became of a job with the pages of its first blocks and an ending.
-fn check_job<R: Abort + AllocGlobal>(
+pub(crate) fn check_job<R: Abort + AllocGlobal>(
     rt: &R,
     outcome: &Outcome,
     place: usize,
@@ -28,7 +28,7 @@ fn check_job<R: Abort + AllocGlobal>(
 }
 
 // One round with these jobs.
-fn one_round(alloc: Global, jobs: &[Blocks]) -> Result<Vec<Vec<Blocks>>, Fail> {
+pub(crate) fn one_round(alloc: Global, jobs: &[Blocks]) -> Result<Vec<Vec<Blocks>>, Fail> {
     let mut round = Vec::new(alloc);
     round.extend_from_slice(jobs)?;
     Ok(vec![in alloc; round]?)

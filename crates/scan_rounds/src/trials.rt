@@ -220,7 +220,7 @@ pub(crate) fn scan_over<S: Shelf, R: Abort + AllocGlobal + Threads + Wait + Sync
 }
 
 /// The header of a page without items: lower 24, upper and special 8192, version 4.
-const EMPTY_PAGE: [u8; 20] = [
+pub(crate) const EMPTY_PAGE: [u8; 20] = [
     0, 0, 0, 0, 0, 0, 0, 0, 0, 0, 0, 0, 24, 0, 0, 32, 0, 32, 4, 32,
 ];
 
