@@ -4,15 +4,16 @@ use Rattle.std.proofs.Common.{true, false, sym}
 use Rattle.std.specs.Prelude.{Option, Some, None, IfSome, slice_index, nat_lt, cond}
 use Rattle.std.proofs.lemmas.Bool.Decides.{nat_tests}
 use Rattle.page_check.specs.Told.{Told, blocks_of}
-use Rattle.page_check.specs.SynchronousAnswer.{Reader, reader_of}
+use Rattle.page_check.specs.SynchronousAnswer.{reader_of}
 use Rattle.aio_disk.specs.Counts.{raised_by}
+use Rattle.aio_disk.specs.Shelf.{Files, told_of}
 use Rattle.aio_handle.specs.Executing.{last_count}
 use Rattle.aioscan_cmd.specs.Command.{Command, length_limit, relations_of}
-use Rattle.aioscan_cmd.specs.RequestList.{Request, requests_of}
+use Rattle.aioscan_cmd.specs.RequestList.{requests_of}
 use Rattle.aioscan_cmd.specs.Outcomes.{is_refused}
 use Rattle.aioscan_cmd.specs.Lengths.{HasLengths, HasNoLengths}
 use Rattle.aioscan_cmd.specs.Reading.{Seen, seen, Lists}
-use Rattle.aioscan_cmd.specs.Run.{Ran, EarlierFit, FitsInOrder, lengths_known}
+use Rattle.aioscan_cmd.specs.Run.{Ran, RanOn, EarlierFit, FitsInOrder, lengths_known}
 use Rattle.aioscan_cmd.specs.declared.report.Outcome.{Outcome}
 use Rattle.aioscan_cmd.specs.declared.report.Outcome.TheVariants.{Done, Invalid, Usage, CannotOpen}
 use Rattle.aioscan_cmd.specs.declared.report.Outcome.TheVariants.{NoLength, Unread, CannotWrite}
@@ -177,11 +178,57 @@ ran_still told relations command output reads now o same ran =
     let P : ℕ → Type 0 = λ n. Ran told relations command (seen output reads) (seen output n) o in
     subst P (sym same) ran
 
--- blocks that were listed by the same lengths
-pub lists_from : (found : Option Reader) (lengths same : List ℕ) (command : Command)
-    (b a : Option (List ℕ)) (o : Outcome) → same ≡ lengths
-    → Lists found (requests_of (slice_index same) command) b a o
-    → Lists found (requests_of (slice_index lengths) command) b a o
-lists_from found lengths same command b a o is lists =
-    let P : List ℕ → Type 0 = λ l. Lists found (requests_of (slice_index l) command) b a o in
-    subst P is lists
+-- nothing was read for want of memory
+pub ran_without_memory : (told : Option Told) (relations : ℕ) (command : Command)
+    (output : Option (List ℕ)) (reads now : ℕ) (o : Outcome) → o ≡ NoMemory → now ≡ reads
+    → Ran told relations command (seen output reads) (seen output now) o
+ran_without_memory told relations command output reads now o is same =
+    let P : Outcome → Type 0 = λ x. Ran told relations command (seen output reads)
+    (seen output now) x in
+    subst P (sym is)
+    (ran_still told relations command output reads now NoMemory same
+    (ran_out_of_memory told relations command (seen output reads)))
+
+-- nothing was read, since the lengths could not be had
+pub ran_refused : (told : Option Told) (relations : ℕ) (command : Command)
+    (output : Option (List ℕ)) (reads now : ℕ) (o refusal : Outcome) → o ≡ refusal → now ≡ reads
+    → HasNoLengths told relations refusal
+    → Ran told relations command (seen output reads) (seen output now) o
+ran_refused told relations command output reads now o refusal is same has =
+    let P : Outcome → Type 0 = λ x. Ran told relations command (seen output reads)
+    (seen output now) x in
+    subst P (sym is)
+    (ran_still told relations command output reads now refusal same
+    (ran_into_refusal told relations command (seen output reads) refusal has))
+
+-- nothing was read, since a disk could not be opened
+pub ran_unopened : (told : Option Told) (relations : ℕ) (command : Command)
+    (output after : Option (List ℕ)) (reads now : ℕ) (o : Outcome) → o ≡ CannotOpen
+    → after ≡ output → now ≡ reads
+    → Ran told relations command (seen output reads) (seen after now) o
+ran_unopened told relations command output after reads now o is kept same =
+    let P : Outcome → Type 0 = λ x. Ran told relations command (seen output reads)
+    (seen after now) x in
+    let Q : Option (List ℕ) → Type 0 = λ a. Ran told relations command (seen output reads)
+    (seen a now) CannotOpen in
+    subst P (sym is) (subst Q (sym kept)
+    (ran_still told relations command output reads now CannotOpen same
+    (ran_without_disk told relations command (seen output reads))))
+
+-- the same run, said of the same contents
+pub ran_same : (told now : Option Told) (relations count : ℕ) (command : Command)
+    (output : Option (List ℕ)) (reads before : ℕ) (after : Seen) (o : Outcome) → now ≡ told
+    → count ≡ relations → before ≡ reads
+    → Ran now count command (seen output before) after o
+    → Ran told relations command (seen output reads) after o
+ran_same told now relations count command output reads before after o same all kept ran =
+    rw (← same, ← all, ← kept) ran
+
+-- words that may be a command could not be read for want of memory
+pub ran_unread : (files : Option Files) (command : Option Command) (s : Seen) (o : Outcome)
+    → o ≡ NoMemory → RanOn files command s s o
+ran_unread files None s o is = tt
+ran_unread files (Some c) s o is =
+    let told = told_of files (relations_of c) in
+    let P : Outcome → Type 0 = λ x. Ran told (length (relations_of c)) c s s x in
+    subst P (sym is) (ran_out_of_memory told (length (relations_of c)) c s)

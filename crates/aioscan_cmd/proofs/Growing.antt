@@ -1,8 +1,9 @@
 -- A sink that grows by one text after another.
 use Rattle.std.proofs.Common.{◌≡◌, ℕ, ◌+◌, List, [], ◌∷◌, ◌++◌, length, take, refl, sym, ap, ◌∙◌}
-use Rattle.std.proofs.Common.{subst, append-nil, append_assoc, zero, suc}
+use Rattle.std.proofs.Common.{subst, append-nil, append_assoc, zero, suc, arith}
 use Rattle.std.specs.Prelude.{Option, Some, None}
 use Rattle.std.proofs.Math.Seq.{take-append-add}
+use Rattle.std.proofs.lemmas.List.{take_all}
 use Rattle.aio_disk.specs.Sink.{Grew, GrewByPrefix}
 
 pub Grew-nothing : (before : Option (List ℕ)) → Grew before before []
@@ -68,3 +69,13 @@ GrewByPrefix-more None a xs ys grew = grew
 GrewByPrefix-more (Some b) a xs ys grew =
     let j = take_within grew.0 xs ys in
     (j.0, grew.1 ∙ ap {B = Option (List ℕ)} (λ (l : List ℕ). Some (b ++ l)) j.1)
+
+-- all of a text is a begin of it
+pub GrewByPrefix-whole : (b a : Option (List ℕ)) (text : List ℕ) → Grew b a text
+    → GrewByPrefix b a text
+GrewByPrefix-whole None a text grew = grew
+GrewByPrefix-whole (Some b) a text grew = (
+  length text,
+  grew ∙ ap {B = Option (List ℕ)} (λ (l : List ℕ). Some (b ++ l))
+      (sym (take_all (length text) text (omega arith))),
+)

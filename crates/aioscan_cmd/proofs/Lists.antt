@@ -1,20 +1,16 @@
 -- Lists of blocks that were listed one after the other.
-use Rattle.std.proofs.Common.{◌≡◌, ◌≢◌, ◌+◌, ℕ, List, [], ◌∷◌, ◌++◌, length, refl, sym, ap, ◌∙◌}
-use Rattle.std.proofs.Common.{subst, arith, length-append, append-nil}
-use Rattle.std.specs.Prelude.{Option, Some, None, slice_get, IfSome, ⊤}
-use Rattle.page_check.specs.Verdict.{IsValid}
+use Rattle.std.proofs.Common.{◌≡◌, ◌≢◌, ◌+◌, ℕ, List, [], ◌++◌, length, refl, sym, ap, ◌∙◌}
+use Rattle.std.proofs.Common.{subst, arith, length-append}
+use Rattle.std.specs.Prelude.{Option, Some, None, slice_get, ⊤}
 use Rattle.page_check.specs.SynchronousAnswer.{Ending, End, Reader}
-use Rattle.page_check.specs.SynchronousAnswer.{Page as FoundPage, Damaged, Absent, found_for}
 use Rattle.page_check.proofs.AnswersInOrder.{answered_none, slice_get_front, slice_get_back}
 use Rattle.page_check.proofs.AnswersOfLists.{length_whole}
-use Rattle.page_check.proofs.AnswersOfBlocks.{answered_no_block, answered_page, answered_last_page}
-use Rattle.page_check.proofs.AnswersOfBlocks.{answered_invalid, answered_past_end, answered_unread}
-use Rattle.heap_scan.specs.PageText.{page_text_of}
+use Rattle.page_check.proofs.AnswersOfBlocks.{answered_no_block}
 use Rattle.heap_scan.specs.Listing.{listing}
 use Rattle.heap_scan.proofs.Jobs.{job_append, job_more, IsEarly}
 use Rattle.aio_disk.specs.Sink.{Grew}
-use Rattle.aioscan_cmd.specs.RequestList.{Request, Page, request}
-use Rattle.aioscan_cmd.specs.Outcomes.{ending_of, stopped_at}
+use Rattle.aioscan_cmd.specs.RequestList.{Request, Page}
+use Rattle.aioscan_cmd.specs.Outcomes.{ending_of}
 use Rattle.aioscan_cmd.specs.Reading.{GrewBy, Lists}
 use Rattle.aioscan_cmd.specs.declared.report.Outcome.{Outcome}
 use Rattle.aioscan_cmd.specs.declared.report.Outcome.TheVariants.{Done, Invalid, Usage, CannotOpen}

@@ -1,6 +1,8 @@
 -- Worked commands: which relations their words name, and which blocks they ask for.
-use Rattle.std.proofs.Common.{◌≡◌, ℕ, List, [], ◌∷◌, refl}
+use Rattle.std.proofs.Common.{◌≡◌, ℕ, List, [], ◌∷◌, refl, false}
 use Rattle.std.specs.Prelude.{Option, Some, None}
+use Rattle.scan_rounds.specs.declared.settings.MethodKind.TheVariants as method
+use Rattle.scan_rounds.specs.declared.settings.ScanSettings.{ScanSettings}
 use Rattle.aioscan_cmd.specs.Command.{Command, relations_of, relation_number}
 use Rattle.aioscan_cmd.specs.RequestList.{request, requests_of}
 
@@ -11,8 +13,22 @@ f = 102 ∷ []
 abbrev g : List ℕ
 g = 103 ∷ []
 
+abbrev any_settings : ScanSettings
+any_settings = record {
+  method = method.Sync;
+  workers = 1;
+  backends = 1;
+  combine = 1;
+  concurrency = 1;
+  handles = 1;
+  buffers = 16;
+  batch = false;
+  full = false;
+}
+
 abbrev command_with : Option ℕ → Option ℕ → List (List ℕ) → Command
-command_with first last names = record { from = first; to = last; files = names }
+command_with first last names =
+    record { from = first; to = last; files = names; settings = any_settings }
 
 -- a name that comes again is no new relation
 g_is_the_second : (relations_of (command_with None None (f ∷ g ∷ f ∷ [])) ≡ f ∷ g ∷ [])

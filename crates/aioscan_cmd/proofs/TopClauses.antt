@@ -1,5 +1,5 @@
 -- What the top call promises over a shelf that tells, from how the run ended.
-use Rattle.std.proofs.Common.{◌≡◌, ◌≢◌, ◌↔◌, ℕ, ◌<◌, ◌≤◌, List, ◌++◌, length, take, refl, sym, ap}
+use Rattle.std.proofs.Common.{◌≡◌, ◌≢◌, ℕ, ◌<◌, ◌≤◌, List, ◌++◌, length, take, refl, sym, ap}
 use Rattle.std.proofs.Common.{◌∙◌, arith, inl, inr, length-append, true}
 use Rattle.std.specs.Prelude.{Option, Some, None, IfSome, slice_get}
 use Rattle.std.proofs.Math.Seq.{take-append_seam}
@@ -229,8 +229,8 @@ on_told files (Some c) b a o P each ran =
 
 -- words that are a command do not end in Usage
 not_usage : (command : Option Command) (c : Command) (o : Outcome)
-    → (o ≡ Usage) ↔ (command ≡ None) → command ≡ Some c → o ≢ Usage
-not_usage command c o usage some = λ is. (let none = usage.0 is in cc)
+    → (o ≡ Usage → command ≡ None) → command ≡ Some c → o ≢ Usage
+not_usage command c o usage some = λ is. (let none = usage is in cc)
 
 module _ (files : Option Files) (command : Option Command) (b a : Seen) (o : Outcome)
     (ran : RanOn files command b a o) where
@@ -244,7 +244,7 @@ module _ (files : Option Files) (command : Option Command) (b a : Seen) (o : Out
       on_told files command b a o (λ run. IsExact run o)
       (λ t c some r. exact t (length (relations_of c)) c o refl r.in_order) ran
 
-  pub told_complete : (before now : ShelfCounts) (wb wn : ℕ) → (o ≡ Usage) ↔ (command ≡ None)
+  pub told_complete : (before now : ShelfCounts) (wb wn : ℕ) → (o ≡ Usage → command ≡ None)
       → HasCauses before now wb wn o
       → OnTold files command (λ run. IsComplete run before now wb wn o)
   told_complete before now wb wn usage causes =
@@ -255,8 +255,7 @@ module _ (files : Option Files) (command : Option Command) (b a : Seen) (o : Out
       (writes t (length (relations_of c)) c b a o r)) ran
 
 pub any_untouched : (files : Option Files) (command : Option Command) (b a : Seen) (o : Outcome)
-    → (o ≡ Usage) ↔ (command ≡ None) → (o ≡ Usage → a.written ≡ b.written)
+    → (command ≡ None → a.written ≡ b.written)
     → RanOn files command b a o → is_refused o ≡ true → a.written ≡ b.written
-any_untouched files None b a o usage unread ran refused = unread (usage.1 refl)
-any_untouched files (Some c) b a o usage unread ran refused =
-    untouched_same b a (ran.untouched refused)
+any_untouched files None b a o unread ran refused = unread refl
+any_untouched files (Some c) b a o unread ran refused = untouched_same b a (ran.untouched refused)

@@ -1,9 +1,13 @@
 -- Why a run ended as it did, and in which order it calls the outside, seen by what it counts.
-use Rattle.std.specs.Prelude.{◌≡◌, ◌≢◌, ◌⊎◌, ℕ, ◌<◌, ◌≤◌, true}
+use Rattle.std.specs.Prelude.{◌≡◌, ◌≢◌, ◌⊎◌, ℕ, ◌<◌, ◌≤◌, List, Option, true}
+use Rattle.page_check.specs.SynchronousAnswer.{Reader}
 use Rattle.aio_disk.specs.Counts.{Rose, ShelfCounts}
 use Rattle.aioscan_cmd.specs.Command.{length_limit}
+use Rattle.aioscan_cmd.specs.Cutting.{requests_for}
 use Rattle.aioscan_cmd.specs.Outcomes.{is_refused}
+use Rattle.aioscan_cmd.specs.Reading.{Lists}
 use Rattle.aioscan_cmd.specs.Run.{SynchronousRun, EarlierFit}
+use Rattle.aioscan_cmd.specs.declared.cutter.Asked.{Asked}
 use Rattle.aioscan_cmd.specs.declared.report.Outcome.{Outcome}
 use Rattle.aioscan_cmd.specs.declared.report.Outcome.TheVariants.{Usage, CannotOpen, NoLength}
 use Rattle.aioscan_cmd.specs.declared.report.Outcome.TheVariants.{Unread, CannotWrite, NoMemory}
@@ -26,17 +30,23 @@ pub record HasCauses (before now : ShelfCounts) (write_faults_before write_fault
   pub unread : (r b : ℕ) → outcome ≡ Unread r b → Rose before.faults now.faults
   pub cannot_write : outcome ≡ CannotWrite → Rose write_faults_before write_faults_now
 
--- what a disk that had counted nothing has counted by the end of a run
-pub record HasScanned (length_faults faults reads : ℕ) (outcome : Outcome) : Type 0 where
-  pub no_length : (r : ℕ) → outcome ≡ NoLength r → 0 < length_faults
+-- how a scan ended whose disks have counted so many faults and reads: a disk that could not be
+-- opened is the only refusal
+pub record HasScanned (asked : Asked) (found : Option Reader)
+    (written now_written : Option (List ℕ)) (before now : ShelfCounts) (faults reads : ℕ)
+    (outcome : Outcome) : Type 0 where
+  pub opens : before.open_faults ≤ now.open_faults
+  pub others : (now.length_faults ≡ before.length_faults) × (now.faults ≡ before.faults)
+      × (now.reads ≡ before.reads)
+  pub lists : outcome ≢ CannotOpen → Lists found (requests_for asked) written now_written outcome
+  pub cannot_open : outcome ≡ CannotOpen → Rose before.open_faults now.open_faults
+      × (now_written ≡ written) × (faults ≡ 0) × (reads ≡ 0)
   pub unread : (r b : ℕ) → outcome ≡ Unread r b → 0 < faults
-  pub refused : is_refused outcome ≡ true → (faults ≡ 0) × (reads ≡ 0)
 
--- the words are read first; lengths are taken only once a disk was opened, and blocks are read only
--- once each length was had
+-- the words are read first; blocks are read only once each length was had and all disks were
+-- opened, of which the first alone takes lengths
 pub record CallsInOrder (before now : ShelfCounts) (outcome : Outcome) : Type 0 where
   pub usage : outcome ≡ Usage → now ≡ before
-  pub cannot_open : outcome ≡ CannotOpen → now.length_faults ≡ before.length_faults
   pub refused : is_refused outcome ≡ true
       → (now.faults ≡ before.faults) × (now.reads ≡ before.reads)
 

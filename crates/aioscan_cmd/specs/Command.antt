@@ -1,13 +1,16 @@
 -- What the words of a command ask for.
-use Rattle.std.specs.Prelude.{ℕ, List, [], ◌∷◌, Option, IfSome, ◌<◌, not}
+use Rattle.std.specs.Prelude.{ℕ, List, [], ◌∷◌, Option, IfSome, ◌+◌, ◌-◌, ◌<◌, not, unwrap_or}
 use Rattle.std.specs.List.{filter, position_or_len}
+use Rattle.std.specs.Option.{option_map_or}
 use Rattle.std.specs.Str.{bytes_eq}
+use Rattle.scan_rounds.specs.declared.settings.ScanSettings.{ScanSettings}
 
--- the first and the last block, where they are given, and the names of files
+-- the first and the last block, where they are given, the names of files, and how they are read
 pub record Command : Type 0 where
   pub from : Option ℕ
   pub to : Option ℕ
   pub files : List (List ℕ)
+  pub settings : ScanSettings
 
 -- the numbers of blocks that `--from` and `--to` may give end below this
 abbrev pub number_limit : ℕ
@@ -33,3 +36,13 @@ relations_of command = distinct command.files
 -- the number of a relation: its place among them
 abbrev pub relation_number : List ℕ → List (List ℕ) → ℕ
 relation_number name names = position_or_len (λ other. bytes_eq other name) names
+
+-- the first block of each file
+abbrev pub first_block : Command → ℕ
+first_block command = unwrap_or command.from 0
+
+-- how many blocks a command asks for of a relation of this length: from `--from`, or 0, up to
+-- `--to`, or the last block
+abbrev pub asked_count : Command → ℕ → ℕ
+asked_count command length =
+    option_map_or (λ last. last + 1) command.to length - first_block command

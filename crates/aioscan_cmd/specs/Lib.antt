@@ -1,10 +1,14 @@
+pub mod Grammar
 pub mod Command
 pub mod Words
 pub mod RequestList
 pub mod Outcomes
 pub mod Reading
-pub mod Streams
 pub mod Run
 pub mod Causes
 pub mod ErrorLine
 pub mod Lengths
+pub mod Cutting
+pub mod Listing
+pub mod Disks
+pub mod Totals

@@ -1,9 +1,6 @@
 -- What a run has listed of a list of blocks, whether or not the contents are told.
-use Rattle.std.specs.Prelude.{◌≡◌, ◌≤◌, ℕ, List, length, Option, slice_get, Some, None, ⊤, false}
-use Rattle.page_check.specs.SynchronousAnswer.{Reader, Ending, End, PastEnd}
-use Rattle.page_check.specs.SynchronousAnswer.{Invalid as EndsInvalid, Unread as EndsUnread}
-use Rattle.page_check.specs.IsAnswer.{Next, Page, Stop}
-use Rattle.heap_scan.specs.PageText.{page_text_of}
+use Rattle.std.specs.Prelude.{◌≡◌, ◌≤◌, ℕ, List, length, Option, slice_get, Some, ⊤, false}
+use Rattle.page_check.specs.SynchronousAnswer.{Reader}
 use Rattle.heap_scan.specs.Job.{IsJobAnswer}
 use Rattle.aio_disk.specs.Counts.{Rose}
 use Rattle.aio_disk.specs.Sink.{Grew, GrewByPrefix}
@@ -45,38 +42,7 @@ pub record Lists (found : Option Reader) (requests : List Request) (before now :
       → slice_get requests (length answer.pages) ≡ Some e
   pub grew : GrewBy outcome before now text
 
--- the outcome where an answer ends the blocks of a relation
-abbrev pub outcome_for : ℕ → Ending → Outcome
-outcome_for r End = Done
-outcome_for r (EndsInvalid b) = Invalid r b
-outcome_for r (PastEnd b) = Missing r b
-outcome_for r (EndsUnread b) = Unread r b
-
--- a text was written, or a begin of it where that ended the run
-abbrev pub ShowsText : List ℕ → Option (List ℕ) → Option (List ℕ) → Option Outcome → Type 0
-ShowsText text before after None = Grew before after text
-ShowsText text before after (Some CannotWrite) = GrewByPrefix before after text
-ShowsText text before after (Some NoMemory) = GrewByPrefix before after text
-ShowsText text before after (Some _) = ⊥
-
--- what showing an answer has left: the text of its page, or nothing more and the outcome
-abbrev pub Shows : ℕ → Next (Unit {0}) → Option (List ℕ) → Option (List ℕ) → Option Outcome
-    → Type 0
-Shows r (Page given) before after result =
-    ShowsText (page_text_of given.entry.relation given.entry.block given.page) before after result
-Shows r (Stop end) before after result =
-    (result ≡ Some (outcome_for r end)) × (after ≡ before)
-
--- the page of an answer that is one
-abbrev pub IfPage : Next (Unit {0}) → (List ℕ → Type 0) → Type 0
-IfPage (Page given) holds = holds given.page
-IfPage (Stop end) holds = ⊤
-
 -- what a run's writes have counted: no fault was forgotten, and one is named only where it rose
 pub record HasWritten (faults_before faults_now : ℕ) (outcome : Outcome) : Type 0 where
   pub later : faults_before ≤ faults_now
   pub cannot_write : outcome ≡ CannotWrite → Rose faults_before faults_now
-
--- a fact of an outcome that names a block that was not read
-abbrev pub IfUnread : Outcome → Type 0 → Type 0
-IfUnread outcome holds = (r b : ℕ) → outcome ≡ Unread r b → holds

@@ -1,10 +1,10 @@
 -- The blocks that a command asks for, in order.
-use Rattle.std.specs.Prelude.{ℕ, ◌+◌, ◌-◌, List, unwrap_or}
+use Rattle.std.specs.Prelude.{ℕ, List}
 use Rattle.std.specs.List.{flat_map}
-use Rattle.std.specs.Option.{option_map_or}
 use Rattle.page_check.specs.SynchronousAnswer.{Entry, Given}
 use Rattle.heap_scan.specs.Job.{block_entry, job_entries}
 use Rattle.aioscan_cmd.specs.Command.{Command, relations_of, relation_number}
+use Rattle.aioscan_cmd.specs.Command.{first_block, asked_count}
 
 -- a block of a relation
 abbrev pub Request : Type 0
@@ -20,15 +20,6 @@ Page = Given (Unit {0})
 -- so many blocks of a relation, from one on
 abbrev pub block_range : ℕ → ℕ → ℕ → List Request
 block_range r first count = job_entries r first count
-
--- how many blocks a command asks for of a relation of this length: from `--from`, or 0, up to
--- `--to`, or the last block
-abbrev pub first_block : Command → ℕ
-first_block command = unwrap_or command.from 0
-
-abbrev pub asked_count : Command → ℕ → ℕ
-asked_count command length =
-    option_map_or (λ last. last + 1) command.to length - first_block command
 
 -- the blocks that one FILE word adds
 abbrev pub requests_of_file : (ℕ → ℕ) → Command → List ℕ → List Request

@@ -1,54 +1,124 @@
--- The words of a command: `scan`, then at most one `--from N`, then at most one `--to N`, then 1 to
--- 1024 files.
-use Rattle.std.specs.Prelude.{ℕ, List, [], ◌∷◌, Option, Some, None, Bool, false, ◌&&◌, not, ◌==◌}
-use Rattle.std.specs.Prelude.{nat_le, nat_lt, if◌then◌else◌, length, codes}
+-- The words of a command: what they ask for, or that they are no command.
+use Rattle.std.specs.Prelude.{◌≡◌, ℕ, List, [], ◌∷◌, Option, Some, None, Bool, false, ◌&&◌, length}
+use Rattle.std.specs.Prelude.{nat_le, if◌then◌else◌, unwrap_or, codes}
 use Rattle.std.specs.List.{list_all}
-use Rattle.std.specs.Option.{option_and_then}
+use Rattle.std.specs.Option.{option_map}
 use Rattle.std.specs.Str.{bytes_eq}
 use Rattle.std.specs.Char.{is_ascii_digit}
 use Rattle.std.specs.Str.Parse.{digits_value}
-use Rattle.aioscan_cmd.specs.Command.{Command, number_limit}
-
--- a file's name is not empty and does not begin with `-`
-abbrev pub is_file : List ℕ → Bool
-is_file [] = false
-is_file (byte ∷ name) = not (byte == 45)
+use Rattle.clap.specs.Words.{Row, Text, fault_of, matches_of, first_of, all_of}
+use Rattle.aioscan_cmd.specs.Grammar.{the_command}
+use Rattle.aioscan_cmd.specs.Command.{Command}
+use Rattle.scan_rounds.specs.declared.settings.MethodKind.{MethodKind}
+use Rattle.scan_rounds.specs.declared.settings.MethodKind.TheVariants as method
+use Rattle.scan_rounds.specs.declared.settings.ScanSettings.{ScanSettings}
 
 -- at least one, and at most so many
 abbrev pub is_count : ℕ → ℕ → Bool
 is_count n most = nat_le 1 n && nat_le n most
 
 -- 1 to 7 digits
-abbrev pub is_number : List ℕ → Bool
+abbrev pub is_number : Text → Bool
 is_number word = is_count (length word) 7 && list_all is_ascii_digit word
 
--- a block number below the limit
-abbrev pub block_number : List ℕ → Option ℕ
-block_number word =
-    if is_number word && nat_lt (digits_value 10 word) number_limit then Some
-    (digits_value 10 word) else None
+-- the number of a text; None where it is none, or out of the range
+abbrev pub number_within : ℕ → ℕ → Text → Option ℕ
+number_within least most word =
+    if is_number word
+    && (nat_le least (digits_value 10 word) && nat_le (digits_value 10 word) most)
+    then Some (digits_value 10 word) else None
 
--- an option's number, where the words begin with it, and the words behind it; None where its value
--- is no block number
-abbrev pub option_at : List ℕ → List (List ℕ) → Option (Option ℕ × List (List ℕ))
-option_at name [] = Some (None, [])
-option_at name (word ∷ []) = Some (None, word ∷ [])
-option_at name (word ∷ value ∷ words) =
-    if bytes_eq word name then option_and_then (λ n. Some (Some n, words)) (block_number value)
-    else Some (None, word ∷ value ∷ words)
+-- an option's number, or its default where the option is not given
+abbrev pub number_or : ℕ → ℕ → ℕ → Option Text → Option ℕ
+number_or least most default None = Some default
+number_or least most default (Some word) = number_within least most word
 
--- 1 to 1024 words that name files
-abbrev pub are_files : List (List ℕ) → Bool
-are_files words = is_count (length words) 1024 && list_all is_file words
+-- the number of an option that has no default
+abbrev pub number_if_given : ℕ → ℕ → Option Text → Option (Option ℕ)
+number_if_given least most None = Some None
+number_if_given least most (Some word) = option_map Some (number_within least most word)
 
--- what words behind `scan` ask for
-abbrev pub scan_of : List (List ℕ) → Option Command
-scan_of words =
-    option_and_then (λ from. option_and_then (λ to.
-    if are_files to.1 then Some (record { from = from.0; to = to.0; files = to.1 }) else None)
-    (option_at (codes "--to") from.1)) (option_at (codes "--from") words)
+abbrev pub method_of : Option Text → Option MethodKind
+method_of None = Some method.Worker
+method_of (Some word) =
+    if bytes_eq word (codes "sync") then Some method.Sync
+    else if bytes_eq word (codes "worker") then Some method.Worker else None
+
+-- a flag that is given has the value `true`
+abbrev pub is_set : Option Text → Bool
+is_set None = false
+is_set (Some word) = bytes_eq word (codes "true")
+
+-- the name of a file is not empty
+abbrev pub is_name : Text → Bool
+is_name word = nat_le 1 (length word)
+
+-- 1 to 1024 names of files
+abbrev pub files_of : Option (List Text) → Option (List Text)
+files_of None = None
+files_of (Some words) =
+    if is_count (length words) 1024 && list_all is_name words then Some words else None
+
+-- the FILE words
+abbrev pub files_in : List Row → List Text
+files_in rows = unwrap_or (all_of (codes "FILE") rows) []
+
+-- there are 1 to 1024 FILE words, none of them empty
+abbrev pub NamesFiles : List Row → Type 0
+NamesFiles rows = files_of (all_of (codes "FILE") rows) ≡ Some (files_in rows)
+
+-- the settings, where each option that they come from has a right value
+abbrev pub settings_with : Option MethodKind → Option ℕ → Option ℕ → Option ℕ → Option ℕ → Option ℕ
+    → Option ℕ → Bool → Bool → Option ScanSettings
+settings_with (Some m) (Some w) (Some n) (Some c) (Some o) (Some h) (Some b) batch full =
+    Some (record {
+      method = m;
+      workers = w;
+      backends = n;
+      combine = c;
+      concurrency = o;
+      handles = h;
+      buffers = b;
+      batch = batch;
+      full = full;
+    })
+settings_with _ _ _ _ _ _ _ _ _ = None
+
+abbrev pub command_with : Option (Option ℕ) → Option (Option ℕ) → Option (List Text)
+    → Option ScanSettings → Option Command
+command_with (Some from) (Some to) (Some files) (Some settings) =
+    Some (record { from = from; to = to; files = files; settings = settings })
+command_with _ _ _ _ = None
+
+-- what the values ask for that `clap` found in the words
+module _ (rows : List Row) where
+  abbrev pub text_of : Text → Option Text
+  text_of name = first_of name rows
+
+  abbrev pub settings_in : Option ScanSettings
+  settings_in = settings_with
+      (method_of (text_of (codes "method")))
+      (number_or 1 32 3 (text_of (codes "workers")))
+      (number_or 1 16 2 (text_of (codes "backends")))
+      (number_or 1 128 16 (text_of (codes "combine")))
+      (number_or 1 256 16 (text_of (codes "concurrency")))
+      (number_or 1 64 16 (text_of (codes "handles")))
+      (number_or 16 16384 128 (text_of (codes "buffers")))
+      (is_set (text_of (codes "batch")))
+      (is_set (text_of (codes "full")))
+
+  abbrev pub command_in : Option Command
+  command_in = command_with
+      (number_if_given 0 131071 (text_of (codes "from")))
+      (number_if_given 0 131071 (text_of (codes "to")))
+      (files_of (all_of (codes "FILE") rows))
+      settings_in
+
+-- what was found, where `clap` has no fault to find in the words
+abbrev pub if_taken : {F X : Type 0} → List F → Option X → Option X
+if_taken [] found = found
+if_taken (fault ∷ faults) found = None
 
 -- what the words ask for, or None where they are no command
-abbrev pub command_of : List (List ℕ) → Option Command
-command_of [] = None
-command_of (word ∷ words) = if bytes_eq word (codes "scan") then scan_of words else None
+abbrev pub command_of : List Text → Option Command
+command_of words = if_taken (fault_of the_command words) (command_in (matches_of the_command words))

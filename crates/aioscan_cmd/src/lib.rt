@@ -1,4 +1,4 @@
-//! The command `aioscan`: lists the pages of relation files.
+//! The command `aioscan`: lists the pages of relation files, by several backends and I/O workers.
 //!
 //! Its one call, `aioscan`, works over any shelf and any two sinks. Its contract says, over a shelf
 //! that tells its contents, that the output grew by the listing which one thread's synchronous
@@ -7,7 +7,8 @@
 //! that does not tell, less is known, and the contract says how much.
 #![tactic(auto)]
 
-mod engine;
+mod cutter;
+mod disks;
 mod error_line;
 mod lengths;
 mod lister;

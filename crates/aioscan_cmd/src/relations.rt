@@ -16,27 +16,27 @@ fn is_named(names: &[String], name: &str) -> bool
 }
 
 // Adds a name, where it is new.
-fn add_name(names: &mut Vec<String>, name: &String) -> Result<(), AllocError>
+fn add_name(alloc: Global, names: &mut Vec<String>, name: &str) -> Result<(), AllocError>
     ensures { OnOk result ((earlier : List (List ℕ))
         → map string_bytes names.old.items ≡ distinct earlier
-        → map string_bytes names.new.items ≡ distinct (earlier ++ string_bytes name.now ∷ [])) }
+        → map string_bytes names.new.items ≡ distinct (earlier ++ name.now ∷ [])) }
 {
-    if is_named(names.as_slice(), name.as_str()) {
+    if is_named(names.as_slice(), name) {
         return Ok(());
     }
-    names.push(name.clone()?)?;
+    names.push(String::from_str(alloc, name)?)?;
     Ok(())
 }
 
 // The distinct names, in the order of their first appearance.
-fn distinct_names(alloc: Global, files: &[String]) -> Result<Vec<String>, AllocError>
+fn distinct_names(alloc: Global, files: &[&str]) -> Result<Vec<String>, AllocError>
     ensures names { IfOk result
-        (λ names. map string_bytes names.items ≡ distinct (map string_bytes files.now)) }
+        (λ names. map string_bytes names.items ≡ distinct (map (λ file. file.now) files.now)) }
     ensures few { IfOk result (λ names. length names.items ≤ length files.now) }
 {
     let mut names: Vec<String> = Vec::new(alloc);
     for file in files {
-        add_name(&mut names, file)?;
+        add_name(alloc, &mut names, file)?;
     }
     Ok(names)
 }

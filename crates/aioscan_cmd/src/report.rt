@@ -1,4 +1,5 @@
 //! What a run says of itself.
+ghost use Rattle.std.specs.Prelude.{◌≡◌};
 
 /// How a run ended. `R` is the number of a relation, its place among the distinct names, and `B`
 /// a block of it.
@@ -35,6 +36,42 @@ pub enum Line {
     Cut,
     /// A begin of it: there was no memory.
     NoMemory,
+}
+
+/// How many I/Os a run made.
+#[derive(Clone, Copy)]
+pub(crate) struct Numbers {
+    /// How many were made through handles.
+    pub(crate) incarnations: u128,
+    /// How many of them were executed by I/O workers.
+    pub(crate) by_workers: u128,
+    /// How many of them were executed by backends.
+    pub(crate) by_backends: u128,
+}
+
+/// How a run ended, and what it has counted.
+#[derive(Clone, Copy)]
+pub(crate) struct RunEnd {
+    pub(crate) outcome: Outcome,
+    pub(crate) numbers: Numbers,
+}
+
+impl RunEnd {
+    /// The end of a run that read no block.
+    pub(crate) fn without_reads(outcome: Outcome) -> RunEnd
+        ensures outcome { result.outcome ≡ outcome }
+        ensures numbers { (result.numbers.incarnations ≡ 0) × (result.numbers.by_workers ≡ 0)
+            × (result.numbers.by_backends ≡ 0) }
+    {
+        RunEnd {
+            outcome,
+            numbers: Numbers {
+                incarnations: 0,
+                by_workers: 0,
+                by_backends: 0,
+            },
+        }
+    }
 }
 
 /// The end of a run.

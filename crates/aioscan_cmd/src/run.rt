@@ -1,5 +1,5 @@
 //! The top call.
-ghost use Rattle.std.specs.Prelude.{◌≡◌, ◌≢◌, ◌<◌, ◌≤◌, ◌↔◌, length, map, None, Some, true};
+ghost use Rattle.std.specs.Prelude.{◌≡◌, ◌≢◌, ◌<◌, ◌≤◌, ◌⊎◌, length, map, None, Some, true};
 ghost use Rattle.std.specs.Prelude.{IfSome, string_bytes};
 ghost use Rattle.aio_disk.specs.Shelf.{AllThereIfTold};
 ghost use Rattle.aioscan_cmd.specs.Command.{relations_of};
@@ -9,85 +9,95 @@ ghost use Rattle.aioscan_cmd.specs.Reading.{seen};
 ghost use Rattle.aioscan_cmd.specs.Run.{RanOn, OnTold, Writes};
 ghost use Rattle.aioscan_cmd.specs.Causes.{HasCauses, CallsInOrder, IsExact, IsComplete, IsOpened};
 ghost use Rattle.aioscan_cmd.specs.ErrorLine.{IsToldOnErr};
+ghost use Rattle.aioscan_cmd.specs.Totals.{AreCounted, numbers_in};
 
 use crate::error_line::write_line;
 use crate::relations::Relations;
+use crate::report::RunEnd;
 use crate::scan::scan_disk;
-use crate::words::{Command, read_command};
+use crate::words::{Command, Refusal, read_command};
 use crate::{Outcome, Report};
 use aio_disk::{OpenFault, Shelf, Sink};
 use std::alloc::Global;
 use std::sync::Wait;
+use std::thread::Threads;
 
 // Opens a disk for the relations, and lists what the command asks for.
-fn run_command<R: Wait, S: Shelf, O: Sink>(
+fn run_command<S: Shelf, O: Sink, R: Threads + Wait + Sync>(
     rt: &R,
     alloc: Global,
     command: &Command<'_>,
     shelf: &mut S,
     out: &mut O,
-) -> Outcome
+) -> RunEnd
     ensures ran { RanOn (S.told shelf.old) (Some command.now)
         (seen (O.written out.old) (S.counts shelf.old).reads)
-        (seen (O.written out.new) (S.counts shelf.new).reads) result }
+        (seen (O.written out.new) (S.counts shelf.new).reads) result.outcome }
     ensures causes { HasCauses (S.counts shelf.old) (S.counts shelf.new) (O.faults out.old)
-        (O.faults out.new) result }
-    ensures order { CallsInOrder (S.counts shelf.old) (S.counts shelf.new) result }
+        (O.faults out.new) result.outcome }
+    ensures order { CallsInOrder (S.counts shelf.old) (S.counts shelf.new) result.outcome }
+    ensures counted { AreCounted (Some command.now) (S.counts shelf.old) (S.counts shelf.new)
+        result.outcome result.numbers }
     ensures told { S.told shelf.new ≡ S.told shelf.old }
-    ensures opened { IsOpened result
+    ensures opened { IsOpened result.outcome
         → AllThereIfTold (S.told shelf.old) (relations_of command.now) }
-    ensures words { result ≢ Outcome.Usage }
+    ensures words { result.outcome ≢ Outcome.Usage }
 {
     let Ok(relations) = Relations::of(alloc, command) else {
-        return Outcome::NoMemory;
+        return RunEnd::without_reads(Outcome::NoMemory);
     };
     match shelf.open(relations.names()) {
-        Err(OpenFault::Device) => Outcome::CannotOpen,
-        Err(OpenFault::Memory) => Outcome::NoMemory,
-        Ok(disk) => {
-            let (disk, outcome) = scan_disk(rt, alloc, command, &relations, disk, out);
-            shelf.take_back(disk);
-            outcome
-        }
+        Err(OpenFault::Device) => RunEnd::without_reads(Outcome::CannotOpen),
+        Err(OpenFault::Memory) => RunEnd::without_reads(Outcome::NoMemory),
+        Ok(disk) => scan_disk(rt, alloc, command, &relations, disk, shelf, out),
     }
 }
 
 // Reads the words, and lists what they ask for.
-fn run<R: Wait, S: Shelf, O: Sink>(
+fn run<S: Shelf, O: Sink, R: Threads + Wait + Sync>(
     rt: &R,
     alloc: Global,
     words: &[String],
     shelf: &mut S,
     out: &mut O,
-) -> Outcome
-    ensures usage { (result ≡ Outcome.Usage) ↔ (command_of (map string_bytes words.now) ≡ None) }
+) -> RunEnd
+    ensures usage { result.outcome ≡ Outcome.Usage
+        → command_of (map string_bytes words.now) ≡ None }
+    ensures refused { command_of (map string_bytes words.now) ≡ None
+        → (result.outcome ≡ Outcome.Usage) ⊎ (result.outcome ≡ Outcome.NoMemory) }
+    ensures unread { command_of (map string_bytes words.now) ≡ None
+        → (O.written out.new ≡ O.written out.old) × (S.counts shelf.new ≡ S.counts shelf.old) }
     ensures ran { RanOn (S.told shelf.old) (command_of (map string_bytes words.now))
         (seen (O.written out.old) (S.counts shelf.old).reads)
-        (seen (O.written out.new) (S.counts shelf.new).reads) result }
-    ensures unread { result ≡ Outcome.Usage → O.written out.new ≡ O.written out.old }
+        (seen (O.written out.new) (S.counts shelf.new).reads) result.outcome }
     ensures causes { HasCauses (S.counts shelf.old) (S.counts shelf.new) (O.faults out.old)
-        (O.faults out.new) result }
-    ensures order { CallsInOrder (S.counts shelf.old) (S.counts shelf.new) result }
+        (O.faults out.new) result.outcome }
+    ensures order { CallsInOrder (S.counts shelf.old) (S.counts shelf.new) result.outcome }
+    ensures counted { AreCounted (command_of (map string_bytes words.now)) (S.counts shelf.old)
+        (S.counts shelf.new) result.outcome result.numbers }
     ensures told { S.told shelf.new ≡ S.told shelf.old }
-    ensures opened { IsOpened result
+    ensures opened { IsOpened result.outcome
         → IfSome (command_of (map string_bytes words.now))
         (λ c. AllThereIfTold (S.told shelf.old) (relations_of c)) }
 {
-    match read_command(words) {
-        Some(command) => run_command(rt, alloc, &command, shelf, out),
-        None => Outcome::Usage,
+    match read_command(alloc, words) {
+        Ok(command) => run_command(rt, alloc, &command, shelf, out),
+        Err(Refusal::Usage) => RunEnd::without_reads(Outcome::Usage),
+        Err(Refusal::NoMemory) => RunEnd::without_reads(Outcome::NoMemory),
     }
 }
 
 /// Lists the pages of relation files, as the words ask.
 ///
-/// The words are `scan`, then at most one `--from N`, then at most one `--to N`, then 1 to 1024
-/// files, without the program's name. Relations are the distinct files, numbered from 0 in the
-/// order of their first appearance. One disk is opened for all of them; their lengths are taken,
-/// in order, before anything is written; then each file's blocks are read through one stream, which
-/// reads neighbours together, and each page's text goes to `out` by one write. A line on `err` names
-/// what ended the run, where that is not the end of the list. The disk is taken back in every case.
-pub fn aioscan<R: Wait, S: Shelf, O: Sink, E: Sink>(
+/// The words are options, and 1 to 1024 files between and behind them, without the program's name.
+/// Relations are the distinct files, numbered from 0 in the order of their first appearance. One
+/// disk is opened for all of them, and their lengths are taken in order, each tested before the
+/// next is taken. Then a disk is opened for each other backend, and for each I/O worker. Jobs of at
+/// most 64 blocks of one file are done in rounds, one by each backend; after a round the text of
+/// each job goes to `out` by one write, in their order, up to the first that ended in a fault. A
+/// line on `err` names what ended the run, where that is not the end of the list. All disks are
+/// taken back in every case. It may wait.
+pub fn aioscan<S: Shelf, O: Sink, E: Sink, R: Threads + Wait + Sync>(
     rt: &R,
     alloc: Global,
     words: &[String],
@@ -96,8 +106,15 @@ pub fn aioscan<R: Wait, S: Shelf, O: Sink, E: Sink>(
     err: &mut E,
 ) -> Report
     ensures status { result.status ≡ status_of result.outcome }
-    ensures usage { (result.outcome ≡ Outcome.Usage) ↔
-        (command_of (map string_bytes words.now) ≡ None) }
+
+    // The words are refused where they are no command, and nothing is done then; there may also be
+    // no memory to read them.
+    ensures usage { result.outcome ≡ Outcome.Usage
+        → command_of (map string_bytes words.now) ≡ None }
+    ensures refused { command_of (map string_bytes words.now) ≡ None
+        → (result.outcome ≡ Outcome.Usage) ⊎ (result.outcome ≡ Outcome.NoMemory) }
+    ensures unread { command_of (map string_bytes words.now) ≡ None
+        → (O.written out.new ≡ O.written out.old) × (S.counts shelf.new ≡ S.counts shelf.old) }
 
     // What became of the run: over any shelf, and as synchronous reads give it, where it tells.
     ensures ran { RanOn (S.told shelf.old) (command_of (map string_bytes words.now))
@@ -123,18 +140,18 @@ pub fn aioscan<R: Wait, S: Shelf, O: Sink, E: Sink>(
 
     ensures contents { S.told shelf.new ≡ S.told shelf.old }
     ensures later { E.faults err.old ≤ E.faults err.new }
-    ensures totals { (result.incarnations ≡ 0) × (result.by_workers ≡ 0)
-        × (result.by_backends ≡ 0) }
+    ensures totals { AreCounted (command_of (map string_bytes words.now)) (S.counts shelf.old)
+        (S.counts shelf.new) result.outcome (numbers_in result) }
 {
-    let outcome = run(rt, alloc, words, shelf, out);
+    let RunEnd { outcome, numbers } = run(rt, alloc, words, shelf, out);
     let line = write_line(alloc, outcome, err);
     Report {
         status: status(outcome),
         outcome,
         line,
-        incarnations: 0,
-        by_workers: 0,
-        by_backends: 0,
+        incarnations: numbers.incarnations,
+        by_workers: numbers.by_workers,
+        by_backends: numbers.by_backends,
     }
 }
 

@@ -1,177 +1,248 @@
-//! Lists over an opened disk what a command asks for.
-ghost use Rattle.std.specs.Prelude.{◌≡◌, ◌≢◌, ◌<◌, ◌≤◌, ◌+◌, ℕ, [], length, slice_index, true};
+//! Lists over opened disks what a command asks for.
+ghost use Rattle.std.specs.Prelude.{◌≡◌, ◌≢◌, ◌<◌, ◌≤◌, ◌+◌, ◌*◌, ◌^◌, ℕ, length, sum_by};
+ghost use Rattle.std.specs.Prelude.{Some, vec_len, vec_capacity};
+ghost use Rattle.std.specs.List.{All};
 ghost use Rattle.page_check.specs.SynchronousAnswer.{reader_of};
-ghost use Rattle.aio_word.specs.Tokens.{failed_marks};
-ghost use Rattle.aio_handle.specs.Executing.{last_count};
-ghost use Rattle.read_stream.specs.Went.{Went};
-ghost use Rattle.aioscan_cmd.specs.Command.{length_limit, relations_of};
-ghost use Rattle.aioscan_cmd.specs.RequestList.{requests_of};
-ghost use Rattle.aioscan_cmd.specs.Outcomes.{is_refused};
-ghost use Rattle.aioscan_cmd.specs.Reading.{Lists, HasWritten, IfUnread, seen};
-ghost use Rattle.aioscan_cmd.specs.Streams.{IsIdle, TookAtMost};
+ghost use Rattle.aio_disk.specs.Shelf.{told_of};
+ghost use Rattle.scan_rounds.specs.Hands.{meter};
+ghost use Rattle.scan_rounds.specs.Opening.{AreSettings};
+ghost use Rattle.scan_rounds.specs.Rounds.{taken_by};
+ghost use Rattle.scan_rounds.specs.Scans.{IsScan, IsSameScan};
+ghost use Rattle.aioscan_cmd.specs.Command.{relations_of};
+ghost use Rattle.aioscan_cmd.specs.Cutting.{IsAsked, requests_for};
+ghost use Rattle.aioscan_cmd.specs.Disks.{IsUnread, disks_of};
+ghost use Rattle.aioscan_cmd.specs.Lengths.{HasLengths};
+ghost use Rattle.aioscan_cmd.specs.Reading.{Lists, HasWritten, seen};
 ghost use Rattle.aioscan_cmd.specs.Run.{Ran};
-ghost use Rattle.aioscan_cmd.specs.Causes.{HasScanned};
+ghost use Rattle.aioscan_cmd.specs.Causes.{HasScanned, HasCauses, CallsInOrder};
+ghost use Rattle.aioscan_cmd.specs.Totals.{AreCounted, AreOfScan};
 
 use crate::Outcome;
-use crate::engine::{Backend, Engine};
+use crate::cutter::{Asked, Cutter};
+use crate::disks::{open_others, take_all_back};
 use crate::lengths::take_lengths;
-use crate::lister::{Blocks, list_blocks};
+use crate::lister::Lister;
 use crate::relations::Relations;
+use crate::report::{Numbers, RunEnd};
 use crate::words::Command;
-use aio_callback::ReadIo;
-use aio_disk::{Disk, Sink};
-use aio_handle::Execute;
-use method_sync::Runner;
+use aio_disk::{Disk, OpenFault, Shelf, Sink};
 use page_check::World;
+use scan_rounds::{MethodKind, Scan, ScanSettings};
 use std::alloc::Global;
 use std::marker::Brand;
 use std::sync::Wait;
+use std::thread::Threads;
 
-// Lists the blocks that each FILE word adds.
-fn list_files<W: World, E: Execute<ReadIo, W>, T: Wait, O: Sink>(
-    rt: &T,
-    backend: &mut Backend<'_, '_, W, E>,
-    command: &Command<'_>,
-    relations: &Relations,
-    lengths: &[u32],
-    text: &mut Vec<u8>,
+// Ends the loan of a sink.
+fn give_back<O: Sink>(out: &mut O)
+    ensures { out.new ≡ out.old }
+{
+    let _ = out;
+}
+
+// Lists by rounds what is asked for.
+fn list_rounds<W: World + Send + Sync, D: Disk, O: Sink, R: Threads + Wait + Sync>(
+    rt: &R,
+    scan: &mut Scan<W, D>,
+    asked: Asked<'_, '_>,
     out: &mut O,
 ) -> Outcome
-    requires idle { IsIdle backend.old.table.now backend.old.actor backend.old.desk }
-    requires new { backend.old.actor.known.marks ≡ [] }
-    requires told { (E.told backend.old.runner ≡ W.told)
-        × (E.relations backend.old.runner ≡ W.relations) }
-    requires relations { relations.now ≡ relations_of command.now }
-    requires lengths { length lengths.now ≡ length relations.now }
-    requires fit { (r : ℕ) → slice_index lengths.now r ≤ length_limit }
-    requires disk { W.relations ≡ length relations.now }
-    ensures idle { IsIdle backend.new.table.now backend.new.actor backend.new.desk }
-    ensures table { backend.new.table.now ≡ backend.old.table.now }
-    ensures went { Went backend.old.actor.known backend.new.actor.known
-        (E.reads backend.old.runner) (E.reads backend.new.runner) (E.faults backend.old.runner)
-        (E.faults backend.new.runner) }
-    ensures few { TookAtMost (length (requests_of (slice_index lengths.now) command.now))
-        backend.old.actor.known backend.new.actor.known }
-    ensures lists { Lists (reader_of W.told) (requests_of (slice_index lengths.now) command.now)
-        (O.written out.old) (O.written out.new) result }
+    requires scan { IsScan (meter D.told D.relations D.reads D.faults) W.told W.relations
+        scan.old }
+    requires room { 2 ^ 33 ≤ scan.old.room }
+    requires asked { IsAsked asked }
+    requires world { W.relations ≡ length asked.relations.now }
+    ensures scan { IsScan (meter D.told D.relations D.reads D.faults) W.told W.relations
+        scan.new }
+    ensures same { IsSameScan scan.old scan.new }
+    ensures lists { Lists (reader_of W.told) (requests_for asked.entry) (O.written out.old)
+        (O.written out.new) result }
     ensures writes { HasWritten (O.faults out.old) (O.faults out.new) result }
-    ensures unread { IfUnread result (0 < failed_marks backend.new.actor.known.marks) }
+    ensures taken { taken_by scan.new.backends.items
+        ≤ taken_by scan.old.backends.items + length (requests_for asked.entry) }
+    ensures unread { (r b : ℕ) → result ≡ Outcome.Unread r b → 0 < scan.new.unread }
 {
-    let first = command.first_block();
-    for file in command.files() {
-        let relation = relations.number_of(file.as_str());
-        let count = command.asked_count(lengths[relation as usize]);
-        let blocks = Blocks {
-            relation,
-            first,
-            count,
-        };
-        match list_blocks(rt, backend, &blocks, text, out) {
-            Outcome::Done => {}
-            outcome => return outcome,
-        }
-    }
-    Outcome::Done
-}
-
-// Lists what the command asks for, by relations of these lengths. The disk comes back.
-fn list_disk<W: World, D: Disk, T: Wait, O: Sink>(
-    rt: &T,
-    alloc: Global,
-    command: &Command<'_>,
-    relations: &Relations,
-    lengths: &[u32],
-    disk: D,
-    out: &mut O,
-) -> (D, Outcome)
-    requires told { (D.told disk ≡ W.told) × (D.relations disk ≡ W.relations) }
-    requires handles { W.handles ≡ 16 }
-    requires relations { relations.now ≡ relations_of command.now }
-    requires lengths { length lengths.now ≡ length relations.now }
-    requires fit { (r : ℕ) → slice_index lengths.now r ≤ length_limit }
-    requires disk { D.relations disk ≡ length relations.now }
-    requires fresh { (D.faults disk ≡ 0) × (D.reads disk ≡ 0) }
-    ensures lists { Lists (reader_of (D.told disk))
-        (requests_of (slice_index lengths.now) command.now)
-        (O.written out.old) (O.written out.new) result.1 }
-    ensures reads { D.reads result.0 < last_count
-        → D.reads result.0 ≤ length (requests_of (slice_index lengths.now) command.now) }
-    ensures writes { HasWritten (O.faults out.old) (O.faults out.new) result.1 }
-    ensures unread { IfUnread result.1 (0 < D.faults result.0) }
-{
-    let Ok(engine) = Engine::<W>::open(alloc) else {
-        return (disk, Outcome::NoMemory);
-    };
-    let Engine {
-        table,
-        actor,
-        mut actors,
-        pool,
-        desk,
-    } = engine;
-    let places = &pool;
-    let runner = Runner { disk, places };
-    let mut backend = Backend {
-        table: &table,
-        pool: places,
-        actor,
-        runner,
-        desk,
-    };
-    let mut text = Vec::new(alloc);
-    let outcome = list_files(
-        rt,
-        &mut backend,
-        command,
-        relations,
-        lengths,
-        &mut text,
+    let blocks = Cutter::<W>::of(asked);
+    let lister = Lister {
+        blocks,
         out,
-    );
-    let Backend {
-        table: _,
-        pool: _,
-        actor,
-        runner,
-        desk: _,
-    } = backend;
-    let Runner { disk, places: _ } = runner;
-    actors.push_reserved(actor);
-    let _ = table.close(actors);
-    (disk, outcome)
+        outcome: Outcome::Done,
+    };
+    let lister = scan.run(rt, lister);
+    let Lister {
+        blocks: _,
+        out,
+        outcome,
+    } = lister;
+    give_back(out);
+    outcome
 }
 
-/// Takes the lengths, and lists the blocks that the command asks for. The disk comes back.
-pub(crate) fn scan_disk<D: Disk, T: Wait, O: Sink>(
-    rt: &T,
+// Lists what is asked for, over a disk for each backend and each worker. The disks come back.
+fn list_disks<W: World + Send + Sync, D: Disk, O: Sink, R: Threads + Wait + Sync>(
+    rt: &R,
+    alloc: Global,
+    asked: Asked<'_, '_>,
+    disks: Vec<D>,
+    out: &mut O,
+) -> (Vec<D>, RunEnd)
+    requires asked { IsAsked asked }
+    requires world { W.relations ≡ length asked.relations.now }
+    requires disks { length disks.items ≡ disks_of (asked.command.now).settings }
+    requires unread { All (IsUnread D.told D.relations D.faults D.reads W.told W.relations)
+        disks.items }
+    requires handles { (asked.command.now).settings.backends
+        * (asked.command.now).settings.handles ≡ W.handles }
+    ensures lists { Lists (reader_of W.told) (requests_for asked.entry) (O.written out.old)
+        (O.written out.new) result.1.outcome }
+    ensures writes { HasWritten (O.faults out.old) (O.faults out.new) result.1.outcome }
+    ensures unread { (r b : ℕ) → result.1.outcome ≡ Outcome.Unread r b
+        → 0 < sum_by D.faults result.0.items }
+    ensures counted { AreOfScan asked.entry D.reads result.0.items result.1.numbers }
+{
+    let settings = asked.command.settings();
+    let mut scan = match Scan::<W, D>::open(alloc, &settings, disks) {
+        Ok(scan) => scan,
+        Err(disks) => return (disks, RunEnd::without_reads(Outcome::NoMemory)),
+    };
+    let outcome = list_rounds(rt, &mut scan, asked, out);
+    let (totals, disks) = scan.finish();
+    let numbers = Numbers {
+        incarnations: totals.incarnations(),
+        by_workers: totals.by_runners(),
+        by_backends: totals.by_backends(),
+    };
+    (disks, RunEnd { outcome, numbers })
+}
+
+// How many disks a scan with these settings has: one for each backend and for each worker.
+fn disk_count(settings: &ScanSettings) -> usize
+    requires { (settings.now.backends ≤ 16) × (settings.now.workers ≤ 32) }
+    ensures { result ≡ disks_of settings.now }
+{
+    let workers = match settings.method {
+        MethodKind::Sync => 0,
+        MethodKind::Worker => settings.workers,
+    };
+    settings.backends as usize + workers as usize
+}
+
+// Opens the disks that are not open yet, and lists what is asked for over all. They come back.
+fn open_and_list<W: World + Send + Sync, S: Shelf, O: Sink, R: Threads + Wait + Sync>(
+    rt: &R,
+    alloc: Global,
+    asked: Asked<'_, '_>,
+    mut disks: Vec<S::Disk>,
+    shelf: &mut S,
+    out: &mut O,
+) -> (Vec<S::Disk>, RunEnd)
+    requires asked { IsAsked asked }
+    requires told { told_of (S.told shelf.old) asked.relations.now ≡ W.told }
+    requires world { W.relations ≡ length asked.relations.now }
+    requires handles { (asked.command.now).settings.backends
+        * (asked.command.now).settings.handles ≡ W.handles }
+    requires unread { All (IsUnread S.Disk.told S.Disk.relations S.Disk.faults S.Disk.reads W.told
+        W.relations) disks.items }
+    requires room { (vec_len disks ≤ 1) × (disks_of (asked.command.now).settings
+        ≤ vec_capacity disks) }
+    ensures scanned { HasScanned asked.entry (reader_of W.told) (O.written out.old)
+        (O.written out.new) (S.counts shelf.old) (S.counts shelf.new)
+        (sum_by S.Disk.faults result.0.items) (sum_by S.Disk.reads result.0.items)
+        result.1.outcome }
+    ensures writes { HasWritten (O.faults out.old) (O.faults out.new) result.1.outcome }
+    ensures counted { AreOfScan asked.entry S.Disk.reads result.0.items result.1.numbers }
+    ensures told { S.told shelf.new ≡ S.told shelf.old }
+{
+    let settings = asked.command.settings();
+    let names = asked.relations.names();
+    match open_others(shelf, names, &mut disks, disk_count(&settings)) {
+        Ok(()) => list_disks::<W, S::Disk, O, R>(rt, alloc, asked, disks, out),
+        Err(OpenFault::Device) => (disks, RunEnd::without_reads(Outcome::CannotOpen)),
+        Err(OpenFault::Memory) => (disks, RunEnd::without_reads(Outcome::NoMemory)),
+    }
+}
+
+// Opens the other disks, lists what is asked for, and gives all disks back.
+fn run_scan<W: World + Send + Sync, S: Shelf, O: Sink, R: Threads + Wait + Sync>(
+    rt: &R,
+    alloc: Global,
+    asked: Asked<'_, '_>,
+    settings: &ScanSettings,
+    first: S::Disk,
+    shelf: &mut S,
+    out: &mut O,
+) -> RunEnd
+    requires asked { IsAsked asked }
+    requires settings { (settings.now ≡ (asked.command.now).settings) × AreSettings settings.now }
+    requires told { (S.Disk.told first ≡ W.told)
+        × (told_of (S.told shelf.old) asked.relations.now ≡ W.told) }
+    requires relations { (S.Disk.relations first ≡ W.relations)
+        × (W.relations ≡ length asked.relations.now) }
+    requires handles { settings.now.backends * settings.now.handles ≡ W.handles }
+    requires unread { (S.Disk.faults first ≡ 0) × (S.Disk.reads first ≡ 0) }
+    requires lengths { HasLengths (S.Disk.told first) (length asked.relations.now)
+        asked.lengths.now }
+    ensures ran { Ran (S.Disk.told first) (length asked.entry.relations.now)
+        asked.entry.command.now (seen (O.written out.old) (S.counts shelf.old).reads)
+        (seen (O.written out.new) (S.counts shelf.new).reads) result.outcome }
+    ensures causes { HasCauses (S.counts shelf.old) (S.counts shelf.new) (O.faults out.old)
+        (O.faults out.new) result.outcome }
+    ensures order { CallsInOrder (S.counts shelf.old) (S.counts shelf.new) result.outcome }
+    ensures counted { AreCounted (Some asked.entry.command.now) (S.counts shelf.old)
+        (S.counts shelf.new) result.outcome result.numbers }
+    ensures told { S.told shelf.new ≡ S.told shelf.old }
+    ensures words { result.outcome ≢ Outcome.Usage }
+{
+    let Ok(mut disks) = Vec::with_capacity(alloc, disk_count(settings)) else {
+        shelf.take_back(first);
+        return RunEnd::without_reads(Outcome::NoMemory);
+    };
+    disks.push_reserved(first);
+    let (disks, end) = open_and_list::<W, S, O, R>(rt, alloc, asked, disks, shelf, out);
+    take_all_back(shelf, disks);
+    end
+}
+
+/// Takes the lengths, and lists the blocks that the command asks for. The disk goes back to the
+/// shelf.
+pub(crate) fn scan_disk<S: Shelf, O: Sink, R: Threads + Wait + Sync>(
+    rt: &R,
     alloc: Global,
     command: &Command<'_>,
     relations: &Relations,
-    mut disk: D,
+    mut disk: S::Disk,
+    shelf: &mut S,
     out: &mut O,
-) -> (D, Outcome)
+) -> RunEnd
     requires relations { relations.now ≡ relations_of command.now }
-    requires disk { D.relations disk ≡ length relations.now }
-    requires fresh { (D.length_faults disk ≡ 0) × (D.faults disk ≡ 0) × (D.reads disk ≡ 0) }
-    ensures ran { Ran (D.told disk) (length relations.now) command.now (seen (O.written out.old) 0)
-        (seen (O.written out.new) (D.reads result.0)) result.1 }
-    ensures scanned { HasScanned (D.length_faults result.0) (D.faults result.0)
-        (D.reads result.0) result.1 }
-    ensures writes { HasWritten (O.faults out.old) (O.faults out.new) result.1 }
-    ensures opened { (result.1 ≢ Outcome.Usage) × (result.1 ≢ Outcome.CannotOpen) }
+    requires told { S.Disk.told disk ≡ told_of (S.told shelf.old) relations.now }
+    requires disk { S.Disk.relations disk ≡ length relations.now }
+    requires unread { (S.Disk.length_faults disk ≡ 0) × (S.Disk.faults disk ≡ 0)
+        × (S.Disk.reads disk ≡ 0) }
+    ensures ran { Ran (S.Disk.told disk) (length relations.now) command.now
+        (seen (O.written out.old) (S.counts shelf.old).reads)
+        (seen (O.written out.new) (S.counts shelf.new).reads) result.outcome }
+    ensures causes { HasCauses (S.counts shelf.old) (S.counts shelf.new) (O.faults out.old)
+        (O.faults out.new) result.outcome }
+    ensures order { CallsInOrder (S.counts shelf.old) (S.counts shelf.new) result.outcome }
+    ensures counted { AreCounted (Some command.now) (S.counts shelf.old) (S.counts shelf.new)
+        result.outcome result.numbers }
+    ensures told { S.told shelf.new ≡ S.told shelf.old }
+    ensures words { result.outcome ≢ Outcome.Usage }
 {
     match take_lengths(alloc, &mut disk, relations.count()) {
         Ok(lengths) => {
-            list_disk::<Brand, D, T, O>(
-                rt,
-                alloc,
+            let asked = Asked {
                 command,
                 relations,
-                lengths.as_slice(),
-                disk,
-                out,
-            )
+                lengths: lengths.as_slice(),
+            };
+            let settings = command.settings();
+            run_scan::<Brand, S, O, R>(rt, alloc, asked, &settings, disk, shelf, out)
         }
-        Err(outcome) => (disk, outcome),
+        Err(outcome) => {
+            shelf.take_back(disk);
+            RunEnd::without_reads(outcome)
+        }
     }
 }

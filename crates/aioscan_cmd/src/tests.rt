@@ -1,6 +1,9 @@
 //! Whole runs.
+mod gate;
 mod outside;
 mod reads;
 mod rows;
+mod settings;
 mod slow;
 mod untold;
+mod words;

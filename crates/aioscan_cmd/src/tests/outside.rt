@@ -5,6 +5,7 @@ use std::alloc::{AllocError, Global};
 use std::process::Abort;
 use std::sync::Wait;
 use std::test::Fail;
+use std::thread::Threads;
 
 /// A page of zeros, but with these bytes at these offsets.
 pub(crate) type Parts<'a> = &'a [(usize, &'a [u8])];
@@ -18,58 +19,123 @@ pub(crate) const ZEROS: Parts<'static> = &[];
 /// Zeros but one byte: no valid page.
 pub(crate) const DAMAGED: Parts<'static> = &[(8000, &[1])];
 
+/// Appends a page of these parts.
+fn push_page(alloc: Global, file: &mut Vec<u8>, parts: Parts<'_>) -> Result<(), AllocError> {
+    let mut page = vec![in alloc; 0u8; 8192]?;
+    for (offset, part) in parts {
+        for (place, byte) in page.iter_mut().skip(*offset).zip(*part) {
+            *place = *byte;
+        }
+    }
+    file.extend_from_slice(page.as_slice())
+}
+
 /// A file of these pages.
 pub(crate) fn file_of(alloc: Global, pages: &[Parts<'_>]) -> Result<Vec<u8>, AllocError> {
     let mut file = Vec::new(alloc);
     for parts in pages {
-        let mut page = vec![in alloc; 0u8; 8192]?;
-        for (offset, part) in *parts {
-            for (place, byte) in page.iter_mut().skip(*offset).zip(*part) {
-                *place = *byte;
-            }
-        }
-        file.extend_from_slice(page.as_slice())?;
+        push_page(alloc, &mut file, parts)?;
     }
     Ok(file)
 }
 
-/// Words or names, each a text of its own.
-pub(crate) fn texts(alloc: Global, words: &[&str]) -> Result<Vec<String>, AllocError> {
-    let mut all = Vec::new(alloc);
-    for word in words {
-        all.push(String::from_str(alloc, word)?)?;
-    }
-    Ok(all)
+/// A file of so many empty pages.
+pub(crate) fn empty_file(alloc: Global, pages: usize) -> Result<Vec<u8>, AllocError> {
+    file_of(alloc, vec![in alloc; EMPTY; pages]?.as_slice())
 }
 
-/// Which opens, length calls and reads fail.
-pub(crate) type Fails<'a> = (&'a [u64], &'a [(u32, u64)], &'a [(u32, u64)]);
+/// The lines of empty pages of relation 0.
+pub(crate) fn empty_lines(alloc: Global, first: u32, after: u32) -> Result<String, Fail> {
+    let mut text = String::new(alloc);
+    for block in first..after {
+        writeln!(
+            text,
+            "page 0 {block} lower 24 upper 8192 special 8192 items 0"
+        )?;
+    }
+    Ok(text)
+}
+
+/// The words of a line. A word `''` is empty.
+pub(crate) fn words_of(alloc: Global, line: &str) -> Result<Vec<String>, AllocError> {
+    let mut words = Vec::new(alloc);
+    for word in line.split(' ') {
+        if word == "''" {
+            words.push(String::new(alloc))?;
+        } else if !word.is_empty() {
+            words.push(String::from_str(alloc, word)?)?;
+        }
+    }
+    Ok(words)
+}
+
+/// Which opens, length calls and reads fail, and what the first disk gives at most.
+#[derive(Clone, Copy)]
+pub(crate) struct Faults<'a> {
+    pub(crate) opens: &'a [u64],
+    pub(crate) lengths: &'a [(u32, u64)],
+    pub(crate) reads: &'a [(u32, u64)],
+    pub(crate) shorts: &'a [u32],
+}
 
 /// Nothing fails.
-pub(crate) const STEADY: Fails<'static> = (&[], &[], &[]);
+pub(crate) const STEADY: Faults<'static> = Faults {
+    opens: &[],
+    lengths: &[],
+    reads: &[],
+    shorts: &[],
+};
 
-/// The report of a run over files in memory, and what it left on the two sinks.
-pub(crate) fn run<R: Abort + AllocGlobal + Wait>(
+/// What a run over files in memory has left.
+#[derive(Drop)]
+pub(crate) struct Ended {
+    pub(crate) report: Report,
+    pub(crate) out: MemSink,
+    pub(crate) err: MemSink,
+    pub(crate) shelf: MemShelf,
+}
+
+/// A run over files in memory, whose sinks fail at these writes.
+pub(crate) fn run<R: Abort + AllocGlobal + Threads + Wait + Sync>(
     rt: &R,
     files: Vec<(String, Vec<u8>)>,
-    fails: Fails<'_>,
-    words: &[&str],
-    out_cuts: &[(u64, u64)],
-    err_cuts: &[(u64, u64)],
-) -> Result<(Report, MemSink, MemSink), Fail> {
+    faults: Faults<'_>,
+    line: &str,
+    cuts: (&[(u64, u64)], &[(u64, u64)]),
+) -> Result<Ended, Fail> {
     let alloc = rt.alloc();
+    let mut shorts = Vec::new(alloc);
+    if !faults.shorts.is_empty() {
+        shorts.push((0, Vec::from_slice(alloc, faults.shorts)?))?;
+    }
     let script = Script {
-        fail_opens: Vec::from_slice(alloc, fails.0)?,
-        fail_lengths: Vec::from_slice(alloc, fails.1)?,
-        fail_reads: Vec::from_slice(alloc, fails.2)?,
-        shorts: Vec::new(alloc),
+        fail_opens: Vec::from_slice(alloc, faults.opens)?,
+        fail_lengths: Vec::from_slice(alloc, faults.lengths)?,
+        fail_reads: Vec::from_slice(alloc, faults.reads)?,
+        shorts,
     };
     assert!(rt; have_distinct_names(files.as_slice()));
     assert!(rt; script.has_positive_shorts());
-    let mut shelf = MemShelf::make(alloc, files, script, 0)?;
-    let words = texts(alloc, words)?;
-    let mut out = MemSink::make(alloc, Vec::from_slice(alloc, out_cuts)?);
-    let mut err = MemSink::make(alloc, Vec::from_slice(alloc, err_cuts)?);
+    let mut shelf = MemShelf::make(alloc, files, script, 64)?;
+    let words = words_of(alloc, line)?;
+    let mut out = MemSink::make(alloc, Vec::from_slice(alloc, cuts.0)?);
+    let mut err = MemSink::make(alloc, Vec::from_slice(alloc, cuts.1)?);
     let report = aioscan(rt, alloc, words.as_slice(), &mut shelf, &mut out, &mut err);
-    Ok((report, out, err))
+    Ok(Ended {
+        report,
+        out,
+        err,
+        shelf,
+    })
+}
+
+/// A run over the one file `f`.
+pub(crate) fn run_over<R: Abort + AllocGlobal + Threads + Wait + Sync>(
+    rt: &R,
+    file: Vec<u8>,
+    faults: Faults<'_>,
+    line: &str,
+) -> Result<Ended, Fail> {
+    let files = vec![in rt.alloc(); (String::from_str(rt.alloc(), "f")?, file)]?;
+    run(rt, files, faults, line, (&[], &[]))
 }

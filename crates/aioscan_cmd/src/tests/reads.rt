@@ -1,78 +1,209 @@
-//! Which reads a run makes.
-use crate::aioscan;
-use crate::tests::outside::{EMPTY, file_of, texts};
-use aio_disk::{MemShelf, MemSink, Script, have_distinct_names};
+//! Which reads a run makes, and what its report counts.
+use super::outside::{
+    EMPTY, Ended, Faults, Parts, STEADY, empty_file, empty_lines, file_of, run_over,
+};
+use std::alloc::Global;
 use std::process::Abort;
 use std::sync::Wait;
 use std::test::Fail;
+use std::thread::Threads;
 
 /// The first block of a read, how many blocks were asked for, and how many came.
 type Read = (u32, u32, Option<u32>);
 
-/// The reads of a run over one file of so many pages, whose disk gives at most so many pages at
-/// its first reads.
-fn reads_of<R: Abort + AllocGlobal + Wait>(
-    rt: &R,
-    pages: usize,
-    shorts: &[u32],
-) -> Result<Vec<Read>, Fail> {
-    let alloc = rt.alloc();
-    let file = file_of(alloc, vec![in alloc; EMPTY; pages]?.as_slice())?;
-    let files = vec![in alloc; (String::from_str(alloc, "f")?, file)]?;
-    let script = Script {
-        fail_opens: Vec::new(alloc),
-        fail_lengths: Vec::new(alloc),
-        fail_reads: Vec::new(alloc),
-        shorts: vec![in alloc; (0, Vec::from_slice(alloc, shorts)?)]?,
-    };
-    assert!(rt; have_distinct_names(files.as_slice()));
-    assert!(rt; script.has_positive_shorts());
-    let mut shelf = MemShelf::make(alloc, files, script, 64)?;
-    let words = texts(alloc, &["scan", "f"])?;
-    let mut out = MemSink::make(alloc, Vec::new(alloc));
-    let mut err = MemSink::make(alloc, Vec::new(alloc));
-    let report = aioscan(rt, alloc, words.as_slice(), &mut shelf, &mut out, &mut err);
-    assert_eq!(rt; report.status, 0);
+fn reads_of(alloc: Global, run: &Ended) -> Result<Vec<Read>, Fail> {
     let mut reads = Vec::new(alloc);
-    for entry in shelf.log() {
+    for entry in run.shelf.log() {
         reads.push((entry.first, entry.asked, entry.answered))?;
     }
     Ok(reads)
 }
 
-#[test]
-fn runs_grow_with_the_distance(rt: HostRuntime) -> Result<(), Fail> {
-    let eight: &[Read] = &[
-        (0, 1, Some(1)),
-        (1, 2, Some(2)),
-        (3, 4, Some(4)),
-        (7, 1, Some(1)),
-    ];
-    assert_eq!(&rt; reads_of(&rt, 8, &[])?.as_slice(), eight, "8 pages");
-    let many: &[Read] = &[
-        (0, 1, Some(1)),
-        (1, 2, Some(2)),
-        (3, 4, Some(4)),
-        (7, 8, Some(8)),
-        (15, 16, Some(16)),
-        (31, 16, Some(16)),
-        (47, 16, Some(16)),
-        (63, 1, Some(1)),
-    ];
-    assert_eq!(&rt; reads_of(&rt, 64, &[])?.as_slice(), many, "64 pages");
+// Runs over one file of empty pages, and compares the reads.
+fn expect_reads<R: Abort + AllocGlobal + Threads + Wait + Sync>(
+    rt: &R,
+    name: &str,
+    pages: usize,
+    shorts: &[u32],
+    line: &str,
+    wanted: &[Read],
+) -> Result<(), Fail> {
+    let alloc = rt.alloc();
+    let faults = Faults { shorts, ..STEADY };
+    let done = run_over(rt, empty_file(alloc, pages)?, faults, line)?;
+    assert_eq!(rt; done.report.status, 0, "{name}");
+    assert_eq!(rt; reads_of(alloc, &done)?.as_slice(), wanted, "{name}");
+    assert_eq!(rt; done.report.incarnations, wanted.len() as u128, "{name}");
+    assert_eq!(rt; done.report.by_backends, wanted.len() as u128, "{name}");
+    assert_eq!(rt; done.report.by_workers, 0, "{name}");
     Ok(())
 }
 
 #[test]
-fn a_short_read_is_taken_up(rt: HostRuntime) -> Result<(), Fail> {
-    // The second read gives one page of two. While its rest is read, the look-ahead takes the other
-    // blocks, which are then one run.
-    let wanted: &[Read] = &[
-        (0, 1, Some(1)),
-        (1, 2, Some(1)),
-        (2, 1, Some(1)),
-        (3, 5, Some(5)),
+fn reads_of_one_backend(rt: HostRuntime) -> Result<(), Fail> {
+    let rows: [(&str, usize, &[u32], &str, &[Read]); 5] = [
+        (
+            "runs grow with the distance",
+            8,
+            &[],
+            "--method sync --backends 1 f",
+            &[
+                (0, 1, Some(1)),
+                (1, 2, Some(2)),
+                (3, 4, Some(4)),
+                (7, 1, Some(1)),
+            ],
+        ),
+        (
+            "up to 16 blocks, in jobs of 64",
+            66,
+            &[],
+            "--method sync --backends 1 f",
+            &[
+                (0, 1, Some(1)),
+                (1, 2, Some(2)),
+                (3, 4, Some(4)),
+                (7, 8, Some(8)),
+                (15, 16, Some(16)),
+                (31, 16, Some(16)),
+                (47, 16, Some(16)),
+                (63, 1, Some(1)),
+                (64, 1, Some(1)),
+                (65, 1, Some(1)),
+            ],
+        ),
+        (
+            "the rest of a short read is read while others are taken up",
+            8,
+            &[1, 1],
+            "--method sync --backends 1 f",
+            &[
+                (0, 1, Some(1)),
+                (1, 2, Some(1)),
+                (2, 1, Some(1)),
+                (3, 5, Some(5)),
+            ],
+        ),
+        (
+            "short reads under --full",
+            16,
+            &[1, 2, 4, 9],
+            "--method sync --backends 1 --full f",
+            &[
+                (0, 16, Some(1)),
+                (1, 15, Some(2)),
+                (3, 13, Some(4)),
+                (7, 9, Some(9)),
+            ],
+        ),
+        (
+            "a file twice is read once",
+            2,
+            &[],
+            "--method sync --backends 1 f f",
+            &[(0, 1, Some(1)), (1, 1, Some(1))],
+        ),
     ];
-    assert_eq!(&rt; reads_of(&rt, 8, &[1, 1])?.as_slice(), wanted);
+    for (name, pages, shorts, line, wanted) in rows {
+        expect_reads(&rt, name, pages, shorts, line, wanted)?;
+    }
+    Ok(())
+}
+
+#[test]
+fn an_invalid_page_behind_one_read(rt: HostRuntime) -> Result<(), Fail> {
+    let alloc = rt.alloc();
+    let flagged: Parts<'_> = &[(10, &[8, 0, 24, 0, 0, 32, 0, 32, 4, 32])];
+    let mut file = empty_file(alloc, 12)?;
+    file.extend_from_slice(file_of(alloc, &[flagged, EMPTY])?.as_slice())?;
+    let line = "--method sync --backends 1 --full --from 10 --to 13 f";
+    let done = run_over(&rt, file, STEADY, line)?;
+    let text = empty_lines(alloc, 10, 12)?;
+    assert_eq!(rt; done.out.bytes(), text.as_str().as_bytes());
+    assert_eq!(rt; done.err.bytes(), "invalid page 0 12\n".as_bytes());
+    assert_eq!(rt; done.report.status, 1);
+    let wanted: &[Read] = &[(10, 4, Some(4))];
+    assert_eq!(&rt; reads_of(alloc, &done)?.as_slice(), wanted);
+    Ok(())
+}
+
+#[test]
+fn a_third_read_that_fails(rt: HostRuntime) -> Result<(), Fail> {
+    let alloc = rt.alloc();
+    let faults = Faults {
+        reads: &[(0, 3)],
+        ..STEADY
+    };
+    let line = "--method sync --backends 1 --combine 1 --handles 1 f";
+    let done = run_over(&rt, empty_file(alloc, 5)?, faults, line)?;
+    let text = empty_lines(alloc, 0, 2)?;
+    assert_eq!(rt; done.out.bytes(), text.as_str().as_bytes());
+    assert_eq!(rt; done.err.bytes(), "unread page 0 2\n".as_bytes());
+    assert_eq!(rt; done.report.status, 3);
+    assert_eq!(rt; done.report.incarnations, 3);
+    assert_eq!(rt; done.report.by_workers, 0);
+    assert_eq!(rt; done.report.by_backends, 3);
+    Ok(())
+}
+
+#[test]
+fn an_incarnation_for_each_of_512_blocks(rt: HostRuntime) -> Result<(), Fail> {
+    let alloc = rt.alloc();
+    let line = "--workers 1 --backends 2 --handles 64 --concurrency 64 --combine 1 f";
+    let done = run_over(&rt, empty_file(alloc, 512)?, STEADY, line)?;
+    let text = empty_lines(alloc, 0, 512)?;
+    assert_eq!(rt; done.out.bytes(), text.as_str().as_bytes());
+    assert_eq!(rt; done.report.status, 0);
+    assert_eq!(rt; done.report.incarnations, 512);
+    Ok(())
+}
+
+// Appends the page that a server with checksums writes for a block below 255, and its text.
+fn push_server_page(
+    alloc: Global,
+    file: &mut Vec<u8>,
+    text: &mut String,
+    block: u32,
+) -> Result<(), Fail> {
+    let checksum = (block % 255 + 1) as u8;
+    let page: Parts<'_> = &[
+        (0, &[1, 2, 3, 4, 5, 6, 7, 8, checksum, 0, 4, 0]),
+        (12, &[36, 0, 0x88, 0x1f, 0, 32, 4, 32]),
+        (
+            24,
+            &[
+                0xd8, 0x9f, 0x50, 0, 0xb0, 0x9f, 0x50, 0, 0x88, 0x9f, 0x50, 0,
+            ],
+        ),
+    ];
+    file.extend_from_slice(file_of(alloc, &[page])?.as_slice())?;
+    writeln!(
+        text,
+        "page 0 {block} lower 36 upper 8072 special 8192 items 3"
+    )?;
+    writeln!(text, "item 1 normal 8152 40")?;
+    writeln!(text, "item 2 normal 8112 40")?;
+    writeln!(text, "item 3 normal 8072 40")?;
+    Ok(())
+}
+
+#[test]
+fn pages_of_a_server_with_checksums(rt: HostRuntime) -> Result<(), Fail> {
+    let alloc = rt.alloc();
+    let (mut file, mut text) = (Vec::new(alloc), String::new(alloc));
+    for block in 0..200 {
+        push_server_page(alloc, &mut file, &mut text, block)?;
+    }
+    for line in ["f", "--method sync --backends 1 f"] {
+        let done = run_over(&rt, file.clone()?, STEADY, line)?;
+        let executed = done
+            .report
+            .by_workers
+            .saturating_add(done.report.by_backends);
+        assert_eq!(rt; done.out.bytes(), text.as_str().as_bytes(), "{line}");
+        assert_eq!(rt; done.report.status, 0, "{line}");
+        assert_eq!(rt; done.report.incarnations, 28, "{line}");
+        assert_eq!(rt; executed, 28, "{line}");
+    }
     Ok(())
 }

@@ -1,22 +1,23 @@
 //! Worked runs over memory.
-use super::outside::{DAMAGED, EMPTY, Fails, Parts, STEADY, ZEROS, file_of, run};
+use super::outside::{DAMAGED, EMPTY, Faults, Parts, STEADY, ZEROS, file_of, run, run_over};
 use crate::Line;
 use std::process::Abort;
 use std::slice::from_ref;
 use std::sync::Wait;
 use std::test::Fail;
+use std::thread::Threads;
 
 const E_LINE: &str = "page 0 0 lower 24 upper 8192 special 8192 items 0\n";
 
 const USAGE: &str = "usage: aioscan [options] FILE...\n";
 
 // Runs over `f` and `g`, and compares the output, the line and the status.
-fn expect<R: Abort + AllocGlobal + Wait>(
+fn expect<R: Abort + AllocGlobal + Threads + Wait + Sync>(
     rt: &R,
     name: &str,
     files: (&[Parts<'_>], &[Parts<'_>]),
-    fails: Fails<'_>,
-    words: &[&str],
+    faults: Faults<'_>,
+    line: &str,
     cuts: &[(u64, u64)],
     wanted: (&str, &str, u8),
 ) -> Result<(), Fail> {
@@ -25,30 +26,22 @@ fn expect<R: Abort + AllocGlobal + Wait>(
         (String::from_str(alloc, "f")?, file_of(alloc, files.0)?),
         (String::from_str(alloc, "g")?, file_of(alloc, files.1)?),
     ]?;
-    let (report, out, err) = run(rt, all, fails, words, cuts, &[])?;
-    assert_eq!(rt; out.bytes(), wanted.0.as_bytes(), "{name}");
-    assert_eq!(rt; err.bytes(), wanted.1.as_bytes(), "{name}");
-    assert_eq!(rt; report.status, wanted.2, "{name}");
-    assert_eq!(rt; report.line, Line::Whole, "{name}");
+    let done = run(rt, all, faults, line, (cuts, &[]))?;
+    assert_eq!(rt; done.out.bytes(), wanted.0.as_bytes(), "{name}");
+    assert_eq!(rt; done.err.bytes(), wanted.1.as_bytes(), "{name}");
+    assert_eq!(rt; done.report.status, wanted.2, "{name}");
+    assert_eq!(rt; done.report.line, Line::Whole, "{name}");
     Ok(())
 }
 
-// `scan f` over one file.
-fn expect_page<R: Abort + AllocGlobal + Wait>(
+// A run over one file.
+fn expect_page<R: Abort + AllocGlobal + Threads + Wait + Sync>(
     rt: &R,
     name: &str,
     parts: Parts<'_>,
     wanted: (&str, &str, u8),
 ) -> Result<(), Fail> {
-    expect(
-        rt,
-        name,
-        (from_ref(&parts), &[]),
-        STEADY,
-        &["scan", "f"],
-        &[],
-        wanted,
-    )
+    expect(rt, name, (from_ref(&parts), &[]), STEADY, "f", &[], wanted)
 }
 
 // A body that always answers that there is no memory gives no listing.
@@ -121,11 +114,10 @@ fn pages_one_by_one(rt: HostRuntime) -> Result<(), Fail> {
 fn a_part_of_a_block_is_no_block(rt: HostRuntime) -> Result<(), Fail> {
     let alloc = rt.alloc();
     for size in [0, 8191] {
-        let files = vec![in alloc; (String::from_str(alloc, "e")?, vec![in alloc; 0u8; size]?)]?;
-        let (report, out, err) = run(&rt, files, STEADY, &["scan", "e"], &[], &[])?;
-        assert_eq!(rt; out.bytes().len(), 0, "{size} bytes");
-        assert_eq!(rt; err.bytes().len(), 0, "{size} bytes");
-        assert_eq!(rt; report.status, 0, "{size} bytes");
+        let done = run_over(&rt, vec![in alloc; 0u8; size]?, STEADY, "f")?;
+        assert_eq!(rt; done.out.bytes().len(), 0, "{size} bytes");
+        assert_eq!(rt; done.err.bytes().len(), 0, "{size} bytes");
+        assert_eq!(rt; done.report.status, 0, "{size} bytes");
     }
     Ok(())
 }
@@ -141,91 +133,108 @@ fn every_status(rt: HostRuntime) -> Result<(), Fail> {
     let last = "page 0 3 lower 24 upper 8192 special 8192 items 0\n";
     let again = "page 0 0 lower 24 upper 8192 special 8192 items 0\n\
                  page 0 0 lower 24 upper 8192 special 8192 items 0\n";
-    let read_2: Fails<'_> = (&[], &[], &[(0, 2)]);
-    let length_1: Fails<'_> = (&[], &[(0, 1)], &[]);
-    let length_2: Fails<'_> = (&[], &[(0, 2)], &[]);
-    let open_1: Fails<'_> = (&[1], &[], &[]);
-    let rows: [(&str, &[Parts<'_>], Fails<'_>, &[&str], (&str, &str, u8)); 11] = [
+    let read_2 = Faults {
+        reads: &[(0, 2)],
+        ..STEADY
+    };
+    let length_1 = Faults {
+        lengths: &[(0, 1)],
+        ..STEADY
+    };
+    let length_2 = Faults {
+        lengths: &[(0, 2)],
+        ..STEADY
+    };
+    let open_1 = Faults {
+        opens: &[1],
+        ..STEADY
+    };
+    let open_2 = Faults {
+        opens: &[2],
+        ..STEADY
+    };
+    let rows: [(&str, &[Parts<'_>], Faults<'_>, &str, (&str, &str, u8)); 12] = [
         (
             "a second file that is damaged",
             two,
             STEADY,
-            &["scan", "f", "g"],
+            "f g",
             (both, "invalid page 1 0\n", 1),
         ),
         (
             "a read that fails",
             three,
             read_2,
-            &["scan", "f"],
+            "--method sync --backends 1 f",
             (E_LINE, "unread page 0 1\n", 3),
         ),
         (
             "from above to",
             three,
             STEADY,
-            &["scan", "--from", "2", "--to", "1", "f"],
+            "--from 2 --to 1 f",
             ("", "", 0),
         ),
-        (
-            "a file twice",
-            &[EMPTY],
-            STEADY,
-            &["scan", "f", "f"],
-            (again, "", 0),
-        ),
+        ("a file twice", &[EMPTY], STEADY, "f f", (again, "", 0)),
         (
             "to behind the end",
             four,
             STEADY,
-            &["scan", "--from", "3", "--to", "4", "f"],
+            "--from 3 --to 4 f",
             (last, "no page 0 4\n", 6),
         ),
         (
             "from behind the end",
             four,
             STEADY,
-            &["scan", "--from", "4", "f"],
+            "--from 4 f",
             ("", "", 0),
         ),
         (
             "a first length that fails",
             two,
             length_1,
-            &["scan", "f"],
+            "f",
             ("", "no length 0\n", 3),
         ),
         (
             "a second length that fails",
             two,
             length_2,
-            &["scan", "f", "f", "g"],
+            "f f g",
             ("", "no length 1\n", 3),
         ),
         (
             "an open that fails",
             two,
             open_1,
-            &["scan", "f"],
+            "f",
+            ("", "cannot open\n", 3),
+        ),
+        (
+            "a second disk that cannot be opened",
+            two,
+            open_2,
+            "--method sync --backends 2 f",
             ("", "cannot open\n", 3),
         ),
         (
             "a file that is not there",
             two,
             STEADY,
-            &["scan", "h"],
+            "h",
             ("", "cannot open\n", 3),
         ),
         (
             "to for each file",
             two,
             STEADY,
-            &["scan", "--to", "0", "f", "g", "f"],
+            "--to 0 f g f",
             (E_LINE, "invalid page 1 0\n", 1),
         ),
     ];
-    for (name, pages, fails, words, wanted) in rows {
-        expect(&rt, name, (pages, bad), fails, words, &[], wanted)?;
+    for (name, pages, faults, line, wanted) in rows {
+        expect(&rt, name, (pages, bad), faults, line, &[], wanted)?;
     }
     Ok(())
 }
@@ -238,7 +247,7 @@ fn an_output_that_fails_after_5_bytes(rt: HostRuntime) -> Result<(), Fail> {
         "an output that fails",
         (&[EMPTY], &[]),
         STEADY,
-        &["scan", "f"],
+        "f",
         &[(1, 5)],
         wanted,
     )
@@ -248,42 +257,36 @@ fn an_output_that_fails_after_5_bytes(rt: HostRuntime) -> Result<(), Fail> {
 fn an_error_stream_that_fails_after_3_bytes(rt: HostRuntime) -> Result<(), Fail> {
     let alloc = rt.alloc();
     let files = vec![in alloc; (String::from_str(alloc, "f")?, file_of(alloc, &[EMPTY])?)]?;
-    let read_1: Fails<'_> = (&[], &[], &[(0, 1)]);
-    let (report, out, err) = run(&rt, files, read_1, &["scan", "f"], &[], &[(1, 3)])?;
-    assert_eq!(rt; out.bytes().len(), 0);
-    assert_eq!(rt; err.bytes(), "unr".as_bytes());
-    assert_eq!(rt; report.line, Line::Cut);
-    assert_eq!(rt; report.status, 3);
+    let read_1 = Faults {
+        reads: &[(0, 1)],
+        ..STEADY
+    };
+    let line = "--method sync --backends 1 f";
+    let done = run(&rt, files, read_1, line, (&[], &[(1, 3)]))?;
+    assert_eq!(rt; done.out.bytes().len(), 0);
+    assert_eq!(rt; done.err.bytes(), "unr".as_bytes());
+    assert_eq!(rt; done.report.line, Line::Cut);
+    assert_eq!(rt; done.report.status, 3);
     Ok(())
 }
 
 #[test]
 fn words_that_are_no_command(rt: HostRuntime) -> Result<(), Fail> {
-    let rows: [(&str, &[&str]); 13] = [
-        ("no words", &[]),
-        ("no file", &["scan"]),
-        ("an empty name", &["scan", ""]),
-        ("a name that begins with -", &["scan", "-f"]),
-        ("no scan", &["list", "f"]),
-        ("an option behind the file", &["scan", "f", "--to", "0"]),
-        ("an option with =", &["scan", "--from=0", "f"]),
-        ("to before from", &["scan", "--to", "0", "--from", "0", "f"]),
-        ("from 131072", &["scan", "--from", "131072", "f"]),
-        ("a sign", &["scan", "--from", "+1", "f"]),
-        ("eight digits", &["scan", "--from", "00000001", "f"]),
-        ("no number", &["scan", "--from", "", "f"]),
-        ("from twice", &["scan", "--from", "0", "--from", "0", "f"]),
+    let lines = [
+        "",
+        "--combine 0 f",
+        "--combine 129 f",
+        "--backends 17 f",
+        "--make 10 f",
+        "--full",
+        "--from +1 f",
+        "--from 131072 f",
+        "--full --full f",
+        "f ''",
     ];
-    for (name, words) in rows {
-        expect(
-            &rt,
-            name,
-            (&[EMPTY], &[]),
-            STEADY,
-            words,
-            &[],
-            ("", USAGE, 2),
-        )?;
+    for line in lines {
+        let files = (&[EMPTY] as &[Parts<'_>], &[] as &[Parts<'_>]);
+        expect(&rt, line, files, STEADY, line, &[], ("", USAGE, 2))?;
     }
     Ok(())
 }

@@ -2,6 +2,7 @@
 ghost use Rattle.std.specs.Prelude.{◌<◌};
 
 use super::outside::{DAMAGED, EMPTY, Parts, STEADY, ZEROS, file_of, run};
+use super::settings::random_settings;
 use std::alloc::{AllocError, Global};
 use std::test::Fail;
 
@@ -88,7 +89,7 @@ fn slow_run(
 }
 
 // A number below `limit`, and the next state.
-fn pick(state: &mut u64, limit: u64) -> u64
+pub(crate) fn pick(state: &mut u64, limit: u64) -> u64
     requires { 0 < limit }
     ensures { result < limit }
 {
@@ -133,41 +134,48 @@ fn random_asked(alloc: Global, state: &mut u64) -> Result<Asked, AllocError> {
 }
 
 // The words that ask for this.
-fn words_of(alloc: Global, asked: &Asked) -> Result<Vec<&'static str>, AllocError> {
-    let numbers = ["0", "1", "2", "3", "4"];
-    let mut words = Vec::new(alloc);
-    words.push("scan")?;
-    for (option, block) in [("--from", asked.from), ("--to", asked.to)] {
-        if let Some(block) = block {
-            words.push(option)?;
-            words.push(numbers.get(block as usize).copied().unwrap_or("0"))?;
-        }
+fn line_of(alloc: Global, asked: &Asked, settings: &str) -> Result<String, Fail> {
+    let mut line = String::from_str(alloc, settings)?;
+    if let Some(block) = asked.from {
+        write!(line, " --from {block}")?;
+    }
+    if let Some(block) = asked.to {
+        write!(line, " --to={block}")?;
     }
     for file in asked.files.as_slice() {
-        words.push(if *file == 0 { "a" } else { "b" })?;
+        line.push_str(if *file == 0 { " a" } else { " b" })?;
     }
-    Ok(words)
+    Ok(line)
 }
 
 #[test]
 fn random_requests(rt: HostRuntime) -> Result<(), Fail> {
     let alloc = rt.alloc();
     let mut state = 20261126;
-    for request in 0..60 {
+    for request in 0..10000 {
         let a = random_file(alloc, &mut state)?;
         let b = random_file(alloc, &mut state)?;
         let asked = random_asked(alloc, &mut state)?;
+        let settings = random_settings(alloc, &mut state)?;
         let contents = vec![in alloc; a.clone()?, b.clone()?]?;
-        let (text, line, status) = slow_run(alloc, &asked, contents.as_slice())?;
-        let words = words_of(alloc, &asked)?;
+        let (text, wanted, status) = slow_run(alloc, &asked, contents.as_slice())?;
+        let line = line_of(alloc, &asked, settings.as_str())?;
         let files = vec![in alloc;
             (String::from_str(alloc, "a")?, a),
             (String::from_str(alloc, "b")?, b),
         ]?;
-        let (report, out, err) = run(&rt, files, STEADY, words.as_slice(), &[], &[])?;
-        assert_eq!(rt; out.bytes(), text.as_str().as_bytes(), "request {request}");
-        assert_eq!(rt; err.bytes(), line.as_str().as_bytes(), "request {request}");
-        assert_eq!(rt; report.status, status, "request {request}");
+        let done = run(&rt, files, STEADY, line.as_str(), (&[], &[]))?;
+        assert_eq!(rt;
+            done.out.bytes(),
+            text.as_str().as_bytes(),
+            "request {request}: {line}"
+        );
+        assert_eq!(rt;
+            done.err.bytes(),
+            wanted.as_str().as_bytes(),
+            "request {request}: {line}"
+        );
+        assert_eq!(rt; done.report.status, status, "request {request}: {line}");
     }
     Ok(())
 }

@@ -1,19 +1,30 @@
-//! A shelf that does not tell its contents.
+//! Shelves that do not tell their contents.
 ghost use Rattle.std.specs.Prelude.{None};
 
-use super::outside::texts;
-use crate::aioscan;
+use super::outside::{EMPTY, empty_lines, file_of, words_of};
+use crate::{Report, aioscan};
 use aio_disk::{DeviceFault, Disk, MemSink, OpenFault, Shelf};
 use page_check::Page;
+use std::alloc::{AllocError, Global};
+use std::process::Abort;
+use std::sync::Wait;
 use std::test::Fail;
+use std::thread::Threads;
 
-// A disk whose relations all have this length, and whose reads see no page. It counts its calls.
+/// The first block of a read, how many blocks were asked for, and how many came.
+type Read = (u32, u32, u32);
+
+// A disk whose relations all have this length, and whose reads see fewer pages, all empty. It
+// keeps its reads, as far as there is room.
 #[derive(Drop)]
 struct LongDisk {
     count: u32,
     length: u32,
+    seen: u32,
+    page: Page,
     lengths: u64,
     reads: u64,
+    log: Vec<Read>,
 }
 
 impl Disk for LongDisk {
@@ -32,24 +43,28 @@ impl Disk for LongDisk {
         Ok(self.length)
     }
 
-    fn read(
-        &mut self,
-        _relation: u32,
-        _first: u32,
-        _pages: &mut [Page],
-    ) -> Result<u32, DeviceFault> {
+    fn read(&mut self, _relation: u32, first: u32, pages: &mut [Page]) -> Result<u32, DeviceFault> {
         self.reads = self.reads.saturating_add(1);
-        Ok(0)
+        let asked = pages.len() as u32;
+        let answered = self.seen.saturating_sub(first).min(asked);
+        for page in pages.iter_mut() {
+            page.copy_from(&self.page);
+        }
+        let _full = self.log.push((first, asked, answered));
+        Ok(answered)
     }
 }
 
 #[derive(Drop)]
 struct LongShelf {
+    alloc: Global,
     length: u32,
+    seen: u32,
     open_faults: u64,
     reads: u64,
     opens: u64,
     lengths: u64,
+    log: Vec<Read>,
 }
 
 impl Shelf for LongShelf {
@@ -70,45 +85,105 @@ impl Shelf for LongShelf {
             self.open_faults = self.open_faults.saturating_add(1);
             return Err(OpenFault::Device);
         };
+        let Ok(page) = empty_page(self.alloc) else {
+            return Err(OpenFault::Memory);
+        };
         Ok(LongDisk {
             count,
             length: self.length,
+            seen: self.seen,
+            page,
             lengths: 0,
             reads: 0,
+            log: Vec::new(self.alloc),
         })
     }
 
     fn take_back(&mut self, disk: LongDisk) {
         self.reads = self.reads.saturating_add(disk.reads);
         self.lengths = self.lengths.saturating_add(disk.lengths);
+        let _full = self.log.extend_from_slice(disk.log.as_slice());
     }
+}
+
+/// An empty page.
+pub(crate) fn empty_page(alloc: Global) -> Result<Page, AllocError> {
+    let bytes = file_of(alloc, &[EMPTY])?;
+    let mut page = Page::zeroed(alloc)?;
+    for (place, byte) in page.bytes_mut().iter_mut().zip(bytes.as_slice()) {
+        *place = *byte;
+    }
+    Ok(page)
+}
+
+// A run over relations of this length, of which reads see fewer pages.
+fn run_long<R: Abort + AllocGlobal + Threads + Wait + Sync>(
+    rt: &R,
+    length: u32,
+    seen: u32,
+    line: &str,
+) -> Result<(Report, MemSink, MemSink, LongShelf), Fail> {
+    let alloc = rt.alloc();
+    let mut shelf = LongShelf {
+        alloc,
+        length,
+        seen,
+        open_faults: 0,
+        reads: 0,
+        opens: 0,
+        lengths: 0,
+        log: Vec::new(alloc),
+    };
+    let words = words_of(alloc, line)?;
+    let mut out = MemSink::make(alloc, Vec::new(alloc));
+    let mut err = MemSink::make(alloc, Vec::new(alloc));
+    let report = aioscan(rt, alloc, words.as_slice(), &mut shelf, &mut out, &mut err);
+    Ok((report, out, err, shelf))
 }
 
 #[test]
 fn lengths_that_nothing_tells(rt: HostRuntime) -> Result<(), Fail> {
-    let alloc = rt.alloc();
+    let line = "--method sync --backends 1 f g";
     let rows = [
         (131073, "relation 0 is too long\n", 7, (1, 0)),
         (131072, "no page 0 0\n", 6, (2, 1)),
         (0, "", 0, (2, 0)),
     ];
-    for (length, line, status, calls) in rows {
-        let mut shelf = LongShelf {
-            length,
-            open_faults: 0,
-            reads: 0,
-            opens: 0,
-            lengths: 0,
-        };
-        let words = texts(alloc, &["scan", "f", "g"])?;
-        let mut out = MemSink::make(alloc, Vec::new(alloc));
-        let mut err = MemSink::make(alloc, Vec::new(alloc));
-        let report = aioscan(&rt, alloc, words.as_slice(), &mut shelf, &mut out, &mut err);
+    for (length, wanted, status, calls) in rows {
+        let (report, out, err, shelf) = run_long(&rt, length, 0, line)?;
         assert_eq!(rt; out.bytes().len(), 0, "length {length}");
-        assert_eq!(rt; err.bytes(), line.as_bytes(), "length {length}");
+        assert_eq!(rt; err.bytes(), wanted.as_bytes(), "length {length}");
         assert_eq!(rt; report.status, status, "length {length}");
         assert_eq!(rt; shelf.opens, 1, "length {length}");
         assert_eq!(rt; (shelf.lengths, shelf.reads), calls, "length {length}");
+    }
+    Ok(())
+}
+
+#[test]
+fn fewer_pages_than_its_length(rt: HostRuntime) -> Result<(), Fail> {
+    let (report, out, err, shelf) = run_long(&rt, 6, 4, "--method sync --backends 1 f")?;
+    let text = empty_lines(rt.alloc(), 0, 4)?;
+    assert_eq!(rt; out.bytes(), text.as_str().as_bytes());
+    assert_eq!(rt; err.bytes(), "no page 0 4\n".as_bytes());
+    assert_eq!(rt; report.status, 6);
+    let wanted: &[Read] = &[(0, 1, 1), (1, 2, 2), (3, 3, 1), (4, 2, 0)];
+    assert_eq!(&rt; shelf.log.as_slice(), wanted);
+    Ok(())
+}
+
+#[test]
+fn a_disk_for_each_backend_and_each_worker(rt: HostRuntime) -> Result<(), Fail> {
+    let rows = [
+        ("f", 5),
+        ("--method sync f", 2),
+        ("--workers 1 --backends 3 f", 4),
+        ("--method sync --workers 4 --backends 1 f", 1),
+    ];
+    for (line, opens) in rows {
+        let (report, _, _, shelf) = run_long(&rt, 1, 1, line)?;
+        assert_eq!(rt; report.status, 0, "{line}");
+        assert_eq!(rt; shelf.opens, opens, "{line}");
     }
     Ok(())
 }

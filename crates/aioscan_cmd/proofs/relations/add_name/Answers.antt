@@ -7,15 +7,15 @@ use Rattle.aioscan_cmd.proofs.relations.add_name.Goals as goal
 
 pub returns-then-is_named : goal.returns-then-is_named
 returns-then-is_named c =
-    let known : list_any (λ other. bytes_eq (string_bytes other) (string_bytes c.args.name.now))
+    let known : list_any (λ other. bytes_eq (string_bytes other) c.args.name.now)
     c.args.names.now.items ≡ true = search rules in
-    add_known string_bytes c.args.names.now.items (string_bytes c.args.name.now) known
+    add_known string_bytes c.args.names.now.items c.args.name.now known
 
 pub returns : goal.returns
 returns c =
-    let new : list_any (λ other. bytes_eq (string_bytes other) (string_bytes c.args.name.now))
+    let new : list_any (λ other. bytes_eq (string_bytes other) c.args.name.now)
     c.args.names.now.items ≡ false = search rules in
     λ names same.
     ap (map string_bytes) c.in_ok-push.ensures.items
-    ∙ add_new string_bytes c.args.names.now.items c.in_ok-clone.field-0
-    (string_bytes c.args.name.now) new (search rules) names same
+    ∙ add_new string_bytes c.args.names.now.items c.in_ok-from_str.field-0
+    c.args.name.now new (search rules) names same

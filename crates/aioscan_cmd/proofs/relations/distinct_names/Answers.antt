@@ -11,7 +11,7 @@ returns-clause-few c =
       arith,
       length-map c.loop-file.names.items string_bytes,
       ap length c.loop-file.invariant,
-      distinct-length (map string_bytes taken),
-      length-map taken string_bytes,
+      distinct-length (map (λ file. file.now) taken),
+      length-map taken (λ file. file.now),
       length-take c.loop-file.file-index c.args.files.now,
     )

@@ -5,4 +5,4 @@ use Rattle.aioscan_cmd.proofs.relations.distinct_names.Given as goal
 
 abbrev pub invariant-loop-file : goal.invariant-loop-file
 invariant-loop-file l =
-    map string_bytes l.names.items ≡ distinct (map string_bytes (take l.file-index l.files))
+    map string_bytes l.names.items ≡ distinct (map (λ file. file.now) (take l.file-index l.files))

@@ -1,28 +1,30 @@
-use Rattle.std.proofs.Common.{◌∙◌, ap, length, rules}
+use Rattle.std.proofs.Common.{◌∙◌, ap, length, refl}
 use Rattle.aio_disk.specs.Shelf.{told_of}
 use Rattle.aioscan_cmd.specs.Command.{relations_of}
-use Rattle.aioscan_cmd.proofs.EndOfRun.{ran_out_of_memory, ran_without_disk, ran_on_shelf}
-use Rattle.aioscan_cmd.proofs.EndOfRun.{ran_still}
+use Rattle.aioscan_cmd.proofs.EndOfRun.{ran_without_memory, ran_unopened, ran_same}
 use Rattle.aioscan_cmd.proofs.run.run_command.Goals as goal
 
 pub returns-in_default-clause-ran : goal.returns-in_default-clause-ran
-returns-in_default-clause-ran g c = ran_out_of_memory _ _ _ _
+returns-in_default-clause-ran g c =
+    ran_without_memory _ _ _ _ _ _ _ c.without_reads.ensures.outcome refl
 
 pub returns-in-Err-Device-clause-ran : goal.returns-in-Err-Device-clause-ran
 returns-in-Err-Device-clause-ran g c =
-    ran_still _ _ _ _ _ _ _ c.in-Err-Device.ensures.reads (ran_without_disk _ _ _ _)
+    ran_unopened _ _ _ _ _ _ _ _ c.without_reads-in-Err-Device.ensures.outcome refl
+    c.open.ensures.reads
 
 pub returns-in-Err-Memory-clause-ran : goal.returns-in-Err-Memory-clause-ran
 returns-in-Err-Memory-clause-ran g c =
-    ran_still _ _ _ _ _ _ _ c.in-Err-Memory.ensures.reads (ran_out_of_memory _ _ _ _)
+    ran_without_memory _ _ _ _ _ _ _ c.without_reads-in-Err-Memory.ensures.outcome
+    c.open.ensures.reads
 
 pub returns-clause-ran : goal.returns-clause-ran
 returns-clause-ran g c =
     let names = c.names.ensures.names ∙ c.in-Ok.ensures in
-    ran_on_shelf
+    ran_same
     (told_of (g.S.Shelf.told c.args.shelf.now) (relations_of c.args.command.now))
-    (g.S.Disk.Disk.told c.in-Ok-open.disk) _ _
-    c.args.command.now (g.O.Sink.written c.args.out.now) _ _ _ _ _
+    (g.S.Disk.Disk.told c.in-Ok-open.disk) _ _ c.args.command.now
+    (g.O.Sink.written c.args.out.now) _ _ _ _
     (c.in-Ok-open.ensures.contents
     ∙ ap (told_of (g.S.Shelf.told c.args.shelf.now)) names) (ap length c.in-Ok.ensures)
-    (search rules) c.scan_disk-disk.ensures.ran
+    c.open.ensures.reads c.scan_disk.ensures.ran

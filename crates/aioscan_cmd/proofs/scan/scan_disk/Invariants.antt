@@ -1,9 +1,10 @@
+use Rattle.std.proofs.Common.{◌*◌}
 use Rattle.aioscan_cmd.proofs.scan.scan_disk.Given as goal
 
--- the disk fixes what all objects of the run agree on
-abbrev pub ghosts-list_disk : goal.ghosts-list_disk
-ghosts-list_disk g a = record {
-  told = g.D.Disk.told a.disk;
-  handles = 16;
-  relations = g.D.Disk.relations a.disk;
+-- the first disk and the settings fix what all objects of the run agree on
+abbrev pub ghosts-run_scan : goal.ghosts-run_scan
+ghosts-run_scan g a = record {
+  told = g.S.Disk.Disk.told a.first;
+  handles = a.settings.now.backends * a.settings.now.handles;
+  relations = g.S.Disk.Disk.relations a.first;
 }

@@ -1,0 +1,37 @@
+-- Disks that are taken back one after the other.
+use Rattle.std.proofs.Common.{◌≡◌, ℕ, ◌+◌, ◌<◌, List, [], ◌∷◌, ◌++◌, sum_by}
+use Rattle.std.proofs.Common.{refl, ◌∙◌, arith, inl, inr}
+use Rattle.std.proofs.lemmas.Bool.{cases_lt}
+use Rattle.std.proofs.lemmas.List.Sums.{sum_by-append, sum_by-cons}
+use Rattle.aio_disk.specs.Counts.{RisesBy, raised_by}
+
+pub none_yet : (before : ℕ) → RisesBy 0 before before
+none_yet before = record {
+  later = omega arith;
+  risen = λ some. absurd (omega (arith, some));
+  stays = λ none. refl;
+}
+
+-- the sum with one more
+pub sum_more : {X : Type 0} (f : X → ℕ) (xs : List X) (x : X)
+    → sum_by f (xs ++ x ∷ []) ≡ sum_by f xs + f x
+sum_more f xs x = omega (arith, sum_by-append f xs (x ∷ []), sum_by-cons f x [])
+
+pub rises_more : (sum one sum' before middle now : ℕ) → sum' ≡ sum + one → RisesBy sum before middle
+    → RisesBy one middle now → RisesBy sum' before now
+rises_more sum one sum' before middle now is first second =
+    let early = first.later in
+    let late = second.later in record {
+      later = omega arith;
+      risen = λ some. elim (cases_lt 0 sum) [
+        | inl more ↦ (let rose = first.risen more in omega arith)
+        | inr none ↦ (let one_more : 0 < one = omega arith in
+            let rose = second.risen one_more in omega arith)
+      ];
+      stays = λ none.
+          (let a = first.stays (omega arith) in let b = second.stays (omega arith) in b ∙ a);
+    }
+
+pub raised_more : (sum one sum' before middle now : ℕ) → sum' ≡ sum + one
+    → middle ≡ raised_by sum before → now ≡ raised_by one middle → now ≡ raised_by sum' before
+raised_more sum one sum' before middle now is first second = omega (arith, first, second)

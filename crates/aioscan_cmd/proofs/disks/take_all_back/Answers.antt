@@ -1,0 +1,18 @@
+use Rattle.std.proofs.Common.{◌∙◌}
+use Rattle.aioscan_cmd.proofs.Returned.{sum_more, rises_more, raised_more}
+use Rattle.aioscan_cmd.proofs.disks.take_all_back.Goals as goal
+
+pub loop-disk-preserved : goal.loop-disk-preserved
+loop-disk-preserved g c =
+    let i = c.loop-disk.invariant in
+    let e = c.take_back.ensures in record {
+      told = e.told ∙ i.told;
+      open_faults = e.open_faults ∙ i.open_faults;
+      length_faults = rises_more _ _ _ _ _ _
+          (sum_more g.S.Disk.Disk.length_faults c.loop-disk.yielded c.in-Some.disk)
+          i.length_faults e.length_faults;
+      faults = rises_more _ _ _ _ _ _
+          (sum_more g.S.Disk.Disk.faults c.loop-disk.yielded c.in-Some.disk) i.faults e.faults;
+      reads = raised_more _ _ _ _ _ _
+          (sum_more g.S.Disk.Disk.reads c.loop-disk.yielded c.in-Some.disk) i.reads e.reads;
+    }

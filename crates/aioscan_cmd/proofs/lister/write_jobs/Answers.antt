@@ -1,0 +1,32 @@
+use Rattle.std.proofs.Common.{arith}
+use Rattle.aioscan_cmd.specs.declared.report.Outcome.TheVariants.{Done}
+use Rattle.aioscan_cmd.proofs.Causing.{written_then}
+use Rattle.aioscan_cmd.proofs.Jobs.{next_listed, next_stopped, all_listed, among_all, none_listed}
+use Rattle.aioscan_cmd.proofs.lister.write_jobs.Goals as goal
+
+pub loop-job-init : goal.loop-job-init
+loop-job-init g c = record { lists = none_listed _ _; later = omega arith }
+
+pub loop-job-preserved : goal.loop-job-preserved
+loop-job-preserved g c =
+    let writes = c.write_job.ensures.writes.later in record {
+      lists = next_listed c.args.jobs.now c.loop-job.job-index c.job-item.result _ _ _
+          c.loop-job-test.true c.job-item.is Done c.loop-job.invariant.lists
+          c.in-Done.ensures.lists;
+      later = omega (arith, c.loop-job.invariant.later);
+    }
+
+pub returns-in_default : goal.returns-in_default
+returns-in_default g c = record {
+  lists = next_stopped c.args.jobs.now c.loop-job.job-index c.job-item.result _ _ _
+      c.loop-job-test.true c.job-item.is c.write_job.result c.in_default.not-Done
+      c.loop-job.invariant.lists c.write_job.ensures.lists;
+  writes = written_then _ _ _ _ c.loop-job.invariant.later c.write_job.ensures.writes;
+  unread = among_all c.args.jobs.now c.loop-job.job-index _ c.job-item.result c.job-item.result
+      c.loop-job-test.true c.job-item.is c.write_job.ensures.unread;
+}
+
+pub returns-clause-lists : goal.returns-clause-lists
+returns-clause-lists g c =
+    all_listed c.args.jobs.now c.loop-job.job-index _ _ c.loop-job-test.false
+    c.loop-job.invariant.lists

@@ -1,0 +1,9 @@
+use Rattle.std.proofs.Common.{◌≤◌}
+use Rattle.aioscan_cmd.proofs.Jobs.{FirstListed}
+use Rattle.aioscan_cmd.proofs.lister.write_jobs.Given as goal
+
+abbrev pub invariant-loop-job : goal.invariant-loop-job
+invariant-loop-job g l = record {
+  lists : FirstListed l.jobs l.job-index (g.O.Sink.written l.fn.out) (g.O.Sink.written l.out);
+  later : g.O.Sink.faults l.fn.out ≤ g.O.Sink.faults l.out;
+}

@@ -1,0 +1,51 @@
+use Rattle.std.proofs.Common.{◌∙◌, ap, arith, sum_by}
+use Rattle.page_check.specs.SynchronousAnswer.{reader_of}
+use Rattle.aioscan_cmd.proofs.EndOfScan.{no_reads, some_fault, nothing_counted, nothing_listed}
+use Rattle.aioscan_cmd.proofs.EndOfScan.{none_by_workers}
+use Rattle.aioscan_cmd.proofs.scan.list_disks.Goals as goal
+
+pub returns-clause-unread : goal.returns-clause-unread
+returns-clause-unread g c = λ r b is.
+    some_fault g.D.Disk.faults c.finish-totals.result.1.items _ _
+    c.finish-totals.ensures.finished.each_unread (c.list_rounds-outcome.ensures.unread r b is)
+
+pub returns-clause-counted : goal.returns-clause-counted
+returns-clause-counted g c =
+    let f = c.finish-totals.ensures.finished in
+    let same = c.list_rounds-outcome.ensures.same in
+    let none = ap (sum_by g.D.Disk.reads) (same.opened ∙ c.in-Ok.ensures.opened)
+    ∙ no_reads g.D.Disk.told g.D.Disk.relations g.D.Disk.faults g.D.Disk.reads g.W.World.told
+    g.W.World.relations c.args.disks.items c.requires.unread in record {
+      sum = omega (
+        arith,
+        f.are.sum,
+        c.incarnations.ensures,
+        c.by_runners.ensures,
+        c.by_backends.ensures,
+      );
+      reads_are = λ below.
+          (let each = f.each_read below in omega (arith, each, none, c.incarnations.ensures));
+      few = omega (
+        arith,
+        f.each_taken,
+        c.incarnations.ensures,
+        c.list_rounds-outcome.ensures.taken,
+        c.in-Ok.ensures.taken,
+      );
+      no_workers = none_by_workers _ _ _ _ _ c.settings-settings.ensures.settings
+          (ap (λ config. config.runners) same.config ∙ c.in-Ok.ensures.numbers.1)
+          f.no_workers c.by_runners.ensures;
+    }
+
+pub returns-in-Err-clause-lists : goal.returns-in-Err-clause-lists
+returns-in-Err-clause-lists g c =
+    nothing_listed (reader_of g.W.World.told) c.args.asked _ _ c.without_reads.ensures.outcome
+
+pub returns-in-Err-clause-counted : goal.returns-in-Err-clause-counted
+returns-in-Err-clause-counted g c =
+    let none = no_reads g.D.Disk.told g.D.Disk.relations g.D.Disk.faults g.D.Disk.reads
+    g.W.World.told g.W.World.relations c.args.disks.items c.requires.unread in
+    let numbers = c.without_reads.ensures.numbers in
+    nothing_counted _ _ _ _
+    (ap (λ disks. sum_by g.D.Disk.reads disks.items) c.in-Err.ensures.back ∙ none)
+    numbers.0 numbers.1 numbers.2

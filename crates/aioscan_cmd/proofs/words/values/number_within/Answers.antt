@@ -1,0 +1,10 @@
+use Rattle.std.proofs.Common.{◌≡◌, true}
+use Rattle.aioscan_cmd.specs.Words.{is_number}
+use Rattle.aioscan_cmd.proofs.Digits.{digits_parsed}
+use Rattle.aioscan_cmd.proofs.words.values.number_within.Goals as goal
+
+pub returns-in_default-clause-number : goal.returns-in_default-clause-number
+returns-in_default-clause-number c =
+    let number : is_number c.args.word.now ≡ true = cc in
+    let parsed = digits_parsed c.args.word.now c.parse.result c.parse.ensures.value.0 number in
+    absurd (cc)

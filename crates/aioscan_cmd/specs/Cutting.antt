@@ -1,0 +1,53 @@
+-- What is left of a request list when jobs were cut off from its front.
+use Rattle.std.specs.Prelude.{◌≡◌, ℕ, ◌+◌, ◌-◌, ◌^◌, ◌<◌, ◌≤◌, ◌++◌, List, [], ◌∷◌, drop, length}
+use Rattle.std.specs.Prelude.{slice_index, slice_index_or}
+use Rattle.std.specs.List.{flat_map}
+use Rattle.aioscan_cmd.specs.Command.{length_limit, relations_of, relation_number}
+use Rattle.aioscan_cmd.specs.Command.{first_block, asked_count}
+use Rattle.aioscan_cmd.specs.RequestList.{Request, block_range, requests_of_file, requests_of}
+use Rattle.aioscan_cmd.specs.declared.cutter.Asked.{Asked}
+use Rattle.aioscan_cmd.specs.declared.cutter.Cut.{Cut}
+
+-- the relations are those of the command, each with a length that fits
+pub record IsAsked (a : Asked) : Type 0 where
+  pub relations_are : a.relations.now ≡ relations_of a.command.now
+  pub lengths_are : length a.lengths.now ≡ length a.relations.now
+  pub fit : (r : ℕ) → slice_index a.lengths.now r ≤ length_limit
+
+-- and there are so many
+abbrev pub IsAskedOf : ℕ → Asked → Type 0
+IsAskedOf count a = IsAsked a × (count ≡ length a.relations.now)
+
+-- the blocks that are asked for
+abbrev pub requests_for : Asked → List Request
+requests_for a = requests_of (slice_index a.lengths.now) a.command.now
+
+-- the blocks that a FILE word adds
+abbrev pub requests_here : Asked → List ℕ → List Request
+requests_here a name = requests_of_file (slice_index a.lengths.now) a.command.now name
+
+-- but for the first so many
+abbrev pub left_here : Asked → List ℕ → ℕ → List Request
+left_here a name done =
+    let r = relation_number name (relations_of a.command.now) in
+    block_range r (first_block a.command.now + done)
+    (asked_count a.command.now (slice_index a.lengths.now r) - done)
+
+-- those of some FILE words, but for the first so many of the first
+abbrev pub left_in : Asked → List (List ℕ) → ℕ → List Request
+left_in a [] done = []
+left_in a (name ∷ names) done = left_here a name done ++ flat_map (requests_here a) names
+
+-- those of the FILE words from one on
+unfoldable pub left_at : Asked → ℕ → ℕ → List Request
+left_at a file done = left_in a (drop file (a.command.now).files) done
+
+-- the FILE word at a place
+abbrev pub name_at : Asked → ℕ → List ℕ
+name_at a file = slice_index_or (a.command.now).files file []
+
+-- 1 to 64 blocks of a relation that there is, each with a number
+pub record IsJobRange (relations : ℕ) (cut : Cut) : Type 0 where
+  pub relation_in : cut.relation < relations
+  pub few : (1 ≤ cut.count) × (cut.count ≤ 64)
+  pub within : cut.first + cut.count ≤ 2 ^ 32

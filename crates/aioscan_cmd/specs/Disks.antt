@@ -1,0 +1,17 @@
+-- Disks of a run.
+use Rattle.std.specs.Prelude.{◌≡◌, ◌+◌, ℕ, Option}
+use Rattle.page_check.specs.Told.{Told}
+use Rattle.scan_rounds.specs.Opening.{workers_in}
+use Rattle.scan_rounds.specs.declared.settings.ScanSettings.{ScanSettings}
+
+-- a scan has a disk for each backend and each worker
+abbrev pub disks_of : ScanSettings → ℕ
+disks_of settings = settings.backends + workers_in settings
+
+-- the disk tells the same as the others, and was not read yet
+module _ {D : Type 0} (tells : D → Option Told) (has faults reads : D → ℕ) where
+  pub record IsUnread (told : Option Told) (relations : ℕ) (d : D) : Type 0 where
+    pub told_is : tells d ≡ told
+    pub relations_are : has d ≡ relations
+    pub no_faults : faults d ≡ 0
+    pub no_reads : reads d ≡ 0

@@ -1,0 +1,84 @@
+-- What the rounds of a run have listed.
+use Rattle.std.specs.Prelude.{◌≡◌, ◌≢◌, ◌⊎◌, ℕ, ◌++◌, List, [], Option}
+use Rattle.std.specs.Prelude.{⊤}
+use Rattle.std.specs.List.{flat_map}
+use Rattle.page_check.specs.SynchronousAnswer.{Reader}
+use Rattle.scan_rounds.specs.Jobs.{IsListed, AreAnswered, entries_in}
+use Rattle.scan_rounds.specs.declared.job.Ending.{Ending as JobEnding}
+use Rattle.scan_rounds.specs.declared.job.Ending.TheVariants as ending
+use Rattle.scan_rounds.specs.declared.job.Job.{Job}
+use Rattle.aioscan_cmd.specs.RequestList.{Request}
+use Rattle.aioscan_cmd.specs.Reading.{Lists, HasWritten}
+use Rattle.aioscan_cmd.specs.declared.lister.Lister.{Lister}
+use Rattle.aioscan_cmd.specs.declared.report.Outcome.{Outcome}
+use Rattle.aioscan_cmd.specs.declared.report.Outcome.TheVariants.{Done, Invalid, Usage, CannotOpen}
+use Rattle.aioscan_cmd.specs.declared.report.Outcome.TheVariants.{NoLength, Unread, CannotWrite}
+use Rattle.aioscan_cmd.specs.declared.report.Outcome.TheVariants.{NoMemory, Missing, TooLong}
+
+-- the blocks that jobs ask for
+abbrev pub requests_in : List Job → List Request
+requests_in jobs = flat_map entries_in jobs
+
+-- the outcome where a job of this relation ended so
+abbrev pub outcome_for : ℕ → JobEnding → Outcome
+outcome_for r ending.Pages = Done
+outcome_for r (ending.Invalid b) = Invalid r b
+outcome_for r (ending.Unread b) = Unread r b
+outcome_for r (ending.PastEnd b) = Missing r b
+outcome_for r ending.NoMemory = NoMemory
+
+-- 1 where the outcome names a block that was not read
+abbrev pub unread_count : Outcome → ℕ
+unread_count (Unread r b) = 1
+unread_count Done = 0
+unread_count (Invalid r b) = 0
+unread_count (Missing r b) = 0
+unread_count Usage = 0
+unread_count CannotOpen = 0
+unread_count (NoLength r) = 0
+unread_count CannotWrite = 0
+unread_count NoMemory = 0
+unread_count (TooLong r) = 0
+
+-- the text of a job was written: the blocks that it was asked for were listed
+abbrev pub IsListedBy : Job → Option (List ℕ) → Option (List ℕ) → Outcome → Type 0
+IsListedBy job before now outcome =
+    (found : Option Reader) (asked : Job) → IsListed found (λ _. ⊤) asked job
+    → Lists found (entries_in asked) before now outcome
+
+-- and the texts of some jobs
+abbrev pub AreListedBy : List Job → Option (List ℕ) → Option (List ℕ) → Outcome → Type 0
+AreListedBy jobs before now outcome =
+    (found : Option Reader) (asked : List Job) → AreAnswered found asked jobs
+    → Lists found (requests_in asked) before now outcome
+
+module _ {W O : Type 0} where
+  -- something has ended the run, or no block is left
+  abbrev pub IsOver : Lister W O → Type 0
+  IsOver l = (l.outcome ≢ Done) ⊎ (l.blocks ≡ [])
+
+  -- these jobs were cut off, where nothing has ended the run; nothing was written
+  pub record Puts (s : Lister W O) (asked : List Job) (t : Lister W O) : Type 0 where
+    pub loan : t.out.ghost_name ≡ s.out.ghost_name
+    pub out : t.out.now ≡ s.out.now
+    pub outcome : t.outcome ≡ s.outcome
+    pub cut : s.blocks ≡ requests_in asked ++ t.blocks
+
+  module _ (found : Option Reader) (written : O → Option (List ℕ)) (faults : O → ℕ) where
+    -- of these blocks the first were listed: all that are not left, where nothing has ended the run
+    pub record HasListed (all : List Request) (before : Option (List ℕ)) (faults_before : ℕ)
+        (l : Lister W O) : Type 0 where
+      pub asked : List Request
+      pub rest : List Request
+      pub cut : all ≡ asked ++ rest
+      pub left : l.outcome ≡ Done → rest ≡ l.blocks
+      pub lists : Lists found asked before (written l.out.now) l.outcome
+      pub writes : HasWritten faults_before (faults l.out.now) l.outcome
+
+    -- some rounds have led from one state to the other: whatever was listed by the first, with
+    -- what they have listed it has been by the second
+    abbrev pub Follows : Lister W O → Lister W O → Type 0
+    Follows s t =
+        (t.out.ghost_name ≡ s.out.ghost_name)
+        × ((all : List Request) (before : Option (List ℕ)) (faults_before : ℕ)
+        → HasListed all before faults_before s → HasListed all before faults_before t)

@@ -1,0 +1,41 @@
+-- How many I/Os a run made through handles, and who executed them.
+use Rattle.std.specs.Prelude.{◌≡◌, ℕ, ◌+◌, ◌<◌, ◌≤◌, List, length, sum_by, Option, IfSome, true}
+use Rattle.std.specs.List.{All}
+use Rattle.aio_disk.specs.Counts.{ShelfCounts}
+use Rattle.aio_handle.specs.Executing.{last_count}
+use Rattle.scan_rounds.specs.declared.settings.MethodKind.TheVariants as method
+use Rattle.aioscan_cmd.specs.Command.{Command}
+use Rattle.aioscan_cmd.specs.Cutting.{requests_for}
+use Rattle.aioscan_cmd.specs.Outcomes.{is_refused}
+use Rattle.aioscan_cmd.specs.declared.cutter.Asked.{Asked}
+use Rattle.aioscan_cmd.specs.declared.report.Outcome.{Outcome}
+use Rattle.aioscan_cmd.specs.declared.report.Numbers.{Numbers}
+use Rattle.aioscan_cmd.specs.declared.report.Report.{Report}
+
+-- those that are reported
+abbrev pub numbers_in : Report → Numbers
+numbers_in r = record {
+  incarnations = r.incarnations;
+  by_workers = r.by_workers;
+  by_backends = r.by_backends;
+}
+
+pub record AreCounted (command : Option Command) (before now : ShelfCounts) (outcome : Outcome)
+    (numbers : Numbers) : Type 0 where
+  -- each was executed once, by a worker or by a backend
+  pub sum : numbers.incarnations ≡ numbers.by_workers + numbers.by_backends
+  -- each was one read of a disk, as far as the count goes
+  pub reads : now.reads < last_count → now.reads ≡ before.reads + numbers.incarnations
+  pub no_workers : IfSome command (λ c. c.settings.method ≡ method.Sync → numbers.by_workers ≡ 0)
+  pub none : is_refused outcome ≡ true
+      → (numbers.incarnations ≡ 0) × (numbers.by_workers ≡ 0) × (numbers.by_backends ≡ 0)
+
+-- the numbers of a scan over disks that were not read before, which have counted so many reads by
+-- now
+pub record AreOfScan {D : Type 0} (asked : Asked) (reads : D → ℕ) (disks : List D)
+    (numbers : Numbers) : Type 0 where
+  pub sum : numbers.incarnations ≡ numbers.by_workers + numbers.by_backends
+  pub reads_are : All (λ d. reads d < last_count) disks
+      → numbers.incarnations ≡ sum_by reads disks
+  pub few : numbers.incarnations ≤ length (requests_for asked)
+  pub no_workers : (asked.command.now).settings.method ≡ method.Sync → numbers.by_workers ≡ 0

@@ -1,0 +1,139 @@
+//! Cuts the blocks that a command asks for into jobs, without a list of them.
+ghost use Rattle.std.specs.Prelude.{◌≡◌, ◌≤◌, ◌<◌, ◌+◌, ◌++◌, ◌^◌, [], ℕ, length, slice_index};
+ghost use Rattle.std.specs.Prelude.{IfSome, IfNone, IfOk};
+ghost use Rattle.aioscan_cmd.specs.Command.{length_limit};
+ghost use Rattle.aioscan_cmd.specs.RequestList.{block_range};
+ghost use Rattle.aioscan_cmd.specs.Cutting.{IsAsked, IsJobRange, left_at, left_here, name_at};
+ghost use Rattle.aioscan_cmd.specs.Cutting.{requests_for};
+
+use crate::relations::Relations;
+use crate::words::Command;
+use page_check::World;
+use std::marker::{Model, PhantomData};
+
+// At most so many blocks has a job.
+const JOB_BLOCKS: u32 = 64;
+
+/// What a run asks for: a command, its relations, and the length of each.
+#[derive(Clone, Copy)]
+pub(crate) struct Asked<'a, 'w> {
+    pub(crate) command: &'a Command<'w>,
+    pub(crate) relations: &'a Relations,
+    pub(crate) lengths: &'a [u32],
+}
+
+/// The blocks of a job: so many of a relation, from one on.
+#[derive(Clone, Copy)]
+pub(crate) struct Cut {
+    pub(crate) relation: u32,
+    pub(crate) first: u32,
+    pub(crate) count: u32,
+}
+
+// Where cutting stands: at a FILE word, of which so many blocks were cut off.
+#[derive(Clone, Copy)]
+struct Place {
+    file: usize,
+    done: u32,
+}
+
+// The next of a FILE word's blocks, of which so many were cut off.
+fn cut_off(asked: Asked<'_, '_>, place: Place) -> Option<Cut>
+    requires asked { IsAsked asked }
+    requires file { place.file < length (asked.command.now).files }
+    ensures some { IfSome result (λ c.
+        (left_here asked.entry (name_at asked.entry place.file) place.done
+        ≡ block_range c.relation c.first c.count
+        ++ left_here asked.entry (name_at asked.entry place.file) (place.done + c.count))
+        × IsJobRange (length asked.entry.relations.now) c × (place.done + c.count ≤ length_limit)) }
+    ensures none { IfNone result
+        (left_here asked.entry (name_at asked.entry place.file) place.done ≡ []) }
+{
+    let Asked {
+        command,
+        relations,
+        lengths,
+    } = asked;
+    let relation = relations.number_of(command.files()[place.file]);
+    let count = command.asked_count(lengths[relation as usize]);
+    if count <= place.done {
+        return None;
+    }
+    Some(Cut {
+        relation,
+        first: command.first_block() + place.done,
+        count: JOB_BLOCKS.min(count - place.done),
+    })
+}
+
+// The next blocks, and where cutting stands behind them.
+fn cut_next(asked: Asked<'_, '_>, place: Place) -> Option<(Place, Cut)>
+    requires asked { IsAsked asked }
+    ensures some { IfSome result (λ c.
+        (left_at asked.entry place.file place.done
+        ≡ block_range c.1.relation c.1.first c.1.count ++ left_at asked.entry c.0.file c.0.done)
+        × IsJobRange (length asked.entry.relations.now) c.1) }
+    ensures none { IfNone result (left_at asked.entry place.file place.done ≡ []) }
+{
+    let mut done = place.done;
+    for file in place.file..asked.command.files().len() {
+        if let Some(cut) = cut_off(asked, Place { file, done }) {
+            let done = done + cut.count;
+            return Some((Place { file, done }, cut));
+        }
+        done = 0;
+    }
+    None
+}
+
+/// The blocks that are asked for, but for those that were cut off. That list is how contracts see
+/// it.
+#[derive(Drop)]
+pub(crate) struct Cutter<'a, 'w, W: World> {
+    asked: Asked<'a, 'w>,
+    place: Place,
+    world: PhantomData<W>,
+}
+
+impl<'a, 'w, W: World> Model for Cutter<'a, 'w, W> {
+    ghost use Rattle.std.specs.Prelude.{List};
+    ghost use Rattle.aioscan_cmd.specs.RequestList.{Request};
+    ghost use Rattle.aioscan_cmd.specs.Cutting.{left_at, IsAskedOf};
+
+    ghost Value = { List Request };
+
+    ghost view = { λ c. left_at c.asked c.place.file c.place.done };
+
+    ghost invariant = { λ c. IsAskedOf W.relations c.asked };
+}
+
+impl<'a, 'w, W: World> Cutter<'a, 'w, W> {
+    /// All blocks that are asked for.
+    pub(crate) fn of(asked: Asked<'a, 'w>) -> Cutter<'a, 'w, W>
+        requires asked { IsAsked asked }
+        requires world { W.relations ≡ length asked.relations.now }
+        ensures all { result ≡ requests_for asked.entry }
+        ensures few { length result ≤ 2 ^ 27 }
+    {
+        // No more than 1024 files of 131072 blocks.
+        let _ = asked.command.files();
+        let _ = asked.command.last_block();
+        Cutter {
+            asked,
+            place: Place { file: 0, done: 0 },
+            world: PhantomData,
+        }
+    }
+
+    /// Cuts off the next blocks: at most 64, of one FILE word. None where no block is left.
+    pub(crate) fn next(&mut self) -> Option<Cut>
+        ensures some { IfSome result (λ c.
+            (self.old ≡ block_range c.relation c.first c.count ++ self.new)
+            × IsJobRange W.relations c) }
+        ensures none { IfNone result ((self.old ≡ []) × (self.new ≡ [])) }
+    {
+        let (place, cut) = cut_next(self.asked, self.place)?;
+        self.place = place;
+        Some(cut)
+    }
+}

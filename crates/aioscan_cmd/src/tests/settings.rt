@@ -1,0 +1,81 @@
+//! The same bytes by all settings.
+use super::outside::{DAMAGED, EMPTY, Parts, STEADY, ZEROS, file_of, run_over};
+use super::slow::pick;
+use std::alloc::Global;
+use std::test::Fail;
+
+// One of a few values of an option, or no word for it.
+fn push_value(
+    line: &mut String,
+    state: &mut u64,
+    option: &str,
+    values: [&str; 3],
+) -> Result<(), Fail> {
+    if let Some(value) = values.get(pick(state, 4) as usize) {
+        write!(line, " --{option} {value}")?;
+    }
+    Ok(())
+}
+
+/// The words of some settings.
+pub(crate) fn random_settings(alloc: Global, state: &mut u64) -> Result<String, Fail> {
+    let mut line = String::new(alloc);
+    push_value(&mut line, state, "method", ["sync", "sync", "worker"])?;
+    push_value(&mut line, state, "workers", ["1", "2", "4"])?;
+    push_value(&mut line, state, "backends", ["1", "3", "4"])?;
+    push_value(&mut line, state, "combine", ["1", "2", "5"])?;
+    push_value(&mut line, state, "concurrency", ["1", "2", "256"])?;
+    push_value(&mut line, state, "handles", ["1", "2", "3"])?;
+    push_value(&mut line, state, "buffers", ["16", "17", "40"])?;
+    if pick(state, 2) == 0 {
+        line.push_str(" --batch")?;
+    }
+    if pick(state, 2) == 0 {
+        line.push_str(" --full")?;
+    }
+    Ok(line)
+}
+
+// A file of 80 pages, the last of them damaged.
+fn mixed_file(alloc: Global) -> Result<Vec<u8>, Fail> {
+    let mut pages: Vec<Parts<'_>> = Vec::new(alloc);
+    for block in 0..79u32 {
+        pages.push(if block % 7 == 3 { ZEROS } else { EMPTY })?;
+    }
+    pages.push(DAMAGED)?;
+    Ok(file_of(alloc, pages.as_slice())?)
+}
+
+#[test]
+fn each_setting_200_times(rt: HostRuntime) -> Result<(), Fail> {
+    let alloc = rt.alloc();
+    let settings = [
+        "f",
+        "--method sync --backends 1 f",
+        "--method sync --backends 5 --handles 2 f",
+        "--workers 1 --backends 1 f",
+        "--workers 8 --backends 3 --handles 3 f",
+        "--workers 2 --backends 4 --combine 1 f",
+        "--combine 40 --handles 2 --full f",
+        "--handles 1 --concurrency 1 f",
+        "--handles 64 --concurrency 256 --combine 1 f",
+        "--buffers 16 --backends 2 f",
+        "--batch --full f",
+        "--batch --combine 3 --handles 5 --backends 5 --workers 5 f",
+    ];
+    let file = mixed_file(alloc)?;
+    let first = run_over(&rt, file.clone()?, STEADY, "--method sync --backends 1 f")?;
+    assert_eq!(rt; first.report.status, 1);
+    for line in settings {
+        for turn in 0..200 {
+            let done = run_over(&rt, file.clone()?, STEADY, line)?;
+            assert_eq!(rt; done.out.bytes(), first.out.bytes(), "{line}: turn {turn}");
+            assert_eq!(rt;
+                done.report.outcome,
+                first.report.outcome,
+                "{line}: turn {turn}"
+            );
+        }
+    }
+    Ok(())
+}

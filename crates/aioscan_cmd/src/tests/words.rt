@@ -1,0 +1,212 @@
+//! Words that are a command, and words that are none.
+use super::outside::words_of;
+use crate::words::{Refusal, read_command};
+use scan_rounds::{MethodKind, ScanSettings};
+use std::alloc::Global;
+use std::test::Fail;
+
+const DEFAULTS: ScanSettings = ScanSettings {
+    method: MethodKind::Worker,
+    workers: 3,
+    backends: 2,
+    combine: 16,
+    concurrency: 16,
+    handles: 16,
+    buffers: 128,
+    batch: false,
+    full: false,
+};
+
+// The words with a space behind each.
+fn joined(alloc: Global, words: &[&str]) -> Result<String, Fail> {
+    let mut text = String::new(alloc);
+    for word in words {
+        text.push_str(word)?;
+        text.push_str(" ")?;
+    }
+    Ok(text)
+}
+
+fn is_command(alloc: Global, line: &str) -> Result<bool, Fail> {
+    let words = words_of(alloc, line)?;
+    match read_command(alloc, words.as_slice()) {
+        Ok(_) => Ok(true),
+        Err(Refusal::Usage) => Ok(false),
+        Err(Refusal::NoMemory) => Err(Fail::from("out of memory")),
+    }
+}
+
+#[test]
+fn commands(rt: HostRuntime) -> Result<(), Fail> {
+    let alloc = rt.alloc();
+    let every_option = ScanSettings {
+        method: MethodKind::Sync,
+        workers: 4,
+        backends: 5,
+        combine: 6,
+        concurrency: 7,
+        handles: 8,
+        buffers: 19,
+        batch: true,
+        full: false,
+    };
+    // Each with the settings, the first block and how many of a file of 10 blocks, and the files.
+    let rows = [
+        ("a file alone", "f", DEFAULTS, (0, 10), "f "),
+        (
+            "--combine=128",
+            "--combine=128 e",
+            ScanSettings {
+                combine: 128,
+                ..DEFAULTS
+            },
+            (0, 10),
+            "e ",
+        ),
+        (
+            "every option",
+            "--method sync --workers 4 --backends 5 --combine 6 --concurrency 7 \
+             --handles 8 --buffers 19 --from 1 --to 3 --batch f",
+            every_option,
+            (1, 3),
+            "f ",
+        ),
+        (
+            "options between and behind files",
+            "f --full g --to=12 h --from=12",
+            ScanSettings {
+                full: true,
+                ..DEFAULTS
+            },
+            (12, 1),
+            "f g h ",
+        ),
+        ("7 digits", "--from 0000007 f", DEFAULTS, (7, 3), "f "),
+        (
+            "--from above --to",
+            "--from 5 --to 4 f",
+            DEFAULTS,
+            (5, 0),
+            "f ",
+        ),
+        (
+            "--method worker",
+            "--method=worker f",
+            DEFAULTS,
+            (0, 10),
+            "f ",
+        ),
+        (
+            "words behind --",
+            "f -- --full -x --",
+            DEFAULTS,
+            (0, 10),
+            "f --full -x -- ",
+        ),
+        (
+            "scan, help and - name files",
+            "scan help - f f",
+            DEFAULTS,
+            (0, 10),
+            "scan help - f f ",
+        ),
+    ];
+    for (name, line, settings, blocks, files) in rows {
+        let words = words_of(alloc, line)?;
+        let Ok(command) = read_command(alloc, words.as_slice()) else {
+            return Err(Fail::from(name));
+        };
+        assert_eq!(rt; command.settings(), settings, "{name}");
+        assert_eq!(rt;
+            (command.first_block(), command.asked_count(10)),
+            blocks,
+            "{name}"
+        );
+        assert_eq!(rt; joined(alloc, command.files())?.as_str(), files, "{name}");
+    }
+    Ok(())
+}
+
+#[test]
+fn ranges(rt: HostRuntime) -> Result<(), Fail> {
+    let alloc = rt.alloc();
+    let rows = [
+        ("--workers", "0", "1", "32", "33"),
+        ("--backends", "0", "1", "16", "17"),
+        ("--combine", "0", "1", "128", "129"),
+        ("--concurrency", "0", "1", "256", "257"),
+        ("--handles", "0", "1", "64", "65"),
+        ("--buffers", "15", "16", "16384", "16385"),
+        ("--from", "-1", "0", "131071", "131072"),
+        ("--to", "-1", "0", "131071", "131072"),
+    ];
+    for (option, below, least, most, above) in rows {
+        for (value, taken) in [(below, false), (least, true), (most, true), (above, false)] {
+            let apart = format!(in alloc; "{option} {value} f")?;
+            let joined = format!(in alloc; "{option}={value} f")?;
+            assert_eq!(rt; is_command(alloc, apart.as_str())?, taken, "{apart}");
+            assert_eq!(rt; is_command(alloc, joined.as_str())?, taken, "{joined}");
+        }
+    }
+    Ok(())
+}
+
+#[test]
+fn refused_words(rt: HostRuntime) -> Result<(), Fail> {
+    let alloc = rt.alloc();
+    let lines = [
+        "",
+        "''",
+        "f ''",
+        "--full",
+        "--full --",
+        "--full --full f",
+        "--full=true f",
+        "--full= f",
+        "--from +1 f",
+        "--from -1 f",
+        "--from '' f",
+        "--from= f",
+        "--from 1x f",
+        "--from 00000001 f",
+        "--from f",
+        "f --from",
+        "--from 1 --from 1 f",
+        "--to=1 --to 1 f",
+        "--combine 0 f",
+        "--combine 129 f",
+        "--method other f",
+        "--method Sync f",
+        "--method= f",
+        "--comb 1 f",
+        "--make 10 f",
+        "--unknown f",
+        "-f",
+        "--help",
+        "--help f",
+        "-h f",
+        "--version f",
+        "-V f",
+    ];
+    for line in lines {
+        assert!(rt; !is_command(alloc, line)?, "{line}");
+    }
+    Ok(())
+}
+
+#[test]
+fn at_most_1024_files(rt: HostRuntime) -> Result<(), Fail> {
+    let alloc = rt.alloc();
+    let mut words = Vec::new(alloc);
+    for _ in 0..1024 {
+        words.push("f".to_string(alloc)?)?;
+    }
+    let count = match read_command(alloc, words.as_slice()) {
+        Ok(command) => command.files().len(),
+        Err(_) => 0,
+    };
+    assert_eq!(rt; count, 1024);
+    words.push("f".to_string(alloc)?)?;
+    assert!(rt; matches!(read_command(alloc, words.as_slice()), Err(Refusal::Usage)));
+    Ok(())
+}
