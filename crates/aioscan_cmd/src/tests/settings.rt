@@ -2,7 +2,10 @@
 use super::outside::{DAMAGED, EMPTY, Parts, STEADY, ZEROS, file_of, run_over};
 use super::slow::pick;
 use std::alloc::Global;
+use std::process::Abort;
+use std::sync::Wait;
 use std::test::Fail;
+use std::thread::Threads;
 
 // One of a few values of an option, or no word for it.
 fn push_value(
@@ -46,30 +49,20 @@ fn mixed_file(alloc: Global) -> Result<Vec<u8>, Fail> {
     Ok(file_of(alloc, pages.as_slice())?)
 }
 
-#[test]
-fn each_setting_200_times(rt: HostRuntime) -> Result<(), Fail> {
+// Runs 200 times under each of these settings, and compares all that is written.
+fn check_settings<R: Abort + AllocGlobal + Threads + Wait + Sync>(
+    rt: &R,
+    settings: &[&str],
+) -> Result<(), Fail> {
     let alloc = rt.alloc();
-    let settings = [
-        "f",
-        "--method sync --backends 1 f",
-        "--method sync --backends 5 --handles 2 f",
-        "--workers 1 --backends 1 f",
-        "--workers 8 --backends 3 --handles 3 f",
-        "--workers 2 --backends 4 --combine 1 f",
-        "--combine 40 --handles 2 --full f",
-        "--handles 1 --concurrency 1 f",
-        "--handles 64 --concurrency 256 --combine 1 f",
-        "--buffers 16 --backends 2 f",
-        "--batch --full f",
-        "--batch --combine 3 --handles 5 --backends 5 --workers 5 f",
-    ];
     let file = mixed_file(alloc)?;
-    let first = run_over(&rt, file.clone()?, STEADY, "--method sync --backends 1 f")?;
+    let first = run_over(rt, file.clone()?, STEADY, "--method sync --backends 1 f")?;
     assert_eq!(rt; first.report.status, 1);
     for line in settings {
         for turn in 0..200 {
-            let done = run_over(&rt, file.clone()?, STEADY, line)?;
+            let done = run_over(rt, file.clone()?, STEADY, line)?;
             assert_eq!(rt; done.out.bytes(), first.out.bytes(), "{line}: turn {turn}");
+            assert_eq!(rt; done.err.bytes(), first.err.bytes(), "{line}: turn {turn}");
             assert_eq!(rt;
                 done.report.outcome,
                 first.report.outcome,
@@ -78,4 +71,37 @@ fn each_setting_200_times(rt: HostRuntime) -> Result<(), Fail> {
         }
     }
     Ok(())
+}
+
+#[test]
+fn methods_200_times(rt: HostRuntime) -> Result<(), Fail> {
+    let settings = [
+        "f",
+        "--method sync --backends 1 f",
+        "--method sync --backends 5 --handles 2 f",
+        "--workers 1 --backends 1 f",
+    ];
+    check_settings(&rt, &settings)
+}
+
+#[test]
+fn sizes_200_times(rt: HostRuntime) -> Result<(), Fail> {
+    let settings = [
+        "--workers 8 --backends 3 --handles 3 f",
+        "--workers 2 --backends 4 --combine 1 f",
+        "--combine 40 --handles 2 --full f",
+        "--handles 1 --concurrency 1 f",
+    ];
+    check_settings(&rt, &settings)
+}
+
+#[test]
+fn batches_and_frames_200_times(rt: HostRuntime) -> Result<(), Fail> {
+    let settings = [
+        "--handles 64 --concurrency 256 --combine 1 f",
+        "--buffers 16 --backends 2 f",
+        "--batch --full f",
+        "--batch --combine 3 --handles 5 --backends 5 --workers 5 f",
+    ];
+    check_settings(&rt, &settings)
 }

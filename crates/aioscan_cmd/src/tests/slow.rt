@@ -4,7 +4,10 @@ ghost use Rattle.std.specs.Prelude.{◌<◌};
 use super::outside::{DAMAGED, EMPTY, Parts, STEADY, ZEROS, file_of, run};
 use super::settings::random_settings;
 use std::alloc::{AllocError, Global};
+use std::process::Abort;
+use std::sync::Wait;
 use std::test::Fail;
+use std::thread::Threads;
 
 const TWO_ITEMS: Parts<'static> = &[
     (12, &[32, 0, 0, 16, 0, 32, 4, 32]),
@@ -148,11 +151,13 @@ fn line_of(alloc: Global, asked: &Asked, settings: &str) -> Result<String, Fail>
     Ok(line)
 }
 
-#[test]
-fn random_requests(rt: HostRuntime) -> Result<(), Fail> {
+// Compares 2,000 random requests under random settings with the plain slow lister.
+fn check_requests<R: Abort + AllocGlobal + Threads + Wait + Sync>(
+    rt: &R,
+    mut state: u64,
+) -> Result<(), Fail> {
     let alloc = rt.alloc();
-    let mut state = 20261126;
-    for request in 0..10000 {
+    for request in 0..2000 {
         let a = random_file(alloc, &mut state)?;
         let b = random_file(alloc, &mut state)?;
         let asked = random_asked(alloc, &mut state)?;
@@ -164,7 +169,7 @@ fn random_requests(rt: HostRuntime) -> Result<(), Fail> {
             (String::from_str(alloc, "a")?, a),
             (String::from_str(alloc, "b")?, b),
         ]?;
-        let done = run(&rt, files, STEADY, line.as_str(), (&[], &[]))?;
+        let done = run(rt, files, STEADY, line.as_str(), (&[], &[]))?;
         assert_eq!(rt;
             done.out.bytes(),
             text.as_str().as_bytes(),
@@ -178,4 +183,29 @@ fn random_requests(rt: HostRuntime) -> Result<(), Fail> {
         assert_eq!(rt; done.report.status, status, "request {request}: {line}");
     }
     Ok(())
+}
+
+#[test]
+fn random_requests_of_the_first_seed(rt: HostRuntime) -> Result<(), Fail> {
+    check_requests(&rt, 20261126)
+}
+
+#[test]
+fn random_requests_of_the_second_seed(rt: HostRuntime) -> Result<(), Fail> {
+    check_requests(&rt, 20261127)
+}
+
+#[test]
+fn random_requests_of_the_third_seed(rt: HostRuntime) -> Result<(), Fail> {
+    check_requests(&rt, 20261128)
+}
+
+#[test]
+fn random_requests_of_the_fourth_seed(rt: HostRuntime) -> Result<(), Fail> {
+    check_requests(&rt, 20261129)
+}
+
+#[test]
+fn random_requests_of_the_fifth_seed(rt: HostRuntime) -> Result<(), Fail> {
+    check_requests(&rt, 20261130)
 }
