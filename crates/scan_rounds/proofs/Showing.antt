@@ -264,6 +264,16 @@ pub range_length : (first count : ℕ) → length (consecutive first count) ≡ 
 range_length first count =
     length-map (range_with_len first count) bare ∙ length-range_with_len first count
 
+-- a source of so many blocks has so many
+pub source_length : (blocks : Blocks) (first count : ℕ) → blocks ≡ consecutive first count
+    → length blocks ≡ count
+source_length blocks first count same = ap length same ∙ range_length first count
+
+-- and is that of the same count, told otherwise
+pub source_counted : (blocks : Blocks) (first n count : ℕ) → blocks ≡ consecutive first n
+    → n ≡ count → blocks ≡ consecutive first count
+source_counted blocks first n count same counted = same ∙ ap (consecutive first) counted
+
 -- what may be unread may be so after more
 may_later : (was : Standing) (p q : Known) (reads reads' faults faults' : ℕ)
     → Went p q reads reads' faults faults' → (e : E) → MayBeUnread was p e → MayBeUnread was q e

@@ -1,18 +1,18 @@
-use Rattle.std.proofs.Common.{rules, length, sym, ap, ◌∙◌, subst, arith}
+use Rattle.std.proofs.Common.{rules, sym, ap, ◌∙◌, subst, arith}
 use Rattle.aio_handle.specs.Shown.{Standing}
 use Rattle.aio_word.specs.Events.{lives}
 use Rattle.read_stream.specs.Open.{IsFree}
 use Rattle.read_stream.specs.Went.{local_marks}
 use Rattle.read_stream.proofs.Going.{went_then}
-use Rattle.scan_rounds.proofs.Showing.{range_length, job_moved}
+use Rattle.scan_rounds.proofs.Showing.{source_length, source_counted, job_moved}
 use Rattle.scan_rounds.proofs.list.list.Goals as goal
 
 pub open-stream-requires-clause-room : goal.open-stream-requires-clause-room
 open-stream-requires-clause-room g c =
     let (room, is, enough) = c.requires.room in
-    let long = range_length c.args.job.now.first c.args.job.now.count in
+    let long = source_length _ _ _ c.new-source.ensures in
     let few = c.requires.job.few in
-    (room, is, rw c.new-source.ensures (omega arith))
+    (room, is, omega arith)
 
 pub returns-clause-went : goal.returns-clause-went
 returns-clause-went g c =
@@ -28,9 +28,8 @@ returns-clause-desk g c =
 pub returns-clause-lived : goal.returns-clause-lived
 returns-clause-lived g c h =
     let was = c.show_all-job.ensures.was.0 ∙ c.open-stream.ensures.actor.0 in
-    let blocks = ap length (c.show_all-job.ensures.was.1
+    let long = source_length _ _ _ (c.show_all-job.ensures.was.1
     ∙ (c.open-stream.ensures.source ∙ c.new-source.ensures)) in
-    let long = range_length c.args.job.now.first c.args.job.now.count in
     let taken = c.close-desk.ensures.few in
     let marks = ap (λ (a : Standing). lives h a.known.marks) was in
     let ended = c.close-desk.ensures.lived h in
@@ -41,16 +40,16 @@ pub returns-clause-job : goal.returns-clause-job
 returns-clause-job g c = record {
   same = search rules;
   answer = job_moved _ _ _ _ _ _ _ _ _ _ _ _ _ _ _ c.open-stream.ensures.actor.0
-      (c.open-stream.ensures.source ∙ c.new-source.ensures) c.close-desk.ensures.went
+      (source_counted _ _ _ _ (c.open-stream.ensures.source ∙ c.new-source.ensures)
+      (omega arith)) c.close-desk.ensures.went
       c.show_all-job.ensures.answer;
 }
 
 pub returns-clause-taken : goal.returns-clause-taken
 returns-clause-taken g c =
     let was = c.show_all-job.ensures.was.0 ∙ c.open-stream.ensures.actor.0 in
-    let blocks = ap length (c.show_all-job.ensures.was.1
+    let long = source_length _ _ _ (c.show_all-job.ensures.was.1
     ∙ (c.open-stream.ensures.source ∙ c.new-source.ensures)) in
-    let long = range_length c.args.job.now.first c.args.job.now.count in
     let marks = ap (λ (a : Standing). local_marks a.known.marks) was in
     let taken = c.close-desk.ensures.few in
     let count = c.close-desk.ensures.count in
