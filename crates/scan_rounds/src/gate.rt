@@ -1,7 +1,7 @@
 //! Disks of which one is held up until another reads.
 ghost use Rattle.std.specs.Prelude.{None};
 
-use crate::tests::{check_job, one_round};
+use crate::tests::check_job;
 use crate::trials::{EMPTY_PAGE, USUAL, scan_over};
 use crate::{Ending, ScanSettings};
 use aio_disk::{DeviceFault, Disk, OpenFault, Shelf};
@@ -15,7 +15,7 @@ use std::thread::yield_now;
 /// After so many turns a read is no longer held up, and fails.
 const TURNS: u32 = 1 << 24;
 
-// A disk whose relations have three empty pages each. A read of block 1 is held up until a read of
+// A disk whose relations have four empty pages each. A read of block 1 is held up until a read of
 // block 2 has begun at one of the disks of the shelf.
 #[derive(Drop)]
 struct GateDisk {
@@ -55,7 +55,7 @@ impl Disk for GateDisk {
     ghost reads = { λ d. d.reads };
 
     fn blocks(&mut self, _relation: u32) -> Result<u32, DeviceFault> {
-        Ok(3)
+        Ok(4)
     }
 
     fn read(&mut self, _relation: u32, first: u32, pages: &mut [Page]) -> Result<u32, DeviceFault> {
@@ -70,7 +70,7 @@ impl Disk for GateDisk {
         for page in pages.iter_mut() {
             page.copy_from(&self.page);
         }
-        Ok(3u32.saturating_sub(first).min(pages.len() as u32))
+        Ok(4u32.saturating_sub(first).min(pages.len() as u32))
     }
 }
 
@@ -134,7 +134,8 @@ fn empty_page(alloc: Global) -> Result<Page, AllocError> {
     Ok(page)
 }
 
-// One thread alone would be held up at block 1 until that read fails.
+// One thread alone would be held up at block 1 until that read fails; so would a backend whose
+// second round finds the queue closed, or no seat of its own any more.
 #[test]
 fn two_workers_read_at_the_same_time(rt: HostRuntime) -> Result<(), Fail> {
     let alloc = rt.alloc();
@@ -151,9 +152,12 @@ fn two_workers_read_at_the_same_time(rt: HostRuntime) -> Result<(), Fail> {
         combine: 1,
         ..USUAL
     };
-    let rounds = one_round(alloc, &[(0, 3)])?;
+    let last = vec![in alloc; (3u32, 1u32)]?;
+    let others = vec![in alloc; (0u32, 3u32)]?;
+    let rounds = vec![in alloc; last, others]?;
     let outcome = scan_over(&rt, &settings, &mut shelf, rounds.as_slice())?;
-    check_job(&rt, &outcome, 0, 0, 3, Ending::Pages)?;
+    check_job(&rt, &outcome, 0, 3, 1, Ending::Pages)?;
+    check_job(&rt, &outcome, 1, 0, 3, Ending::Pages)?;
     assert_eq!(&rt; outcome.unread, 0);
     Ok(())
 }

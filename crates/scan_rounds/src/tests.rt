@@ -28,7 +28,7 @@ pub(crate) fn check_job<R: Abort + AllocGlobal>(
 }
 
 // One round with these jobs.
-pub(crate) fn one_round(alloc: Global, jobs: &[Blocks]) -> Result<Vec<Vec<Blocks>>, Fail> {
+fn one_round(alloc: Global, jobs: &[Blocks]) -> Result<Vec<Vec<Blocks>>, Fail> {
     let mut round = Vec::new(alloc);
     round.extend_from_slice(jobs)?;
     Ok(vec![in alloc; round]?)
