@@ -1,6 +1,6 @@
 -- A scan between its rounds, and what its end tells.
 use Rattle.std.specs.Prelude.{◌≡◌, ℕ, ◌+◌, ◌<◌, ◌≤◌, ◌++◌, List, [], length, map, sum_by, Option, Some}
-use Rattle.std.specs.Prelude.{vec_capacity, slice_index_or}
+use Rattle.std.specs.Prelude.{vec_capacity, slice_index_or, is_some, true, min, ◌^◌, ◌-◌}
 use Rattle.std.specs.List.{All}
 use Rattle.page_check.specs.Told.{Told}
 use Rattle.aio_word.specs.declared.Config.{Config}
@@ -9,8 +9,10 @@ use Rattle.aio_word.specs.Tokens.{io_marks, failed_marks}
 use Rattle.aio_handle.specs.Closing.{AreTotals, Tally}
 use Rattle.aio_handle.specs.Executing.{Pays, last_count}
 use Rattle.aio_handle.specs.Shown.{Standing, known_in}
+use Rattle.method_worker.specs.Shown.{Queue}
 use Rattle.scan_rounds.specs.Hands.{Meter, IsBackend, IsWorker}
 use Rattle.scan_rounds.specs.Rounds.{AreIdle, IsLeastRoom, results_of, hand_of, hand_in}
+use Rattle.scan_rounds.specs.declared.backend.Backend.{Backend}
 use Rattle.scan_rounds.specs.declared.hand.Hand.{Hand}
 use Rattle.scan_rounds.specs.declared.scan.Scan.{Scan}
 
@@ -106,3 +108,8 @@ pub record IsSameScan {W D : Type 0} (s s' : Scan W D) : Type 0 where
   pub config : s'.common.table.config ≡ s.common.table.config
   pub as_many : length s'.backends.items ≡ length s.backends.items
   pub opened : opened_by s' ≡ opened_by s
+
+-- where each backend has a seat, the queue was opened again, under the next number
+abbrev pub IsOpenedAgain : {W D : Type 0} → List (Backend W D) → Queue → Queue → Type 0
+IsOpenedAgain bs q q' = All (λ b. is_some b.seat ≡ true) bs
+    → q'.reopened ≡ min (q.reopened + 1) (2 ^ 63 - 1)

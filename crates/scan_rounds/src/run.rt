@@ -8,7 +8,7 @@ ghost use Rattle.scan_rounds.specs.Hands.{MayRun, MayServe, meter};
 ghost use Rattle.scan_rounds.specs.Jobs.{IsFresh, blocks_among, unread_among};
 ghost use Rattle.scan_rounds.specs.Progress.{AreWaiting, HasGone};
 ghost use Rattle.scan_rounds.specs.Rounds.{AllRan, AllWorked, AreListed, Swapped, taken_by};
-ghost use Rattle.scan_rounds.specs.Scans.{IsScan, IsSameScan};
+ghost use Rattle.scan_rounds.specs.Scans.{IsOpenedAgain, IsScan, IsSameScan};
 
 use crate::agenda::Agenda;
 use crate::backend::Backend;
@@ -25,8 +25,8 @@ use std::sync::Wait;
 use std::thread::Threads;
 use std::{mem, thread};
 
-// The workers serve the queue until it is closed, and come back.
-fn serve_all<W: World + Send + Sync, D: Disk, R: Threads + Wait + Sync>(
+/// The workers serve the queue until it is closed, and come back.
+pub(crate) fn serve_all<W: World + Send + Sync, D: Disk, R: Threads + Wait + Sync>(
     rt: &R,
     common: &Common<W>,
     mut workers: Vec<Worker<W, D>>,
@@ -95,8 +95,8 @@ fn run_beside<W: World + Send + Sync, D: Disk, R: Threads + Wait + Sync, A: Agen
     )
 }
 
-// The first backend opens the queue again, where it has a seat.
-fn reopen_queue<W: World, D: Disk>(
+/// The first backend opens the queue again, where it has a seat.
+pub(crate) fn reopen_queue<W: World, D: Disk>(
     common: &mut Common<W>,
     mut backends: Vec<Backend<W, D>>,
 ) -> Vec<Backend<W, D>>
@@ -105,6 +105,7 @@ fn reopen_queue<W: World, D: Disk>(
     ensures table { common.new.table ≡ common.old.table }
     ensures queue { (common.new.queue.line ≡ common.old.queue.line)
         × (common.new.queue.words ≡ common.old.queue.words) }
+    ensures reopened { IsOpenedAgain backends.items common.old.queue common.new.queue }
     ensures backends { result.items ≡ backends.items }
 {
     if let Some(seat) = &mut backends[0].seat {
@@ -113,8 +114,8 @@ fn reopen_queue<W: World, D: Disk>(
     backends
 }
 
-// The jobs of these backends and those of the list change places.
-fn exchange<W: World, D: Disk>(
+/// The jobs of these backends and those of the list change places.
+pub(crate) fn exchange<W: World, D: Disk>(
     mut backends: Vec<Backend<W, D>>,
     jobs: &mut [Job],
 ) -> Vec<Backend<W, D>>
@@ -125,8 +126,8 @@ fn exchange<W: World, D: Disk>(
     backends
 }
 
-// The backends do their jobs; then the queue is closed.
-fn run_once<W: World + Send + Sync, D: Disk, R: Threads + Wait + Sync>(
+/// The backends do their jobs; then the queue is closed.
+pub(crate) fn run_once<W: World + Send + Sync, D: Disk, R: Threads + Wait + Sync>(
     rt: &R,
     common: &Common<W>,
     mut backends: Vec<Backend<W, D>>,
@@ -207,6 +208,8 @@ impl<W: World + Send + Sync, D: Disk> Scan<W, D> {
         ensures scan { IsScan (meter D.told D.relations D.reads D.faults) W.told W.relations
             self.new }
         ensures same { IsSameScan self.old self.new }
+        ensures reopened { IsOpenedAgain self.old.backends.items self.old.common.queue
+            self.new.common.queue }
         ensures listed { AreListed W.told self.old.backends.items self.new.backends.items jobs.old
             jobs.new }
         ensures room { self.old.room ≤ self.new.room + 64 }
@@ -244,6 +247,8 @@ impl<W: World + Send + Sync, D: Disk> Scan<W, D> {
         ensures scan { IsScan (meter D.told D.relations D.reads D.faults) W.told W.relations
             self.new }
         ensures same { IsSameScan self.old self.new }
+        ensures reopened { IsOpenedAgain self.old.backends.items self.old.common.queue
+            self.new.common.queue }
         ensures follows { A.follows agenda result }
         ensures over { A.is_over result }
         ensures room { self.old.room + 64 * A.left result ≤ self.new.room + 64 * A.left agenda }

@@ -1,7 +1,9 @@
 //! Rounds of scans, job by job.
 ghost use Rattle.std.specs.Prelude.{◌+◌, ◌^◌, ◌≤◌};
 
-use crate::trials::{Blocks, Outcome, USUAL, file_of, lines, scan_over, shelf_of};
+use crate::trials::{
+    Blocks, Outcome, Parts, USUAL, file_of, lines, scan_by_parts, scan_over, shelf_of,
+};
 use crate::{Ending, MethodKind, ScanSettings};
 use std::alloc::Global;
 use std::process::Abort;
@@ -188,6 +190,26 @@ fn a_round_goes_on_behind_a_fault(rt: HostRuntime) -> Result<(), Fail> {
     assert_eq!(&rt; outcome.incarnations, 6);
     assert_eq!(&rt; outcome.by_backends, 6);
     assert_eq!(&rt; outcome.by_workers, 0);
+    Ok(())
+}
+
+#[test]
+fn rounds_where_no_thread_can_be_made(rt: HostRuntime) -> Result<(), Fail> {
+    let alloc = rt.alloc();
+    let settings = ScanSettings {
+        workers: 1,
+        backends: 1,
+        ..USUAL
+    };
+    let first = vec![in alloc; (0u32, 64u32)]?;
+    let second = vec![in alloc; (64u32, 36u32)]?;
+    let rounds = vec![in alloc; first, second]?;
+    let mut shelf = shelf_of(&rt, file_of(alloc, 100, None)?, Vec::new(alloc))?;
+    let outcome = scan_by_parts(&rt, &settings, &mut shelf, Parts::InTurn, rounds.as_slice())?;
+    check_job(&rt, &outcome, 0, 0, 64, Ending::Pages)?;
+    check_job(&rt, &outcome, 1, 64, 36, Ending::Pages)?;
+    assert_eq!(&rt; outcome.by_workers, 0);
+    assert_eq!(&rt; outcome.by_backends, 14);
     Ok(())
 }
 

@@ -8,11 +8,14 @@ ghost use Rattle.scan_rounds.specs.Jobs.{IsFresh};
 ghost use Rattle.scan_rounds.specs.Opening.{AreSettings, workers_in};
 ghost use Rattle.scan_rounds.specs.Scans.{IsScan};
 
+use crate::rounds::{count_unread, least_room};
+use crate::run::{exchange, reopen_queue, run_once, serve_all};
 use crate::{Ending, Job, MethodKind, Scan, ScanSettings};
 use aio_disk::{Disk, MemShelf, Script, Shelf};
 use page_check::World;
 use std::alloc::{AllocError, Global};
 use std::marker::Brand;
+use std::mem;
 use std::process::Abort;
 use std::sync::Wait;
 use std::test::Fail;
@@ -33,6 +36,13 @@ pub(crate) const USUAL: ScanSettings = ScanSettings {
 
 /// Some blocks of relation 0: the first, and how many.
 pub(crate) type Blocks = (u32, u32);
+
+/// How the parts of a round run: the backends beside the workers, or the workers behind them.
+#[derive(Clone, Copy)]
+pub(crate) enum Parts {
+    Beside,
+    InTurn,
+}
 
 /// What became of a job.
 #[derive(Drop)]
@@ -129,11 +139,47 @@ fn jobs_for(alloc: Global, round: &[Blocks]) -> Result<Vec<Job>, Fail>
     Ok(jobs)
 }
 
+// One round on the caller's thread, as `join` does it where no thread can be made: the backends'
+// part first, with the closing of the queue, and the workers' part behind it.
+fn round_in_turn<W: World + Send + Sync, D: Disk, R: Threads + Wait + Sync>(
+    rt: &R,
+    scan: &mut Scan<W, D>,
+    jobs: &mut [Job],
+)
+    requires scan { IsScan (meter D.told D.relations D.reads D.faults) W.told W.relations scan.old }
+    requires few { (1 ≤ length jobs.old) × (length jobs.old ≤ length scan.old.backends.items) }
+    requires fresh { All (IsFresh W.relations) jobs.old }
+    requires room { 64 ≤ scan.old.room }
+    ensures scan { IsScan (meter D.told D.relations D.reads D.faults) W.told W.relations scan.new }
+{
+    let Scan {
+        alloc,
+        common,
+        backends,
+        workers,
+        room,
+        unread,
+        ..
+    } = scan;
+    let own_backends = mem::replace(backends, Vec::new(*alloc));
+    let own_workers = mem::replace(workers, Vec::new(*alloc));
+    let waiting = reopen_queue(common, own_backends);
+    let ready = exchange(waiting, jobs);
+    let done = run_once(rt, common, ready);
+    let own_workers = serve_all(rt, common, own_workers);
+    let idle = exchange(done, jobs);
+    *room = least_room(idle.as_slice());
+    *unread = count_unread(*unread, jobs);
+    *workers = own_workers;
+    *backends = idle;
+}
+
 // One round, and what became of its jobs.
 fn list_round<W: World + Send + Sync, D: Disk, R: Threads + Wait + Sync>(
     rt: &R,
     alloc: Global,
     scan: &mut Scan<W, D>,
+    parts: Parts,
     round: &[Blocks],
     all: &mut Vec<Shown>,
 ) -> Result<(), Fail>
@@ -145,7 +191,10 @@ fn list_round<W: World + Send + Sync, D: Disk, R: Threads + Wait + Sync>(
     if jobs.is_empty() || jobs.len() > scan.backends.len() || scan.room() < 64 {
         return Err(Fail::from("no round"));
     }
-    scan.round(rt, jobs.as_mut_slice());
+    match parts {
+        Parts::Beside => scan.round(rt, jobs.as_mut_slice()),
+        Parts::InTurn => round_in_turn(rt, scan, jobs.as_mut_slice()),
+    }
     for job in jobs {
         let Job { text, ending, .. } = job;
         all.push(Shown { text, ending })?;
@@ -158,6 +207,7 @@ fn list_rounds<W: World + Send + Sync, D: Disk, R: Threads + Wait + Sync>(
     rt: &R,
     alloc: Global,
     scan: &mut Scan<W, D>,
+    parts: Parts,
     rounds: &[Vec<Blocks>],
     all: &mut Vec<Shown>,
 ) -> Result<(), Fail>
@@ -166,7 +216,7 @@ fn list_rounds<W: World + Send + Sync, D: Disk, R: Threads + Wait + Sync>(
     ensures scan { IsScan (meter D.told D.relations D.reads D.faults) W.told W.relations scan.new }
 {
     for round in rounds {
-        list_round(rt, alloc, scan, round.as_slice(), all)?;
+        list_round(rt, alloc, scan, parts, round.as_slice(), all)?;
     }
     Ok(())
 }
@@ -178,6 +228,7 @@ fn scan_shelf<W: World + Send + Sync, S: Shelf, R: Threads + Wait + Sync>(
     settings: &ScanSettings,
     shelf: &mut S,
     names: &[String],
+    parts: Parts,
     rounds: &[Vec<Blocks>],
 ) -> Result<Outcome, Fail>
     requires settings { AreSettings settings.now }
@@ -190,7 +241,7 @@ fn scan_shelf<W: World + Send + Sync, S: Shelf, R: Threads + Wait + Sync>(
         return Err(Fail::from("no memory for a scan"));
     };
     let mut jobs = Vec::new(alloc);
-    let listed = list_rounds(rt, alloc, &mut scan, rounds, &mut jobs);
+    let listed = list_rounds(rt, alloc, &mut scan, parts, rounds, &mut jobs);
     let unread = scan.unread();
     let (totals, disks) = scan.finish();
     for disk in disks {
@@ -207,16 +258,27 @@ fn scan_shelf<W: World + Send + Sync, S: Shelf, R: Threads + Wait + Sync>(
 }
 
 /// The same, where the shelf fixes what all objects of the scan agree on.
+pub(crate) fn scan_by_parts<S: Shelf, R: Abort + AllocGlobal + Threads + Wait + Sync>(
+    rt: &R,
+    settings: &ScanSettings,
+    shelf: &mut S,
+    parts: Parts,
+    rounds: &[Vec<Blocks>],
+) -> Result<Outcome, Fail> {
+    let alloc = rt.alloc();
+    assert!(rt; is_in_range(settings));
+    let names = vec![in alloc; String::from_str(alloc, "f")?]?;
+    scan_shelf::<Brand, S, R>(rt, alloc, settings, shelf, names.as_slice(), parts, rounds)
+}
+
+/// The same, with rounds beside the workers.
 pub(crate) fn scan_over<S: Shelf, R: Abort + AllocGlobal + Threads + Wait + Sync>(
     rt: &R,
     settings: &ScanSettings,
     shelf: &mut S,
     rounds: &[Vec<Blocks>],
 ) -> Result<Outcome, Fail> {
-    let alloc = rt.alloc();
-    assert!(rt; is_in_range(settings));
-    let names = vec![in alloc; String::from_str(alloc, "f")?]?;
-    scan_shelf::<Brand, S, R>(rt, alloc, settings, shelf, names.as_slice(), rounds)
+    scan_by_parts(rt, settings, shelf, Parts::Beside, rounds)
 }
 
 /// The header of a page without items: lower 24, upper and special 8192, version 4.

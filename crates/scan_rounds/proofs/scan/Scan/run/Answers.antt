@@ -1,4 +1,5 @@
-use Rattle.std.proofs.Common.{rules, refl}
+use Rattle.std.proofs.Common.{rules, refl, subst}
+use Rattle.scan_rounds.specs.Scans.{IsOpenedAgain}
 use Rattle.scan_rounds.proofs.Again.{waiting_in, serving_in, scan_again}
 use Rattle.scan_rounds.proofs.scan.Scan.run.Goals as goal
 
@@ -21,3 +22,8 @@ returns-clause-scan g c =
     scan_again _ _ _ c.args.self.now _ _ _ c.requires.scan c.reopen_queue.ensures.table
     (search rules) (search rules) e.waiting e.worked e.gone.go_on e.many.0 (search rules) refl refl
     refl
+
+pub returns-clause-reopened : goal.returns-clause-reopened
+returns-clause-reopened g c =
+    subst (λ own. IsOpenedAgain own.items c.args.self.now.common.queue c.reopen_queue.new.common.queue)
+    c.replace-own_backends.ensures.value c.reopen_queue.ensures.reopened
