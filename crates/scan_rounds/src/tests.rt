@@ -194,7 +194,7 @@ fn a_round_goes_on_behind_a_fault(rt: HostRuntime) -> Result<(), Fail> {
 }
 
 #[test]
-fn rounds_where_no_thread_can_be_made(rt: HostRuntime) -> Result<(), Fail> {
+fn rounds_on_one_thread(rt: HostRuntime) -> Result<(), Fail> {
     let alloc = rt.alloc();
     let settings = ScanSettings {
         workers: 1,
