@@ -8,6 +8,9 @@ use Rattle.page_check.proofs.AnswersOfLists.{answered_append, answered_more}
 use Rattle.heap_scan.specs.PageText.{page_text_of}
 use Rattle.heap_scan.specs.Listing.{listing}
 use Rattle.heap_scan.specs.Job.{endings_of, IsJobAnswer}
+use Rattle.heap_scan.specs.Sums.{joined}
+use Rattle.heap_scan.specs.declared.sums.PageSums.{PageSums}
+use Rattle.heap_scan.proofs.Summing.{sums_of-append}
 
 -- the end of a job that did not reach the end of its blocks
 abbrev pub IsEarly : Option Ending → Type 0
@@ -21,13 +24,16 @@ module _ {P : Type 0} where
 
   -- a job that was listed to its end, and then another
   unfoldable pub job_append : (found : Option Reader) (may : Entry P → Type 0)
-      (xs ys : List (Entry P))
-      (front back : List ℕ) (end : Option Ending) → IsJobAnswer found may xs front (Some End)
-      → IsJobAnswer found may ys back end → IsJobAnswer found may (xs ++ ys) (front ++ back) end
-  job_append found may xs ys front back end first second = record {
+      (xs ys : List (Entry P)) (front back : List ℕ) (some more : PageSums) (end : Option Ending)
+      → IsJobAnswer found may xs front some (Some End)
+      → IsJobAnswer found may ys back more end
+      → IsJobAnswer found may (xs ++ ys) (front ++ back) (joined some more) end
+  job_append found may xs ys front back some more end first second = record {
     pages = first.pages ++ second.pages;
     text_is = (let one = first.text_is in let two = second.text_is in
         rw (one, two) (sym (listing-append first.pages second.pages)));
+    sums_are = (let one = first.sums_are in let two = second.sums_are in
+        rw (one, two) (sym (sums_of-append first.pages second.pages)));
     answers =
         answered_append found may xs ys first.pages second.pages (endings_of end) first.answers
         second.answers;
@@ -35,11 +41,12 @@ module _ {P : Type 0} where
 
   -- a job that did not reach the end of its blocks is one of more
   unfoldable pub job_more : (found : Option Reader) (may : Entry P → Type 0)
-      (xs ys : List (Entry P))
-      (text : List ℕ) (end : Option Ending) → IsEarly end → IsJobAnswer found may xs text end
-      → IsJobAnswer found may (xs ++ ys) text end
-  job_more found may xs ys text end early job = record {
+      (xs ys : List (Entry P)) (text : List ℕ) (sums : PageSums) (end : Option Ending)
+      → IsEarly end → IsJobAnswer found may xs text sums end
+      → IsJobAnswer found may (xs ++ ys) text sums end
+  job_more found may xs ys text sums end early job = record {
     pages = job.pages;
     text_is = job.text_is;
+    sums_are = job.sums_are;
     answers = answered_more found may xs ys job.pages (endings_of end) early job.answers;
   }

@@ -213,7 +213,7 @@ anyway : (found : Option Reader) (may : Entry (Unit {0}) → Type 0) (j k : Job)
     → IsListed found may j k → IsListed found (λ _. ⊤) j k
 anyway found may j k is = record {
   same = is.same;
-  answer = job_wider found may (λ _. ⊤) (entries_in j) k.text.items (said_end k.ending)
+  answer = job_wider found may (λ _. ⊤) (entries_in j) k.text.items k.tally (said_end k.ending)
       (λ e may. tt) is.answer;
 }
 

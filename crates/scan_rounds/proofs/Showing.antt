@@ -1,9 +1,9 @@
 -- The pages that a stream has answered so far, and what comes of the next answer.
 use Rattle.std.proofs.Common.{◌≡◌, ℕ, zero, suc, ◌+◌, ◌<◌, Bool, true, false, List, []}
 use Rattle.std.proofs.Common.{◌∷◌, ◌++◌, length, map, take, refl, sym, ap, ◌∙◌, subst, arith}
-use Rattle.std.proofs.Common.{append-nil, length-append}
+use Rattle.std.proofs.Common.{◌≤◌, ◌^◌, append-nil, get_or, length-append}
 use Rattle.std.specs.Prelude.{Option, Some, None, slice_get, if◌then◌else◌, nat_le, ⊤}
-use Rattle.std.specs.List.{range_with_len}
+use Rattle.std.specs.List.{All, range_with_len}
 use Rattle.std.proofs.lemmas.Option.{slice_get_within}
 use Rattle.std.proofs.lemmas.List.{length-map}
 use Rattle.std.proofs.lemmas.List.FromFn.{length-range_with_len}
@@ -16,7 +16,7 @@ use Rattle.page_check.specs.SynchronousAnswer.{found_by, is_page, page_in, reade
 use Rattle.page_check.specs.SynchronousAnswer.{can_read, given_for, Ending as SaidEnding, End}
 use Rattle.page_check.specs.SynchronousAnswer.{Invalid, PastEnd, Unread}
 use Rattle.page_check.specs.IsAnswer.{Next as Said, Page, Stop, IsAnswer, IsNext}
-use Rattle.page_check.specs.IsAnswer.{OneEnding, IsEnding}
+use Rattle.page_check.specs.IsAnswer.{AreFirst, OneEnding, IsEnding}
 use Rattle.page_check.proofs.SynchronousReads.{read_count-cons, pages_of-none, pages_of-stop}
 use Rattle.page_check.proofs.AnswersInOrder.{answered_none, answered_next}
 use Rattle.page_check.proofs.Places.{count-within, pages_of-length}
@@ -27,6 +27,9 @@ use Rattle.heap_scan.specs.Listing.{listing}
 use Rattle.heap_scan.specs.Job.{IsJobAnswer, job_entries, block_entry, endings_of}
 use Rattle.heap_scan.specs.PageText.{page_text_of}
 use Rattle.heap_scan.proofs.Jobs.{listing-append}
+use Rattle.heap_scan.proofs.Summing.{sums_fit, sums_of-none, sums_of-push}
+use Rattle.heap_scan.specs.Sums.{FitSums, no_sums, sums_of, tallied}
+use Rattle.heap_scan.specs.declared.sums.PageSums.{PageSums}
 use Rattle.read_stream.specs.Answering.{entries_of, entry_of, MayBeUnread, said, pages_in}
 use Rattle.read_stream.specs.Went.{Went}
 use Rattle.read_stream.specs.declared.answer.Next.{Next as StreamNext}
@@ -51,6 +54,12 @@ one_listing g = sym (append-nil (page_text_of g.entry.relation g.entry.block g.p
 no_listing : listing (let none : List G = [] in none) ≡ []
 unfolding listing
 no_listing = refl
+
+front_get : (front rest : List G) (k : ℕ) (d : G) → k < length front
+    → slice_get (front ++ rest) k ≡ Some (get_or front k d)
+front_get [] rest k d below = absurd (omega arith)
+front_get (x ∷ front) rest zero d below = refl
+front_get (x ∷ front) rest (suc k) d below = front_get front rest k d (omega arith)
 
 -- a page of synchronous reads is valid
 found-valid : (absent : Bool) (v : Verdict) (page : List ℕ) → verdict_of page ≡ v
@@ -124,20 +133,23 @@ pub page_within : (found : Option Reader) (may : E → Type 0) (entries : List E
 page_within None may entries k g is = slice_get_within entries k g.entry is.1
 page_within (Some f) may entries k g is = within_pages f entries k g is
 
--- the text lists this many pages, which are the first answers
+-- text and sums are those of this many pages, which are the first answers
 pub record SoFar (found : Option Reader) (entries : List E) (given : ℕ) (text : List ℕ)
-    : Type 0 where
+    (sums : PageSums) : Type 0 where
   pub pages : List G
   pub count : length pages ≡ given
   pub text_is : text ≡ listing pages
+  pub sums_are : sums ≡ sums_of pages
   pub answers : IsAnswer found (λ _. ⊤) entries (record { pages = pages; endings = [] })
 
 pub nothing_yet : (found : Option Reader) (entries : List E) (given : ℕ) (text : List ℕ)
-    → given ≡ 0 → text ≡ [] → SoFar found entries given text
-nothing_yet found entries given text none empty = record {
+    (sums : PageSums) → given ≡ 0 → text ≡ [] → sums ≡ no_sums
+    → SoFar found entries given text sums
+nothing_yet found entries given text sums none empty uncounted = record {
   pages = [];
   count = sym none;
   text_is = empty ∙ sym no_listing;
+  sums_are = uncounted ∙ sym (sums_of-none (Unit {0}));
   answers = answered_none found (λ _. ⊤) entries;
 }
 
@@ -153,10 +165,11 @@ pages_anyway : (found : Option Reader) (may : E → Type 0) (entries : List E) (
 pages_anyway found may entries pages a = record { first = a.first; endings = tt }
 
 module _ (found : Option Reader) (may : E → Type 0) (entries : List E) (given : ℕ)
-    (next : Said (Unit {0})) (before after : List ℕ) (result : Option Ending) where
-  shown_on : (said : Said (Unit {0})) → SoFar found entries given before
-      → IsNext found may entries given said → Shows said before after None
-      → SoFar found entries (given + pages_in said) after
+    (next : Said (Unit {0})) (before after : List ℕ) (sums more : PageSums)
+    (result : Option Ending) where
+  shown_on : (said : Said (Unit {0})) → SoFar found entries given before sums
+      → IsNext found may entries given said → Shows said before after sums more None
+      → SoFar found entries (given + pages_in said) after more
   shown_on (Stop end) so_far is shows = absurd (cc)
   shown_on (Page g) so_far is shows =
       let P : ℕ → Type 0 = λ n. IsNext found may entries n (Page g) in
@@ -164,34 +177,38 @@ module _ (found : Option Reader) (may : E → Type 0) (entries : List E) (given 
       (subst P (sym so_far.count) is) in record {
         pages = so_far.pages ++ g ∷ [];
         count = omega (arith, length-append so_far.pages (g ∷ []), so_far.count);
-        text_is = shows
+        text_is = shows.0
             ∙ ap (λ (l : List ℕ). l ++ page_text_of g.entry.relation g.entry.block g.page)
             so_far.text_is
             ∙ ap (λ (l : List ℕ). listing so_far.pages ++ l) (one_listing g)
             ∙ sym (listing-append so_far.pages (g ∷ []));
+        sums_are = shows.1 ∙ ap (λ (s : PageSums). tallied s g.page) so_far.sums_are
+            ∙ sym (sums_of-push so_far.pages g);
         answers =
             answered_next found (λ _. ⊤) entries so_far.pages (Page g) so_far.answers here;
       }
 
   within_on : (said : Said (Unit {0})) → IsNext found may entries given said
-      → Shows said before after None → (pages_in said ≡ 1) × (given < length entries)
+      → Shows said before after sums more None → (pages_in said ≡ 1) × (given < length entries)
   within_on (Stop end) is shows = absurd (cc)
   within_on (Page g) is shows = (refl, page_within found may entries given g is)
 
   -- the answer was shown, and the job goes on
-  pub shown_more : (given' : ℕ) → SoFar found entries given before
-      → IsNext found may entries given next → Shows next before after result → result ≡ None
-      → given' ≡ given + pages_in next → SoFar found entries given' after
+  pub shown_more : (given' : ℕ) → SoFar found entries given before sums
+      → IsNext found may entries given next → Shows next before after sums more result
+      → result ≡ None → given' ≡ given + pages_in next
+      → SoFar found entries given' after more
   shown_more given' so_far is shows none count =
-      subst (λ (n : ℕ). SoFar found entries n after) (sym count)
-      (shown_on next so_far is (subst (λ (x : Option Ending). Shows next before after x) none shows))
+      subst (λ (n : ℕ). SoFar found entries n after more) (sym count)
+      (shown_on next so_far is
+      (subst (λ (x : Option Ending). Shows next before after sums more x) none shows))
 
   pub nearer : (given' : ℕ) → IsNext found may entries given next
-      → Shows next before after result → result ≡ None → given' ≡ given + pages_in next
+      → Shows next before after sums more result → result ≡ None → given' ≡ given + pages_in next
       → (given' ≡ given + 1) × (given < length entries)
   nearer given' is shows none count =
       let one = within_on next is
-      (subst (λ (x : Option Ending). Shows next before after x) none shows) in
+      (subst (λ (x : Option Ending). Shows next before after sums more x) none shows) in
       (count ∙ ap (λ (n : ℕ). given + n) one.0, one.1)
 
   end_said : (end : SaidEnding) → said_end (ending_for end) ≡ Some end
@@ -200,45 +217,84 @@ module _ (found : Option Reader) (may : E → Type 0) (entries : List E) (given 
   end_said (PastEnd b) = refl
   end_said (Unread b) = refl
 
-  ended : (end : SaidEnding) → SoFar found entries given before
+  ended : (end : SaidEnding) → SoFar found entries given before sums
       → IsNext found may entries given (Stop end)
-      → IsJobAnswer found may entries before (said_end (ending_for end))
+      → IsJobAnswer found may entries before sums (said_end (ending_for end))
   ended end so_far is =
       let P : ℕ → Type 0 = λ n. IsNext found may entries n (Stop end) in
-      let Q : Option SaidEnding → Type 0 = λ e. IsJobAnswer found may entries before e in
+      let Q : Option SaidEnding → Type 0 = λ e. IsJobAnswer found may entries before sums e in
       subst Q (sym (end_said end)) (record {
         pages = so_far.pages;
         text_is = so_far.text_is;
+        sums_are = so_far.sums_are;
         answers = answered_next found may entries so_far.pages (Stop end)
             (pages_anyway found may entries so_far.pages so_far.answers)
             (subst P (sym so_far.count) is);
       })
 
-  cut : SoFar found entries given before → IsJobAnswer found may entries before None
+  cut : SoFar found entries given before sums → IsJobAnswer found may entries before sums None
   cut so_far = record {
     pages = so_far.pages;
     text_is = so_far.text_is;
+    sums_are = so_far.sums_are;
     answers = pages_anyway found may entries so_far.pages so_far.answers;
   }
 
-  last_of : (said : Said (Unit {0})) (e : Ending) → SoFar found entries given before
-      → IsNext found may entries given said → Shows said before after (Some e)
-      → IsJobAnswer found may entries after (said_end e)
+  last_of : (said : Said (Unit {0})) (e : Ending) → SoFar found entries given before sums
+      → IsNext found may entries given said → Shows said before after sums more (Some e)
+      → IsJobAnswer found may entries after more (said_end e)
   last_of (Page g) e so_far is shows =
-      subst (λ (x : Ending). IsJobAnswer found may entries after (said_end x)) (sym shows.0)
-      (subst (λ (l : List ℕ). IsJobAnswer found may entries l None) (sym shows.1) (cut so_far))
+      subst (λ (x : Ending). IsJobAnswer found may entries after more (said_end x)) (sym shows.0)
+      (subst (λ (s : PageSums). IsJobAnswer found may entries after s None) (sym shows.2)
+      (subst (λ (l : List ℕ). IsJobAnswer found may entries l sums None) (sym shows.1)
+      (cut so_far)))
   last_of (Stop end) e so_far is shows =
       let same : ending_for end ≡ e = cc in
-      subst (λ (x : Ending). IsJobAnswer found may entries after (said_end x)) same
-      (subst (λ (l : List ℕ). IsJobAnswer found may entries l (said_end (ending_for end)))
-      (sym shows.1) (ended end so_far is))
+      subst (λ (x : Ending). IsJobAnswer found may entries after more (said_end x)) same
+      (subst (λ (s : PageSums). IsJobAnswer found may entries after s (said_end (ending_for end)))
+      (sym shows.2)
+      (subst (λ (l : List ℕ). IsJobAnswer found may entries l sums (said_end (ending_for end)))
+      (sym shows.1) (ended end so_far is)))
 
   -- the last answer was shown
-  pub shown_end : (e : Ending) → SoFar found entries given before
-      → IsNext found may entries given next → Shows next before after result → result ≡ Some e
-      → IsJobAnswer found may entries after (said_end e)
+  pub shown_end : (e : Ending) → SoFar found entries given before sums
+      → IsNext found may entries given next → Shows next before after sums more result
+      → result ≡ Some e → IsJobAnswer found may entries after more (said_end e)
   shown_end e so_far is shows some = last_of next e so_far is
-      (subst (λ (x : Option Ending). Shows next before after x) some shows)
+      (subst (λ (x : Option Ending). Shows next before after sums more x) some shows)
+
+-- pages that are answers are valid
+first_valid : (told : Option Told) (entries : List E) (pages : List G)
+    → AreFirst (reader_of told) entries pages → All (λ g. IsValid g.page) pages
+first_valid None entries pages first = first.0
+first_valid (Some t) entries pages first =
+    λ k d below.
+    (let among = front_get pages first.0 k d below in
+    pages_valid t entries k (get_or pages k d)
+    (ap (λ (l : List G). slice_get l k) first.1 ∙ among))
+
+-- up to 64 pages and their line pointers can be counted
+pub next_fits : (told : Option Told) (may : E → Type 0) (entries : List E) (given : ℕ)
+    (next : Said (Unit {0})) (text : List ℕ) (sums : PageSums) → length entries ≤ 64
+    → SoFar (reader_of told) entries given text sums
+    → IsNext (reader_of told) may entries given next
+    → IfPage next (λ page. FitSums (tallied sums page))
+next_fits told may entries given (Stop end) text sums few so_far is = tt
+next_fits told may entries given (Page g) text sums few so_far is =
+    let found = reader_of told in
+    let P : ℕ → Type 0 = λ n. IsNext found may entries n (Page g) in
+    let here = page_anyway found may entries (length so_far.pages) g
+    (subst P (sym so_far.count) is) in
+    let answers = answered_next found (λ _. ⊤) entries so_far.pages (Page g) so_far.answers here in
+    let valid = first_valid told entries (so_far.pages ++ g ∷ []) answers.first in
+    let within = page_within found may entries given g is in
+    let many : length (so_far.pages ++ g ∷ []) < 2 ^ 32 =
+    omega (arith, length-append so_far.pages (g ∷ []), so_far.count) in
+    let same : sums_of (so_far.pages ++ g ∷ []) ≡ tallied sums g.page =
+    sums_of-push so_far.pages g
+    ∙ ap (λ (s : PageSums). tallied s g.page) (sym so_far.sums_are) in
+    subst (λ (s : PageSums). FitSums s) same
+    (sums_fit (so_far.pages ++ g ∷ []) valid many)
 
 -- an answer of the stream, where the stream is about these blocks
 pub at_place : (found : Option Reader) (p p' : Standing) (q : Known) (r r' : ℕ) (l l' : Blocks)
@@ -307,11 +363,12 @@ endings_wider found may may' entries k (end ∷ more) wider is =
 
 -- an entry that may be unread may be so later
 pub job_wider : (found : Option Reader) (may may' : E → Type 0) (entries : List E) (text : List ℕ)
-    (end : Option SaidEnding) → ((e : E) → may e → may' e)
-    → IsJobAnswer found may entries text end → IsJobAnswer found may' entries text end
-job_wider found may may' entries text end wider j = record {
+    (sums : PageSums) (end : Option SaidEnding) → ((e : E) → may e → may' e)
+    → IsJobAnswer found may entries text sums end → IsJobAnswer found may' entries text sums end
+job_wider found may may' entries text sums end wider j = record {
   pages = j.pages;
   text_is = j.text_is;
+  sums_are = j.sums_are;
   answers = record {
     first = j.answers.first;
     endings = endings_wider found may may' entries (length j.pages) (endings_of end) wider
@@ -322,15 +379,15 @@ job_wider found may may' entries text end wider j = record {
 -- the answer of the stream is that of the job, also once the stream was closed
 pub job_moved : (found : Option Reader) (p p' : Standing) (q z : Known)
     (reads reads' faults faults' : ℕ) (relation first count : ℕ) (blocks : Blocks)
-    (text : List ℕ) (end : Option SaidEnding) → p' ≡ p → blocks ≡ consecutive first count
-    → Went q z reads reads' faults faults'
-    → IsJobAnswer found (MayBeUnread p' q) (entries_of relation blocks) text end
-    → IsJobAnswer found (MayBeUnread p z) (job_entries relation first count) text end
-job_moved found p p' q z reads reads' faults faults' relation first count blocks text end same list
-    w a =
-    subst (λ (es : List E). IsJobAnswer found (MayBeUnread p z) es text end)
+    (text : List ℕ) (sums : PageSums) (end : Option SaidEnding) → p' ≡ p
+    → blocks ≡ consecutive first count → Went q z reads reads' faults faults'
+    → IsJobAnswer found (MayBeUnread p' q) (entries_of relation blocks) text sums end
+    → IsJobAnswer found (MayBeUnread p z) (job_entries relation first count) text sums end
+job_moved found p p' q z reads reads' faults faults' relation first count blocks text sums end same
+    list w a =
+    subst (λ (es : List E). IsJobAnswer found (MayBeUnread p z) es text sums end)
     (ap (entries_of relation) list ∙ range_entries relation first count)
-    (job_wider found (MayBeUnread p q) (MayBeUnread p z) (entries_of relation blocks) text end
+    (job_wider found (MayBeUnread p q) (MayBeUnread p z) (entries_of relation blocks) text sums end
     (may_later p q z reads reads' faults faults' w)
     (subst (λ (x : Standing). IsJobAnswer found (MayBeUnread x q) (entries_of relation blocks) text
-    end) same a))
+    sums end) same a))

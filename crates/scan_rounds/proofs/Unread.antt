@@ -16,6 +16,7 @@ use Rattle.aio_word.specs.Tokens.{failed_results, is_failed_result}
 use Rattle.aio_word.proofs.Parts.{sum-in}
 use Rattle.aio_handle.specs.Shown.{Standing}
 use Rattle.heap_scan.specs.Job.{IsJobAnswer}
+use Rattle.heap_scan.specs.declared.sums.PageSums.{PageSums}
 use Rattle.read_stream.specs.Answering.{MayBeUnread}
 use Rattle.scan_rounds.specs.Jobs.{IsListed, is_unread, said_end, entries_in}
 use Rattle.scan_rounds.specs.declared.job.Job.{Job}
@@ -49,19 +50,20 @@ cause_of : (found : Option Reader) (may : E → Type 0) (entries : List E) (k : 
 cause_of found may entries k b is = (is.next, is.cause)
 
 unread_at : (found : Option Reader) (was : Standing) (q : Known) (j : Job) (text : List ℕ)
-    (e : Ending) → IsJobAnswer found (MayBeUnread was q) (entries_in j) text (said_end e)
+    (sums : PageSums) (e : Ending)
+    → IsJobAnswer found (MayBeUnread was q) (entries_in j) text sums (said_end e)
     → is_unread e ≡ true → failed_results was.known.marks + 1 ≤ failed_results q.marks
-unread_at found was q j text (ending.Unread b) a is =
+unread_at found was q j text sums (ending.Unread b) a is =
     let (x, may) = cause_of found (MayBeUnread was q) (entries_in j) _ b a.answers.endings.0 in
     may_counted was q x may
-unread_at found was q j text ending.Pages a is = absurd (cc)
-unread_at found was q j text (ending.Invalid b) a is = absurd (cc)
-unread_at found was q j text (ending.PastEnd b) a is = absurd (cc)
-unread_at found was q j text ending.NoMemory a is = absurd (cc)
+unread_at found was q j text sums ending.Pages a is = absurd (cc)
+unread_at found was q j text sums (ending.Invalid b) a is = absurd (cc)
+unread_at found was q j text sums (ending.PastEnd b) a is = absurd (cc)
+unread_at found was q j text sums ending.NoMemory a is = absurd (cc)
 
 -- a job that ended in Unread left one failed result more
 pub unread_counted : (found : Option Reader) (was : Standing) (q : Known) (j k : Job)
     → IsListed found (MayBeUnread was q) j k → is_unread k.ending ≡ true
     → failed_results was.known.marks + 1 ≤ failed_results q.marks
 unread_counted found was q j k l is =
-    unread_at found was q j k.text.items k.ending l.answer is
+    unread_at found was q j k.text.items k.tally k.ending l.answer is

@@ -5,6 +5,7 @@ use Rattle.page_check.specs.SynchronousAnswer.{Entry, Reader, Ending as SaidEndi
 use Rattle.page_check.specs.SynchronousAnswer.{Invalid as SaidInvalid, PastEnd as SaidPastEnd}
 use Rattle.page_check.specs.SynchronousAnswer.{Unread as SaidUnread}
 use Rattle.heap_scan.specs.Job.{IsJobAnswer, job_entries}
+use Rattle.heap_scan.specs.Sums.{no_sums}
 use Rattle.scan_rounds.specs.declared.job.Ending.{Ending}
 use Rattle.scan_rounds.specs.declared.job.Ending.TheVariants as ending
 use Rattle.scan_rounds.specs.declared.job.Job.{Job}
@@ -45,17 +46,18 @@ pub record IsFresh (relations : ℕ) (j : Job) : Type 0 where
   pub few : (1 ≤ j.count) × (j.count ≤ 64)
   pub within : j.first + j.count ≤ 2 ^ 32
   pub no_text : j.text.items ≡ []
+  pub no_tally : j.tally ≡ no_sums
   pub no_ending : j.ending ≡ ending.Pages
 
 -- the blocks that it asks for
 abbrev pub entries_in : Job → List (Entry (Unit {0}))
 entries_in j = job_entries j.relation j.first j.count
 
--- what has become of a job: the same blocks, with the text and the ending of their answers
+-- what has become of a job: the same blocks, with the text, the sums and the ending of their answers
 pub record IsListed (found : Option Reader) (may : Entry (Unit {0}) → Type 0) (j k : Job)
     : Type 0 where
   pub same : (k.relation ≡ j.relation) × (k.first ≡ j.first) × (k.count ≡ j.count)
-  pub answer : IsJobAnswer found may (entries_in j) k.text.items (said_end k.ending)
+  pub answer : IsJobAnswer found may (entries_in j) k.text.items k.tally (said_end k.ending)
 
 -- what has become of jobs that were put, whichever block may be unread
 pub record AreAnswered (found : Option Reader) (asked answered : List Job) : Type 0 where

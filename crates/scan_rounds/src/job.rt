@@ -1,6 +1,8 @@
 //! What a backend is asked to list, and what it answers.
 ghost use Rattle.std.specs.Prelude.{◌≡◌, []};
+ghost use Rattle.heap_scan.specs.Sums.{no_sums};
 
+use heap_scan::PageSums;
 use std::alloc::Global;
 
 /// How a job ended.
@@ -18,7 +20,7 @@ pub enum Ending {
     NoMemory,
 }
 
-/// Some blocks of a relation, and their text.
+/// Some blocks of a relation, with the text of their pages and the sums over them.
 #[derive(Drop)]
 pub struct Job {
     pub relation: u32,
@@ -27,6 +29,8 @@ pub struct Job {
     pub count: u32,
     /// The text of the pages, in their order.
     pub text: Vec<u8>,
+    /// The sums over the pages of the text.
+    pub tally: PageSums,
     pub ending: Ending,
 }
 
@@ -35,6 +39,7 @@ impl Job {
     pub fn new(alloc: Global) -> Job
         ensures count { result.count ≡ 0 }
         ensures text { result.text.items ≡ [] }
+        ensures tally { result.tally ≡ no_sums }
         ensures ending { result.ending ≡ Ending.Pages }
     {
         Job {
@@ -42,21 +47,24 @@ impl Job {
             first: 0,
             count: 0,
             text: Vec::new(alloc),
+            tally: PageSums::default(),
             ending: Ending::Pages,
         }
     }
 
-    /// Asks for these blocks. The text is empty then, and keeps its memory.
+    /// Asks for these blocks. The text is empty then, and keeps its memory; the sums are 0.
     pub fn ask(&mut self, relation: u32, first: u32, count: u32)
         ensures blocks { (self.new.relation ≡ relation) × (self.new.first ≡ first)
             × (self.new.count ≡ count) }
         ensures text { self.new.text.items ≡ [] }
+        ensures tally { self.new.tally ≡ no_sums }
         ensures ending { self.new.ending ≡ Ending.Pages }
     {
         self.relation = relation;
         self.first = first;
         self.count = count;
         self.text.clear();
+        self.tally = PageSums::default();
         self.ending = Ending::Pages;
     }
 }

@@ -1,5 +1,5 @@
 //! Lists the blocks of a job through a read stream.
-ghost use Rattle.std.specs.Prelude.{◌≡◌, ◌<◌, ◌≤◌, ◌+◌, ℕ, []};
+ghost use Rattle.std.specs.Prelude.{◌≡◌, ◌<◌, ◌≤◌, ◌+◌, ℕ, [], length};
 ghost use Rattle.page_check.specs.SynchronousAnswer.{reader_of};
 ghost use Rattle.page_check.specs.Verdict.{IsValid};
 ghost use Rattle.aio_word.specs.Events.{lives};
@@ -7,6 +7,7 @@ ghost use Rattle.aio_handle.specs.Closing.{IsAtRest};
 ghost use Rattle.aio_handle.specs.Free.{IsRoom};
 ghost use Rattle.aio_handle.specs.Shown.{IsOf, IsSame};
 ghost use Rattle.heap_scan.specs.Job.{IsJobAnswer};
+ghost use Rattle.heap_scan.specs.Sums.{FitSums, no_sums, tallied};
 ghost use Rattle.read_stream.specs.Answering.{MayBeUnread, entries_of, said};
 ghost use Rattle.read_stream.specs.Open.{IsFree, IsOpen};
 ghost use Rattle.read_stream.specs.Went.{Went, local_marks};
@@ -19,19 +20,29 @@ use aio_callback::ReadIo;
 use aio_handle::{Actor, Execute, Table};
 use block_source::Range;
 use buf_pool::Pool;
-use heap_scan::page_text;
+use heap_scan::{PageSums, page_text, tally};
 use page_check::World;
 use read_stream::{Desk, Next, ReadStream};
 use std::sync::Wait;
 
-// Appends the page that was answered. Some where the job has ended.
-fn show(relation: u32, answer: Next<'_, ()>, text: &mut Vec<u8>) -> Option<Ending>
-    requires { IfPage (said relation answer) IsValid }
-    ensures { Shows (said relation answer.entry) text.old.items text.new.items result }
+// Appends the page that was answered, and counts it. Some where the job has ended.
+fn show(
+    relation: u32,
+    answer: Next<'_, ()>,
+    text: &mut Vec<u8>,
+    sums: &mut PageSums,
+) -> Option<Ending>
+    requires valid { IfPage (said relation answer) IsValid }
+    requires fit { IfPage (said relation answer) (λ page. FitSums (tallied sums.old page)) }
+    ensures { Shows (said relation answer.entry) text.old.items text.new.items sums.old sums.new
+        result }
 {
     match answer {
         Next::Page(page, block, _) => match page_text(relation, block, page, text) {
-            Ok(()) => None,
+            Ok(()) => {
+                tally(page, sums);
+                None
+            }
             Err(_) => Some(Ending::NoMemory),
         },
         Next::End => Some(Ending::Pages),
@@ -41,7 +52,7 @@ fn show(relation: u32, answer: Next<'_, ()>, text: &mut Vec<u8>) -> Option<Endin
     }
 }
 
-// Appends what the stream answers, up to its end.
+// Appends and counts what the stream answers, up to its end.
 fn show_all<W: World, M: Method<ReadIo, W>, E: Execute<ReadIo, W>, T: Wait>(
     rt: &T,
     table: &Table<ReadIo, W>,
@@ -51,6 +62,7 @@ fn show_all<W: World, M: Method<ReadIo, W>, E: Execute<ReadIo, W>, T: Wait>(
     stream: &mut ReadStream<'_, '_, W, Range, ()>,
     relation: u32,
     text: &mut Vec<u8>,
+    sums: &mut PageSums,
 ) -> Ending
     requires table { IsOf table.now actor.old }
     requires told { (E.told runner.old ≡ W.told) × (E.relations runner.old ≡ W.relations) }
@@ -58,7 +70,9 @@ fn show_all<W: World, M: Method<ReadIo, W>, E: Execute<ReadIo, W>, T: Wait>(
     requires relation { stream.old.scope.relation ≡ relation }
     requires is_open { IsOpen (λ r. r) W.told W.relations W.handles stream.old }
     requires none { stream.old.given ≡ 0 }
+    requires few { length stream.old.source_was.value ≤ 64 }
     requires text { text.old.items ≡ [] }
+    requires sums { sums.old ≡ no_sums }
     ensures same { IsSame actor.old actor.new }
     ensures told { (E.told runner.new ≡ W.told) × (E.relations runner.new ≡ W.relations) }
     ensures stands_on { M.stands_on method.new ≡ M.stands_on method.old }
@@ -66,7 +80,8 @@ fn show_all<W: World, M: Method<ReadIo, W>, E: Execute<ReadIo, W>, T: Wait>(
         (E.faults runner.old) (E.faults runner.new) }
     ensures answer { IsJobAnswer (reader_of W.told)
         (MayBeUnread stream.old.scope.was.value actor.new.known)
-        (entries_of relation stream.old.source_was.value) text.new.items (said_end result) }
+        (entries_of relation stream.old.source_was.value) text.new.items sums.new
+        (said_end result) }
     ensures desk { stream.new.desk.ghost_name ≡ stream.old.desk.ghost_name }
     ensures was { (stream.new.scope.was.value ≡ stream.old.scope.was.value)
         × (stream.new.source_was.value ≡ stream.old.source_was.value) }
@@ -75,7 +90,7 @@ fn show_all<W: World, M: Method<ReadIo, W>, E: Execute<ReadIo, W>, T: Wait>(
 {
     loop {
         let answer = stream.next(rt, table, actor, method, runner);
-        if let Some(ending) = show(relation, answer, text) {
+        if let Some(ending) = show(relation, answer, text, sums) {
             return ending;
         }
     }
@@ -130,6 +145,7 @@ pub(crate) fn list<W: World, M: Method<ReadIo, W>, E: Execute<ReadIo, W>, T: Wai
         &mut stream,
         job.relation,
         &mut job.text,
+        &mut job.tally,
     );
     let (_, desk) = stream.close(rt, table, actor, method, runner);
     give_back(desk);

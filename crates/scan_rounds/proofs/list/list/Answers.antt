@@ -14,6 +14,12 @@ open-stream-requires-clause-room g c =
     let few = c.requires.job.few in
     (room, is, omega arith)
 
+pub show_all-job-requires-clause-few : goal.show_all-job-requires-clause-few
+show_all-job-requires-clause-few g c =
+    let long = source_length _ _ _ (c.open-stream.ensures.source ∙ c.new-source.ensures) in
+    let few = c.requires.job.few in
+    omega arith
+
 pub returns-clause-went : goal.returns-clause-went
 returns-clause-went g c =
     went_then _ _ _ _ _ _ _ _ _ c.show_all-job.ensures.went c.close-desk.ensures.went
@@ -39,7 +45,7 @@ returns-clause-lived g c h =
 pub returns-clause-job : goal.returns-clause-job
 returns-clause-job g c = record {
   same = search rules;
-  answer = job_moved _ _ _ _ _ _ _ _ _ _ _ _ _ _ _ c.open-stream.ensures.actor.0
+  answer = job_moved _ _ _ _ _ _ _ _ _ _ _ _ _ _ _ _ c.open-stream.ensures.actor.0
       (source_counted _ _ _ _ (c.open-stream.ensures.source ∙ c.new-source.ensures)
       (omega arith)) c.close-desk.ensures.went
       c.show_all-job.ensures.answer;

@@ -24,7 +24,8 @@ invariant-loop-ending g l = record {
       × (l.stream.source_was.value ≡ l.fn.stream.source_was.value);
   desk : l.stream.desk.ghost_name ≡ l.fn.stream.desk.ghost_name;
   so_far : SoFar (reader_of g.W.World.told)
-      (entries_of l.relation l.fn.stream.source_was.value) l.stream.given l.text.items;
+      (entries_of l.relation l.fn.stream.source_was.value) l.stream.given l.text.items
+      l.sums;
 }
 
 abbrev pub decreases-loop-ending : goal.decreases-loop-ending
