@@ -17,7 +17,6 @@ use Rattle.aio_word.specs.Words.{last_generation}
 use Rattle.aio_handle.specs.Executing.{Pays}
 use Rattle.aio_handle.specs.Ruled.{newcomer}
 use Rattle.aio_handle.specs.Shown.{Named, Standing, AreNew}
-use Rattle.aio_handle.proofs.Rooms.{room-bounded}
 use Rattle.method_worker.specs.Shown.{Queue, Seating, IsSeatOf}
 use Rattle.read_stream.specs.Open.{IsFree}
 use Rattle.read_stream.specs.Went.{local_marks}
@@ -64,16 +63,17 @@ one_there (a ∷ l) k lt = a
 abbrev pub fresh : Named → ℕ → Standing
 fresh t k = record { table = t.table; known = newcomer t.config k }
 
--- a new backend has all lives before it
+-- the lives of a new backend's handles go from the first generation to the last
 room_of_new : (t : Named) (k : ℕ) (a : Standing) → a ≡ fresh t k → k < t.config.backends
-    → 1 ≤ t.config.per_backend → t.config.start ≡ 0 → HasRoom (2 ^ 58 - 1) a
+    → 1 ≤ t.config.per_backend → t.config.start < 2 ^ 58
+    → HasRoom (2 ^ 58 - 1 - t.config.start) a
 room_of_new t k a is lt some start =
     let pos : zero < t.config.per_backend = omega (arith, some) in
     let within : k * t.config.per_backend < handles t.config = mul-lt-mul_of_pos_right lt pos in
     let own : k ≡ owner t.config (k * t.config.per_backend) = sym (mul-div_cancel k pos) in
-    let P : Standing → Type 0 = λ x. HasRoom (2 ^ 58 - 1) x in
+    let P : Standing → Type 0 = λ x. HasRoom (2 ^ 58 - 1 - t.config.start) x in
     subst P (sym is) (
-      last_generation,
+      last_generation - t.config.start,
       record {
         of_runner = λ le. absurd (omega (arith, le, lt));
         for_each = λ h range owned. (omega (arith, start));
@@ -82,6 +82,14 @@ room_of_new t k a is lt some start =
       },
       omega arith,
     )
+
+-- and it has no others
+most_of_new : (t : Named) (k n : ℕ) (a : Standing) → a ≡ fresh t k → k < t.config.backends
+    → HasRoom n a → n ≤ 2 ^ 58 - 1 - t.config.start
+most_of_new t k n a is lt has =
+    let P : Standing → Type 0 = λ x. HasRoom n x in
+    let (room, r, most) = subst P is has in
+    let (h, range, own, last) = r.exact lt in omega arith
 
 pays_nothing : (reads faults : ℕ) → Pays reads reads faults faults []
 pays_nothing reads faults = record {
@@ -170,14 +178,14 @@ module _ {W D : Type 0} where
 
     -- and none has more
     pub rooms_of_new : 1 ≤ length bs → length bs ≤ t.config.backends → 1 ≤ t.config.per_backend
-        → t.config.start ≡ 0 → IsLeastRoom bs (2 ^ 58 - 1)
+        → t.config.start < 2 ^ 58 → IsLeastRoom bs (2 ^ 58 - 1 - t.config.start)
     rooms_of_new any few some start = record {
       have = λ k b lt.
           room_of_new t k _ (backend_actor k b lt) (omega (arith, lt, few)) some start;
       greatest = λ n rooms.
           (let first : 0 < length bs = omega (arith, any) in
-          let (room, is, most) = rooms 0 (one_there bs 0 first) first in
-          let bounded = room-bounded _ _ room is in omega (arith, most, bounded));
+          let b = one_there bs 0 first in
+          most_of_new t 0 n _ (backend_actor 0 b first) (omega (arith, first, few)) (rooms 0 b first));
     }
 
     pub none_taken : taken_by bs ≡ 0
@@ -285,8 +293,9 @@ module _ {W D : Type 0} where
       let least = seats_least p q bs g in g.seated (omega (arith, least, many, seats, some))
 
   -- the scan was made of these parts, the backends first
-  pub record IsMadeOf (settings : ScanSettings) (s : Scan W D) (p q r : Parts W D) : Type 0 where
-    pub config : s.common.table.config ≡ config_of settings
+  pub record IsMadeOf (settings : ScanSettings) (start : ℕ) (s : Scan W D) (p q r : Parts W D)
+      : Type 0 where
+    pub config : s.common.table.config ≡ config_of settings start
     pub actors : AreNew s.common.table 0 (into_iter_items p.actors)
     pub seats : All (IsSeatOf s.common.queue) (into_iter_items p.seats)
     pub desks : All (IsDeskFor settings) (into_iter_items p.desks)
@@ -299,15 +308,16 @@ module _ {W D : Type 0} where
     pub workers : GivesWorkers q r s.workers.items
     pub workers_are : length s.workers.items ≡ workers_in settings
     pub jobs_are : length s.jobs.items ≡ settings.backends
-    pub room : s.room ≡ 2 ^ 58 - 1
+    pub room : s.room ≡ 2 ^ 58 - 1 - start
     pub unread : s.unread ≡ 0
     pub actors_fit : (s.actors.items ≡ [])
         × (settings.backends + workers_in settings ≤ vec_capacity s.actors)
     pub disks_fit : (s.disks.items ≡ [])
         × (settings.backends + workers_in settings ≤ vec_capacity s.disks)
 
-  module _ (settings : ScanSettings) (s : Scan W D) (p q r : Parts W D)
-      (ranges : AreSettings settings) (made : IsMadeOf settings s p q r) where
+  module _ (settings : ScanSettings) (start : ℕ) (s : Scan W D) (p q r : Parts W D)
+      (ranges : AreSettings settings) (early : start < 2 ^ 58)
+      (made : IsMadeOf settings start s p q r) where
     all_fresh : AreFresh s.common.table (opened_by s) (hands_of s)
     all_fresh =
         let P : List D → Type 0 = λ ds. AreFresh s.common.table ds (hands_of s) in
@@ -363,7 +373,10 @@ module _ {W D : Type 0} where
           let few = made.backends_are in
           let others = made.workers_are in
           let range = ranges.backends_in_range.0 in
-          let start : t.config.start ≡ 0 = ap (λ (c : Config). c.start) made.config in
+          let begun : t.config.start ≡ start = ap (λ (c : Config). c.start) made.config in
+          let rooms = rooms_of_new t (opened_by s) bs ws all_fresh (omega (arith, few, range))
+          (omega (arith, backends)) some_handles (omega (arith, begun, early)) in
+          let same = ap (λ (n : ℕ). 2 ^ 58 - 1 - n) begun ∙ sym made.room in
           let none = made.unread in
           let jobs = made.jobs_are in
           let actors = made.actors_fit.1 in
@@ -381,9 +394,7 @@ module _ {W D : Type 0} where
                 (into_iter_items r.seats) made.workers.seats all_seats.1);
             paid = paid_of_new t (opened_by s) bs ws all_fresh m told relations disks_as_many;
             idle = made.backends.idle;
-            room = subst P (sym made.room)
-                (rooms_of_new t (opened_by s) bs ws all_fresh (omega (arith, few, range))
-                (omega (arith, backends)) some_handles start);
+            room = subst P same rooms;
             few_unread = omega (arith, none);
             jobs_are = omega (arith, jobs, few);
             no_actors = made.actors_fit.0;
@@ -395,7 +406,7 @@ module _ {W D : Type 0} where
     -- stands as it should at its start
     pub opened_scan : (m : Meter D) (told : Option Told) (relations : ℕ) (disks : List D)
         → opened_by s ≡ disks → All (λ d. (m.tells d ≡ told) × (m.has d ≡ relations)) disks
-        → IsOpened m told relations settings disks s
+        → IsOpened m told relations settings start disks s
     opened_scan m told relations disks same tell =
         let P : D → Type 0 = λ d. (m.tells d ≡ told) × (m.has d ≡ relations) in
         let Q : List D → Type 0 = λ ds. All P ds in record {

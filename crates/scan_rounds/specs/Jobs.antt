@@ -1,6 +1,6 @@
 -- What a job asks for, and what has become of it.
-use Rattle.std.specs.Prelude.{◌≡◌, ℕ, ◌+◌, ◌^◌, ◌<◌, ◌≤◌, List, [], length, count_by, sum_by, Option, Some}
-use Rattle.std.specs.Prelude.{None, Bool, true, false, slice_index_or, ⊤}
+use Rattle.std.specs.Prelude.{◌≡◌, ℕ, ◌+◌, ◌^◌, ◌<◌, ◌≤◌, List, [], length, count_by, sum_by}
+use Rattle.std.specs.Prelude.{Option, Some, None, Bool, true, false, slice_index_or, ⊤}
 use Rattle.page_check.specs.SynchronousAnswer.{Entry, Reader, Ending as SaidEnding, End}
 use Rattle.page_check.specs.SynchronousAnswer.{Invalid as SaidInvalid, PastEnd as SaidPastEnd}
 use Rattle.page_check.specs.SynchronousAnswer.{Unread as SaidUnread}
@@ -53,7 +53,7 @@ pub record IsFresh (relations : ℕ) (j : Job) : Type 0 where
 abbrev pub entries_in : Job → List (Entry (Unit {0}))
 entries_in j = job_entries j.relation j.first j.count
 
--- what has become of a job: the same blocks, with the text, the sums and the ending of their answers
+-- what has become of a job: the same blocks, with text, sums and ending of their answers
 pub record IsListed (found : Option Reader) (may : Entry (Unit {0}) → Type 0) (j k : Job)
     : Type 0 where
   pub same : (k.relation ≡ j.relation) × (k.first ≡ j.first) × (k.count ≡ j.count)

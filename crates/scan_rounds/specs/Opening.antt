@@ -43,14 +43,14 @@ pub record AreSettings (s : ScanSettings) : Type 0 where
   pub handles_in_range : (1 ≤ s.handles) × (s.handles ≤ 64)
   pub buffers_in_range : (16 ≤ s.buffers) × (s.buffers ≤ 16384)
 
--- the table of a scan
-abbrev pub config_of : ScanSettings → Config
-config_of s =
+-- the table of a scan, whose handles begin at this generation
+abbrev pub config_of : ScanSettings → ℕ → Config
+config_of s start =
     record {
       backends = s.backends;
       per_backend = s.handles;
       runners = workers_in s;
-      start = 0;
+      start = start;
     }
 
 -- the settings of its streams
@@ -96,8 +96,8 @@ module _ {W D : Type 0} where
     pub disks_fit : (l.disks.items ≡ []) × (backends + workers ≤ vec_capacity l.disks)
 
   -- the memory of a scan with these settings, in which nothing was done
-  pub record IsMemory (s : ScanSettings) (m : Memory W D) : Type 0 where
-    pub config : m.common.table.config ≡ config_of s
+  pub record IsMemory (s : ScanSettings) (start : ℕ) (m : Memory W D) : Type 0 where
+    pub config : m.common.table.config ≡ config_of s start
     pub actors_are : length m.actors.items ≡ s.backends + workers_in s
     pub actors : AreNew m.common.table 0 m.actors.items
     pub seats_are : length m.seats.items ≡ workers_by s.method (s.backends + s.workers)
@@ -133,13 +133,14 @@ module _ {W D : Type 0} where
         ≡ map (λ (w : Worker W D). w.seat) ws ++ into_iter_items left.seats
     pub desks : left.desks ≡ p.desks
 
--- a scan with these settings, just opened over these disks
+-- a scan with these settings, just opened over these disks, whose handles begin at this generation
 pub record IsOpened {W D : Type 0} (m : Meter D) (told : Option Told) (relations : ℕ)
-    (settings : ScanSettings) (disks : List D) (s : Scan W D) : Type 0 where
+    (settings : ScanSettings) (start : ℕ) (disks : List D) (s : Scan W D) : Type 0 where
   pub is : IsScan m told relations s
-  pub config : s.common.table.config ≡ config_of settings
+  pub config : s.common.table.config ≡ config_of settings start
   pub set_up : All (IsSetUp settings) s.backends.items
   pub opened : opened_by s ≡ disks
   pub taken : taken_by s.backends.items ≡ 0
-  pub room : s.room ≡ 2 ^ 58 - 1
+  -- up to the last generation
+  pub room : s.room ≡ 2 ^ 58 - 1 - start
   pub unread : s.unread ≡ 0

@@ -1,22 +1,22 @@
-//! Scans by rounds: several backends list blocks of relations beside I/O workers, all over one table
-//! of handles, one pool of frames and one submission queue.
+//! Scans by rounds: several backends list blocks of relations beside I/O workers, all over one
+//! table of handles, one pool of frames and one submission queue.
 //!
-//! A [`Scan`] is opened over a disk for each backend and each worker. Its [`Scan::round`] takes up to
-//! one [`Job`] for each backend: each reads its blocks through a read stream and appends the text of
-//! their pages. With `MethodKind::Sync` each backend executes its own I/Os; with
+//! A [`Scan`] is opened over a disk for each backend and each worker. Its [`Scan::round`] takes up
+//! to one [`Job`] for each backend: each reads its blocks through a read stream, appends the text
+//! of their pages and counts them. With `MethodKind::Sync` each backend executes its own I/Os; with
 //! `MethodKind::Worker` the workers do, and a backend executes what no worker has claimed when it
 //! would wait for it. [`Scan::run`] makes all rounds of an [`Agenda`], with workers that live from
 //! the first to the last. [`Scan::finish`] closes the table, and gives the disks back.
 //!
 //! # What the contracts mean
 //!
-//! In whatever way backends and workers interleave, after a round each job's text and ending are
-//! those of answers to its blocks (`IsJobAnswer` of heap_scan): where the contents are told, the
-//! listing that one thread's synchronous reads give, up to the first page that is invalid, missing
-//! or unread. A job ends in Unread only where a read of its backend's own stream has failed, whose
-//! mark stands in that actor's list; want of memory leaves the text of the first pages. At the end
-//! each I/O was one read of the disk of the actor that executed it, each failed one a fault of it,
-//! and no more jobs ended in Unread than the disks counted faults.
+//! In whatever way backends and workers interleave, after a round each job's text, sums and ending
+//! are those of answers to its blocks (`IsJobAnswer` of heap_scan): where the contents are told,
+//! those of the pages that one thread's synchronous reads give, up to the first page that is
+//! invalid, missing or unread. A job ends in Unread only where a read of its backend's own stream
+//! has failed, whose mark stands in that actor's list; want of memory leaves the text and the sums
+//! of the first pages. At the end each I/O was one read of the disk of the actor that executed it,
+//! each failed one a fault of it, and no more jobs ended in Unread than the disks counted faults.
 #![tactic(auto)]
 
 mod agenda;

@@ -115,10 +115,12 @@ fn open_jobs(alloc: Global, count: u32) -> Result<Vec<Job>, AllocError>
 fn open_common<W: World>(
     alloc: Global,
     settings: &ScanSettings,
+    start: u64,
 ) -> Result<(Common<W>, Vec<Actor<ReadIo, W>>, Vec<QueueSeat>), AllocError>
     requires settings { AreSettings settings.now }
     requires handles { settings.now.backends * settings.now.handles ≡ W.handles }
-    ensures config { IfOk result (λ c. c.0.table.config ≡ config_of settings.now) }
+    requires start { start < 2 ^ 58 }
+    ensures config { IfOk result (λ c. c.0.table.config ≡ config_of settings.now start) }
     ensures actors { IfOk result (λ c. AreNew c.0.table 0 c.1.items
         × (length c.1.items ≡ settings.now.backends + workers_in settings.now)) }
     ensures seats { IfOk result (λ c. All (IsSeatOf c.0.queue) c.2.items
@@ -127,7 +129,7 @@ fn open_common<W: World>(
 {
     let workers = by_method(settings.method, settings.workers);
     let seats = by_method(settings.method, settings.backends + settings.workers);
-    let (table, actors) = Table::open(alloc, settings.backends, settings.handles, workers, 0)?;
+    let (table, actors) = Table::open(alloc, settings.backends, settings.handles, workers, start)?;
     let (queue, seats) = open_queue(alloc, seats)?;
     let pool = Pool::open(alloc, settings.buffers)?;
     Ok((Common { table, pool, queue }, actors, seats))
@@ -149,13 +151,18 @@ impl<W: World, D: Disk> Lists<W, D> {
 }
 
 impl<W: World, D: Disk> Memory<W, D> {
-    /// The memory of a scan with these settings.
-    pub(crate) fn open(alloc: Global, settings: &ScanSettings) -> Result<Memory<W, D>, AllocError>
+    /// The memory of a scan with these settings, whose handles begin at this generation.
+    pub(crate) fn open(
+        alloc: Global,
+        settings: &ScanSettings,
+        start: u64,
+    ) -> Result<Memory<W, D>, AllocError>
         requires settings { AreSettings settings.now }
         requires handles { settings.now.backends * settings.now.handles ≡ W.handles }
-        ensures { IfOk result (IsMemory settings.now) }
+        requires start { start < 2 ^ 58 }
+        ensures { IfOk result (IsMemory settings.now start) }
     {
-        let (common, actors, seats) = open_common(alloc, settings)?;
+        let (common, actors, seats) = open_common(alloc, settings, start)?;
         let workers = by_method(settings.method, settings.workers);
         Ok(Memory {
             common,

@@ -26,8 +26,8 @@ use std::alloc::Global;
 use std::snapshot::Snapshot;
 use std::vec::IntoIter;
 
-/// How many lives a new handle can have.
-const NEW_ROOM: u64 = (1 << 58) - 1;
+/// The generation at which a handle is handed out no more.
+const LAST_GENERATION: u64 = (1 << 58) - 1;
 
 /// What backends and workers are made of, in the order of their numbers.
 #[derive(Drop)]
@@ -125,19 +125,21 @@ impl<W: World, D: Disk> Parts<W, D> {
     }
 }
 
-// A scan in this memory, over these disks.
+// A scan in this memory, over these disks. The handles are at generation `start`.
 fn man<W: World, D: Disk>(
     alloc: Global,
     settings: &ScanSettings,
     memory: Memory<W, D>,
     disks: Vec<D>,
+    start: u64,
 ) -> Scan<W, D>
     requires settings { AreSettings settings.now }
-    requires memory { IsMemory settings.now memory }
+    requires start { start < 2 ^ 58 }
+    requires memory { IsMemory settings.now start memory }
     requires disks { length disks.items ≡ settings.now.backends + workers_in settings.now }
     requires tell { All (λ d. (D.told d ≡ W.told) × (D.relations d ≡ W.relations)) disks.items }
     ensures { IsOpened (meter D.told D.relations D.reads D.faults) W.told W.relations settings.now
-        disks.items result }
+        start disks.items result }
 {
     let opened = Snapshot::of(&disks);
     let lists = memory.lists;
@@ -156,7 +158,7 @@ fn man<W: World, D: Disk>(
         backends,
         workers,
         jobs: memory.jobs,
-        room: NEW_ROOM,
+        room: LAST_GENERATION - start,
         unread: 0,
         opened,
         actors: lists.actors,
@@ -186,8 +188,37 @@ impl<W: World, D: Disk> Scan<W, D> {
         ensures unread { IfOk result (λ s. s.unread ≡ 0) }
         ensures back { IfErr result (λ d. d ≡ disks) }
     {
-        match Memory::open(alloc, settings) {
-            Ok(memory) => Ok(man(alloc, settings, memory, disks)),
+        Scan::open_at(alloc, settings, disks, 0)
+    }
+
+    /// The same, with the generations of the table's handles from `start` on. Each life takes a
+    /// handle to its next generation, and at the last one, 2^58 - 1, it is handed out no more.
+    pub fn open_at(
+        alloc: Global,
+        settings: &ScanSettings,
+        disks: Vec<D>,
+        start: u64,
+    ) -> Result<Scan<W, D>, Vec<D>>
+        requires settings { AreSettings settings.now }
+        requires disks { length disks.items ≡ settings.now.backends + workers_in settings.now }
+        requires tell { All (λ d. (D.told d ≡ W.told) × (D.relations d ≡ W.relations)) disks.items }
+        requires handles { settings.now.backends * settings.now.handles ≡ W.handles }
+        requires start { start < 2 ^ 58 }
+        ensures scan { IfOk result (λ s. IsScan (meter D.told D.relations D.reads D.faults) W.told
+            W.relations s) }
+        ensures numbers { IfOk result
+            (λ s. (s.common.table.config.backends ≡ settings.now.backends)
+            × (s.common.table.config.runners ≡ workers_in settings.now)
+            × (s.common.table.config.start ≡ start)) }
+        ensures set_up { IfOk result (λ s. All (IsSetUp settings.now) s.backends.items) }
+        ensures opened { IfOk result (λ s. opened_by s ≡ disks.items) }
+        ensures taken { IfOk result (λ s. taken_by s.backends.items ≡ 0) }
+        ensures room { IfOk result (λ s. s.room ≡ 2 ^ 58 - 1 - start) }
+        ensures unread { IfOk result (λ s. s.unread ≡ 0) }
+        ensures back { IfErr result (λ d. d ≡ disks) }
+    {
+        match Memory::open(alloc, settings, start) {
+            Ok(memory) => Ok(man(alloc, settings, memory, disks, start)),
             Err(_) => Err(disks),
         }
     }

@@ -2,9 +2,11 @@
 ghost use Rattle.std.specs.Prelude.{◌+◌, ◌^◌, ◌≤◌};
 
 use crate::trials::{
-    Blocks, Outcome, Parts, USUAL, file_of, lines, scan_by_parts, scan_over, shelf_of,
+    Blocks, EMPTY_PAGE, Outcome, Parts, THREE_ITEMS, USUAL, ZERO_PAGE, file_of, file_with, lines,
+    scan_at, scan_by_parts, scan_over, shelf_of,
 };
 use crate::{Ending, MethodKind, ScanSettings};
+use heap_scan::PageSums;
 use std::alloc::Global;
 use std::process::Abort;
 use std::sync::Wait;
@@ -162,8 +164,8 @@ fn jobs_end_at_their_first_fault(rt: HostRuntime) -> Result<(), Fail> {
     Ok(())
 }
 
-// One actor's reads alone, or a backend and a worker whose first reads both fail.
-fn failing(method: MethodKind) -> ScanSettings {
+// One backend with one handle, which reads block by block, and one worker or none.
+fn one_handle(method: MethodKind) -> ScanSettings {
     ScanSettings {
         method,
         workers: 1,
@@ -182,7 +184,7 @@ fn a_round_goes_on_behind_a_fault(rt: HostRuntime) -> Result<(), Fail> {
     let rounds = vec![in alloc; five, again]?;
     let reads = vec![in alloc; (0u32, 3u64)]?;
     let mut shelf = shelf_of(&rt, file_of(alloc, 5, None)?, reads)?;
-    let settings = failing(MethodKind::Sync);
+    let settings = one_handle(MethodKind::Sync);
     let outcome = scan_over(&rt, &settings, &mut shelf, rounds.as_slice())?;
     check_job(&rt, &outcome, 0, 0, 2, Ending::Unread(2))?;
     check_job(&rt, &outcome, 1, 0, 5, Ending::Pages)?;
@@ -213,13 +215,62 @@ fn rounds_on_one_thread(rt: HostRuntime) -> Result<(), Fail> {
     Ok(())
 }
 
+// Compares the sums of a job.
+fn check_tally<R: Abort>(
+    rt: &R,
+    outcome: &Outcome,
+    place: usize,
+    wanted: PageSums,
+) -> Result<(), Fail> {
+    let job = outcome.jobs.get(place).ok_or("a job is missing")?;
+    assert_eq!(rt; job.tally, wanted);
+    Ok(())
+}
+
+// The second job ends behind block 4.
+#[test]
+fn jobs_count_their_pages(rt: HostRuntime) -> Result<(), Fail> {
+    let alloc = rt.alloc();
+    let rounds = one_round(alloc, &[(0, 4), (2, 64)])?;
+    let headers = [EMPTY_PAGE, ZERO_PAGE, THREE_ITEMS, ZERO_PAGE, THREE_ITEMS];
+    let mut shelf = shelf_of(&rt, file_with(alloc, &headers)?, Vec::new(alloc))?;
+    let outcome = scan_over(&rt, &USUAL, &mut shelf, rounds.as_slice())?;
+    let first = PageSums {
+        pages: 4,
+        zero: 2,
+        items: 3,
+    };
+    let second = PageSums {
+        pages: 3,
+        zero: 1,
+        items: 6,
+    };
+    check_tally(&rt, &outcome, 0, first)?;
+    check_tally(&rt, &outcome, 1, second)
+}
+
+// One handle of 64 lives more: a block each.
+#[test]
+fn a_scan_at_the_last_generations(rt: HostRuntime) -> Result<(), Fail> {
+    let alloc = rt.alloc();
+    let rounds = one_round(alloc, &[(0, 64)])?;
+    let mut shelf = shelf_of(&rt, file_of(alloc, 64, None)?, Vec::new(alloc))?;
+    let settings = one_handle(MethodKind::Sync);
+    let start = (1u64 << 58) - 65;
+    let outcome = scan_at(&rt, &settings, &mut shelf, start, rounds.as_slice())?;
+    check_job(&rt, &outcome, 0, 0, 64, Ending::Pages)?;
+    assert_eq!(&rt; outcome.incarnations, 64);
+    assert_eq!(&rt; outcome.rooms, (64, 0));
+    Ok(())
+}
+
 #[test]
 fn a_worker_fails(rt: HostRuntime) -> Result<(), Fail> {
     let alloc = rt.alloc();
     let rounds = one_round(alloc, &[(0, 5)])?;
     let reads = vec![in alloc; (0u32, 1u64), (1, 1)]?;
     let mut shelf = shelf_of(&rt, file_of(alloc, 5, None)?, reads)?;
-    let settings = failing(MethodKind::Worker);
+    let settings = one_handle(MethodKind::Worker);
     let outcome = scan_over(&rt, &settings, &mut shelf, rounds.as_slice())?;
     check_job(&rt, &outcome, 0, 0, 0, Ending::Unread(0))?;
     assert_eq!(&rt; outcome.unread, 1);

@@ -12,6 +12,7 @@ use crate::rounds::{count_unread, least_room};
 use crate::run::{exchange, reopen_queue, run_once, serve_all};
 use crate::{Ending, Job, MethodKind, Scan, ScanSettings};
 use aio_disk::{Disk, MemShelf, Script, Shelf};
+use heap_scan::PageSums;
 use page_check::World;
 use std::alloc::{AllocError, Global};
 use std::marker::Brand;
@@ -48,6 +49,7 @@ pub(crate) enum Parts {
 #[derive(Drop)]
 pub(crate) struct Shown {
     pub text: Vec<u8>,
+    pub tally: PageSums,
     pub ending: Ending,
 }
 
@@ -55,6 +57,8 @@ pub(crate) struct Shown {
 #[derive(Drop)]
 pub(crate) struct Outcome {
     pub jobs: Vec<Shown>,
+    /// The room before the first round and behind the last.
+    pub rooms: (u64, u64),
     pub unread: u64,
     pub incarnations: u128,
     pub by_workers: u128,
@@ -196,8 +200,17 @@ fn list_round<W: World + Send + Sync, D: Disk, R: Threads + Wait + Sync>(
         Parts::InTurn => round_in_turn(rt, scan, jobs.as_mut_slice()),
     }
     for job in jobs {
-        let Job { text, ending, .. } = job;
-        all.push(Shown { text, ending })?;
+        let Job {
+            text,
+            tally,
+            ending,
+            ..
+        } = job;
+        all.push(Shown {
+            text,
+            tally,
+            ending,
+        })?;
     }
     Ok(())
 }
@@ -221,6 +234,31 @@ fn list_rounds<W: World + Send + Sync, D: Disk, R: Threads + Wait + Sync>(
     Ok(())
 }
 
+// A scan, with the generations of its handles from `start` on where that is given.
+fn open_scan<W: World, D: Disk>(
+    alloc: Global,
+    settings: &ScanSettings,
+    disks: Vec<D>,
+    start: Option<u64>,
+) -> Result<Scan<W, D>, Fail>
+    requires settings { AreSettings settings.now }
+    requires disks { length disks.items ≡ settings.now.backends + workers_in settings.now }
+    requires tell { All (λ d. (D.told d ≡ W.told) × (D.relations d ≡ W.relations)) disks.items }
+    requires handles { settings.now.backends * settings.now.handles ≡ W.handles }
+    requires start { IfSome start (λ s. s < 2 ^ 58) }
+    ensures { IfOk result (λ s. IsScan (meter D.told D.relations D.reads D.faults) W.told
+        W.relations s) }
+{
+    let opened = match start {
+        Some(start) => Scan::open_at(alloc, settings, disks, start),
+        None => Scan::open(alloc, settings, disks),
+    };
+    match opened {
+        Ok(scan) => Ok(scan),
+        Err(_) => Err(Fail::from("no memory for a scan")),
+    }
+}
+
 // A scan over disks of the shelf, from its opening to its end.
 fn scan_shelf<W: World + Send + Sync, S: Shelf, R: Threads + Wait + Sync>(
     rt: &R,
@@ -228,6 +266,7 @@ fn scan_shelf<W: World + Send + Sync, S: Shelf, R: Threads + Wait + Sync>(
     settings: &ScanSettings,
     shelf: &mut S,
     names: &[String],
+    start: Option<u64>,
     parts: Parts,
     rounds: &[Vec<Blocks>],
 ) -> Result<Outcome, Fail>
@@ -235,13 +274,14 @@ fn scan_shelf<W: World + Send + Sync, S: Shelf, R: Threads + Wait + Sync>(
     requires told { told_of (S.told shelf.old) (map string_bytes names.now) ≡ W.told }
     requires one { (W.relations ≡ length names.now) × (length names.now ≡ 1) }
     requires handles { settings.now.backends * settings.now.handles ≡ W.handles }
+    requires start { IfSome start (λ s. s < 2 ^ 58) }
 {
     let disks = open_disks(alloc, shelf, names, disk_count(settings))?;
-    let Ok(mut scan) = Scan::<W, S::Disk>::open(alloc, settings, disks) else {
-        return Err(Fail::from("no memory for a scan"));
-    };
+    let mut scan = open_scan::<W, S::Disk>(alloc, settings, disks, start)?;
+    let before = scan.room();
     let mut jobs = Vec::new(alloc);
     let listed = list_rounds(rt, alloc, &mut scan, parts, rounds, &mut jobs);
+    let rooms = (before, scan.room());
     let unread = scan.unread();
     let (totals, disks) = scan.finish();
     for disk in disks {
@@ -250,6 +290,7 @@ fn scan_shelf<W: World + Send + Sync, S: Shelf, R: Threads + Wait + Sync>(
     listed?;
     Ok(Outcome {
         jobs,
+        rooms,
         unread,
         incarnations: totals.incarnations(),
         by_workers: totals.by_runners(),
@@ -257,7 +298,33 @@ fn scan_shelf<W: World + Send + Sync, S: Shelf, R: Threads + Wait + Sync>(
     })
 }
 
-/// The same, where the shelf fixes what all objects of the scan agree on.
+// The same, where the shelf fixes what all objects of the scan agree on.
+fn scan_from<S: Shelf, R: Abort + AllocGlobal + Threads + Wait + Sync>(
+    rt: &R,
+    settings: &ScanSettings,
+    shelf: &mut S,
+    start: Option<u64>,
+    parts: Parts,
+    rounds: &[Vec<Blocks>],
+) -> Result<Outcome, Fail>
+    requires { IfSome start (λ s. s < 2 ^ 58) }
+{
+    let alloc = rt.alloc();
+    assert!(rt; is_in_range(settings));
+    let names = vec![in alloc; String::from_str(alloc, "f")?]?;
+    scan_shelf::<Brand, S, R>(
+        rt,
+        alloc,
+        settings,
+        shelf,
+        names.as_slice(),
+        start,
+        parts,
+        rounds,
+    )
+}
+
+/// A scan whose rounds run so.
 pub(crate) fn scan_by_parts<S: Shelf, R: Abort + AllocGlobal + Threads + Wait + Sync>(
     rt: &R,
     settings: &ScanSettings,
@@ -265,26 +332,57 @@ pub(crate) fn scan_by_parts<S: Shelf, R: Abort + AllocGlobal + Threads + Wait + 
     parts: Parts,
     rounds: &[Vec<Blocks>],
 ) -> Result<Outcome, Fail> {
-    let alloc = rt.alloc();
-    assert!(rt; is_in_range(settings));
-    let names = vec![in alloc; String::from_str(alloc, "f")?]?;
-    scan_shelf::<Brand, S, R>(rt, alloc, settings, shelf, names.as_slice(), parts, rounds)
+    scan_from(rt, settings, shelf, None, parts, rounds)
 }
 
-/// The same, with rounds beside the workers.
+/// A scan with rounds beside the workers.
 pub(crate) fn scan_over<S: Shelf, R: Abort + AllocGlobal + Threads + Wait + Sync>(
     rt: &R,
     settings: &ScanSettings,
     shelf: &mut S,
     rounds: &[Vec<Blocks>],
 ) -> Result<Outcome, Fail> {
-    scan_by_parts(rt, settings, shelf, Parts::Beside, rounds)
+    scan_from(rt, settings, shelf, None, Parts::Beside, rounds)
+}
+
+/// The same, with the generations of its handles from `start` on.
+pub(crate) fn scan_at<S: Shelf, R: Abort + AllocGlobal + Threads + Wait + Sync>(
+    rt: &R,
+    settings: &ScanSettings,
+    shelf: &mut S,
+    start: u64,
+    rounds: &[Vec<Blocks>],
+) -> Result<Outcome, Fail>
+    requires { start < 2 ^ 58 }
+{
+    scan_from(rt, settings, shelf, Some(start), Parts::Beside, rounds)
 }
 
 /// The header of a page without items: lower 24, upper and special 8192, version 4.
 pub(crate) const EMPTY_PAGE: [u8; 20] = [
     0, 0, 0, 0, 0, 0, 0, 0, 0, 0, 0, 0, 24, 0, 0, 32, 0, 32, 4, 32,
 ];
+
+/// The header of a page with three line pointers: lower 36, and else the same.
+pub(crate) const THREE_ITEMS: [u8; 20] = [
+    0, 0, 0, 0, 0, 0, 0, 0, 0, 0, 0, 0, 36, 0, 0, 32, 0, 32, 4, 32,
+];
+
+/// The header of a page of zeros.
+pub(crate) const ZERO_PAGE: [u8; 20] = [0; 20];
+
+/// A file `f` of pages with these headers, and zeros behind them.
+pub(crate) fn file_with(
+    alloc: Global,
+    headers: &[[u8; 20]],
+) -> Result<Vec<(String, Vec<u8>)>, Fail> {
+    let mut bytes = Vec::new(alloc);
+    for header in headers {
+        bytes.extend_from_slice(header)?;
+        bytes.extend_from_slice(&[0; 8172])?;
+    }
+    Ok(vec![in alloc; (String::from_str(alloc, "f")?, bytes)]?)
+}
 
 /// A file `f` of so many empty pages, and a flag that makes one bad.
 pub(crate) fn file_of(

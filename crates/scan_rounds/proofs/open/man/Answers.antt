@@ -48,13 +48,13 @@ returns g c =
       backends = c.backends-backends.result;
       workers = c.workers-workers.result;
       jobs = c.args.memory.jobs;
-      room = 2 ^ 58 - 1;
+      room = 2 ^ 58 - 1 - c.args.start;
       unread = 0;
       opened = c.of-opened.result;
       actors = c.args.memory.lists.actors;
       disks = c.args.memory.lists.disks;
     } in
-    opened_scan c.args.settings.now scan _ _ _ c.requires.settings
+    opened_scan c.args.settings.now c.args.start scan _ _ _ c.requires.settings c.requires.start
     record {
       config = memory.config;
       actors = subst (λ (l : List Standing). AreNew c.args.memory.common.table 0 l)

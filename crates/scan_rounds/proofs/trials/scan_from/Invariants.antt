@@ -1,6 +1,6 @@
 use Rattle.std.proofs.Common.{◌*◌, length, map, string_bytes}
 use Rattle.aio_disk.specs.Shelf.{told_of}
-use Rattle.scan_rounds.proofs.trials.scan_by_parts.Given as goal
+use Rattle.scan_rounds.proofs.trials.scan_from.Given as goal
 
 -- the shelf and the settings fix what all objects of the scan agree on
 abbrev pub ghosts-scan_shelf : goal.ghosts-scan_shelf
