@@ -6,7 +6,7 @@ ghost use Rattle.aio_handle.specs.Ruled.{newcomer};
 ghost use Rattle.aio_handle.specs.Shown.{IsOf, IsSame, AreNew};
 ghost use Rattle.aio_handle.specs.Trials.{EndsLife, IsLaunched, AreHandedIn};
 
-use crate::text::numbers_line;
+use crate::text::numbers_text;
 use crate::{ReplayAnswer, replay, totals_text};
 use aio_core::StepRefusal;
 use aio_handle::{Actor, InFlight, Label, Record, Table, Take, Totals};
@@ -65,7 +65,7 @@ fn numbers_of_up_to_39_digits(rt: HostRuntime) -> Result<(), Fail> {
         ),
     ];
     for (incarnations, workers, backends, line) in rows {
-        let text = numbers_line(rt.alloc(), incarnations, workers, backends)?;
+        let text = numbers_text(rt.alloc(), incarnations, workers, backends)?;
         assert_eq!(rt; text.as_str(), line);
     }
     Ok(())

@@ -5,8 +5,8 @@ ghost use Rattle.aio_trace.specs.TotalsText.{line_of, totals_line};
 use aio_handle::Totals;
 use std::alloc::{AllocError, Global};
 
-// The line with these numbers.
-pub(crate) fn numbers_line(
+/// The line `incarnations N workers W backends B` with these numbers.
+pub fn numbers_text(
     alloc: Global,
     incarnations: u128,
     workers: u128,
@@ -24,7 +24,7 @@ pub fn totals_text(totals: &Totals, out: &mut Vec<u8>) -> Result<(), AllocError>
     ensures ok { OnOk result (out.new.items ≡ out.old.items ++ totals_line totals.now) }
     ensures err { OnErr result (out.new.items ≡ out.old.items) }
 {
-    let line = numbers_line(
+    let line = numbers_text(
         *out.allocator(),
         totals.incarnations(),
         totals.by_runners(),

@@ -11,6 +11,7 @@ pub mod Files
 pub mod EndOfRun
 pub mod TopClauses
 pub mod Rows
+pub mod Telling
 pub mod Cutting
 pub mod Jobs
 pub mod Returned

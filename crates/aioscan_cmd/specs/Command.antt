@@ -1,16 +1,18 @@
 -- What the words of a command ask for.
-use Rattle.std.specs.Prelude.{ℕ, List, [], ◌∷◌, Option, IfSome, ◌+◌, ◌-◌, ◌<◌, not, unwrap_or}
+use Rattle.std.specs.Prelude.{ℕ, List, [], ◌∷◌, Option, IfSome, ◌+◌, ◌-◌, ◌<◌, Bool, not, unwrap_or}
 use Rattle.std.specs.List.{filter, position_or_len}
 use Rattle.std.specs.Option.{option_map_or}
 use Rattle.std.specs.Str.{bytes_eq}
 use Rattle.scan_rounds.specs.declared.settings.ScanSettings.{ScanSettings}
 
--- the first and the last block, where they are given, the names of files, and how they are read
+-- the first and the last block, where they are given, the names of files, how they are read, and
+-- whether the totals are told
 pub record Command : Type 0 where
   pub from : Option ℕ
   pub to : Option ℕ
   pub files : List (List ℕ)
   pub settings : ScanSettings
+  pub stats : Bool
 
 -- the numbers of blocks that `--from` and `--to` may give end below this
 abbrev pub number_limit : ℕ

@@ -1,15 +1,39 @@
 -- What a run leaves on the error stream.
-use Rattle.std.specs.Prelude.{◌≡◌, ℕ, List, [], Option}
+use Rattle.std.specs.Prelude.{◌≡◌, ◌&&◌, ◌++◌, ℕ, List, [], Option, Some, None, Bool, true, false}
 use Rattle.aio_disk.specs.Counts.{Rose}
 use Rattle.aio_disk.specs.Sink.{Grew, GrewByPrefix}
+use Rattle.aio_trace.specs.TotalsText.{line_of as totals_text}
+use Rattle.aioscan_cmd.specs.Command.{Command}
+use Rattle.aioscan_cmd.specs.Outcomes.{line_of, has_totals}
 use Rattle.aioscan_cmd.specs.declared.report.Line.{Line}
 use Rattle.aioscan_cmd.specs.declared.report.Line.TheVariants.{Whole, Cut, NoMemory as NoRoom}
+use Rattle.aioscan_cmd.specs.declared.report.Numbers.{Numbers}
 use Rattle.aioscan_cmd.specs.declared.report.Outcome.{Outcome}
 use Rattle.aioscan_cmd.specs.declared.report.Outcome.TheVariants.{Done, Invalid, Usage, CannotOpen}
 use Rattle.aioscan_cmd.specs.declared.report.Outcome.TheVariants.{NoLength, Unread, CannotWrite}
 use Rattle.aioscan_cmd.specs.declared.report.Outcome.TheVariants.{NoMemory, Missing, TooLong}
 
--- the line stands there whole, or a begin of it; where there is no line to write, nothing was
+-- the words are a command with `--stats`
+abbrev pub has_stats : Option Command → Bool
+has_stats None = false
+has_stats (Some c) = c.stats
+
+-- the line of totals follows that of the outcome
+abbrev pub shows_totals : Option Command → Outcome → Bool
+shows_totals command outcome = has_totals outcome && has_stats command
+
+-- the line of totals, where it is shown
+abbrev pub totals_line : Bool → Numbers → List ℕ
+totals_line false n = []
+totals_line true n = totals_text n.incarnations n.by_workers n.by_backends
+
+-- what a run with this outcome and these numbers has to say: the line of the outcome, then that of
+-- the totals
+abbrev pub lines_of : Option Command → Outcome → Numbers → List ℕ
+lines_of command outcome numbers =
+    line_of outcome ++ totals_line (shows_totals command outcome) numbers
+
+-- the text stands there whole, or a begin of it; where there is no text to write, nothing was
 -- written
 pub record IsToldOnErr (text : List ℕ) (line : Line) (before after : Option (List ℕ))
     (faults_before faults_now : ℕ) : Type 0 where

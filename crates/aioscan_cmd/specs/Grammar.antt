@@ -39,7 +39,7 @@ option_names =
 
 -- the flags
 abbrev pub flag_names : List Text
-flag_names = codes "batch" ∷ codes "full" ∷ []
+flag_names = codes "batch" ∷ codes "full" ∷ codes "stats" ∷ []
 
 -- the command
 unfoldable pub the_command : App

@@ -51,6 +51,19 @@ is_refused (Unread r b) = false
 is_refused CannotWrite = false
 is_refused NoMemory = false
 
+-- the run was not refused and found memory: with `--stats` its totals are told
+abbrev pub has_totals : Outcome → Bool
+has_totals Done = true
+has_totals (Invalid r b) = true
+has_totals (Unread r b) = true
+has_totals CannotWrite = true
+has_totals (Missing r b) = true
+has_totals Usage = false
+has_totals CannotOpen = false
+has_totals (NoLength r) = false
+has_totals NoMemory = false
+has_totals (TooLong r) = false
+
 -- the block that an outcome names
 abbrev pub stopped_at : Outcome → Option Request
 stopped_at (Invalid r b) = Some (request r b)

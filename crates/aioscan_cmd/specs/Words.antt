@@ -85,10 +85,11 @@ settings_with (Some m) (Some w) (Some n) (Some c) (Some o) (Some h) (Some b) bat
 settings_with _ _ _ _ _ _ _ _ _ = None
 
 abbrev pub command_with : Option (Option ℕ) → Option (Option ℕ) → Option (List Text)
-    → Option ScanSettings → Option Command
-command_with (Some from) (Some to) (Some files) (Some settings) =
-    Some (record { from = from; to = to; files = files; settings = settings })
-command_with _ _ _ _ = None
+    → Option ScanSettings → Bool → Option Command
+command_with (Some from) (Some to) (Some files) (Some settings) stats =
+    Some
+    (record { from = from; to = to; files = files; settings = settings; stats = stats })
+command_with _ _ _ _ _ = None
 
 -- what the values ask for that `clap` found in the words
 module _ (rows : List Row) where
@@ -113,6 +114,7 @@ module _ (rows : List Row) where
       (number_if_given 0 131071 (text_of (codes "to")))
       (files_of (all_of (codes "FILE") rows))
       settings_in
+      (is_set (text_of (codes "stats")))
 
 -- what was found, where `clap` has no fault to find in the words
 abbrev pub if_taken : {F X : Type 0} → List F → Option X → Option X

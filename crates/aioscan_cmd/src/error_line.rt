@@ -1,10 +1,12 @@
-//! The line on the error stream.
-ghost use Rattle.std.specs.Prelude.{◌≡◌, ◌≤◌, [], IfOk, IfSome, IsNone, string_bytes};
+//! The lines on the error stream.
+ghost use Rattle.std.specs.Prelude.{◌≡◌, ◌≤◌, ◌++◌, [], IfOk, IfSome, IsNone, string_bytes, true};
 ghost use Rattle.aioscan_cmd.specs.Outcomes.{line_of};
-ghost use Rattle.aioscan_cmd.specs.ErrorLine.{IsToldOnErr, HasNumbers};
+ghost use Rattle.aioscan_cmd.specs.ErrorLine.{IsToldOnErr, HasNumbers, totals_line};
 
+use crate::report::{Ended, Numbers};
 use crate::{Line, Outcome};
 use aio_disk::{Sink, WriteFault};
+use aio_trace::numbers_text;
 use std::alloc::{AllocError, Global};
 
 // The line of an outcome that has no numbers, which takes no memory; none for one that has.
@@ -57,8 +59,8 @@ fn write_text<E: Sink>(text: &str, err: &mut E) -> Line
     }
 }
 
-/// Writes the line of an outcome by one write, or nothing where there is none.
-pub(crate) fn write_line<E: Sink>(alloc: Global, outcome: Outcome, err: &mut E) -> Line
+// Writes the line of an outcome by one write, or nothing where there is none.
+fn write_line<E: Sink>(alloc: Global, outcome: Outcome, err: &mut E) -> Line
     ensures told { IsToldOnErr (line_of outcome) result (E.written err.old) (E.written err.new)
         (E.faults err.old) (E.faults err.new) }
     ensures later { E.faults err.old ≤ E.faults err.new }
@@ -69,5 +71,40 @@ pub(crate) fn write_line<E: Sink>(alloc: Global, outcome: Outcome, err: &mut E) 
     match numbered_line(alloc, outcome) {
         Ok(text) => write_text(text.as_str(), err),
         Err(_) => Line::NoMemory,
+    }
+}
+
+// Writes the line of totals by one write.
+fn write_totals<E: Sink>(alloc: Global, numbers: Numbers, err: &mut E) -> Line
+    ensures told { IsToldOnErr (totals_line true numbers) result (E.written err.old)
+        (E.written err.new) (E.faults err.old) (E.faults err.new) }
+    ensures later { E.faults err.old ≤ E.faults err.new }
+{
+    let Numbers {
+        incarnations,
+        by_workers,
+        by_backends,
+    } = numbers;
+    match numbers_text(alloc, incarnations, by_workers, by_backends) {
+        Ok(text) => write_text(text.as_str(), err),
+        Err(_) => Line::NoMemory,
+    }
+}
+
+/// Writes the line of an outcome, and that of the totals behind it where it is shown. What cuts the
+/// first off ends writing.
+pub(crate) fn write_lines<E: Sink>(alloc: Global, ended: Ended, err: &mut E) -> Line
+    ensures told { IsToldOnErr
+        (line_of ended.end.outcome ++ totals_line ended.shows_totals ended.end.numbers) result
+        (E.written err.old) (E.written err.new) (E.faults err.old) (E.faults err.new) }
+    ensures later { E.faults err.old ≤ E.faults err.new }
+{
+    let line = write_line(alloc, ended.end.outcome, err);
+    if !ended.shows_totals {
+        return line;
+    }
+    match line {
+        Line::Whole => write_totals(alloc, ended.end.numbers, err),
+        cut => cut,
     }
 }

@@ -1,5 +1,6 @@
 //! What a run says of itself.
-ghost use Rattle.std.specs.Prelude.{◌≡◌};
+ghost use Rattle.std.specs.Prelude.{◌≡◌, ◌&&◌};
+ghost use Rattle.aioscan_cmd.specs.Outcomes.{has_totals as totals_known};
 
 /// How a run ended. `R` is the number of a relation, its place among the distinct names, and `B`
 /// a block of it.
@@ -27,14 +28,14 @@ pub enum Outcome {
     TooLong(u32),
 }
 
-/// How much of the outcome's line reached the error stream.
+/// How much of the lines of outcome and totals reached the error stream.
 #[derive(Clone, Copy, Debug, PartialEq, Eq)]
 pub enum Line {
-    /// All of it; also where there is none, and then nothing was written.
+    /// All of them; also where there is none, and then nothing was written.
     Whole,
-    /// A begin of it: the error stream failed.
+    /// A begin of them: the error stream failed.
     Cut,
-    /// A begin of it: there was no memory.
+    /// A begin of them: there was no memory.
     NoMemory,
 }
 
@@ -74,6 +75,44 @@ impl RunEnd {
     }
 }
 
+/// The end of a run, and whether the line of its totals follows that of its outcome.
+#[derive(Clone, Copy)]
+pub(crate) struct Ended {
+    pub(crate) end: RunEnd,
+    pub(crate) shows_totals: bool,
+}
+
+impl Ended {
+    /// The end of a run that was asked for its totals, or was not.
+    pub(crate) fn of(end: RunEnd, stats: bool) -> Ended
+        ensures end { result.end ≡ end }
+        ensures shows { result.shows_totals ≡ (totals_known end.outcome && stats) }
+    {
+        Ended {
+            end,
+            shows_totals: has_totals(end.outcome) && stats,
+        }
+    }
+}
+
+// Whether a run was not refused, and found memory.
+fn has_totals(outcome: Outcome) -> bool
+    ensures { result ≡ totals_known outcome }
+{
+    match outcome {
+        Outcome::Done
+        | Outcome::Invalid(_, _)
+        | Outcome::Unread(_, _)
+        | Outcome::CannotWrite
+        | Outcome::Missing(_, _) => true,
+        Outcome::Usage
+        | Outcome::CannotOpen
+        | Outcome::NoLength(_)
+        | Outcome::NoMemory
+        | Outcome::TooLong(_) => false,
+    }
+}
+
 /// The end of a run.
 #[derive(Clone, Copy, Debug, PartialEq, Eq)]
 pub struct Report {
@@ -81,7 +120,7 @@ pub struct Report {
     pub status: u8,
     /// What the status stands for, with its numbers.
     pub outcome: Outcome,
-    /// How much of its line reached the error stream.
+    /// How much of its line, and of that of the totals, reached the error stream.
     pub line: Line,
     /// How many I/Os were made through handles.
     pub incarnations: u128,

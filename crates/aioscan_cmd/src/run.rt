@@ -4,16 +4,16 @@ ghost use Rattle.std.specs.Prelude.{IfSome, string_bytes};
 ghost use Rattle.aio_disk.specs.Shelf.{AllThereIfTold};
 ghost use Rattle.aioscan_cmd.specs.Command.{relations_of};
 ghost use Rattle.aioscan_cmd.specs.Words.{command_of};
-ghost use Rattle.aioscan_cmd.specs.Outcomes.{status_of, line_of, is_refused};
+ghost use Rattle.aioscan_cmd.specs.Outcomes.{status_of, is_refused};
 ghost use Rattle.aioscan_cmd.specs.Reading.{seen};
 ghost use Rattle.aioscan_cmd.specs.Run.{RanOn, OnTold, Writes};
 ghost use Rattle.aioscan_cmd.specs.Causes.{HasCauses, CallsInOrder, IsExact, IsComplete, IsOpened};
-ghost use Rattle.aioscan_cmd.specs.ErrorLine.{IsToldOnErr};
+ghost use Rattle.aioscan_cmd.specs.ErrorLine.{IsToldOnErr, lines_of, shows_totals};
 ghost use Rattle.aioscan_cmd.specs.Totals.{AreCounted, numbers_in};
 
-use crate::error_line::write_line;
+use crate::error_line::write_lines;
 use crate::relations::Relations;
-use crate::report::RunEnd;
+use crate::report::{Ended, RunEnd};
 use crate::scan::scan_disk;
 use crate::words::{Command, Refusal, read_command};
 use crate::{Outcome, Report};
@@ -60,30 +60,35 @@ fn run<S: Shelf, O: Sink, R: Threads + Wait + Sync>(
     words: &[String],
     shelf: &mut S,
     out: &mut O,
-) -> RunEnd
-    ensures usage { result.outcome ≡ Outcome.Usage
+) -> Ended
+    ensures usage { result.end.outcome ≡ Outcome.Usage
         → command_of (map string_bytes words.now) ≡ None }
     ensures refused { command_of (map string_bytes words.now) ≡ None
-        → (result.outcome ≡ Outcome.Usage) ⊎ (result.outcome ≡ Outcome.NoMemory) }
+        → (result.end.outcome ≡ Outcome.Usage) ⊎ (result.end.outcome ≡ Outcome.NoMemory) }
     ensures unread { command_of (map string_bytes words.now) ≡ None
         → (O.written out.new ≡ O.written out.old) × (S.counts shelf.new ≡ S.counts shelf.old) }
     ensures ran { RanOn (S.told shelf.old) (command_of (map string_bytes words.now))
         (seen (O.written out.old) (S.counts shelf.old).reads)
-        (seen (O.written out.new) (S.counts shelf.new).reads) result.outcome }
+        (seen (O.written out.new) (S.counts shelf.new).reads) result.end.outcome }
     ensures causes { HasCauses (S.counts shelf.old) (S.counts shelf.new) (O.faults out.old)
-        (O.faults out.new) result.outcome }
-    ensures order { CallsInOrder (S.counts shelf.old) (S.counts shelf.new) result.outcome }
+        (O.faults out.new) result.end.outcome }
+    ensures order { CallsInOrder (S.counts shelf.old) (S.counts shelf.new) result.end.outcome }
     ensures counted { AreCounted (command_of (map string_bytes words.now)) (S.counts shelf.old)
-        (S.counts shelf.new) result.outcome result.numbers }
+        (S.counts shelf.new) result.end.outcome result.end.numbers }
     ensures told { S.told shelf.new ≡ S.told shelf.old }
-    ensures opened { IsOpened result.outcome
+    ensures opened { IsOpened result.end.outcome
         → IfSome (command_of (map string_bytes words.now))
         (λ c. AllThereIfTold (S.told shelf.old) (relations_of c)) }
+    ensures shows { result.shows_totals
+        ≡ shows_totals (command_of (map string_bytes words.now)) result.end.outcome }
 {
     match read_command(alloc, words) {
-        Ok(command) => run_command(rt, alloc, &command, shelf, out),
-        Err(Refusal::Usage) => RunEnd::without_reads(Outcome::Usage),
-        Err(Refusal::NoMemory) => RunEnd::without_reads(Outcome::NoMemory),
+        Ok(command) => {
+            let end = run_command(rt, alloc, &command, shelf, out);
+            Ended::of(end, command.stats())
+        }
+        Err(Refusal::Usage) => Ended::of(RunEnd::without_reads(Outcome::Usage), false),
+        Err(Refusal::NoMemory) => Ended::of(RunEnd::without_reads(Outcome::NoMemory), false),
     }
 }
 
@@ -95,8 +100,9 @@ fn run<S: Shelf, O: Sink, R: Threads + Wait + Sync>(
 /// next is taken. Then a disk is opened for each other backend, and for each I/O worker. Jobs of at
 /// most 64 blocks of one file are done in rounds, one by each backend; after a round the text of
 /// each job goes to `out` by one write, in their order, up to the first that ended in a fault. A
-/// line on `err` names what ended the run, where that is not the end of the list. All disks are
-/// taken back in every case. It may wait.
+/// line on `err` names what ended the run, where that is not the end of the list. With `--stats` the
+/// line of totals follows, unless the run was refused or there was no memory. All disks are taken
+/// back in every case. It may wait.
 pub fn aioscan<S: Shelf, O: Sink, E: Sink, R: Threads + Wait + Sync>(
     rt: &R,
     alloc: Global,
@@ -123,7 +129,8 @@ pub fn aioscan<S: Shelf, O: Sink, E: Sink, R: Threads + Wait + Sync>(
     ensures writes { OnTold (S.told shelf.old) (command_of (map string_bytes words.now)) (λ run.
         Writes run (O.written out.old) (O.written out.new) result.outcome) }
     ensures untouched { is_refused result.outcome ≡ true → O.written out.new ≡ O.written out.old }
-    ensures told_on_err { IsToldOnErr (line_of result.outcome) result.line
+    ensures told_on_err { IsToldOnErr (lines_of (command_of (map string_bytes words.now))
+        result.outcome (numbers_in result)) result.line
         (E.written err.old) (E.written err.new) (E.faults err.old) (E.faults err.new) }
 
     // Why each outcome comes, and in which order the outside is called.
@@ -143,8 +150,9 @@ pub fn aioscan<S: Shelf, O: Sink, E: Sink, R: Threads + Wait + Sync>(
     ensures totals { AreCounted (command_of (map string_bytes words.now)) (S.counts shelf.old)
         (S.counts shelf.new) result.outcome (numbers_in result) }
 {
-    let RunEnd { outcome, numbers } = run(rt, alloc, words, shelf, out);
-    let line = write_line(alloc, outcome, err);
+    let ended = run(rt, alloc, words, shelf, out);
+    let line = write_lines(alloc, ended, err);
+    let RunEnd { outcome, numbers } = ended.end;
     Report {
         status: status(outcome),
         outcome,

@@ -1,4 +1,5 @@
 //! Whole runs.
+mod failing;
 mod gate;
 mod outside;
 mod reads;

@@ -35,6 +35,7 @@ pub(crate) struct Command<'a> {
     from: Option<u32>,
     to: Option<u32>,
     settings: ScanSettings,
+    stats: bool,
 }
 
 impl<'a> Model for Command<'a> {
@@ -50,6 +51,7 @@ impl<'a> Model for Command<'a> {
       to = c.to;
       files = files_in (rows_of (found_of c.matches));
       settings = c.settings;
+      stats = c.stats;
     } };
 
     ghost invariant = { λ c. IsBelow c.from number_limit × IsBelow c.to number_limit
@@ -67,11 +69,13 @@ impl<'a> Command<'a> {
             return None;
         }
         let settings = values::settings(&matches)?;
+        let stats = values::flag(&matches, "stats");
         Some(Command {
             matches,
             from,
             to,
             settings,
+            stats,
         })
     }
 
@@ -117,6 +121,13 @@ impl<'a> Command<'a> {
         ensures within { AreSettings result }
     {
         self.settings
+    }
+
+    /// Whether the totals are told.
+    pub(crate) fn stats(&self) -> bool
+        ensures { result ≡ (self.now).stats }
+    {
+        self.stats
     }
 }
 

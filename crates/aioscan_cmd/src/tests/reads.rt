@@ -19,7 +19,7 @@ fn reads_of(alloc: Global, run: &Ended) -> Result<Vec<Read>, Fail> {
     Ok(reads)
 }
 
-// Runs over one file of empty pages, and compares the reads.
+// Runs over one file of empty pages, and compares the reads and the line of totals.
 fn expect_reads<R: Abort + AllocGlobal + Threads + Wait + Sync>(
     rt: &R,
     name: &str,
@@ -33,20 +33,20 @@ fn expect_reads<R: Abort + AllocGlobal + Threads + Wait + Sync>(
     let done = run_over(rt, empty_file(alloc, pages)?, faults, line)?;
     assert_eq!(rt; done.report.status, 0, "{name}");
     assert_eq!(rt; reads_of(alloc, &done)?.as_slice(), wanted, "{name}");
-    assert_eq!(rt; done.report.incarnations, wanted.len() as u128, "{name}");
-    assert_eq!(rt; done.report.by_backends, wanted.len() as u128, "{name}");
-    assert_eq!(rt; done.report.by_workers, 0, "{name}");
+    let count = wanted.len();
+    let totals = format!(in alloc; "incarnations {count} workers 0 backends {count}\n")?;
+    assert_eq!(rt; done.err.bytes(), totals.as_str().as_bytes(), "{name}");
     Ok(())
 }
 
 #[test]
 fn reads_of_one_backend(rt: HostRuntime) -> Result<(), Fail> {
-    let rows: [(&str, usize, &[u32], &str, &[Read]); 5] = [
+    let rows: [(&str, usize, &[u32], &str, &[Read]); 8] = [
         (
             "runs grow with the distance",
             8,
             &[],
-            "--method sync --backends 1 f",
+            "--method sync --backends 1 --stats f",
             &[
                 (0, 1, Some(1)),
                 (1, 2, Some(2)),
@@ -58,7 +58,7 @@ fn reads_of_one_backend(rt: HostRuntime) -> Result<(), Fail> {
             "up to 16 blocks, in jobs of 64",
             66,
             &[],
-            "--method sync --backends 1 f",
+            "--method sync --backends 1 --stats f",
             &[
                 (0, 1, Some(1)),
                 (1, 2, Some(2)),
@@ -76,7 +76,7 @@ fn reads_of_one_backend(rt: HostRuntime) -> Result<(), Fail> {
             "the rest of a short read is read while others are taken up",
             8,
             &[1, 1],
-            "--method sync --backends 1 f",
+            "--method sync --backends 1 --stats f",
             &[
                 (0, 1, Some(1)),
                 (1, 2, Some(1)),
@@ -88,7 +88,7 @@ fn reads_of_one_backend(rt: HostRuntime) -> Result<(), Fail> {
             "short reads under --full",
             16,
             &[1, 2, 4, 9],
-            "--method sync --backends 1 --full f",
+            "--method sync --backends 1 --full --stats f",
             &[
                 (0, 16, Some(1)),
                 (1, 15, Some(2)),
@@ -97,10 +97,43 @@ fn reads_of_one_backend(rt: HostRuntime) -> Result<(), Fail> {
             ],
         ),
         (
+            "two short reads, one behind the other",
+            8,
+            &[1, 2, 2],
+            "--method sync --backends 1 --stats f",
+            &[
+                (0, 1, Some(1)),
+                (1, 2, Some(2)),
+                (3, 4, Some(2)),
+                (7, 1, Some(1)),
+                (5, 2, Some(2)),
+            ],
+        ),
+        (
+            "the same with one I/O at a time",
+            8,
+            &[1, 2, 2],
+            "--method sync --backends 1 --stats --concurrency 1 f",
+            &[
+                (0, 1, Some(1)),
+                (1, 2, Some(2)),
+                (3, 4, Some(2)),
+                (5, 2, Some(2)),
+                (7, 1, Some(1)),
+            ],
+        ),
+        (
+            "no run is longer than the frames",
+            32,
+            &[],
+            "--method sync --backends 1 --stats --full --combine 32 --buffers 16 f",
+            &[(0, 16, Some(16)), (16, 16, Some(16))],
+        ),
+        (
             "a file twice is read once",
             2,
             &[],
-            "--method sync --backends 1 f f",
+            "--method sync --backends 1 --stats f f",
             &[(0, 1, Some(1)), (1, 1, Some(1))],
         ),
     ];
@@ -134,11 +167,12 @@ fn a_third_read_that_fails(rt: HostRuntime) -> Result<(), Fail> {
         reads: &[(0, 3)],
         ..STEADY
     };
-    let line = "--method sync --backends 1 --combine 1 --handles 1 f";
+    let line = "--method sync --backends 1 --combine 1 --handles 1 --stats f";
     let done = run_over(&rt, empty_file(alloc, 5)?, faults, line)?;
     let text = empty_lines(alloc, 0, 2)?;
+    let lines = "unread page 0 2\nincarnations 3 workers 0 backends 3\n";
     assert_eq!(rt; done.out.bytes(), text.as_str().as_bytes());
-    assert_eq!(rt; done.err.bytes(), "unread page 0 2\n".as_bytes());
+    assert_eq!(rt; done.err.bytes(), lines.as_bytes());
     assert_eq!(rt; done.report.status, 3);
     assert_eq!(rt; done.report.incarnations, 3);
     assert_eq!(rt; done.report.by_workers, 0);
@@ -194,16 +228,14 @@ fn pages_of_a_server_with_checksums(rt: HostRuntime) -> Result<(), Fail> {
     for block in 0..200 {
         push_server_page(alloc, &mut file, &mut text, block)?;
     }
-    for line in ["f", "--method sync --backends 1 f"] {
+    for line in ["--stats f", "--method sync --backends 1 --stats f"] {
         let done = run_over(&rt, file.clone()?, STEADY, line)?;
-        let executed = done
-            .report
-            .by_workers
-            .saturating_add(done.report.by_backends);
+        let (workers, backends) = (done.report.by_workers, done.report.by_backends);
+        let totals = format!(in alloc; "incarnations 28 workers {workers} backends {backends}\n")?;
         assert_eq!(rt; done.out.bytes(), text.as_str().as_bytes(), "{line}");
         assert_eq!(rt; done.report.status, 0, "{line}");
-        assert_eq!(rt; done.report.incarnations, 28, "{line}");
-        assert_eq!(rt; executed, 28, "{line}");
+        assert_eq!(rt; done.err.bytes(), totals.as_str().as_bytes(), "{line}");
+        assert_eq!(rt; workers.saturating_add(backends), 28, "{line}");
     }
     Ok(())
 }

@@ -111,6 +111,50 @@ fn pages_one_by_one(rt: HostRuntime) -> Result<(), Fail> {
 }
 
 #[test]
+fn damaged_headers(rt: HostRuntime) -> Result<(), Fail> {
+    let invalid = ("", "invalid page 0 0\n", 1);
+    let rows: [(&str, Parts<'_>, (&str, &str, u8)); 7] = [
+        (
+            "flags 0xffff",
+            &[(10, &[255, 255, 24, 0, 0, 32, 0, 32, 4, 32])],
+            invalid,
+        ),
+        (
+            "lower 8193",
+            &[(12, &[1, 32, 0, 32, 0, 32, 4, 32])],
+            invalid,
+        ),
+        (
+            "lower 65535",
+            &[(12, &[255, 255, 0, 32, 0, 32, 4, 32])],
+            invalid,
+        ),
+        ("upper 23", &[(12, &[24, 0, 23, 0, 0, 32, 4, 32])], invalid),
+        (
+            "special 8200",
+            &[(12, &[24, 0, 0, 32, 8, 32, 4, 32])],
+            invalid,
+        ),
+        (
+            "lower 0",
+            &[(12, &[0, 0, 0, 32, 0, 32, 4, 32])],
+            ("page 0 0 lower 0 upper 8192 special 8192 items 0\n", "", 0),
+        ),
+        (
+            "lower 0, upper 1",
+            &[(12, &[0, 0, 1, 0, 0, 32, 4, 32])],
+            ("page 0 0 lower 0 upper 1 special 8192 items 0\n", "", 0),
+        ),
+    ];
+    for (name, parts, wanted) in rows {
+        let files = (from_ref(&parts), &[] as &[Parts<'_>]);
+        let line = "--method sync --backends 1 f";
+        expect(&rt, name, files, STEADY, line, &[], wanted)?;
+    }
+    Ok(())
+}
+
+#[test]
 fn a_part_of_a_block_is_no_block(rt: HostRuntime) -> Result<(), Fail> {
     let alloc = rt.alloc();
     for size in [0, 8191] {
@@ -153,7 +197,7 @@ fn every_status(rt: HostRuntime) -> Result<(), Fail> {
         opens: &[2],
         ..STEADY
     };
-    let rows: [(&str, &[Parts<'_>], Faults<'_>, &str, (&str, &str, u8)); 12] = [
+    let rows: [(&str, &[Parts<'_>], Faults<'_>, &str, (&str, &str, u8)); 14] = [
         (
             "a second file that is damaged",
             two,
@@ -226,6 +270,24 @@ fn every_status(rt: HostRuntime) -> Result<(), Fail> {
             ("", "cannot open\n", 3),
         ),
         (
+            "totals behind an invalid page",
+            &[],
+            STEADY,
+            "--method sync --backends 1 --stats g",
+            (
+                "",
+                "invalid page 0 0\nincarnations 1 workers 0 backends 1\n",
+                1,
+            ),
+        ),
+        (
+            "no totals behind a refusal",
+            two,
+            STEADY,
+            "--stats f h",
+            ("", "cannot open\n", 3),
+        ),
+        (
             "to for each file",
             two,
             STEADY,
@@ -261,7 +323,7 @@ fn an_error_stream_that_fails_after_3_bytes(rt: HostRuntime) -> Result<(), Fail>
         reads: &[(0, 1)],
         ..STEADY
     };
-    let line = "--method sync --backends 1 f";
+    let line = "--method sync --backends 1 --stats f";
     let done = run(&rt, files, read_1, line, (&[], &[(1, 3)]))?;
     assert_eq!(rt; done.out.bytes().len(), 0);
     assert_eq!(rt; done.err.bytes(), "unr".as_bytes());

@@ -162,13 +162,35 @@ fn lengths_that_nothing_tells(rt: HostRuntime) -> Result<(), Fail> {
 
 #[test]
 fn fewer_pages_than_its_length(rt: HostRuntime) -> Result<(), Fail> {
-    let (report, out, err, shelf) = run_long(&rt, 6, 4, "--method sync --backends 1 f")?;
-    let text = empty_lines(rt.alloc(), 0, 4)?;
-    assert_eq!(rt; out.bytes(), text.as_str().as_bytes());
-    assert_eq!(rt; err.bytes(), "no page 0 4\n".as_bytes());
-    assert_eq!(rt; report.status, 6);
-    let wanted: &[Read] = &[(0, 1, 1), (1, 2, 2), (3, 3, 1), (4, 2, 0)];
-    assert_eq!(&rt; shelf.log.as_slice(), wanted);
+    let rows: [(u32, u32, &str, &[Read]); 3] = [
+        (
+            6,
+            4,
+            "no page 0 4\nincarnations 4 workers 0 backends 4\n",
+            &[(0, 1, 1), (1, 2, 2), (3, 3, 1), (4, 2, 0)],
+        ),
+        (
+            8,
+            7,
+            "no page 0 7\nincarnations 4 workers 0 backends 4\n",
+            &[(0, 1, 1), (1, 2, 2), (3, 4, 4), (7, 1, 0)],
+        ),
+        (
+            8,
+            0,
+            "no page 0 0\nincarnations 1 workers 0 backends 1\n",
+            &[(0, 1, 0)],
+        ),
+    ];
+    let line = "--method sync --backends 1 --stats f";
+    for (length, seen, lines, log) in rows {
+        let (report, out, err, shelf) = run_long(&rt, length, seen, line)?;
+        let text = empty_lines(rt.alloc(), 0, seen)?;
+        assert_eq!(rt; out.bytes(), text.as_str().as_bytes(), "{seen} of {length}");
+        assert_eq!(rt; err.bytes(), lines.as_bytes(), "{seen} of {length}");
+        assert_eq!(rt; report.status, 6, "{seen} of {length}");
+        assert_eq!(&rt; shelf.log.as_slice(), log);
+    }
     Ok(())
 }
 

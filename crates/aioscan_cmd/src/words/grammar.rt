@@ -21,7 +21,7 @@ const OPTIONS: [&str; 9] = [
 ];
 
 // The flags.
-const FLAGS: [&str; 2] = ["batch", "full"];
+const FLAGS: [&str; 3] = ["batch", "full", "stats"];
 
 fn option<'a>(alloc: Global, name: &'a str) -> Arg<'a>
     ensures rule { rule_of result ≡ option_rule name.entry.now }

@@ -101,7 +101,8 @@ fn method(matches: &ArgMatches<'_>, name: &str) -> Option<MethodKind>
     }
 }
 
-fn flag(matches: &ArgMatches<'_>, name: &str) -> bool
+/// Whether a flag is given.
+pub(crate) fn flag(matches: &ArgMatches<'_>, name: &str) -> bool
     ensures { result ≡ is_set (first_of name.now (rows_of (found_of matches.now))) }
 {
     match text_of(matches, name) {
