@@ -15,6 +15,7 @@ use Rattle.page_check.specs.SynchronousAnswer.{found_for, ending_in, ending_at, 
 use Rattle.page_check.specs.IsAnswer.{EndsAt}
 use Rattle.page_check.proofs.AnswersOfLists.{stop_of-length}
 use Rattle.heap_scan.specs.Job.{IsJobAnswer, block_entry}
+use Rattle.heap_scan.specs.declared.sums.PageSums.{PageSums}
 use Rattle.scan_rounds.specs.Jobs.{IsListed, AreAnswered, entries_in, said_end, unread_among}
 use Rattle.scan_rounds.specs.Jobs.{blocks_among, is_unread}
 use Rattle.scan_rounds.specs.declared.job.Ending.{Ending as JobEnding}
@@ -90,80 +91,90 @@ module _ (r first count : ℕ) where
       (ap (slice_get blocks) ends.0 ∙ sym (stop_of-length f blocks) ∙ stop.1) stop.2
 
   -- the job's text was written
-  text_listed : (found : Option Reader) (text : List ℕ) (b a : Option (List ℕ)) (end : JobEnding)
-      → IsJobAnswer found (λ _. ⊤) blocks text (said_end end) → Grew b a text
+  text_listed : (found : Option Reader) (text : List ℕ) (sums : PageSums)
+      (b a : Option (List ℕ)) (end : JobEnding)
+      → IsJobAnswer found (λ _. ⊤) blocks text sums (said_end end) → Grew b a text
       → Lists found blocks b a (outcome_for r end)
-  text_listed found text b a ending.Pages answer grew = record {
+  text_listed found text sums b a ending.Pages answer grew = record {
     begun = refl;
     text = text;
+    sums = sums;
     answer = answer;
     here = λ e is. absurd (cc);
     grew = grew;
   }
-  text_listed found text b a (ending.Invalid n) answer grew = record {
+  text_listed found text sums b a (ending.Invalid n) answer grew = record {
     begun = refl;
     text = text;
+    sums = sums;
     answer = answer;
     here = λ e is.
         (invalid_here found (length answer.pages) n answer.answers.endings.0 ∙ is);
     grew = grew;
   }
-  text_listed found text b a (ending.PastEnd n) answer grew = record {
+  text_listed found text sums b a (ending.PastEnd n) answer grew = record {
     begun = refl;
     text = text;
+    sums = sums;
     answer = answer;
     here = λ e is.
         (missing_here found (length answer.pages) n answer.answers.endings.0 ∙ is);
     grew = grew;
   }
-  text_listed found text b a (ending.Unread n) answer grew = record {
+  text_listed found text sums b a (ending.Unread n) answer grew = record {
     begun = refl;
     text = text;
+    sums = sums;
     answer = answer;
     here = λ e is.
         (let stop = answer.answers.endings.0 in
         entry_of_range r first count (length answer.pages) n stop.next stop.here stop.named ∙ is);
     grew = grew;
   }
-  text_listed found text b a ending.NoMemory answer grew = record {
+  text_listed found text sums b a ending.NoMemory answer grew = record {
     begun = refl;
     text = text;
+    sums = sums;
     answer = answer;
     here = λ e is. absurd (cc);
     grew = GrewByPrefix-whole b a text grew;
   }
 
   -- the write failed
-  abbrev Pages : Option Reader → List ℕ → Type 0
-  Pages found text = IsJobAnswer found (λ _. ⊤) blocks text None
+  abbrev Pages : Option Reader → List ℕ → PageSums → Type 0
+  Pages found text sums = IsJobAnswer found (λ _. ⊤) blocks text sums None
 
-  without_end : (found : Option Reader) (text : List ℕ) (end : Option Ending)
-      → IsJobAnswer found (λ _. ⊤) blocks text end → Pages found text
-  without_end found text end answer = record {
+  without_end : (found : Option Reader) (text : List ℕ) (sums : PageSums) (end : Option Ending)
+      → IsJobAnswer found (λ _. ⊤) blocks text sums end → Pages found text sums
+  without_end found text sums end answer = record {
     pages = answer.pages;
     text_is = answer.text_is;
+    sums_are = answer.sums_are;
     answers = record { first = answer.answers.first; endings = tt };
   }
 
-  unwritten : (found : Option Reader) (text : List ℕ) (b a : Option (List ℕ)) (end : JobEnding)
-      → IsJobAnswer found (λ _. ⊤) blocks text (said_end end) → GrewByPrefix b a text
+  unwritten : (found : Option Reader) (text : List ℕ) (sums : PageSums)
+      (b a : Option (List ℕ)) (end : JobEnding)
+      → IsJobAnswer found (λ _. ⊤) blocks text sums (said_end end) → GrewByPrefix b a text
       → Lists found blocks b a CannotWrite
-  unwritten found text b a end answer grew = record {
+  unwritten found text sums b a end answer grew = record {
     begun = refl;
     text = text;
-    answer = without_end found text (said_end end) answer;
+    sums = sums;
+    answer = without_end found text sums (said_end end) answer;
     here = λ e is. absurd (cc);
     grew = grew;
   }
 
-  unwritten_for_memory : (found : Option Reader) (text : List ℕ) (b a : Option (List ℕ))
-      (end : JobEnding)
-      → IsJobAnswer found (λ _. ⊤) blocks text (said_end end) → GrewByPrefix b a text
+  unwritten_for_memory : (found : Option Reader) (text : List ℕ) (sums : PageSums)
+      (b a : Option (List ℕ)) (end : JobEnding)
+      → IsJobAnswer found (λ _. ⊤) blocks text sums (said_end end) → GrewByPrefix b a text
       → Lists found blocks b a NoMemory
-  unwritten_for_memory found text b a end answer grew = record {
+  unwritten_for_memory found text sums b a end answer grew = record {
     begun = refl;
     text = text;
-    answer = without_end found text (said_end end) answer;
+    sums = sums;
+    answer = without_end found text sums (said_end end) answer;
     here = λ e is. absurd (cc);
     grew = grew;
   }
@@ -175,7 +186,7 @@ module _ (job : Job) (b a : Option (List ℕ)) where
       (let Q : Outcome → Type 0 = λ x. Lists found (entries_in asked) b a x in
       let R : ℕ → Type 0 = λ r. Lists found (entries_in asked) b a (outcome_for r job.ending) in
       subst Q (sym is) (subst R (sym listed.same.0)
-      (text_listed asked.relation asked.first asked.count found job.text.items b a job.ending
+      (text_listed asked.relation asked.first asked.count found job.text.items job.tally b a job.ending
       listed.answer grew)))
 
   pub empty_written : (o : Outcome) → o ≡ outcome_for job.relation job.ending
@@ -185,12 +196,12 @@ module _ (job : Job) (b a : Option (List ℕ)) where
 
   pub job_unwritten : GrewByPrefix b a job.text.items → IsListedBy job b a CannotWrite
   job_unwritten grew = λ found asked listed.
-      unwritten asked.relation asked.first asked.count found job.text.items b a job.ending
+      unwritten asked.relation asked.first asked.count found job.text.items job.tally b a job.ending
       listed.answer grew
 
   pub job_out_of_memory : GrewByPrefix b a job.text.items → IsListedBy job b a NoMemory
   job_out_of_memory grew = λ found asked listed.
-      unwritten_for_memory asked.relation asked.first asked.count found job.text.items b a
+      unwritten_for_memory asked.relation asked.first asked.count found job.text.items job.tally b a
       job.ending listed.answer grew
 
 ended_unread : (r : ℕ) (end : JobEnding)

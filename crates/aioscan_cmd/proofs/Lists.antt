@@ -7,7 +7,9 @@ use Rattle.page_check.proofs.AnswersInOrder.{answered_none, slice_get_front, sli
 use Rattle.page_check.proofs.AnswersOfLists.{length_whole}
 use Rattle.page_check.proofs.AnswersOfBlocks.{answered_no_block}
 use Rattle.heap_scan.specs.Listing.{listing}
+use Rattle.heap_scan.specs.Sums.{joined, no_sums, sums_of}
 use Rattle.heap_scan.proofs.Jobs.{job_append, job_more, IsEarly}
+use Rattle.heap_scan.proofs.Summing.{sums_of-none}
 use Rattle.aio_disk.specs.Sink.{Grew}
 use Rattle.aioscan_cmd.specs.RequestList.{Request, Page}
 use Rattle.aioscan_cmd.specs.Outcomes.{ending_of}
@@ -23,14 +25,19 @@ pub no_listing : listing (let none : List Page = [] in none) ≡ []
 unfolding listing
 no_listing = refl
 
+no_pages_sums : sums_of (let none : List Page = [] in none) ≡ no_sums
+no_pages_sums = sums_of-none (Unit {0})
+
 -- no blocks
 pub lists_none : (found : Option Reader) (s : Option (List ℕ)) → Lists found [] s s Done
 lists_none found s = record {
   begun = refl;
   text = [];
+  sums = no_sums;
   answer = record {
     pages = [];
     text_is = sym no_listing;
+    sums_are = sym no_pages_sums;
     answers = answered_no_block found (λ _. ⊤);
   };
   here = λ e is. absurd (cc);
@@ -64,9 +71,10 @@ lists_append found xs ys b m a o front back =
     length_whole found xs front.answer.pages front.answer.answers.endings.0 in record {
       begun = back.begun;
       text = front.text ++ back.text;
+      sums = joined front.sums back.sums;
       answer =
-          job_append found (λ _. ⊤) xs ys front.text back.text (ending_of o) front.answer
-          back.answer;
+          job_append found (λ _. ⊤) xs ys front.text back.text front.sums back.sums (ending_of o)
+          front.answer back.answer;
       here = λ e is. (
           ap (slice_get (xs ++ ys)) (size ∙ ap (λ (i : ℕ). i + k) all)
           ∙ slice_get_back xs ys k ∙ back.here e is);
@@ -100,8 +108,10 @@ unfolding job_more
 lists_more found xs ys b a o stops front = record {
   begun = front.begun;
   text = front.text;
+  sums = front.sums;
   answer =
-      job_more found (λ _. ⊤) xs ys front.text (ending_of o) (early o stops) front.answer;
+      job_more found (λ _. ⊤) xs ys front.text front.sums (ending_of o) (early o stops)
+      front.answer;
   here = λ e is. slice_get_front xs ys (length front.answer.pages) e (front.here e is);
   grew = front.grew;
 }
@@ -118,8 +128,13 @@ pub lists_nothing : (found : Option Reader) (xs : List Request) (s : Option (Lis
 lists_nothing found xs s = record {
   begun = refl;
   text = [];
-  answer =
-      record { pages = []; text_is = sym no_listing; answers = answered_none found (λ _. ⊤) xs };
+  sums = no_sums;
+  answer = record {
+    pages = [];
+    text_is = sym no_listing;
+    sums_are = sym no_pages_sums;
+    answers = answered_none found (λ _. ⊤) xs;
+  };
   here = λ e is. absurd (cc);
   grew = GrewByPrefix-nothing s s [] refl;
 }

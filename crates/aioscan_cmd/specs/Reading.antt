@@ -2,6 +2,7 @@
 use Rattle.std.specs.Prelude.{◌≡◌, ◌≤◌, ℕ, List, length, Option, slice_get, Some, ⊤, false}
 use Rattle.page_check.specs.SynchronousAnswer.{Reader}
 use Rattle.heap_scan.specs.Job.{IsJobAnswer}
+use Rattle.heap_scan.specs.declared.sums.PageSums.{PageSums}
 use Rattle.aio_disk.specs.Counts.{Rose}
 use Rattle.aio_disk.specs.Sink.{Grew, GrewByPrefix}
 use Rattle.aioscan_cmd.specs.RequestList.{Request}
@@ -37,7 +38,8 @@ pub record Lists (found : Option Reader) (requests : List Request) (before now :
     (outcome : Outcome) : Type 0 where
   pub begun : is_refused outcome ≡ false
   pub text : List ℕ
-  pub answer : IsJobAnswer found (λ _. ⊤) requests text (ending_of outcome)
+  pub sums : PageSums
+  pub answer : IsJobAnswer found (λ _. ⊤) requests text sums (ending_of outcome)
   pub here : (e : Request) → stopped_at outcome ≡ Some e
       → slice_get requests (length answer.pages) ≡ Some e
   pub grew : GrewBy outcome before now text

@@ -1,6 +1,6 @@
 use Rattle.std.proofs.Common.{rules, arith, refl}
 use Rattle.std.proofs.lemmas.Bool.Decides.{nat_tests}
-use Rattle.aioscan_cmd.proofs.Jobs.{job_written, empty_written}
+use Rattle.aioscan_cmd.proofs.Jobs.{job_written, empty_written, job_unwritten, job_out_of_memory}
 use Rattle.aioscan_cmd.proofs.Jobs.{one_unread, stopped_by_job, empty_text}
 use Rattle.aioscan_cmd.proofs.lister.write_job.Goals as goal
 
@@ -26,3 +26,9 @@ returns-in-Ok-clause-writes g c =
 
 pub returns-in-Ok-clause-unread : goal.returns-in-Ok-clause-unread
 returns-in-Ok-clause-unread g c = one_unread c.args.job.now _ c.outcome_of-in-Ok.ensures
+
+pub returns-in-Err-Device-clause-lists : goal.returns-in-Err-Device-clause-lists
+returns-in-Err-Device-clause-lists g c = job_unwritten c.args.job.now _ _ (search rules)
+
+pub returns-in-Err-Memory-clause-lists : goal.returns-in-Err-Memory-clause-lists
+returns-in-Err-Memory-clause-lists g c = job_out_of_memory c.args.job.now _ _ (search rules)
