@@ -186,8 +186,8 @@ module _ (job : Job) (b a : Option (List ℕ)) where
       (let Q : Outcome → Type 0 = λ x. Lists found (entries_in asked) b a x in
       let R : ℕ → Type 0 = λ r. Lists found (entries_in asked) b a (outcome_for r job.ending) in
       subst Q (sym is) (subst R (sym listed.same.0)
-      (text_listed asked.relation asked.first asked.count found job.text.items job.tally b a job.ending
-      listed.answer grew)))
+      (text_listed asked.relation asked.first asked.count found job.text.items job.tally b a
+      job.ending listed.answer grew)))
 
   pub empty_written : (o : Outcome) → o ≡ outcome_for job.relation job.ending
       → job.text.items ≡ [] → a ≡ b → IsListedBy job b a o

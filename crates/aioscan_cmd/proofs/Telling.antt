@@ -1,11 +1,10 @@
 -- Texts that are told on the error stream one after the other.
-use Rattle.std.proofs.Common.{◌≡◌, ◌≢◌, ◌≤◌, ℕ, List, [], ◌∷◌, ◌++◌, refl, sym, ap, ◌∙◌, arith}
-use Rattle.std.proofs.Common.{append-nil, subst, Bool, true, false}
+use Rattle.std.proofs.Common.{◌≡◌, ◌≢◌, ◌≤◌, ℕ, List, [], ◌∷◌, ◌++◌, refl, ◌∙◌, arith}
+use Rattle.std.proofs.Common.{Bool, true, false}
 use Rattle.std.specs.Prelude.{Option, not}
-use Rattle.aio_disk.specs.Sink.{Grew, GrewByPrefix}
 use Rattle.aioscan_cmd.specs.ErrorLine.{IsToldOnErr}
 use Rattle.aioscan_cmd.specs.declared.report.Line.{Line}
-use Rattle.aioscan_cmd.specs.declared.report.Line.TheVariants.{Whole, Cut, NoMemory as NoRoom}
+use Rattle.aioscan_cmd.specs.declared.report.Line.TheVariants.{Whole}
 use Rattle.aioscan_cmd.proofs.Growing.{Grew-append, GrewByPrefix-append, GrewByPrefix-more}
 
 no_front : (xs ys : List ℕ) → xs ++ ys ≡ [] → xs ≡ []
@@ -15,13 +14,6 @@ no_front (x ∷ xs) ys none = absurd (cc)
 no_back : (xs ys : List ℕ) → xs ++ ys ≡ [] → ys ≡ []
 no_back [] ys none = none
 no_back (x ∷ xs) ys none = absurd (cc)
-
--- nothing follows a text
-pub told_alone : (text : List ℕ) (line : Line) (b a : Option (List ℕ)) (fb fa : ℕ)
-    → IsToldOnErr text line b a fb fa → IsToldOnErr (text ++ []) line b a fb fa
-told_alone text line b a fb fa told =
-    let P : List ℕ → Type 0 = λ t. IsToldOnErr t line b a fb fa in
-    subst P (sym (append-nil text)) told
 
 -- a text that was cut off, so that nothing followed it
 pub told_cut : (text more : List ℕ) (line : Line) (b a : Option (List ℕ)) (fb fa : ℕ)

@@ -100,9 +100,9 @@ fn run<S: Shelf, O: Sink, R: Threads + Wait + Sync>(
 /// next is taken. Then a disk is opened for each other backend, and for each I/O worker. Jobs of at
 /// most 64 blocks of one file are done in rounds, one by each backend; after a round the text of
 /// each job goes to `out` by one write, in their order, up to the first that ended in a fault. A
-/// line on `err` names what ended the run, where that is not the end of the list. With `--stats` the
-/// line of totals follows, unless the run was refused or there was no memory. All disks are taken
-/// back in every case. It may wait.
+/// line on `err` names what ended the run, where that is not the end of the list. With `--stats`
+/// the line of totals follows, unless the run was refused or there was no memory. All disks are
+/// taken back in every case. It may wait.
 pub fn aioscan<S: Shelf, O: Sink, E: Sink, R: Threads + Wait + Sync>(
     rt: &R,
     alloc: Global,

@@ -1,4 +1,4 @@
-use Rattle.std.proofs.Common.{◌≡◌, ◌++◌, Bool, subst, sym}
+use Rattle.std.proofs.Common.{◌++◌, Bool, subst, sym}
 use Rattle.aioscan_cmd.specs.ErrorLine.{IsToldOnErr, totals_line}
 use Rattle.aioscan_cmd.specs.Outcomes.{line_of}
 use Rattle.aioscan_cmd.specs.declared.report.Line.{Line}
