@@ -1,4 +1,4 @@
-//! Pieces of a text that is written from its end to its start.
+//! Pieces of a text that is written from its end to its start, for whoever writes lines.
 //!
 //! Backward, a number needs no count of its digits before it is written. Each call writes one
 //! piece so that it ends at `end`, says where the piece starts, and leaves what stands behind it.
@@ -8,8 +8,9 @@ ghost use Rattle.heap_scan.specs.PageText.{word_of};
 use itoa::write_digits;
 use page_check::Kind;
 
+/// Writes a piece so that it ends at `end`, and says where it starts. What stands behind it stays.
 #[inline]
-pub(crate) fn put(buf: &mut [u8], end: usize, piece: &[u8]) -> usize
+pub fn put(buf: &mut [u8], end: usize, piece: &[u8]) -> usize
     requires room { length piece.now ≤ end }
     requires within { end ≤ length buf.old }
     ensures start { result + length piece.now ≡ end }
@@ -20,9 +21,9 @@ pub(crate) fn put(buf: &mut [u8], end: usize, piece: &[u8]) -> usize
     start
 }
 
-// A number has at most ten digits, and one below 100000 at most five.
+/// The same for a number in decimal: at most ten digits, and of one below 100000 at most five.
 #[inline]
-pub(crate) fn put_number(buf: &mut [u8], end: usize, number: u32) -> usize
+pub fn put_number(buf: &mut [u8], end: usize, number: u32) -> usize
     requires room { 10 ≤ end }
     requires within { end ≤ length buf.old }
     ensures start { result + length (decimal number) ≡ end }

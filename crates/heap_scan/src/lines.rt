@@ -10,14 +10,15 @@ use crate::backward::{put, put_number, put_word};
 use page_check::{LinePointer, Page, count, header, line_pointer};
 
 /// At most so many bytes has the line of a page.
-pub(crate) const PAGE_ROOM: usize = 96;
+pub const PAGE_ROOM: usize = 96;
 
 /// At most so many bytes has the line of a line pointer.
-pub(crate) const ITEM_ROOM: usize = 32;
+pub const ITEM_ROOM: usize = 32;
 
-// The line of a line pointer, whose number has at most five digits.
+/// Writes the line of a line pointer, whose number has at most five digits, so that it ends at
+/// `end`.
 #[inline]
-fn put_item(buf: &mut [u8], end: usize, number: u32, pointer: LinePointer) -> usize
+pub fn put_item(buf: &mut [u8], end: usize, number: u32, pointer: LinePointer) -> usize
     requires room { 40 ≤ end }
     requires within { end ≤ length buf.old }
     requires short { number < 100000 }
@@ -63,8 +64,8 @@ fn put_place(buf: &mut [u8], end: usize, relation: u32, block: u32) -> usize
     put(buf, at, b"page ")
 }
 
-// The line of a page that is not new.
-fn put_page_line(buf: &mut [u8], end: usize, relation: u32, block: u32, page: &Page) -> usize
+/// Writes the line of a page that is not new, so that it ends at `end`.
+pub fn put_page_line(buf: &mut [u8], end: usize, relation: u32, block: u32, page: &Page) -> usize
     requires room { 96 ≤ end }
     requires within { end ≤ length buf.old }
     ensures start { result ≤ end }
