@@ -1,0 +1,11 @@
+pub mod Distinct
+pub mod Passing
+pub mod Chaining
+pub mod Knowing
+pub mod Marking
+pub mod Closing
+pub mod StepsBelow
+pub mod Unwinding
+pub mod Rooting
+pub mod ItemTexts
+pub mod Texts

@@ -1,0 +1,14 @@
+use Rattle.std.proofs.Common.{◌≡◌, length}
+use Rattle.page_check.specs.LinePointers.{count_of}
+use Rattle.heap_tuple.specs.Tuples.{step_of}
+use Rattle.heap_tuple.proofs.Unwinding.{Unwinds}
+use Rattle.heap_tuple.proofs.chains.follow.Given as goal
+
+abbrev pub invariant-loop-item : goal.invariant-loop-item
+invariant-loop-item l = record {
+  size : length l.lengths ≡ count_of l.page;
+  unwinds : Unwinds (step_of l.page l.block) l.passed l.lengths l.path.items l.first l.chain;
+}
+
+abbrev pub decreases-loop-item : goal.decreases-loop-item
+decreases-loop-item l = goal.left-loop-item l

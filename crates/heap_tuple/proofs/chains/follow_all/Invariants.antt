@@ -1,0 +1,18 @@
+use Rattle.std.proofs.Common.{◌≡◌, ◌≤◌, [], length}
+use Rattle.page_check.specs.LinePointers.{count_of}
+use Rattle.heap_tuple.specs.Tuples.{step_of}
+use Rattle.heap_tuple.specs.Following.{AreLengths, AreMarked}
+use Rattle.heap_tuple.proofs.Rooting.{first_roots, longest_among}
+use Rattle.heap_tuple.proofs.chains.follow_all.Given as goal
+
+abbrev pub invariant-loop-index : goal.invariant-loop-index
+invariant-loop-index l = record {
+  lengths : length l.lengths ≡ count_of l.page;
+  passed : length l.passed ≡ count_of l.page;
+  empty : l.path.items ≡ [];
+  known : AreLengths (step_of l.page l.block) l.lengths;
+  marked : AreMarked l.passed l.lengths;
+  few : l.roots ≤ l.index;
+  roots : l.roots ≡ length (first_roots l.page l.block l.index);
+  longest : l.longest ≡ longest_among l.page l.block (first_roots l.page l.block l.index);
+}

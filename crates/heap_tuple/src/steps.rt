@@ -1,0 +1,42 @@
+//! The steps of update chains.
+ghost use Rattle.std.specs.Prelude.{◌≡◌, ℕ, ◌<◌, ◌≤◌, ◌+◌, length, MatchOption, IfSome};
+ghost use Rattle.page_check.specs.Verdict.{IsValid};
+ghost use Rattle.page_check.specs.LinePointers.{count_of};
+ghost use Rattle.heap_tuple.specs.Tuples.{Steps, step_of, is_made_by};
+
+use crate::{TupleHeader, tuple};
+use page_check::{Page, count};
+
+fn was_made_by(header: Option<TupleHeader>, xid: u32) -> bool
+    ensures { result ≡ is_made_by header xid }
+{
+    match header {
+        Some(made) => made.xmin == xid,
+        None => false,
+    }
+}
+
+/// The index of the item to which the item at an index steps, in an update chain of the page of
+/// this block: the one that `t_ctid` names, where that is another item here, and the transaction
+/// that made it is the one that updated the item.
+#[tactic(auto, unfolding(crate::specs::Tuples::step_of))]
+pub fn step(page: &Page, block: u32, index: u16) -> Option<u16>
+    requires valid { IsValid page.now }
+    requires index { index < count_of page.now }
+    ensures value { result ≡ step_of page.now block index }
+    ensures step { MatchOption result ((next : ℕ) → Steps page.now block index next → ⊥)
+        (λ next. Steps page.now block index next) }
+    ensures below { IfSome result (λ next. next < count_of page.now) }
+{
+    let updated = tuple(page, index)?;
+    let named = updated.position;
+    if updated.block != block || named == 0 || named > count(page) || named == index + 1 {
+        return None;
+    }
+    let next = named - 1;
+    if was_made_by(tuple(page, next), updated.xmax) {
+        Some(next)
+    } else {
+        None
+    }
+}
