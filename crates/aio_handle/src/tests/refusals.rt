@@ -1,7 +1,7 @@
 //! When a backend gets a handle, and why it gets none.
 ghost use Rattle.std.specs.Prelude.{◌≡◌};
 
-use crate::tests::note::{Note, fresh, last, submitted};
+use crate::tests::note::{Note, closed, fresh, hand_in, last, nobody, submitted};
 use crate::{AcquireRefusal, Table};
 use aio_word::WaitRef;
 use page_check::World;
@@ -84,11 +84,17 @@ fn each_handle_is_given_once(rt: HostRuntime) -> Result<(), AllocError> {
     Ok(())
 }
 
-/// The refusal of a backend whose handle begins at the last generation, its room and its number,
-/// and the room and the number of a runner.
-fn at_the_end<W: World>(
-    alloc: Global,
-) -> Result<Option<(AcquireRefusal, (u64, u32), (u64, u32))>, AllocError>
+/// What is seen of a table whose one handle begins at the last generation.
+#[derive(Drop)]
+struct AtTheEnd {
+    refusal: AcquireRefusal,
+    /// The room and the number of the backend, and those of the runner.
+    backend: (u64, u32),
+    runner: (u64, u32),
+    totals: (u128, u128, u128),
+}
+
+fn at_the_end<W: World>(alloc: Global) -> Result<Option<AtTheEnd>, AllocError>
     requires { W.handles ≡ 1 }
 {
     let (table, mut actors) = Table::<Note, W>::open(alloc, 1, 1, 1, (1 << 58) - 1)?;
@@ -98,22 +104,29 @@ fn at_the_end<W: World>(
     let Some(mut backend) = last(&table, &mut actors) else {
         return Ok(None);
     };
-    let Err(none) = table.acquire(&mut backend) else {
+    let Err(refusal) = table.acquire(&mut backend) else {
         return Ok(None);
     };
-    Ok(Some((
-        none,
-        (backend.room(), backend.number()),
-        (runner.room(), runner.number()),
-    )))
+    let of_backend = (backend.room(), backend.number());
+    let of_runner = (runner.room(), runner.number());
+    let mut all = nobody(&table, alloc);
+    hand_in(&table, &mut all, backend)?;
+    hand_in(&table, &mut all, runner)?;
+    Ok(Some(AtTheEnd {
+        refusal,
+        backend: of_backend,
+        runner: of_runner,
+        totals: closed(table, all),
+    }))
 }
 
 #[test]
 fn the_last_generation_is_not_given(rt: HostRuntime) -> Result<(), AllocError> {
-    let Some((none, backend, runner)) = at_the_end::<Brand>(rt.alloc())? else {
+    let Some(end) = at_the_end::<Brand>(rt.alloc())? else {
         panic!(&rt; "no handle is free")
     };
-    assert!(&rt; none == AcquireRefusal::NoneFree);
-    assert!(&rt; backend == (0, 0) && runner == (0, 1));
+    assert!(&rt; end.refusal == AcquireRefusal::NoneFree);
+    assert!(&rt; end.backend == (0, 0) && end.runner == (0, 1));
+    assert!(&rt; end.totals == (0, 0, 0));
     Ok(())
 }

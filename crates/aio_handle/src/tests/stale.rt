@@ -1,4 +1,5 @@
-//! References of generations before and after that of an I/O in flight.
+//! References of generations before and after that of an I/O in flight, below the start and far
+//! above it.
 ghost use Rattle.std.specs.Prelude.{◌≡◌};
 
 use crate::tests::note::{Note, last, live, submitted};
@@ -72,5 +73,67 @@ fn stale_reference(rt: HostRuntime) -> Result<(), AllocError> {
     assert!(&rt; stale.checks == [true, false, false]);
     assert!(&rt; stale.claims == [false, true, false]);
     assert!(&rt; stale.early);
+    Ok(())
+}
+
+/// What the calls answer to references below the start, at it and far above it, and to one that
+/// was reclaimed.
+#[derive(Drop)]
+struct Far {
+    checks: [bool; 3],
+    far_claim: bool,
+    reclaimed_claims: [bool; 2],
+}
+
+fn of_far_generations<W: World>(alloc: Global) -> Result<Option<Far>, AllocError>
+    requires { W.handles ≡ 1 }
+{
+    let (table, mut actors) = Table::<Note, W>::open(alloc, 1, 1, 1, 7)?;
+    let Some(mut runner) = last(&table, &mut actors) else {
+        return Ok(None);
+    };
+    let Some(mut backend) = last(&table, &mut actors) else {
+        return Ok(None);
+    };
+    let below = WaitRef {
+        handle: 0,
+        generation: 6,
+    };
+    let first = WaitRef {
+        handle: 0,
+        generation: 7,
+    };
+    let far = WaitRef {
+        handle: 0,
+        generation: u64::MAX,
+    };
+    let checks = [
+        table.check(&mut runner, below),
+        table.check(&mut runner, first),
+        table.check(&mut runner, far),
+    ];
+    let far_claim = table.claim(&mut runner, far).is_some();
+    if !live(&table, &mut backend) {
+        return Ok(None);
+    }
+    let reclaimed_claims = [
+        table.claim(&mut runner, first).is_some(),
+        table.claim(&mut runner, first).is_some(),
+    ];
+    Ok(Some(Far {
+        checks,
+        far_claim,
+        reclaimed_claims,
+    }))
+}
+
+#[test]
+fn references_below_the_start_and_far_above(rt: HostRuntime) -> Result<(), AllocError> {
+    let Some(far) = of_far_generations::<Brand>(rt.alloc())? else {
+        panic!(&rt; "a handle is free")
+    };
+    assert!(&rt; far.checks == [true, false, false]);
+    assert!(&rt; !far.far_claim);
+    assert!(&rt; far.reclaimed_claims == [false, false]);
     Ok(())
 }
