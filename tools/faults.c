@@ -1,0 +1,110 @@
+// A library to be preloaded: makes one call of a kind fail, give less than was asked for, or be
+// interrupted, and counts the calls of each kind. tools/fault_runs builds and uses it.
+//
+// FAULT_KIND  what the call is: open, status (statx), length (lseek), read (pread), out, err
+//             (write to the two standard streams), memory (malloc, realloc), thread (clone3)
+// FAULT_AT    which call of that kind, from 1; 0 for none
+// FAULT_HOW   fail, full (the system's want of memory), short, interrupted
+// FAULT_COUNT a file that gets the number of calls of that kind
+#define _GNU_SOURCE
+#include <dlfcn.h>
+#include <errno.h>
+#include <fcntl.h>
+#include <stdarg.h>
+#include <stdatomic.h>
+#include <stdlib.h>
+#include <string.h>
+#include <sys/stat.h>
+#include <sys/types.h>
+#include <unistd.h>
+
+static atomic_long calls;
+static long fault_at = -1;
+static const char *fault_kind = "", *fault_how = "";
+
+__attribute__((constructor)) static void read_settings(void) {
+  const char *kind = getenv("FAULT_KIND"), *how = getenv("FAULT_HOW"), *at = getenv("FAULT_AT");
+  fault_kind = kind ? kind : "";
+  fault_how = how ? how : "fail";
+  atomic_store(&calls, 0);
+  fault_at = at ? atol(at) : 0;
+}
+
+__attribute__((destructor)) static void write_count(void) {
+  const char *path = getenv("FAULT_COUNT");
+  fault_at = -1;
+  if (!path) return;
+  int file = open(path, O_WRONLY | O_CREAT | O_TRUNC, 0600);
+  if (file < 0) return;
+  char text[24];
+  int at = sizeof text;
+  long n = atomic_load(&calls);
+  do text[--at] = '0' + n % 10; while (n /= 10);
+  if (write(file, text + at, sizeof text - at) < 0) {}
+  close(file);
+}
+
+// Whether this call of the kind is the one.
+static int is_hit(const char *kind) {
+  if (fault_at < 0 || strcmp(kind, fault_kind)) return 0;
+  return atomic_fetch_add(&calls, 1) + 1 == fault_at;
+}
+
+static int is_how(const char *how) { return !strcmp(fault_how, how); }
+
+// The error of a call that fails.
+static int fault(void) {
+  errno = is_how("interrupted") ? EINTR : is_how("full") ? ENOMEM : EIO;
+  return -1;
+}
+
+#define REAL(type, name, ...) ((type(*)(__VA_ARGS__))dlsym(RTLD_NEXT, name))
+
+int open(const char *path, int flags, ...) {
+  va_list rest;
+  va_start(rest, flags);
+  mode_t mode = flags & (O_CREAT | O_TMPFILE) ? va_arg(rest, mode_t) : 0;
+  va_end(rest);
+  if (is_hit("open")) return fault();
+  return REAL(int, "open", const char *, int, ...)(path, flags, mode);
+}
+
+int statx(int at, const char *path, int flags, unsigned mask, struct statx *found) {
+  if (is_hit("status")) return fault();
+  return REAL(int, "statx", int, const char *, int, unsigned, struct statx *)(at, path, flags, mask, found);
+}
+
+off_t lseek(int file, off_t at, int from) {
+  if (is_hit("length")) return fault();
+  return REAL(off_t, "lseek", int, off_t, int)(file, at, from);
+}
+
+ssize_t pread(int file, void *bytes, size_t count, off_t at) {
+  if (is_hit("read")) {
+    if (!is_how("short")) return fault();
+    count = count > 5000 ? 5000 : count / 2 + 1;
+  }
+  return REAL(ssize_t, "pread", int, void *, size_t, off_t)(file, bytes, count, at);
+}
+
+ssize_t write(int file, const void *bytes, size_t count) {
+  if ((file == 1 && is_hit("out")) || (file == 2 && is_hit("err"))) {
+    if (!is_how("short")) return fault();
+    count = count / 2 + 1;
+  }
+  return REAL(ssize_t, "write", int, const void *, size_t)(file, bytes, count);
+}
+
+void *malloc(size_t size) {
+  static void *(*real)(size_t);
+  if (!real) real = REAL(void *, "malloc", size_t);
+  if (is_hit("memory")) return errno = ENOMEM, NULL;
+  return real(size);
+}
+
+void *realloc(void *old, size_t size) {
+  static void *(*real)(void *, size_t);
+  if (!real) real = REAL(void *, "realloc", void *, size_t);
+  if (is_hit("memory")) return errno = ENOMEM, NULL;
+  return real(old, size);
+}
