@@ -5,7 +5,7 @@
 //             (write to the two standard streams), memory (malloc, realloc), thread (clone3)
 // FAULT_AT    which call of that kind, from 1; 0 for none
 // FAULT_HOW   fail, full (the system's want of memory), short, interrupted
-// FAULT_COUNT a file that gets the number of calls of that kind
+// FAULT_COUNT a file that gets the number of calls of that kind, as the machine keeps a long
 #define _GNU_SOURCE
 #include <dlfcn.h>
 #include <errno.h>
@@ -14,40 +14,35 @@
 #include <stdatomic.h>
 #include <stdlib.h>
 #include <string.h>
+#include <sys/mman.h>
 #include <sys/stat.h>
 #include <sys/types.h>
 #include <unistd.h>
 
-static atomic_long calls;
+static atomic_long own_calls, *calls = &own_calls;
 static long fault_at = -1;
 static const char *fault_kind = "", *fault_how = "";
 
+// The count lies in a file, since a program may end without running what is registered for its end.
 __attribute__((constructor)) static void read_settings(void) {
-  const char *kind = getenv("FAULT_KIND"), *how = getenv("FAULT_HOW"), *at = getenv("FAULT_AT");
-  fault_kind = kind ? kind : "";
-  fault_how = how ? how : "fail";
-  atomic_store(&calls, 0);
+  const char *path = getenv("FAULT_COUNT"), *at = getenv("FAULT_AT");
+  if (path) {
+    int file = open(path, O_RDWR | O_CREAT | O_TRUNC, 0600);
+    if (file >= 0 && !ftruncate(file, sizeof *calls)) {
+      void *found = mmap(NULL, sizeof *calls, PROT_READ | PROT_WRITE, MAP_SHARED, file, 0);
+      if (found != MAP_FAILED) calls = found;
+    }
+    close(file);
+  }
+  if (getenv("FAULT_KIND")) fault_kind = getenv("FAULT_KIND");
+  fault_how = getenv("FAULT_HOW") ? getenv("FAULT_HOW") : "fail";
   fault_at = at ? atol(at) : 0;
-}
-
-__attribute__((destructor)) static void write_count(void) {
-  const char *path = getenv("FAULT_COUNT");
-  fault_at = -1;
-  if (!path) return;
-  int file = open(path, O_WRONLY | O_CREAT | O_TRUNC, 0600);
-  if (file < 0) return;
-  char text[24];
-  int at = sizeof text;
-  long n = atomic_load(&calls);
-  do text[--at] = '0' + n % 10; while (n /= 10);
-  if (write(file, text + at, sizeof text - at) < 0) {}
-  close(file);
 }
 
 // Whether this call of the kind is the one.
 static int is_hit(const char *kind) {
   if (fault_at < 0 || strcmp(kind, fault_kind)) return 0;
-  return atomic_fetch_add(&calls, 1) + 1 == fault_at;
+  return atomic_fetch_add(calls, 1) + 1 == fault_at;
 }
 
 static int is_how(const char *how) { return !strcmp(fault_how, how); }
