@@ -510,7 +510,7 @@ impl<'d, 'p, W: World, S: BlockSource<P> + Drop, P: Copy> ReadStream<'d, 'p, W, 
         ensures { IfSome self.now.current (λ io. IsPart W.told io block result) }
     {
         match &self.current {
-            Some(io) => part_of::<W>(io, io.first() + (block - io.first())),
+            Some(io) => part_of::<W>(io, block),
             None => unreachable!(),
         }
     }
