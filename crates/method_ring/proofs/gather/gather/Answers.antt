@@ -1,0 +1,52 @@
+use Rattle.std.proofs.Common.{ℕ, refl, sym, ◌∙◌, subst}
+use Rattle.aio_word.specs.declared.Known.{Known}
+use Rattle.method_ring.specs.Holding.{AreBelow}
+use Rattle.method_ring.specs.Running.{claims_of}
+use Rattle.method_ring.proofs.Gathering.{gathers-none, gathers-then}
+use Rattle.method_ring.proofs.Popping.{pops-none, pops-one}
+use Rattle.method_ring.proofs.gather.gather.Goals as goal
+
+pub loop-popped-init : goal.loop-popped-init
+loop-popped-init g c = record {
+  queue = c.requires.queue;
+  seat = (refl, refl, refl);
+  table = c.requires.table;
+  same = (refl, refl, refl);
+  told = refl;
+  relations = refl;
+  reads = refl;
+  faults = refl;
+  gathers = gathers-none g.W.World.told g.W.World.relations c.args.actor.now.known
+      c.args.group.now.held
+      (subst (λ (n : ℕ). AreBelow n c.args.group.now.held) (sym c.requires.one) c.requires.numbers)
+      c.requires.held;
+  pops = pops-none c.args.seat.now c.args.actor.now.known;
+}
+
+pub loop-popped-preserved : goal.loop-popped-preserved
+loop-popped-preserved g c =
+    let i = c.loop-popped.invariant in
+    let seat = c.pop.ensures.same in
+    let same = c.join.ensures.same in
+    let told = c.join.ensures.told in
+    let counts = c.join.ensures.counts in
+    let now = c.join.ensures.gathers in
+    let p : Known = c.args.actor.now.known in
+    let q : Known = c.loop-popped.actor.known in
+    let r : Known = c.join.new.actor.known in
+    let (word, popped) = c.in-Entry.ensures.popped in
+    record {
+      queue = (seat.0 ∙ i.queue.0, seat.1 ∙ i.queue.1);
+      seat = (seat.0 ∙ i.seat.0, seat.1 ∙ i.seat.1, seat.2 ∙ i.seat.2);
+      table = (same.0 ∙ i.table.0, same.1 ∙ i.table.1);
+      same = (same.0 ∙ i.same.0, same.1 ∙ i.same.1, same.2 ∙ i.same.2);
+      told = told.0 ∙ i.told;
+      relations = told.1 ∙ i.relations;
+      reads = counts.0 ∙ i.reads;
+      faults = counts.1 ∙ i.faults;
+      gathers = gathers-then g.W.World.told g.W.World.relations c.loop-popped.popped 1 p q r
+          c.args.group.now.held c.loop-popped.group.held c.join.new.group.held i.gathers now;
+      pops = pops-one c.loop-popped.popped word c.in-Entry.reference
+          (claims_of i.gathers.others) (claims_of now.others) c.args.seat.now c.loop-popped.seat
+          c.pop.new.seat p q r i.pops i.gathers.grows popped.0 now.grows c.join.ensures.sees;
+    }

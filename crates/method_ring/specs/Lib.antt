@@ -1,0 +1,7 @@
+pub mod Numbered
+pub mod Pending
+pub mod Sim
+pub mod Holding
+pub mod Grouped
+pub mod Running
+pub mod Trials

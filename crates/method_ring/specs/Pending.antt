@@ -1,0 +1,24 @@
+-- What is pending in a ring.
+use Rattle.std.specs.Prelude.{ℕ, ◌≡◌, List, Option, Some, None}
+use Rattle.method_ring.specs.declared.ring.Entry.{Entry}
+use Rattle.method_ring.specs.Numbered.{first_by, without}
+
+abbrev pub entry : ℕ → ℕ → ℕ → ℕ → Entry
+entry user relation first count =
+    record { user = user; relation = relation; first = first; count = count }
+
+abbrev pub user_in : Entry → ℕ
+user_in e = e.user
+
+-- the entry with this number
+abbrev pub entry_of : ℕ → List Entry → Option Entry
+entry_of user entries = first_by user_in user entries
+
+-- the others
+abbrev pub without_entry : ℕ → List Entry → List Entry
+without_entry user entries = without user_in user entries
+
+-- there is such an entry, and it reads as many pages as this
+abbrev pub IsFilledBy : Option Entry → ℕ → Type 0
+IsFilledBy None pages = ⊥
+IsFilledBy (Some e) pages = pages ≡ e.count

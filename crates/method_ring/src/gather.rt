@@ -1,0 +1,80 @@
+//! Further I/Os for a group, from the submission queue.
+ghost use Rattle.std.specs.Prelude.{◌≡◌, ◌<◌, ◌≤◌, length};
+ghost use Rattle.aio_handle.specs.Shown.{IsOf, IsSame};
+ghost use Rattle.method_worker.specs.Shown.{IsSeatOf, IsSameSeat};
+ghost use Rattle.method_ring.specs.Holding.{AreHeld, AreBelow};
+ghost use Rattle.method_ring.specs.Running.{Gathers, Pops};
+ghost use Rattle.method_worker.specs.Working.{SeesTo};
+
+use crate::group::Group;
+use crate::ring::Ring;
+use aio_callback::ReadIo;
+use aio_handle::{Actor, Table};
+use aio_word::WaitRef;
+use method_worker::{Pop, QueueSeat, SubmitQueue};
+use page_check::World;
+use std::sync::Wait;
+
+/// Claims the I/O, where nobody has claimed it, and adds it to the group.
+fn join<W: World, G: Ring>(
+    table: &Table<ReadIo, W>,
+    actor: &mut Actor<ReadIo, W>,
+    group: &mut Group<G, W>,
+    reference: WaitRef,
+)
+    requires table { IsOf table.now actor.old }
+    requires told { (G.told group.old.ring ≡ W.told)
+        × (G.relations group.old.ring ≡ W.relations) }
+    requires range { reference.handle < W.handles }
+    requires room { length group.old.held < 8 }
+    requires numbers { AreBelow (length group.old.held) group.old.held }
+    requires held { AreHeld W.told W.relations actor.old.known group.old.held }
+    ensures same { IsSame actor.old actor.new }
+    ensures told { (G.told group.new.ring ≡ G.told group.old.ring)
+        × (G.relations group.new.ring ≡ G.relations group.old.ring) }
+    ensures counts { (G.reads group.new.ring ≡ G.reads group.old.ring)
+        × (G.faults group.new.ring ≡ G.faults group.old.ring) }
+    ensures gathers { Gathers W.told W.relations 1 actor.old.known actor.new.known group.old.held
+        group.new.held }
+    ensures sees { SeesTo actor.old.known actor.new.known reference }
+{
+    actor.keeps();
+    if let Some(claimed) = table.claim(actor, reference) {
+        group.enter(claimed);
+    }
+}
+
+/// Pops at most 7 references, and adds to the group what can be claimed of them.
+pub(crate) fn gather<W: World, G: Ring, T: Wait>(
+    rt: &T,
+    queue: &SubmitQueue<W>,
+    seat: &mut QueueSeat,
+    table: &Table<ReadIo, W>,
+    actor: &mut Actor<ReadIo, W>,
+    group: &mut Group<G, W>,
+)
+    requires queue { IsSeatOf queue.now seat.old }
+    requires table { IsOf table.now actor.old }
+    requires told { (G.told group.old.ring ≡ W.told)
+        × (G.relations group.old.ring ≡ W.relations) }
+    requires one { length group.old.held ≡ 1 }
+    requires numbers { AreBelow 1 group.old.held }
+    requires held { AreHeld W.told W.relations actor.old.known group.old.held }
+    ensures seat { IsSameSeat seat.old seat.new }
+    ensures same { IsSame actor.old actor.new }
+    ensures told { (G.told group.new.ring ≡ G.told group.old.ring)
+        × (G.relations group.new.ring ≡ G.relations group.old.ring) }
+    ensures counts { (G.reads group.new.ring ≡ G.reads group.old.ring)
+        × (G.faults group.new.ring ≡ G.faults group.old.ring) }
+    ensures gathers { Gathers W.told W.relations 7 actor.old.known actor.new.known group.old.held
+        group.new.held }
+    ensures pops { Pops 7 seat.old seat.new actor.old.known actor.new.known }
+{
+    for popped in 0..7u32 {
+        match queue.pop(rt, seat) {
+            Pop::Entry(reference) => join(table, actor, group, reference),
+            Pop::Empty => return,
+            Pop::Closed => return,
+        }
+    }
+}

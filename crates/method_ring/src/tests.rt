@@ -1,0 +1,126 @@
+//! Rings that complete in a given order.
+ghost use Rattle.std.specs.Prelude.{◌≡◌, ◌≢◌, ◌<◌, ◌≤◌, [], IfOk, IfNone, IfSome, length};
+ghost use Rattle.aio_word.specs.Stands.{IsIn};
+ghost use Rattle.method_ring.specs.declared.ring.Entry.{Entry};
+ghost use Rattle.method_ring.specs.Trials.{AreReadInto};
+
+use crate::{Ring, SimRing};
+use aio_disk::{Disk, MemShelf, SteadyDisk, SteadyShelf};
+use page_check::Page;
+use std::alloc::{AllocError, Global};
+use std::process::Abort;
+use std::test::Fail;
+
+/// A shelf with a file `f` of so many pages of zeros.
+pub(crate) fn shelf_of<R: Abort + AllocGlobal>(rt: &R, blocks: usize) -> Result<SteadyShelf, Fail>
+    requires { blocks ≤ 100 }
+{
+    let alloc = rt.alloc();
+    let bytes = Vec::from_elem(alloc, 0u8, 8192 * blocks)?;
+    let files = vec![in alloc; (String::from_str(alloc, "f")?, bytes)]?;
+    assert!(rt; aio_disk::have_distinct_names(files.as_slice()));
+    Ok(MemShelf::steady(alloc, files, 10)?)
+}
+
+/// A disk for the file.
+pub(crate) fn disk_of<R: Abort + AllocGlobal>(
+    rt: &R,
+    shelf: &mut SteadyShelf,
+) -> Result<SteadyDisk, Fail>
+    ensures { IfOk result (λ disk. length disk.relations ≡ 1) }
+{
+    let alloc = rt.alloc();
+    let names = vec![in alloc; String::from_str(alloc, "f")?]?;
+    Ok(shelf.open(names.as_slice()).ok().ok_or("no disk")?)
+}
+
+/// The blocks that were read, in their order.
+pub(crate) fn blocks_read(alloc: Global, shelf: &SteadyShelf) -> Result<Vec<u32>, AllocError> {
+    let mut blocks = Vec::new(alloc);
+    for entry in shelf.log() {
+        blocks.push(entry.first)?;
+    }
+    Ok(blocks)
+}
+
+/// Picks a read and fills it: its number. None where nothing is pending, and where the read fails.
+fn complete_next<G: Ring>(ring: &mut G, pages: &mut [Page]) -> Option<u32>
+    requires pages { AreReadInto (length pages.old) (G.pending ring.old) }
+    ensures length { length pages.new ≡ length pages.old }
+    ensures pages { AreReadInto (length pages.old) (G.pending ring.new) }
+{
+    let user = ring.pick()?;
+    match ring.fill(user, pages) {
+        Ok(_) => Some(user),
+        Err(_) => None,
+    }
+}
+
+/// The disk of a ring in which nothing is pending.
+fn disk_back<D: Disk>(mut ring: SimRing<D>) -> Option<D> {
+    match ring.pick() {
+        Some(_) => None,
+        None => Some(ring.into_disk()),
+    }
+}
+
+/// Reads blocks 0, 1 and 2 under these numbers through a ring of this order: the numbers as they
+/// are picked, and the disk, once nothing is pending.
+fn three_picks<D: Disk>(
+    alloc: Global,
+    disk: D,
+    order: Vec<u32>,
+) -> Result<Option<(Vec<u32>, D)>, AllocError>
+    requires { 0 < D.relations disk }
+{
+    let Ok(mut ring) = SimRing::open(alloc, disk, order) else {
+        return Ok(None);
+    };
+    ring.submit(0, 0, 0, 1);
+    ring.submit(1, 0, 1, 1);
+    ring.submit(2, 0, 2, 1);
+    let mut page = [Page::zeroed(alloc)?];
+    let mut picked = Vec::new(alloc);
+    for _ in 0..3u32 {
+        let Some(user) = complete_next(&mut ring, &mut page) else {
+            return Ok(None);
+        };
+        picked.push(user)?;
+    }
+    match disk_back(ring) {
+        Some(disk) => Ok(Some((picked, disk))),
+        None => Ok(None),
+    }
+}
+
+/// Whether a ring of this order picks and fills these three, and has then nothing pending.
+fn picks_and_reads<R: Abort + AllocGlobal>(
+    rt: &R,
+    order: [u32; 3],
+    wanted: [u32; 3],
+) -> Result<(), Fail> {
+    let alloc = rt.alloc();
+    let mut shelf = shelf_of(rt, 3)?;
+    let disk = disk_of(rt, &mut shelf)?;
+    let order = Vec::from_array(alloc, order)?;
+    let (picked, disk) = three_picks(alloc, disk, order)?.ok_or("three picks, and then none")?;
+    shelf.take_back(disk);
+    assert_eq!(rt; picked.as_slice(), wanted.as_slice());
+    assert_eq!(rt; blocks_read(alloc, &shelf)?.as_slice(), wanted.as_slice());
+    Ok(())
+}
+
+#[test]
+fn order_2_0_0_picks_2_0_1_and_then_none(rt: HostRuntime) -> Result<(), Fail> {
+    picks_and_reads(&rt, [2, 0, 0], [2, 0, 1])
+}
+
+#[test]
+fn each_order_of_three_reads_is_picked(rt: HostRuntime) -> Result<(), Fail> {
+    picks_and_reads(&rt, [0, 0, 0], [0, 1, 2])?;
+    picks_and_reads(&rt, [0, 1, 0], [0, 2, 1])?;
+    picks_and_reads(&rt, [1, 0, 0], [1, 0, 2])?;
+    picks_and_reads(&rt, [1, 1, 0], [1, 2, 0])?;
+    picks_and_reads(&rt, [2, 0, 0], [2, 0, 1])?;
+    picks_and_reads(&rt, [2, 1, 0], [2, 1, 0])
+}
