@@ -15,5 +15,6 @@ pub mod Telling
 pub mod Cutting
 pub mod Jobs
 pub mod Returned
+pub mod Totals
 pub mod Rounds
 pub mod EndOfScan

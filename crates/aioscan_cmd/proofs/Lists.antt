@@ -6,6 +6,7 @@ use Rattle.page_check.specs.SynchronousAnswer.{Ending, End, Reader}
 use Rattle.page_check.proofs.AnswersInOrder.{answered_none, slice_get_front, slice_get_back}
 use Rattle.page_check.proofs.AnswersOfLists.{length_whole}
 use Rattle.page_check.proofs.AnswersOfBlocks.{answered_no_block}
+use Rattle.heap_scan.specs.Job.{IsJobAnswer}
 use Rattle.heap_scan.specs.Listing.{listing}
 use Rattle.heap_scan.specs.Sums.{joined, no_sums, sums_of}
 use Rattle.heap_scan.proofs.Jobs.{job_append, job_more, IsEarly}
@@ -28,18 +29,23 @@ no_listing = refl
 no_pages_sums : sums_of (let none : List Page = [] in none) ≡ no_sums
 no_pages_sums = sums_of-none (Unit {0})
 
+-- no blocks have no pages
+pub no_answer : (found : Option Reader) → IsJobAnswer found (λ (e : Request). ⊤) [] [] no_sums
+    (Some End)
+no_answer found = record {
+  pages = [];
+  text_is = sym no_listing;
+  sums_are = sym no_pages_sums;
+  answers = answered_no_block found (λ _. ⊤);
+}
+
 -- no blocks
 pub lists_none : (found : Option Reader) (s : Option (List ℕ)) → Lists found [] s s Done
 lists_none found s = record {
   begun = refl;
   text = [];
   sums = no_sums;
-  answer = record {
-    pages = [];
-    text_is = sym no_listing;
-    sums_are = sym no_pages_sums;
-    answers = answered_no_block found (λ _. ⊤);
-  };
+  answer = no_answer found;
   here = λ e is. absurd (cc);
   grew = Grew-nothing s;
 }

@@ -13,6 +13,10 @@ use Rattle.aioscan_cmd.specs.declared.report.Outcome.{Outcome}
 use Rattle.aioscan_cmd.specs.declared.report.Outcome.TheVariants.{Done, Invalid, Usage, CannotOpen}
 use Rattle.aioscan_cmd.specs.declared.report.Outcome.TheVariants.{NoLength, Unread, CannotWrite}
 use Rattle.aioscan_cmd.specs.declared.report.Outcome.TheVariants.{NoMemory, Missing, TooLong}
+use Rattle.heap_scan.specs.Sums.{joined, no_sums}
+use Rattle.heap_scan.specs.declared.sums.PageSums.{PageSums}
+use Rattle.aioscan_cmd.specs.Sums.{GaveAll, HasSums, kept_sums, total_of}
+use Rattle.aioscan_cmd.proofs.Totals.{none_summed, round_summed}
 use Rattle.aioscan_cmd.proofs.Causing.{written_then}
 use Rattle.aioscan_cmd.proofs.Lists.{lists_none, lists_append, lists_more}
 
@@ -52,8 +56,10 @@ module _ {W O : Type 0} (found : Option Reader) (written : O → Option (List �
         → AreAnswered found asked jobs → old.outcome ≡ Done → new.blocks ≡ old.blocks
         → new.out.ghost_name ≡ old.out.ghost_name
         → AreListedBy jobs (written old.out.now) (written new.out.now) new.outcome
-        → HasWritten (faults old.out.now) (faults new.out.now) new.outcome → Goes was new
-    round_written was old new asked jobs puts answered done same loan lists writes = (
+        → HasWritten (faults old.out.now) (faults new.out.now) new.outcome
+        → (new.outcome ≡ Done → GaveAll jobs)
+        → new.sums ≡ kept_sums (joined old.sums (total_of jobs)) → Goes was new
+    round_written was old new asked jobs puts answered done same loan lists writes gave sums = (
       loan ∙ puts.loan,
       λ all before faults_before so_far.
           (let was_done : was.outcome ≡ Done = sym puts.outcome ∙ done in
@@ -72,6 +78,10 @@ module _ {W O : Type 0} (found : Option Reader) (written : O → Option (List �
             lists = lists_append found so_far.asked (requests_in asked) before
                 (written old.out.now) (written new.out.now) new.outcome first
                 (lists found asked answered);
+            sums = λ all_given.
+                (let S : PageSums → Type 0 = λ s. HasSums found so_far.asked s in
+                round_summed found so_far.asked asked jobs old.sums new.sums
+                (subst S (sym puts.sums) (so_far.sums was_done)) answered (gave all_given) sums);
             writes = written_then _ _ _ _ was_written.later writes;
           }),
     )
@@ -92,27 +102,30 @@ module _ {W O : Type 0} (found : Option Reader) (written : O → Option (List �
             cut = so_far.cut;
             left = λ done. absurd (over done);
             lists = subst Q (sym puts.out) (subst P (sym puts.outcome) so_far.lists);
+            sums = λ done. absurd (over done);
             writes = subst V (sym puts.out) (subst U (sym puts.outcome) so_far.writes);
           }),
     )
 
     -- from the first round to the last
-    ended : (all : List Request) (s t : Lister W O) → s.outcome ≡ Done → s.blocks ≡ all → Goes s t
-        → Listed all (written s.out.now) (faults s.out.now) t
-    ended all s t done same goes =
+    ended : (all : List Request) (s t : Lister W O) → s.outcome ≡ Done → s.blocks ≡ all
+        → s.sums ≡ no_sums → Goes s t → Listed all (written s.out.now) (faults s.out.now) t
+    ended all s t done same none goes =
         goes.1 all (written s.out.now) (faults s.out.now) (record {
           asked = [];
           rest = all;
           cut = refl;
           left = λ _. sym same;
           lists = no_blocks_listed found (written s.out.now) s.outcome done;
+          sums = λ _. none_summed found s.sums none;
           writes = nothing_written (faults s.out.now) s.outcome done;
         })
 
     pub all_listed : (all : List Request) (s t : Lister W O) → s.outcome ≡ Done → s.blocks ≡ all
-        → Goes s t → IsOver t → Lists found all (written s.out.now) (written t.out.now) t.outcome
-    all_listed all s t done same goes over =
-        let at = ended all s t done same goes in
+        → s.sums ≡ no_sums → Goes s t → IsOver t
+        → Lists found all (written s.out.now) (written t.out.now) t.outcome
+    all_listed all s t done same no_sum goes over =
+        let at = ended all s t done same no_sum goes in
         let P : List Request → Type 0 =
         λ l. Lists found l (written s.out.now) (written t.out.now) t.outcome in
         let more : t.outcome ≢ Done → P all =
@@ -127,5 +140,17 @@ module _ {W O : Type 0} (found : Option Reader) (written : O → Option (List �
         over
 
     pub all_written : (all : List Request) (s t : Lister W O) → s.outcome ≡ Done → s.blocks ≡ all
-        → Goes s t → HasWritten (faults s.out.now) (faults t.out.now) t.outcome
-    all_written all s t done same goes = (ended all s t done same goes).writes
+        → s.sums ≡ no_sums → Goes s t
+        → HasWritten (faults s.out.now) (faults t.out.now) t.outcome
+    all_written all s t done same none goes = (ended all s t done same none goes).writes
+
+    pub all_summed : (all : List Request) (s t : Lister W O) → s.outcome ≡ Done → s.blocks ≡ all
+        → s.sums ≡ no_sums → Goes s t → IsOver t → t.outcome ≡ Done → HasSums found all t.sums
+    all_summed all s t done same no_sum goes over is =
+        let at = ended all s t done same no_sum goes in
+        let P : List Request → Type 0 = λ l. HasSums found l t.sums in
+        ⊎_elim (λ stops. absurd (stops is))
+        (λ none. (let whole : all ≡ at.asked =
+        at.cut ∙ ap (λ (l : List Request). at.asked ++ l) (at.left is ∙ none)
+        ∙ append-nil at.asked in subst P (sym whole) (at.sums is)))
+        over

@@ -9,6 +9,7 @@ pub mod Causes
 pub mod ErrorLine
 pub mod Lengths
 pub mod Cutting
+pub mod Sums
 pub mod Listing
 pub mod Disks
 pub mod Totals

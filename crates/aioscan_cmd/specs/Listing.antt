@@ -9,6 +9,7 @@ use Rattle.scan_rounds.specs.declared.job.Ending.TheVariants as ending
 use Rattle.scan_rounds.specs.declared.job.Job.{Job}
 use Rattle.aioscan_cmd.specs.RequestList.{Request}
 use Rattle.aioscan_cmd.specs.Reading.{Lists, HasWritten}
+use Rattle.aioscan_cmd.specs.Sums.{HasSums}
 use Rattle.aioscan_cmd.specs.declared.lister.Lister.{Lister}
 use Rattle.aioscan_cmd.specs.declared.report.Outcome.{Outcome}
 use Rattle.aioscan_cmd.specs.declared.report.Outcome.TheVariants.{Done, Invalid, Usage, CannotOpen}
@@ -62,6 +63,7 @@ module _ {W O : Type 0} where
     pub loan : t.out.ghost_name ≡ s.out.ghost_name
     pub out : t.out.now ≡ s.out.now
     pub outcome : t.outcome ≡ s.outcome
+    pub sums : t.sums ≡ s.sums
     pub cut : s.blocks ≡ requests_in asked ++ t.blocks
 
   module _ (found : Option Reader) (written : O → Option (List ℕ)) (faults : O → ℕ) where
@@ -73,6 +75,7 @@ module _ {W O : Type 0} where
       pub cut : all ≡ asked ++ rest
       pub left : l.outcome ≡ Done → rest ≡ l.blocks
       pub lists : Lists found asked before (written l.out.now) l.outcome
+      pub sums : l.outcome ≡ Done → HasSums found asked l.sums
       pub writes : HasWritten faults_before (faults l.out.now) l.outcome
 
     -- some rounds have led from one state to the other: whatever was listed by the first, with

@@ -5,10 +5,13 @@ ghost use Rattle.scan_rounds.specs.Jobs.{IsFresh, unread_among};
 ghost use Rattle.aioscan_cmd.specs.Reading.{HasWritten};
 ghost use Rattle.aioscan_cmd.specs.Listing.{requests_in, unread_count, outcome_for};
 ghost use Rattle.aioscan_cmd.specs.Listing.{IsListedBy, AreListedBy};
+ghost use Rattle.aioscan_cmd.specs.Sums.{GaveAll, kept_sums, total_of};
+ghost use Rattle.heap_scan.specs.Sums.{joined};
 
 use crate::Outcome;
 use crate::cutter::Cutter;
 use aio_disk::{Sink, WriteFault};
+use heap_scan::PageSums;
 use page_check::World;
 use scan_rounds::{Agenda, Ending, Job};
 
@@ -19,6 +22,8 @@ pub(crate) struct Lister<'a, 'w, W: World, O: Sink> {
     pub(crate) out: &'a mut O,
     /// `Done` as long as nothing has ended the run.
     pub(crate) outcome: Outcome,
+    /// The sums over the pages of the jobs that were done.
+    pub(crate) sums: PageSums,
 }
 
 // Puts the next blocks into jobs: so many.
@@ -55,6 +60,7 @@ fn write_job<O: Sink>(job: &Job, out: &mut O) -> Outcome
     ensures lists { IsListedBy job.now (O.written out.old) (O.written out.new) result }
     ensures writes { HasWritten (O.faults out.old) (O.faults out.new) result }
     ensures unread { unread_count result ≤ unread_among (job.now ∷ []) }
+    ensures gave { result ≡ Outcome.Done → GaveAll (job.now ∷ []) }
 {
     if job.text.is_empty() {
         return outcome_of(job);
@@ -71,6 +77,7 @@ fn write_jobs<O: Sink>(jobs: &[Job], out: &mut O) -> Outcome
     ensures lists { AreListedBy jobs.now (O.written out.old) (O.written out.new) result }
     ensures writes { HasWritten (O.faults out.old) (O.faults out.new) result }
     ensures unread { unread_count result ≤ unread_among jobs.now }
+    ensures gave { result ≡ Outcome.Done → GaveAll jobs.now }
 {
     for job in jobs {
         match write_job(job, out) {
@@ -79,6 +86,23 @@ fn write_jobs<O: Sink>(jobs: &[Job], out: &mut O) -> Outcome
         }
     }
     Outcome::Done
+}
+
+// Adds the sums of jobs to these.
+fn add_up(jobs: &[Job], sums: PageSums) -> PageSums
+    ensures { result ≡ kept_sums (joined sums (total_of jobs.now)) }
+{
+    let PageSums {
+        mut pages,
+        mut zero,
+        mut items,
+    } = sums;
+    for job in jobs {
+        pages = pages.saturating_add(job.tally.pages);
+        zero = zero.saturating_add(job.tally.zero);
+        items = items.saturating_add(job.tally.items);
+    }
+    PageSums { pages, zero, items }
 }
 
 // Whether there may be another round.
@@ -118,6 +142,7 @@ impl<'a, 'w, W: World, O: Sink> Agenda<W> for Lister<'a, 'w, W, O> {
         match self.outcome {
             Outcome::Done => {
                 self.outcome = write_jobs(jobs, self.out);
+                self.sums = add_up(jobs, self.sums);
                 goes_on(self.outcome)
             }
             _ => false,

@@ -15,6 +15,7 @@ ghost use Rattle.aioscan_cmd.specs.Lengths.{HasLengths};
 ghost use Rattle.aioscan_cmd.specs.Reading.{Lists, HasWritten, seen};
 ghost use Rattle.aioscan_cmd.specs.Run.{Ran};
 ghost use Rattle.aioscan_cmd.specs.Causes.{HasScanned, HasCauses, CallsInOrder};
+ghost use Rattle.aioscan_cmd.specs.Sums.{HasSums};
 ghost use Rattle.aioscan_cmd.specs.Totals.{AreCounted, AreOfScan};
 
 use crate::Outcome;
@@ -26,6 +27,7 @@ use crate::relations::Relations;
 use crate::report::{Numbers, RunEnd};
 use crate::words::Command;
 use aio_disk::{Disk, OpenFault, Shelf, Sink};
+use heap_scan::PageSums;
 use page_check::World;
 use scan_rounds::{MethodKind, Scan, ScanSettings};
 use std::alloc::Global;
@@ -46,7 +48,7 @@ fn list_rounds<W: World + Send + Sync, D: Disk, O: Sink, R: Threads + Wait + Syn
     scan: &mut Scan<W, D>,
     asked: Asked<'_, '_>,
     out: &mut O,
-) -> Outcome
+) -> (Outcome, PageSums)
     requires scan { IsScan (meter D.told D.relations D.reads D.faults) W.told W.relations
         scan.old }
     requires room { 2 ^ 33 ≤ scan.old.room }
@@ -56,26 +58,30 @@ fn list_rounds<W: World + Send + Sync, D: Disk, O: Sink, R: Threads + Wait + Syn
         scan.new }
     ensures same { IsSameScan scan.old scan.new }
     ensures lists { Lists (reader_of W.told) (requests_for asked.entry) (O.written out.old)
-        (O.written out.new) result }
-    ensures writes { HasWritten (O.faults out.old) (O.faults out.new) result }
+        (O.written out.new) result.0 }
+    ensures writes { HasWritten (O.faults out.old) (O.faults out.new) result.0 }
+    ensures sums { result.0 ≡ Outcome.Done
+        → HasSums (reader_of W.told) (requests_for asked.entry) result.1 }
     ensures taken { taken_by scan.new.backends.items
         ≤ taken_by scan.old.backends.items + length (requests_for asked.entry) }
-    ensures unread { (r b : ℕ) → result ≡ Outcome.Unread r b → 0 < scan.new.unread }
+    ensures unread { (r b : ℕ) → result.0 ≡ Outcome.Unread r b → 0 < scan.new.unread }
 {
     let blocks = Cutter::<W>::of(asked);
     let lister = Lister {
         blocks,
         out,
         outcome: Outcome::Done,
+        sums: PageSums::default(),
     };
     let lister = scan.run(rt, lister);
     let Lister {
         blocks: _,
         out,
         outcome,
+        sums,
     } = lister;
     give_back(out);
-    outcome
+    (outcome, sums)
 }
 
 // Lists what is asked for, over a disk for each backend and each worker. The disks come back.
@@ -105,7 +111,7 @@ fn list_disks<W: World + Send + Sync, D: Disk, O: Sink, R: Threads + Wait + Sync
         Ok(scan) => scan,
         Err(disks) => return (disks, RunEnd::without_reads(Outcome::NoMemory)),
     };
-    let outcome = list_rounds(rt, &mut scan, asked, out);
+    let (outcome, _sums) = list_rounds(rt, &mut scan, asked, out);
     let (totals, disks) = scan.finish();
     let numbers = Numbers {
         incarnations: totals.incarnations(),

@@ -1,11 +1,16 @@
-use Rattle.std.proofs.Common.{arith}
+use Rattle.std.proofs.Common.{arith, refl}
 use Rattle.aioscan_cmd.specs.declared.report.Outcome.TheVariants.{Done}
 use Rattle.aioscan_cmd.proofs.Causing.{written_then}
 use Rattle.aioscan_cmd.proofs.Jobs.{next_listed, next_stopped, all_listed, among_all, none_listed}
+use Rattle.aioscan_cmd.proofs.Totals.{gave_more, gave_every}
 use Rattle.aioscan_cmd.proofs.lister.write_jobs.Goals as goal
 
 pub loop-job-init : goal.loop-job-init
-loop-job-init g c = record { lists = none_listed _ _; later = omega arith }
+loop-job-init g c = record {
+  lists = none_listed _ _;
+  gave = λ i d below. absurd (omega arith);
+  later = omega arith;
+}
 
 pub loop-job-preserved : goal.loop-job-preserved
 loop-job-preserved g c =
@@ -13,6 +18,9 @@ loop-job-preserved g c =
       lists = next_listed c.args.jobs.now c.loop-job.job-index c.job-item.result _ _ _
           c.loop-job-test.true c.job-item.is Done c.loop-job.invariant.lists
           c.in-Done.ensures.lists;
+      gave = gave_more c.args.jobs.now c.loop-job.job-index c.job-item.result c.job-item.result
+          c.loop-job-test.true c.job-item.is c.loop-job.invariant.gave
+          (c.in-Done.ensures.gave refl);
       later = omega (arith, c.loop-job.invariant.later);
     }
 
@@ -24,9 +32,15 @@ returns-in_default g c = record {
   writes = written_then _ _ _ _ c.loop-job.invariant.later c.write_job.ensures.writes;
   unread = among_all c.args.jobs.now c.loop-job.job-index _ c.job-item.result c.job-item.result
       c.loop-job-test.true c.job-item.is c.write_job.ensures.unread;
+  gave = λ is. absurd (c.in_default.not-Done is);
 }
 
 pub returns-clause-lists : goal.returns-clause-lists
 returns-clause-lists g c =
     all_listed c.args.jobs.now c.loop-job.job-index _ _ c.loop-job-test.false
     c.loop-job.invariant.lists
+
+pub returns-clause-gave : goal.returns-clause-gave
+returns-clause-gave g c = λ _.
+    gave_every c.args.jobs.now c.loop-job.job-index c.loop-job-test.false
+    c.loop-job.invariant.gave

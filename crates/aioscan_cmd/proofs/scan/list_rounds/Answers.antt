@@ -2,7 +2,8 @@ use Rattle.std.proofs.Common.{rules, refl, subst}
 use Rattle.page_check.specs.SynchronousAnswer.{reader_of}
 use Rattle.aioscan_cmd.specs.Cutting.{requests_for}
 use Rattle.aioscan_cmd.specs.Reading.{Lists, HasWritten}
-use Rattle.aioscan_cmd.proofs.Rounds.{all_listed, all_written}
+use Rattle.aioscan_cmd.proofs.Rounds.{all_listed, all_written, all_summed}
+use Rattle.aioscan_cmd.proofs.Totals.{zero_sums}
 use Rattle.aioscan_cmd.proofs.scan.list_rounds.Goals as goal
 
 pub returns-clause-lists : goal.returns-clause-lists
@@ -13,6 +14,7 @@ returns-clause-lists g c =
     subst P (search rules)
     (all_listed (reader_of g.W.World.told) g.O.Sink.written g.O.Sink.faults
     (requests_for c.args.asked) _ c.run-lister.result refl c.of-blocks.ensures.all
+    (zero_sums c.default.result c.default.ensures)
     c.run-lister.ensures.follows c.run-lister.ensures.over)
 
 pub returns-clause-writes : goal.returns-clause-writes
@@ -23,4 +25,11 @@ returns-clause-writes g c =
     subst P (search rules)
     (all_written (reader_of g.W.World.told) g.O.Sink.written g.O.Sink.faults
     (requests_for c.args.asked) _ c.run-lister.result refl c.of-blocks.ensures.all
+    (zero_sums c.default.result c.default.ensures)
     c.run-lister.ensures.follows)
+
+pub returns-clause-sums : goal.returns-clause-sums
+returns-clause-sums g c =
+    all_summed (reader_of g.W.World.told) g.O.Sink.written g.O.Sink.faults
+    (requests_for c.args.asked) _ c.run-lister.result refl c.of-blocks.ensures.all
+    (zero_sums c.default.result c.default.ensures) c.run-lister.ensures.follows c.run-lister.ensures.over

@@ -7,4 +7,4 @@ pub returns-in-Done-clause-follows : goal.returns-in-Done-clause-follows
 returns-in-Done-clause-follows g c = λ was asked puts answered.
     round_written (reader_of g.W.World.told) g.O.Sink.written g.O.Sink.faults was c.args.self.now _
     asked c.args.jobs.now puts answered c.in-Done.is refl refl c.write_jobs-self.ensures.lists
-    c.write_jobs-self.ensures.writes
+    c.write_jobs-self.ensures.writes c.write_jobs-self.ensures.gave c.add_up-self.ensures

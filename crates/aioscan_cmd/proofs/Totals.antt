@@ -1,0 +1,150 @@
+-- Sums that are added up over jobs and rounds.
+use Rattle.std.proofs.Common.{◌≡◌, ◌≢◌, ℕ, suc, ◌+◌, ◌-◌, ◌^◌, ◌<◌, ◌≤◌, List, [], ◌∷◌, ◌++◌, length}
+use Rattle.std.proofs.Common.{refl, sym, ap, ◌∙◌, subst, arith, sum_by, take, get_or}
+use Rattle.std.specs.Prelude.{Option, Some, ⊤, min}
+use Rattle.std.specs.List.{All}
+use Rattle.std.proofs.lemmas.List.{take_more, take_all}
+use Rattle.std.proofs.lemmas.List.Elements.{All-push}
+use Rattle.std.proofs.lemmas.List.Concat.{flat_map-cons}
+use Rattle.std.proofs.lemmas.List.Sums.{sum_by-cons, sum_by_push}
+use Rattle.page_check.specs.SynchronousAnswer.{Ending, End, Reader}
+use Rattle.heap_scan.specs.Job.{IsJobAnswer}
+use Rattle.heap_scan.specs.Sums.{joined, no_sums}
+use Rattle.heap_scan.specs.declared.sums.PageSums.{PageSums}
+use Rattle.heap_scan.proofs.Jobs.{job_append}
+use Rattle.scan_rounds.specs.Jobs.{IsListed, AreAnswered, entries_in, said_end}
+use Rattle.scan_rounds.specs.declared.job.Ending.{Ending as JobEnding}
+use Rattle.scan_rounds.specs.declared.job.Ending.TheVariants as ending
+use Rattle.scan_rounds.specs.declared.job.Job.{Job}
+use Rattle.aioscan_cmd.specs.RequestList.{Request}
+use Rattle.aioscan_cmd.specs.Listing.{requests_in, outcome_for}
+use Rattle.aioscan_cmd.specs.Sums.{kept, kept_sums, total_of, GaveAll, HasSums}
+use Rattle.aioscan_cmd.specs.declared.report.Outcome.{Outcome}
+use Rattle.aioscan_cmd.specs.declared.report.Outcome.TheVariants.{Done}
+use Rattle.aioscan_cmd.proofs.Lists.{no_answer}
+
+abbrev sums_with : ℕ → ℕ → ℕ → PageSums
+sums_with a b c = record { pages = a; zero = b; items = c }
+
+pub same_sums : (x y : PageSums) → x.pages ≡ y.pages → x.zero ≡ y.zero → x.items ≡ y.items → x ≡ y
+same_sums x y pages zeros items =
+    ap (λ (n : ℕ). sums_with n x.zero x.items) pages
+    ∙ ap (λ (n : ℕ). sums_with y.pages n x.items) zeros
+    ∙ ap (λ (n : ℕ). sums_with y.pages y.zero n) items
+
+-- what a job gave that ended a run in no fault
+ended_done : (r : ℕ) (end : JobEnding) → outcome_for r end ≡ Done → end ≡ ending.Pages
+ended_done r ending.Pages is = refl
+ended_done r (ending.Invalid b) is = absurd (cc)
+ended_done r (ending.Unread b) is = absurd (cc)
+ended_done r (ending.PastEnd b) is = absurd (cc)
+ended_done r ending.NoMemory is = absurd (cc)
+
+pub gave_one : (job : Job) (o : Outcome) → o ≡ outcome_for job.relation job.ending → o ≡ Done
+    → GaveAll (job ∷ [])
+gave_one job o is done = λ i d below.
+    (let first : i ≡ 0 = omega arith in
+    let P : ℕ → Type 0 = λ k. (get_or (job ∷ []) k d).ending ≡ ending.Pages in
+    subst P (sym first) (ended_done job.relation job.ending (sym is ∙ done)))
+
+pub gave_more : (jobs : List Job) (k : ℕ) (d job : Job) → k < length jobs → job ≡ get_or jobs k d
+    → GaveAll (take k jobs) → GaveAll (job ∷ []) → GaveAll (take (k + 1) jobs)
+gave_more jobs k d job inside is before here =
+    let P : List Job → Type 0 = λ l. GaveAll l in
+    let Q : Job → Type 0 = λ j. j.ending ≡ ending.Pages in
+    subst P (sym (take_more jobs k d inside))
+    (All-push Q (take k jobs) (get_or jobs k d) before
+    (subst Q is (here 0 job (omega arith))))
+
+pub gave_every : (jobs : List Job) (k : ℕ) → length jobs ≤ k → GaveAll (take k jobs)
+    → GaveAll jobs
+gave_every jobs k all gave =
+    let P : List Job → Type 0 = λ l. GaveAll l in subst P (take_all k jobs all) gave
+
+pub zero_sums : (s : PageSums) → (s.pages ≡ 0) × ((s.zero ≡ 0) × (s.items ≡ 0)) → s ≡ no_sums
+zero_sums s is = same_sums s no_sums is.0 is.1.0 is.1.1
+
+-- sums over one job more, and over all
+pub kept_next : (f : Job → ℕ) (jobs : List Job) (k n before now : ℕ) (d job : Job)
+    → k < length jobs → job ≡ get_or jobs k d
+    → before ≡ kept (n + sum_by f (take k jobs)) → now ≡ kept (before + f job)
+    → now ≡ kept (n + sum_by f (take (k + 1) jobs))
+kept_next f jobs k n before now d job inside is was added =
+    let more : sum_by f (take (k + 1) jobs) ≡ sum_by f (take k jobs) + f (get_or jobs k d) =
+    ap (sum_by f) (take_more jobs k d inside)
+    ∙ sum_by_push f (take k jobs) (get_or jobs k d) in
+    let here : f job ≡ f (get_or jobs k d) = ap f is in omega (arith, more, here, was, added)
+
+module _ (found : Option Reader) where
+  abbrev Answer : List Request → PageSums → Type 0
+  Answer requests sums =
+      (text : List ℕ) × IsJobAnswer found (λ _. ⊤) requests text sums (Some End)
+
+  one_more : (j job : Job) (asked jobs : List Job) → IsListed found (λ _. ⊤) j job
+      → job.ending ≡ ending.Pages → Answer (requests_in asked) (total_of jobs)
+      → Answer (requests_in (j ∷ asked)) (total_of (job ∷ jobs))
+  unfolding job_append
+  one_more j job asked jobs listed is rest =
+      let P : JobEnding → Type 0 =
+      λ e. IsJobAnswer found (λ _. ⊤) (entries_in j) job.text.items job.tally (said_end e) in
+      let Q : List Request → Type 0 = λ l. Answer l (total_of (job ∷ jobs)) in
+      let R : PageSums → Type 0 = λ s. Answer (entries_in j ++ requests_in asked) s in
+      let total : joined job.tally (total_of jobs) ≡ total_of (job ∷ jobs) =
+      same_sums _ _ (sym (sum_by-cons (λ (k : Job). k.tally.pages) job jobs))
+      (sym (sum_by-cons (λ (k : Job). k.tally.zero) job jobs))
+      (sym (sum_by-cons (λ (k : Job). k.tally.items) job jobs)) in
+      subst Q (sym (flat_map-cons entries_in j asked))
+      (subst R total (
+        job.text.items ++ rest.0,
+        job_append found (λ _. ⊤) (entries_in j) (requests_in asked) job.text.items rest.0
+            job.tally (total_of jobs) (Some End) (subst P is listed.answer) rest.1,
+      ))
+
+  -- jobs that gave all their pages have the sums of these
+  pub answered_all : (asked jobs : List Job) → AreAnswered found asked jobs → GaveAll jobs
+      → Answer (requests_in asked) (total_of jobs)
+  answered_all [] [] all gave = ([], no_answer found)
+  answered_all [] (job ∷ jobs) all gave = absurd (omega (arith, all.as_many))
+  answered_all (j ∷ asked) [] all gave = absurd (omega (arith, all.as_many))
+  answered_all (j ∷ asked) (job ∷ jobs) all gave =
+      let many = all.as_many in
+      let rest : AreAnswered found asked jobs = record {
+        as_many = omega arith;
+        each = λ i d below. all.each (suc i) d (omega arith);
+      } in
+      one_more j job asked jobs (all.each 0 job (omega arith)) (gave 0 job (omega arith))
+      (answered_all asked jobs rest (λ i d below. gave (suc i) d (omega arith)))
+
+  -- no pages
+  pub none_summed : (sums : PageSums) → sums ≡ no_sums → HasSums found [] sums
+  none_summed sums none = record {
+    text = [];
+    total = no_sums;
+    answer = no_answer found;
+    sums_are = none;
+  }
+
+  kept_more : (a b t : ℕ) → a ≡ kept t → kept (a + b) ≡ kept (t + b)
+  kept_more a b t is = omega (arith, is)
+
+  -- and those of a round
+  pub round_summed : (before : List Request) (asked jobs : List Job) (was now : PageSums)
+      → HasSums found before was → AreAnswered found asked jobs → GaveAll jobs
+      → now ≡ kept_sums (joined was (total_of jobs))
+      → HasSums found (before ++ requests_in asked) now
+  unfolding job_append
+  round_summed before asked jobs was now so_far all gave is =
+      let here = answered_all asked jobs all gave in
+      let total = total_of jobs in record {
+        text = so_far.text ++ here.0;
+        total = joined so_far.total total;
+        answer = job_append found (λ _. ⊤) before (requests_in asked) so_far.text here.0
+            so_far.total total (Some End) so_far.answer here.1;
+        sums_are = is ∙ same_sums _ _
+            (kept_more was.pages total.pages so_far.total.pages
+            (ap (λ (s : PageSums). s.pages) so_far.sums_are))
+            (kept_more was.zero total.zero so_far.total.zero
+            (ap (λ (s : PageSums). s.zero) so_far.sums_are))
+            (kept_more was.items total.items so_far.total.items
+            (ap (λ (s : PageSums). s.items) so_far.sums_are));
+      }
