@@ -1,15 +1,17 @@
 -- How a run over an opened disk ends, by what its lengths and its blocks gave.
 use Rattle.std.proofs.Common.{◌≡◌, ℕ, ◌+◌, ◌<◌, ◌≤◌, List, length, get_or, refl, ap, arith, subst}
-use Rattle.std.proofs.Common.{true, false, sym}
+use Rattle.std.proofs.Common.{true, false, sym, ◌∙◌}
 use Rattle.std.specs.Prelude.{Option, Some, None, IfSome, slice_index, nat_lt, cond}
 use Rattle.std.proofs.lemmas.Bool.Decides.{nat_tests}
 use Rattle.page_check.specs.Told.{Told, blocks_of}
-use Rattle.page_check.specs.SynchronousAnswer.{reader_of}
+use Rattle.page_check.specs.SynchronousAnswer.{found_at, reader_of}
+use Rattle.heap_scan.specs.declared.sums.PageSums.{PageSums}
 use Rattle.aio_disk.specs.Counts.{raised_by}
 use Rattle.aio_disk.specs.Shelf.{Files, told_of}
 use Rattle.aio_handle.specs.Executing.{last_count}
 use Rattle.aioscan_cmd.specs.Command.{Command, length_limit, relations_of}
-use Rattle.aioscan_cmd.specs.RequestList.{requests_of}
+use Rattle.aioscan_cmd.specs.RequestList.{Request, requests_of}
+use Rattle.aioscan_cmd.specs.Sums.{HasSums, HasSumsTold}
 use Rattle.aioscan_cmd.specs.Outcomes.{is_refused}
 use Rattle.aioscan_cmd.specs.Lengths.{HasLengths, HasNoLengths}
 use Rattle.aioscan_cmd.specs.Reading.{Seen, seen, Lists}
@@ -232,3 +234,40 @@ ran_unread files (Some c) s o is =
     let told = told_of files (relations_of c) in
     let P : Outcome → Type 0 = λ x. Ran told (length (relations_of c)) c s s x in
     subst P (sym is) (ran_out_of_memory told (length (relations_of c)) c s)
+
+-- no sums of a run that ended otherwise
+pub no_sums_told : (told : Option Told) (command : Command) (o : Outcome) (sums : PageSums)
+    → (o ≡ Done → ⊥) → HasSumsTold told command o sums
+no_sums_told None command o sums not = tt
+no_sums_told (Some t) command o sums not = λ done. absurd (not done)
+
+refusal_not_done : (told : Option Told) (relations : ℕ) (o : Outcome)
+    → HasNoLengths told relations o → o ≡ Done → ⊥
+refusal_not_done told relations o has done =
+    let P : Outcome → Type 0 = λ x. HasNoLengths told relations x in subst P done has
+
+pub refused_sums : (told : Option Told) (command : Command) (o refusal : Outcome)
+    (sums : PageSums) (relations : ℕ) → o ≡ refusal → HasNoLengths told relations refusal
+    → HasSumsTold told command o sums
+refused_sums told command o refusal sums relations is has =
+    no_sums_told told command o sums
+    (λ done. refusal_not_done told relations refusal has (sym is ∙ done))
+
+-- the sums of the blocks that were listed, by the lengths that are told
+pub listed_sums : (told now : Option Told) (relations : ℕ) (command : Command)
+    (lengths : List ℕ) (o : Outcome) (sums : PageSums) → now ≡ told
+    → relations ≡ length (relations_of command) → HasLengths told relations lengths
+    → (o ≡ Done → HasSums (reader_of now) (requests_of (slice_index lengths) command) sums)
+    → HasSumsTold told command o sums
+listed_sums None now relations command lengths o sums same all has listed = tt
+listed_sums (Some t) now relations command lengths o sums same all has listed = λ done.
+    (let requests = same_requests (Some t) relations command lengths all has in
+    let P : Option Told → Type 0 =
+    λ n. HasSums (reader_of n) (requests_of (slice_index lengths) command) sums in
+    let Q : List Request → Type 0 = λ l. HasSums (Some (found_at t)) l sums in
+    subst Q requests (subst P same (listed done)))
+
+pub sums_same : (told now : Option Told) (command : Command) (o : Outcome) (sums : PageSums)
+    → now ≡ told → HasSumsTold now command o sums → HasSumsTold told command o sums
+sums_same told now command o sums same has =
+    let P : Option Told → Type 0 = λ n. HasSumsTold n command o sums in subst P same has

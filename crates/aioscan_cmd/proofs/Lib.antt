@@ -1,4 +1,6 @@
 pub mod Adding
+pub mod Making
+pub mod MadePages
 pub mod Digits
 pub mod FileWords
 pub mod Parsed

@@ -1,4 +1,5 @@
 pub mod Grammar
+pub mod Generated
 pub mod Command
 pub mod Words
 pub mod RequestList

@@ -10,6 +10,7 @@
 mod cutter;
 mod disks;
 mod error_line;
+mod generated;
 mod lengths;
 mod lister;
 mod relations;

@@ -2,6 +2,8 @@
 ghost use Rattle.std.specs.Prelude.{◌≡◌, ◌&&◌};
 ghost use Rattle.aioscan_cmd.specs.Outcomes.{has_totals as totals_known};
 
+use heap_scan::PageSums;
+
 /// How a run ended. `R` is the number of a relation, its place among the distinct names, and `B`
 /// a block of it.
 #[derive(Clone, Copy, Debug, PartialEq, Eq)]
@@ -55,6 +57,8 @@ pub(crate) struct Numbers {
 pub(crate) struct RunEnd {
     pub(crate) outcome: Outcome,
     pub(crate) numbers: Numbers,
+    /// The sums over the pages, where all were listed.
+    pub(crate) sums: PageSums,
 }
 
 impl RunEnd {
@@ -71,6 +75,7 @@ impl RunEnd {
                 by_workers: 0,
                 by_backends: 0,
             },
+            sums: PageSums::default(),
         }
     }
 }

@@ -1,7 +1,7 @@
 //! The top call.
 ghost use Rattle.std.specs.Prelude.{◌≡◌, ◌≢◌, ◌<◌, ◌≤◌, ◌⊎◌, length, map, None, Some, true};
 ghost use Rattle.std.specs.Prelude.{IfSome, string_bytes};
-ghost use Rattle.aio_disk.specs.Shelf.{AllThereIfTold};
+ghost use Rattle.aio_disk.specs.Shelf.{AllThereIfTold, told_of};
 ghost use Rattle.aioscan_cmd.specs.Command.{relations_of};
 ghost use Rattle.aioscan_cmd.specs.Words.{command_of};
 ghost use Rattle.aioscan_cmd.specs.Outcomes.{status_of, is_refused};
@@ -9,6 +9,7 @@ ghost use Rattle.aioscan_cmd.specs.Reading.{seen};
 ghost use Rattle.aioscan_cmd.specs.Run.{RanOn, OnTold, Writes};
 ghost use Rattle.aioscan_cmd.specs.Causes.{HasCauses, CallsInOrder, IsExact, IsComplete, IsOpened};
 ghost use Rattle.aioscan_cmd.specs.ErrorLine.{IsToldOnErr, lines_of, shows_totals};
+ghost use Rattle.aioscan_cmd.specs.Sums.{HasSumsTold};
 ghost use Rattle.aioscan_cmd.specs.Totals.{AreCounted, numbers_in};
 
 use crate::error_line::write_lines;
@@ -38,6 +39,8 @@ fn run_command<S: Shelf, O: Sink, R: Threads + Wait + Sync>(
     ensures order { CallsInOrder (S.counts shelf.old) (S.counts shelf.new) result.outcome }
     ensures counted { AreCounted (Some command.now) (S.counts shelf.old) (S.counts shelf.new)
         result.outcome result.numbers }
+    ensures sums { HasSumsTold (told_of (S.told shelf.old) (relations_of command.now)) command.now
+        result.outcome result.sums }
     ensures told { S.told shelf.new ≡ S.told shelf.old }
     ensures opened { IsOpened result.outcome
         → AllThereIfTold (S.told shelf.old) (relations_of command.now) }
@@ -152,7 +155,11 @@ pub fn aioscan<S: Shelf, O: Sink, E: Sink, R: Threads + Wait + Sync>(
 {
     let ended = run(rt, alloc, words, shelf, out);
     let line = write_lines(alloc, ended, err);
-    let RunEnd { outcome, numbers } = ended.end;
+    let RunEnd {
+        outcome,
+        numbers,
+        ..
+    } = ended.end;
     Report {
         status: status(outcome),
         outcome,

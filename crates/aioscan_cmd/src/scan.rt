@@ -15,7 +15,7 @@ ghost use Rattle.aioscan_cmd.specs.Lengths.{HasLengths};
 ghost use Rattle.aioscan_cmd.specs.Reading.{Lists, HasWritten, seen};
 ghost use Rattle.aioscan_cmd.specs.Run.{Ran};
 ghost use Rattle.aioscan_cmd.specs.Causes.{HasScanned, HasCauses, CallsInOrder};
-ghost use Rattle.aioscan_cmd.specs.Sums.{HasSums};
+ghost use Rattle.aioscan_cmd.specs.Sums.{HasSums, HasSumsTold};
 ghost use Rattle.aioscan_cmd.specs.Totals.{AreCounted, AreOfScan};
 
 use crate::Outcome;
@@ -105,20 +105,27 @@ fn list_disks<W: World + Send + Sync, D: Disk, O: Sink, R: Threads + Wait + Sync
     ensures unread { (r b : ℕ) → result.1.outcome ≡ Outcome.Unread r b
         → 0 < sum_by D.faults result.0.items }
     ensures counted { AreOfScan asked.entry D.reads result.0.items result.1.numbers }
+    ensures sums { result.1.outcome ≡ Outcome.Done
+        → HasSums (reader_of W.told) (requests_for asked.entry) result.1.sums }
 {
     let settings = asked.command.settings();
     let mut scan = match Scan::<W, D>::open(alloc, &settings, disks) {
         Ok(scan) => scan,
         Err(disks) => return (disks, RunEnd::without_reads(Outcome::NoMemory)),
     };
-    let (outcome, _sums) = list_rounds(rt, &mut scan, asked, out);
+    let (outcome, sums) = list_rounds(rt, &mut scan, asked, out);
     let (totals, disks) = scan.finish();
     let numbers = Numbers {
         incarnations: totals.incarnations(),
         by_workers: totals.by_runners(),
         by_backends: totals.by_backends(),
     };
-    (disks, RunEnd { outcome, numbers })
+    let end = RunEnd {
+        outcome,
+        numbers,
+        sums,
+    };
+    (disks, end)
 }
 
 // How many disks a scan with these settings has: one for each backend and for each worker.
@@ -157,6 +164,8 @@ fn open_and_list<W: World + Send + Sync, S: Shelf, O: Sink, R: Threads + Wait + 
         result.1.outcome }
     ensures writes { HasWritten (O.faults out.old) (O.faults out.new) result.1.outcome }
     ensures counted { AreOfScan asked.entry S.Disk.reads result.0.items result.1.numbers }
+    ensures sums { result.1.outcome ≡ Outcome.Done
+        → HasSums (reader_of W.told) (requests_for asked.entry) result.1.sums }
     ensures told { S.told shelf.new ≡ S.told shelf.old }
 {
     let settings = asked.command.settings();
@@ -196,6 +205,8 @@ fn run_scan<W: World + Send + Sync, S: Shelf, O: Sink, R: Threads + Wait + Sync>
     ensures order { CallsInOrder (S.counts shelf.old) (S.counts shelf.new) result.outcome }
     ensures counted { AreCounted (Some asked.entry.command.now) (S.counts shelf.old)
         (S.counts shelf.new) result.outcome result.numbers }
+    ensures sums { HasSumsTold (S.Disk.told first) asked.entry.command.now result.outcome
+        result.sums }
     ensures told { S.told shelf.new ≡ S.told shelf.old }
     ensures words { result.outcome ≢ Outcome.Usage }
 {
@@ -233,6 +244,7 @@ pub(crate) fn scan_disk<S: Shelf, O: Sink, R: Threads + Wait + Sync>(
     ensures order { CallsInOrder (S.counts shelf.old) (S.counts shelf.new) result.outcome }
     ensures counted { AreCounted (Some command.now) (S.counts shelf.old) (S.counts shelf.new)
         result.outcome result.numbers }
+    ensures sums { HasSumsTold (S.Disk.told disk) command.now result.outcome result.sums }
     ensures told { S.told shelf.new ≡ S.told shelf.old }
     ensures words { result.outcome ≢ Outcome.Usage }
 {

@@ -1,5 +1,5 @@
 use Rattle.std.proofs.Common.{arith, refl, ap, sym, length}
-use Rattle.aioscan_cmd.proofs.EndOfRun.{ran_without_memory}
+use Rattle.aioscan_cmd.proofs.EndOfRun.{ran_without_memory, no_sums_told, listed_sums}
 use Rattle.aioscan_cmd.proofs.EndOfScan.{ended_ran, ended_counted, ended_in_order}
 use Rattle.aioscan_cmd.proofs.EndOfScan.{ended_by_causes, ended_not_usage}
 use Rattle.aioscan_cmd.proofs.scan.run_scan.Goals as goal
@@ -44,3 +44,14 @@ returns-clause-words g c =
     let back = c.take_all_back.ensures in
     ended_not_usage c.args.asked _ _ _ _ _ _ _ _ e.scanned _ back.open_faults _
     back.length_faults back.faults back.reads
+
+pub returns-in_default-clause-sums : goal.returns-in_default-clause-sums
+returns-in_default-clause-sums g c =
+    no_sums_told _ _ _ _ (λ done. absurd (let is = c.without_reads.ensures.outcome in cc))
+
+pub returns-clause-sums : goal.returns-clause-sums
+returns-clause-sums g c =
+    listed_sums (g.S.Disk.Disk.told c.args.first) g.W.World.told _ c.args.asked.command.now
+    c.args.asked.lengths.now _ _ (sym c.requires.told.0)
+    (ap length c.requires.asked.relations_are) c.requires.lengths
+    c.open_and_list-disks.ensures.sums

@@ -1,6 +1,6 @@
 use Rattle.std.proofs.Common.{ℕ, arith, subst}
 use Rattle.aioscan_cmd.specs.Lengths.{HasNoLengths}
-use Rattle.aioscan_cmd.proofs.EndOfRun.{ran_refused}
+use Rattle.aioscan_cmd.proofs.EndOfRun.{ran_refused, refused_sums}
 use Rattle.aioscan_cmd.proofs.scan.scan_disk.Goals as goal
 
 pub returns-in-Err-clause-ran : goal.returns-in-Err-clause-ran
@@ -15,3 +15,7 @@ returns-in-Err-clause-ran g c =
       c.requires.unread.2,
     ))
     (subst P c.count.ensures.count c.in-Err.ensures.lengths)
+
+pub returns-in-Err-clause-sums : goal.returns-in-Err-clause-sums
+returns-in-Err-clause-sums g c =
+    refused_sums _ _ _ _ _ _ c.without_reads.ensures.outcome c.in-Err.ensures.lengths
