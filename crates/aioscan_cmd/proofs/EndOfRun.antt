@@ -1,6 +1,6 @@
 -- How a run over an opened disk ends, by what its lengths and its blocks gave.
 use Rattle.std.proofs.Common.{◌≡◌, ℕ, ◌+◌, ◌<◌, ◌≤◌, List, length, get_or, refl, ap, arith, subst}
-use Rattle.std.proofs.Common.{true, false, sym, ◌∙◌}
+use Rattle.std.proofs.Common.{true, false, sym, ◌∙◌, inr}
 use Rattle.std.specs.Prelude.{Option, Some, None, IfSome, slice_index, nat_lt, cond}
 use Rattle.std.proofs.lemmas.Bool.Decides.{nat_tests}
 use Rattle.page_check.specs.Told.{Told, blocks_of}
@@ -15,13 +15,14 @@ use Rattle.aioscan_cmd.specs.Sums.{HasSums, HasSumsTold}
 use Rattle.aioscan_cmd.specs.Outcomes.{is_refused}
 use Rattle.aioscan_cmd.specs.Lengths.{HasLengths, HasNoLengths}
 use Rattle.aioscan_cmd.specs.Reading.{Seen, seen, Lists}
-use Rattle.aioscan_cmd.specs.Run.{Ran, RanOn, EarlierFit, FitsInOrder, lengths_known}
+use Rattle.aioscan_cmd.specs.Run.{Ran, RanBy, RanOn, EarlierFit, FitsInOrder, lengths_known}
 use Rattle.aioscan_cmd.specs.declared.report.Outcome.{Outcome}
 use Rattle.aioscan_cmd.specs.declared.report.Outcome.TheVariants.{Done, Invalid, Usage, CannotOpen}
 use Rattle.aioscan_cmd.specs.declared.report.Outcome.TheVariants.{NoLength, Unread, CannotWrite}
 use Rattle.aioscan_cmd.specs.declared.report.Outcome.TheVariants.{NoMemory, Missing, TooLong}
 use Rattle.aioscan_cmd.proofs.Lists.{lists_nothing, lists_same}
 use Rattle.aioscan_cmd.proofs.Files.{requests_of-same}
+use Rattle.aioscan_cmd.proofs.Growing.{GrewByPrefix-nothing}
 
 -- lengths of which the one at r is the first that is too long
 abbrev long_at : ℕ → ℕ → ℕ
@@ -226,14 +227,24 @@ pub ran_same : (told now : Option Told) (relations count : ℕ) (command : Comma
 ran_same told now relations count command output reads before after o same all kept ran =
     rw (← same, ← all, ← kept) ran
 
+unread_by : (files : Option Files) (c : Command) (made : Option ℕ) (s : Seen)
+    → RanBy files c made s s NoMemory
+unread_by files c None s =
+    ran_out_of_memory (told_of files (relations_of c)) (length (relations_of c)) c s
+unread_by files c (Some n) s = record {
+  ends = inr (inr refl);
+  in_order = tt;
+  writes = GrewByPrefix-nothing s.written s.written _ refl;
+  reads = refl;
+}
+
 -- words that may be a command could not be read for want of memory
 pub ran_unread : (files : Option Files) (command : Option Command) (s : Seen) (o : Outcome)
     → o ≡ NoMemory → RanOn files command s s o
 ran_unread files None s o is = tt
 ran_unread files (Some c) s o is =
-    let told = told_of files (relations_of c) in
-    let P : Outcome → Type 0 = λ x. Ran told (length (relations_of c)) c s s x in
-    subst P (sym is) (ran_out_of_memory told (length (relations_of c)) c s)
+    let P : Outcome → Type 0 = λ x. RanBy files c c.made s s x in
+    subst P (sym is) (unread_by files c c.made s)
 
 -- no sums of a run that ended otherwise
 pub no_sums_told : (told : Option Told) (command : Command) (o : Outcome) (sums : PageSums)

@@ -22,7 +22,7 @@ use Rattle.aioscan_cmd.specs.Outcomes.{is_refused}
 use Rattle.aioscan_cmd.specs.Reading.{Lists, HasWritten, seen}
 use Rattle.aioscan_cmd.specs.Run.{Ran}
 use Rattle.aioscan_cmd.specs.Causes.{HasScanned, HasCauses, CallsInOrder}
-use Rattle.aioscan_cmd.specs.Totals.{AreCounted, AreOfScan}
+use Rattle.aioscan_cmd.specs.Totals.{AreCounted, AreReads, AreOfScan}
 use Rattle.aioscan_cmd.specs.declared.cutter.Asked.{Asked}
 use Rattle.aioscan_cmd.specs.declared.report.Numbers.{Numbers}
 use Rattle.aioscan_cmd.specs.declared.report.Outcome.{Outcome}
@@ -167,7 +167,7 @@ module _ (asked : Asked) (found : Option Reader) (written now_written : Option (
           counted.reads_are (each_below each_reads last_count ds (omega (arith, sum_is)))
           ∙ sym sum_is
 
-      pub ended_counted : AreCounted (Some asked.command.now) before now o n
+      pub ended_counted : AreCounted None (Some asked.command.now) before now o n
       ended_counted = record {
         sum = counted.sum;
         reads = λ below.
@@ -257,12 +257,18 @@ no_workers_in : (command : Option Command) (n : Numbers) → n.by_workers ≡ 0
 no_workers_in None n none = tt
 no_workers_in (Some c) n none = λ _. none
 
+reads_unmade : (made : Option ℕ) (s : ShelfCounts) (incarnations : ℕ) → incarnations ≡ 0
+    → AreReads made s s incarnations
+reads_unmade None s incarnations none = λ _. omega (arith, none)
+reads_unmade (Some n) s incarnations none = refl
+
 -- nothing was done
-pub uncounted : (command : Option Command) (s : ShelfCounts) (o : Outcome) (n : Numbers)
-    → n.incarnations ≡ 0 → n.by_workers ≡ 0 → n.by_backends ≡ 0 → AreCounted command s s o n
-uncounted command s o n a b c = record {
+pub uncounted : (made : Option ℕ) (command : Option Command) (s : ShelfCounts) (o : Outcome)
+    (n : Numbers) → n.incarnations ≡ 0 → n.by_workers ≡ 0 → n.by_backends ≡ 0
+    → AreCounted made command s s o n
+uncounted made command s o n a b c = record {
   sum = omega (arith, a, b, c);
-  reads = λ _. omega (arith, a);
+  reads = reads_unmade made s n.incarnations a;
   no_workers = no_workers_in command n b;
   none = λ _. (a, b, c);
 }

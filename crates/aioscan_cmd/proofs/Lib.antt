@@ -12,6 +12,7 @@ pub mod Causing
 pub mod Files
 pub mod EndOfRun
 pub mod TopClauses
+pub mod MadeRuns
 pub mod Rows
 pub mod Telling
 pub mod Cutting

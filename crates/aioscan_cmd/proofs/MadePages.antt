@@ -1,8 +1,8 @@
 -- Generated pages are valid, and stand in their file one behind the other.
-use Rattle.std.proofs.Common.{◌≡◌, ◌≢◌, ℕ, zero, suc, ◌+◌, ◌*◌, ◌/◌, ◌%◌, ◌<◌, ◌≤◌, ◌^◌, List, ◌++◌}
-use Rattle.std.proofs.Common.{take, drop, length, replicate, refl, ap, sym, ◌∙◌, arith, subst}
-use Rattle.std.proofs.Common.{length-append, Bool, true, false, inl, inr, ◌⊎◌}
-use Rattle.std.specs.Prelude.{flat_map, min, ◌==◌, if◌then◌else◌}
+use Rattle.std.proofs.Common.{◌≡◌, ◌≢◌, ℕ, zero, suc, ◌+◌, ◌*◌, ◌/◌, ◌%◌, ◌<◌, ◌≤◌, List, ◌++◌}
+use Rattle.std.proofs.Common.{take, drop, length, replicate, refl, ap, ◌∙◌, arith}
+use Rattle.std.proofs.Common.{length-append, Bool, true, false}
+use Rattle.std.specs.Prelude.{flat_map, ◌==◌, if◌then◌else◌}
 use Rattle.std.specs.List.{range_with_len}
 use Rattle.std.proofs.Math.Seq.{drop-append-add}
 use Rattle.std.proofs.lemmas.List.{take_at, length-replicate}
@@ -102,7 +102,7 @@ page_by false block =
     let few : block % 5 < 5 = omega arith in
     let is = few_items (block % 5) few in (λ bad. (let sane = is.0 in cc), is.2)
 
-made_valid : (block : ℕ) → verdict_of (made_page block) ≢ Bad
+pub made_valid : (block : ℕ) → verdict_of (made_page block) ≢ Bad
 unfolding made_page
 made_valid block = (page_by (block % 7 == 6) block).0
 
@@ -131,4 +131,5 @@ unfolding found_at
 made_found pages block few below =
     let count = made_blocks pages few in
     let inside : nat_le pages block ≡ false = grind (arith, nat_tests) in
-    rw (count, inside, made_at pages block below) (found_valid (verdict_of (made_page block)) (made_page block) (made_valid block))
+    rw (count, inside, made_at pages block below)
+    (found_valid (verdict_of (made_page block)) (made_page block) (made_valid block))

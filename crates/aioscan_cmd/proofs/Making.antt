@@ -1,10 +1,10 @@
 -- Lists that are made piece by piece.
-use Rattle.std.proofs.Common.{◌≡◌, ℕ, zero, suc, ◌+◌, ◌-◌, ◌<◌, ◌≤◌, List, [], ◌∷◌, ◌++◌, take, refl}
+use Rattle.std.proofs.Common.{◌≡◌, ℕ, zero, suc, ◌+◌, ◌-◌, ◌≤◌, List, [], ◌∷◌, ◌++◌, take}
 use Rattle.std.proofs.Common.{ap, sym, ◌∙◌, arith, replicate, append_assoc, append-nil}
 use Rattle.std.specs.Prelude.{flat_map}
 use Rattle.std.specs.List.{range_with_len}
 use Rattle.std.proofs.lemmas.List.{replicate-append-replicate, take_at, length-replicate}
-use Rattle.aioscan_cmd.specs.Generated.{made_page, made_file, made_pointers, made_pointer, four_bytes}
+use Rattle.aioscan_cmd.specs.Generated.{made_page, made_pointers, made_pointer, four_bytes}
 
 pub some_zeros : (n count : ℕ) → count ≤ n → take {A = ℕ} count (replicate n 0) ≡ replicate count 0
 some_zeros n count few =
@@ -13,7 +13,8 @@ some_zeros n count few =
     replicate-append-replicate count (n - count) none
     ∙ ap (λ (k : ℕ). replicate k none) (omega arith) in
     ap (λ (xs : List ℕ). take count xs) (sym split)
-    ∙ take_at (replicate count none) (replicate (n - count) none) count (length-replicate count none)
+    ∙ take_at (replicate count none) (replicate (n - count) none) count
+    (length-replicate count none)
 
 range_more : (a n : ℕ) → range_with_len a (n + 1) ≡ range_with_len a n ++ (a + n) ∷ []
 range_more a zero = ap (λ (x : ℕ). x ∷ []) (omega arith)
@@ -27,7 +28,8 @@ range_more a (suc n) =
 one_more : (f : ℕ → List ℕ) (xs : List ℕ) (x : ℕ) → flat_map f (xs ++ x ∷ []) ≡ flat_map f xs ++ f x
 one_more f [] x = append-nil (f x)
 one_more f (y ∷ ys) x =
-    ap (λ (rest : List ℕ). f y ++ rest) (one_more f ys x) ∙ sym (append_assoc (f y) (flat_map f ys) (f x))
+    ap (λ (rest : List ℕ). f y ++ rest) (one_more f ys x)
+    ∙ sym (append_assoc (f y) (flat_map f ys) (f x))
 
 made_more : (f : ℕ → List ℕ) (a n x : ℕ) → x ≡ a + n
     → flat_map f (range_with_len a (n + 1)) ≡ flat_map f (range_with_len a n) ++ f x

@@ -28,7 +28,14 @@ any_settings = record {
 
 abbrev command_with : Option ℕ → Option ℕ → List (List ℕ) → Command
 command_with first last names =
-    record { from = first; to = last; files = names; settings = any_settings; stats = false }
+    record {
+      from = first;
+      to = last;
+      files = names;
+      made = None;
+      settings = any_settings;
+      stats = false;
+    }
 
 -- a name that comes again is no new relation
 g_is_the_second : (relations_of (command_with None None (f ∷ g ∷ f ∷ [])) ≡ f ∷ g ∷ [])

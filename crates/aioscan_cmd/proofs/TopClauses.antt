@@ -1,6 +1,6 @@
 -- What the top call promises over a shelf that tells, from how the run ended.
 use Rattle.std.proofs.Common.{◌≡◌, ◌≢◌, ℕ, ◌<◌, ◌≤◌, List, ◌++◌, length, take, refl, sym, ap}
-use Rattle.std.proofs.Common.{◌∙◌, arith, inl, inr, length-append, true}
+use Rattle.std.proofs.Common.{◌∙◌, arith, inl, inr, length-append, subst, true}
 use Rattle.std.specs.Prelude.{Option, Some, None, IfSome, slice_get}
 use Rattle.std.proofs.Math.Seq.{take-append_seam}
 use Rattle.std.proofs.lemmas.Bool.{cases_lt}
@@ -19,7 +19,8 @@ use Rattle.aioscan_cmd.specs.Command.{Command, length_limit, relations_of}
 use Rattle.aioscan_cmd.specs.RequestList.{Request, request, requests_of}
 use Rattle.aioscan_cmd.specs.Outcomes.{is_refused}
 use Rattle.aioscan_cmd.specs.Reading.{Seen, Lists}
-use Rattle.aioscan_cmd.specs.Run.{SynchronousRun, run_of, OnTold, RanOn, Ran, Writes}
+use Rattle.aioscan_cmd.specs.Run.{SynchronousRun, run_of, made_run, OnTold, OnSource, RanOn, RanBy}
+use Rattle.aioscan_cmd.specs.Run.{Ran, RanMade, EndsMade, Writes}
 use Rattle.aioscan_cmd.specs.Run.{EarlierFit, FitsInOrder, outcome_by, outcome_at}
 use Rattle.aioscan_cmd.specs.Causes.{HasCauses, IsExact, IsComplete}
 use Rattle.aioscan_cmd.specs.declared.report.Outcome.{Outcome}
@@ -158,25 +159,25 @@ first_too_long blocks q r long_q fit_q long_r fit_r = elim (cases_lt q r) [
   ]
 ]
 
-pub exact : (t : Told) (n : ℕ) (c : Command) (o : Outcome) → n ≡ length (relations_of c)
-    → FitsInOrder (blocks_of t) n o → IsExact (run_of t c) o
-exact t n c Done same fits r below long fit usage opens lengths memory =
-    absurd (let within = fits r (omega (arith, same)) in omega arith)
-exact t n c (Invalid q k) same fits r below long fit usage opens lengths memory =
-    absurd (let within = fits r (omega (arith, same)) in omega arith)
-exact t n c (Missing q k) same fits r below long fit usage opens lengths memory =
-    absurd (let within = fits r (omega (arith, same)) in omega arith)
-exact t n c (Unread q k) same fits r below long fit usage opens lengths memory =
-    absurd (let within = fits r (omega (arith, same)) in omega arith)
-exact t n c CannotWrite same fits r below long fit usage opens lengths memory =
-    absurd (let within = fits r (omega (arith, same)) in omega arith)
-exact t n c NoMemory same fits r below long fit usage opens lengths memory = absurd (memory refl)
-exact t n c Usage same fits r below long fit usage opens lengths memory = absurd (usage refl)
-exact t n c CannotOpen same fits r below long fit usage opens lengths memory = absurd (opens refl)
-exact t n c (NoLength q) same fits r below long fit usage opens lengths memory =
+pub exact : (run : SynchronousRun) (o : Outcome) → FitsInOrder run.lengths run.relations o
+    → IsExact run o
+exact run Done fits r below long fit usage opens lengths memory =
+    absurd (let within = fits r below in omega arith)
+exact run (Invalid q k) fits r below long fit usage opens lengths memory =
+    absurd (let within = fits r below in omega arith)
+exact run (Missing q k) fits r below long fit usage opens lengths memory =
+    absurd (let within = fits r below in omega arith)
+exact run (Unread q k) fits r below long fit usage opens lengths memory =
+    absurd (let within = fits r below in omega arith)
+exact run CannotWrite fits r below long fit usage opens lengths memory =
+    absurd (let within = fits r below in omega arith)
+exact run NoMemory fits r below long fit usage opens lengths memory = absurd (memory refl)
+exact run Usage fits r below long fit usage opens lengths memory = absurd (usage refl)
+exact run CannotOpen fits r below long fit usage opens lengths memory = absurd (opens refl)
+exact run (NoLength q) fits r below long fit usage opens lengths memory =
     absurd (lengths q refl)
-exact t n c (TooLong q) same fits r below long fit usage opens lengths memory =
-    ap TooLong (first_too_long (blocks_of t) q r fits.1 fits.2 long fit)
+exact run (TooLong q) fits r below long fit usage opens lengths memory =
+    ap TooLong (first_too_long run.lengths q r fits.1 fits.2 long fit)
 
 pub complete : (run : SynchronousRun) (before now : ShelfCounts) (wb wn : ℕ)
     (b a : Option (List ℕ)) (o : Outcome) → o ≢ Usage → HasCauses before now wb wn o
@@ -218,14 +219,25 @@ told_by : (told : Option Told) (c : Command) (b a : Seen) (o : Outcome)
 told_by None c b a o P each ran = tt
 told_by (Some t) c b a o P each ran = each t ran
 
+on_source : (files : Option Files) (c : Command) (made : Option ℕ) (b a : Seen) (o : Outcome)
+    (P : SynchronousRun → Type 0)
+    → ((t : Told) → Ran (Some t) (length (relations_of c)) c b a o → P (run_of t c))
+    → ((n : ℕ) → RanMade n b a o → P (made_run n))
+    → RanBy files c made b a o → OnSource files c made P
+on_source files c None b a o P each each_made ran =
+    told_by (told_of files (relations_of c)) c b a o P each ran
+on_source files c (Some n) b a o P each each_made ran = each_made n ran
+
 pub on_told : (files : Option Files) (command : Option Command) (b a : Seen) (o : Outcome)
     (P : SynchronousRun → Type 0)
     → ((t : Told) (c : Command) → command ≡ Some c
     → Ran (Some t) (length (relations_of c)) c b a o → P (run_of t c))
+    → ((n : ℕ) → command ≢ None → RanMade n b a o → P (made_run n))
     → RanOn files command b a o → OnTold files command P
-on_told files None b a o P each ran = tt
-on_told files (Some c) b a o P each ran =
-    told_by (told_of files (relations_of c)) c b a o P (λ t r. each t c refl r) ran
+on_told files None b a o P each each_made ran = tt
+on_told files (Some c) b a o P each each_made ran =
+    on_source files c c.made b a o P (λ t r. each t c refl r)
+    (λ n r. each_made n (λ none. absurd (cc)) r) ran
 
 -- words that are a command do not end in Usage
 not_usage : (command : Option Command) (c : Command) (o : Outcome)
@@ -237,12 +249,14 @@ module _ (files : Option Files) (command : Option Command) (b a : Seen) (o : Out
   pub told_writes : OnTold files command (λ run. Writes run b.written a.written o)
   told_writes =
       on_told files command b a o (λ run. Writes run b.written a.written o)
-      (λ t c some r. writes t (length (relations_of c)) c b a o r) ran
+      (λ t c some r. writes t (length (relations_of c)) c b a o r)
+      (λ n some r. r.writes) ran
 
   pub told_exact : OnTold files command (λ run. IsExact run o)
   told_exact =
       on_told files command b a o (λ run. IsExact run o)
-      (λ t c some r. exact t (length (relations_of c)) c o refl r.in_order) ran
+      (λ t c some r. exact (run_of t c) o r.in_order)
+      (λ n some r. exact (made_run n) o r.in_order) ran
 
   pub told_complete : (before now : ShelfCounts) (wb wn : ℕ) → (o ≡ Usage → command ≡ None)
       → HasCauses before now wb wn o
@@ -252,10 +266,29 @@ module _ (files : Option Files) (command : Option Command) (b a : Seen) (o : Out
       (λ t c some r.
       complete (run_of t c) before now wb wn b.written a.written o
       (not_usage command c o usage some) causes r.in_order
-      (writes t (length (relations_of c)) c b a o r)) ran
+      (writes t (length (relations_of c)) c b a o r))
+      (λ n some r.
+      complete (made_run n) before now wb wn b.written a.written o (λ is. some (usage is)) causes
+      r.in_order r.writes) ran
+
+made_not_refused : (o : Outcome) → EndsMade o → is_refused o ≡ true → ⊥
+made_not_refused o ends refused =
+    let P : Outcome → Type 0 = λ x. is_refused x ≡ true in elim ends [
+      | inl done ↦ let is : is_refused Done ≡ true = subst P done refused in cc
+      | inr other ↦ elim other [
+        | inl cut ↦ let is : is_refused CannotWrite ≡ true = subst P cut refused in cc
+        | inr memory ↦ let is : is_refused NoMemory ≡ true = subst P memory refused in cc
+      ]
+    ]
+
+untouched_by : (files : Option Files) (c : Command) (made : Option ℕ) (b a : Seen) (o : Outcome)
+    → RanBy files c made b a o → is_refused o ≡ true → a.written ≡ b.written
+untouched_by files c None b a o ran refused = untouched_same b a (ran.untouched refused)
+untouched_by files c (Some n) b a o ran refused = absurd (made_not_refused o ran.ends refused)
 
 pub any_untouched : (files : Option Files) (command : Option Command) (b a : Seen) (o : Outcome)
     → (command ≡ None → a.written ≡ b.written)
     → RanOn files command b a o → is_refused o ≡ true → a.written ≡ b.written
 any_untouched files None b a o unread ran refused = unread refl
-any_untouched files (Some c) b a o unread ran refused = untouched_same b a (ran.untouched refused)
+any_untouched files (Some c) b a o unread ran refused =
+    untouched_by files c c.made b a o ran refused

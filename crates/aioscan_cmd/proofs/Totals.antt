@@ -1,13 +1,12 @@
 -- Sums that are added up over jobs and rounds.
-use Rattle.std.proofs.Common.{◌≡◌, ◌≢◌, ℕ, suc, ◌+◌, ◌-◌, ◌^◌, ◌<◌, ◌≤◌, List, [], ◌∷◌, ◌++◌, length}
+use Rattle.std.proofs.Common.{◌≡◌, ℕ, suc, ◌+◌, ◌<◌, ◌≤◌, List, [], ◌∷◌, ◌++◌, length}
 use Rattle.std.proofs.Common.{refl, sym, ap, ◌∙◌, subst, arith, sum_by, take, get_or}
-use Rattle.std.specs.Prelude.{Option, Some, ⊤, min}
-use Rattle.std.specs.List.{All}
+use Rattle.std.specs.Prelude.{Option, Some, ⊤}
 use Rattle.std.proofs.lemmas.List.{take_more, take_all}
 use Rattle.std.proofs.lemmas.List.Elements.{All-push}
 use Rattle.std.proofs.lemmas.List.Concat.{flat_map-cons}
 use Rattle.std.proofs.lemmas.List.Sums.{sum_by-cons, sum_by_push}
-use Rattle.page_check.specs.SynchronousAnswer.{Ending, End, Reader}
+use Rattle.page_check.specs.SynchronousAnswer.{End, Reader}
 use Rattle.heap_scan.specs.Job.{IsJobAnswer}
 use Rattle.heap_scan.specs.Sums.{joined, no_sums}
 use Rattle.heap_scan.specs.declared.sums.PageSums.{PageSums}

@@ -1,16 +1,20 @@
 -- What the words of a command ask for.
-use Rattle.std.specs.Prelude.{ℕ, List, [], ◌∷◌, Option, IfSome, ◌+◌, ◌-◌, ◌<◌, Bool, not, unwrap_or}
+use Rattle.std.specs.Prelude.{ℕ, List, [], ◌∷◌, ◌≡◌, ◌≤◌, Option, Some, None, IfSome, ◌+◌, ◌-◌, ◌<◌}
+use Rattle.std.specs.Prelude.{Bool, not, unwrap_or}
+use Rattle.aioscan_cmd.specs.Generated.{made_name}
 use Rattle.std.specs.List.{filter, position_or_len}
 use Rattle.std.specs.Option.{option_map_or}
 use Rattle.std.specs.Str.{bytes_eq}
 use Rattle.scan_rounds.specs.declared.settings.ScanSettings.{ScanSettings}
 
--- the first and the last block, where they are given, the names of files, how they are read, and
--- whether the totals are told
+-- the first and the last block, where they are given, the names of files, and how many pages are
+-- generated, where the one file is that of generated pages; how they are read, and whether the
+-- totals are told
 pub record Command : Type 0 where
   pub from : Option ℕ
   pub to : Option ℕ
   pub files : List (List ℕ)
+  pub made : Option ℕ
   pub settings : ScanSettings
   pub stats : Bool
 
@@ -21,6 +25,21 @@ number_limit = 131072
 -- the most blocks that a relation may have: those of one segment file (`RELSEG_SIZE`)
 abbrev pub length_limit : ℕ
 length_limit = 131072
+
+-- so many pages may be generated
+abbrev pub made_limit : ℕ
+made_limit = 4096
+
+-- of generated pages all blocks are asked for
+abbrev pub HasNoRange : Option ℕ → Option ℕ → Option ℕ → Type 0
+HasNoRange None from to = Unit {0}
+HasNoRange (Some n) from to = (1 ≤ n) × (n ≤ made_limit) × (from ≡ None) × (to ≡ None)
+
+-- the command asks for all blocks of so many generated pages
+abbrev pub IsMade : ℕ → Command → Type 0
+IsMade n command =
+    (command.files ≡ made_name ∷ []) × (command.from ≡ None) × (command.to ≡ None)
+    × (n ≤ made_limit)
 
 -- a block number that is given is below the limit
 abbrev pub IsBelow : Option ℕ → ℕ → Type 0

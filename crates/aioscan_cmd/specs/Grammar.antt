@@ -35,7 +35,8 @@ with_rules app rules = record app { top = record app.top { rules = app.top.rules
 abbrev pub option_names : List Text
 option_names =
     codes "method" ∷ codes "workers" ∷ codes "backends" ∷ codes "combine" ∷ codes "concurrency"
-    ∷ codes "handles" ∷ codes "buffers" ∷ codes "from" ∷ codes "to" ∷ []
+    ∷ codes "handles" ∷ codes "buffers" ∷ codes "from" ∷ codes "to" ∷ codes "make"
+    ∷ []
 
 -- the flags
 abbrev pub flag_names : List Text

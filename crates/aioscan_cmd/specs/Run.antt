@@ -1,16 +1,19 @@
 -- What a run asks for, and what one thread's synchronous reads of it give.
-use Rattle.std.specs.Prelude.{◌≡◌, ℕ, ◌+◌, ◌<◌, ◌≤◌, List, length, take, slice_get, Option, Some}
+use Rattle.std.specs.Prelude.{◌≡◌, ◌⊎◌, ℕ, ◌+◌, ◌<◌, ◌≤◌, List, length, take, slice_get, Option}
+use Rattle.std.specs.Prelude.{Some}
 use Rattle.std.specs.Prelude.{None}
 use Rattle.std.specs.Prelude.{IfSome, false, true}
 use Rattle.page_check.specs.Told.{Told, blocks_of}
 use Rattle.page_check.specs.SynchronousAnswer.{Found, Page as FoundPage, Damaged, Absent, found_for}
 use Rattle.page_check.specs.SynchronousAnswer.{Reader, found_at, reader_of, pages_of, stop_of}
 use Rattle.heap_scan.specs.Listing.{listing}
-use Rattle.aio_disk.specs.Shelf.{Files, told_of}
+use Rattle.heap_scan.specs.Sums.{sums_of}
+use Rattle.aio_disk.specs.Shelf.{AllThereIfTold, Files, told_of}
 use Rattle.aio_disk.specs.Sink.{Grew, GrewByPrefix}
 use Rattle.aio_handle.specs.Executing.{last_count}
 use Rattle.aioscan_cmd.specs.Command.{Command, length_limit, relations_of}
-use Rattle.aioscan_cmd.specs.RequestList.{Request, Page, request, requests_of}
+use Rattle.aioscan_cmd.specs.Generated.{made_told, summary_of}
+use Rattle.aioscan_cmd.specs.RequestList.{Request, Page, block_range, request, requests_of}
 use Rattle.aioscan_cmd.specs.Outcomes.{is_refused}
 use Rattle.aioscan_cmd.specs.Reading.{Seen, Lists}
 use Rattle.aioscan_cmd.specs.declared.report.Outcome.{Outcome}
@@ -50,10 +53,37 @@ run_of told command =
       text = listing pages;
     }
 
--- a fact about that run, where the words are a command and the shelf tells
+-- over so many generated pages: all blocks of their relation, and the line of the sums of the pages
+abbrev pub made_run : ℕ → SynchronousRun
+made_run n =
+    let requests = block_range 0 0 n in
+    let pages = pages_of (found_at (made_told n)) requests in record {
+      relations = 1;
+      lengths = blocks_of (made_told n);
+      requests = requests;
+      pages = pages;
+      outcome =
+          outcome_at (found_at (made_told n)) (stop_of (found_at (made_told n)) requests);
+      text = summary_of (sums_of pages);
+    }
+
+-- a fact about the run of a command over these files, where they are told; over generated pages
+-- whether or not
+abbrev pub OnSource : Option Files → Command → Option ℕ → (SynchronousRun → Type 0) → Type 0
+OnSource files c None P = IfSome (told_of files (relations_of c)) (λ told. P (run_of told c))
+OnSource files c (Some n) P = P (made_run n)
+
+-- where the words are a command
 abbrev pub OnTold : Option Files → Option Command → (SynchronousRun → Type 0) → Type 0
-OnTold files command P =
-    IfSome command (λ c. IfSome (told_of files (relations_of c)) (λ told. P (run_of told c)))
+OnTold files command P = IfSome command (λ c. OnSource files c c.made P)
+
+-- each file of a command is there, where that is told; generated pages are no files
+abbrev pub IsThereBy : Option Files → Command → Option ℕ → Type 0
+IsThereBy files c None = AllThereIfTold files (relations_of c)
+IsThereBy files c (Some n) = Unit {0}
+
+abbrev pub IsThere : Option Files → Option Command → Type 0
+IsThere files command = IfSome command (λ c. IsThereBy files c c.made)
 
 -- a block could not be read, and the pages before it were listed
 pub record IsCutAt (run : SynchronousRun) (before after : Option (List ℕ)) (r b : ℕ) : Type 0 where
@@ -114,7 +144,22 @@ pub record Ran (told : Option Told) (relations : ℕ) (command : Command) (befor
       → now.reads ≤ before.reads + length (requests_of (lengths_known told answered) command)
   pub untouched : is_refused outcome ≡ true → now ≡ before
 
+-- how a run over generated pages may end
+abbrev pub EndsMade : Outcome → Type 0
+EndsMade outcome = (outcome ≡ Done) ⊎ ((outcome ≡ CannotWrite) ⊎ (outcome ≡ NoMemory))
+
+-- what is known of a run over so many generated pages: the shelf that was handed in is not read
+pub record RanMade (n : ℕ) (before now : Seen) (outcome : Outcome) : Type 0 where
+  pub ends : EndsMade outcome
+  pub in_order : FitsInOrder (blocks_of (made_told n)) 1 outcome
+  pub writes : Writes (made_run n) before.written now.written outcome
+  pub reads : now.reads ≡ before.reads
+
+abbrev pub RanBy : Option Files → Command → Option ℕ → Seen → Seen → Outcome → Type 0
+RanBy files c None before now outcome =
+    Ran (told_of files (relations_of c)) (length (relations_of c)) c before now outcome
+RanBy files c (Some n) before now outcome = RanMade n before now outcome
+
 abbrev pub RanOn : Option Files → Option Command → Seen → Seen → Outcome → Type 0
 RanOn files command before now outcome =
-    IfSome command (λ c.
-    Ran (told_of files (relations_of c)) (length (relations_of c)) c before now outcome)
+    IfSome command (λ c. RanBy files c c.made before now outcome)

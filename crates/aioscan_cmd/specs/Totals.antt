@@ -1,5 +1,6 @@
 -- How many I/Os a run made through handles, and who executed them.
-use Rattle.std.specs.Prelude.{◌≡◌, ℕ, ◌+◌, ◌<◌, ◌≤◌, List, length, sum_by, Option, IfSome, true}
+use Rattle.std.specs.Prelude.{◌≡◌, ℕ, ◌+◌, ◌<◌, ◌≤◌, List, length, sum_by, Option, Some, None}
+use Rattle.std.specs.Prelude.{IfSome, true}
 use Rattle.std.specs.List.{All}
 use Rattle.aio_disk.specs.Counts.{ShelfCounts}
 use Rattle.aio_handle.specs.Executing.{last_count}
@@ -20,12 +21,23 @@ numbers_in r = record {
   by_backends = r.by_backends;
 }
 
-pub record AreCounted (command : Option Command) (before now : ShelfCounts) (outcome : Outcome)
-    (numbers : Numbers) : Type 0 where
+-- each was one read of a disk, as far as the count goes; generated pages are read from a shelf of
+-- their own, and the counts of the one that was handed in stay
+abbrev pub AreReads : Option ℕ → ShelfCounts → ShelfCounts → ℕ → Type 0
+AreReads None before now incarnations =
+    now.reads < last_count → now.reads ≡ before.reads + incarnations
+AreReads (Some n) before now incarnations = now ≡ before
+
+-- whose counts these are: of files, or of generated pages
+abbrev pub made_by : Option Command → Option ℕ
+made_by None = None
+made_by (Some c) = c.made
+
+pub record AreCounted (made : Option ℕ) (command : Option Command) (before now : ShelfCounts)
+    (outcome : Outcome) (numbers : Numbers) : Type 0 where
   -- each was executed once, by a worker or by a backend
   pub sum : numbers.incarnations ≡ numbers.by_workers + numbers.by_backends
-  -- each was one read of a disk, as far as the count goes
-  pub reads : now.reads < last_count → now.reads ≡ before.reads + numbers.incarnations
+  pub reads : AreReads made before now numbers.incarnations
   pub no_workers : IfSome command (λ c. c.settings.method ≡ method.Sync → numbers.by_workers ≡ 0)
   pub none : is_refused outcome ≡ true
       → (numbers.incarnations ≡ 0) × (numbers.by_workers ≡ 0) × (numbers.by_backends ≡ 0)

@@ -9,6 +9,7 @@ use Rattle.std.specs.Str.Parse.{digits_value}
 use Rattle.clap.specs.Words.{Row, Text, fault_of, matches_of, first_of, all_of}
 use Rattle.aioscan_cmd.specs.Grammar.{the_command}
 use Rattle.aioscan_cmd.specs.Command.{Command}
+use Rattle.aioscan_cmd.specs.Generated.{made_name}
 use Rattle.scan_rounds.specs.declared.settings.MethodKind.{MethodKind}
 use Rattle.scan_rounds.specs.declared.settings.MethodKind.TheVariants as method
 use Rattle.scan_rounds.specs.declared.settings.ScanSettings.{ScanSettings}
@@ -67,6 +68,16 @@ files_in rows = unwrap_or (all_of (codes "FILE") rows) []
 abbrev pub NamesFiles : List Row → Type 0
 NamesFiles rows = files_of (all_of (codes "FILE") rows) ≡ Some (files_in rows)
 
+-- the files that are listed
+abbrev pub files_by : Option ℕ → List Row → List Text
+files_by None rows = files_in rows
+files_by (Some n) rows = made_name ∷ []
+
+-- there are right FILE words, where no pages are generated
+abbrev pub NamesSource : Option ℕ → List Row → Type 0
+NamesSource None rows = NamesFiles rows
+NamesSource (Some n) rows = Unit {0}
+
 -- the settings, where each option that they come from has a right value
 abbrev pub settings_with : Option MethodKind → Option ℕ → Option ℕ → Option ℕ → Option ℕ → Option ℕ
     → Option ℕ → Bool → Bool → Option ScanSettings
@@ -84,12 +95,43 @@ settings_with (Some m) (Some w) (Some n) (Some c) (Some o) (Some h) (Some b) bat
     })
 settings_with _ _ _ _ _ _ _ _ _ = None
 
-abbrev pub command_with : Option (Option ℕ) → Option (Option ℕ) → Option (List Text)
-    → Option ScanSettings → Bool → Option Command
-command_with (Some from) (Some to) (Some files) (Some settings) stats =
-    Some
-    (record { from = from; to = to; files = files; settings = settings; stats = stats })
-command_with _ _ _ _ _ = None
+-- what is listed: files, or generated pages
+pub record Source : Type 0 where
+  pub from : Option ℕ
+  pub to : Option ℕ
+  pub files : List Text
+  pub made : Option ℕ
+
+abbrev pub named : Option ℕ → Option ℕ → Option (List Text) → Option Source
+named from to None = None
+named from to (Some files) =
+    Some (record { from = from; to = to; files = files; made = None })
+
+-- either FILE words or `--make`, and `--make` with neither `--from` nor `--to`
+abbrev pub source_of : Option ℕ → Option ℕ → Option ℕ → Option (List Text) → Option Source
+source_of from to None words = named from to (files_of words)
+source_of None None (Some n) None =
+    Some (record { from = None; to = None; files = made_name ∷ []; made = Some n })
+source_of (Some from) to (Some n) words = None
+source_of None (Some to) (Some n) words = None
+source_of None None (Some n) (Some words) = None
+
+abbrev pub source_with : Option (Option ℕ) → Option (Option ℕ) → Option (Option ℕ)
+    → Option (List Text) → Option Source
+source_with (Some from) (Some to) (Some made) words = source_of from to made words
+source_with _ _ _ _ = None
+
+abbrev pub command_with : Option Source → Option ScanSettings → Bool → Option Command
+command_with (Some source) (Some settings) stats =
+    Some (record {
+      from = source.from;
+      to = source.to;
+      files = source.files;
+      made = source.made;
+      settings = settings;
+      stats = stats;
+    })
+command_with _ _ _ = None
 
 -- what the values ask for that `clap` found in the words
 module _ (rows : List Row) where
@@ -110,9 +152,11 @@ module _ (rows : List Row) where
 
   abbrev pub command_in : Option Command
   command_in = command_with
+      (source_with
       (number_if_given 0 131071 (text_of (codes "from")))
       (number_if_given 0 131071 (text_of (codes "to")))
-      (files_of (all_of (codes "FILE") rows))
+      (number_if_given 1 4096 (text_of (codes "make")))
+      (all_of (codes "FILE") rows))
       settings_in
       (is_set (text_of (codes "stats")))
 

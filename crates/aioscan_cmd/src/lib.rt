@@ -13,6 +13,8 @@ mod error_line;
 mod generated;
 mod lengths;
 mod lister;
+mod made;
+mod relation_files;
 mod relations;
 mod report;
 mod run;

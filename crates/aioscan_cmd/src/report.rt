@@ -1,5 +1,5 @@
 //! What a run says of itself.
-ghost use Rattle.std.specs.Prelude.{◌≡◌, ◌&&◌};
+ghost use Rattle.std.specs.Prelude.{◌≡◌, ◌≢◌, ◌&&◌, true, false};
 ghost use Rattle.aioscan_cmd.specs.Outcomes.{has_totals as totals_known};
 
 use heap_scan::PageSums;
@@ -28,6 +28,19 @@ pub enum Outcome {
     Missing(u32, u32),
     /// Relation R has more than 131072 blocks: status 7.
     TooLong(u32),
+}
+
+impl Outcome {
+    /// Whether all was listed.
+    pub(crate) fn is_done(self) -> bool
+        ensures done { result ≡ true → self ≡ Outcome.Done }
+        ensures other { result ≡ false → self ≢ Outcome.Done }
+    {
+        match self {
+            Outcome::Done => true,
+            _ => false,
+        }
+    }
 }
 
 /// How much of the lines of outcome and totals reached the error stream.

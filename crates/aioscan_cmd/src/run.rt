@@ -1,29 +1,26 @@
 //! The top call.
 ghost use Rattle.std.specs.Prelude.{◌≡◌, ◌≢◌, ◌<◌, ◌≤◌, ◌⊎◌, length, map, None, Some, true};
 ghost use Rattle.std.specs.Prelude.{IfSome, string_bytes};
-ghost use Rattle.aio_disk.specs.Shelf.{AllThereIfTold, told_of};
-ghost use Rattle.aioscan_cmd.specs.Command.{relations_of};
 ghost use Rattle.aioscan_cmd.specs.Words.{command_of};
 ghost use Rattle.aioscan_cmd.specs.Outcomes.{status_of, is_refused};
 ghost use Rattle.aioscan_cmd.specs.Reading.{seen};
-ghost use Rattle.aioscan_cmd.specs.Run.{RanOn, OnTold, Writes};
+ghost use Rattle.aioscan_cmd.specs.Run.{RanOn, OnTold, IsThere, Writes};
 ghost use Rattle.aioscan_cmd.specs.Causes.{HasCauses, CallsInOrder, IsExact, IsComplete, IsOpened};
 ghost use Rattle.aioscan_cmd.specs.ErrorLine.{IsToldOnErr, lines_of, shows_totals};
-ghost use Rattle.aioscan_cmd.specs.Sums.{HasSumsTold};
-ghost use Rattle.aioscan_cmd.specs.Totals.{AreCounted, numbers_in};
+ghost use Rattle.aioscan_cmd.specs.Totals.{AreCounted, made_by, numbers_in};
 
 use crate::error_line::write_lines;
-use crate::relations::Relations;
+use crate::made::list_made;
+use crate::relation_files::list_files;
 use crate::report::{Ended, RunEnd};
-use crate::scan::scan_disk;
 use crate::words::{Command, Refusal, read_command};
 use crate::{Outcome, Report};
-use aio_disk::{OpenFault, Shelf, Sink};
+use aio_disk::{Shelf, Sink};
 use std::alloc::Global;
 use std::sync::Wait;
 use std::thread::Threads;
 
-// Opens a disk for the relations, and lists what the command asks for.
+// Lists what the command asks for: files, or generated pages.
 fn run_command<S: Shelf, O: Sink, R: Threads + Wait + Sync>(
     rt: &R,
     alloc: Global,
@@ -37,22 +34,16 @@ fn run_command<S: Shelf, O: Sink, R: Threads + Wait + Sync>(
     ensures causes { HasCauses (S.counts shelf.old) (S.counts shelf.new) (O.faults out.old)
         (O.faults out.new) result.outcome }
     ensures order { CallsInOrder (S.counts shelf.old) (S.counts shelf.new) result.outcome }
-    ensures counted { AreCounted (Some command.now) (S.counts shelf.old) (S.counts shelf.new)
-        result.outcome result.numbers }
-    ensures sums { HasSumsTold (told_of (S.told shelf.old) (relations_of command.now)) command.now
-        result.outcome result.sums }
+    ensures counted { AreCounted (made_by (Some command.now)) (Some command.now)
+        (S.counts shelf.old) (S.counts shelf.new) result.outcome result.numbers }
     ensures told { S.told shelf.new ≡ S.told shelf.old }
     ensures opened { IsOpened result.outcome
-        → AllThereIfTold (S.told shelf.old) (relations_of command.now) }
+        → IsThere (S.told shelf.old) (Some command.now) }
     ensures words { result.outcome ≢ Outcome.Usage }
 {
-    let Ok(relations) = Relations::of(alloc, command) else {
-        return RunEnd::without_reads(Outcome::NoMemory);
-    };
-    match shelf.open(relations.names()) {
-        Err(OpenFault::Device) => RunEnd::without_reads(Outcome::CannotOpen),
-        Err(OpenFault::Memory) => RunEnd::without_reads(Outcome::NoMemory),
-        Ok(disk) => scan_disk(rt, alloc, command, &relations, disk, shelf, out),
+    match command.made() {
+        None => list_files(rt, alloc, command, shelf, out),
+        Some(pages) => list_made(rt, alloc, command, pages, out),
     }
 }
 
@@ -76,12 +67,12 @@ fn run<S: Shelf, O: Sink, R: Threads + Wait + Sync>(
     ensures causes { HasCauses (S.counts shelf.old) (S.counts shelf.new) (O.faults out.old)
         (O.faults out.new) result.end.outcome }
     ensures order { CallsInOrder (S.counts shelf.old) (S.counts shelf.new) result.end.outcome }
-    ensures counted { AreCounted (command_of (map string_bytes words.now)) (S.counts shelf.old)
+    ensures counted { AreCounted (made_by (command_of (map string_bytes words.now)))
+        (command_of (map string_bytes words.now)) (S.counts shelf.old)
         (S.counts shelf.new) result.end.outcome result.end.numbers }
     ensures told { S.told shelf.new ≡ S.told shelf.old }
     ensures opened { IsOpened result.end.outcome
-        → IfSome (command_of (map string_bytes words.now))
-        (λ c. AllThereIfTold (S.told shelf.old) (relations_of c)) }
+        → IsThere (S.told shelf.old) (command_of (map string_bytes words.now)) }
     ensures shows { result.shows_totals
         ≡ shows_totals (command_of (map string_bytes words.now)) result.end.outcome }
 {
@@ -95,7 +86,7 @@ fn run<S: Shelf, O: Sink, R: Threads + Wait + Sync>(
     }
 }
 
-/// Lists the pages of relation files, as the words ask.
+/// Lists the pages of relation files, as the words ask, or sums up generated pages.
 ///
 /// The words are options, and 1 to 1024 files between and behind them, without the program's name.
 /// Relations are the distinct files, numbered from 0 in the order of their first appearance. One
@@ -145,12 +136,13 @@ pub fn aioscan<S: Shelf, O: Sink, E: Sink, R: Threads + Wait + Sync>(
     ensures complete { OnTold (S.told shelf.old) (command_of (map string_bytes words.now)) (λ run.
         IsComplete run (S.counts shelf.old) (S.counts shelf.new) (O.faults out.old)
         (O.faults out.new) result.outcome) }
-    ensures there { IsOpened result.outcome → IfSome (command_of (map string_bytes words.now)) (λ c.
-        AllThereIfTold (S.told shelf.old) (relations_of c)) }
+    ensures there { IsOpened result.outcome
+        → IsThere (S.told shelf.old) (command_of (map string_bytes words.now)) }
 
     ensures contents { S.told shelf.new ≡ S.told shelf.old }
     ensures later { E.faults err.old ≤ E.faults err.new }
-    ensures totals { AreCounted (command_of (map string_bytes words.now)) (S.counts shelf.old)
+    ensures totals { AreCounted (made_by (command_of (map string_bytes words.now)))
+        (command_of (map string_bytes words.now)) (S.counts shelf.old)
         (S.counts shelf.new) result.outcome (numbers_in result) }
 {
     let ended = run(rt, alloc, words, shelf, out);

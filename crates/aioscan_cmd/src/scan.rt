@@ -1,6 +1,6 @@
 //! Lists over opened disks what a command asks for.
 ghost use Rattle.std.specs.Prelude.{◌≡◌, ◌≢◌, ◌<◌, ◌≤◌, ◌+◌, ◌*◌, ◌^◌, ℕ, length, sum_by};
-ghost use Rattle.std.specs.Prelude.{Some, vec_len, vec_capacity};
+ghost use Rattle.std.specs.Prelude.{None, Some, vec_len, vec_capacity};
 ghost use Rattle.std.specs.List.{All};
 ghost use Rattle.page_check.specs.SynchronousAnswer.{reader_of};
 ghost use Rattle.aio_disk.specs.Shelf.{told_of};
@@ -203,7 +203,7 @@ fn run_scan<W: World + Send + Sync, S: Shelf, O: Sink, R: Threads + Wait + Sync>
     ensures causes { HasCauses (S.counts shelf.old) (S.counts shelf.new) (O.faults out.old)
         (O.faults out.new) result.outcome }
     ensures order { CallsInOrder (S.counts shelf.old) (S.counts shelf.new) result.outcome }
-    ensures counted { AreCounted (Some asked.entry.command.now) (S.counts shelf.old)
+    ensures counted { AreCounted None (Some asked.entry.command.now) (S.counts shelf.old)
         (S.counts shelf.new) result.outcome result.numbers }
     ensures sums { HasSumsTold (S.Disk.told first) asked.entry.command.now result.outcome
         result.sums }
@@ -242,7 +242,7 @@ pub(crate) fn scan_disk<S: Shelf, O: Sink, R: Threads + Wait + Sync>(
     ensures causes { HasCauses (S.counts shelf.old) (S.counts shelf.new) (O.faults out.old)
         (O.faults out.new) result.outcome }
     ensures order { CallsInOrder (S.counts shelf.old) (S.counts shelf.new) result.outcome }
-    ensures counted { AreCounted (Some command.now) (S.counts shelf.old) (S.counts shelf.new)
+    ensures counted { AreCounted None (Some command.now) (S.counts shelf.old) (S.counts shelf.new)
         result.outcome result.numbers }
     ensures sums { HasSumsTold (S.Disk.told disk) command.now result.outcome result.sums }
     ensures told { S.told shelf.new ≡ S.told shelf.old }

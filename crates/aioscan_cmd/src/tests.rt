@@ -1,6 +1,7 @@
 //! Whole runs.
 mod failing;
 mod gate;
+mod made;
 mod outside;
 mod reads;
 mod rows;

@@ -1,10 +1,11 @@
 //! The words of a command.
 ghost use Rattle.std.specs.Prelude.{◌≡◌, ◌<◌, ◌≤◌, map, length, None, Some, IfOk, IfErr};
-ghost use Rattle.std.specs.Prelude.{string_bytes};
-ghost use Rattle.clap.specs.Words.{rows_of, found_of};
+ghost use Rattle.std.specs.Prelude.{string_bytes, codes, true, IfSome, if◌then◌else◌};
+ghost use Rattle.clap.specs.Words.{rows_of, found_of, all_of};
 ghost use Rattle.aioscan_cmd.specs.Command.{number_limit, length_limit, first_block, asked_count};
 ghost use Rattle.aioscan_cmd.specs.Command.{IsBelow};
-ghost use Rattle.aioscan_cmd.specs.Words.{command_in, command_of};
+ghost use Rattle.aioscan_cmd.specs.Command.{HasNoRange, IsMade, made_limit};
+ghost use Rattle.aioscan_cmd.specs.Words.{command_in, command_of, files_by, source_of, NamesSource};
 ghost use Rattle.scan_rounds.specs.Opening.{AreSettings};
 
 mod grammar;
@@ -18,6 +19,12 @@ use std::marker::Model;
 
 // The greatest number of a block that `--from` and `--to` may give.
 const LAST_BLOCK: u32 = 131071;
+
+// At most so many pages are generated.
+const MOST_MADE: u32 = 4096;
+
+// The file of generated pages.
+const MADE: [&str; 1] = ["made"];
 
 /// Why words gave no command.
 #[derive(Clone, Copy, Debug, PartialEq, Eq)]
@@ -34,14 +41,15 @@ pub(crate) struct Command<'a> {
     matches: ArgMatches<'a>,
     from: Option<u32>,
     to: Option<u32>,
+    made: Option<u32>,
     settings: ScanSettings,
     stats: bool,
 }
 
 impl<'a> Model for Command<'a> {
     ghost use Rattle.clap.specs.Words.{rows_of, found_of};
-    ghost use Rattle.aioscan_cmd.specs.Command.{Command, IsBelow, number_limit};
-    ghost use Rattle.aioscan_cmd.specs.Words.{NamesFiles, files_in};
+    ghost use Rattle.aioscan_cmd.specs.Command.{Command, HasNoRange, IsBelow, number_limit};
+    ghost use Rattle.aioscan_cmd.specs.Words.{NamesSource, files_by};
     ghost use Rattle.scan_rounds.specs.Opening.{AreSettings};
 
     ghost Value = { Command };
@@ -49,13 +57,38 @@ impl<'a> Model for Command<'a> {
     ghost view = { λ c. record {
       from = c.from;
       to = c.to;
-      files = files_in (rows_of (found_of c.matches));
+      files = files_by c.made (rows_of (found_of c.matches));
+      made = c.made;
       settings = c.settings;
       stats = c.stats;
     } };
 
     ghost invariant = { λ c. IsBelow c.from number_limit × IsBelow c.to number_limit
-        × NamesFiles (rows_of (found_of c.matches)) × AreSettings c.settings };
+        × NamesSource c.made (rows_of (found_of c.matches)) × HasNoRange c.made c.from c.to
+        × AreSettings c.settings };
+}
+
+// Whether FILE words are listed, or generated pages, all of them.
+fn is_source(
+    matches: &ArgMatches<'_>,
+    from: Option<u32>,
+    to: Option<u32>,
+    made: Option<u32>,
+) -> bool
+    ensures source { source_of from to made (all_of (codes "FILE") (rows_of (found_of matches.now)))
+        ≡ (if result then Some (record {
+          from = from;
+          to = to;
+          files = files_by made (rows_of (found_of matches.now));
+          made = made;
+        }) else None) }
+    ensures within { IfSome made (λ n. (1 ≤ n) × (n ≤ made_limit)) → result ≡ true
+        → NamesSource made (rows_of (found_of matches.now)) × HasNoRange made from to }
+{
+    match made {
+        None => values::names_files(matches),
+        Some(_) => from.is_none() && to.is_none() && !values::has_files(matches),
+    }
 }
 
 impl<'a> Command<'a> {
@@ -65,7 +98,8 @@ impl<'a> Command<'a> {
     {
         let from = values::number_given(&matches, "from", 0, LAST_BLOCK)?;
         let to = values::number_given(&matches, "to", 0, LAST_BLOCK)?;
-        if !values::names_files(&matches) {
+        let made = values::number_given(&matches, "make", 1, MOST_MADE)?;
+        if !is_source(&matches, from, to, made) {
             return None;
         }
         let settings = values::settings(&matches)?;
@@ -74,6 +108,7 @@ impl<'a> Command<'a> {
             matches,
             from,
             to,
+            made,
             settings,
             stats,
         })
@@ -84,7 +119,18 @@ impl<'a> Command<'a> {
         ensures files { map (λ file. file.now) result.now ≡ (self.now).files }
         ensures few { length result.now ≤ 1024 }
     {
-        values::files(&self.matches)
+        match self.made {
+            None => values::files(&self.matches),
+            Some(_) => &MADE,
+        }
+    }
+
+    /// How many pages are generated, where no files are listed.
+    pub(crate) fn made(&self) -> Option<u32>
+        ensures pages { result ≡ (self.now).made }
+        ensures is { IfSome result (λ n. IsMade n self.now) }
+    {
+        self.made
     }
 
     /// The first block of each file.

@@ -8,7 +8,7 @@ use clap::{Arg, ArgAction, Command};
 use std::alloc::{AllocError, Global};
 
 // The options with a value.
-const OPTIONS: [&str; 9] = [
+const OPTIONS: [&str; 10] = [
     "method",
     "workers",
     "backends",
@@ -18,6 +18,7 @@ const OPTIONS: [&str; 9] = [
     "buffers",
     "from",
     "to",
+    "make",
 ];
 
 // The flags.

@@ -1,6 +1,6 @@
 //! The values that `clap` found in the words.
 ghost use Rattle.std.specs.Prelude.{◌≡◌, ◌≤◌, map, length, IfSome, Some, None, codes};
-ghost use Rattle.std.specs.Prelude.{if◌then◌else◌, ◌&&◌};
+ghost use Rattle.std.specs.Prelude.{if◌then◌else◌, ◌&&◌, is_some};
 ghost use Rattle.std.specs.List.{list_all};
 ghost use Rattle.std.specs.Char.{is_ascii_digit};
 ghost use Rattle.std.specs.Option.{option_map};
@@ -172,4 +172,11 @@ pub(crate) fn names_files(matches: &ArgMatches<'_>) -> bool
         return false;
     };
     are_files(words)
+}
+
+/// Whether there are FILE words.
+pub(crate) fn has_files(matches: &ArgMatches<'_>) -> bool
+    ensures { result ≡ is_some (all_of (codes "FILE") (rows_of (found_of matches.now))) }
+{
+    texts_of(matches, "FILE").is_some()
 }

@@ -1,4 +1,4 @@
-use Rattle.std.proofs.Common.{◌≡◌, ◌∙◌, ◌++◌, ◌+◌, ◌-◌, ◌*◌, ap, arith, List, ℕ}
+use Rattle.std.proofs.Common.{◌≡◌, ◌∙◌, ◌++◌, ◌+◌, ◌-◌, ◌*◌, ap, arith, ℕ}
 use Rattle.aioscan_cmd.specs.Generated.{four_bytes, made_pointer, made_pointers}
 use Rattle.aioscan_cmd.proofs.Making.{pointers_more, pushed}
 use Rattle.aioscan_cmd.proofs.generated.put_pointers.Goals as goal

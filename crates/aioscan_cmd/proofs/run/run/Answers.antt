@@ -14,6 +14,6 @@ pub returns-in-Err-NoMemory-clause-counted : goal.returns-in-Err-NoMemory-clause
 returns-in-Err-NoMemory-clause-counted g c =
     let end = c.of-in-Err-NoMemory.ensures.end in
     let numbers = c.without_reads-in-Err-NoMemory.ensures.numbers in
-    uncounted _ _ _ _ (ap (λ (e : RunEnd). e.numbers.incarnations) end ∙ numbers.0)
+    uncounted _ _ _ _ _ (ap (λ (e : RunEnd). e.numbers.incarnations) end ∙ numbers.0)
     (ap (λ (e : RunEnd). e.numbers.by_workers) end ∙ numbers.1)
     (ap (λ (e : RunEnd). e.numbers.by_backends) end ∙ numbers.2)

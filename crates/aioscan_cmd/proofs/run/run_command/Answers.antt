@@ -1,52 +1,36 @@
-use Rattle.std.proofs.Common.{◌∙◌, ap, length, refl}
-use Rattle.aio_disk.specs.Shelf.{told_of}
-use Rattle.aioscan_cmd.specs.Command.{relations_of}
-use Rattle.aioscan_cmd.proofs.EndOfRun.{ran_without_memory, ran_unopened, ran_same}
-use Rattle.aioscan_cmd.proofs.EndOfRun.{no_sums_told, sums_same}
+use Rattle.std.proofs.Common.{◌∙◌, ℕ, sym, subst}
+use Rattle.std.specs.Prelude.{Option, Some}
+use Rattle.aioscan_cmd.specs.Reading.{seen}
+use Rattle.aioscan_cmd.specs.Run.{RanBy}
+use Rattle.aioscan_cmd.specs.Totals.{AreCounted}
+use Rattle.aioscan_cmd.proofs.MadeRuns.{made_apart, made_causes}
 use Rattle.aioscan_cmd.proofs.run.run_command.Goals as goal
 
-pub returns-in_default-clause-ran : goal.returns-in_default-clause-ran
-returns-in_default-clause-ran g c =
-    ran_without_memory _ _ _ _ _ _ _ c.without_reads.ensures.outcome refl
+pub returns-in-Some-clause-ran : goal.returns-in-Some-clause-ran
+returns-in-Some-clause-ran g c =
+    let command = c.args.command.now in
+    let made = sym c.made.ensures.pages ∙ c.in-Some.is in
+    let reads = (g.S.Shelf.counts c.args.shelf.now).reads in
+    let P : Option ℕ → Type 0 = λ m. RanBy (g.S.Shelf.told c.args.shelf.now) command m
+    (seen (g.O.Sink.written c.args.out.now) reads)
+    (seen (g.O.Sink.written c.list_made.new.out) reads) c.list_made.result.outcome in
+    subst P (sym made) (c.list_made.ensures.ran reads)
 
-pub returns-in-Err-Device-clause-ran : goal.returns-in-Err-Device-clause-ran
-returns-in-Err-Device-clause-ran g c =
-    ran_unopened _ _ _ _ _ _ _ _ c.without_reads-in-Err-Device.ensures.outcome refl
-    c.open.ensures.reads
+pub returns-in-Some-clause-causes : goal.returns-in-Some-clause-causes
+returns-in-Some-clause-causes g c =
+    let ran = c.list_made.ensures.ran 0 in
+    made_causes (g.S.Shelf.counts c.args.shelf.now) _ _ c.list_made.result.outcome ran.ends
+    c.list_made.ensures.writes
 
-pub returns-in-Err-Memory-clause-ran : goal.returns-in-Err-Memory-clause-ran
-returns-in-Err-Memory-clause-ran g c =
-    ran_without_memory _ _ _ _ _ _ _ c.without_reads-in-Err-Memory.ensures.outcome
-    c.open.ensures.reads
+pub returns-in-Some-clause-counted : goal.returns-in-Some-clause-counted
+returns-in-Some-clause-counted g c =
+    let made = sym c.made.ensures.pages ∙ c.in-Some.is in
+    let counts = g.S.Shelf.counts c.args.shelf.now in
+    let P : Option ℕ → Type 0 = λ m. AreCounted m (Some c.args.command.now) counts counts
+    c.list_made.result.outcome c.list_made.result.numbers in
+    subst P (sym made) (c.list_made.ensures.counted counts)
 
-pub returns-clause-ran : goal.returns-clause-ran
-returns-clause-ran g c =
-    let names = c.names.ensures.names ∙ c.in-Ok.ensures in
-    ran_same
-    (told_of (g.S.Shelf.told c.args.shelf.now) (relations_of c.args.command.now))
-    (g.S.Disk.Disk.told c.in-Ok-open.disk) _ _ c.args.command.now
-    (g.O.Sink.written c.args.out.now) _ _ _ _
-    (c.in-Ok-open.ensures.contents
-    ∙ ap (told_of (g.S.Shelf.told c.args.shelf.now)) names) (ap length c.in-Ok.ensures)
-    c.open.ensures.reads c.scan_disk.ensures.ran
-
-pub returns-in_default-clause-sums : goal.returns-in_default-clause-sums
-returns-in_default-clause-sums g c =
-    no_sums_told _ _ _ _ (λ done. absurd (let is = c.without_reads.ensures.outcome in cc))
-
-pub returns-in-Err-Device-clause-sums : goal.returns-in-Err-Device-clause-sums
-returns-in-Err-Device-clause-sums g c =
-    no_sums_told _ _ _ _
-    (λ done. absurd (let is = c.without_reads-in-Err-Device.ensures.outcome in cc))
-
-pub returns-in-Err-Memory-clause-sums : goal.returns-in-Err-Memory-clause-sums
-returns-in-Err-Memory-clause-sums g c =
-    no_sums_told _ _ _ _
-    (λ done. absurd (let is = c.without_reads-in-Err-Memory.ensures.outcome in cc))
-
-pub returns-clause-sums : goal.returns-clause-sums
-returns-clause-sums g c =
-    let names = c.names.ensures.names ∙ c.in-Ok.ensures in
-    sums_same (told_of (g.S.Shelf.told c.args.shelf.now) (relations_of c.args.command.now)) _ _ _ _
-    (c.in-Ok-open.ensures.contents
-    ∙ ap (told_of (g.S.Shelf.told c.args.shelf.now)) names) c.scan_disk.ensures.sums
+pub returns-in-Some-clause-words : goal.returns-in-Some-clause-words
+returns-in-Some-clause-words g c =
+    let ran = c.list_made.ensures.ran 0 in
+    (made_apart c.list_made.result.outcome ran.ends).usage

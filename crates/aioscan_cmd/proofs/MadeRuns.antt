@@ -1,0 +1,262 @@
+-- Runs over generated pages: each block gives its page, so reading ends behind the last.
+use Rattle.std.proofs.Common.{◌≡◌, ◌≢◌, ◌⊎◌, ℕ, zero, suc, ◌+◌, ◌-◌, ◌<◌, ◌≤◌, ◌^◌, List, ◌∷◌}
+use Rattle.std.proofs.Common.{length, map, get_or, refl, sym, ap, subst, ◌∙◌, arith, inl, inr}
+use Rattle.std.proofs.Common.{append-nil}
+use Rattle.std.specs.Prelude.{Option, Some, None}
+use Rattle.std.specs.List.{range_with_len}
+use Rattle.std.proofs.Math.Nat.{min-eq_left}
+use Rattle.std.proofs.lemmas.List.FromFn.{length-map-range_with_len}
+use Rattle.page_check.specs.Told.{Told, blocks_of}
+use Rattle.page_check.specs.SynchronousAnswer.{Reader, found_at, pages_of, stop_of}
+use Rattle.page_check.specs.Verdict.{IsValid}
+use Rattle.page_check.proofs.AnswersOfLists.{all_given}
+use Rattle.page_check.proofs.SynchronousReads.{pages_of-cons, pages_of-none}
+use Rattle.page_check.proofs.SynchronousReads.{stop_of-cons, stop_of-none}
+use Rattle.heap_scan.specs.Job.{block_entry}
+use Rattle.heap_scan.specs.Sums.{FitSums, sums_of}
+use Rattle.heap_scan.specs.declared.sums.PageSums.{PageSums}
+use Rattle.heap_scan.proofs.Summing.{sums_fit}
+use Rattle.aio_disk.specs.Counts.{Rose, ShelfCounts}
+use Rattle.aio_disk.specs.Shelf.{told_of}
+use Rattle.aioscan_cmd.specs.Command.{Command, IsMade, distinct, relations_of}
+use Rattle.aioscan_cmd.specs.Generated.{made_page, made_files, made_told, summary_of}
+use Rattle.aioscan_cmd.specs.Causes.{HasCauses}
+use Rattle.aioscan_cmd.specs.Reading.{Seen, GrewBy, HasWritten, seen}
+use Rattle.aioscan_cmd.specs.RequestList.{Request, Page, block_range, requests_of}
+use Rattle.aioscan_cmd.specs.Run.{EarlierFit, EndsMade, FitsInOrder, Ran, RanMade, Writes}
+use Rattle.aioscan_cmd.specs.Run.{made_run, outcome_at, run_of}
+use Rattle.aioscan_cmd.specs.Sums.{HasSums, HasSumsTold, kept_sums}
+use Rattle.aioscan_cmd.specs.declared.report.Outcome.{Outcome}
+use Rattle.aioscan_cmd.specs.declared.report.Outcome.TheVariants.{Done, CannotWrite, NoMemory}
+use Rattle.aioscan_cmd.specs.declared.report.Outcome.TheVariants.{Usage, CannotOpen}
+use Rattle.aioscan_cmd.specs.declared.report.Outcome.TheVariants.{NoLength, Unread}
+use Rattle.aioscan_cmd.proofs.Growing.{GrewByPrefix-nothing}
+use Rattle.aioscan_cmd.proofs.MadePages.{made_blocks, made_found, made_valid}
+use Rattle.aioscan_cmd.proofs.TopClauses.{complete, writes}
+
+abbrev given_of : ℕ → Page
+given_of block = record { entry = block_entry 0 block; page = made_page block }
+
+abbrev givens : ℕ → ℕ → List Page
+givens start m = map given_of (range_with_len start m)
+
+valid_from : (start m k : ℕ) (d : Page) → k < length (givens start m)
+    → IsValid (get_or (givens start m) k d).page
+valid_from start zero k d below = absurd (omega arith)
+valid_from start (suc m) zero d below = made_valid start
+valid_from start (suc m) (suc k) d below = valid_from (start + 1) m k d (omega arith)
+
+kept_fit : (s : PageSums) → FitSums s → kept_sums s ≡ s
+kept_fit s fit =
+    let pages = min-eq_left {n = s.pages} {m = 2 ^ 64 - 1} (omega (arith, fit.0)) in
+    let zeros = min-eq_left {n = s.zero} {m = 2 ^ 64 - 1} (omega (arith, fit.1)) in
+    let items = min-eq_left {n = s.items} {m = 2 ^ 64 - 1} (omega (arith, fit.2)) in
+    rw (pages, zeros, items) refl
+
+module _ (n : ℕ) (few : n ≤ 4096) where
+  abbrev f : Reader
+  f = found_at (made_told n)
+
+  pages_from : (start m : ℕ) → start + m ≤ n
+      → pages_of f (block_range 0 start m) ≡ givens start m
+  pages_from start zero within = pages_of-none f
+  pages_from start (suc m) within =
+      pages_of-cons f (given_of start) (block_range 0 (start + 1) m)
+      (made_found n start few (omega arith))
+      ∙ ap (λ (l : List Page). given_of start ∷ l) (pages_from (start + 1) m (omega arith))
+
+  stop_from : (start m : ℕ) → start + m ≤ n → stop_of f (block_range 0 start m) ≡ None
+  stop_from start zero within = stop_of-none f
+  stop_from start (suc m) within =
+      stop_of-cons f (given_of start) (block_range 0 (start + 1) m)
+      (made_found n start few (omega arith))
+      ∙ stop_from (start + 1) m (omega arith)
+
+  abbrev requests : List Request
+  requests = block_range 0 0 n
+
+  pub made_done : outcome_at f (stop_of f requests) ≡ Done
+  made_done = ap (outcome_at f) (stop_from 0 n (omega arith))
+
+  fit_givens : FitSums (sums_of (givens 0 n))
+  fit_givens =
+      let size = length-map-range_with_len given_of 0 n in
+      sums_fit (givens 0 n) (λ k d below. valid_from 0 n k d below) (omega (arith, size))
+
+  fit_pages : FitSums (sums_of (pages_of f requests))
+  fit_pages =
+      let P : List Page → Type 0 = λ l. FitSums (sums_of l) in
+      subst P (sym (pages_from 0 n (omega arith))) fit_givens
+
+  -- the sums of a run that listed all blocks
+  pub made_sums : (sums : PageSums) → HasSums (Some f) requests sums
+      → sums ≡ sums_of (pages_of f requests)
+  made_sums sums has =
+      let end = has.answer.answers.endings.0 in
+      let all = all_given f requests has.answer.pages has.answer.answers.first end.0 in
+      let total : has.total ≡ sums_of (pages_of f requests) =
+      has.answer.sums_are ∙ ap sums_of (sym all) in
+      has.sums_are ∙ ap kept_sums total ∙ kept_fit _ fit_pages
+
+  made_fits : EarlierFit (blocks_of (made_told n)) 1
+  made_fits q below =
+      let first : q ≡ 0 = omega arith in
+      let blocks = made_blocks n few in
+      rw first (omega (arith, blocks))
+
+  pub made_in_order : (o : Outcome) → EndsMade o → FitsInOrder (blocks_of (made_told n)) 1 o
+  made_in_order o ends = elim ends [
+    | inl done ↦ let P : Outcome → Type 0 = λ x. FitsInOrder (blocks_of (made_told n)) 1 x in
+        subst P (sym done) made_fits
+    | inr other ↦ elim other [
+      | inl cut ↦ let P : Outcome → Type 0 = λ x. FitsInOrder (blocks_of (made_told n)) 1 x in
+          subst P (sym cut) made_fits
+      | inr memory ↦ let P : Outcome → Type 0 = λ x. FitsInOrder (blocks_of (made_told n)) 1 x in
+          subst P (sym memory) tt
+    ]
+  ]
+
+  -- the line of the sums was written, or a begin of it
+  made_writes : (b a : Option (List ℕ)) (o : Outcome) → EndsMade o
+      → GrewBy o b a (summary_of (sums_of (pages_of f requests))) → Writes (made_run n) b a o
+  made_writes b a o ends grew =
+      let text = summary_of (sums_of (pages_of f requests)) in
+      let P : Outcome → Type 0 = λ x. GrewBy x b a text in
+      let Q : Outcome → Type 0 = λ x. Writes (made_run n) b a x in elim ends [
+        | inl done ↦ subst Q (sym done) (made_done, subst P done grew)
+        | inr other ↦ elim other [
+          | inl cut ↦ subst Q (sym cut) (subst P cut grew)
+          | inr memory ↦ subst Q (sym memory) (subst P memory grew)
+        ]
+      ]
+
+  pub ran_made : (b a : Option (List ℕ)) (k : ℕ) (o : Outcome) → EndsMade o
+      → GrewBy o b a (summary_of (sums_of (pages_of f requests)))
+      → RanMade n (seen b k) (seen a k) o
+  ran_made b a k o ends grew = record {
+    ends = ends;
+    in_order = made_in_order o ends;
+    writes = made_writes b a o ends grew;
+    reads = refl;
+  }
+
+-- such a run ends in none of these
+pub record IsApart (o : Outcome) : Type 0 where
+  pub usage : o ≢ Usage
+  pub cannot_open : o ≢ CannotOpen
+  pub no_length : (r : ℕ) → o ≢ NoLength r
+  pub unread : (r b : ℕ) → o ≢ Unread r b
+
+apart_from : (o is : Outcome) → o ≡ is → IsApart is → IsApart o
+apart_from o is same apart = subst IsApart (sym same) apart
+
+done_apart : IsApart Done
+done_apart = record {
+  usage = λ is. absurd (cc);
+  cannot_open = λ is. absurd (cc);
+  no_length = λ r is. absurd (cc);
+  unread = λ r b is. absurd (cc);
+}
+
+cut_apart : IsApart CannotWrite
+cut_apart = record {
+  usage = λ is. absurd (cc);
+  cannot_open = λ is. absurd (cc);
+  no_length = λ r is. absurd (cc);
+  unread = λ r b is. absurd (cc);
+}
+
+memory_apart : IsApart NoMemory
+memory_apart = record {
+  usage = λ is. absurd (cc);
+  cannot_open = λ is. absurd (cc);
+  no_length = λ r is. absurd (cc);
+  unread = λ r b is. absurd (cc);
+}
+
+pub made_apart : (o : Outcome) → EndsMade o → IsApart o
+made_apart o ends = elim ends [
+  | inl done ↦ apart_from o Done done done_apart
+  | inr other ↦ elim other [
+    | inl cut ↦ apart_from o CannotWrite cut cut_apart
+    | inr memory ↦ apart_from o NoMemory memory memory_apart
+  ]
+]
+
+-- the shelf that was handed in is as it was
+pub made_causes : (s : ShelfCounts) (wb wn : ℕ) (o : Outcome) → EndsMade o → HasWritten wb wn o
+    → HasCauses s s wb wn o
+made_causes s wb wn o ends written =
+    let apart = made_apart o ends in record {
+      later = record {
+        open_faults = omega arith;
+        length_faults = omega arith;
+        faults = omega arith;
+        reads = omega arith;
+      };
+      later_writes = written.later;
+      cannot_open = λ is. absurd (apart.cannot_open is);
+      no_length = λ r is. absurd (apart.no_length r is);
+      unread = λ r b is. absurd (apart.unread r b is);
+      cannot_write = written.cannot_write;
+    }
+
+-- there was no memory
+pub ran_made_without_memory : (n : ℕ) (s : Option (List ℕ)) (k : ℕ) (o : Outcome)
+    → o ≡ NoMemory → RanMade n (seen s k) (seen s k) o
+ran_made_without_memory n s k o is =
+    let P : Outcome → Type 0 = λ x. RanMade n (seen s k) (seen s k) x in
+    subst P (sym is) (record {
+      ends = inr (inr refl);
+      in_order = tt;
+      writes = GrewByPrefix-nothing s s _ refl;
+      reads = refl;
+    })
+
+module _ (n : ℕ) (c : Command) (is : IsMade n c) where
+  -- the shelf of generated pages tells them
+  pub made_contents : told_of (Some (made_files n)) (relations_of c) ≡ Some (made_told n)
+  made_contents =
+      ap (λ (fs : List (List ℕ)). told_of (Some (made_files n)) (distinct fs)) is.0
+
+  pub one_relation : length (relations_of c) ≡ 1
+  one_relation = ap (λ (fs : List (List ℕ)). length (distinct fs)) is.0
+
+  pub made_requests : requests_of (blocks_of (made_told n)) c ≡ block_range 0 0 n
+  unfolding requests_of
+  made_requests =
+      let blocks = made_blocks n is.3 in
+      rw (is.0, is.1, is.2, blocks) (append-nil (block_range 0 0 (n - 0))
+      ∙ ap (block_range 0 0) (omega arith))
+
+  -- the run over them listed all, or found no memory
+  pub all_listed : (told : Option Told) (relations : ℕ) (b a : Seen) (o : Outcome)
+      (before now : ShelfCounts) (wb wn : ℕ) → told ≡ Some (made_told n) → relations ≡ 1
+      → Ran told relations c b a o → HasCauses before now wb wn o → o ≢ Usage
+      → ¬ Rose before.open_faults now.open_faults
+      → ¬ Rose before.length_faults now.length_faults → ¬ Rose before.faults now.faults
+      → ¬ Rose wb wn → (o ≡ Done) ⊎ (o ≡ NoMemory)
+  all_listed told relations b a o before now wb wn told_is one ran causes words opens lengths reads
+      failed =
+      let P : Option Told → Type 0 = λ t. Ran t relations c b a o in
+      let Q : ℕ → Type 0 = λ r. Ran (Some (made_told n)) r c b a o in
+      let here = subst Q (one ∙ sym one_relation) (subst P told_is ran) in
+      let run = run_of (made_told n) c in
+      let done : run.outcome ≡ Done =
+      ap (λ (l : List Request).
+      outcome_at (found_at (made_told n)) (stop_of (found_at (made_told n)) l))
+      made_requests ∙ made_done n is.3 in
+      elim (complete run before now wb wn b.written a.written o words causes here.in_order
+      (writes (made_told n) _ c b a o here) opens lengths reads failed
+      (λ q below. made_fits n is.3 q (omega (arith, below, one_relation)))) [
+        | inl same ↦ inl (same ∙ done)
+        | inr memory ↦ inr memory
+      ]
+
+  pub listed_sums_made : (told : Option Told) (o : Outcome) (sums : PageSums)
+      → told ≡ Some (made_told n) → o ≡ Done → HasSumsTold told c o sums
+      → sums ≡ sums_of (pages_of (found_at (made_told n)) (block_range 0 0 n))
+  listed_sums_made told o sums told_is done has =
+      let P : Option Told → Type 0 = λ t. HasSumsTold t c o sums in
+      let Q : List Request → Type 0 = λ l. HasSums (Some (found_at (made_told n))) l sums in
+      made_sums n is.3 sums (subst Q made_requests (subst P told_is has done))

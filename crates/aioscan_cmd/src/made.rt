@@ -1,0 +1,132 @@
+//! Scans generated pages, over a shelf of their own, and writes the line of their sums.
+ghost use Rattle.std.specs.Prelude.{◌≡◌, ◌≤◌, ℕ, IfOk, Some, string_bytes};
+ghost use Rattle.aio_disk.specs.Counts.{ShelfCounts};
+ghost use Rattle.aioscan_cmd.specs.Command.{IsMade};
+ghost use Rattle.aioscan_cmd.specs.Generated.{made_files, summary_of};
+ghost use Rattle.aioscan_cmd.specs.Reading.{GrewBy, HasWritten, seen};
+ghost use Rattle.aioscan_cmd.specs.Run.{EndsMade, RanMade};
+ghost use Rattle.aioscan_cmd.specs.Totals.{AreCounted};
+
+use crate::Outcome;
+use crate::generated::make_file;
+use crate::relation_files::list_files;
+use crate::report::RunEnd;
+use crate::words::Command;
+use aio_disk::{MemShelf, OpenFault, Shelf, Sink, SteadyDisk, SteadyShelf, WriteFault};
+use heap_scan::PageSums;
+use std::alloc::{AllocError, Global};
+use std::sync::Wait;
+use std::thread::Threads;
+
+/// The shelf of generated pages, which has one file. An open of a name that it does not have is
+/// answered as want of memory; none is made.
+#[derive(Drop)]
+pub(crate) struct MadeShelf {
+    steady: SteadyShelf,
+}
+
+impl MadeShelf {
+    /// Makes so many pages.
+    pub(crate) fn of(alloc: Global, pages: u32) -> Result<MadeShelf, AllocError>
+        requires { pages ≤ 4096 }
+        ensures { IfOk result (λ shelf. shelf.steady.files ≡ made_files pages) }
+    {
+        let mut files = Vec::with_capacity(alloc, 1)?;
+        files.push((String::from_str(alloc, "made")?, make_file(alloc, pages)?))?;
+        Ok(MadeShelf {
+            steady: MemShelf::steady(alloc, files, 0)?,
+        })
+    }
+}
+
+impl Shelf for MadeShelf {
+    type Disk = SteadyDisk;
+
+    ghost told = { λ shelf. Some shelf.steady.files };
+
+    ghost counts = { λ shelf. record {
+      open_faults = 0;
+      length_faults = 0;
+      faults = 0;
+      reads = shelf.steady.reads;
+    } };
+
+    fn open(&mut self, names: &[String]) -> Result<SteadyDisk, OpenFault> {
+        match self.steady.open(names) {
+            Ok(disk) => Ok(disk),
+            Err(_) => Err(OpenFault::Memory),
+        }
+    }
+
+    fn take_back(&mut self, disk: SteadyDisk) {
+        self.steady.take_back(disk);
+    }
+}
+
+/// A sink that keeps nothing: the texts of generated pages are not written.
+#[derive(Drop)]
+pub(crate) struct Quiet;
+
+impl Sink for Quiet {
+    ghost use Rattle.std.specs.Prelude.{None};
+
+    ghost written = { λ sink. None };
+
+    ghost faults = { λ sink. 0 };
+
+    fn write(&mut self, _bytes: &[u8]) -> Result<(), WriteFault> {
+        Ok(())
+    }
+}
+
+// The line of these sums.
+fn summary(alloc: Global, sums: PageSums) -> Result<String, AllocError>
+    ensures { IfOk result (λ text. string_bytes text ≡ summary_of sums) }
+{
+    let PageSums { pages, zero, items } = sums;
+    format!(in alloc; "pages {pages} new {zero} items {items}\n")
+}
+
+// Writes the line of these sums by one write.
+fn write_summary<O: Sink>(alloc: Global, sums: PageSums, out: &mut O) -> Outcome
+    ensures grew { GrewBy result (O.written out.old) (O.written out.new) (summary_of sums) }
+    ensures writes { HasWritten (O.faults out.old) (O.faults out.new) result }
+    ensures ends { EndsMade result }
+{
+    let Ok(text) = summary(alloc, sums) else {
+        return Outcome::NoMemory;
+    };
+    match out.write(text.as_str().as_bytes()) {
+        Ok(()) => Outcome::Done,
+        Err(WriteFault::Device) => Outcome::CannotWrite,
+        Err(WriteFault::Memory) => Outcome::NoMemory,
+    }
+}
+
+/// Scans so many generated pages, and writes the line of their sums.
+pub(crate) fn list_made<O: Sink, R: Threads + Wait + Sync>(
+    rt: &R,
+    alloc: Global,
+    command: &Command<'_>,
+    pages: u32,
+    out: &mut O,
+) -> RunEnd
+    requires made { IsMade pages command.now }
+    ensures ran { (k : ℕ) → RanMade pages (seen (O.written out.old) k)
+        (seen (O.written out.new) k) result.outcome }
+    ensures writes { HasWritten (O.faults out.old) (O.faults out.new) result.outcome }
+    ensures counted { (s : ShelfCounts) → AreCounted (Some pages) (Some command.now) s s
+        result.outcome result.numbers }
+{
+    let Ok(mut shelf) = MadeShelf::of(alloc, pages) else {
+        return RunEnd::without_reads(Outcome::NoMemory);
+    };
+    let end = list_files(rt, alloc, command, &mut shelf, &mut Quiet);
+    if end.outcome.is_done() {
+        return RunEnd {
+            outcome: write_summary(alloc, end.sums, out),
+            ..end
+        };
+    }
+    end
+}

@@ -1,0 +1,53 @@
+//! Scans relation files.
+ghost use Rattle.std.specs.Prelude.{◌≡◌, ◌≢◌, length, None, Some};
+ghost use Rattle.aio_disk.specs.Shelf.{AllThereIfTold, told_of};
+ghost use Rattle.aioscan_cmd.specs.Command.{relations_of};
+ghost use Rattle.aioscan_cmd.specs.Reading.{seen};
+ghost use Rattle.aioscan_cmd.specs.Run.{Ran};
+ghost use Rattle.aioscan_cmd.specs.Causes.{HasCauses, CallsInOrder, IsOpened};
+ghost use Rattle.aioscan_cmd.specs.Sums.{HasSumsTold};
+ghost use Rattle.aioscan_cmd.specs.Totals.{AreCounted};
+
+use crate::Outcome;
+use crate::relations::Relations;
+use crate::report::RunEnd;
+use crate::scan::scan_disk;
+use crate::words::Command;
+use aio_disk::{OpenFault, Shelf, Sink};
+use std::alloc::Global;
+use std::sync::Wait;
+use std::thread::Threads;
+
+/// Opens a disk for the relations, and lists what the command asks for.
+pub(crate) fn list_files<S: Shelf, O: Sink, R: Threads + Wait + Sync>(
+    rt: &R,
+    alloc: Global,
+    command: &Command<'_>,
+    shelf: &mut S,
+    out: &mut O,
+) -> RunEnd
+    ensures ran { Ran (told_of (S.told shelf.old) (relations_of command.now))
+        (length (relations_of command.now)) command.now
+        (seen (O.written out.old) (S.counts shelf.old).reads)
+        (seen (O.written out.new) (S.counts shelf.new).reads) result.outcome }
+    ensures causes { HasCauses (S.counts shelf.old) (S.counts shelf.new) (O.faults out.old)
+        (O.faults out.new) result.outcome }
+    ensures order { CallsInOrder (S.counts shelf.old) (S.counts shelf.new) result.outcome }
+    ensures counted { AreCounted None (Some command.now) (S.counts shelf.old) (S.counts shelf.new)
+        result.outcome result.numbers }
+    ensures sums { HasSumsTold (told_of (S.told shelf.old) (relations_of command.now)) command.now
+        result.outcome result.sums }
+    ensures told { S.told shelf.new ≡ S.told shelf.old }
+    ensures opened { IsOpened result.outcome
+        → AllThereIfTold (S.told shelf.old) (relations_of command.now) }
+    ensures words { result.outcome ≢ Outcome.Usage }
+{
+    let Ok(relations) = Relations::of(alloc, command) else {
+        return RunEnd::without_reads(Outcome::NoMemory);
+    };
+    match shelf.open(relations.names()) {
+        Err(OpenFault::Device) => RunEnd::without_reads(Outcome::CannotOpen),
+        Err(OpenFault::Memory) => RunEnd::without_reads(Outcome::NoMemory),
+        Ok(disk) => scan_disk(rt, alloc, command, &relations, disk, shelf, out),
+    }
+}
