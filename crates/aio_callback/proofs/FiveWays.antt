@@ -22,7 +22,8 @@ use Rattle.aio_word.specs.declared.Class.TheVariants as class
 use Rattle.aio_callback.specs.declared.chain.Raw.{Raw}
 use Rattle.aio_callback.specs.declared.chain.Raw.TheVariants.{Read, Failed}
 use Rattle.aio_callback.specs.declared.chain.CallbackId.{CallbackId}
-use Rattle.aio_callback.specs.Chain.{result_of, is_bad, is_bad_verdict, first_bad, stopped_at, first_of, class_of}
+use Rattle.aio_callback.specs.Chain.{result_of, is_bad, is_bad_verdict, first_bad, stopped_at}
+use Rattle.aio_callback.specs.Chain.{first_of, class_of}
 use Rattle.aio_callback.specs.Chain.{after_file, after_buffer, chain_of, outcome_of, good_of}
 use Rattle.aio_callback.specs.Chain.{Outcome}
 use Rattle.aio_callback.specs.Reading.{Reading, IsToldRead, Fits, Completed}

@@ -380,7 +380,7 @@ fn read_in<W: World, D: Disk, T: Wait>(rt: &T, disk: &mut D, io: &mut ReadIo) ->
 
 /// A disk with one file of three blocks of zeros, but for a byte of the second.
 fn three_blocks(alloc: Global) -> Result<Option<SteadyDisk>, AllocError>
-    ensures { IfOk result (λ o. IfSome o (λ d. length d.relations ≡ 1)) }
+    ensures { IfOk result (λ o. IfSome o (λ d. length d.told.relations ≡ 1)) }
 {
     let mut bytes = vec![in alloc; 0u8; 3 * 8192]?;
     bytes[8192 + 8000] = 1;

@@ -8,11 +8,11 @@ use borrow.Rule.Slice.PartMut.{put_mid}
 use Rattle.std.proofs.lemmas.List.{take-take, drop-drop, drop-take, length-take, length-take-le}
 use Rattle.std.proofs.lemmas.List.{length-drop}
 use Rattle.std.proofs.Math.Seq.{take-length}
-use Rattle.page_check.specs.Told.{told_in, page_at, block_count}
-use Rattle.aio_disk.specs.Disk.{HoldsBlocks, ReadsPages}
+use Rattle.page_check.specs.Told.{page_at, block_count}
+use Rattle.aio_disk.specs.Disk.{HoldsBlocks, ReadsBlocks}
 use Rattle.aio_disk.proofs.Sources.{take_parts, told_still}
 use Rattle.std.proofs.lemmas.Slice.{take-put_mid_below}
-use Rattle.aio_disk.specs.Source.{Source, NoneFailed, HoldsBytes, GivesBlock, ReadsBlocks}
+use Rattle.aio_disk.specs.Source.{Source, NoneFailed, HoldsBytes, GivesBlock}
 
 -- no more was given than there is
 given_within : (bytes given : List ℕ) (offset got : ℕ) → got ≤ length given
@@ -42,7 +42,7 @@ page_shift bytes given first got i held below =
     ∙ ap (take 8192) (drop-drop (8192 * i) offset bytes)
     ∙ ap (λ (n : ℕ). take 8192 (drop n bytes)) place
 
-map_shift : {X : Type 0} (f g : ℕ → X) (first a n : ℕ)
+pub map_shift : {X : Type 0} (f g : ℕ → X) (first a n : ℕ)
     → ((i : ℕ) → i < a + n → f i ≡ g (first + i))
     → map f (range_with_len a n) ≡ map g (range_with_len (first + a) n)
 map_shift f g first a zero same = refl
@@ -70,7 +70,7 @@ pub run_given : (b : Option Source) (given : List ℕ) (pages : List (List ℕ))
     → 8192 ≤ length given → got ≤ length given → n ≡ got / 8192 → first + n < 2 ^ 32
     → take n pages ≡ map (page_at (take got given)) (range_with_len 0 n)
     → IfSome b (λ s. GivesBlock s.bytes (8192 * first) got given)
-    → IfSome b (λ s. ReadsBlocks s first n pages)
+    → IfSome b (λ s. ReadsBlocks s.bytes first n pages)
 run_given None given pages first got n room few count blocks copied gives = tt
 run_given (Some s) given pages first got n room few count blocks copied gives =
     let within = given_within s.bytes given (8192 * first) got few gives.held in
@@ -102,21 +102,22 @@ one_page given got (suc (suc n)) size few count = absurd (omega arith)
 pub page_given : (b : Option Source) (given : List ℕ) (first got n : ℕ) → length given ≡ 8192
     → got ≤ length given → n ≡ got / 8192 → first + 1 < 2 ^ 32
     → IfSome b (λ s. GivesBlock s.bytes (8192 * first) got given)
-    → IfSome b (λ s. ReadsBlocks s first n (given ∷ []))
+    → IfSome b (λ s. ReadsBlocks s.bytes first n (given ∷ []))
 page_given b given first got n size few count blocks gives =
     run_given b given (given ∷ []) first got n (omega arith) few count (omega arith)
     (one_page given got n size few count) gives
 
 -- what was read of a source still is
 pub reads_still : (b m : Option Source) (first n : ℕ) (pages : List (List ℕ)) → NoneFailed b m
-    → IfSome m (λ s. ReadsBlocks s first n pages) → IfSome b (λ s. ReadsBlocks s first n pages)
+    → IfSome m (λ s. ReadsBlocks s.bytes first n pages)
+    → IfSome b (λ s. ReadsBlocks s.bytes first n pages)
 reads_still b m first n pages passed reads =
-    told_still b m (λ bytes. ReadsPages (told_in (bytes ∷ [])) 0 first n pages) passed reads
+    told_still b m (λ bytes. ReadsBlocks bytes first n pages) passed reads
 
 -- the pages of the first runs
 pub record SoFar (source : Source) (first done : ℕ) (pages : List (List ℕ)) : Type 0 where
   pub within : done ≤ block_count source.bytes - first
-  pub held : HoldsBlocks (told_in (source.bytes ∷ [])) 0 first done pages
+  pub held : HoldsBlocks source.bytes first done pages
 
 pub none_so_far : (b : Option Source) (first : ℕ) (pages : List (List ℕ))
     → IfSome b (λ s. SoFar s first 0 pages)
@@ -124,7 +125,7 @@ none_so_far None first pages = tt
 none_so_far (Some s) first pages = record { within = omega arith; held = refl }
 
 pub so_far : (b : Option Source) (first n : ℕ) (pages : List (List ℕ))
-    → IfSome b (λ s. ReadsBlocks s first n pages) → IfSome b (λ s. SoFar s first n pages)
+    → IfSome b (λ s. ReadsBlocks s.bytes first n pages) → IfSome b (λ s. SoFar s first n pages)
 so_far None first n pages reads = tt
 so_far (Some s) first n pages reads = record { within = reads.within; held = reads.told_pages }
 
@@ -153,8 +154,8 @@ some_by (suc done) n first blocks some below = omega arith
 pub runs_more : (b : Option Source) (pages run : List (List ℕ)) (first done n room : ℕ)
     → done ≤ length pages → length run ≡ room → n ≤ room
     → IfSome b (λ s. SoFar s first done pages)
-    → IfSome b (λ s. ReadsBlocks s (first + done) n run)
-    → IfSome b (λ s. ReadsBlocks s first (done + n) (put_mid done room pages run))
+    → IfSome b (λ s. ReadsBlocks s.bytes (first + done) n run)
+    → IfSome b (λ s. ReadsBlocks s.bytes first (done + n) (put_mid done room pages run))
 runs_more None pages run first done n room fits size few front back = tt
 runs_more (Some s) pages run first done n room fits size few front back =
     let page = page_at s.bytes in record {
@@ -169,7 +170,8 @@ runs_more (Some s) pages run first done n room fits size few front back =
 
 -- some runs were given, and no more
 pub runs_end : (b : Option Source) (pages : List (List ℕ)) (first done : ℕ) → 0 < done
-    → IfSome b (λ s. SoFar s first done pages) → IfSome b (λ s. ReadsBlocks s first done pages)
+    → IfSome b (λ s. SoFar s first done pages)
+    → IfSome b (λ s. ReadsBlocks s.bytes first done pages)
 runs_end None pages first done some front = tt
 runs_end (Some s) pages first done some front =
     record { within = front.within; some = λ below. some; told_pages = front.held }
@@ -177,7 +179,7 @@ runs_end (Some s) pages first done some front =
 -- since the next one failed
 pub runs_cut : (b : Option Source) (pages run : List (List ℕ)) (first done room : ℕ) → 0 < done
     → done ≤ length pages → IfSome b (λ s. SoFar s first done pages)
-    → IfSome b (λ s. ReadsBlocks s first done (put_mid done room pages run))
+    → IfSome b (λ s. ReadsBlocks s.bytes first done (put_mid done room pages run))
 runs_cut None pages run first done room some fits front = tt
 runs_cut (Some s) pages run first done room some fits front = record {
   within = front.within;
@@ -185,13 +187,13 @@ runs_cut (Some s) pages run first done room some fits front = record {
   told_pages = take-put_mid_below done room pages run done (omega arith) fits ∙ front.held;
 }
 
-no_block : (bytes : List ℕ) (first : ℕ) → 2 ^ 32 ≤ first + 1 → first < block_count bytes → ⊥
+pub no_block : (bytes : List ℕ) (first : ℕ) → 2 ^ 32 ≤ first + 1 → first < block_count bytes → ⊥
 unfolding block_count
 no_block bytes first last below = omega arith
 
 -- there is no block of the greatest number
 pub no_room : (b : Option Source) (first : ℕ) (pages : List (List ℕ)) → 2 ^ 32 ≤ first + 1
-    → IfSome b (λ s. ReadsBlocks s first 0 pages)
+    → IfSome b (λ s. ReadsBlocks s.bytes first 0 pages)
 no_room None first pages last = tt
 no_room (Some s) first pages last = record {
   within = omega arith;

@@ -2,19 +2,21 @@
 use Rattle.std.specs.Prelude.{◌≡◌, ℕ, ◌-◌, ◌≤◌, ◌<◌, List, map, take, length, Option, Result}
 use Rattle.std.specs.Prelude.{IfSome, IfOk}
 use Rattle.std.specs.List.{range_with_len}
-use Rattle.page_check.specs.Told.{Told, blocks_of, page_of}
+use Rattle.page_check.specs.Told.{Told, relation_of, block_count, blocks_of, page_at}
 
 -- the first n of the pages are those of the blocks from `first` on
-abbrev pub HoldsBlocks : Told → ℕ → ℕ → ℕ → List (List ℕ) → Type 0
-HoldsBlocks told relation first n pages =
-    take n pages ≡ map (page_of told relation) (range_with_len first n)
+abbrev pub HoldsBlocks : List ℕ → ℕ → ℕ → List (List ℕ) → Type 0
+HoldsBlocks bytes first n pages = take n pages ≡ map (page_at bytes) (range_with_len first n)
 
--- n pages were read: the told ones, and n is 0 exactly where the relation ends at or before
--- `first`
-pub record ReadsPages (told : Told) (relation first n : ℕ) (pages : List (List ℕ)) : Type 0 where
-  pub within : n ≤ blocks_of told relation - first
-  pub some : first < blocks_of told relation → 0 < n
-  pub told_pages : HoldsBlocks told relation first n pages
+-- n blocks of these bytes were read, and n is 0 exactly where they end at or before `first`
+pub record ReadsBlocks (bytes : List ℕ) (first n : ℕ) (pages : List (List ℕ)) : Type 0 where
+  pub within : n ≤ block_count bytes - first
+  pub some : first < block_count bytes → 0 < n
+  pub told_pages : HoldsBlocks bytes first n pages
+
+-- n pages of a relation were read
+abbrev pub ReadsPages : Told → ℕ → ℕ → ℕ → List (List ℕ) → Type 0
+ReadsPages told relation first n pages = ReadsBlocks (relation_of told relation) first n pages
 
 -- a length that was answered is the told one
 abbrev pub AnswersLength : {E : Type 0} → Option Told → ℕ → Result ℕ E → Type 0

@@ -8,3 +8,4 @@ pub mod Script
 pub mod Scripted
 pub mod MemSink
 pub mod Source
+pub mod Segments

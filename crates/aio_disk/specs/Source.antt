@@ -1,9 +1,8 @@
 -- What a source of bytes tells, and what its calls give.
-use Rattle.std.specs.Prelude.{◌≡◌, ◌⊎◌, ℕ, ◌+◌, ◌-◌, ◌^◌, ◌<◌, ◌≤◌, List, [], ◌∷◌, take, drop}
+use Rattle.std.specs.Prelude.{◌≡◌, ◌⊎◌, ℕ, ◌+◌, ◌-◌, ◌^◌, ◌<◌, ◌≤◌, List, take, drop}
 use Rattle.std.specs.Prelude.{length, min, Option, IfSome, Result, Ok, Err}
 use Rattle.std.specs.Option.{option_map}
-use Rattle.page_check.specs.Told.{told_in}
-use Rattle.aio_disk.specs.Disk.{ReadsPages}
+use Rattle.aio_disk.specs.Disk.{ReadsBlocks}
 use Rattle.aio_disk.specs.declared.source.ReadFault.{ReadFault}
 use Rattle.aio_disk.specs.declared.source.ReadFault.TheVariants.{Device, Interrupted}
 
@@ -60,15 +59,11 @@ AnswersBytes before now offset given (Ok n) =
 AnswersBytes before now offset given (Err Device) = now ≡ option_map (later 1 0) before
 AnswersBytes before now offset given (Err Interrupted) = now ≡ option_map (later 0 1) before
 
--- the pages of blocks from `first` on
-abbrev pub ReadsBlocks : Source → ℕ → ℕ → List (List ℕ) → Type 0
-ReadsBlocks source first n pages = ReadsPages (told_in (source.bytes ∷ [])) 0 first n pages
-
 -- one run of blocks: their pages, or a fault
 abbrev pub GivesRun : {E : Type 0} → Option Source → Option Source → ℕ → List (List ℕ)
     → Result ℕ E → Type 0
 GivesRun before now first pages (Ok n) =
-    NoneFailed before now × IfSome before (λ source. ReadsBlocks source first n pages)
+    NoneFailed before now × IfSome before (λ source. ReadsBlocks source.bytes first n pages)
 GivesRun before now first pages (Err fault) = OneFailed before now
 
 -- blocks: their pages, where a fault comes only behind one of them, or a fault
@@ -76,5 +71,5 @@ abbrev pub GivesBlocks : {E : Type 0} → Option Source → Option Source → �
     → Result ℕ E → Type 0
 GivesBlocks before now first pages (Ok n) =
     (NoneFailed before now ⊎ ((0 < n) × OneFailed before now))
-    × IfSome before (λ source. ReadsBlocks source first n pages)
+    × IfSome before (λ source. ReadsBlocks source.bytes first n pages)
 GivesBlocks before now first pages (Err fault) = OneFailed before now

@@ -1,14 +1,15 @@
 -- Shelves and disks in memory that do not fail.
 use Rattle.std.specs.Prelude.{ℕ, ◌+◌, ◌-◌, ◌^◌, List, min, Option}
-use Rattle.aio_disk.specs.Shelf.{Files, contents_of_all}
+use Rattle.page_check.specs.Told.{Told}
+use Rattle.aio_disk.specs.Shelf.{Files, told_by}
 use Rattle.aio_disk.specs.Counts.{raised_by}
 use Rattle.aio_disk.specs.ReadLog.{Log, entry_of, empty_log, with_entry, with_entries}
 
--- a disk: its number in the order of opening, the bytes of each relation, how often it was read,
--- and those reads
+-- a disk: its number in the order of opening, what it tells, how often it was read, and those
+-- reads
 pub record SteadyDiskState : Type 0 where
   pub number : ℕ
-  pub relations : List (List ℕ)
+  pub told : Told
   pub reads : ℕ
   pub log : Log
 
@@ -35,7 +36,7 @@ fresh_shelf files room = record {
 abbrev pub next_disk : SteadyShelfState → List (List ℕ) → SteadyDiskState
 next_disk shelf names = record {
   number = shelf.disks;
-  relations = contents_of_all shelf.files names;
+  told = told_by shelf.files names;
   reads = 0;
   log = empty_log shelf.log.room;
 }

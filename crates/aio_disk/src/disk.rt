@@ -1,5 +1,5 @@
 //! Disks: relations that are read by blocks.
-ghost use Rattle.std.specs.Prelude.{◌≡◌, ◌≤◌, ◌<◌, ℕ, length, Option};
+ghost use Rattle.std.specs.Prelude.{◌≡◌, ◌≤◌, ◌<◌, ℕ, length, Option, IfSome};
 ghost use Rattle.page_check.specs.Told.{Told};
 ghost use Rattle.aio_disk.specs.Counts.{HasCause, raised_by};
 ghost use Rattle.aio_disk.specs.Disk.{AnswersLength, AnswersPages};
@@ -18,6 +18,9 @@ pub trait Disk: Send + Drop {
     /// The contents of the relations, where it tells them.
     ghost told: { Self → Option Told };
 
+    /// The segment size of the relations in blocks.
+    ghost segment: { Self → ℕ };
+
     /// How often a read has failed.
     ghost faults: { Self → ℕ };
 
@@ -26,6 +29,15 @@ pub trait Disk: Send + Drop {
 
     /// How often it was read.
     ghost reads: { Self → ℕ };
+
+    /// How many blocks a segment of a relation has that another one follows: 1 to 131072
+    /// (`RELSEG_SIZE` of `pg_config.h`). A read gives blocks of one segment at best, so a caller
+    /// does well to end its reads where a segment ends.
+    fn segment(&self) -> u32
+        ensures same { result ≡ segment self.now }
+        ensures least { 1 ≤ result }
+        ensures most { result ≤ 131072 }
+        ensures told { IfSome (told self.now) (λ t. t.segment ≡ segment self.now) };
 
     /// How many blocks the relation has (`smgrnblocks`).
     ///
@@ -36,6 +48,7 @@ pub trait Disk: Send + Drop {
         ensures cause { HasCause (length_faults self.old) (length_faults self.new) result }
         ensures relations { relations self.new ≡ relations self.old }
         ensures told { told self.new ≡ told self.old }
+        ensures segment { segment self.new ≡ segment self.old }
         ensures faults { faults self.new ≡ faults self.old }
         ensures reads { reads self.new ≡ reads self.old };
 
@@ -51,6 +64,7 @@ pub trait Disk: Send + Drop {
         ensures cause { HasCause (faults self.old) (faults self.new) result }
         ensures relations { relations self.new ≡ relations self.old }
         ensures told { told self.new ≡ told self.old }
+        ensures segment { segment self.new ≡ segment self.old }
         ensures length_faults { length_faults self.new ≡ length_faults self.old }
         ensures reads { reads self.new ≡ raised_by 1 (reads self.old) };
 }
@@ -60,11 +74,17 @@ impl<D: Disk> Disk for &mut D {
 
     ghost told = { λ d. D.told d.now };
 
+    ghost segment = { λ d. D.segment d.now };
+
     ghost faults = { λ d. D.faults d.now };
 
     ghost length_faults = { λ d. D.length_faults d.now };
 
     ghost reads = { λ d. D.reads d.now };
+
+    fn segment(&self) -> u32 {
+        (**self).segment()
+    }
 
     fn blocks(&mut self, relation: u32) -> Result<u32, DeviceFault> {
         (**self).blocks(relation)

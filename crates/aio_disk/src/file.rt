@@ -1,19 +1,23 @@
 //! Real files as disks.
-ghost use Rattle.std.specs.Prelude.{◌≡◌, ◌≤◌, None, length, IfOk};
+ghost use Rattle.std.specs.Prelude.{◌≡◌, ◌≤◌, None, false, length, IfOk};
 
-use crate::source::{RUN, count_blocks, read_blocks};
+use crate::file_relation::FileRelation;
+use crate::segments::SEGMENT_SIZE;
+use crate::source::RUN;
 use crate::{DeviceFault, Disk, OpenFault, Shelf};
 use page_check::{PAGE_SIZE, Page};
-use std::fs::{self, File, FileType};
-use std::io;
-use std::os::unix::fs::FileTypeExt;
+use std::fs::File;
 use std::rt::Files;
 
-/// Relation files that are open for reading, and room for one run of blocks. It does not tell
+/// Relations whose files are open for reading, and room for one run of blocks. It does not tell
 /// what they hold.
+///
+/// Their files are opened when the disk is, and stay open until it is dropped: a relation takes
+/// one file descriptor for each of its segments, up to 17. A segment that comes to be later is
+/// not opened.
 #[derive(Drop)]
 pub struct FileDisk {
-    files: Vec<File>,
+    relations: Vec<FileRelation>,
     buffer: Vec<u8>,
     faults: u64,
     length_faults: u64,
@@ -22,9 +26,11 @@ pub struct FileDisk {
 }
 
 impl Disk for FileDisk {
-    ghost relations = { λ disk. length disk.files.items };
+    ghost relations = { λ disk. length disk.relations.items };
 
     ghost told = { λ _. None };
+
+    ghost segment = { λ _. 131072 };
 
     ghost faults = { λ disk. disk.faults };
 
@@ -32,8 +38,12 @@ impl Disk for FileDisk {
 
     ghost reads = { λ disk. disk.reads };
 
+    fn segment(&self) -> u32 {
+        SEGMENT_SIZE
+    }
+
     fn blocks(&mut self, relation: u32) -> Result<u32, DeviceFault> {
-        let blocks = count_blocks(&mut self.files[relation as usize]);
+        let blocks = self.relations[relation as usize].blocks();
         if blocks.is_err() {
             self.length_faults = self.length_faults.saturating_add(1);
         }
@@ -44,8 +54,8 @@ impl Disk for FileDisk {
     /// them one system call. After a fault behind a whole block it answers the pages before it.
     fn read(&mut self, relation: u32, first: u32, pages: &mut [Page]) -> Result<u32, DeviceFault> {
         self.reads = self.reads.saturating_add(1);
-        let file = &mut self.files[relation as usize];
-        match read_blocks(file, first, self.buffer.as_mut_slice(), pages) {
+        let buffer = self.buffer.as_mut_slice();
+        match self.relations[relation as usize].read(first, buffer, pages) {
             Ok(count) => Ok(count as u32),
             Err(_) => {
                 self.faults = self.faults.saturating_add(1);
@@ -55,43 +65,26 @@ impl Disk for FileDisk {
     }
 }
 
-// Whether what is opened can be read by blocks.
-fn has_blocks(kind: FileType) -> bool {
-    kind.is_file() || kind.is_block_device()
-}
-
-// Opens a regular file or a block device, and nothing else. What the name stands for is looked at
-// before it is opened too, since to open a FIFO is to wait for its writer.
-fn open_file<R: Files<File = File>>(rt: &R, name: &str) -> io::Result<File> {
-    if !has_blocks(fs::metadata(rt, name)?.file_type()) {
-        return Err(io::Error::from(io::ErrorKind::InvalidInput));
-    }
-    let file = File::open(rt, name)?;
-    if !has_blocks(file.metadata()?.file_type()) {
-        return Err(io::Error::from(io::ErrorKind::InvalidInput));
-    }
-    Ok(file)
-}
-
-// Opens the files of these names in their order.
-fn open_files<R: Files<File = File> + AllocGlobal>(
+// Opens the relations of these names in their order.
+fn open_relations<R: Files<File = File> + AllocGlobal>(
     rt: &R,
     names: &[String],
-) -> Result<Vec<File>, OpenFault>
-    ensures { IfOk result (λ files. length files.items ≡ length names.now) }
+) -> Result<Vec<FileRelation>, OpenFault>
+    ensures { IfOk result (λ relations. length relations.items ≡ length names.now) }
 {
-    let mut files = Vec::new(rt.alloc());
+    let mut relations = Vec::new(rt.alloc());
     for name in names {
-        match open_file(rt, name.as_str()) {
-            Ok(file) => files.push(file).map_err(|_| OpenFault::Memory)?,
-            Err(e) if e.kind() == io::ErrorKind::OutOfMemory => return Err(OpenFault::Memory),
-            Err(_) => return Err(OpenFault::Device),
-        }
+        let relation = FileRelation::open(rt, name.as_str())?;
+        relations.push(relation).map_err(|_| OpenFault::Memory)?;
     }
-    Ok(files)
+    Ok(relations)
 }
 
 /// Opens real files for reading. It does not tell what they hold.
+///
+/// An open opens all files of all relations that it names. The file `NAME.1` is one of a relation
+/// only behind a file `NAME` of exactly 131072 whole blocks, `NAME.2` only behind such a file
+/// `NAME.1`, and so on: no other file is looked for.
 #[derive(Drop)]
 pub struct FileShelf<'r, R: Files<File = File> + AllocGlobal> {
     rt: &'r R,
@@ -123,6 +116,10 @@ impl<R: Files<File = File> + AllocGlobal> Shelf for FileShelf<'_, R> {
 
     ghost told = { λ _. None };
 
+    ghost segment = { λ _. 131072 };
+
+    ghost surely_opens = { λ _ _. false };
+
     ghost counts = { λ shelf. record {
       open_faults = shelf.open_faults;
       length_faults = shelf.length_faults;
@@ -131,14 +128,16 @@ impl<R: Files<File = File> + AllocGlobal> Shelf for FileShelf<'_, R> {
     } };
 
     /// A name that is not there, and one of a directory or of anything else that is neither a
-    /// regular file nor a block device, is a device fault.
+    /// regular file nor a block device, is a device fault. So is a later segment that is there and
+    /// cannot be opened, a segment whose size cannot be told, and a lack of file descriptors
+    /// (`EMFILE`, `ENFILE`).
     fn open(&mut self, names: &[String]) -> Result<FileDisk, OpenFault> {
         let Ok(buffer) = vec![in self.rt.alloc(); 0u8; RUN * PAGE_SIZE] else {
             return Err(OpenFault::Memory);
         };
-        match open_files(self.rt, names) {
-            Ok(files) => Ok(FileDisk {
-                files,
+        match open_relations(self.rt, names) {
+            Ok(relations) => Ok(FileDisk {
+                relations,
                 buffer,
                 faults: 0,
                 length_faults: 0,
@@ -162,184 +161,4 @@ impl<R: Files<File = File> + AllocGlobal> Shelf for FileShelf<'_, R> {
 }
 
 #[cfg(test)]
-mod tests {
-    use super::*;
-    use std::alloc::{AllocError, Global};
-    use std::process::Abort;
-    use std::test::Fail;
-
-    // Writes a file of blocks, each filled with a byte of its own from `byte` on, and then a part
-    // of a block.
-    fn write_file<R: Files<File = File> + AllocGlobal>(
-        rt: &R,
-        name: &str,
-        byte: u8,
-        blocks: u8,
-    ) -> Result<(), Fail> {
-        let mut bytes = Vec::new(rt.alloc());
-        for block in 0..blocks {
-            bytes.extend_from_slice(&[byte.wrapping_add(block); PAGE_SIZE])?;
-        }
-        bytes.extend_from_slice(b"part of a block")?;
-        fs::write(rt, name, bytes.as_slice())?;
-        Ok(())
-    }
-
-    fn zeroed_pages(alloc: Global, count: usize) -> Result<Vec<Page>, AllocError> {
-        let mut pages = Vec::new(alloc);
-        for _ in 0..count {
-            pages.push(Page::zeroed(alloc)?)?;
-        }
-        Ok(pages)
-    }
-
-    // The byte that fills the page.
-    fn filling(page: &Page) -> Option<u8> {
-        let byte = page.bytes().first().copied()?;
-        page.bytes()
-            .iter()
-            .all(|other| *other == byte)
-            .then_some(byte)
-    }
-
-    // Reads, and says what fills each page that was read.
-    fn read<R: Abort + AllocGlobal>(
-        rt: &R,
-        disk: &mut FileDisk,
-        relation: u32,
-        first: u32,
-        count: usize,
-    ) -> Result<Vec<Option<u8>>, Fail> {
-        let alloc = rt.alloc();
-        let mut pages = zeroed_pages(alloc, count)?;
-        assert!(rt; (relation as usize) < disk.files.len());
-        assert!(rt; 0 < pages.len() && pages.len() <= 128);
-        let answered = disk
-            .read(relation, first, pages.as_mut_slice())
-            .ok()
-            .ok_or("a fault")?;
-        let mut fillings = Vec::new(alloc);
-        for page in &pages[..answered as usize] {
-            fillings.push(filling(page))?;
-        }
-        Ok(fillings)
-    }
-
-    #[test]
-    fn two_files_are_two_relations(rt: HostRuntime) -> Result<(), Fail> {
-        let alloc = rt.alloc();
-        write_file(&rt, "first", 1, 3)?;
-        write_file(&rt, "second", 101, 20)?;
-        let names = vec![in alloc;
-            String::from_str(alloc, "first")?,
-            String::from_str(alloc, "second")?,
-        ]?;
-        let mut shelf = FileShelf::new(&rt);
-        let mut disk = shelf.open(names.as_slice()).ok().ok_or("no disk")?;
-        assert_eq!(rt; disk.files.len(), 2);
-        assert_eq!(rt; disk.blocks(0).ok(), Some(3));
-        assert_eq!(rt; disk.blocks(1).ok(), Some(20));
-
-        // Three pages of relation 1, more than one run of blocks, and one page in place.
-        let three = [Some(103), Some(104), Some(105)];
-        assert_eq!(rt; read(&rt, &mut disk, 1, 2, 3)?.as_slice(), three.as_slice());
-        let all = read(&rt, &mut disk, 1, 0, 20)?;
-        assert_eq!(rt; all.len(), 20);
-        assert_eq!(rt;
-            &all[14..18],
-            [Some(115), Some(116), Some(117), Some(118)].as_slice()
-        );
-        assert_eq!(rt;
-            read(&rt, &mut disk, 0, 1, 1)?.as_slice(),
-            [Some(2)].as_slice()
-        );
-
-        // At the end, where a part of a block stands, and past it.
-        assert_eq!(rt;
-            read(&rt, &mut disk, 0, 2, 3)?.as_slice(),
-            [Some(3)].as_slice()
-        );
-        assert_eq!(rt; read(&rt, &mut disk, 1, 1, 128)?.len(), 19);
-        assert_eq!(rt; read(&rt, &mut disk, 0, 3, 3)?.len(), 0);
-        assert_eq!(rt; read(&rt, &mut disk, 0, 3, 1)?.len(), 0);
-        assert_eq!(rt; read(&rt, &mut disk, 0, u32::MAX, 128)?.len(), 0);
-
-        shelf.take_back(disk);
-        assert_eq!(rt; shelf.reads, 8);
-        assert_eq!(rt;
-            (shelf.open_faults, shelf.length_faults, shelf.faults),
-            (0, 0, 0)
-        );
-        fs::remove_file(&rt, "first")?;
-        fs::remove_file(&rt, "second")?;
-        Ok(())
-    }
-
-    // Whether a read of so many pages fails.
-    fn fails<R: Abort + AllocGlobal>(
-        rt: &R,
-        disk: &mut FileDisk,
-        count: usize,
-    ) -> Result<bool, Fail> {
-        let mut pages = zeroed_pages(rt.alloc(), count)?;
-        assert!(rt; 0 < disk.files.len());
-        assert!(rt; 0 < pages.len() && pages.len() <= 128);
-        Ok(disk.read(0, 0, pages.as_mut_slice()).is_err())
-    }
-
-    // A disk over one file, however it was opened.
-    fn disk_over(alloc: Global, file: File) -> Result<FileDisk, AllocError> {
-        let mut files = Vec::new(alloc);
-        files.push(file)?;
-        Ok(FileDisk {
-            files,
-            buffer: vec![in alloc; 0u8; RUN * PAGE_SIZE]?,
-            faults: 0,
-            length_faults: 0,
-            reads: 0,
-        })
-    }
-
-    // Each read of a file that is open for writing alone fails.
-    #[test]
-    fn reads_that_fail_are_counted(rt: HostRuntime) -> Result<(), Fail> {
-        let mut disk = disk_over(rt.alloc(), File::create(&rt, "write_only")?)?;
-        assert!(rt; fails(&rt, &mut disk, 1)?);
-        assert!(rt; fails(&rt, &mut disk, 3)?);
-        assert!(rt; fails(&rt, &mut disk, 128)?);
-        assert_eq!(rt; disk.faults, 3);
-        assert_eq!(rt; disk.reads, 3);
-        fs::remove_file(&rt, "write_only")?;
-        Ok(())
-    }
-
-    // This file cannot seek to its end.
-    #[test]
-    fn lengths_that_fail_are_counted(rt: HostRuntime) -> Result<(), Fail> {
-        let mut disk = disk_over(rt.alloc(), File::open(&rt, "/proc/version")?)?;
-        assert!(rt; 0 < disk.files.len());
-        assert!(rt; disk.blocks(0).is_err());
-        assert_eq!(rt; disk.length_faults, 1);
-        let mut shelf = FileShelf::new(&rt);
-        shelf.take_back(disk);
-        assert_eq!(rt; (shelf.length_faults, shelf.faults), (1, 0));
-        Ok(())
-    }
-
-    #[test]
-    fn what_has_no_blocks_is_refused(rt: HostRuntime) -> Result<(), Fail> {
-        let alloc = rt.alloc();
-        write_file(&rt, "third", 1, 1)?;
-        let mut shelf = FileShelf::new(&rt);
-        for name in ["missing", ".", "/dev/null", ""] {
-            let names = vec![in alloc;
-                String::from_str(alloc, "third")?,
-                String::from_str(alloc, name)?,
-            ]?;
-            assert!(rt; matches!(shelf.open(names.as_slice()), Err(OpenFault::Device)));
-        }
-        assert_eq!(rt; shelf.open_faults, 4);
-        fs::remove_file(&rt, "third")?;
-        Ok(())
-    }
-}
+mod tests;

@@ -14,18 +14,22 @@
 //! where its faults go, is proved over any source of bytes that tells them (`source.rt`).
 #![tactic(auto)]
 
+mod blocks;
 mod disk;
 mod fault;
 mod file;
+mod file_relation;
 mod mem_disk;
 mod mem_shelf;
 mod mem_sink;
 mod read_log;
 mod script;
+mod segments;
 mod shared;
 mod shelf;
 mod sink;
 mod source;
+mod source_relation;
 mod std_sink;
 mod steady;
 

@@ -1,6 +1,6 @@
 //! Disks in memory that fail as a script says.
 ghost use Rattle.std.specs.Prelude.{◌≡◌, ◌≤◌, ◌<◌, ◌-◌, min, length, Some, IfOk, is_err, true};
-ghost use Rattle.page_check.specs.Told.{told_in, blocks_of};
+ghost use Rattle.page_check.specs.Told.{blocks_of, relation_of};
 ghost use Rattle.std.specs.Arc.{arc_value};
 ghost use Rattle.aio_disk.specs.Disk.{HoldsBlocks};
 ghost use Rattle.aio_disk.specs.Script.{at_most, has_positive_shorts};
@@ -66,10 +66,10 @@ impl MemDisk {
     /// How many blocks the relation has, as [`Disk::blocks`] says it. It fails exactly where the
     /// script has this call.
     pub fn blocks(&mut self, relation: u32) -> Result<u32, DeviceFault>
-        requires { relation < length self.old.steady.relations }
+        requires { relation < length self.old.steady.told.relations }
         ensures failed { is_err result ≡ fails_next_length self.old }
         ensures length { IfOk result (λ n.
-            n ≡ blocks_of (told_in self.old.steady.relations) relation) }
+            n ≡ blocks_of self.old.steady.told relation) }
         ensures counted { self.new ≡ with_length_call self.old result }
     {
         self.length_count = self.length_count.saturating_add(1);
@@ -91,16 +91,16 @@ impl MemDisk {
         first: u32,
         pages: &mut [Page],
     ) -> Result<u32, DeviceFault>
-        requires relation { relation < length self.old.steady.relations }
+        requires relation { relation < length self.old.steady.told.relations }
         requires some { 0 < length pages.old }
         requires few { length pages.old ≤ 128 }
         ensures failed { is_err result ≡ fails_next_read self.old }
         ensures count { IfOk result (λ n. n ≡ at_most (next_short_answer self.old)
-            (min (blocks_of (told_in self.old.steady.relations) relation - first)
+            (min (blocks_of self.old.steady.told relation - first)
             (length pages.old))) }
         ensures pages { IfOk result (λ n.
-            HoldsBlocks (told_in self.old.steady.relations) relation first n pages.new) }
-        ensures some { first < blocks_of (told_in self.old.steady.relations) relation
+            HoldsBlocks (relation_of self.old.steady.told relation) first n pages.new) }
+        ensures some { first < blocks_of self.old.steady.told relation
             → IfOk result (λ n. 0 < n) }
         ensures read { self.new
             ≡ with_scripted_read self.old relation first (length pages.old) result }
@@ -117,15 +117,21 @@ impl MemDisk {
 }
 
 impl Disk for MemDisk {
-    ghost relations = { λ disk. length disk.steady.relations };
+    ghost relations = { λ disk. length disk.steady.told.relations };
 
-    ghost told = { λ disk. Some (told_in disk.steady.relations) };
+    ghost told = { λ disk. Some disk.steady.told };
+
+    ghost segment = { λ disk. disk.steady.told.segment };
 
     ghost faults = { λ disk. disk.faults };
 
     ghost length_faults = { λ disk. disk.length_faults };
 
     ghost reads = { λ disk. disk.steady.reads };
+
+    fn segment(&self) -> u32 {
+        self.disk.segment()
+    }
 
     fn blocks(&mut self, relation: u32) -> Result<u32, DeviceFault> {
         MemDisk::blocks(self, relation)

@@ -1,14 +1,15 @@
 //! Shelves in memory.
-ghost use Rattle.std.specs.Prelude.{◌≡◌, ◌⊎◌, length, map, IfOk, OnOk, IfSome, IsErrOf};
+ghost use Rattle.std.specs.Prelude.{◌≡◌, ◌⊎◌, ◌≤◌, length, map, IfOk, OnOk, IfSome, IsErrOf};
 ghost use Rattle.std.specs.Prelude.{IsTrue, Some, true, false, string_bytes};
 ghost use Rattle.aio_disk.specs.declared.fault.OpenFault.TheVariants.{Device, Memory};
-ghost use Rattle.aio_disk.specs.Shelf.{file_of, has_name, have_distinct_names, AllThere};
-ghost use Rattle.aio_disk.specs.Shelf.{OneMissing};
+ghost use Rattle.aio_disk.specs.Shelf.{file_of, files_in, has_name, have_distinct_names};
+ghost use Rattle.aio_disk.specs.Shelf.{AllThere, OneMissing};
 ghost use Rattle.aio_disk.specs.Script.{has_positive_shorts};
 ghost use Rattle.aio_disk.specs.Steady.{fresh_shelf};
 ghost use Rattle.aio_disk.specs.Scripted.{fresh_mem_shelf, fails_next_open, next_mem_disk};
 ghost use Rattle.aio_disk.specs.Scripted.{with_mem_disk, with_failed_open, with_mem_disk_back};
 
+use crate::segments::SEGMENT_SIZE;
 use crate::{MemDisk, OpenFault, ReadEntry, Script, Shelf, SteadyShelf};
 use std::alloc::{AllocError, Global};
 use std::marker::Model;
@@ -80,9 +81,9 @@ impl MemShelf {
     ) -> Result<SteadyShelf, AllocError>
         requires distinct { IsTrue (have_distinct_names (map file_of files.items)) }
         ensures fresh { IfOk result (λ shelf.
-            shelf ≡ fresh_shelf (map file_of files.items) log_room) }
+            shelf ≡ fresh_shelf (files_in 131072 (map file_of files.items)) log_room) }
     {
-        SteadyShelf::new(alloc, files, log_room)
+        SteadyShelf::new(alloc, files, SEGMENT_SIZE, log_room)
     }
 
     /// A shelf over these files, whose disks fail as the script says. It takes the room for its
@@ -96,10 +97,29 @@ impl MemShelf {
         requires distinct { IsTrue (have_distinct_names (map file_of files.items)) }
         requires positive { IsTrue (has_positive_shorts script) }
         ensures fresh { IfOk result (λ shelf.
-            shelf ≡ fresh_mem_shelf (map file_of files.items) script log_room) }
+            shelf ≡ fresh_mem_shelf (files_in 131072 (map file_of files.items)) script log_room) }
+    {
+        MemShelf::make_segmented(alloc, files, SEGMENT_SIZE, script, log_room)
+    }
+
+    /// The same with a segment size of its own, in blocks: a file named `NAME.1` is the second
+    /// segment of the relation `NAME`, and counts where `NAME` has exactly `segment` blocks.
+    pub fn make_segmented(
+        alloc: Global,
+        files: Vec<(String, Vec<u8>)>,
+        segment: u32,
+        script: Script,
+        log_room: usize,
+    ) -> Result<MemShelf, AllocError>
+        requires distinct { IsTrue (have_distinct_names (map file_of files.items)) }
+        requires positive { IsTrue (has_positive_shorts script) }
+        requires least { 1 ≤ segment }
+        requires most { segment ≤ 131072 }
+        ensures fresh { IfOk result (λ shelf.
+            shelf ≡ fresh_mem_shelf (files_in segment (map file_of files.items)) script log_room) }
     {
         Ok(MemShelf {
-            shelf: SteadyShelf::new(alloc, files, log_room)?,
+            shelf: SteadyShelf::new(alloc, files, segment, log_room)?,
             shared_script: Arc::new(alloc, script)?,
             open_count: 0,
             length_fault_count: 0,
@@ -121,12 +141,12 @@ impl MemShelf {
     pub fn open(&mut self, names: &[String]) -> Result<MemDisk, OpenFault>
         ensures unlisted { OnOk result (fails_next_open self.old ≡ false) }
         ensures all_there { OnOk result
-            (AllThere self.old.steady.files (map string_bytes names.now)) }
+            (AllThere self.old.steady.files.named (map string_bytes names.now)) }
         ensures disk { IfOk result (λ disk.
             disk ≡ next_mem_disk self.old (map string_bytes names.now)) }
         ensures opened { OnOk result (self.new ≡ with_mem_disk self.old) }
         ensures failed { IsErrOf result Device → (fails_next_open self.old ≡ true)
-            ⊎ OneMissing self.old.steady.files (map string_bytes names.now) }
+            ⊎ OneMissing self.old.steady.files.named (map string_bytes names.now) }
         ensures counted { IsErrOf result Device → self.new ≡ with_failed_open self.old }
         ensures memory { IsErrOf result Memory → self.new ≡ self.old }
     {
@@ -171,6 +191,10 @@ impl Shelf for MemShelf {
     type Disk = MemDisk;
 
     ghost told = { λ shelf. Some shelf.steady.files };
+
+    ghost segment = { λ shelf. shelf.steady.files.segment };
+
+    ghost surely_opens = { λ _ _. false };
 
     ghost counts = { λ shelf. record {
       open_faults = shelf.steady.open_faults;
@@ -217,7 +241,8 @@ mod tests {
     }
 
     fn open<R: AllocGlobal>(rt: &R, shelf: &mut MemShelf) -> Result<Option<MemDisk>, Fail>
-        ensures { IfOk result (λ opened. IfSome opened (λ disk. length disk.steady.relations ≡ 1)) }
+        ensures { IfOk result (λ opened. IfSome opened
+            (λ disk. length disk.steady.told.relations ≡ 1)) }
     {
         let alloc = rt.alloc();
         let names = vec![in alloc; String::from_str(alloc, "file")?]?;
@@ -229,7 +254,7 @@ mod tests {
         rt: &R,
         disk: &mut MemDisk,
     ) -> Result<(Option<u32>, Option<u32>, Option<u32>), Fail>
-        requires { length disk.old.steady.relations ≡ 1 }
+        requires { length disk.old.steady.told.relations ≡ 1 }
     {
         let alloc = rt.alloc();
         let mut pages = vec![in alloc; Page::zeroed(alloc)?, Page::zeroed(alloc)?]?;

@@ -1,6 +1,6 @@
 //! What real files are read by: bytes that come in parts, and calls that fail or are interrupted.
 ghost use Rattle.std.specs.Prelude.{◌≡◌, ◌≤◌, ◌<◌, ◌+◌, ◌*◌, ◌^◌, ◌⊎◌, ◌∷◌, [], length, None, IfOk};
-ghost use Rattle.std.specs.Prelude.{IfSome, Option, MatchResult};
+ghost use Rattle.std.specs.Prelude.{◌==◌, IfSome, Option, MatchResult};
 ghost use Rattle.std.specs.Option.{option_map};
 ghost use Rattle.page_check.specs.Told.{block_count};
 ghost use Rattle.aio_disk.specs.Source.{Source, later, NoneFailed, OneFailed, GivesBytes};
@@ -8,7 +8,7 @@ ghost use Rattle.aio_disk.specs.Source.{GivesBlock};
 ghost use Rattle.aio_disk.specs.Source.{AnswersSize, AnswersBytes, GivesRun, GivesBlocks};
 
 use crate::DeviceFault;
-use crate::shared::copy_blocks;
+use crate::blocks::{WholeBlocks, copy_blocks};
 use page_check::{PAGE_SIZE, Page};
 use std::fs::File;
 use std::io::{self, Seek, SeekFrom};
@@ -67,6 +67,19 @@ pub(crate) fn count_blocks<S: ByteSource>(source: &mut S) -> Result<u32, DeviceF
 {
     match source.size() {
         Ok(size) => Ok((size / PAGE_SIZE as u64).min(u64::from(u32::MAX)) as u32),
+        Err(fault) => Err(fault),
+    }
+}
+
+/// Whether there are exactly as many whole blocks as a segment has that another one follows.
+pub(crate) fn is_full<S: ByteSource>(source: &mut S, size: u32) -> Result<bool, DeviceFault>
+    ensures { MatchResult result
+        (λ full. (S.told source.new ≡ S.told source.old)
+        × IfSome (S.told source.old) (λ told. full ≡ (block_count told.bytes == size)))
+        (λ _. S.told source.new ≡ option_map (later 1 0) (S.told source.old)) }
+{
+    match count_blocks(source) {
+        Ok(count) => Ok(count == size),
         Err(fault) => Err(fault),
     }
 }
@@ -150,7 +163,12 @@ fn read_run<S: ByteSource>(
 {
     let bytes = &mut buffer[..pages.len() * PAGE_SIZE];
     match read_some(source, bytes, PAGE_SIZE as u64 * u64::from(first)) {
-        Ok(got) => Ok(copy_blocks(&bytes[..got], 0, u32::MAX, pages) as usize),
+        Ok(got) => {
+            let blocks = WholeBlocks {
+                bytes: &bytes[..got],
+            };
+            Ok(copy_blocks(&blocks, 0, u32::MAX, pages) as usize)
+        }
         Err(fault) => Err(fault),
     }
 }
@@ -192,12 +210,11 @@ pub(crate) fn read_blocks<S: ByteSource>(
 ) -> Result<usize, DeviceFault>
     requires some { 0 < length pages.old }
     requires room { 131072 ≤ length buffer.old }
+    requires blocks { first + length pages.old < 2 ^ 32 }
     ensures few { IfOk result (λ n. n ≤ length pages.new) }
     ensures pages { GivesBlocks (S.told source.old) (S.told source.new) first pages.new result }
 {
-    let room = pages.len().min((u32::MAX - first) as usize);
-    match &mut pages[..room] {
-        [] => Ok(0),
+    match pages {
         [page] => read_page(source, first, page),
         pages => read_runs(source, first, buffer, pages),
     }

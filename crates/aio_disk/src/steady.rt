@@ -1,16 +1,18 @@
 //! Shelves in memory whose disks do not fail.
 ghost use Rattle.std.specs.Prelude.{◌≡◌, ◌≤◌, ◌<◌, ◌-◌, min, length, map, Some, Ok, IfOk, OnOk};
 ghost use Rattle.std.specs.Prelude.{IsErrOf, string_bytes};
-ghost use Rattle.page_check.specs.Told.{told_in, blocks_of};
+ghost use Rattle.page_check.specs.Told.{blocks_of, relation_of};
 ghost use Rattle.aio_disk.specs.declared.fault.OpenFault.TheVariants.{Device, Memory};
 ghost use Rattle.aio_disk.specs.Counts.{raised_by};
 ghost use Rattle.aio_disk.specs.Disk.{HoldsBlocks};
-ghost use Rattle.aio_disk.specs.Shelf.{AllThere, OneMissing, file_of};
+ghost use Rattle.aio_disk.specs.Shelf.{AllThere, OneMissing, are_there, file_of, files_in};
 ghost use Rattle.aio_disk.specs.Steady.{fresh_shelf, next_disk, with_disk, with_open_fault};
 ghost use Rattle.aio_disk.specs.Steady.{with_disk_back, with_read};
 
+use crate::blocks::{Blocks, copy_blocks};
 use crate::read_log::ReadLog;
-use crate::shared::{NamedFile, SharedBytes, copy_blocks, find_files, share_files, whole_blocks};
+use crate::segments::Segments;
+use crate::shared::{NamedFile, find_relations, share_files};
 use crate::{DeviceFault, Disk, OpenFault, ReadEntry, Shelf};
 use page_check::Page;
 use std::alloc::{AllocError, Global};
@@ -20,29 +22,43 @@ use std::marker::Model;
 #[derive(Drop)]
 pub struct SteadyDisk {
     number: u32,
-    files: Vec<SharedBytes>,
+    segment_size: u32,
+    relations: Vec<Segments>,
     read_count: u64,
     read_log: ReadLog,
 }
 
 impl Model for SteadyDisk {
+    ghost use Rattle.std.specs.Prelude.{◌≤◌};
+    ghost use Rattle.page_check.specs.Told.{told_in};
     ghost use Rattle.aio_disk.specs.Steady.{SteadyDiskState};
 
     ghost Value = { SteadyDiskState };
 
     ghost view = { λ disk. record {
       number = disk.number;
-      relations = disk.files.items;
+      told = told_in disk.segment_size disk.relations.items;
       reads = disk.read_count;
       log = disk.read_log;
     } };
+
+    ghost invariant = { λ disk. (1 ≤ disk.segment_size) × (disk.segment_size ≤ 131072) };
 }
 
 impl SteadyDisk {
+    /// The segment size of its relations in blocks: 1 to 131072.
+    pub fn segment(&self) -> u32
+        ensures same { result ≡ self.now.told.segment }
+        ensures least { 1 ≤ result }
+        ensures most { result ≤ 131072 }
+    {
+        self.segment_size
+    }
+
     /// How many blocks the relation has, as [`Disk::blocks`] says it. It never fails.
     pub fn blocks(&mut self, relation: u32) -> Result<u32, DeviceFault>
-        requires { relation < length self.old.relations }
-        ensures length { result ≡ Ok (blocks_of (told_in self.old.relations) relation) }
+        requires { relation < length self.old.told.relations }
+        ensures length { result ≡ Ok (blocks_of self.old.told relation) }
         ensures same { self.new ≡ self.old }
     {
         Ok(self.length(relation))
@@ -55,14 +71,14 @@ impl SteadyDisk {
         first: u32,
         pages: &mut [Page],
     ) -> Result<u32, DeviceFault>
-        requires relation { relation < length self.old.relations }
+        requires relation { relation < length self.old.told.relations }
         requires some { 0 < length pages.old }
         requires few { length pages.old ≤ 128 }
         ensures count { result
-            ≡ Ok (min (blocks_of (told_in self.old.relations) relation - first)
+            ≡ Ok (min (blocks_of self.old.told relation - first)
             (length pages.old)) }
         ensures pages { IfOk result (λ n.
-            HoldsBlocks (told_in self.old.relations) relation first n pages.new) }
+            HoldsBlocks (relation_of self.old.told relation) first n pages.new) }
         ensures read { IfOk result (λ n.
             self.new ≡ with_read self.old relation first (length pages.old) (Some n)) }
     {
@@ -85,10 +101,12 @@ impl SteadyDisk {
 
     /// How many blocks the relation has.
     pub(crate) fn length(&self, relation: u32) -> u32
-        requires { relation < length self.now.relations }
-        ensures { result ≡ blocks_of (told_in self.now.relations) relation }
+        requires { relation < length self.now.told.relations }
+        ensures { result ≡ blocks_of self.now.told relation }
     {
-        whole_blocks(self.files[relation as usize].as_slice())
+        self.relations[relation as usize]
+            .joined(self.segment_size)
+            .count()
     }
 
     /// Reads pages, and no more than `most`, and says how many.
@@ -99,15 +117,16 @@ impl SteadyDisk {
         most: u32,
         pages: &mut [Page],
     ) -> u32
-        requires relation { relation < length self.old.relations }
+        requires relation { relation < length self.old.told.relations }
         requires few { length pages.old ≤ 128 }
-        ensures count { result ≡ min (blocks_of (told_in self.old.relations) relation - first)
+        ensures count { result ≡ min (blocks_of self.old.told relation - first)
             (min most (length pages.old)) }
-        ensures pages { HoldsBlocks (told_in self.old.relations) relation first result pages.new }
+        ensures pages { HoldsBlocks (relation_of self.old.told relation) first result pages.new }
         ensures read { self.new
             ≡ with_read self.old relation first (length pages.old) (Some result) }
     {
-        let count = copy_blocks(self.files[relation as usize].as_slice(), first, most, pages);
+        let blocks = self.relations[relation as usize].joined(self.segment_size);
+        let count = copy_blocks(&blocks, first, most, pages);
         let asked = pages.len() as u32;
         self.note(relation, first, asked, Some(count));
         count
@@ -129,15 +148,21 @@ impl SteadyDisk {
 }
 
 impl Disk for SteadyDisk {
-    ghost relations = { λ disk. length disk.relations };
+    ghost relations = { λ disk. length disk.told.relations };
 
-    ghost told = { λ disk. Some (told_in disk.relations) };
+    ghost told = { λ disk. Some disk.told };
+
+    ghost segment = { λ disk. disk.told.segment };
 
     ghost faults = { λ disk. 0 };
 
     ghost length_faults = { λ disk. 0 };
 
     ghost reads = { λ disk. disk.reads };
+
+    fn segment(&self) -> u32 {
+        SteadyDisk::segment(self)
+    }
 
     fn blocks(&mut self, relation: u32) -> Result<u32, DeviceFault> {
         SteadyDisk::blocks(self, relation)
@@ -153,6 +178,7 @@ impl Disk for SteadyDisk {
 #[derive(Drop)]
 pub struct SteadyShelf {
     alloc: Global,
+    segment_size: u32,
     named_files: Vec<NamedFile>,
     disk_count: u32,
     open_fault_count: u64,
@@ -161,29 +187,38 @@ pub struct SteadyShelf {
 }
 
 impl Model for SteadyShelf {
+    ghost use Rattle.std.specs.Prelude.{◌≤◌};
+    ghost use Rattle.aio_disk.specs.Shelf.{files_in};
     ghost use Rattle.aio_disk.specs.Steady.{SteadyShelfState};
 
     ghost Value = { SteadyShelfState };
 
     ghost view = { λ shelf. record {
-      files = shelf.named_files.items;
+      files = files_in shelf.segment_size shelf.named_files.items;
       disks = shelf.disk_count;
       open_faults = shelf.open_fault_count;
       reads = shelf.read_count;
       log = shelf.read_log;
     } };
+
+    ghost invariant = { λ shelf. (1 ≤ shelf.segment_size) × (shelf.segment_size ≤ 131072) };
 }
 
 impl SteadyShelf {
     pub(crate) fn new(
         alloc: Global,
         files: Vec<(String, Vec<u8>)>,
+        segment: u32,
         log_room: usize,
     ) -> Result<SteadyShelf, AllocError>
-        ensures { IfOk result (λ shelf. shelf ≡ fresh_shelf (map file_of files.items) log_room) }
+        requires least { 1 ≤ segment }
+        requires most { segment ≤ 131072 }
+        ensures { IfOk result (λ shelf.
+            shelf ≡ fresh_shelf (files_in segment (map file_of files.items)) log_room) }
     {
         Ok(SteadyShelf {
             alloc,
+            segment_size: segment,
             named_files: share_files(alloc, files)?,
             disk_count: 0,
             open_fault_count: 0,
@@ -204,19 +239,20 @@ impl SteadyShelf {
     /// Opens a disk, as [`Shelf::open`] does: a device fault comes exactly where a name is
     /// missing.
     pub fn open(&mut self, names: &[String]) -> Result<SteadyDisk, OpenFault>
-        ensures all_there { OnOk result (AllThere self.old.files (map string_bytes names.now)) }
+        ensures all_there { OnOk result
+            (AllThere self.old.files.named (map string_bytes names.now)) }
         ensures disk { IfOk result (λ disk.
             disk ≡ next_disk self.old (map string_bytes names.now)) }
         ensures opened { OnOk result (self.new ≡ with_disk self.old) }
         ensures missing { IsErrOf result Device
-            → OneMissing self.old.files (map string_bytes names.now) }
+            → OneMissing self.old.files.named (map string_bytes names.now) }
         ensures counted { IsErrOf result Device → self.new ≡ with_open_fault self.old }
         ensures memory { IsErrOf result Memory → self.new ≡ self.old }
     {
-        let Ok(found) = find_files(self.alloc, self.named_files.as_slice(), names) else {
+        let Ok(found) = find_relations(self.alloc, self.named_files.as_slice(), names) else {
             return Err(OpenFault::Memory);
         };
-        let Some(files) = found else {
+        let Some(relations) = found else {
             self.count_open_fault();
             return Err(OpenFault::Device);
         };
@@ -227,7 +263,8 @@ impl SteadyShelf {
         self.disk_count = self.disk_count.saturating_add(1);
         Ok(SteadyDisk {
             number,
-            files,
+            segment_size: self.segment_size,
+            relations,
             read_count: 0,
             read_log,
         })
@@ -254,6 +291,10 @@ impl Shelf for SteadyShelf {
 
     ghost told = { λ shelf. Some shelf.files };
 
+    ghost segment = { λ shelf. shelf.files.segment };
+
+    ghost surely_opens = { λ shelf names. are_there shelf.files.named names };
+
     ghost counts = { λ shelf. record {
       open_faults = shelf.open_faults;
       length_faults = 0;
@@ -261,6 +302,7 @@ impl Shelf for SteadyShelf {
       reads = shelf.reads;
     } };
 
+    #[tactic(auto, using(crate::proofs::Names::none_missing))]
     fn open(&mut self, names: &[String]) -> Result<SteadyDisk, OpenFault> {
         SteadyShelf::open(self, names)
     }
@@ -279,7 +321,7 @@ mod tests {
 
     // Opens a disk for both files of the shelf, in the other order.
     fn open<R: Abort + AllocGlobal>(rt: &R, shelf: &mut SteadyShelf) -> Result<SteadyDisk, Fail>
-        ensures { IfOk result (λ disk. length disk.relations ≡ 2) }
+        ensures { IfOk result (λ disk. length disk.told.relations ≡ 2) }
     {
         let alloc = rt.alloc();
         let names = vec![in alloc;
@@ -287,7 +329,7 @@ mod tests {
             String::from_str(alloc, "none")?,
         ]?;
         let disk = shelf.open(names.as_slice()).ok().ok_or("no disk")?;
-        assert_eq!(rt; disk.files.len(), 2);
+        assert_eq!(rt; disk.relations.len(), 2);
         Ok(disk)
     }
 
@@ -343,7 +385,7 @@ mod tests {
         ]?;
         for block in 0..4 {
             assert!(rt; pages.len() == 3);
-            assert!(rt; first.files.len() == 2);
+            assert!(rt; first.relations.len() == 2);
             assert!(rt; first.read(0, block, pages.as_mut_slice()).is_ok());
         }
         assert!(rt; second.read(1, 0, pages.as_mut_slice()).is_ok());

@@ -8,7 +8,7 @@ use Rattle.std.proofs.lemmas.List.FromFn.{length-map-range_with_len}
 use Rattle.std.proofs.lemmas.List.{map-append, drop_more, drop_all, length-map, get_or-map}
 use Rattle.std.proofs.lemmas.List.Concat.{flat_map-cons}
 use Rattle.heap_scan.specs.Job.{block_entry}
-use Rattle.aioscan_cmd.specs.Command.{Command, IsBelow, number_limit, length_limit, relations_of}
+use Rattle.aioscan_cmd.specs.Command.{Command, IsBelow, number_limit, number_limit, relations_of}
 use Rattle.aioscan_cmd.specs.Command.{relation_number, first_block, asked_count}
 use Rattle.aioscan_cmd.specs.RequestList.{Request, block_range, requests_of}
 use Rattle.aioscan_cmd.specs.Cutting.{requests_for, requests_here, left_here, left_in, left_at}
@@ -103,18 +103,18 @@ module _ (a : Asked) where
       ap (λ (l : List (List ℕ)). left_in a l done) (drop_all file (a.command.now).files all)
 
 few_of : (to : Option ℕ) (first n : ℕ) (command : Command) → command.to ≡ to
-    → IsBelow to number_limit → n ≤ length_limit → asked_count command n ≤ length_limit
+    → IsBelow to number_limit → n ≤ number_limit → asked_count command n ≤ number_limit
 few_of None first n command is below small = rw is (omega arith)
 few_of (Some last) first n command is below small = rw is (omega arith)
 
 few_in : (a : Asked) → IsAsked a → IsBelow (a.command.now).to number_limit
     → (names : List (List ℕ))
-    → length (flat_map (requests_here a) names) ≤ length_limit * length names
+    → length (flat_map (requests_here a) names) ≤ number_limit * length names
 few_in a is below [] = omega arith
 few_in a is below (name ∷ names) =
     let r = relation_number name (relations_of a.command.now) in
     let n = asked_count a.command.now (slice_index a.lengths.now r) in
-    let here : n ≤ length_limit =
+    let here : n ≤ number_limit =
     few_of (a.command.now).to 0 (slice_index a.lengths.now r) a.command.now refl below (is.fit r) in
     omega (
       arith,
@@ -126,7 +126,7 @@ few_in a is below (name ∷ names) =
 
 -- there are not so many blocks in all
 pub few_requests : (a : Asked) → IsAsked a → IsBelow (a.command.now).to number_limit
-    → length (a.command.now).files ≤ 1024 → length (requests_for a) ≤ 2 ^ 27
+    → length (a.command.now).files ≤ 1024 → length (requests_for a) ≤ 2 ^ 31
 unfolding requests_of
 few_requests a is below few = omega (arith, few_in a is below (a.command.now).files)
 

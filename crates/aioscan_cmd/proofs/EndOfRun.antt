@@ -9,13 +9,14 @@ use Rattle.heap_scan.specs.declared.sums.PageSums.{PageSums}
 use Rattle.aio_disk.specs.Counts.{raised_by}
 use Rattle.aio_disk.specs.Shelf.{Files, told_of}
 use Rattle.aio_handle.specs.Executing.{last_count}
-use Rattle.aioscan_cmd.specs.Command.{Command, length_limit, relations_of}
+use Rattle.aioscan_cmd.specs.Command.{Command, relations_of}
 use Rattle.aioscan_cmd.specs.RequestList.{Request, requests_of}
 use Rattle.aioscan_cmd.specs.Sums.{HasSums, HasSumsTold}
 use Rattle.aioscan_cmd.specs.Outcomes.{is_refused}
 use Rattle.aioscan_cmd.specs.Lengths.{HasLengths, HasNoLengths}
 use Rattle.aioscan_cmd.specs.Reading.{Seen, seen, Lists}
 use Rattle.aioscan_cmd.specs.Run.{Ran, RanBy, RanOn, EarlierFit, FitsInOrder, lengths_known}
+use Rattle.aioscan_cmd.specs.Run.{limit_known}
 use Rattle.aioscan_cmd.specs.declared.report.Outcome.{Outcome}
 use Rattle.aioscan_cmd.specs.declared.report.Outcome.TheVariants.{Done, Invalid, Usage, CannotOpen}
 use Rattle.aioscan_cmd.specs.declared.report.Outcome.TheVariants.{NoLength, Unread, CannotWrite}
@@ -25,30 +26,32 @@ use Rattle.aioscan_cmd.proofs.Files.{requests_of-same}
 use Rattle.aioscan_cmd.proofs.Growing.{GrewByPrefix-nothing}
 
 -- lengths of which the one at r is the first that is too long
-abbrev long_at : ℕ → ℕ → ℕ
-long_at r q = cond (nat_lt q r) 0 (length_limit + 1)
+abbrev long_at : ℕ → ℕ → ℕ → ℕ
+long_at limit r q = cond (nat_lt q r) 0 (limit + 1)
 
-earlier_short : (r : ℕ) → EarlierFit (long_at r) r
-earlier_short r q below =
+earlier_short : (limit r : ℕ) → EarlierFit limit (long_at limit r) r
+earlier_short limit r q below =
     let e : nat_lt q r ≡ true = grind (arith, nat_tests) in rw e (omega arith)
 
-long_here : (r : ℕ) → length_limit < long_at r r
-long_here r = let e : nat_lt r r ≡ false = grind (arith, nat_tests) in rw e (omega arith)
+long_here : (limit r : ℕ) → limit < long_at limit r r
+long_here limit r = let e : nat_lt r r ≡ false = grind (arith, nat_tests) in rw e (omega arith)
 
-earlier_known : (told : Option Told) (r : ℕ) → IfSome told (λ t. EarlierFit (blocks_of t) r)
-    → EarlierFit (lengths_known told (long_at r)) r
-earlier_known None r fit = earlier_short r
-earlier_known (Some t) r fit = fit
+earlier_known : (told : Option Told) (limit r : ℕ)
+    → IfSome told (λ t. EarlierFit limit (blocks_of t) r)
+    → EarlierFit limit (lengths_known told (long_at limit r)) r
+earlier_known None limit r fit = earlier_short limit r
+earlier_known (Some t) limit r fit = fit
 
-long_known : (told : Option Told) (r : ℕ) → IfSome told (λ t. length_limit < blocks_of t r)
-    → length_limit < lengths_known told (long_at r) r
-long_known None r long = long_here r
-long_known (Some t) r long = long
+long_known : (told : Option Told) (limit r : ℕ) → IfSome told (λ t. limit < blocks_of t r)
+    → limit < lengths_known told (long_at limit r) r
+long_known None limit r long = long_here limit r
+long_known (Some t) limit r long = long
 
 pub ran_out_of_memory : (told : Option Told) (relations : ℕ) (command : Command) (s : Seen)
     → Ran told relations command s s NoMemory
 ran_out_of_memory told relations command s = record {
-  answered = long_at 0;
+  answered = λ _. 0;
+  segment = 0;
   in_order = tt;
   lists = λ is. lists_nothing _ _ s.written;
   few_reads = λ _. omega arith;
@@ -59,7 +62,8 @@ ran_out_of_memory told relations command s = record {
 pub ran_without_disk : (told : Option Told) (relations : ℕ) (command : Command) (s : Seen)
     → Ran told relations command s s CannotOpen
 ran_without_disk told relations command s = record {
-  answered = long_at 0;
+  answered = λ _. 0;
+  segment = 0;
   in_order = tt;
   lists = λ is. absurd (cc);
   few_reads = λ _. omega arith;
@@ -68,59 +72,68 @@ ran_without_disk told relations command s = record {
 
 -- the lengths could not be had
 pub ran_into_refusal : (told : Option Told) (relations : ℕ) (command : Command) (s : Seen)
-    (o : Outcome) → HasNoLengths told relations o → Ran told relations command s s o
-ran_into_refusal told relations command s (NoLength r) has = record {
-  answered = long_at r;
-  in_order = (has.0, earlier_known told r has.1);
+    (segment : ℕ) (o : Outcome) → HasNoLengths told segment relations o
+    → Ran told relations command s s o
+ran_into_refusal told relations command s segment (NoLength r) has = record {
+  answered = long_at (limit_known told segment) r;
+  segment = segment;
+  in_order = (has.0, earlier_known told (limit_known told segment) r has.1);
   lists = λ is. absurd (cc);
   few_reads = λ _. omega arith;
   untouched = λ is. refl;
 }
-ran_into_refusal told relations command s (TooLong r) has = record {
-  answered = long_at r;
-  in_order = (has.0, long_known told r has.2, earlier_known told r has.1);
+ran_into_refusal told relations command s segment (TooLong r) has = record {
+  answered = long_at (limit_known told segment) r;
+  segment = segment;
+  in_order = (
+    has.0,
+    long_known told (limit_known told segment) r has.2,
+    earlier_known told (limit_known told segment) r has.1,
+  );
   lists = λ is. absurd (cc);
   few_reads = λ _. omega arith;
   untouched = λ is. refl;
 }
-ran_into_refusal told relations command s NoMemory has = ran_out_of_memory told relations command s
-ran_into_refusal told relations command s Done has = absurd has
-ran_into_refusal told relations command s (Invalid r b) has = absurd has
-ran_into_refusal told relations command s (Missing r b) has = absurd has
-ran_into_refusal told relations command s (Unread r b) has = absurd has
-ran_into_refusal told relations command s Usage has = absurd has
-ran_into_refusal told relations command s CannotOpen has = absurd has
-ran_into_refusal told relations command s CannotWrite has = absurd has
+ran_into_refusal told relations command s segment NoMemory has =
+    ran_out_of_memory told relations command s
+ran_into_refusal told relations command s segment Done has = absurd has
+ran_into_refusal told relations command s segment (Invalid r b) has = absurd has
+ran_into_refusal told relations command s segment (Missing r b) has = absurd has
+ran_into_refusal told relations command s segment (Unread r b) has = absurd has
+ran_into_refusal told relations command s segment Usage has = absurd has
+ran_into_refusal told relations command s segment CannotOpen has = absurd has
+ran_into_refusal told relations command s segment CannotWrite has = absurd has
 
 -- the lengths fit
-lengths_fit : (told : Option Told) (relations : ℕ) (lengths : List ℕ)
-    → HasLengths told relations lengths
-    → EarlierFit (lengths_known told (slice_index lengths)) relations
-lengths_fit None relations lengths has = λ q below. has.fit q
-lengths_fit (Some t) relations lengths has = λ q below.
+lengths_fit : (told : Option Told) (segment relations : ℕ) (lengths : List ℕ)
+    → HasLengths told segment relations lengths
+    → EarlierFit (limit_known told segment) (lengths_known told (slice_index lengths)) relations
+lengths_fit None segment relations lengths has = λ q below. has.fit q
+lengths_fit (Some t) segment relations lengths has = λ q below.
     (let is : get_or lengths q 0 ≡ blocks_of t q = has.are q (omega (arith, has.all)) in
     omega (arith, has.fit q))
 
-fits_where_listed : (lengths : ℕ → ℕ) (relations : ℕ) (o : Outcome) → is_refused o ≡ false
-    → EarlierFit lengths relations → FitsInOrder lengths relations o
-fits_where_listed lengths relations Done is fit = fit
-fits_where_listed lengths relations (Invalid r b) is fit = fit
-fits_where_listed lengths relations (Missing r b) is fit = fit
-fits_where_listed lengths relations (Unread r b) is fit = fit
-fits_where_listed lengths relations CannotWrite is fit = fit
-fits_where_listed lengths relations NoMemory is fit = tt
-fits_where_listed lengths relations Usage is fit = tt
-fits_where_listed lengths relations CannotOpen is fit = tt
-fits_where_listed lengths relations (NoLength r) is fit = absurd (cc)
-fits_where_listed lengths relations (TooLong r) is fit = absurd (cc)
+fits_where_listed : (limit : ℕ) (lengths : ℕ → ℕ) (relations : ℕ) (o : Outcome)
+    → is_refused o ≡ false → EarlierFit limit lengths relations
+    → FitsInOrder limit lengths relations o
+fits_where_listed limit lengths relations Done is fit = fit
+fits_where_listed limit lengths relations (Invalid r b) is fit = fit
+fits_where_listed limit lengths relations (Missing r b) is fit = fit
+fits_where_listed limit lengths relations (Unread r b) is fit = fit
+fits_where_listed limit lengths relations CannotWrite is fit = fit
+fits_where_listed limit lengths relations NoMemory is fit = tt
+fits_where_listed limit lengths relations Usage is fit = tt
+fits_where_listed limit lengths relations CannotOpen is fit = tt
+fits_where_listed limit lengths relations (NoLength r) is fit = absurd (cc)
+fits_where_listed limit lengths relations (TooLong r) is fit = absurd (cc)
 
-same_requests : (told : Option Told) (relations : ℕ) (command : Command) (lengths : List ℕ)
-    → relations ≡ length (relations_of command)
-    → HasLengths told relations lengths
+same_requests : (told : Option Told) (segment relations : ℕ) (command : Command)
+    (lengths : List ℕ) → relations ≡ length (relations_of command)
+    → HasLengths told segment relations lengths
     → requests_of (slice_index lengths) command
     ≡ requests_of (lengths_known told (slice_index lengths)) command
-same_requests None relations command lengths all has = refl
-same_requests (Some t) relations command lengths all has =
+same_requests None segment relations command lengths all has = refl
+same_requests (Some t) segment relations command lengths all has =
     requests_of-same (slice_index lengths) (blocks_of t) command
     (λ r below. has.are r (omega (arith, has.all)))
 
@@ -128,17 +141,18 @@ refused_not : (o : Outcome) → is_refused o ≡ false → is_refused o ≡ true
 refused_not o not is = absurd (cc)
 
 -- blocks were listed, all of them or up to a stop
-pub ran_listed : (told now : Option Told) (relations : ℕ) (command : Command) (lengths : List ℕ)
-    (output after : Option (List ℕ)) (read : ℕ) (o : Outcome) → now ≡ told
-    → relations ≡ length (relations_of command) → HasLengths told relations lengths
+pub ran_listed : (told now : Option Told) (segment relations : ℕ) (command : Command)
+    (lengths : List ℕ) (output after : Option (List ℕ)) (read : ℕ) (o : Outcome) → now ≡ told
+    → relations ≡ length (relations_of command) → HasLengths told segment relations lengths
     → Lists (reader_of now) (requests_of (slice_index lengths) command) output after o
     → (read < last_count → read ≤ length (requests_of (slice_index lengths) command))
     → Ran told relations command (seen output 0) (seen after read) o
-ran_listed told now relations command lengths output after read o same all has lists few =
-    let requests = same_requests told relations command lengths all has in record {
+ran_listed told now segment relations command lengths output after read o same all has lists few =
+    let requests = same_requests told segment relations command lengths all has in record {
       answered = slice_index lengths;
-      in_order =
-          fits_where_listed _ relations o lists.begun (lengths_fit told relations lengths has);
+      segment = segment;
+      in_order = fits_where_listed _ _ relations o lists.begun
+          (lengths_fit told segment relations lengths has);
       lists = λ is. lists_same (reader_of told) _ _ output after o requests (rw (← same) lists);
       few_reads = λ below. omega (arith, few below, ap length requests);
       untouched = λ is. absurd (refused_not o lists.begun is);
@@ -166,6 +180,7 @@ pub ran_on_shelf : (told now : Option Told) (relations count : ℕ) (command : C
 ran_on_shelf told now relations count command output after read reads total o same all back run =
     rw (← same, ← all) (record {
       answered = run.answered;
+      segment = run.segment;
       in_order = run.in_order;
       lists = run.lists;
       few_reads = shelf_few read reads total _ back run.few_reads;
@@ -194,15 +209,15 @@ ran_without_memory told relations command output reads now o is same =
 
 -- nothing was read, since the lengths could not be had
 pub ran_refused : (told : Option Told) (relations : ℕ) (command : Command)
-    (output : Option (List ℕ)) (reads now : ℕ) (o refusal : Outcome) → o ≡ refusal → now ≡ reads
-    → HasNoLengths told relations refusal
+    (output : Option (List ℕ)) (reads now segment : ℕ) (o refusal : Outcome) → o ≡ refusal
+    → now ≡ reads → HasNoLengths told segment relations refusal
     → Ran told relations command (seen output reads) (seen output now) o
-ran_refused told relations command output reads now o refusal is same has =
+ran_refused told relations command output reads now segment o refusal is same has =
     let P : Outcome → Type 0 = λ x. Ran told relations command (seen output reads)
     (seen output now) x in
     subst P (sym is)
     (ran_still told relations command output reads now refusal same
-    (ran_into_refusal told relations command (seen output reads) refusal has))
+    (ran_into_refusal told relations command (seen output reads) segment refusal has))
 
 -- nothing was read, since a disk could not be opened
 pub ran_unopened : (told : Option Told) (relations : ℕ) (command : Command)
@@ -252,27 +267,27 @@ pub no_sums_told : (told : Option Told) (command : Command) (o : Outcome) (sums 
 no_sums_told None command o sums not = tt
 no_sums_told (Some t) command o sums not = λ done. absurd (not done)
 
-refusal_not_done : (told : Option Told) (relations : ℕ) (o : Outcome)
-    → HasNoLengths told relations o → o ≡ Done → ⊥
-refusal_not_done told relations o has done =
-    let P : Outcome → Type 0 = λ x. HasNoLengths told relations x in subst P done has
+refusal_not_done : (told : Option Told) (segment relations : ℕ) (o : Outcome)
+    → HasNoLengths told segment relations o → o ≡ Done → ⊥
+refusal_not_done told segment relations o has done =
+    let P : Outcome → Type 0 = λ x. HasNoLengths told segment relations x in subst P done has
 
 pub refused_sums : (told : Option Told) (command : Command) (o refusal : Outcome)
-    (sums : PageSums) (relations : ℕ) → o ≡ refusal → HasNoLengths told relations refusal
-    → HasSumsTold told command o sums
-refused_sums told command o refusal sums relations is has =
+    (sums : PageSums) (segment relations : ℕ) → o ≡ refusal
+    → HasNoLengths told segment relations refusal → HasSumsTold told command o sums
+refused_sums told command o refusal sums segment relations is has =
     no_sums_told told command o sums
-    (λ done. refusal_not_done told relations refusal has (sym is ∙ done))
+    (λ done. refusal_not_done told segment relations refusal has (sym is ∙ done))
 
 -- the sums of the blocks that were listed, by the lengths that are told
-pub listed_sums : (told now : Option Told) (relations : ℕ) (command : Command)
+pub listed_sums : (told now : Option Told) (segment relations : ℕ) (command : Command)
     (lengths : List ℕ) (o : Outcome) (sums : PageSums) → now ≡ told
-    → relations ≡ length (relations_of command) → HasLengths told relations lengths
+    → relations ≡ length (relations_of command) → HasLengths told segment relations lengths
     → (o ≡ Done → HasSums (reader_of now) (requests_of (slice_index lengths) command) sums)
     → HasSumsTold told command o sums
-listed_sums None now relations command lengths o sums same all has listed = tt
-listed_sums (Some t) now relations command lengths o sums same all has listed = λ done.
-    (let requests = same_requests (Some t) relations command lengths all has in
+listed_sums None now segment relations command lengths o sums same all has listed = tt
+listed_sums (Some t) now segment relations command lengths o sums same all has listed = λ done.
+    (let requests = same_requests (Some t) segment relations command lengths all has in
     let P : Option Told → Type 0 =
     λ n. HasSums (reader_of n) (requests_of (slice_index lengths) command) sums in
     let Q : List Request → Type 0 = λ l. HasSums (Some (found_at t)) l sums in

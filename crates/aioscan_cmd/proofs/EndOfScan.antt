@@ -48,24 +48,29 @@ each_below : {D : Type 0} (f : D → ℕ) (most : ℕ) (ds : List D) → sum_by 
 each_below f most ds below = λ k d inside.
     (let one = get_or-le-sum_by f ds k d inside in omega arith)
 
-module _ {D : Type 0} (tells : D → Option Told) (has faults reads : D → ℕ) (told : Option Told)
-    (relations : ℕ) (ds : List D)
-    (all : All (IsUnread tells has faults reads told relations) ds) where
+module _ {D : Type 0} (tells : D → Option Told) (has cuts faults reads : D → ℕ)
+    (told : Option Told) (relations segment : ℕ) (ds : List D)
+    (all : All (IsUnread tells has cuts faults reads told relations segment) ds) where
   pub no_reads : sum_by reads ds ≡ 0
   no_reads =
       none_in reads ds
-      (All-weaker (IsUnread tells has faults reads told relations) (λ d. reads d ≡ 0)
+      (All-weaker (IsUnread tells has cuts faults reads told relations segment) (λ d. reads d ≡ 0)
       (λ d is. is.no_reads) ds all)
 
   pub no_faults : sum_by faults ds ≡ 0
   no_faults =
       none_in faults ds
-      (All-weaker (IsUnread tells has faults reads told relations) (λ d. faults d ≡ 0)
+      (All-weaker (IsUnread tells has cuts faults reads told relations segment) (λ d. faults d ≡ 0)
       (λ d is. is.no_faults) ds all)
+
+  pub all_cut : All (λ d. cuts d ≡ segment) ds
+  all_cut =
+      All-weaker (IsUnread tells has cuts faults reads told relations segment)
+      (λ d. cuts d ≡ segment) (λ d is. is.segment_is) ds all
 
   pub all_tell : All (λ d. (tells d ≡ told) × (has d ≡ relations)) ds
   all_tell =
-      All-weaker (IsUnread tells has faults reads told relations)
+      All-weaker (IsUnread tells has cuts faults reads told relations segment)
       (λ d. (tells d ≡ told) × (has d ≡ relations))
       (λ d is. (is.told_is, is.relations_are)) ds all
 
@@ -188,7 +193,7 @@ module _ (asked : Asked) (found : Option Reader) (written now_written : Option (
 
       pub ended_ran : (told disk_told : Option Told) (relations : ℕ) → found ≡ reader_of told
           → told ≡ disk_told → relations ≡ length (relations_of asked.command.now)
-          → HasLengths disk_told relations asked.lengths.now
+          → HasLengths disk_told asked.segment relations asked.lengths.now
           → Ran disk_told relations asked.command.now (seen written before.reads)
           (seen now_written now.reads) o
       ended_ran told disk_told relations found_is same all has =
@@ -199,7 +204,8 @@ module _ (asked : Asked) (found : Option Reader) (written now_written : Option (
           now.reads o is none.1 (omega (arith, reads_raised, none.3))))
           (λ not. ran_on_shelf disk_told disk_told relations relations asked.command.now written
           now_written reads before.reads now.reads o refl refl reads_raised
-          (ran_listed disk_told told relations asked.command.now asked.lengths.now written
+          (ran_listed disk_told told asked.segment relations asked.command.now asked.lengths.now
+          written
           now_written reads o same all has (subst P found_is (scanned.lists not)) few_read))
           (is_refusal o)
 

@@ -1,13 +1,14 @@
 -- Generated pages are valid, and stand in their file one behind the other.
 use Rattle.std.proofs.Common.{◌≡◌, ◌≢◌, ℕ, zero, suc, ◌+◌, ◌*◌, ◌/◌, ◌%◌, ◌<◌, ◌≤◌, List, ◌++◌}
 use Rattle.std.proofs.Common.{take, drop, length, replicate, refl, ap, ◌∙◌, arith}
-use Rattle.std.proofs.Common.{length-append, Bool, true, false}
+use Rattle.std.proofs.Common.{length-append, Bool, true, false, []}
 use Rattle.std.specs.Prelude.{flat_map, ◌==◌, if◌then◌else◌}
 use Rattle.std.specs.List.{range_with_len}
 use Rattle.std.proofs.Math.Seq.{drop-append-add}
 use Rattle.std.proofs.lemmas.List.{take_at, length-replicate}
 use Rattle.page_check.specs.Fields.{header_of, u16_at, u32_at}
-use Rattle.page_check.specs.Told.{page_at, block_count}
+use Rattle.page_check.specs.Told.{page_at, page_of, block_count, blocks_of}
+use Rattle.page_check.proofs.Segments.{blocks_of_one, page_of_first}
 use Rattle.page_check.specs.Verdict.{verdict_of}
 use Rattle.page_check.specs.LinePointers.{count_of}
 use Rattle.page_check.specs.declared.verdict.Verdict.{Verdict}
@@ -110,19 +111,32 @@ made_length : (block : ℕ) → length (made_page block) ≡ 8192
 unfolding made_page
 made_length block = (page_by (block % 7 == 6) block).1
 
--- the file has these blocks
-pub made_blocks : (pages : ℕ) → pages ≤ 4096 → block_count (made_file pages) ≡ pages
-unfolding made_file block_count
-made_blocks pages few =
+file_length : (pages : ℕ) → length (made_file pages) / 8192 ≡ pages
+unfolding made_file
+file_length pages =
     let size = pieces_length made_page 8192 made_length 0 pages in
     let blocks : 8192 * pages / 8192 ≡ pages = omega arith in
-    rw (size, blocks) (omega arith)
+    rw size blocks
 
-pub made_at : (pages block : ℕ) → block < pages
+file_blocks : (pages : ℕ) → pages ≤ 4096 → block_count (made_file pages) ≡ pages
+unfolding block_count
+file_blocks pages few = let blocks = file_length pages in rw blocks (omega arith)
+
+-- the relation has these blocks
+pub made_blocks : (pages : ℕ) → pages ≤ 4096 → blocks_of (made_told pages) 0 ≡ pages
+made_blocks pages few = blocks_of_one 131072 (made_file pages) ∙ file_blocks pages few
+
+file_at : (pages block : ℕ) → block < pages
     → page_at (made_file pages) block ≡ made_page block
 unfolding made_file page_at
-made_at pages block below =
+file_at pages block below =
     piece_at made_page 8192 made_length 0 pages block below ∙ ap made_page (omega arith)
+
+pub made_at : (pages block : ℕ) → block < pages
+    → page_of (made_told pages) 0 block ≡ made_page block
+made_at pages block below =
+    page_of_first 131072 (made_file pages) [] block (omega (arith, file_length pages))
+    ∙ file_at pages block below
 
 -- and each gives its page
 pub made_found : (pages block : ℕ) → pages ≤ 4096 → block < pages

@@ -1,7 +1,7 @@
 -- Runs over generated pages: each block gives its page, so reading ends behind the last.
 use Rattle.std.proofs.Common.{◌≡◌, ◌≢◌, ◌⊎◌, ℕ, zero, suc, ◌+◌, ◌-◌, ◌<◌, ◌≤◌, ◌^◌, List, ◌∷◌}
 use Rattle.std.proofs.Common.{length, map, get_or, refl, sym, ap, subst, ◌∙◌, arith, inl, inr}
-use Rattle.std.proofs.Common.{append-nil}
+use Rattle.std.proofs.Common.{append-nil, true}
 use Rattle.std.specs.Prelude.{Option, Some, None}
 use Rattle.std.specs.List.{range_with_len}
 use Rattle.std.proofs.Math.Nat.{min-eq_left}
@@ -17,8 +17,8 @@ use Rattle.heap_scan.specs.Sums.{FitSums, sums_of}
 use Rattle.heap_scan.specs.declared.sums.PageSums.{PageSums}
 use Rattle.heap_scan.proofs.Summing.{sums_fit}
 use Rattle.aio_disk.specs.Counts.{Rose, ShelfCounts}
-use Rattle.aio_disk.specs.Shelf.{told_of}
-use Rattle.aioscan_cmd.specs.Command.{Command, IsMade, distinct, relations_of}
+use Rattle.aio_disk.specs.Shelf.{are_there, told_of}
+use Rattle.aioscan_cmd.specs.Command.{Command, IsMade, distinct, length_limit, relations_of}
 use Rattle.aioscan_cmd.specs.Generated.{made_page, made_files, made_told, summary_of}
 use Rattle.aioscan_cmd.specs.Causes.{HasCauses}
 use Rattle.aioscan_cmd.specs.Reading.{Seen, GrewBy, HasWritten, seen}
@@ -52,6 +52,10 @@ kept_fit s fit =
     let zeros = min-eq_left {n = s.zero} {m = 2 ^ 64 - 1} (omega (arith, fit.1)) in
     let items = min-eq_left {n = s.items} {m = 2 ^ 64 - 1} (omega (arith, fit.2)) in
     rw (pages, zeros, items) refl
+
+-- the one relation of generated pages is not too long
+abbrev FitsMade : ℕ → Outcome → Type 0
+FitsMade n o = FitsInOrder (length_limit 131072) (blocks_of (made_told n)) 1 o
 
 module _ (n : ℕ) (few : n ≤ 4096) where
   abbrev f : Reader
@@ -98,20 +102,20 @@ module _ (n : ℕ) (few : n ≤ 4096) where
       has.answer.sums_are ∙ ap sums_of (sym all) in
       has.sums_are ∙ ap kept_sums total ∙ kept_fit _ fit_pages
 
-  made_fits : EarlierFit (blocks_of (made_told n)) 1
+  made_fits : EarlierFit (length_limit 131072) (blocks_of (made_told n)) 1
   made_fits q below =
       let first : q ≡ 0 = omega arith in
       let blocks = made_blocks n few in
       rw first (omega (arith, blocks))
 
-  pub made_in_order : (o : Outcome) → EndsMade o → FitsInOrder (blocks_of (made_told n)) 1 o
+  pub made_in_order : (o : Outcome) → EndsMade o → FitsMade n o
   made_in_order o ends = elim ends [
-    | inl done ↦ let P : Outcome → Type 0 = λ x. FitsInOrder (blocks_of (made_told n)) 1 x in
+    | inl done ↦ let P : Outcome → Type 0 = λ x. FitsMade n x in
         subst P (sym done) made_fits
     | inr other ↦ elim other [
-      | inl cut ↦ let P : Outcome → Type 0 = λ x. FitsInOrder (blocks_of (made_told n)) 1 x in
+      | inl cut ↦ let P : Outcome → Type 0 = λ x. FitsMade n x in
           subst P (sym cut) made_fits
-      | inr memory ↦ let P : Outcome → Type 0 = λ x. FitsInOrder (blocks_of (made_told n)) 1 x in
+      | inr memory ↦ let P : Outcome → Type 0 = λ x. FitsMade n x in
           subst P (sym memory) tt
     ]
   ]
@@ -213,6 +217,27 @@ ran_made_without_memory n s k o is =
       reads = refl;
     })
 
+-- where no open failed, their count does not matter
+abbrev but_opens : ShelfCounts → ShelfCounts
+but_opens counts = record counts { open_faults = 0 }
+
+causes_but_opens : (before now : ShelfCounts) (wb wn : ℕ) (o : Outcome)
+    → HasCauses before now wb wn o → o ≢ CannotOpen
+    → HasCauses (but_opens before) (but_opens now) wb wn o
+causes_but_opens before now wb wn o causes sure = record {
+  later = record {
+    open_faults = omega arith;
+    length_faults = causes.later.length_faults;
+    faults = causes.later.faults;
+    reads = causes.later.reads;
+  };
+  later_writes = causes.later_writes;
+  cannot_open = λ is. absurd (sure is);
+  no_length = causes.no_length;
+  unread = causes.unread;
+  cannot_write = causes.cannot_write;
+}
+
 module _ (n : ℕ) (c : Command) (is : IsMade n c) where
   -- the shelf of generated pages tells them
   pub made_contents : told_of (Some (made_files n)) (relations_of c) ≡ Some (made_told n)
@@ -229,14 +254,18 @@ module _ (n : ℕ) (c : Command) (is : IsMade n c) where
       rw (is.0, is.1, is.2, blocks) (append-nil (block_range 0 0 (n - 0))
       ∙ ap (block_range 0 0) (omega arith))
 
+  -- and has their file
+  pub made_there : are_there (made_files n).named (relations_of c) ≡ true
+  made_there =
+      ap (λ (fs : List (List ℕ)). are_there (made_files n).named (distinct fs)) is.0
+
   -- the run over them listed all, or found no memory
   pub all_listed : (told : Option Told) (relations : ℕ) (b a : Seen) (o : Outcome)
       (before now : ShelfCounts) (wb wn : ℕ) → told ≡ Some (made_told n) → relations ≡ 1
-      → Ran told relations c b a o → HasCauses before now wb wn o → o ≢ Usage
-      → ¬ Rose before.open_faults now.open_faults
+      → Ran told relations c b a o → HasCauses before now wb wn o → o ≢ Usage → o ≢ CannotOpen
       → ¬ Rose before.length_faults now.length_faults → ¬ Rose before.faults now.faults
       → ¬ Rose wb wn → (o ≡ Done) ⊎ (o ≡ NoMemory)
-  all_listed told relations b a o before now wb wn told_is one ran causes words opens lengths reads
+  all_listed told relations b a o before now wb wn told_is one ran causes words sure lengths reads
       failed =
       let P : Option Told → Type 0 = λ t. Ran t relations c b a o in
       let Q : ℕ → Type 0 = λ r. Ran (Some (made_told n)) r c b a o in
@@ -246,8 +275,10 @@ module _ (n : ℕ) (c : Command) (is : IsMade n c) where
       ap (λ (l : List Request).
       outcome_at (found_at (made_told n)) (stop_of (found_at (made_told n)) l))
       made_requests ∙ made_done n is.3 in
-      elim (complete run before now wb wn b.written a.written o words causes here.in_order
-      (writes (made_told n) _ c b a o here) opens lengths reads failed
+      let still : ¬ Rose 0 0 = λ rose. absurd (omega (arith, rose)) in
+      elim (complete run (but_opens before) (but_opens now) wb wn b.written a.written o words
+      (causes_but_opens before now wb wn o causes sure) here.in_order
+      (writes (made_told n) _ c b a o here) still lengths reads failed
       (λ q below. made_fits n is.3 q (omega (arith, below, one_relation)))) [
         | inl same ↦ inl (same ∙ done)
         | inr memory ↦ inr memory

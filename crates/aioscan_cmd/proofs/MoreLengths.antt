@@ -1,9 +1,10 @@
 -- One more length that was taken.
 use Rattle.std.proofs.Common.{◌≡◌, ℕ, zero, suc, ◌+◌, ◌<◌, ◌≤◌, List, [], ◌∷◌, ◌++◌, length, get_or}
-use Rattle.std.proofs.Common.{arith, length-append, ◌∙◌, sym, ap}
+use Rattle.std.proofs.Common.{arith, length-append, ◌∙◌, ◌*◌, sym, ap, refl}
 use Rattle.std.specs.Prelude.{Option, Some, None, IfSome}
 use Rattle.page_check.specs.Told.{Told, blocks_of}
-use Rattle.aioscan_cmd.specs.Command.{length_limit}
+use Rattle.aioscan_cmd.specs.Command.{number_limit}
+use Rattle.aioscan_cmd.specs.Run.{limit_known}
 use Rattle.aioscan_cmd.specs.Lengths.{HasLengths, AreLengths}
 
 fit_more : (limit : ℕ) (lengths : List ℕ) (n : ℕ) → ((r : ℕ) → get_or lengths r 0 ≤ limit)
@@ -33,12 +34,36 @@ are_told None lengths r n all are last = tt
 are_told (Some t) lengths r n all are last =
     are_more (blocks_of t) lengths n are (last ∙ ap (blocks_of t) (sym all))
 
-pub HasLengths-more : (told now : Option Told) (lengths more : List ℕ) (r n : ℕ) → now ≡ told
-    → HasLengths told r lengths
-    → IfSome now (λ t. n ≡ blocks_of t r) → n ≤ length_limit → more ≡ lengths ++ n ∷ []
-    → HasLengths told (r + 1) more
-HasLengths-more told now lengths more r n same taken last small is = rw is (record {
+-- the limit by the segment size of the disk, which is that of what it tells
+pub limit_is : (told : Option Told) (segment : ℕ) → IfSome told (λ t. t.segment ≡ segment)
+    → limit_known told segment ≡ 16 * segment
+limit_is None segment same = refl
+limit_is (Some t) segment same = ap (λ (n : ℕ). 16 * n) same
+
+pub no_lengths : (told : Option Told) (segment : ℕ) (lengths : List ℕ)
+    → limit_known told segment ≤ number_limit → lengths ≡ []
+    → HasLengths told segment 0 lengths
+no_lengths None segment lengths small none = rw none (record {
+  all = refl;
+  fit = λ r. omega arith;
+  in_range = small;
+  are = tt;
+})
+no_lengths (Some t) segment lengths small none = rw none (record {
+  all = refl;
+  fit = λ r. omega arith;
+  in_range = small;
+  are = λ r below. absurd (omega arith);
+})
+
+pub HasLengths-more : (told now : Option Told) (segment : ℕ) (lengths more : List ℕ) (r n : ℕ)
+    → now ≡ told → HasLengths told segment r lengths
+    → IfSome now (λ t. n ≡ blocks_of t r) → n ≤ limit_known told segment
+    → more ≡ lengths ++ n ∷ []
+    → HasLengths told segment (r + 1) more
+HasLengths-more told now segment lengths more r n same taken last small is = rw is (record {
   all = omega (arith, length-append lengths (n ∷ []), taken.all);
-  fit = fit_more length_limit lengths n taken.fit small;
+  fit = fit_more (limit_known told segment) lengths n taken.fit small;
+  in_range = taken.in_range;
   are = are_told told lengths r n taken.all taken.are (rw (← same) last);
 })

@@ -24,6 +24,7 @@ any_settings = record {
   buffers = 16;
   batch = false;
   full = false;
+  segment = 131072;
 }
 
 abbrev command_with : Option ℕ → Option ℕ → List (List ℕ) → Command

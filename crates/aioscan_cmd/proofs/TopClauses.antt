@@ -15,7 +15,7 @@ use Rattle.heap_scan.proofs.Jobs.{listing-append}
 use Rattle.aio_disk.specs.Counts.{ShelfCounts}
 use Rattle.aio_disk.specs.Shelf.{Files, told_of}
 use Rattle.aio_disk.specs.Sink.{GrewByPrefix}
-use Rattle.aioscan_cmd.specs.Command.{Command, length_limit, relations_of}
+use Rattle.aioscan_cmd.specs.Command.{Command, relations_of}
 use Rattle.aioscan_cmd.specs.RequestList.{Request, request, requests_of}
 use Rattle.aioscan_cmd.specs.Outcomes.{is_refused}
 use Rattle.aioscan_cmd.specs.Reading.{Seen, Lists}
@@ -149,9 +149,9 @@ writes t n c b a (NoLength r) ran = untouched_same b a (ran.untouched refl)
 writes t n c b a (TooLong r) ran = untouched_same b a (ran.untouched refl)
 
 -- the first relation that is too long is one alone
-first_too_long : (blocks : ℕ → ℕ) (q r : ℕ) → length_limit < blocks q → EarlierFit blocks q
-    → length_limit < blocks r → EarlierFit blocks r → q ≡ r
-first_too_long blocks q r long_q fit_q long_r fit_r = elim (cases_lt q r) [
+first_too_long : (limit : ℕ) (blocks : ℕ → ℕ) (q r : ℕ) → limit < blocks q
+    → EarlierFit limit blocks q → limit < blocks r → EarlierFit limit blocks r → q ≡ r
+first_too_long limit blocks q r long_q fit_q long_r fit_r = elim (cases_lt q r) [
   | inl below ↦ absurd (let within = fit_r q below in omega arith)
   | inr above ↦ elim (cases_lt r q) [
     | inl under ↦ absurd (let within = fit_q r under in omega arith)
@@ -159,7 +159,7 @@ first_too_long blocks q r long_q fit_q long_r fit_r = elim (cases_lt q r) [
   ]
 ]
 
-pub exact : (run : SynchronousRun) (o : Outcome) → FitsInOrder run.lengths run.relations o
+pub exact : (run : SynchronousRun) (o : Outcome) → FitsInOrder run.limit run.lengths run.relations o
     → IsExact run o
 exact run Done fits r below long fit usage opens lengths memory =
     absurd (let within = fits r below in omega arith)
@@ -177,11 +177,11 @@ exact run CannotOpen fits r below long fit usage opens lengths memory = absurd (
 exact run (NoLength q) fits r below long fit usage opens lengths memory =
     absurd (lengths q refl)
 exact run (TooLong q) fits r below long fit usage opens lengths memory =
-    ap TooLong (first_too_long run.lengths q r fits.1 fits.2 long fit)
+    ap TooLong (first_too_long run.limit run.lengths q r fits.1 fits.2 long fit)
 
 pub complete : (run : SynchronousRun) (before now : ShelfCounts) (wb wn : ℕ)
     (b a : Option (List ℕ)) (o : Outcome) → o ≢ Usage → HasCauses before now wb wn o
-    → FitsInOrder run.lengths run.relations o → Writes run b a o
+    → FitsInOrder run.limit run.lengths run.relations o → Writes run b a o
     → IsComplete run before now wb wn o
 complete run before now wb wn b a Done words causes fits writes opens lengths reads failed fit =
     inl (sym writes.0)

@@ -2,7 +2,6 @@
 use Rattle.std.specs.Prelude.{◌≡◌, ◌≢◌, ◌⊎◌, ℕ, ◌<◌, ◌≤◌, List, Option, true}
 use Rattle.page_check.specs.SynchronousAnswer.{Reader}
 use Rattle.aio_disk.specs.Counts.{Rose, ShelfCounts}
-use Rattle.aioscan_cmd.specs.Command.{length_limit}
 use Rattle.aioscan_cmd.specs.Cutting.{requests_for}
 use Rattle.aioscan_cmd.specs.Outcomes.{is_refused}
 use Rattle.aioscan_cmd.specs.Reading.{Lists}
@@ -53,7 +52,7 @@ pub record CallsInOrder (before now : ShelfCounts) (outcome : Outcome) : Type 0 
 -- the first relation that is too long is named, unless one of these came first
 abbrev pub IsExact : SynchronousRun → Outcome → Type 0
 IsExact run outcome =
-    (r : ℕ) → r < run.relations → length_limit < run.lengths r → EarlierFit run.lengths r
+    (r : ℕ) → r < run.relations → run.limit < run.lengths r → EarlierFit run.limit run.lengths r
     → outcome ≢ Usage → outcome ≢ CannotOpen → ((q : ℕ) → outcome ≢ NoLength q)
     → outcome ≢ NoMemory → outcome ≡ TooLong r
 
@@ -63,7 +62,8 @@ abbrev pub IsComplete : SynchronousRun → ShelfCounts → ShelfCounts → ℕ �
 IsComplete run before now write_faults_before write_faults_now outcome =
     ¬ Rose before.open_faults now.open_faults → ¬ Rose before.length_faults now.length_faults
     → ¬ Rose before.faults now.faults → ¬ Rose write_faults_before write_faults_now
-    → EarlierFit run.lengths run.relations → (outcome ≡ run.outcome) ⊎ (outcome ≡ NoMemory)
+    → EarlierFit run.limit run.lengths run.relations
+    → (outcome ≡ run.outcome) ⊎ (outcome ≡ NoMemory)
 
 -- a disk was opened: the outcome is none of those that come before
 abbrev pub IsOpened : Outcome → Type 0

@@ -1,6 +1,6 @@
 -- What the words of a command ask for.
 use Rattle.std.specs.Prelude.{ℕ, List, [], ◌∷◌, ◌≡◌, ◌≤◌, Option, Some, None, IfSome, ◌+◌, ◌-◌, ◌<◌}
-use Rattle.std.specs.Prelude.{Bool, not, unwrap_or}
+use Rattle.std.specs.Prelude.{Bool, not, unwrap_or, ◌*◌}
 use Rattle.aioscan_cmd.specs.Generated.{made_name}
 use Rattle.std.specs.List.{filter, position_or_len}
 use Rattle.std.specs.Option.{option_map_or}
@@ -8,8 +8,8 @@ use Rattle.std.specs.Str.{bytes_eq}
 use Rattle.scan_rounds.specs.declared.settings.ScanSettings.{ScanSettings}
 
 -- the first and the last block, where they are given, the names of files, and how many pages are
--- generated, where the one file is that of generated pages; how they are read, and whether the
--- totals are told
+-- generated, where the one file is that of generated pages; how they are read, but for the segment
+-- size, which is that of the disks; and whether the totals are told
 pub record Command : Type 0 where
   pub from : Option ℕ
   pub to : Option ℕ
@@ -18,13 +18,14 @@ pub record Command : Type 0 where
   pub settings : ScanSettings
   pub stats : Bool
 
--- the numbers of blocks that `--from` and `--to` may give end below this
+-- the numbers of blocks that `--from` and `--to` may give end below this: 16 segments of the
+-- greatest size
 abbrev pub number_limit : ℕ
-number_limit = 131072
+number_limit = 2097152
 
--- the most blocks that a relation may have: those of one segment file (`RELSEG_SIZE`)
-abbrev pub length_limit : ℕ
-length_limit = 131072
+-- the most blocks that a relation may have: those of 16 segments of this size
+abbrev pub length_limit : ℕ → ℕ
+length_limit segment = 16 * segment
 
 -- so many pages may be generated
 abbrev pub made_limit : ℕ

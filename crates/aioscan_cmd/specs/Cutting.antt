@@ -2,17 +2,23 @@
 use Rattle.std.specs.Prelude.{◌≡◌, ℕ, ◌+◌, ◌-◌, ◌^◌, ◌<◌, ◌≤◌, ◌++◌, List, [], ◌∷◌, drop, length}
 use Rattle.std.specs.Prelude.{slice_index, slice_index_or}
 use Rattle.std.specs.List.{flat_map}
-use Rattle.aioscan_cmd.specs.Command.{length_limit, relations_of, relation_number}
+use Rattle.scan_rounds.specs.declared.settings.ScanSettings.{ScanSettings}
+use Rattle.aioscan_cmd.specs.Command.{number_limit, relations_of, relation_number}
 use Rattle.aioscan_cmd.specs.Command.{first_block, asked_count}
 use Rattle.aioscan_cmd.specs.RequestList.{Request, block_range, requests_of_file, requests_of}
 use Rattle.aioscan_cmd.specs.declared.cutter.Asked.{Asked}
 use Rattle.aioscan_cmd.specs.declared.cutter.Cut.{Cut}
 
+-- how the files are read, with the segment size of the disks
+abbrev pub settings_for : Asked → ScanSettings
+settings_for a = record ((a.command.now).settings) { segment = a.segment }
+
 -- the relations are those of the command, each with a length that fits
 pub record IsAsked (a : Asked) : Type 0 where
   pub relations_are : a.relations.now ≡ relations_of a.command.now
   pub lengths_are : length a.lengths.now ≡ length a.relations.now
-  pub fit : (r : ℕ) → slice_index a.lengths.now r ≤ length_limit
+  pub fit : (r : ℕ) → slice_index a.lengths.now r ≤ number_limit
+  pub segment_is : 1 ≤ a.segment
 
 -- and there are so many
 abbrev pub IsAskedOf : ℕ → Asked → Type 0

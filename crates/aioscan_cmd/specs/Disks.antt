@@ -9,9 +9,10 @@ abbrev pub disks_of : ScanSettings → ℕ
 disks_of settings = settings.backends + workers_in settings
 
 -- the disk tells the same as the others, and was not read yet
-module _ {D : Type 0} (tells : D → Option Told) (has faults reads : D → ℕ) where
-  pub record IsUnread (told : Option Told) (relations : ℕ) (d : D) : Type 0 where
+module _ {D : Type 0} (tells : D → Option Told) (has cuts faults reads : D → ℕ) where
+  pub record IsUnread (told : Option Told) (relations segment : ℕ) (d : D) : Type 0 where
     pub told_is : tells d ≡ told
     pub relations_are : has d ≡ relations
+    pub segment_is : cuts d ≡ segment
     pub no_faults : faults d ≡ 0
     pub no_reads : reads d ≡ 0

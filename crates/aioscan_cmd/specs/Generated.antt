@@ -5,7 +5,7 @@ use Rattle.std.specs.Prelude.{codes, decimal}
 use Rattle.std.specs.List.{range_with_len, concat}
 use Rattle.page_check.specs.Told.{Told, told_in}
 use Rattle.heap_scan.specs.declared.sums.PageSums.{PageSums}
-use Rattle.aio_disk.specs.Shelf.{Files}
+use Rattle.aio_disk.specs.Shelf.{Files, files_in}
 
 -- a number as two bytes, and as four, the low one first
 abbrev pub two_bytes : ℕ → List ℕ
@@ -21,7 +21,8 @@ made_pointer i = (8192 - 32 * i) + 2 ^ 15 + 32 * 2 ^ 17
 abbrev pub made_pointers : ℕ → List ℕ
 made_pointers items = flat_map (λ i. four_bytes (made_pointer i)) (range_with_len 1 items)
 
--- lower, upper, special and `pd_pagesize_version` of a page with so many items, in a header of zeros
+-- lower, upper, special and `pd_pagesize_version` of a page with so many items, in a header of
+-- zeros
 abbrev pub made_header : ℕ → List ℕ
 made_header items =
     replicate 12 0
@@ -45,11 +46,11 @@ abbrev pub made_name : List ℕ
 made_name = codes "made"
 
 abbrev pub made_files : ℕ → Files
-made_files pages = (made_name, made_file pages) ∷ []
+made_files pages = files_in 131072 ((made_name, made_file pages) ∷ [])
 
--- and tells one relation
+-- and tells one relation of one segment
 abbrev pub made_told : ℕ → Told
-made_told pages = told_in (made_file pages ∷ [])
+made_told pages = told_in 131072 ((made_file pages ∷ []) ∷ [])
 
 -- `pages P new Z items I`: how many pages were given, how many of them are all zeros, and how many
 -- line pointers they have

@@ -31,11 +31,12 @@ abbrev pub outcome_at : Reader → Option Request → Outcome
 outcome_at found None = Done
 outcome_at found (Some e) = outcome_by (found_for found e) e.relation e.block
 
--- over contents that are told: how many relations there are, how many blocks each has, the blocks
--- that are asked for, their pages, how that ends, and what is written
+-- over contents that are told: how many relations there are, how many blocks each has and may have,
+-- the blocks that are asked for, their pages, how that ends, and what is written
 pub record SynchronousRun : Type 0 where
   pub relations : ℕ
   pub lengths : ℕ → ℕ
+  pub limit : ℕ
   pub requests : List Request
   pub pages : List Page
   pub outcome : Outcome
@@ -47,6 +48,7 @@ run_of told command =
     let pages = pages_of (found_at told) requests in record {
       relations = length (relations_of command);
       lengths = blocks_of told;
+      limit = length_limit told.segment;
       requests = requests;
       pages = pages;
       outcome = outcome_at (found_at told) (stop_of (found_at told) requests);
@@ -60,6 +62,7 @@ made_run n =
     let pages = pages_of (found_at (made_told n)) requests in record {
       relations = 1;
       lengths = blocks_of (made_told n);
+      limit = length_limit (made_told n).segment;
       requests = requests;
       pages = pages;
       outcome =
@@ -108,34 +111,41 @@ Writes run before after (NoLength r) = after ≡ before
 Writes run before after (TooLong r) = after ≡ before
 
 -- the relations before this one are not too long
-abbrev pub EarlierFit : (ℕ → ℕ) → ℕ → Type 0
-EarlierFit lengths r = (q : ℕ) → q < r → lengths q ≤ length_limit
+abbrev pub EarlierFit : ℕ → (ℕ → ℕ) → ℕ → Type 0
+EarlierFit limit lengths r = (q : ℕ) → q < r → lengths q ≤ limit
 
 -- lengths are taken in order, each tested before the next is taken: those before the one that is
 -- named fit, and all fit where blocks were read
-abbrev pub FitsInOrder : (ℕ → ℕ) → ℕ → Outcome → Type 0
-FitsInOrder lengths relations (TooLong r) =
-    (r < relations) × (length_limit < lengths r) × EarlierFit lengths r
-FitsInOrder lengths relations (NoLength r) = (r < relations) × EarlierFit lengths r
-FitsInOrder lengths relations Done = EarlierFit lengths relations
-FitsInOrder lengths relations (Invalid r b) = EarlierFit lengths relations
-FitsInOrder lengths relations (Missing r b) = EarlierFit lengths relations
-FitsInOrder lengths relations (Unread r b) = EarlierFit lengths relations
-FitsInOrder lengths relations CannotWrite = EarlierFit lengths relations
-FitsInOrder lengths relations NoMemory = Unit {0}
-FitsInOrder lengths relations Usage = Unit {0}
-FitsInOrder lengths relations CannotOpen = Unit {0}
+abbrev pub FitsInOrder : ℕ → (ℕ → ℕ) → ℕ → Outcome → Type 0
+FitsInOrder limit lengths relations (TooLong r) =
+    (r < relations) × (limit < lengths r) × EarlierFit limit lengths r
+FitsInOrder limit lengths relations (NoLength r) = (r < relations) × EarlierFit limit lengths r
+FitsInOrder limit lengths relations Done = EarlierFit limit lengths relations
+FitsInOrder limit lengths relations (Invalid r b) = EarlierFit limit lengths relations
+FitsInOrder limit lengths relations (Missing r b) = EarlierFit limit lengths relations
+FitsInOrder limit lengths relations (Unread r b) = EarlierFit limit lengths relations
+FitsInOrder limit lengths relations CannotWrite = EarlierFit limit lengths relations
+FitsInOrder limit lengths relations NoMemory = Unit {0}
+FitsInOrder limit lengths relations Usage = Unit {0}
+FitsInOrder limit lengths relations CannotOpen = Unit {0}
 
 -- the lengths that are told, or else those that were answered
 abbrev pub lengths_known : Option Told → (ℕ → ℕ) → ℕ → ℕ
 lengths_known (Some told) answered = blocks_of told
 lengths_known None answered = answered
 
+-- the most blocks of a relation by the segment size that is told, or else by that of the disks
+abbrev pub limit_known : Option Told → ℕ → ℕ
+limit_known (Some told) segment = length_limit told.segment
+limit_known None segment = length_limit segment
+
 -- what is known of a run whether or not its contents are told
 pub record Ran (told : Option Told) (relations : ℕ) (command : Command) (before now : Seen)
     (outcome : Outcome) : Type 0 where
   pub answered : ℕ → ℕ
-  pub in_order : FitsInOrder (lengths_known told answered) relations outcome
+  pub segment : ℕ
+  pub in_order : FitsInOrder (limit_known told segment) (lengths_known told answered) relations
+      outcome
   pub lists : is_refused outcome ≡ false
       → Lists (reader_of told) (requests_of (lengths_known told answered) command) before.written
       now.written outcome
@@ -151,7 +161,8 @@ EndsMade outcome = (outcome ≡ Done) ⊎ ((outcome ≡ CannotWrite) ⊎ (outcom
 -- what is known of a run over so many generated pages: the shelf that was handed in is not read
 pub record RanMade (n : ℕ) (before now : Seen) (outcome : Outcome) : Type 0 where
   pub ends : EndsMade outcome
-  pub in_order : FitsInOrder (blocks_of (made_told n)) 1 outcome
+  pub in_order : FitsInOrder (length_limit (made_told n).segment) (blocks_of (made_told n)) 1
+      outcome
   pub writes : Writes (made_run n) before.written now.written outcome
   pub reads : now.reads ≡ before.reads
 

@@ -92,6 +92,7 @@ settings_with (Some m) (Some w) (Some n) (Some c) (Some o) (Some h) (Some b) bat
       buffers = b;
       batch = batch;
       full = full;
+      segment = 131072;
     })
 settings_with _ _ _ _ _ _ _ _ _ = None
 
@@ -153,8 +154,8 @@ module _ (rows : List Row) where
   abbrev pub command_in : Option Command
   command_in = command_with
       (source_with
-      (number_if_given 0 131071 (text_of (codes "from")))
-      (number_if_given 0 131071 (text_of (codes "to")))
+      (number_if_given 0 2097151 (text_of (codes "from")))
+      (number_if_given 0 2097151 (text_of (codes "to")))
       (number_if_given 1 4096 (text_of (codes "make")))
       (all_of (codes "FILE") rows))
       settings_in

@@ -1,25 +1,43 @@
 //! Cuts the blocks that a command asks for into jobs, without a list of them.
 ghost use Rattle.std.specs.Prelude.{◌≡◌, ◌≤◌, ◌<◌, ◌+◌, ◌++◌, ◌^◌, [], ℕ, length, slice_index};
 ghost use Rattle.std.specs.Prelude.{IfSome, IfNone, IfOk};
-ghost use Rattle.aioscan_cmd.specs.Command.{length_limit};
+ghost use Rattle.aioscan_cmd.specs.Command.{number_limit};
+ghost use Rattle.scan_rounds.specs.Opening.{AreSettings};
 ghost use Rattle.aioscan_cmd.specs.RequestList.{block_range};
 ghost use Rattle.aioscan_cmd.specs.Cutting.{IsAsked, IsJobRange, left_at, left_here, name_at};
-ghost use Rattle.aioscan_cmd.specs.Cutting.{requests_for};
+ghost use Rattle.aioscan_cmd.specs.Cutting.{requests_for, settings_for};
 
 use crate::relations::Relations;
 use crate::words::Command;
 use page_check::World;
+use scan_rounds::ScanSettings;
 use std::marker::{Model, PhantomData};
 
 // At most so many blocks has a job.
 const JOB_BLOCKS: u32 = 64;
 
-/// What a run asks for: a command, its relations, and the length of each.
+/// What a run asks for: a command, its relations, the length of each, and the segment size of the
+/// disks in blocks.
 #[derive(Clone, Copy)]
 pub(crate) struct Asked<'a, 'w> {
     pub(crate) command: &'a Command<'w>,
     pub(crate) relations: &'a Relations,
     pub(crate) lengths: &'a [u32],
+    pub(crate) segment: u32,
+}
+
+impl Asked<'_, '_> {
+    /// How the files are read.
+    pub(crate) fn settings(&self) -> ScanSettings
+        requires { 1 ≤ self.now.segment }
+        ensures settings { result ≡ settings_for self.now }
+        ensures within { AreSettings result }
+    {
+        ScanSettings {
+            segment: self.segment,
+            ..self.command.settings()
+        }
+    }
 }
 
 /// The blocks of a job: so many of a relation, from one on.
@@ -45,7 +63,7 @@ fn cut_off(asked: Asked<'_, '_>, place: Place) -> Option<Cut>
         (left_here asked.entry (name_at asked.entry place.file) place.done
         ≡ block_range c.relation c.first c.count
         ++ left_here asked.entry (name_at asked.entry place.file) (place.done + c.count))
-        × IsJobRange (length asked.entry.relations.now) c × (place.done + c.count ≤ length_limit)) }
+        × IsJobRange (length asked.entry.relations.now) c × (place.done + c.count ≤ number_limit)) }
     ensures none { IfNone result
         (left_here asked.entry (name_at asked.entry place.file) place.done ≡ []) }
 {
@@ -53,6 +71,7 @@ fn cut_off(asked: Asked<'_, '_>, place: Place) -> Option<Cut>
         command,
         relations,
         lengths,
+        ..
     } = asked;
     let relation = relations.number_of(command.files()[place.file]);
     let count = command.asked_count(lengths[relation as usize]);
@@ -113,9 +132,9 @@ impl<'a, 'w, W: World> Cutter<'a, 'w, W> {
         requires asked { IsAsked asked }
         requires world { W.relations ≡ length asked.relations.now }
         ensures all { result ≡ requests_for asked.entry }
-        ensures few { length result ≤ 2 ^ 27 }
+        ensures few { length result ≤ 2 ^ 31 }
     {
-        // No more than 1024 files of 131072 blocks.
+        // No more than 1024 files of 2097152 blocks.
         let _ = asked.command.files();
         let _ = asked.command.last_block();
         Cutter {

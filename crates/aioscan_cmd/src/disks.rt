@@ -1,6 +1,6 @@
 //! The disks of a run.
 ghost use Rattle.std.specs.Prelude.{◌≡◌, ◌≤◌, ◌<◌, ◌+◌, length, map, string_bytes, sum_by, OnOk};
-ghost use Rattle.std.specs.Prelude.{IsErrOf, vec_capacity, vec_len};
+ghost use Rattle.std.specs.Prelude.{IsErrOf, true, vec_capacity, vec_len};
 ghost use Rattle.std.specs.List.{All};
 ghost use Rattle.aio_disk.specs.Counts.{RisesBy, Rose, raised_by};
 ghost use Rattle.aio_disk.specs.Shelf.{told_of};
@@ -18,18 +18,21 @@ pub(crate) fn open_others<S: Shelf>(
     count: usize,
 ) -> Result<(), OpenFault>
     requires room { (vec_len disks.old ≤ count) × (count ≤ vec_capacity disks.old) }
-    requires unread { All (IsUnread S.Disk.told S.Disk.relations S.Disk.faults S.Disk.reads
-        (told_of (S.told shelf.old) (map string_bytes names.now)) (length names.now))
-        disks.old.items }
+    requires unread { All (IsUnread S.Disk.told S.Disk.relations S.Disk.segment S.Disk.faults
+        S.Disk.reads (told_of (S.told shelf.old) (map string_bytes names.now)) (length names.now)
+        (S.segment shelf.old)) disks.old.items }
     ensures all { OnOk result (length disks.new.items ≡ count) }
-    ensures unread { All (IsUnread S.Disk.told S.Disk.relations S.Disk.faults S.Disk.reads
-        (told_of (S.told shelf.old) (map string_bytes names.now)) (length names.now))
-        disks.new.items }
+    ensures unread { All (IsUnread S.Disk.told S.Disk.relations S.Disk.segment S.Disk.faults
+        S.Disk.reads (told_of (S.told shelf.old) (map string_bytes names.now)) (length names.now)
+        (S.segment shelf.old)) disks.new.items }
     ensures later { (S.counts shelf.old).open_faults ≤ (S.counts shelf.new).open_faults }
     ensures device { IsErrOf result Device
         → Rose (S.counts shelf.old).open_faults (S.counts shelf.new).open_faults }
+    ensures sure { S.surely_opens shelf.old (map string_bytes names.now) ≡ true
+        → IsErrOf result Device → ⊥ }
     ensures told { S.told shelf.new ≡ S.told shelf.old }
-    ensures length_faults { (S.counts shelf.new).length_faults ≡ (S.counts shelf.old).length_faults }
+    ensures length_faults { (S.counts shelf.new).length_faults
+        ≡ (S.counts shelf.old).length_faults }
     ensures faults { (S.counts shelf.new).faults ≡ (S.counts shelf.old).faults }
     ensures reads { (S.counts shelf.new).reads ≡ (S.counts shelf.old).reads }
 {

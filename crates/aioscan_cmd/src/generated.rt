@@ -1,6 +1,7 @@
 //! Generated pages, as input that needs no file.
 ghost use Rattle.std.specs.Prelude.{◌≡◌, ◌++◌, ◌<◌, ◌≤◌, OnOk, IfOk, replicate};
-ghost use Rattle.aioscan_cmd.specs.Generated.{four_bytes, made_file, made_header, made_page, made_pointers};
+ghost use Rattle.aioscan_cmd.specs.Generated.{four_bytes, made_file, made_header, made_page};
+ghost use Rattle.aioscan_cmd.specs.Generated.{made_pointers};
 ghost use Rattle.aioscan_cmd.specs.Generated.{page_with, two_bytes};
 
 use page_check::Page;

@@ -12,55 +12,20 @@ use crate::generated::make_file;
 use crate::relation_files::list_files;
 use crate::report::RunEnd;
 use crate::words::Command;
-use aio_disk::{MemShelf, OpenFault, Shelf, Sink, SteadyDisk, SteadyShelf, WriteFault};
+use aio_disk::{MemShelf, Sink, SteadyShelf, WriteFault};
 use heap_scan::PageSums;
 use std::alloc::{AllocError, Global};
 use std::sync::Wait;
 use std::thread::Threads;
 
-/// The shelf of generated pages, which has one file. An open of a name that it does not have is
-/// answered as want of memory; none is made.
-#[derive(Drop)]
-pub(crate) struct MadeShelf {
-    steady: SteadyShelf,
-}
-
-impl MadeShelf {
-    /// Makes so many pages.
-    pub(crate) fn of(alloc: Global, pages: u32) -> Result<MadeShelf, AllocError>
-        requires { pages ≤ 4096 }
-        ensures { IfOk result (λ shelf. shelf.steady.files ≡ made_files pages) }
-    {
-        let mut files = Vec::with_capacity(alloc, 1)?;
-        files.push((String::from_str(alloc, "made")?, make_file(alloc, pages)?))?;
-        Ok(MadeShelf {
-            steady: MemShelf::steady(alloc, files, 0)?,
-        })
-    }
-}
-
-impl Shelf for MadeShelf {
-    type Disk = SteadyDisk;
-
-    ghost told = { λ shelf. Some shelf.steady.files };
-
-    ghost counts = { λ shelf. record {
-      open_faults = 0;
-      length_faults = 0;
-      faults = 0;
-      reads = shelf.steady.reads;
-    } };
-
-    fn open(&mut self, names: &[String]) -> Result<SteadyDisk, OpenFault> {
-        match self.steady.open(names) {
-            Ok(disk) => Ok(disk),
-            Err(_) => Err(OpenFault::Memory),
-        }
-    }
-
-    fn take_back(&mut self, disk: SteadyDisk) {
-        self.steady.take_back(disk);
-    }
+// A shelf of so many generated pages, which has one file.
+fn made_shelf(alloc: Global, pages: u32) -> Result<SteadyShelf, AllocError>
+    requires { pages ≤ 4096 }
+    ensures { IfOk result (λ shelf. shelf.files ≡ made_files pages) }
+{
+    let mut files = Vec::with_capacity(alloc, 1)?;
+    files.push((String::from_str(alloc, "made")?, make_file(alloc, pages)?))?;
+    MemShelf::steady(alloc, files, 0)
 }
 
 /// A sink that keeps nothing: the texts of generated pages are not written.
@@ -118,7 +83,7 @@ pub(crate) fn list_made<O: Sink, R: Threads + Wait + Sync>(
     ensures counted { (s : ShelfCounts) → AreCounted (Some pages) (Some command.now) s s
         result.outcome result.numbers }
 {
-    let Ok(mut shelf) = MadeShelf::of(alloc, pages) else {
+    let Ok(mut shelf) = made_shelf(alloc, pages) else {
         return RunEnd::without_reads(Outcome::NoMemory);
     };
     let end = list_files(rt, alloc, command, &mut shelf, &mut Quiet);

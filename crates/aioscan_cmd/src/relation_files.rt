@@ -1,5 +1,5 @@
 //! Scans relation files.
-ghost use Rattle.std.specs.Prelude.{◌≡◌, ◌≢◌, length, None, Some};
+ghost use Rattle.std.specs.Prelude.{◌≡◌, ◌≢◌, length, None, Some, true};
 ghost use Rattle.aio_disk.specs.Shelf.{AllThereIfTold, told_of};
 ghost use Rattle.aioscan_cmd.specs.Command.{relations_of};
 ghost use Rattle.aioscan_cmd.specs.Reading.{seen};
@@ -37,6 +37,8 @@ pub(crate) fn list_files<S: Shelf, O: Sink, R: Threads + Wait + Sync>(
         result.outcome result.numbers }
     ensures sums { HasSumsTold (told_of (S.told shelf.old) (relations_of command.now)) command.now
         result.outcome result.sums }
+    ensures sure { S.surely_opens shelf.old (relations_of command.now) ≡ true
+        → result.outcome ≢ Outcome.CannotOpen }
     ensures told { S.told shelf.new ≡ S.told shelf.old }
     ensures opened { IsOpened result.outcome
         → AllThereIfTold (S.told shelf.old) (relations_of command.now) }

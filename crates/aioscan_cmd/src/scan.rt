@@ -1,6 +1,6 @@
 //! Lists over opened disks what a command asks for.
 ghost use Rattle.std.specs.Prelude.{◌≡◌, ◌≢◌, ◌<◌, ◌≤◌, ◌+◌, ◌*◌, ◌^◌, ℕ, length, sum_by};
-ghost use Rattle.std.specs.Prelude.{None, Some, vec_len, vec_capacity};
+ghost use Rattle.std.specs.Prelude.{None, Some, true, vec_len, vec_capacity};
 ghost use Rattle.std.specs.List.{All};
 ghost use Rattle.page_check.specs.SynchronousAnswer.{reader_of};
 ghost use Rattle.aio_disk.specs.Shelf.{told_of};
@@ -9,7 +9,7 @@ ghost use Rattle.scan_rounds.specs.Opening.{AreSettings};
 ghost use Rattle.scan_rounds.specs.Rounds.{taken_by};
 ghost use Rattle.scan_rounds.specs.Scans.{IsScan, IsSameScan};
 ghost use Rattle.aioscan_cmd.specs.Command.{relations_of};
-ghost use Rattle.aioscan_cmd.specs.Cutting.{IsAsked, requests_for};
+ghost use Rattle.aioscan_cmd.specs.Cutting.{IsAsked, requests_for, settings_for};
 ghost use Rattle.aioscan_cmd.specs.Disks.{IsUnread, disks_of};
 ghost use Rattle.aioscan_cmd.specs.Lengths.{HasLengths};
 ghost use Rattle.aioscan_cmd.specs.Reading.{Lists, HasWritten, seen};
@@ -51,7 +51,7 @@ fn list_rounds<W: World + Send + Sync, D: Disk, O: Sink, R: Threads + Wait + Syn
 ) -> (Outcome, PageSums)
     requires scan { IsScan (meter D.told D.relations D.reads D.faults) W.told W.relations
         scan.old }
-    requires room { 2 ^ 33 ≤ scan.old.room }
+    requires room { 2 ^ 37 ≤ scan.old.room }
     requires asked { IsAsked asked }
     requires world { W.relations ≡ length asked.relations.now }
     ensures scan { IsScan (meter D.told D.relations D.reads D.faults) W.told W.relations
@@ -94,11 +94,11 @@ fn list_disks<W: World + Send + Sync, D: Disk, O: Sink, R: Threads + Wait + Sync
 ) -> (Vec<D>, RunEnd)
     requires asked { IsAsked asked }
     requires world { W.relations ≡ length asked.relations.now }
-    requires disks { length disks.items ≡ disks_of (asked.command.now).settings }
-    requires unread { All (IsUnread D.told D.relations D.faults D.reads W.told W.relations)
-        disks.items }
-    requires handles { (asked.command.now).settings.backends
-        * (asked.command.now).settings.handles ≡ W.handles }
+    requires disks { length disks.items ≡ disks_of (settings_for asked) }
+    requires unread { All (IsUnread D.told D.relations D.segment D.faults D.reads W.told
+        W.relations asked.segment) disks.items }
+    requires handles { (settings_for asked).backends * (settings_for asked).handles
+        ≡ W.handles }
     ensures lists { Lists (reader_of W.told) (requests_for asked.entry) (O.written out.old)
         (O.written out.new) result.1.outcome }
     ensures writes { HasWritten (O.faults out.old) (O.faults out.new) result.1.outcome }
@@ -108,7 +108,7 @@ fn list_disks<W: World + Send + Sync, D: Disk, O: Sink, R: Threads + Wait + Sync
     ensures sums { result.1.outcome ≡ Outcome.Done
         → HasSums (reader_of W.told) (requests_for asked.entry) result.1.sums }
 {
-    let settings = asked.command.settings();
+    let settings = asked.settings();
     let mut scan = match Scan::<W, D>::open(alloc, &settings, disks) {
         Ok(scan) => scan,
         Err(disks) => return (disks, RunEnd::without_reads(Outcome::NoMemory)),
@@ -152,11 +152,12 @@ fn open_and_list<W: World + Send + Sync, S: Shelf, O: Sink, R: Threads + Wait + 
     requires asked { IsAsked asked }
     requires told { told_of (S.told shelf.old) asked.relations.now ≡ W.told }
     requires world { W.relations ≡ length asked.relations.now }
-    requires handles { (asked.command.now).settings.backends
-        * (asked.command.now).settings.handles ≡ W.handles }
-    requires unread { All (IsUnread S.Disk.told S.Disk.relations S.Disk.faults S.Disk.reads W.told
-        W.relations) disks.items }
-    requires room { (vec_len disks ≤ 1) × (disks_of (asked.command.now).settings
+    requires segment { S.segment shelf.old ≡ asked.segment }
+    requires handles { (settings_for asked).backends * (settings_for asked).handles
+        ≡ W.handles }
+    requires unread { All (IsUnread S.Disk.told S.Disk.relations S.Disk.segment S.Disk.faults
+        S.Disk.reads W.told W.relations asked.segment) disks.items }
+    requires room { (vec_len disks ≤ 1) × (disks_of (settings_for asked)
         ≤ vec_capacity disks) }
     ensures scanned { HasScanned asked.entry (reader_of W.told) (O.written out.old)
         (O.written out.new) (S.counts shelf.old) (S.counts shelf.new)
@@ -166,9 +167,11 @@ fn open_and_list<W: World + Send + Sync, S: Shelf, O: Sink, R: Threads + Wait + 
     ensures counted { AreOfScan asked.entry S.Disk.reads result.0.items result.1.numbers }
     ensures sums { result.1.outcome ≡ Outcome.Done
         → HasSums (reader_of W.told) (requests_for asked.entry) result.1.sums }
+    ensures sure { S.surely_opens shelf.old asked.entry.relations.now ≡ true
+        → result.1.outcome ≢ Outcome.CannotOpen }
     ensures told { S.told shelf.new ≡ S.told shelf.old }
 {
-    let settings = asked.command.settings();
+    let settings = asked.settings();
     let names = asked.relations.names();
     match open_others(shelf, names, &mut disks, disk_count(&settings)) {
         Ok(()) => list_disks::<W, S::Disk, O, R>(rt, alloc, asked, disks, out),
@@ -188,14 +191,16 @@ fn run_scan<W: World + Send + Sync, S: Shelf, O: Sink, R: Threads + Wait + Sync>
     out: &mut O,
 ) -> RunEnd
     requires asked { IsAsked asked }
-    requires settings { (settings.now ≡ (asked.command.now).settings) × AreSettings settings.now }
+    requires settings { (settings.now ≡ settings_for asked) × AreSettings settings.now }
+    requires segment { (S.Disk.segment first ≡ asked.segment)
+        × (S.segment shelf.old ≡ asked.segment) }
     requires told { (S.Disk.told first ≡ W.told)
         × (told_of (S.told shelf.old) asked.relations.now ≡ W.told) }
     requires relations { (S.Disk.relations first ≡ W.relations)
         × (W.relations ≡ length asked.relations.now) }
     requires handles { settings.now.backends * settings.now.handles ≡ W.handles }
     requires unread { (S.Disk.faults first ≡ 0) × (S.Disk.reads first ≡ 0) }
-    requires lengths { HasLengths (S.Disk.told first) (length asked.relations.now)
+    requires lengths { HasLengths (S.Disk.told first) asked.segment (length asked.relations.now)
         asked.lengths.now }
     ensures ran { Ran (S.Disk.told first) (length asked.entry.relations.now)
         asked.entry.command.now (seen (O.written out.old) (S.counts shelf.old).reads)
@@ -207,6 +212,8 @@ fn run_scan<W: World + Send + Sync, S: Shelf, O: Sink, R: Threads + Wait + Sync>
         (S.counts shelf.new) result.outcome result.numbers }
     ensures sums { HasSumsTold (S.Disk.told first) asked.entry.command.now result.outcome
         result.sums }
+    ensures sure { S.surely_opens shelf.old asked.entry.relations.now ≡ true
+        → result.outcome ≢ Outcome.CannotOpen }
     ensures told { S.told shelf.new ≡ S.told shelf.old }
     ensures words { result.outcome ≢ Outcome.Usage }
 {
@@ -233,6 +240,7 @@ pub(crate) fn scan_disk<S: Shelf, O: Sink, R: Threads + Wait + Sync>(
 ) -> RunEnd
     requires relations { relations.now ≡ relations_of command.now }
     requires told { S.Disk.told disk ≡ told_of (S.told shelf.old) relations.now }
+    requires segment { S.Disk.segment disk ≡ S.segment shelf.old }
     requires disk { S.Disk.relations disk ≡ length relations.now }
     requires unread { (S.Disk.length_faults disk ≡ 0) × (S.Disk.faults disk ≡ 0)
         × (S.Disk.reads disk ≡ 0) }
@@ -245,6 +253,8 @@ pub(crate) fn scan_disk<S: Shelf, O: Sink, R: Threads + Wait + Sync>(
     ensures counted { AreCounted None (Some command.now) (S.counts shelf.old) (S.counts shelf.new)
         result.outcome result.numbers }
     ensures sums { HasSumsTold (S.Disk.told disk) command.now result.outcome result.sums }
+    ensures sure { S.surely_opens shelf.old relations.now ≡ true
+        → result.outcome ≢ Outcome.CannotOpen }
     ensures told { S.told shelf.new ≡ S.told shelf.old }
     ensures words { result.outcome ≢ Outcome.Usage }
 {
@@ -254,8 +264,9 @@ pub(crate) fn scan_disk<S: Shelf, O: Sink, R: Threads + Wait + Sync>(
                 command,
                 relations,
                 lengths: lengths.as_slice(),
+                segment: disk.segment(),
             };
-            let settings = command.settings();
+            let settings = asked.settings();
             run_scan::<Brand, S, O, R>(rt, alloc, asked, &settings, disk, shelf, out)
         }
         Err(outcome) => {

@@ -5,6 +5,7 @@ mod made;
 mod outside;
 mod reads;
 mod rows;
+mod segments;
 mod settings;
 mod slow;
 mod untold;

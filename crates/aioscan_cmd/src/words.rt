@@ -2,7 +2,7 @@
 ghost use Rattle.std.specs.Prelude.{◌≡◌, ◌<◌, ◌≤◌, map, length, None, Some, IfOk, IfErr};
 ghost use Rattle.std.specs.Prelude.{string_bytes, codes, true, IfSome, if◌then◌else◌};
 ghost use Rattle.clap.specs.Words.{rows_of, found_of, all_of};
-ghost use Rattle.aioscan_cmd.specs.Command.{number_limit, length_limit, first_block, asked_count};
+ghost use Rattle.aioscan_cmd.specs.Command.{number_limit, first_block, asked_count};
 ghost use Rattle.aioscan_cmd.specs.Command.{IsBelow};
 ghost use Rattle.aioscan_cmd.specs.Command.{HasNoRange, IsMade, made_limit};
 ghost use Rattle.aioscan_cmd.specs.Words.{command_in, command_of, files_by, source_of, NamesSource};
@@ -18,7 +18,7 @@ use std::alloc::Global;
 use std::marker::Model;
 
 // The greatest number of a block that `--from` and `--to` may give.
-const LAST_BLOCK: u32 = 131071;
+const LAST_BLOCK: u32 = 2097151;
 
 // At most so many pages are generated.
 const MOST_MADE: u32 = 4096;
@@ -152,7 +152,7 @@ impl<'a> Command<'a> {
     /// How many blocks are asked for of a relation of this length.
     pub(crate) fn asked_count(&self, length: u32) -> u32
         ensures count { result ≡ asked_count self.now length }
-        ensures few { length ≤ length_limit → result ≤ length_limit }
+        ensures few { length ≤ number_limit → result ≤ number_limit }
     {
         let after = match self.last_block() {
             Some(last) => last + 1,
@@ -161,7 +161,7 @@ impl<'a> Command<'a> {
         after.saturating_sub(self.first_block())
     }
 
-    /// How the files are read.
+    /// How the files are read, but for the segment size, which is that of the disks.
     pub(crate) fn settings(&self) -> ScanSettings
         ensures settings { result ≡ (self.now).settings }
         ensures within { AreSettings result }

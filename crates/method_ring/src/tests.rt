@@ -27,7 +27,7 @@ pub(crate) fn disk_of<R: Abort + AllocGlobal>(
     rt: &R,
     shelf: &mut SteadyShelf,
 ) -> Result<SteadyDisk, Fail>
-    ensures { IfOk result (λ disk. length disk.relations ≡ 1) }
+    ensures { IfOk result (λ disk. length disk.told.relations ≡ 1) }
 {
     let alloc = rt.alloc();
     let names = vec![in alloc; String::from_str(alloc, "f")?]?;

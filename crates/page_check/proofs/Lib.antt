@@ -7,4 +7,5 @@ pub mod Nexts
 pub mod AnswersInOrder
 pub mod AnswersOfLists
 pub mod AnswersOfBlocks
+pub mod Segments
 pub mod Rows

@@ -4,7 +4,7 @@ use Rattle.std.proofs.Common.{suc, map, ◌<◌, arith, ap, sym, ◌∙◌}
 use Rattle.std.specs.Prelude.{Option, Some, None, ⊤}
 use Rattle.std.proofs.lemmas.Option.{slice_get_within, same_Some}
 use Rattle.std.specs.List.{range_with_len}
-use Rattle.page_check.specs.Told.{Told, told_in, page_at, block_count, blocks_of}
+use Rattle.page_check.specs.Told.{Told, told_in, joined, page_at, block_count, blocks_of}
 use Rattle.page_check.specs.SynchronousAnswer.{Entry, End, Invalid, PastEnd, found_at, read_count}
 use Rattle.page_check.specs.SynchronousAnswer.{pages_of, ending_of, Given, Unread, Reader}
 use Rattle.page_check.specs.IsAnswer.{Answers, IsAnswer}
@@ -88,30 +88,34 @@ abbrev blocks : ℕ → ℕ → List (Entry (Unit {0}))
 blocks first n =
     map (λ b. record { relation = 0; block = b; per_buffer_data = tt }) (range_with_len first n)
 
+-- one relation in one file, with the segment size that PostgreSQL is built with
+abbrev of_one_file : List ℕ → Told
+of_one_file bytes = told_in 131072 ((bytes ∷ []) ∷ [])
+
 -- 14 pages with a bad one at block 12, blocks 10 to 13: two pages, then the bad one
 abbrev bad_at_12 : Told
-bad_at_12 = told_in (pages 12 (flagged ++ pages 1 []) ∷ [])
+bad_at_12 = of_one_file (pages 12 (flagged ++ pages 1 []))
 
 two_before_the_bad : (length (pages_of (found_at bad_at_12) (blocks 10 4)) ≡ 2)
     × (ending_of (found_at bad_at_12) (blocks 10 4) ≡ Invalid 12)
-unfolding read_count found_at page_at block_count verdict_of header_of u16_at u32_at
+unfolding read_count found_at joined page_at block_count verdict_of header_of u16_at u32_at
 two_before_the_bad = (refl, refl)
 
 -- 4 pages, blocks 3 to 4: one page, then past the end
 abbrev four : Told
-four = told_in (pages 4 [] ∷ [])
+four = of_one_file (pages 4 [])
 
 one_before_the_end :
     (pages_of (found_at four) (blocks 3 2)
     ≡ (record { entry = record { relation = 0; block = 3; per_buffer_data = tt }; page = E } ∷ []))
     × (ending_of (found_at four) (blocks 3 2) ≡ PastEnd 4)
-unfolding read_count found_at page_at block_count verdict_of header_of u16_at u32_at
+unfolding read_count found_at joined page_at block_count verdict_of header_of u16_at u32_at
 one_before_the_end = (refl, refl)
 
 -- 8191 bytes are no block, and an empty list ends at once
-no_block : (blocks_of (told_in (replicate 8191 0 ∷ [])) 0 ≡ 0)
-    × (ending_of {P = Unit {0}} (found_at (told_in (replicate 8191 0 ∷ []))) [] ≡ End)
-unfolding block_count read_count
+no_block : (blocks_of (of_one_file (replicate 8191 0)) 0 ≡ 0)
+    × (ending_of {P = Unit {0}} (found_at (of_one_file (replicate 8191 0))) [] ≡ End)
+unfolding joined block_count read_count
 no_block = (refl, refl)
 
 abbrev block : ℕ → Entry (Unit {0})
@@ -129,13 +133,13 @@ no_answer_yet : IsAnswered (record { pages = []; endings = [] })
 no_answer_yet = record { first = (pages_of (found_at four) (blocks 3 2), refl); endings = tt }
 
 one_page_so_far : IsAnswered (record { pages = three ∷ []; endings = [] })
-unfolding read_count found_at page_at block_count verdict_of header_of u16_at u32_at
+unfolding read_count found_at joined page_at block_count verdict_of header_of u16_at u32_at
 one_page_so_far = record { first = ([], refl); endings = tt }
 
 -- then the ending, which stays
 past_the_end_twice : IsAnswered
     (record { pages = three ∷ []; endings = PastEnd 4 ∷ PastEnd 4 ∷ [] })
-unfolding read_count found_at page_at block_count verdict_of header_of u16_at u32_at
+unfolding read_count found_at joined page_at block_count verdict_of header_of u16_at u32_at
 past_the_end_twice = record {
   first = ([], refl);
   endings = ((refl, refl), λ k d below. (let first : k ≡ 0 = omega arith in rw first refl));
@@ -146,7 +150,7 @@ the_end_twice : IsAnswer (Some (found_at four)) (λ _. ⊤) (blocks 2 2) (record
   pages = record { entry = block 2; page = E } ∷ three ∷ [];
   endings = End ∷ End ∷ [];
 })
-unfolding read_count found_at page_at block_count verdict_of header_of u16_at u32_at
+unfolding read_count found_at joined page_at block_count verdict_of header_of u16_at u32_at
 the_end_twice = record {
   first = ([], refl);
   endings = ((refl, refl), λ k d below. (let first : k ≡ 0 = omega arith in rw first refl));
@@ -154,7 +158,7 @@ the_end_twice = record {
 
 -- the block behind the end may be one that was not read
 unread_where_reading_stops : IsAnswered (record { pages = three ∷ []; endings = Unread 4 ∷ [] })
-unfolding read_count found_at page_at block_count verdict_of header_of u16_at u32_at
+unfolding read_count found_at joined page_at block_count verdict_of header_of u16_at u32_at
 unread_where_reading_stops = record {
   first = ([], refl);
   endings = (

@@ -1,18 +1,36 @@
 -- The contents of the relations, as the outside tells them.
-use Rattle.std.specs.Prelude.{ℕ, ◌-◌, ◌*◌, ◌/◌, ◌^◌, List, [], length, take, drop, min}
-use Rattle.std.specs.Prelude.{slice_index_or}
+use Rattle.std.specs.Prelude.{ℕ, ◌-◌, ◌*◌, ◌/◌, ◌^◌, ◌==◌, List, [], ◌∷◌, length, take, drop, min}
+use Rattle.std.specs.Prelude.{slice_index_or, cond}
+use Rattle.std.specs.List.{flat_map}
 
--- the bytes of each relation, in their order
+-- the bytes of the segments of each relation, in their order, and how many blocks a segment has
+-- that another one follows (`RELSEG_SIZE` of `pg_config.h`)
 pub record Told : Type 0 where
-  pub relations : List (List ℕ)
+  pub relations : List (List (List ℕ))
+  pub segment : ℕ
 
--- what files tell, each of them a relation
-abbrev pub told_in : List (List ℕ) → Told
-told_in files = record { relations = files }
+-- relations of segments of this size
+abbrev pub told_in : ℕ → List (List (List ℕ)) → Told
+told_in segment relations = record { relations = relations; segment = segment }
 
 -- the most blocks that a relation can have: block numbers end at `MaxBlockNumber` (`block.h`)
 abbrev pub most_blocks : ℕ
 most_blocks = 2 ^ 32 - 1
+
+-- the bytes but for a part of a block at their end
+abbrev pub without_part : List ℕ → List ℕ
+without_part bytes = take (8192 * (length bytes / 8192)) bytes
+
+-- the segments that count: the first one, and each behind one that counts and has exactly as many
+-- whole blocks as the segment size says (`mdnblocks` of `md.c`)
+abbrev pub counting : ℕ → List (List ℕ) → List (List ℕ)
+counting size [] = []
+counting size (first ∷ later) =
+    first ∷ cond (length first / 8192 == size) (counting size later) []
+
+-- the whole blocks of the segments that count, one segment after the other
+unfoldable pub joined : ℕ → List (List ℕ) → List ℕ
+joined size segments = flat_map without_part (counting size segments)
 
 -- how many whole blocks these bytes have
 unfoldable pub block_count : List ℕ → ℕ
@@ -22,9 +40,9 @@ block_count bytes = min (length bytes / 8192) most_blocks
 unfoldable pub page_at : List ℕ → ℕ → List ℕ
 page_at bytes block = take 8192 (drop (8192 * block) bytes)
 
--- the bytes of a relation
+-- the bytes of the blocks of a relation
 abbrev pub relation_of : Told → ℕ → List ℕ
-relation_of told relation = slice_index_or told.relations relation []
+relation_of told relation = joined told.segment (slice_index_or told.relations relation [])
 
 -- how many blocks a relation has
 abbrev pub blocks_of : Told → ℕ → ℕ

@@ -81,10 +81,11 @@ fn worked_pages(rt: HostRuntime) -> Result<(), Fail> {
         Verdict,
         u16,
         Option<LinePointer>,
-    ); 13] = [
+    ); 14] = [
         ("empty", empty, 0, none, Sane, 0, None),
         ("zeros", None, 0, none, Zero, 0, None),
         ("zeros but one byte", None, 8000, &[1], Bad, 0, None),
+        ("zeros but the last byte", None, 8191, &[1], Bad, 0, None),
         (
             "one normal item",
             one,

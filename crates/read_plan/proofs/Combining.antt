@@ -1,12 +1,13 @@
 -- The runs of a plan go on where a block is offered.
-use Rattle.std.proofs.Common.{◌≡◌, ℕ, zero, suc, ◌+◌, ◌^◌, ◌<◌, ◌≤◌, List, [], ◌∷◌, ◌++◌}
+use Rattle.std.proofs.Common.{◌≡◌, ◌≢◌, ℕ, zero, suc, ◌+◌, ◌^◌, ◌%◌, ◌<◌, ◌≤◌}
+use Rattle.std.proofs.Common.{List, [], ◌∷◌, ◌++◌}
 use Rattle.std.proofs.Common.{Some, All, refl, sym, ◌∙◌, ap, subst, arith}
 use Rattle.std.proofs.Common.{add-zero, append_assoc}
 use Rattle.std.specs.List.{range_with_len, flat_map}
 use Rattle.std.proofs.lemmas.List.{append-nil, flat_map_more}
 use Rattle.std.proofs.lemmas.List.Elements.{All-push, All-pop}
 use Rattle.read_plan.specs.declared.runs.Run.{Run}
-use Rattle.read_plan.specs.Runs.{AreRuns, IsRun, blocks_of, one_block}
+use Rattle.read_plan.specs.Runs.{AreRuns, IsRun, IsWithin, blocks_of, one_block}
 
 -- one more number in a row
 range_more : (first count : ℕ) →
@@ -33,10 +34,22 @@ last_blocks : (runs : List Run) (run : Run) →
     flat_map blocks_of (runs ++ run ∷ []) ≡ flat_map blocks_of runs ++ blocks_of run
 last_blocks runs run = sym (flat_map_more blocks_of [] runs run)
 
-module _ (combine : ℕ) (before : List Run) (run : Run) (block : ℕ) (offered : List ℕ) where
+-- a run of one block is within any segment
+pub one_within : (segment block : ℕ) → IsWithin segment (one_block block)
+one_within segment block = record { within = λ k above below. absurd (omega arith) }
+
+-- and a run goes on within one where the block begins none
+pub longer_within : (segment : ℕ) (run : Run) (block : ℕ) → run.first + run.count ≡ block →
+    block % segment ≢ 0 → IsWithin segment run → IsWithin segment (longer run)
+longer_within segment run block next inside was = record {
+  within = λ k above below. grind (arith, was.within);
+}
+
+module _ (combine segment : ℕ) (before : List Run) (run : Run) (block : ℕ) (offered : List ℕ) where
   -- a run of the block stands behind the last run
-  pub block_flushes : 1 ≤ combine → block < 2 ^ 32 → AreRuns combine (before ++ run ∷ []) offered →
-      AreRuns combine (before ++ run ∷ [] ++ one_block block ∷ []) (offered ++ block ∷ [])
+  pub block_flushes : 1 ≤ combine → block < 2 ^ 32 →
+      AreRuns combine segment (before ++ run ∷ []) offered →
+      AreRuns combine segment (before ++ run ∷ [] ++ one_block block ∷ []) (offered ++ block ∷ [])
   block_flushes room known are =
       let is : IsRun combine (one_block block) = record {
         not_empty = omega arith;
@@ -44,6 +57,9 @@ module _ (combine : ℕ) (before : List Run) (run : Run) (block : ℕ) (offered 
         in_range = omega arith;
       } in record {
         each = All-push (IsRun combine) (before ++ run ∷ []) (one_block block) are.each is;
+        within =
+            All-push (IsWithin segment) (before ++ run ∷ []) (one_block block) are.within
+            (one_within segment block);
         in_order =
             last_blocks (before ++ run ∷ []) (one_block block)
             ∙ ap (λ xs. xs ++ block ∷ []) are.in_order;
@@ -51,9 +67,9 @@ module _ (combine : ℕ) (before : List Run) (run : Run) (block : ℕ) (offered 
 
   -- the block is one more of the last run
   pub block_extends : run.count < combine → run.first + run.count ≡ block → block < 2 ^ 32 →
-      AreRuns combine (before ++ run ∷ []) offered →
-      AreRuns combine (before ++ [] ++ longer run ∷ []) (offered ++ block ∷ [])
-  block_extends room next known are =
+      block % segment ≢ 0 → AreRuns combine segment (before ++ run ∷ []) offered →
+      AreRuns combine segment (before ++ [] ++ longer run ∷ []) (offered ++ block ∷ [])
+  block_extends room next known inside are =
       let is : IsRun combine (longer run) = record {
         not_empty = omega arith;
         combined = omega arith;
@@ -61,8 +77,12 @@ module _ (combine : ℕ) (before : List Run) (run : Run) (block : ℕ) (offered 
       } in
       let others : All (IsRun combine) before =
       (All-pop (IsRun combine) (before ++ run ∷ []) before (Some run) refl are.each).0 in
+      let lie = All-pop (IsWithin segment) (before ++ run ∷ []) before (Some run) refl are.within in
       rw append-nil record {
         each = All-push (IsRun combine) before (longer run) others is;
+        within =
+            All-push (IsWithin segment) before (longer run) lie.0
+            (longer_within segment run block next inside lie.1);
         in_order =
             last_blocks before (longer run)
             ∙ ap (λ xs. flat_map blocks_of before ++ xs) (blocks_of-longer run block next)

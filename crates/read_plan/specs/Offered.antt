@@ -1,5 +1,6 @@
 -- What becomes of the pending run where a block is offered, and where it is taken.
-use Rattle.std.specs.Prelude.{◌≡◌, ◌≢◌, ℕ, ◌+◌, ◌⊎◌, ⊤, List, [], ◌∷◌, ◌++◌, Option, Some, None}
+use Rattle.std.specs.Prelude.{◌≡◌, ◌≢◌, ℕ, ◌+◌, ◌%◌, ◌⊎◌, ⊤, List, [], ◌∷◌, ◌++◌}
+use Rattle.std.specs.Prelude.{Option, Some, None}
 use Rattle.std.specs.Option.{option_to_list}
 use Rattle.read_plan.specs.declared.runs.Run.{Run}
 use Rattle.read_plan.specs.declared.runs.Offer.{Offer}
@@ -8,17 +9,17 @@ use Rattle.read_plan.specs.Plans.{Planned}
 use Rattle.read_plan.specs.Runs.{AreRuns, Continues, one_block}
 
 -- the pending run before and after a block was offered, by the answer: it is flushed only where it
--- has `combine` blocks or the block is not its neighbour (after read_stream_look_ahead of
--- read_stream.c)
-abbrev pub Offers : ℕ → Option Run → ℕ → Offer → Option Run → Type 0
-Offers combine None block Start after = after ≡ Some (one_block block)
-Offers combine None block Extended after = ⊥
-Offers combine None block (Flush flushed) after = ⊥
-Offers combine (Some run) block Start after = ⊥
-Offers combine (Some run) block Extended after =
-    Continues combine run block × (after ≡ Some (record run { count = run.count + 1 }))
-Offers combine (Some run) block (Flush flushed) after =
-    ((run.count ≡ combine) ⊎ (run.first + run.count ≢ block))
+-- has `combine` blocks, the block is not its neighbour or the block is a multiple of the segment
+-- size (after read_stream_look_ahead of read_stream.c)
+abbrev pub Offers : ℕ → ℕ → Option Run → ℕ → Offer → Option Run → Type 0
+Offers combine segment None block Start after = after ≡ Some (one_block block)
+Offers combine segment None block Extended after = ⊥
+Offers combine segment None block (Flush flushed) after = ⊥
+Offers combine segment (Some run) block Start after = ⊥
+Offers combine segment (Some run) block Extended after =
+    Continues combine segment run block × (after ≡ Some (record run { count = run.count + 1 }))
+Offers combine segment (Some run) block (Flush flushed) after =
+    ((run.count ≡ combine) ⊎ (run.first + run.count ≢ block) ⊎ (block % segment ≡ 0))
     × (flushed ≡ run)
     × (after ≡ Some (one_block block))
 
@@ -39,5 +40,6 @@ IfFlush (Flush run) P = P run
 abbrev pub RunsGoOn : Planned → Planned → List ℕ → List Run → Type 0
 RunsGoOn old new added out =
     (before : List Run) (offered : List ℕ)
-    → AreRuns old.combine (before ++ option_to_list old.pending) offered
-    → AreRuns new.combine (before ++ out ++ option_to_list new.pending) (offered ++ added)
+    → AreRuns old.combine old.segment (before ++ option_to_list old.pending) offered
+    → AreRuns new.combine new.segment (before ++ out ++ option_to_list new.pending)
+    (offered ++ added)

@@ -10,6 +10,8 @@ pub record Planned : Type 0 where
   pub max_ios : ℕ
   -- the most blocks ahead: max_pinned_buffers
   pub limit : ℕ
+  -- the blocks of one segment of the relation: RELSEG_SIZE
+  pub segment : ℕ
   -- how many blocks the plan wants ahead now
   pub distance : ℕ
   -- the blocks that were taken from the source and not given yet: pinned_buffers
@@ -20,11 +22,12 @@ pub record Planned : Type 0 where
   pub pending : Option Run
 
 -- a plan before its first block: the distance is 1, or large enough for a whole run at once
-abbrev pub new_plan : ℕ → ℕ → ℕ → Bool → Planned
-new_plan combine max_ios limit full = record {
+abbrev pub new_plan : ℕ → ℕ → ℕ → Bool → ℕ → Planned
+new_plan combine max_ios limit full segment = record {
   combine = combine;
   max_ios = max_ios;
   limit = limit;
+  segment = segment;
   distance = if full then min limit combine else 1;
   blocks_ahead = 0;
   ios_in_progress = 0;
@@ -41,4 +44,5 @@ pub record IsSound (plan : Planned) : Type 0 where
   pub combine : (1 ≤ plan.combine) × (plan.combine ≤ 128)
   pub max_ios : (1 ≤ plan.max_ios) × (plan.max_ios ≤ 64)
   pub limit : plan.limit ≤ 16384
+  pub segment : 1 ≤ plan.segment
   pub distance : (1 ≤ plan.distance) × (plan.distance ≤ plan.limit)

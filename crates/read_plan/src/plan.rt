@@ -4,7 +4,7 @@ ghost use Rattle.std.specs.Prelude.{[], ◌∷◌, None, IsTrue, IfSome};
 ghost use Rattle.std.specs.Option.{option_to_list};
 ghost use Rattle.read_plan.specs.Offered.{Offers, RunsGoOn, IfFlush, flushed};
 ghost use Rattle.read_plan.specs.Plans.{IsSound, MayLookAhead, new_plan};
-ghost use Rattle.read_plan.specs.Runs.{AreRuns, IsRun};
+ghost use Rattle.read_plan.specs.Runs.{AreRuns, IsRun, IsWithin};
 
 use crate::runs::{Offer, Run};
 use std::marker::Model;
@@ -15,6 +15,7 @@ pub struct Plan {
     combine: u32,
     max_ios: u32,
     limit: u32,
+    segment: u32,
     distance: u32,
     blocks_ahead: u32,
     ios_in_progress: u32,
@@ -36,19 +37,22 @@ impl Model for Plan {
 impl Plan {
     /// A plan that combines up to `combine` blocks into a run, keeps up to `max_ios` I/Os in
     /// progress, and looks up to `limit` blocks ahead: at first 1 block, or with `full` as many as
-    /// one run may have (`READ_STREAM_FULL`).
-    pub fn new(combine: u32, max_ios: u32, limit: u32, full: bool) -> Plan
+    /// one run may have (`READ_STREAM_FULL`). No run crosses a multiple of `segment`, the blocks
+    /// of one segment of the relation (`RELSEG_SIZE`).
+    pub fn new(combine: u32, max_ios: u32, limit: u32, full: bool, segment: u32) -> Plan
         requires combine { (1 ≤ combine) × (combine ≤ 128) }
         requires max_ios { (1 ≤ max_ios) × (max_ios ≤ 64) }
         requires limit { (1 ≤ limit) × (limit ≤ 16384) }
-        ensures plan { result ≡ new_plan combine max_ios limit full }
+        requires segment { 1 ≤ segment }
+        ensures plan { result ≡ new_plan combine max_ios limit full segment }
         ensures sound { IsSound result }
-        ensures runs { AreRuns combine (option_to_list result.pending) [] }
+        ensures runs { AreRuns combine segment (option_to_list result.pending) [] }
     {
         Plan {
             combine,
             max_ios,
             limit,
+            segment,
             distance: if full { limit.min(combine) } else { 1 },
             blocks_ahead: 0,
             ios_in_progress: 0,
@@ -58,18 +62,22 @@ impl Plan {
 
     /// Adds the block to the pending run, or begins another one with it.
     pub fn offer(&mut self, block: u32) -> Offer
-        ensures answer { Offers self.old.combine self.old.pending block result self.new.pending }
+        ensures answer { Offers self.old.combine self.old.segment self.old.pending block result
+            self.new.pending }
         ensures rest { self.new ≡ record self.old { pending = self.new.pending } }
         ensures runs { RunsGoOn self.old self.new (block ∷ []) (flushed result) }
 
         ensures flushed { IfFlush result (IsRun self.old.combine) }
         ensures pending { IfSome self.new.pending (IsRun self.old.combine) }
+        ensures within { IfFlush result (IsWithin self.old.segment)
+            × IfSome self.new.pending (IsWithin self.old.segment) }
     {
         let Some(run) = self.pending else {
             self.pending = Some(Run::one(block));
             return Offer::Start;
         };
-        if run.count < self.combine && run.ends_before(block) {
+        let begins_segment = block % self.segment == 0;
+        if run.count < self.combine && run.ends_before(block) && !begins_segment {
             self.pending = Some(Run {
                 first: run.first,
                 count: run.count + 1,
@@ -87,6 +95,7 @@ impl Plan {
         ensures rest { self.new ≡ record self.old { pending = None } }
         ensures runs { RunsGoOn self.old self.new [] (option_to_list result) }
         ensures each { IfSome result (IsRun self.old.combine) }
+        ensures within { IfSome result (IsWithin self.old.segment) }
     {
         self.pending.take()
     }
@@ -95,6 +104,7 @@ impl Plan {
     pub fn pending(&self) -> Option<Run>
         ensures run { result ≡ self.now.pending }
         ensures each { IfSome result (IsRun self.now.combine) }
+        ensures within { IfSome result (IsWithin self.now.segment) }
     {
         self.pending
     }

@@ -113,6 +113,7 @@ queue_then a b d x y = record {
       y.same.settings.2 ∙ x.same.settings.2,
       y.same.settings.3 ∙ x.same.settings.3,
       y.same.settings.4 ∙ x.same.settings.4,
+      y.same.settings.5 ∙ x.same.settings.5,
     );
     queue = y.same.queue ∙ x.same.queue;
     wants = y.same.wants ∙ x.same.wants;
@@ -138,7 +139,7 @@ popped s queue pl e = record {
   same = record {
     scope = refl;
     source_was = refl;
-    settings = (refl, refl, refl, refl, refl);
+    settings = (refl, refl, refl, refl, refl, refl);
     queue = refl;
     wants = refl;
   };
@@ -162,7 +163,7 @@ taken_out s io = record {
   same = record {
     scope = refl;
     source_was = refl;
-    settings = (refl, refl, refl, refl, refl);
+    settings = (refl, refl, refl, refl, refl, refl);
     queue = refl;
     wants = refl;
   };

@@ -16,7 +16,7 @@ use Rattle.read_stream.specs.declared.scope.Scope.{Scope}
 use Rattle.read_stream.specs.declared.stream.ReadStream.{ReadStream}
 use Rattle.read_stream.specs.Answering.{entries_of}
 use Rattle.read_stream.specs.Issued.{Issued, AreFor, IsTakenIn, records_in, made_in}
-use Rattle.read_stream.specs.Open.{AreSettings, IsSameDesk, IsSteady, IsGoing, IsWant, Keeps, Moves}
+use Rattle.read_stream.specs.Open.{IsSameDesk, IsSteady, IsGoing, IsWant, Keeps, Moves}
 use Rattle.read_stream.specs.Open.{Stays, asked_of, block_of, blocks_in, runs_in, pending_in}
 use Rattle.read_stream.specs.Open.{count_some}
 use Rattle.read_stream.specs.Went.{Went}
@@ -78,7 +78,7 @@ keeps_then a b d x y = record {
 
 desk-then : {W S P : Type 0} (a b d : ReadStream W S P) → IsSameDesk a.desk.now b.desk.now
     → IsSameDesk b.desk.now d.desk.now → IsSameDesk a.desk.now d.desk.now
-desk-then a b d x y = (y.0 ∙ x.0, y.1 ∙ x.1, y.2 ∙ x.2, y.3 ∙ x.3, y.4 ∙ x.4)
+desk-then a b d x y = (y.0 ∙ x.0, y.1 ∙ x.1, y.2 ∙ x.2, y.3 ∙ x.3, y.4 ∙ x.4, y.5 ∙ x.5)
 
 pub keeps_same : {W S P : Type 0} (s : ReadStream W S P) → Keeps s s
 keeps_same s = record { desk = refl; scope = refl; source_was = refl }
@@ -86,7 +86,7 @@ keeps_same s = record { desk = refl; scope = refl; source_was = refl }
 pub stays_same : {W S P : Type 0} (s : ReadStream W S P) → Stays s s
 stays_same s = record {
   keeps = keeps_same s;
-  settings = (refl, refl, refl, refl, refl);
+  settings = (refl, refl, refl, refl, refl, refl);
   pin = refl;
   current = refl;
   step = refl;
@@ -96,7 +96,7 @@ stays_same s = record {
 pub moves_same : {W S P : Type 0} (s : ReadStream W S P) → Moves s s
 moves_same s = record {
   keeps = keeps_same s;
-  settings = (refl, refl, refl, refl, refl);
+  settings = (refl, refl, refl, refl, refl, refl);
   source = refl;
   over = refl;
   queue = refl;
@@ -175,10 +175,7 @@ module _ {W S P : Type 0} (left : S → List (ℕ × P)) (told : Option Told)
         ap (λ z. length (left z.value)) e.source_was in
         record {
           place = let z = u.place in omega arith;
-          settings = subst (λ (z : ℕ). AreSettings z n.desk.now.ios n.desk.now.limit) (sym d.0)
-              (subst (λ (z : ℕ). AreSettings s.desk.now.combine z n.desk.now.limit) (sym d.1)
-              (subst (λ (z : ℕ). AreSettings s.desk.now.combine s.desk.now.ios z) (sym d.2)
-              u.settings));
+          settings = rw (d.0, d.1, d.2, d.5) u.settings;
           scope = (
             room ∙ (u.scope.0 ∙ sym d.0),
             (let z = u.scope.1 in let y = d.1 in omega arith),

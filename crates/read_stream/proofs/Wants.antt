@@ -75,19 +75,20 @@ handed_out offer.Extended = []
 handed_out (offer.Flush run) = blocks_of run
 
 -- the pending run and the block that was offered are what is handed out and what is pending
-pub offered : (combine block : ℕ) (a b : Option Run) (o : Offer) → Offers combine a block o b
+pub offered : (combine segment block : ℕ) (a b : Option Run) (o : Offer)
+    → Offers combine segment a block o b
     → pending_in a ++ block ∷ [] ≡ handed_out o ++ (pending_in b ++ [])
-offered combine block None b offer.Start is =
+offered combine segment block None b offer.Start is =
     sym (ap (λ (z : Option Run). pending_in z ++ []) is)
-offered combine block None b offer.Extended is = absurd is
-offered combine block None b (offer.Flush out) is = absurd is
-offered combine block (Some run) b offer.Start is = absurd is
-offered combine block (Some run) b offer.Extended is =
+offered combine segment block None b offer.Extended is = absurd is
+offered combine segment block None b (offer.Flush out) is = absurd is
+offered combine segment block (Some run) b offer.Start is = absurd is
+offered combine segment block (Some run) b offer.Extended is =
     subst (λ (z : ℕ). blocks_of run ++ z ∷ []
     ≡ pending_in (Some (record run { count = run.count + 1 })) ++ []) is.0.neighbour
     (sym (range-more run.first run.count) ∙ sym (append-nil _))
     ∙ sym (ap (λ (z : Option Run). pending_in z ++ []) is.1)
-offered combine block (Some run) b (offer.Flush out) is =
+offered combine segment block (Some run) b (offer.Flush out) is =
     ap (λ (z : Run). blocks_of z ++ block ∷ []) (sym is.1)
     ∙ ap (λ (z : Option Run). blocks_of out ++ (pending_in z ++ [])) (sym is.2)
 

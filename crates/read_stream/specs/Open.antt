@@ -32,14 +32,15 @@ use Rattle.read_stream.specs.Issued.{Issued, AreFor, IsTakenIn, IsReady, records
 use Rattle.read_stream.specs.Parts.{Has, IsPart}
 
 -- the settings of a desk are in their ranges
-pub record AreSettings (combine ios limit : ℕ) : Type 0 where
+pub record AreSettings (combine ios limit segment : ℕ) : Type 0 where
   pub combine_in : (1 ≤ combine) × (combine ≤ 128)
   pub ios_in : (1 ≤ ios) × (ios ≤ 64)
   pub limit_in : (1 ≤ limit) × (limit ≤ 16384)
+  pub segment_in : 1 ≤ segment
 
 -- all its records are free, and it holds nothing of a stream
 pub record IsFree {W P : Type 0} (d : Desk W P) : Type 0 where
-  pub settings : AreSettings d.combine d.ios d.limit
+  pub settings : AreSettings d.combine d.ios d.limit d.segment
   pub ready : IsReady d.combine (d.ios + 1) d.reads
   pub queue : d.queue.items ≡ []
   pub wants : d.wants.items ≡ []
@@ -49,7 +50,7 @@ pub record IsFree {W P : Type 0} (d : Desk W P) : Type 0 where
 -- the same settings
 abbrev pub IsSameDesk : {W P : Type 0} → Desk W P → Desk W P → Type 0
 IsSameDesk d e = (e.combine ≡ d.combine) × (e.ios ≡ d.ios) × (e.limit ≡ d.limit)
-    × (e.full ≡ d.full) × (e.batched ≡ d.batched)
+    × (e.full ≡ d.full) × (e.batched ≡ d.batched) × (e.segment ≡ d.segment)
 
 -- a started run is one, and the reference of a join is in range
 abbrev pub IsWant : ℕ → ℕ → Want → Type 0
@@ -181,6 +182,7 @@ module _ {W S P : Type 0} (left : S → List (ℕ × P)) (told : Option Told)
   pub record IsSteady (p : Known) (s : ReadStream W S P) : Type 0 where
     pub place : s.scope.relation < relations
     pub settings : AreSettings s.desk.now.combine s.desk.now.ios s.desk.now.limit
+        s.desk.now.segment
     pub scope : (s.scope.combine ≡ s.desk.now.combine) × (s.scope.total ≡ s.desk.now.ios + 1)
     pub queue : s.desk.now.limit ≤ s.desk.now.queue.capacity
     pub wants : s.desk.now.limit ≤ s.desk.now.wants.capacity

@@ -30,6 +30,8 @@ pub struct Settings {
     pub full: bool,
     /// Whether I/Os are submitted together.
     pub batch: bool,
+    /// The segment size in blocks (`RELSEG_SIZE`), at least 1: no read crosses a multiple of it.
+    pub segment: u32,
 }
 
 /// The memory of one stream after the other: records, the queue and the batch.
@@ -40,6 +42,7 @@ pub struct Desk<W: World, P: Copy> {
     pub(crate) limit: u32,
     pub(crate) full: bool,
     pub(crate) batched: bool,
+    pub(crate) segment: u32,
     // The blocks that were taken from the source and not given.
     pub(crate) queue: HeapCircularBuffer<Asked<P>>,
     // How they are to be had, but for those at hand and those of the pending run.
@@ -51,11 +54,13 @@ impl<W: World, P: Copy> Desk<W, P> {
     /// A desk for streams with these settings. It takes all the memory that its streams need: one
     /// record more than there may be I/Os under way, for a block that has left the pool again.
     pub fn open(alloc: Global, settings: &Settings) -> Result<Desk<W, P>, AllocError>
-        requires settings { AreSettings settings.now.combine settings.now.ios settings.now.limit }
+        requires settings { AreSettings settings.now.combine settings.now.ios settings.now.limit
+            settings.now.segment }
         ensures free { IfOk result IsFree }
         ensures settings { IfOk result (λ d. (d.combine ≡ settings.now.combine)
             × (d.ios ≡ settings.now.ios) × (d.limit ≡ settings.now.limit)
-            × (d.full ≡ settings.now.full) × (d.batched ≡ settings.now.batch)) }
+            × (d.full ≡ settings.now.full) × (d.batched ≡ settings.now.batch)
+            × (d.segment ≡ settings.now.segment)) }
     {
         Ok(Desk {
             combine: settings.combine,
@@ -63,6 +68,7 @@ impl<W: World, P: Copy> Desk<W, P> {
             limit: settings.limit,
             full: settings.full,
             batched: settings.batch,
+            segment: settings.segment,
             queue: HeapCircularBuffer::with_capacity(alloc, settings.limit as usize)?,
             wants: HeapCircularBuffer::with_capacity(alloc, settings.limit as usize)?,
             reads: Reads::make(alloc, settings.ios + 1, settings.combine)?,
@@ -94,7 +100,8 @@ impl<W: World, P: Copy> Desk<W, P> {
         requires table { IsOf table.now actor.old }
         requires scope { IsOf table.now scope.now.was.value }
         requires told { (E.told runner.old ≡ W.told) × (E.relations runner.old ≡ W.relations) }
-        requires settings { AreSettings self.old.combine self.old.ios self.old.limit }
+        requires settings { AreSettings self.old.combine self.old.ios self.old.limit
+            self.old.segment }
         requires desk { (scope.now.combine ≡ self.old.combine)
             × (scope.now.total ≡ self.old.ios + 1) × (self.old.limit ≤ self.old.queue.capacity)
             × (self.old.limit ≤ self.old.wants.capacity) }

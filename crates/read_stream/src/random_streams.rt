@@ -29,13 +29,27 @@ impl Numbers {
         self.below(2) == 1
     }
 
-    fn settings(&mut self) -> Settings {
+    /// The segment size that PostgreSQL has by default, or a small one.
+    fn segment(&mut self) -> u32
+        ensures { 1 ≤ result }
+    {
+        if self.flag() {
+            131072
+        } else {
+            1 + self.below(6)
+        }
+    }
+
+    fn settings(&mut self) -> Settings
+        ensures { 1 ≤ result.segment }
+    {
         Settings {
             combine: 1 + self.below(5),
             ios: 1 + self.below(3),
             limit: 1 + self.below(32),
             full: self.flag(),
             batch: self.flag(),
+            segment: self.segment(),
         }
     }
 
@@ -134,6 +148,18 @@ fn agree(all: &[Answer], slow: &[Answer], list: &[(u32, u32)], may_fail: bool) -
     all.len() == slow.len()
 }
 
+/// Whether a read, of so many blocks from its first on, crosses a multiple of the segment size.
+fn crosses(log: &[(u32, u32)], segment: u32) -> bool
+    requires { 1 ≤ segment }
+{
+    for (first, asked) in log {
+        if u64::from(first % segment) + u64::from(*asked) > u64::from(segment) {
+            return true;
+        }
+    }
+    false
+}
+
 /// Five hundred random streams, and how many of them a failed read stopped.
 fn compare<R: Abort + AllocGlobal + Wait>(rt: &R, seed: u64) -> Result<u32, Fail> {
     let alloc = rt.alloc();
@@ -170,6 +196,10 @@ fn compare<R: Abort + AllocGlobal + Wait>(rt: &R, seed: u64) -> Result<u32, Fail
         assert!(rt;
             agree(all, slow, copy.as_slice(), may_fail),
             "seed {seed}, round {round}"
+        );
+        assert!(rt;
+            !crosses(ran.log.as_slice(), plan.settings.segment),
+            "seed {seed}, round {round}: a read of two segments"
         );
         if all != slow {
             stopped = stopped.saturating_add(1);

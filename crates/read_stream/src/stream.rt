@@ -86,7 +86,7 @@ impl<'d, 'p, W: World, S: BlockSource<P> + Drop, P: Copy> ReadStream<'d, 'p, W, 
             most: actor.room(),
             was: Snapshot::of(actor),
         };
-        let plan = Plan::new(desk.combine, desk.ios, desk.limit, desk.full);
+        let plan = Plan::new(desk.combine, desk.ios, desk.limit, desk.full, desk.segment);
         desk.begin();
         ReadStream {
             desk,

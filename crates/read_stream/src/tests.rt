@@ -127,6 +127,33 @@ fn runs_grow_with_the_distance(rt: HostRuntime) -> Result<(), Fail> {
 }
 
 #[test]
+fn no_read_crosses_a_multiple_of_the_segment_size(rt: HostRuntime) -> Result<(), Fail> {
+    let alloc = rt.alloc();
+    let files = file_of(alloc, 10, None)?;
+    let settings = Settings {
+        ios: 1,
+        full: true,
+        segment: 4,
+        ..USUAL
+    };
+    let ran = run(
+        &rt,
+        whole(alloc, files),
+        &usual(settings, 11),
+        blocks(alloc, 0, 10)?,
+    )?;
+    assert_eq!(&rt;
+        ran.all.as_slice(),
+        wanted(alloc, 0, 10, Answer::End, 1)?.as_slice()
+    );
+    assert_eq!(&rt;
+        ran.log.as_slice(),
+        [(0u32, 4u32), (4, 4), (8, 2)].as_slice()
+    );
+    Ok(())
+}
+
+#[test]
 fn sixty_four_blocks_are_eight_runs(rt: HostRuntime) -> Result<(), Fail> {
     let alloc = rt.alloc();
     let files = file_of(alloc, 64, None)?;
@@ -380,6 +407,7 @@ fn batch_of_more_than_thirty_two(rt: HostRuntime) -> Result<(), Fail> {
         limit: 128,
         full: false,
         batch: true,
+        segment: 131072,
     };
     let plan = Plan {
         handles: 64,

@@ -73,6 +73,7 @@ fn is_in_range(plan: &Plan) -> bool
     ensures ios { IsTrue result → (1 ≤ plan.now.settings.ios) × (plan.now.settings.ios ≤ 64) }
     ensures limit { IsTrue result → (1 ≤ plan.now.settings.limit)
         × (plan.now.settings.limit ≤ 16384) }
+    ensures segment { IsTrue result → 1 ≤ plan.now.settings.segment }
 {
     let Plan {
         handles,
@@ -83,7 +84,7 @@ fn is_in_range(plan: &Plan) -> bool
     } = *plan;
     let memory = 1 <= handles && handles <= 64 && 16 <= frames && frames <= 16384;
     let reads = 1 <= settings.combine && settings.combine <= 128;
-    let ahead = 1 <= settings.limit && settings.limit <= 16384;
+    let ahead = 1 <= settings.limit && settings.limit <= 16384 && 1 <= settings.segment;
     memory && reads && ahead && 1 <= settings.ios && settings.ios <= 64
 }
 
@@ -93,6 +94,7 @@ pub(crate) const USUAL: Settings = Settings {
     limit: 64,
     full: false,
     batch: false,
+    segment: 131072,
 };
 
 pub(crate) fn usual(settings: Settings, calls: u32) -> Plan {
@@ -145,7 +147,8 @@ fn answers<W: World, E: Execute<ReadIo, W>, T: Wait>(
 ) -> Result<(Vec<Answer>, u64), AllocError>
     requires table { IsOf table.now actor.old }
     requires told { (E.told runner.old ≡ W.told) × (E.relations runner.old ≡ W.relations) }
-    requires settings { AreSettings settings.now.combine settings.now.ios settings.now.limit }
+    requires settings { AreSettings settings.now.combine settings.now.ios settings.now.limit
+        settings.now.segment }
     requires backend { actor.old.known.number < table.now.config.backends }
     requires rest { IsAtRest actor.old.known }
     requires some { 0 < W.relations }
@@ -213,7 +216,7 @@ fn two_streams<W: World, E: Execute<ReadIo, W>, T: Wait>(
     requires table { IsOf table.now actor.old }
     requires told { (E.told runner.old ≡ W.told) × (E.relations runner.old ≡ W.relations) }
     requires settings { AreSettings plan.now.settings.combine plan.now.settings.ios
-        plan.now.settings.limit }
+        plan.now.settings.limit plan.now.settings.segment }
     requires backend { actor.old.known.number < table.now.config.backends }
     requires rest { IsAtRest actor.old.known }
     requires some { 0 < W.relations }
@@ -242,7 +245,7 @@ fn read_all<W: World, D: Disk, T: Wait>(
     requires handles_in { (1 ≤ plan.now.handles) × (plan.now.handles ≤ 64) }
     requires frames { (16 ≤ plan.now.frames) × (plan.now.frames ≤ 16384) }
     requires settings { AreSettings plan.now.settings.combine plan.now.settings.ios
-        plan.now.settings.limit }
+        plan.now.settings.limit plan.now.settings.segment }
     requires handles { W.handles ≡ 2 * plan.now.handles }
     requires told { (D.told disk ≡ W.told) × (D.relations disk ≡ W.relations) }
     requires some { 0 < W.relations }

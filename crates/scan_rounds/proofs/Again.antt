@@ -86,14 +86,16 @@ module _ {W D : Type 0} (m : Meter D) (told : Option Told) (relations : ℕ) (t 
   joined_at [] [] ks ks' one two first second i d lt = second i d lt
   joined_at (h ∷ hs) (h' ∷ hs') ks ks' one two first second zero d lt = first 0 d (omega arith)
   joined_at (h ∷ hs) (h' ∷ hs') ks ks' one two first second (suc i) d lt =
-      joined_at hs hs' ks ks' (omega arith) two (λ j e below. first (suc j) e (omega arith)) second i d
+      joined_at hs hs' ks ks' (omega arith) two (λ j e below. first (suc j) e (omega arith)) second
+      i d
       (omega arith)
   joined_at [] (h' ∷ hs') ks ks' one two first second i d lt = absurd (omega arith)
   joined_at (h ∷ hs) [] ks ks' one two first second i d lt = absurd (omega arith)
 
   paid_on : (o : D) (h k : Hand W D) → HasPaid m o h → GoesOn m told relations t h k → HasPaid m o k
   paid_on o h k paid goes =
-      let same : paid.disk ≡ goes.before = some_same h.disk paid.disk goes.before paid.held goes.had in
+      let same : paid.disk ≡ goes.before =
+      some_same h.disk paid.disk goes.before paid.held goes.had in
       let on : Pays (m.reads paid.disk) (m.reads goes.after) (m.faults paid.disk)
       (m.faults goes.after) goes.more =
       subst (λ (d : D). Pays (m.reads d) (m.reads goes.after) (m.faults d) (m.faults goes.after)

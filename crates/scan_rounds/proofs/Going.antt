@@ -1,12 +1,14 @@
 -- Rounds, and then further ones.
-use Rattle.std.proofs.Common.{◌≡◌, ℕ, zero, suc, ◌+◌, ◌-◌, ◌^◌, ◌<◌, ◌≤◌, List, [], ◌∷◌, ◌++◌, length, map, take, sum_by}
+use Rattle.std.proofs.Common.{◌≡◌, ℕ, zero, suc, ◌+◌, ◌-◌, ◌^◌, ◌<◌, ◌≤◌, List, [], ◌∷◌, ◌++◌}
+use Rattle.std.proofs.Common.{length, map, take, sum_by}
 use Rattle.std.proofs.Common.{min, max, refl, sym, ap, ◌∙◌, subst, arith, append-nil, append_assoc}
 use Rattle.std.specs.Prelude.{Option, Some, IfSome, slice_index_or, slice_set, ⊤}
 use Rattle.std.proofs.lemmas.List.Sums.{sum_by-cons}
 use Rattle.page_check.specs.SynchronousAnswer.{Entry, Reader, reader_of}
 use Rattle.std.specs.List.{All}
 use Rattle.std.proofs.lemmas.List.{length-map}
-use Rattle.std.proofs.Math.Nat.{min-le_left, min-le_right, min-eq_left, min-eq_right, max-eq_left, max-eq_right}
+use Rattle.std.proofs.Math.Nat.{min-le_left, min-le_right, min-eq_left, min-eq_right, max-eq_left}
+use Rattle.std.proofs.Math.Nat.{max-eq_right}
 use mathlib.Core.Logic.{dite}
 use native.Mathlib.Decide.{dec_le}
 use Rattle.page_check.specs.Told.{Told}
@@ -217,7 +219,8 @@ anyway found may j k is = record {
       (λ e may. tt) is.answer;
 }
 
-pub answered_by : {W D : Type 0} (told : Option Told) (bs cs : List (Backend W D)) (js ks : List Job)
+pub answered_by : {W D : Type 0} (told : Option Told) (bs cs : List (Backend W D))
+    (js ks : List Job)
     → 1 ≤ length bs → AreListed told bs cs js ks → AreAnswered (reader_of told) js ks
 answered_by told (b ∷ bs) cs js ks some is = record {
   as_many = is.jobs_are;

@@ -185,7 +185,8 @@ module _ {W D : Type 0} where
       greatest = λ n rooms.
           (let first : 0 < length bs = omega (arith, any) in
           let b = one_there bs 0 first in
-          most_of_new t 0 n _ (backend_actor 0 b first) (omega (arith, first, few)) (rooms 0 b first));
+          most_of_new t 0 n _ (backend_actor 0 b first) (omega (arith, first, few))
+          (rooms 0 b first));
     }
 
     pub none_taken : taken_by bs ≡ 0

@@ -1,5 +1,6 @@
 -- What one round did to each backend and to each job.
-use Rattle.std.proofs.Common.{◌≡◌, ◌≢◌, ℕ, zero, suc, ◌+◌, ◌-◌, ◌^◌, ◌<◌, ◌≤◌, Bool, true, false, List, []}
+use Rattle.std.proofs.Common.{◌≡◌, ◌≢◌, ℕ, zero, suc, ◌+◌, ◌-◌, ◌^◌, ◌<◌, ◌≤◌, Bool, true, false}
+use Rattle.std.proofs.Common.{List, []}
 use Rattle.std.proofs.Common.{◌∷◌, length, map, sum_by, min, refl, sym}
 use Rattle.std.proofs.Common.{ap, ◌∙◌, subst, arith, cond}
 use Rattle.std.specs.Prelude.{slice_index_or, Option}
@@ -35,7 +36,8 @@ pub raised_within : (count more before results after : ℕ) → count ≡ raised
 raised_within count more before results after is le sum =
     let m = min-le_left (before + more) (2 ^ 64 - 1) in
     let most : raised_by more before ≤ before + more =
-    max-le {a = before} {b = min (before + more) (2 ^ 64 - 1)} {k = before + more} (omega arith) m in
+    max-le {a = before} {b = min (before + more) (2 ^ 64 - 1)} {k = before + more} (omega arith) m
+    in
     omega arith
 
 -- sums over two lists, and over a list that may be shorter
@@ -170,7 +172,8 @@ module _ {W D : Type 0} (m : Meter D) (told : Option Told) (relations : ℕ) (t 
         (λ behind.
         subst (λ (x : Backend W D). IsReady m told relations t q x)
         (sym (swapped.others i d behind inside))
-        (ready_one room (slice_index_or bs i d) (slice_index_or bs i d).job enough (rooms i d inside)
+        (ready_one room (slice_index_or bs i d) (slice_index_or bs i d).job enough
+        (rooms i d inside)
         (backends i d inside) (λ some. absurd (some (idle i d inside)))))
         (λ front.
         let has : i < length js = omega arith in
@@ -257,7 +260,8 @@ module _ {W D : Type 0} (m : Meter D) (told : Option Told) (relations : ℕ) (t 
           goes_mapped : (i : ℕ) (d : Hand W D) → i < length bs
               → GoesOn m told relations t (slice_index_or (map hand_of bs) i d)
               (slice_index_or (map hand_of fs) i d)
-          goes_mapped i d inside = goes_at m told relations t bs fs i d inside (omega (arith, same_length))
+          goes_mapped i d inside = goes_at m told relations t bs fs i d inside
+              (omega (arith, same_length))
               (λ e. goes_after i e inside)
 
       pub taken_after : taken_by fs ≤ taken_by bs + blocks_among js

@@ -37,7 +37,8 @@ module _ {W D : Type 0} where
     jobs_behind = λ i j le. refl;
   }
 
-  pub one_swapped : (k : ℕ) (bs cs : List (Backend W D)) (js ks : List Job) (b v : Backend W D) (x y : Job)
+  pub one_swapped : (k : ℕ) (bs cs : List (Backend W D)) (js ks : List Job) (b v : Backend W D)
+      (x y : Job)
       → HalfSwapped k bs cs js ks → k < length js → length js ≤ length bs
       → v ≡ with_job (slice_index_or cs k b) x → x ≡ slice_index_or ks k x
       → y ≡ (slice_index_or cs k b).job
@@ -85,7 +86,8 @@ module _ {W D : Type 0} where
         get_or-set_same ks k y j in_jobs ∙ (to ∙ ap (λ (c : Backend W D). c.job) (was d)),
       )
 
-  pub all_swapped : (k : ℕ) (bs cs : List (Backend W D)) (js ks : List Job) → HalfSwapped k bs cs js ks
+  pub all_swapped : (k : ℕ) (bs cs : List (Backend W D)) (js ks : List Job)
+      → HalfSwapped k bs cs js ks
       → length js ≤ k → Swapped bs cs js ks
   all_swapped k bs cs js ks h all = record {
     backends_are = h.backends_are;

@@ -42,6 +42,7 @@ pub record AreSettings (s : ScanSettings) : Type 0 where
   pub concurrency_in_range : (1 ≤ s.concurrency) × (s.concurrency ≤ 256)
   pub handles_in_range : (1 ≤ s.handles) × (s.handles ≤ 64)
   pub buffers_in_range : (16 ≤ s.buffers) × (s.buffers ≤ 16384)
+  pub segment_in_range : 1 ≤ s.segment
 
 -- the table of a scan, whose handles begin at this generation
 abbrev pub config_of : ScanSettings → ℕ → Config
@@ -60,6 +61,7 @@ pub record AreStreamsOf (s : ScanSettings) (r : Settings) : Type 0 where
   pub limit : r.limit ≡ max 1 (min (r.ios * s.combine) (s.buffers / s.backends))
   pub full : r.full ≡ s.full
   pub batch : r.batch ≡ s.batch
+  pub segment : r.segment ≡ s.segment
 
 -- whether there are workers by a method
 abbrev pub has_workers : MethodKind → Bool
@@ -75,6 +77,7 @@ reads_by d =
       limit = d.limit;
       full = d.full;
       batch = d.batched;
+      segment = d.segment;
     }
 
 -- a desk for the streams of a scan

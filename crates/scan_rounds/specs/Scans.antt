@@ -1,5 +1,6 @@
 -- A scan between its rounds, and what its end tells.
-use Rattle.std.specs.Prelude.{◌≡◌, ℕ, ◌+◌, ◌<◌, ◌≤◌, ◌++◌, List, [], length, map, sum_by, Option, Some}
+use Rattle.std.specs.Prelude.{◌≡◌, ℕ, ◌+◌, ◌<◌, ◌≤◌, ◌++◌, List, [], length, map, sum_by, Option}
+use Rattle.std.specs.Prelude.{Some}
 use Rattle.std.specs.Prelude.{vec_capacity, slice_index_or, is_some, true, min, ◌^◌, ◌-◌}
 use Rattle.std.specs.List.{All}
 use Rattle.page_check.specs.Told.{Told}

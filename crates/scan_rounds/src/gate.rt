@@ -1,5 +1,5 @@
 //! Disks of which one is held up until another reads.
-ghost use Rattle.std.specs.Prelude.{None};
+ghost use Rattle.std.specs.Prelude.{None, false};
 
 use crate::tests::check_job;
 use crate::trials::{EMPTY_PAGE, USUAL, scan_over};
@@ -48,11 +48,17 @@ impl Disk for GateDisk {
 
     ghost told = { λ d. None };
 
+    ghost segment = { λ d. 131072 };
+
     ghost faults = { λ d. d.faults };
 
     ghost length_faults = { λ d. 0 };
 
     ghost reads = { λ d. d.reads };
+
+    fn segment(&self) -> u32 {
+        131072
+    }
 
     fn blocks(&mut self, _relation: u32) -> Result<u32, DeviceFault> {
         Ok(4)
@@ -87,6 +93,10 @@ impl Shelf for GateShelf {
     type Disk = GateDisk;
 
     ghost told = { λ s. None };
+
+    ghost segment = { λ s. 131072 };
+
+    ghost surely_opens = { λ s names. false };
 
     ghost counts = { λ s. record {
       open_faults = s.open_faults;

@@ -56,6 +56,7 @@ fn stream_settings(settings: &ScanSettings) -> Settings
         limit: share.min(ios * settings.combine).max(1),
         full: settings.full,
         batch: settings.batch,
+        segment: settings.segment,
     }
 }
 

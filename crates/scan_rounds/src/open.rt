@@ -174,6 +174,7 @@ impl<W: World, D: Disk> Scan<W, D> {
         requires settings { AreSettings settings.now }
         requires disks { length disks.items ≡ settings.now.backends + workers_in settings.now }
         requires tell { All (λ d. (D.told d ≡ W.told) × (D.relations d ≡ W.relations)) disks.items }
+        requires segments { All (λ d. D.segment d ≡ settings.now.segment) disks.items }
         requires handles { settings.now.backends * settings.now.handles ≡ W.handles }
         ensures scan { IfOk result (λ s. IsScan (meter D.told D.relations D.reads D.faults) W.told
             W.relations s) }
@@ -202,6 +203,7 @@ impl<W: World, D: Disk> Scan<W, D> {
         requires settings { AreSettings settings.now }
         requires disks { length disks.items ≡ settings.now.backends + workers_in settings.now }
         requires tell { All (λ d. (D.told d ≡ W.told) × (D.relations d ≡ W.relations)) disks.items }
+        requires segments { All (λ d. D.segment d ≡ settings.now.segment) disks.items }
         requires handles { settings.now.backends * settings.now.handles ≡ W.handles }
         requires start { start < 2 ^ 58 }
         ensures scan { IfOk result (λ s. IsScan (meter D.told D.relations D.reads D.faults) W.told

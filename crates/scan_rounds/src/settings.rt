@@ -29,4 +29,6 @@ pub struct ScanSettings {
     pub batch: bool,
     /// Whether streams look far ahead from the first block on (`READ_STREAM_FULL`).
     pub full: bool,
+    /// The segment size in blocks (`RELSEG_SIZE`), at least 1: no read crosses a multiple of it.
+    pub segment: u32,
 }

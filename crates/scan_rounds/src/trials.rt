@@ -33,6 +33,7 @@ pub(crate) const USUAL: ScanSettings = ScanSettings {
     buffers: 128,
     batch: false,
     full: false,
+    segment: 131072,
 };
 
 /// Some blocks of relation 0: the first, and how many.
@@ -79,11 +80,12 @@ fn is_in_range(settings: &ScanSettings) -> bool
         buffers,
         batch: _,
         full: _,
+        segment,
     } = *settings;
     let actors = 1 <= workers && workers <= 32 && 1 <= backends && backends <= 16;
     let reads = 1 <= combine && combine <= 128 && 1 <= concurrency && concurrency <= 256;
     let memory = 1 <= handles && handles <= 64 && 16 <= buffers && buffers <= 16384;
-    actors && reads && memory
+    actors && reads && memory && 1 <= segment
 }
 
 // How many disks a scan has.
@@ -109,6 +111,8 @@ fn open_disks<S: Shelf>(
     ensures tell { IfOk result (λ disks. All (λ d.
         (S.Disk.told d ≡ told_of (S.told shelf.old) (map string_bytes names.now))
         × (S.Disk.relations d ≡ length names.now)) disks.items) }
+    ensures segments { IfOk result (λ disks.
+        All (λ d. S.Disk.segment d ≡ S.segment shelf.old) disks.items) }
 {
     let mut disks = Vec::new(alloc);
     for _ in 0..count {
@@ -244,6 +248,7 @@ fn open_scan<W: World, D: Disk>(
     requires settings { AreSettings settings.now }
     requires disks { length disks.items ≡ settings.now.backends + workers_in settings.now }
     requires tell { All (λ d. (D.told d ≡ W.told) × (D.relations d ≡ W.relations)) disks.items }
+    requires segments { All (λ d. D.segment d ≡ settings.now.segment) disks.items }
     requires handles { settings.now.backends * settings.now.handles ≡ W.handles }
     requires start { IfSome start (λ s. s < 2 ^ 58) }
     ensures { IfOk result (λ s. IsScan (meter D.told D.relations D.reads D.faults) W.told
@@ -277,7 +282,11 @@ fn scan_shelf<W: World + Send + Sync, S: Shelf, R: Threads + Wait + Sync>(
     requires start { IfSome start (λ s. s < 2 ^ 58) }
 {
     let disks = open_disks(alloc, shelf, names, disk_count(settings))?;
-    let mut scan = open_scan::<W, S::Disk>(alloc, settings, disks, start)?;
+    let settings = ScanSettings {
+        segment: disks[0].segment(),
+        ..*settings
+    };
+    let mut scan = open_scan::<W, S::Disk>(alloc, &settings, disks, start)?;
     let before = scan.room();
     let mut jobs = Vec::new(alloc);
     let listed = list_rounds(rt, alloc, &mut scan, parts, rounds, &mut jobs);

@@ -1,8 +1,9 @@
 //! Reads of a source that comes in parts, is interrupted and fails.
-ghost use Rattle.std.specs.Prelude.{◌-◌, Some};
+ghost use Rattle.std.specs.Prelude.{◌-◌, ◌<◌, ◌≤◌, Some, None, length};
 
-use super::{ByteSource, RUN, ReadFault, count_blocks, read_blocks};
+use super::{ByteSource, RUN, ReadFault, count_blocks, is_full, read_blocks};
 use crate::DeviceFault;
+use crate::source_relation::{count_relation, read_relation};
 use page_check::{PAGE_SIZE, Page};
 use std::alloc::{AllocError, Global};
 use std::process::Abort;
@@ -47,11 +48,11 @@ impl ByteSource for Parts {
     }
 }
 
-// So many blocks, each filled with a byte of its own from 1 on, and then a part of one.
-fn parts_of(alloc: Global, blocks: u8, most: usize) -> Result<Parts, AllocError> {
+// So many blocks, each filled with a byte of its own from `byte` on, and then a part of one.
+fn parts_of(alloc: Global, byte: u8, blocks: u8, most: usize) -> Result<Parts, AllocError> {
     let mut bytes = Vec::new(alloc);
     for block in 0..blocks {
-        bytes.extend_from_slice(&[block.wrapping_add(1); PAGE_SIZE])?;
+        bytes.extend_from_slice(&[byte.wrapping_add(block); PAGE_SIZE])?;
     }
     bytes.extend_from_slice(b"part of a block")?;
     Ok(Parts {
@@ -77,6 +78,7 @@ fn read<R: Abort + AllocGlobal>(
     }
     let mut buffer = vec![in alloc; 0u8; RUN * PAGE_SIZE]?;
     assert!(rt; 0 < pages.len());
+    assert!(rt; first as usize + pages.len() < 4294967296);
     let Ok(given) = read_blocks(parts, first, buffer.as_mut_slice(), pages.as_mut_slice()) else {
         return Ok(None);
     };
@@ -91,7 +93,7 @@ fn read<R: Abort + AllocGlobal>(
 // Each call gives less than a block, and the first three are interrupted.
 #[test]
 fn short_and_interrupted_reads_are_taken_up(rt: HostRuntime) -> Result<(), Fail> {
-    let mut parts = parts_of(rt.alloc(), 3, 5000)?;
+    let mut parts = parts_of(rt.alloc(), 1, 3, 5000)?;
     parts.interrupts_left = 3;
     assert_eq!(rt; count_blocks(&mut parts).ok(), Some(3));
     for (first, count, wanted) in [(0, 1, Some((1, 1))), (1, 3, Some((2, 2))), (3, 2, None)] {
@@ -105,7 +107,7 @@ fn short_and_interrupted_reads_are_taken_up(rt: HostRuntime) -> Result<(), Fail>
 // The read of block 16 fails twice: behind 16 blocks that is no fault, but before any it is.
 #[test]
 fn a_fault_behind_a_run_cuts_the_read(rt: HostRuntime) -> Result<(), Fail> {
-    let mut parts = parts_of(rt.alloc(), 20, 200000)?;
+    let mut parts = parts_of(rt.alloc(), 1, 20, 200000)?;
     parts.fail_from = 16 * PAGE_SIZE as u64;
     parts.faults_left = 2;
     let front = read(&rt, &mut parts, 0, 20)?.ok_or("a fault")?;
@@ -118,5 +120,133 @@ fn a_fault_behind_a_run_cuts_the_read(rt: HostRuntime) -> Result<(), Fail> {
         back.as_slice(),
         [(17, 17), (18, 18), (19, 19), (20, 20)].as_slice()
     );
+    Ok(())
+}
+
+// Parts that do not tell their bytes.
+#[derive(Drop)]
+struct Untold {
+    parts: Parts,
+}
+
+impl ByteSource for Untold {
+    ghost told = { λ _. None };
+
+    fn size(&mut self) -> Result<u64, DeviceFault> {
+        self.parts.size()
+    }
+
+    fn read_at(&mut self, bytes: &mut [u8], offset: u64) -> Result<usize, ReadFault> {
+        self.parts.read_at(bytes, offset)
+    }
+}
+
+// Segments of so many blocks each. Each block of the relation is filled with a byte of its own
+// from 1 on.
+fn segments_of(alloc: Global, counts: &[u8]) -> Result<Vec<Untold>, AllocError> {
+    let mut segments = Vec::new(alloc);
+    let mut byte = 1u8;
+    for count in counts {
+        let parts = parts_of(alloc, byte, *count, 200000)?;
+        segments.push(Untold { parts })?;
+        byte = byte.wrapping_add(*count);
+    }
+    Ok(segments)
+}
+
+// How many blocks a relation of segments of 4 blocks has.
+fn count_of(segments: &mut [Untold]) -> Option<u32>
+    requires { 0 < length segments.old }
+{
+    count_relation(segments, 4).ok()
+}
+
+// Reads pages of it, and says how many.
+fn read_of(
+    segments: &mut [Untold],
+    first: u32,
+    buffer: &mut [u8],
+    pages: &mut [Page],
+) -> Option<usize>
+    requires segments { 0 < length segments.old }
+    requires some { 0 < length pages.old }
+    requires room { 131072 ≤ length buffer.old }
+{
+    read_relation(segments, 4, first, buffer, pages).ok()
+}
+
+// Reads 16 pages of it, and says what each that was read begins with.
+fn read_16<R: Abort + AllocGlobal>(
+    rt: &R,
+    segments: &mut [Untold],
+    first: u32,
+) -> Result<Option<Vec<u8>>, Fail> {
+    let alloc = rt.alloc();
+    let mut pages = Vec::new(alloc);
+    for _ in 0..16 {
+        pages.push(Page::zeroed(alloc)?)?;
+    }
+    let mut buffer = vec![in alloc; 0u8; RUN * PAGE_SIZE]?;
+    assert!(rt; 0 < segments.len());
+    assert!(rt; 0 < pages.len());
+    assert!(rt; 131072 <= buffer.len());
+    let given = read_of(segments, first, buffer.as_mut_slice(), pages.as_mut_slice());
+    let Some(given) = given else {
+        return Ok(None);
+    };
+    let mut bytes = Vec::new(alloc);
+    for page in pages.iter().take(given) {
+        bytes.push(page.bytes()[0])?;
+    }
+    Ok(Some(bytes))
+}
+
+#[test]
+fn a_read_ends_with_its_segment(rt: HostRuntime) -> Result<(), Fail> {
+    let mut segments = segments_of(rt.alloc(), &[4, 4, 2])?;
+    assert!(rt; 0 < segments.len());
+    assert_eq!(rt; count_of(segments.as_mut_slice()), Some(10));
+    let runs: [(u32, &[u8]); 6] = [
+        (0, &[1, 2, 3, 4]),
+        (2, &[3, 4]),
+        (4, &[5, 6, 7, 8]),
+        (8, &[9, 10]),
+        (10, &[]),
+        (u32::MAX, &[]),
+    ];
+    for (first, wanted) in runs {
+        let bytes = read_16(&rt, segments.as_mut_slice(), first)?.ok_or("a fault")?;
+        assert_eq!(rt; bytes.as_slice(), wanted, "block {first}");
+    }
+    Ok(())
+}
+
+#[test]
+fn the_last_segment_may_be_long(rt: HostRuntime) -> Result<(), Fail> {
+    let mut segments = segments_of(rt.alloc(), &[5])?;
+    assert!(rt; 0 < segments.len());
+    assert_eq!(rt; is_full(&mut segments[0], 4).ok(), Some(false));
+    assert_eq!(rt; is_full(&mut segments[0], 5).ok(), Some(true));
+    assert_eq!(rt; count_of(segments.as_mut_slice()), Some(5));
+    let bytes = read_16(&rt, segments.as_mut_slice(), 4)?.ok_or("a fault")?;
+    assert_eq!(rt; bytes.as_slice(), [5].as_slice());
+    Ok(())
+}
+
+// The first read of each segment fails, but that of block 5 is of the second one alone.
+#[test]
+fn a_fault_is_that_of_its_segment(rt: HostRuntime) -> Result<(), Fail> {
+    let mut segments = segments_of(rt.alloc(), &[4, 4, 2])?;
+    for segment in &mut segments {
+        segment.parts.faults_left = 1;
+    }
+    assert!(rt; read_16(&rt, segments.as_mut_slice(), 5)?.is_none());
+    let mut left = Vec::new(rt.alloc());
+    for segment in &segments {
+        left.push(segment.parts.faults_left)?;
+    }
+    assert_eq!(rt; left.as_slice(), [1, 0, 1].as_slice());
+    let bytes = read_16(&rt, segments.as_mut_slice(), 5)?.ok_or("a fault")?;
+    assert_eq!(rt; bytes.as_slice(), [6, 7, 8].as_slice());
     Ok(())
 }

@@ -103,6 +103,18 @@ pub(crate) fn run<R: Abort + AllocGlobal + Threads + Wait + Sync>(
     line: &str,
     cuts: (&[(u64, u64)], &[(u64, u64)]),
 ) -> Result<Ended, Fail> {
+    run_segmented(rt, files, 131072, faults, line, cuts)
+}
+
+/// The same over files that are segments of this size, from 1 to 131072 blocks.
+pub(crate) fn run_segmented<R: Abort + AllocGlobal + Threads + Wait + Sync>(
+    rt: &R,
+    files: Vec<(String, Vec<u8>)>,
+    segment: u32,
+    faults: Faults<'_>,
+    line: &str,
+    cuts: (&[(u64, u64)], &[(u64, u64)]),
+) -> Result<Ended, Fail> {
     let alloc = rt.alloc();
     let mut shorts = Vec::new(alloc);
     if !faults.shorts.is_empty() {
@@ -116,7 +128,8 @@ pub(crate) fn run<R: Abort + AllocGlobal + Threads + Wait + Sync>(
     };
     assert!(rt; have_distinct_names(files.as_slice()));
     assert!(rt; script.has_positive_shorts());
-    let mut shelf = MemShelf::make(alloc, files, script, 64)?;
+    assert!(rt; 1 <= segment && segment <= 131072);
+    let mut shelf = MemShelf::make_segmented(alloc, files, segment, script, 64)?;
     let words = words_of(alloc, line)?;
     let mut out = MemSink::make(alloc, Vec::from_slice(alloc, cuts.0)?);
     let mut err = MemSink::make(alloc, Vec::from_slice(alloc, cuts.1)?);

@@ -53,7 +53,7 @@ fn always_out_of_memory(rt: HostRuntime) -> Result<(), Fail> {
 #[test]
 fn pages_one_by_one(rt: HostRuntime) -> Result<(), Fail> {
     let one: &[u8] = &[28, 0, 0xd8, 0x1f, 0, 32, 4, 32];
-    let rows: [(&str, Parts<'_>, (&str, &str, u8)); 9] = [
+    let rows: [(&str, Parts<'_>, (&str, &str, u8)); 11] = [
         ("a page of zeros", ZEROS, ("page 0 0 new\n", "", 0)),
         ("zeros but one byte", DAMAGED, ("", "invalid page 0 0\n", 1)),
         (
@@ -70,6 +70,15 @@ fn pages_one_by_one(rt: HostRuntime) -> Result<(), Fail> {
             &[(12, one), (24, &[5, 0, 1, 0])],
             (
                 "page 0 0 lower 28 upper 8152 special 8192 items 1\nitem 1 redirect 5 0\n",
+                "",
+                0,
+            ),
+        ),
+        (
+            "one dead",
+            &[(12, one), (24, &[0, 0x80, 1, 0])],
+            (
+                "page 0 0 lower 28 upper 8152 special 8192 items 1\nitem 1 dead 0 0\n",
                 "",
                 0,
             ),
@@ -95,6 +104,11 @@ fn pages_one_by_one(rt: HostRuntime) -> Result<(), Fail> {
             ("page 0 0 lower 24 upper 8184 special 8184 items 0\n", "", 0),
         ),
         (
+            "lower 20",
+            &[(12, &[20, 0, 0, 32, 0, 32, 4, 32])],
+            ("page 0 0 lower 20 upper 8192 special 8192 items 0\n", "", 0),
+        ),
+        (
             "lower 30",
             &[(12, &[30, 0, 0, 32, 0, 32, 4, 32])],
             (
@@ -108,6 +122,18 @@ fn pages_one_by_one(rt: HostRuntime) -> Result<(), Fail> {
         expect_page(&rt, name, parts, wanted)?;
     }
     Ok(())
+}
+
+#[test]
+fn as_many_items_as_a_page_can_have(rt: HostRuntime) -> Result<(), Fail> {
+    let alloc = rt.alloc();
+    let mut wanted = String::from_str(alloc, "page 0 0 lower 8192 upper 8192 ")?;
+    wanted.push_str("special 8192 items 2042\n")?;
+    for number in 1..2043 {
+        writeln!(wanted, "item {number} unused 0 0")?;
+    }
+    let page: Parts<'_> = &[(12, &[0, 32, 0, 32, 0, 32, 4, 32])];
+    expect_page(&rt, "2042 items", page, (wanted.as_str(), "", 0))
 }
 
 #[test]
@@ -342,7 +368,7 @@ fn words_that_are_no_command(rt: HostRuntime) -> Result<(), Fail> {
         "--make 10 f",
         "--full",
         "--from +1 f",
-        "--from 131072 f",
+        "--from 2097152 f",
         "--full --full f",
         "f ''",
     ];

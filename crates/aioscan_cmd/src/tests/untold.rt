@@ -1,5 +1,5 @@
 //! Shelves that do not tell their contents.
-ghost use Rattle.std.specs.Prelude.{None};
+ghost use Rattle.std.specs.Prelude.{None, false};
 
 use super::outside::{EMPTY, empty_lines, file_of, words_of};
 use crate::{Report, aioscan};
@@ -32,11 +32,17 @@ impl Disk for LongDisk {
 
     ghost told = { λ d. None };
 
+    ghost segment = { λ d. 131072 };
+
     ghost faults = { λ d. 0 };
 
     ghost length_faults = { λ d. 0 };
 
     ghost reads = { λ d. d.reads };
+
+    fn segment(&self) -> u32 {
+        131072
+    }
 
     fn blocks(&mut self, _relation: u32) -> Result<u32, DeviceFault> {
         self.lengths = self.lengths.saturating_add(1);
@@ -71,6 +77,10 @@ impl Shelf for LongShelf {
     type Disk = LongDisk;
 
     ghost told = { λ s. None };
+
+    ghost segment = { λ s. 131072 };
+
+    ghost surely_opens = { λ s names. false };
 
     ghost counts = { λ s. record {
       open_faults = s.open_faults;
@@ -145,8 +155,8 @@ fn run_long<R: Abort + AllocGlobal + Threads + Wait + Sync>(
 fn lengths_that_nothing_tells(rt: HostRuntime) -> Result<(), Fail> {
     let line = "--method sync --backends 1 f g";
     let rows = [
-        (131073, "relation 0 is too long\n", 7, (1, 0)),
-        (131072, "no page 0 0\n", 6, (2, 1)),
+        (2097153, "relation 0 is too long\n", 7, (1, 0)),
+        (2097152, "no page 0 0\n", 6, (2, 1)),
         (0, "", 0, (2, 0)),
     ];
     for (length, wanted, status, calls) in rows {

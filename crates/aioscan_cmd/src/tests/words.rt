@@ -15,6 +15,7 @@ const DEFAULTS: ScanSettings = ScanSettings {
     buffers: 128,
     batch: false,
     full: false,
+    segment: 131072,
 };
 
 // The words with a space behind each.
@@ -49,6 +50,7 @@ fn commands(rt: HostRuntime) -> Result<(), Fail> {
         buffers: 19,
         batch: true,
         full: false,
+        segment: 131072,
     };
     // Each with the settings, the first block and how many of a file of 10 blocks, and the files.
     let rows = [
@@ -137,8 +139,8 @@ fn ranges(rt: HostRuntime) -> Result<(), Fail> {
         ("--concurrency", "0", "1", "256", "257"),
         ("--handles", "0", "1", "64", "65"),
         ("--buffers", "15", "16", "16384", "16385"),
-        ("--from", "-1", "0", "131071", "131072"),
-        ("--to", "-1", "0", "131071", "131072"),
+        ("--from", "-1", "0", "2097151", "2097152"),
+        ("--to", "-1", "0", "2097151", "2097152"),
     ];
     for (option, below, least, most, above) in rows {
         for (value, taken) in [(below, false), (least, true), (most, true), (above, false)] {

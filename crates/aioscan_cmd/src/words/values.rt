@@ -14,6 +14,10 @@ ghost use Rattle.scan_rounds.specs.Opening.{AreSettings};
 use clap::ArgMatches;
 use scan_rounds::{MethodKind, ScanSettings};
 
+// The segment size that PostgreSQL has where it is built by default (`RELSEG_SIZE`). That of the
+// disks takes its place.
+const SEGMENT_SIZE: u32 = 131072;
+
 // At most so many files are named.
 const MOST_FILES: usize = 1024;
 
@@ -126,6 +130,7 @@ pub(crate) fn settings(matches: &ArgMatches<'_>) -> Option<ScanSettings>
         buffers: number(matches, "buffers", 16, 16384, 128)?,
         batch: flag(matches, "batch"),
         full: flag(matches, "full"),
+        segment: SEGMENT_SIZE,
     })
 }
 

@@ -1,7 +1,7 @@
 use Rattle.std.proofs.Common.{◌≡◌, ◌+◌, ◌-◌, ℕ, arith, rules, length, inl, inr, subst}
 use Rattle.std.specs.Prelude.{IfSome}
 use borrow.Rule.Slice.PartMut.{put_mid}
-use Rattle.aio_disk.specs.Source.{ReadsBlocks}
+use Rattle.aio_disk.specs.Disk.{ReadsBlocks}
 use Rattle.aio_disk.proofs.Sources.{none_failed_both, then_one_failed}
 use Rattle.aio_disk.proofs.Runs.{reads_still, so_far, runs_more, runs_cut}
 use Rattle.aio_disk.proofs.source.read_runs.Goals as goal
@@ -24,7 +24,7 @@ loop-done-preserved g c =
     let whole : c.loop-done.done + c.in-Ok.count ≡ c.min-end.result =
     omega (arith, size, c.in-Ok.ensures.few) in
     let P : ℕ → Type 0 = λ n. IfSome (g.S.ByteSource.told c.args.source.now)
-    (λ s. ReadsBlocks s c.args.first n
+    (λ s. ReadsBlocks s.bytes c.args.first n
     (put_mid c.loop-done.done room c.loop-done.pages c.read_run.new.pages)) in record {
       within = search rules;
       passed = none_failed_both _ _ _ c.loop-done.invariant.passed c.in-Ok.ensures.pages.0;

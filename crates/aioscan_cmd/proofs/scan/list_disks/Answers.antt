@@ -14,8 +14,9 @@ returns-clause-counted g c =
     let f = c.finish-totals.ensures.finished in
     let same = c.list_rounds-outcome.ensures.same in
     let none = ap (sum_by g.D.Disk.reads) (same.opened ∙ c.in-Ok.ensures.opened)
-    ∙ no_reads g.D.Disk.told g.D.Disk.relations g.D.Disk.faults g.D.Disk.reads g.W.World.told
-    g.W.World.relations c.args.disks.items c.requires.unread in record {
+    ∙ no_reads g.D.Disk.told g.D.Disk.relations g.D.Disk.segment g.D.Disk.faults g.D.Disk.reads
+    g.W.World.told g.W.World.relations c.args.asked.segment c.args.disks.items c.requires.unread in
+    record {
       sum = omega (
         arith,
         f.are.sum,
@@ -43,8 +44,9 @@ returns-in-Err-clause-lists g c =
 
 pub returns-in-Err-clause-counted : goal.returns-in-Err-clause-counted
 returns-in-Err-clause-counted g c =
-    let none = no_reads g.D.Disk.told g.D.Disk.relations g.D.Disk.faults g.D.Disk.reads
-    g.W.World.told g.W.World.relations c.args.disks.items c.requires.unread in
+    let none = no_reads g.D.Disk.told g.D.Disk.relations g.D.Disk.segment g.D.Disk.faults
+    g.D.Disk.reads g.W.World.told g.W.World.relations c.args.asked.segment c.args.disks.items
+    c.requires.unread in
     let numbers = c.without_reads.ensures.numbers in
     nothing_counted _ _ _ _
     (ap (λ disks. sum_by g.D.Disk.reads disks.items) c.in-Err.ensures.back ∙ none)

@@ -32,4 +32,5 @@ pub returns-clause-sums : goal.returns-clause-sums
 returns-clause-sums g c =
     all_summed (reader_of g.W.World.told) g.O.Sink.written g.O.Sink.faults
     (requests_for c.args.asked) _ c.run-lister.result refl c.of-blocks.ensures.all
-    (zero_sums c.default.result c.default.ensures) c.run-lister.ensures.follows c.run-lister.ensures.over
+    (zero_sums c.default.result c.default.ensures) c.run-lister.ensures.follows
+    c.run-lister.ensures.over

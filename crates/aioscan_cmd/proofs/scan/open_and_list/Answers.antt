@@ -8,17 +8,18 @@ returns-in-Err-Device-clause-scanned g c =
     let e = c.open_others.ensures in
     scan_refused _ _ _ _ _ _ _ _ c.without_reads.ensures.outcome e.later
     (e.length_faults, e.faults, e.reads) (search rules)
-    (no_faults g.S.Disk.Disk.told g.S.Disk.Disk.relations g.S.Disk.Disk.faults
-    g.S.Disk.Disk.reads _ _ c.open_others.new.disks.items e.unread)
-    (no_reads g.S.Disk.Disk.told g.S.Disk.Disk.relations g.S.Disk.Disk.faults
-    g.S.Disk.Disk.reads _ _ c.open_others.new.disks.items e.unread)
+    (no_faults g.S.Disk.Disk.told g.S.Disk.Disk.relations g.S.Disk.Disk.segment
+    g.S.Disk.Disk.faults g.S.Disk.Disk.reads _ _ _ c.open_others.new.disks.items e.unread)
+    (no_reads g.S.Disk.Disk.told g.S.Disk.Disk.relations g.S.Disk.Disk.segment
+    g.S.Disk.Disk.faults g.S.Disk.Disk.reads _ _ _ c.open_others.new.disks.items e.unread)
 
 pub returns-in-Err-Device-clause-counted : goal.returns-in-Err-Device-clause-counted
 returns-in-Err-Device-clause-counted g c =
     let numbers = c.without_reads.ensures.numbers in
     nothing_counted _ _ _ _
-    (no_reads g.S.Disk.Disk.told g.S.Disk.Disk.relations g.S.Disk.Disk.faults
-    g.S.Disk.Disk.reads _ _ c.open_others.new.disks.items c.open_others.ensures.unread)
+    (no_reads g.S.Disk.Disk.told g.S.Disk.Disk.relations g.S.Disk.Disk.segment
+    g.S.Disk.Disk.faults g.S.Disk.Disk.reads _ _ _ c.open_others.new.disks.items
+    c.open_others.ensures.unread)
     numbers.0 numbers.1 numbers.2
 
 pub returns-in-Err-Memory-clause-scanned : goal.returns-in-Err-Memory-clause-scanned
@@ -31,6 +32,7 @@ pub returns-in-Err-Memory-clause-counted : goal.returns-in-Err-Memory-clause-cou
 returns-in-Err-Memory-clause-counted g c =
     let numbers = c.without_reads-in-Err-Memory.ensures.numbers in
     nothing_counted _ _ _ _
-    (no_reads g.S.Disk.Disk.told g.S.Disk.Disk.relations g.S.Disk.Disk.faults
-    g.S.Disk.Disk.reads _ _ c.open_others.new.disks.items c.open_others.ensures.unread)
+    (no_reads g.S.Disk.Disk.told g.S.Disk.Disk.relations g.S.Disk.Disk.segment
+    g.S.Disk.Disk.faults g.S.Disk.Disk.reads _ _ _ c.open_others.new.disks.items
+    c.open_others.ensures.unread)
     numbers.0 numbers.1 numbers.2

@@ -51,7 +51,7 @@ returns-in_default-clause-sums g c =
 
 pub returns-clause-sums : goal.returns-clause-sums
 returns-clause-sums g c =
-    listed_sums (g.S.Disk.Disk.told c.args.first) g.W.World.told _ c.args.asked.command.now
+    listed_sums (g.S.Disk.Disk.told c.args.first) g.W.World.told _ _ c.args.asked.command.now
     c.args.asked.lengths.now _ _ (sym c.requires.told.0)
     (ap length c.requires.asked.relations_are) c.requires.lengths
     c.open_and_list-disks.ensures.sums

@@ -6,8 +6,9 @@ use Rattle.aioscan_cmd.proofs.scan.scan_disk.Goals as goal
 pub returns-in-Err-clause-ran : goal.returns-in-Err-clause-ran
 returns-in-Err-clause-ran g c =
     let P : ℕ → Type 0 =
-    λ n. HasNoLengths (g.S.Disk.Disk.told c.args.disk) n c.in-Err.outcome in
-    ran_refused _ _ _ _ _ _ _ _ c.without_reads.ensures.outcome
+    λ n. HasNoLengths (g.S.Disk.Disk.told c.args.disk) (g.S.Disk.Disk.segment c.args.disk) n
+    c.in-Err.outcome in
+    ran_refused _ _ _ _ _ _ _ _ _ c.without_reads.ensures.outcome
     (omega (
       arith,
       c.take_back.ensures.reads,
@@ -18,4 +19,4 @@ returns-in-Err-clause-ran g c =
 
 pub returns-in-Err-clause-sums : goal.returns-in-Err-clause-sums
 returns-in-Err-clause-sums g c =
-    refused_sums _ _ _ _ _ _ c.without_reads.ensures.outcome c.in-Err.ensures.lengths
+    refused_sums _ _ _ _ _ _ _ c.without_reads.ensures.outcome c.in-Err.ensures.lengths

@@ -1,10 +1,9 @@
 use Rattle.std.proofs.Common.{Some, length}
-use Rattle.page_check.specs.Told.{told_in}
 use Rattle.method_sync.proofs.tests.steady_reads.Given as goal
 
 abbrev pub ghosts-read_all : goal.ghosts-read_all
 ghosts-read_all g a = record {
-  told = Some (told_in a.disk.relations);
+  told = Some a.disk.told;
   handles = 1;
-  relations = length a.disk.relations;
+  relations = length a.disk.told.relations;
 }

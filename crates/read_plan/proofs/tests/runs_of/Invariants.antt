@@ -7,8 +7,9 @@ use Rattle.read_plan.proofs.tests.runs_of.Given as goal
 abbrev pub invariant-loop-block : goal.invariant-loop-block
 invariant-loop-block l = record {
   combine : l.plan.combine ≡ l.fn.plan.combine;
+  segment : l.plan.segment ≡ l.fn.plan.segment;
   runs :
-      AreRuns l.plan.combine
+      AreRuns l.plan.combine l.plan.segment
       (l.runs.items ++ option_to_list l.plan.pending)
       (take l.block-index l.blocks);
 }

@@ -6,4 +6,5 @@ pub returns-clause-waiting : goal.returns-clause-waiting
 returns-clause-waiting g c =
     let r = c.close.ensures.rest in
     (first_closed _ _ _ _ _ c.args.backends.now _ c.close.new.self c.args.counts
-    c.requires.waiting (get_or_default _ 0 _ _ c.requires.waiting.some) r.0 r.1 r.2 c.close.ensures.seat).0
+    c.requires.waiting (get_or_default _ 0 _ _ c.requires.waiting.some) r.0 r.1 r.2
+    c.close.ensures.seat).0

@@ -7,7 +7,8 @@ use Rattle.scan_rounds.proofs.course.next_round.Goals as goal
 
 pub returns-then-count-eq0-clause-gone : goal.returns-then-count-eq0-clause-gone
 returns-then-count-eq0-clause-gone g c =
-    gone_nowhere _ _ _ _ _ _ _ _ _ c.requires.waiting (let e = c.put-count.ensures.unread in omega arith)
+    gone_nowhere _ _ _ _ _ _ _ _ _ c.requires.waiting
+    (let e = c.put-count.ensures.unread in omega arith)
 
 pub one_round-requires-clause-fresh : goal.one_round-requires-clause-fresh
 one_round-requires-clause-fresh g c κs within =
@@ -45,7 +46,8 @@ pub returns-clause-follows : goal.returns-clause-follows
 returns-clause-follows g c =
     c.end.ensures.follows _ _ c.put-count.ensures.puts
     (subst (λ (js : List Job). AreAnswered _ js c.one_round.new.jobs)
-    c.split_at_mut-front.ensures.front (answered_by _ _ _ _ _ c.requires.waiting.some c.one_round.ensures.listed))
+    c.split_at_mut-front.ensures.front (answered_by _ _ _ _ _ c.requires.waiting.some
+    c.one_round.ensures.listed))
 
 pub returns-clause-nearer : goal.returns-clause-nearer
 returns-clause-nearer g c on =

@@ -31,8 +31,11 @@ pub returns : goal.returns
 returns g c =
     let r = c.reopen_queue-waiting.ensures in
     let d = round_done _ _ _ c.args.scan.now _ _ _ _ _ _ c.requires.scan r.table r.queue.0 r.queue.1
-    (search rules) c.requires.fresh c.requires.few.1 c.requires.room c.exchange-ready.ensures _ _ _ c.least_room.result _
-    c.run_once-done.ensures.ran c.exchange-idle.ensures (search rules) c.count_unread.ensures in record {
-      scan = scan_again _ _ _ c.args.scan.now _ _ _ c.requires.scan r.table (search rules) (search rules) d.now
+    (search rules) c.requires.fresh c.requires.few.1 c.requires.room c.exchange-ready.ensures _ _ _
+    c.least_room.result _
+    c.run_once-done.ensures.ran c.exchange-idle.ensures (search rules) c.count_unread.ensures in
+    record {
+      scan = scan_again _ _ _ c.args.scan.now _ _ _ c.requires.scan r.table (search rules)
+          (search rules) d.now
           c.serve_all-own_workers.ensures.worked d.go_on d.many refl refl refl refl;
     }

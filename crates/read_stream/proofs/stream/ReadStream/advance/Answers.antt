@@ -80,7 +80,8 @@ returns-clause-follows g c =
     let config : c.serve.new.actor.known.config ≡ s.actor_is.value.known.config =
     c.serve.ensures.same.1 ∙ (c.start_last.ensures.same.1 ∙ (c.submit.ensures.same.1
     ∙ (c.look_ahead.ensures.same.1 ∙ ap (λ (z : Standing). z.known.config) actor))) in
-    let backends : c.serve.new.actor.known.config.backends ≡ s.actor_is.value.known.config.backends =
+    let backends : c.serve.new.actor.known.config.backends ≡
+    s.actor_is.value.known.config.backends =
     ap (λ (z : Config). z.backends) config in
     let number : c.serve.new.actor.known.number ≡ s.actor_is.value.known.number =
     w4.number ∙ (w3.number ∙ (w2.number ∙ (w1.number
@@ -106,7 +107,8 @@ returns-clause-follows g c =
           ap (λ (z : Standing). z.known.number) is
               ∙ (number ∙ (was_open.same.2 ∙ sym (ap (λ (z : Standing). z.known.number) was))),
         );
-        backend = subst (λ (z : Standing). z.known.number < z.known.config.backends) (sym is) backend;
+        backend = subst (λ (z : Standing). z.known.number < z.known.config.backends) (sym is)
+            backend;
         between = subst (λ (z : Standing). IsBetween g.S.BlockSource.left g.W.World.told
             g.W.World.relations g.W.World.handles z.known (record n { actor_is = c.of.result }))
             (sym is)

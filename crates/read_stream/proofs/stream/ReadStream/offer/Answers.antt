@@ -31,7 +31,7 @@ returns-in-Flush-clause-underway g c =
     c.args.actor.now.known c.start.new.actor.known s c.start.new.self _ _ _ _ pl run
     (c.args.block ∷ []) [] c.requires.underway
     (same_plan s.plan pl pl.pending c.offer.ensures.rest)
-    (offered s.plan.combine c.args.block s.plan.pending pl.pending c.offer.result
+    (offered s.plan.combine s.plan.segment c.args.block s.plan.pending pl.pending c.offer.result
     c.offer.ensures.answer
     ∙ ap (λ (z : Offer). handed_out z ++ (pending_in pl.pending ++ [])) c.in-Flush.is)
     (subst (λ (z : ℕ). IsRun z run) c.requires.underway.going.combine c.in-Flush.ensures.flushed)
@@ -45,7 +45,7 @@ start_whole-requires-clause-underway g c =
     underway_plan g.S.BlockSource.left g.W.World.told g.W.World.relations g.W.World.handles
     c.args.actor.now.known s pl (rest_of s.current s.step) (c.args.block ∷ []) [] 0
     (same_plan s.plan pl pl.pending c.offer.ensures.rest)
-    (offered s.plan.combine c.args.block s.plan.pending pl.pending c.offer.result
+    (offered s.plan.combine s.plan.segment c.args.block s.plan.pending pl.pending c.offer.result
     c.offer.ensures.answer
     ∙ ap (λ (z : List ℕ). z ++ (pending_in pl.pending ++ []))
     (none_out c.offer.result c.in-Start.is))

@@ -31,6 +31,7 @@ returns-clause-is_open g c =
     let combine : e.combine ≡ d.combine = ap (λ (z : Desk W P). z.combine) is in
     let ios : e.ios ≡ d.ios = ap (λ (z : Desk W P). z.ios) is in
     let limit : e.limit ≡ d.limit = ap (λ (z : Desk W P). z.limit) is in
+    let segment : e.segment ≡ d.segment = ap (λ (z : Desk W P). z.segment) is in
     let reads : e.reads ≡ begun d.reads = ap (λ (z : Desk W P). z.reads) is in
     let items : e.queue.items ≡ [] =
     ap (λ (z : Desk W P). z.queue.items) is ∙ c.requires.desk.queue in
@@ -71,7 +72,8 @@ returns-clause-is_open g c =
     small (subst (λ (z : Standing). IsRoom z.known.config z.known c.room.result) (sym is-was)
     c.room.ensures) in
     let (room, is-room, long) = c.requires.room in
-    let below = room_is_one a.known.config a.known c.room.result room c.requires.backend c.room.ensures
+    let below = room_is_one a.known.config a.known c.room.result room c.requires.backend
+    c.room.ensures
     is-room in
     let src = c.of-source_was.ensures in
     let long' : length (g.S.BlockSource.left c.of-source_was.result.value)
@@ -99,7 +101,7 @@ returns-clause-is_open g c =
       between = record {
         steady = record {
           place = c.requires.relation;
-          settings = rw (combine, ios, limit) c.requires.desk.settings;
+          settings = rw (combine, ios, limit, segment) c.requires.desk.settings;
           scope = (sym combine, ap (λ (z : ℕ). z + 1) (sym ios));
           queue = let l = c.requires.desk.most_blocks in omega arith;
           wants = let l = c.requires.desk.most_wants in omega arith;

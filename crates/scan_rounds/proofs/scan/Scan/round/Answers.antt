@@ -4,10 +4,12 @@ use Rattle.scan_rounds.proofs.Again.{serving_in, scan_again}
 use Rattle.scan_rounds.proofs.OneRound.{round_may, round_done}
 use Rattle.scan_rounds.proofs.scan.Scan.round.Goals as goal
 
-pub round_beside-own_workers-requires-clause-serve : goal.round_beside-own_workers-requires-clause-serve
+pub round_beside-own_workers-requires-clause-serve :
+    goal.round_beside-own_workers-requires-clause-serve
 round_beside-own_workers-requires-clause-serve g c κs within =
     let r = c.reopen_queue-waiting.ensures in
-    serving_in _ _ _ c.args.self.now _ _ _ c.requires.scan r.table r.queue.0 r.queue.1 (search rules)
+    serving_in _ _ _ c.args.self.now _ _ _ c.requires.scan r.table r.queue.0 r.queue.1
+    (search rules)
 
 pub round_beside-own_workers-requires-clause-may : goal.round_beside-own_workers-requires-clause-may
 round_beside-own_workers-requires-clause-may g c κs within =
@@ -20,9 +22,11 @@ returns-clause-scan g c =
     let r = c.reopen_queue-waiting.ensures in
     let e = c.round_beside-own_workers.ensures in
     let d = round_done _ _ _ c.args.self.now _ _ _ _ _ _ c.requires.scan r.table r.queue.0 r.queue.1
-    (search rules) c.requires.fresh c.requires.few.1 c.requires.room c.exchange-ready.ensures _ _ _ c.least_room.result _
+    (search rules) c.requires.fresh c.requires.few.1 c.requires.room c.exchange-ready.ensures _ _ _
+    c.least_room.result _
     e.ran c.exchange-idle.ensures (search rules) c.count_unread.ensures in
-    scan_again _ _ _ c.args.self.now _ _ _ c.requires.scan r.table (search rules) (search rules) d.now
+    scan_again _ _ _ c.args.self.now _ _ _ c.requires.scan r.table (search rules) (search rules)
+    d.now
     e.worked d.go_on d.many refl refl refl refl
 
 pub returns-clause-same : goal.returns-clause-same
@@ -30,7 +34,8 @@ returns-clause-same g c =
     let r = c.reopen_queue-waiting.ensures in
     let e = c.round_beside-own_workers.ensures in
     let d = round_done _ _ _ c.args.self.now _ _ _ _ _ _ c.requires.scan r.table r.queue.0 r.queue.1
-    (search rules) c.requires.fresh c.requires.few.1 c.requires.room c.exchange-ready.ensures _ _ _ c.least_room.result _
+    (search rules) c.requires.fresh c.requires.few.1 c.requires.room c.exchange-ready.ensures _ _ _
+    c.least_room.result _
     e.ran c.exchange-idle.ensures (search rules) c.count_unread.ensures in record {
       config = ap (λ (t : Named). t.config) r.table;
       as_many = d.many ∙ (search rules);
@@ -41,7 +46,8 @@ pub returns-clause-listed : goal.returns-clause-listed
 returns-clause-listed g c =
     let r = c.reopen_queue-waiting.ensures in
     (round_done _ _ _ c.args.self.now _ _ _ _ _ _ c.requires.scan r.table r.queue.0 r.queue.1
-    (search rules) c.requires.fresh c.requires.few.1 c.requires.room c.exchange-ready.ensures _ _ _ c.least_room.result _
+    (search rules) c.requires.fresh c.requires.few.1 c.requires.room c.exchange-ready.ensures _ _ _
+    c.least_room.result _
     c.round_beside-own_workers.ensures.ran c.exchange-idle.ensures (search rules)
     c.count_unread.ensures).listed
 
@@ -49,7 +55,8 @@ pub returns-clause-room : goal.returns-clause-room
 returns-clause-room g c =
     let r = c.reopen_queue-waiting.ensures in
     (round_done _ _ _ c.args.self.now _ _ _ _ _ _ c.requires.scan r.table r.queue.0 r.queue.1
-    (search rules) c.requires.fresh c.requires.few.1 c.requires.room c.exchange-ready.ensures _ _ _ c.least_room.result _
+    (search rules) c.requires.fresh c.requires.few.1 c.requires.room c.exchange-ready.ensures _ _ _
+    c.least_room.result _
     c.round_beside-own_workers.ensures.ran c.exchange-idle.ensures (search rules)
     c.count_unread.ensures).fallen
 
@@ -57,6 +64,7 @@ pub returns-clause-taken : goal.returns-clause-taken
 returns-clause-taken g c =
     let r = c.reopen_queue-waiting.ensures in
     (round_done _ _ _ c.args.self.now _ _ _ _ _ _ c.requires.scan r.table r.queue.0 r.queue.1
-    (search rules) c.requires.fresh c.requires.few.1 c.requires.room c.exchange-ready.ensures _ _ _ c.least_room.result _
+    (search rules) c.requires.fresh c.requires.few.1 c.requires.room c.exchange-ready.ensures _ _ _
+    c.least_room.result _
     c.round_beside-own_workers.ensures.ran c.exchange-idle.ensures (search rules)
     c.count_unread.ensures).taken

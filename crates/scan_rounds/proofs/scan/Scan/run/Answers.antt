@@ -25,5 +25,6 @@ returns-clause-scan g c =
 
 pub returns-clause-reopened : goal.returns-clause-reopened
 returns-clause-reopened g c =
-    subst (λ own. IsOpenedAgain own.items c.args.self.now.common.queue c.reopen_queue.new.common.queue)
+    subst (λ own. IsOpenedAgain own.items c.args.self.now.common.queue
+    c.reopen_queue.new.common.queue)
     c.replace-own_backends.ensures.value c.reopen_queue.ensures.reopened

@@ -1,9 +1,0 @@
-use Rattle.std.proofs.Common.{◌≡◌, ℕ, ◌+◌, ◌-◌, ◌*◌, take, drop, ap, arith}
-use Rattle.page_check.specs.Told.{page_at}
-use Rattle.aio_disk.proofs.shared.block_bytes.Goals as goal
-
-pub returns-clause-page : goal.returns-clause-page
-unfolding page_at
-returns-clause-page c =
-    let size : 8192 * c.args.block + 8192 - 8192 * c.args.block ≡ 8192 = omega arith in
-    ap (λ (n : ℕ). take n (drop (8192 * c.args.block) c.args.bytes.now)) size

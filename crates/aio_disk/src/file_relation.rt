@@ -1,0 +1,137 @@
+//! Relations of real files.
+ghost use Rattle.std.specs.Prelude.{◌≤◌, ◌<◌, length, IfOk};
+
+use crate::segments::{MOST_SEGMENTS, SEGMENT_SIZE, segment_name};
+use crate::source::is_full;
+use crate::source_relation::{count_relation, read_relation};
+use crate::{DeviceFault, OpenFault};
+use page_check::Page;
+use std::fs::{self, File, FileType};
+use std::io;
+use std::os::unix::fs::FileTypeExt;
+use std::rt::Files;
+
+/// The segments of a relation, which are open for reading. Each but the last one had exactly
+/// [`SEGMENT_SIZE`] blocks when it was opened.
+#[derive(Drop)]
+pub(crate) struct FileRelation {
+    segments: Vec<File>,
+    ghost some: { 0 < length segments.items },
+}
+
+impl FileRelation {
+    /// Opens the file of this name, and the next segment behind each one that is full, where it
+    /// is there.
+    pub(crate) fn open<R>(rt: &R, name: &str) -> Result<FileRelation, OpenFault>
+    where
+        R: Files<File = File> + AllocGlobal,
+    {
+        let Some(first) = open_segment(rt, name, 0)? else {
+            return Err(OpenFault::Device);
+        };
+        let mut segments = Vec::new(rt.alloc());
+        segments.push(first).map_err(|_| OpenFault::Memory)?;
+        for number in 1..MOST_SEGMENTS {
+            let last = segments.len() - 1;
+            match open_behind(rt, &mut segments[last], name, number)? {
+                Some(next) => segments.push(next).map_err(|_| OpenFault::Memory)?,
+                None => break,
+            }
+        }
+        Ok(FileRelation { segments })
+    }
+
+    /// How many blocks it has.
+    pub(crate) fn blocks(&mut self) -> Result<u32, DeviceFault> {
+        count_relation(self.segments.as_mut_slice(), SEGMENT_SIZE)
+    }
+
+    /// Reads the pages of blocks of one segment, and says how many.
+    pub(crate) fn read(
+        &mut self,
+        first: u32,
+        buffer: &mut [u8],
+        pages: &mut [Page],
+    ) -> Result<usize, DeviceFault>
+        requires some { 0 < length pages.old }
+        requires room { 131072 ≤ length buffer.old }
+        ensures few { IfOk result (λ n. n ≤ length pages.new) }
+    {
+        let segments = self.segments.as_mut_slice();
+        read_relation(segments, SEGMENT_SIZE, first, buffer, pages)
+    }
+}
+
+// Whether what is opened can be read by blocks.
+fn has_blocks(kind: FileType) -> bool {
+    kind.is_file() || kind.is_block_device()
+}
+
+// Opens a regular file or a block device, and nothing else. What the name stands for is looked at
+// before it is opened too, since to open a FIFO is to wait for its writer.
+fn open_file<R: Files<File = File>>(rt: &R, name: &str) -> io::Result<File> {
+    if !has_blocks(fs::metadata(rt, name)?.file_type()) {
+        return Err(io::Error::from(io::ErrorKind::InvalidInput));
+    }
+    let file = File::open(rt, name)?;
+    if !has_blocks(file.metadata()?.file_type()) {
+        return Err(io::Error::from(io::ErrorKind::InvalidInput));
+    }
+    Ok(file)
+}
+
+// Opens a segment of this relation, where it is there.
+fn open_segment<R>(rt: &R, name: &str, number: u32) -> Result<Option<File>, OpenFault>
+where
+    R: Files<File = File> + AllocGlobal,
+{
+    let name = segment_name(rt.alloc(), name, number).map_err(|_| OpenFault::Memory)?;
+    match open_file(rt, name.as_str()) {
+        Ok(file) => Ok(Some(file)),
+        Err(error) => match error.kind() {
+            io::ErrorKind::NotFound => Ok(None),
+            io::ErrorKind::OutOfMemory => Err(OpenFault::Memory),
+            _ => Err(OpenFault::Device),
+        },
+    }
+}
+
+// Whether something stands under the name of a segment of this relation.
+fn is_there<R>(rt: &R, name: &str, number: u32) -> Result<bool, OpenFault>
+where
+    R: Files<File = File> + AllocGlobal,
+{
+    let name = segment_name(rt.alloc(), name, number).map_err(|_| OpenFault::Memory)?;
+    match fs::metadata(rt, name.as_str()) {
+        Ok(_) => Ok(true),
+        Err(error) => match error.kind() {
+            io::ErrorKind::NotFound => Ok(false),
+            io::ErrorKind::OutOfMemory => Err(OpenFault::Memory),
+            _ => Err(OpenFault::Device),
+        },
+    }
+}
+
+// Opens the segment behind the last one, where it is there and that is full. So a relation of one
+// file is not measured.
+fn open_behind<R>(
+    rt: &R,
+    last: &mut File,
+    name: &str,
+    number: u32,
+) -> Result<Option<File>, OpenFault>
+where
+    R: Files<File = File> + AllocGlobal,
+{
+    if !is_there(rt, name, number)? {
+        return Ok(None);
+    }
+    match is_full(last, SEGMENT_SIZE) {
+        Ok(true) => open_segment(rt, name, number),
+        Ok(false) => Ok(None),
+        Err(_) => Err(OpenFault::Device),
+    }
+}
+
+#[cfg(test)]
+mod tests;
