@@ -1,58 +1,8 @@
-//! The program `aioscan`: hands the words, the files and the two standard streams to the top call,
-//! and ends with its status.
+//! The program `aioscan`.
 #![tactic(auto)]
 
-ghost use Rattle.std.specs.Prelude.{◌≡◌};
-ghost use Rattle.std.specs.Process.{exit_status};
-
-use aio_disk::{FileShelf, StdSink};
-use aioscan_cmd::{Report, aioscan};
-use std::alloc::AllocError;
-use std::env;
-use std::io::ErrorKind;
 use std::process::ExitCode;
-use std::rt::Env;
-
-/// The exit status where there is no memory for the words.
-const NO_MEMORY: u8 = 5;
-
-// The words of the command line without the program's name. One that is not UTF-8 makes a faulty
-// command line, as no words at all do.
-fn words<R: Env + AllocGlobal>(rt: &R) -> Result<Vec<String>, AllocError> {
-    let mut words = Vec::new(rt.alloc());
-    match env::args(rt) {
-        Ok(args) => {
-            for word in args.skip(1) {
-                words.push(word)?;
-            }
-            Ok(words)
-        }
-        Err(error) if error.kind() == ErrorKind::OutOfMemory => Err(AllocError),
-        Err(_) => Ok(words),
-    }
-}
-
-// The exit code of a run.
-fn exit_of(report: &Report) -> ExitCode
-    ensures { exit_status result ≡ report.now.status }
-{
-    ExitCode::from(report.status)
-}
 
 fn main(rt: HostRuntime) -> ExitCode {
-    let Ok(words) = words(&rt) else {
-        return ExitCode::from(NO_MEMORY);
-    };
-    let mut shelf = FileShelf::new(&rt);
-    let mut out = StdSink::out(&rt);
-    let mut err = StdSink::err(&rt);
-    let report = aioscan(
-        &rt,
-        rt.alloc(),
-        words.as_slice(),
-        &mut shelf,
-        &mut out,
-        &mut err,
-    );
-    exit_of(&report)
+    aioscan_run::run(&rt)
 }

@@ -1,0 +1,25 @@
+-- What the parts of the example know of the table's two actors.
+use Rattle.std.specs.Prelude.{◌≡◌, ℕ, [], ◌∷◌}
+use Rattle.aio_word.specs.declared.WaitRef.{WaitRef}
+use Rattle.aio_word.specs.declared.Known.{Known}
+use Rattle.aio_word.specs.Stands.{IsIn}
+use Rattle.aio_word.specs.Tokens.{IsInFlight}
+use Rattle.aio_handle.specs.Shown.{Named, Standing, IsOf}
+use Rattle.aio_handle.specs.Closing.{IsAtRest}
+use Rattle.aio_handle.specs.Trials.{IsLaunched}
+
+-- an actor of the table that has no token out
+abbrev pub IsIdle : Named → Standing → Type 0
+IsIdle table actor = IsOf table actor × IsAtRest actor.known
+
+-- the table has these two actors and no other: a backend, which is number 0, and a runner
+pub record ArePair (table : Named) (backend runner : Standing) : Type 0 where
+  pub idle : IsIdle table backend × IsIdle table runner
+  pub numbers : (table.config.backends ≡ 1) × (table.config.runners ≡ 1)
+  pub first : backend.known.number ≡ 0
+
+-- the I/O is in flight, about this number, and the only token of its backend
+pub record IsOffered (t : WaitRef) (number : ℕ) (q : Known) : Type 0 where
+  pub flight : IsInFlight q t
+  pub only : IsLaunched t q
+  pub about : IsIn (t, number ∷ []) q.aims
