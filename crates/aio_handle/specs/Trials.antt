@@ -3,12 +3,15 @@ use Rattle.std.specs.Prelude.{◌≡◌, ◌+◌, List, [], ◌∷◌, map, None
 use Rattle.std.specs.List.{All}
 use Rattle.aio_handle.specs.Shown.{Named, Standing, IsOf, known_in}
 use Rattle.aio_handle.specs.Closing.{AreOver, IsQuiet}
+use Rattle.aio_handle.specs.declared.record.Label.{Label}
+use Rattle.aio_handle.specs.Labels.{bound}
 use Rattle.aio_word.specs.declared.WaitRef.{WaitRef}
 use Rattle.aio_word.specs.declared.Known.{Known}
 use Rattle.aio_word.specs.declared.Class.TheVariants.{Whole}
 use Rattle.aio_word.specs.declared.Kind.TheVariants as kind
 use Rattle.aio_word.specs.Events.{at}
-use Rattle.aio_word.specs.Tokens.{Grows, mark_at}
+use Rattle.aio_word.specs.Stands.{IsIn}
+use Rattle.aio_word.specs.Tokens.{Grows, IsClaimed, mark_at}
 
 -- the actor ended the incarnation whole
 abbrev pub EndedWhole : WaitRef → Known → Known → Type 0
@@ -43,3 +46,10 @@ pub record IsLaunched (u : WaitRef) (q : Known) : Type 0 where
 pub record AreHandedIn (table : Named) (actors : List Standing) : Type 0 where
   pub of : All (IsOf table) actors
   pub quiet : IsQuiet (map known_in actors)
+
+-- an actor of the table has claimed t, and the record of the token has this label and no aim
+pub record HasClaimed (table : Named) (actor : Standing) (t : WaitRef) (l : Label) : Type 0 where
+  pub of : IsOf table actor
+  pub token : IsClaimed actor.known t
+  pub aim : IsIn (t, []) actor.known.aims
+  pub label : l ≡ bound t.handle t.generation

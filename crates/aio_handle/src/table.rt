@@ -23,7 +23,8 @@ use std::marker::{Model, PhantomData};
 /// The table that all actors share. Contracts see which table it is, and its numbers.
 ///
 /// Each handle has one word and one slot. Whatever calls are in the middle, the words and all
-/// actors' lists are at every moment a state that the machine of handles can reach.
+/// actors' lists are at every moment a state that the machine of handles can reach: that is the
+/// rule of its `atomic_table::Table` (`Ruled` in `specs`).
 #[derive(Drop)]
 pub struct Table<R: Record, W: World> {
     pub(crate) inner: atomic_table::Table<Option<R>, View, Config, Handles<R, W>, Global>,

@@ -4,4 +4,5 @@ mod lives;
 mod note;
 mod races;
 mod refusals;
+mod sleeps;
 mod stale;

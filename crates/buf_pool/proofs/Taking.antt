@@ -9,7 +9,8 @@ use Rattle.buf_pool.specs.Answers.{IsFull, HasNoFree, MayBeTaken, IsTakeable}
 use Rattle.buf_pool.proofs.Counts.{count_none}
 
 -- what is free may be taken
-pub free_taken : (frames : List Descriptor) (entry : Descriptor) → is_free entry ≡ true → MayBeTaken frames
+pub free_taken : (frames : List Descriptor) (entry : Descriptor) → is_free entry ≡ true
+    → MayBeTaken frames
     entry
 free_taken frames Free e = tt
 free_taken frames (InProgress tag reference) e = absurd (false≢true e)
@@ -17,8 +18,8 @@ free_taken frames (Valid tag pins) e = absurd (false≢true e)
 
 -- a search for a free frame finds one that may be taken, where one is counted
 pub taken_by_free : (frames : List Descriptor) (r : Option ℕ) → 0 < count_by is_free frames
-    → MatchOption r (HasNoFree frames) (λ f. (f < length frames) ×
-    (is_free (descriptor_at frames f) ≡ true)) → MatchOption r (IsFull frames)
+    → MatchOption r (HasNoFree frames) (λ f. (f < length frames)
+    × (is_free (descriptor_at frames f) ≡ true)) → MatchOption r (IsFull frames)
     (λ f. IsTakeable frames f)
 taken_by_free frames None some none = absurd (omega (arith, count_none is_free Free frames none))
 taken_by_free frames (Some f) some h = (h.0, free_taken frames (descriptor_at frames f) h.1)

@@ -17,11 +17,13 @@ IsValidAt frames tag f = (pins : ℕ) × (descriptor_at frames f ≡ Valid tag p
 
 -- the entry of the tag is in progress with this reference
 abbrev pub IsInProgressWith : List Descriptor → Tag → WaitRef → Type 0
-IsInProgressWith frames tag reference = (f : ℕ) × (descriptor_at frames f ≡ InProgress tag reference)
+IsInProgressWith frames tag reference = (f : ℕ)
+    × (descriptor_at frames f ≡ InProgress tag reference)
 
 -- no entry of the tag is in progress with this reference
 abbrev pub IsNotInProgress : List Descriptor → Tag → WaitRef → Type 0
-IsNotInProgress frames tag reference = (f : ℕ) → descriptor_at frames f ≡ InProgress tag reference → ⊥
+IsNotInProgress frames tag reference = (f : ℕ) → descriptor_at frames f ≡ InProgress tag reference
+    → ⊥
 
 -- what the entry of the tag says
 abbrev pub IsLook : List Descriptor → Tag → Look → Type 0

@@ -1,5 +1,6 @@
 //! The index of the pool.
-ghost use Rattle.std.specs.Prelude.{◌≡◌, ℕ, ◌-◌, ◌+◌, ◌^◌, ◌<◌, ◌≤◌, length, false, Some, MatchOption};
+ghost use Rattle.std.specs.Prelude.{◌≡◌, ℕ, ◌-◌, ◌+◌, ◌^◌, ◌<◌, ◌≤◌, length, false, Some};
+ghost use Rattle.std.specs.Prelude.{MatchOption};
 ghost use Rattle.std.specs.Prelude.{IsSomeAnd, IfOk, IfSome, List, replicate, slice_set};
 ghost use Rattle.std.specs.Prelude.{if◌then◌else◌};
 ghost use Rattle.aio_word.specs.declared.WaitRef.{WaitRef};
@@ -129,7 +130,8 @@ impl<W: World> PoolIndex<W> {
 
     // Puts another entry of the same tag at the frame, or none.
     fn change(&mut self, frame: u32, entry: Descriptor)
-        requires taken { (frame < length self.old) × (is_free (descriptor_at self.old frame) ≡ false) }
+        requires taken { (frame < length self.old) ×
+            (is_free (descriptor_at self.old frame) ≡ false) }
         requires tag { (tag : Tag) → tag_of entry ≡ Some tag → tag_at self.old frame ≡ Some tag }
         requires over { (tag : Tag) (reference : WaitRef) → entry ≡ InProgress tag reference → ⊥ }
         ensures frames { self.new ≡ slice_set self.old frame entry }

@@ -6,7 +6,8 @@
 //! `PoolLawful` of `specs/Lawful.antt` holds of it after each call. All its memory is taken at
 //! `open`. [`Pool`] is the index behind a lock, with the memory of each frame: a page in place,
 //! which many may read or one may write, and which carries no tag or the tag whose told, valid page
-//! it is (`Carries` of `specs/Carried.antt`). The pool's contracts say what the values that it hands
+//! it is (`Carries` of `specs/Carried.antt`). The pool's contracts say what the values that it
+//! hands
 //! out show, whatever other threads do: a [`Pin`] shows the told, valid page of the tag that was
 //! asked for, and the reference of a Busy is in range. Completed reads hand their pages to `&Pool`,
 //! by the trait `Places` of aio_callback. No call of the pool but `open` takes memory.

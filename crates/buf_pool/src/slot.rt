@@ -24,7 +24,8 @@ fn readers_of(word: u64) -> u64
 
 /// The memory of a frame: a page in place, which many may read or one may write. The word is
 /// `PRESENT`, with the number of readers, while the page is in the slot. A writer takes the page
-/// out, writes it while it is the writer's alone, and puts it in again; meanwhile the slot is empty,
+/// out, writes it while it is the writer's alone, and puts it in again; meanwhile the slot is
+/// empty,
 /// and its word is `FREE`.
 #[derive(Drop)]
 pub(crate) struct PageSlot<W: World> {

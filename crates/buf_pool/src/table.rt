@@ -3,7 +3,8 @@ ghost use Rattle.std.specs.Prelude.{◌≡◌, ◌≢◌, ℕ, ◌+◌, ◌*◌,
 ghost use Rattle.std.specs.Prelude.{◌↔◌};
 ghost use Rattle.buf_pool.specs.declared.descriptor.Tag.{Tag};
 ghost use Rattle.buf_pool.specs.Frames.{tag_at, IsFrameOf};
-ghost use Rattle.buf_pool.specs.Probes.{hash_of, home_of, Reaches, KeepsTaken, IsIndexed, empty_slots};
+ghost use Rattle.buf_pool.specs.Probes.{hash_of, home_of, Reaches, KeepsTaken, IsIndexed};
+ghost use Rattle.buf_pool.specs.Probes.{empty_slots};
 ghost use Rattle.buf_pool.specs.Sound.{IsTable};
 
 use crate::descriptor::{Descriptor, Tag};

@@ -59,7 +59,7 @@ fn worked_texts(rt: HostRuntime) -> Result<(), Fail> {
     ];
     for (bounds, items, text) in rows {
         let out = text_of(alloc, &page_of(alloc, bounds, items)?)?;
-        assert_eq!(rt; out.as_slice(), text.as_bytes());
+        assert_eq!(rt; out.as_slice(), text.as_bytes(), "{text}");
     }
     Ok(())
 }

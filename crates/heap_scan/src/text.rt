@@ -12,8 +12,8 @@ use std::alloc::AllocError;
 /// Appends the text of a valid page. On an error, which is want of memory, `out` holds what it
 /// held before.
 ///
-/// It takes memory for the text once, whatever the number of line pointers: at most 96 bytes and
-/// 32 for each.
+/// It takes memory twice, whatever the number of line pointers: a scratch of 96 bytes and 32 for
+/// each line pointer, which it gives back, and what `out` has to grow by.
 #[inline(never)]
 pub fn page_text(
     relation: u32,

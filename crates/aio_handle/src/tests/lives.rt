@@ -1,8 +1,10 @@
 //! Whole lives of handles, and how they are counted.
 ghost use Rattle.std.specs.Prelude.{◌≡◌};
 
-use crate::tests::note::{Note, closed, hand_in, last, live, live_on, nobody};
-use crate::{AcquireRefusal, Table};
+use crate::tests::note::{
+    Note, closed, end_whole, hand_in, last, live, live_on, nobody, submitted,
+};
+use crate::{AcquireRefusal, Table, Take};
 use page_check::World;
 use std::alloc::{AllocError, Global};
 use std::marker::Brand;
@@ -73,5 +75,37 @@ fn one_life_before_the_last_generation(rt: HostRuntime) -> Result<(), AllocError
     };
     assert!(&rt; refusal == AcquireRefusal::NoneFree);
     assert!(&rt; totals == (1, 1, 0));
+    Ok(())
+}
+
+/// How often the record of a life was bound, when it was claimed and when it came back.
+fn bound_in_a_life<W: World>(alloc: Global) -> Result<Option<(u32, u32)>, AllocError>
+    requires { W.handles ≡ 1 }
+{
+    let (table, mut actors) = Table::<Note, W>::open(alloc, 1, 1, 0, 0)?;
+    let Some(mut actor) = last(&table, &mut actors) else {
+        return Ok(None);
+    };
+    let Ok(token) = table.acquire(&mut actor) else {
+        return Ok(None);
+    };
+    let token = submitted(&table, &mut actor, token);
+    let Some(claimed) = table.claim(&mut actor, token.reference()) else {
+        return Ok(None);
+    };
+    let when_claimed = claimed.record().binds;
+    end_whole(&table, &mut actor, claimed);
+    let Take::Ready(local) = table.try_take(&mut actor, token) else {
+        return Ok(None);
+    };
+    Ok(Some((when_claimed, local.record().binds)))
+}
+
+#[test]
+fn a_record_is_bound_once_a_life(rt: HostRuntime) -> Result<(), AllocError> {
+    let Some(binds) = bound_in_a_life::<Brand>(rt.alloc())? else {
+        panic!(&rt; "a handle is free")
+    };
+    assert!(&rt; binds == (1, 1));
     Ok(())
 }

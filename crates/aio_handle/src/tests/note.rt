@@ -16,10 +16,11 @@ use std::alloc::{AllocError, Global};
 use std::marker::PhantomData;
 use std::sync::Wait;
 
-/// A record that reads nothing.
+/// A record that reads nothing, and counts how often it was bound.
 #[derive(Drop)]
 pub(crate) struct Note {
     label: Label,
+    pub(crate) binds: u32,
 }
 
 impl Record for Note {
@@ -38,6 +39,7 @@ impl Record for Note {
             ended: Class::Unended,
             settled: false,
         };
+        self.binds = self.binds.saturating_add(1);
     }
 
     fn handle(&self) -> u32 {
@@ -65,6 +67,7 @@ pub(crate) fn fresh() -> Note {
             ended: Class::Unended,
             settled: false,
         },
+        binds: 0,
     }
 }
 

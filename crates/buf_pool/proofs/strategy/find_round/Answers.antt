@@ -5,5 +5,6 @@ use Rattle.buf_pool.proofs.Rounds.{all_round}
 use Rattle.buf_pool.proofs.strategy.find_round.Goals as goal
 
 pub returns : goal.returns
-returns c = all_round (λ at. is_wanted c.args.wanted (descriptor_at c.args.frames.now at) ≡ false) _ _
+returns c = all_round (λ at. is_wanted c.args.wanted (descriptor_at c.args.frames.now at) ≡ false) _
+    _
     c.requires.start (λ k b. c.loop-step.invariant k (omega arith))
