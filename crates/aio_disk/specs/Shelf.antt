@@ -17,7 +17,7 @@ pub record Files : Type 0 where
   pub named : NamedFiles
   pub segment : ℕ
 
--- files of relations that PostgreSQL was built by default for (`RELSEG_SIZE` of `pg_config.h`)
+-- files of relations that have this segment size
 abbrev pub files_in : ℕ → NamedFiles → Files
 files_in segment named = record { named = named; segment = segment }
 
@@ -59,6 +59,7 @@ told_of files names = option_map (λ f. told_by f names) files
 abbrev pub AllThere : NamedFiles → List (List ℕ) → Type 0
 AllThere named names = All (λ name. IsSome (contents_of named name)) names
 
+-- the same, as a test
 abbrev pub are_there : NamedFiles → List (List ℕ) → Bool
 are_there named names = list_all (λ name. is_some (contents_of named name)) names
 

@@ -84,7 +84,7 @@ fn open_relations<R: Files<File = File> + AllocGlobal>(
 ///
 /// An open opens all files of all relations that it names. The file `NAME.1` is one of a relation
 /// only behind a file `NAME` of exactly 131072 whole blocks, `NAME.2` only behind such a file
-/// `NAME.1`, and so on: no other file is looked for.
+/// `NAME.1`, and so on: no other file is opened.
 #[derive(Drop)]
 pub struct FileShelf<'r, R: Files<File = File> + AllocGlobal> {
     rt: &'r R,
