@@ -116,17 +116,6 @@ fn pages_one_by_one_by_64_handles(rt: HostRuntime) -> Result<(), Fail> {
 }
 
 #[test]
-fn segments_of_one_block(rt: HostRuntime) -> Result<(), Fail> {
-    let settings = ScanSettings {
-        segment: 1,
-        ..USUAL
-    };
-    let outcome = check_listing(&rt, &settings, 512)?;
-    assert_eq!(&rt; outcome.incarnations, 512);
-    Ok(())
-}
-
-#[test]
 fn all_actors_over_sixteen_frames(rt: HostRuntime) -> Result<(), Fail> {
     let settings = ScanSettings {
         workers: 32,
