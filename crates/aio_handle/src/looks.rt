@@ -54,4 +54,12 @@ impl<R: Record, W: World> Table<R, W> {
             self.sleepers.end(handle);
         }
     }
+
+    /// Whether an actor rests on the handle, or is about to: what a view of waiting backends shows
+    /// (`AioIoCompletion` of `pg_stat_activity`). It may no longer be so once the answer is there.
+    pub fn is_rested_on(&self, handle: u32) -> bool
+        requires range { handle < W.handles }
+    {
+        self.sleepers.are_on(handle as usize)
+    }
 }

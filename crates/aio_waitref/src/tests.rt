@@ -255,12 +255,13 @@ fn owner_executes_its_own_unclaimed_io(rt: HostRuntime) -> Result<(), AllocError
     Ok(())
 }
 
-/// When a runner ends its I/O: once so many actors have begun to wait, and it has then given up its
-/// turn so often.
+/// When a runner ends its I/O: once so many actors have begun to wait, where it is to be so once
+/// one of them rests on the handle, and once it has then given up its turn so often.
 #[derive(Drop)]
 struct Moment {
     begun: AtomicU64,
     count: u64,
+    rested: bool,
     turns: u32,
 }
 
@@ -269,7 +270,18 @@ impl Moment {
         Moment {
             begun: AtomicU64::new(0),
             count,
+            rested: false,
             turns,
+        }
+    }
+
+    /// Once one actor rests on the handle.
+    fn when_rested() -> Moment {
+        Moment {
+            begun: AtomicU64::new(0),
+            count: 1,
+            rested: true,
+            turns: 0,
         }
     }
 
@@ -281,6 +293,17 @@ impl Moment {
     fn all_have_begun<T: Wait>(&self, rt: &T) {
         for _ in rt.forever() {
             if self.begun.load(Ordering::SeqCst) == self.count {
+                break;
+            }
+            yield_now();
+        }
+    }
+
+    fn one_rests<W: World, T: Wait>(&self, rt: &T, table: &Table<Note, W>, handle: u32)
+        requires { handle < W.handles }
+    {
+        for _ in rt.forever() {
+            if !self.rested || table.is_rested_on(handle) {
                 break;
             }
             yield_now();
@@ -306,6 +329,7 @@ fn owner_beside_runner<W: World + Send + Sync, T: Threads + Wait + Sync>(
 ) -> Waited
     requires owner { IsOf table.now owner × IsInFlight owner.known token }
     requires runner { HasClaimed table.now runner claimed.0 claimed.1.label }
+    requires handles { W.handles ≡ 8 }
 {
     let (waited, ()) = join(
         rt,
@@ -316,9 +340,10 @@ fn owner_beside_runner<W: World + Send + Sync, T: Threads + Wait + Sync>(
             wait_counted(rt, table, owner, token)
         },
         ||
-            requires { HasClaimed table.now runner claimed.0 claimed.1.label }
+            requires { HasClaimed table.now runner claimed.0 claimed.1.label × (W.handles ≡ 8) }
         {
             moment.all_have_begun(rt);
+            moment.one_rests(rt, table, SHORT.handle);
             moment.give_up_turns();
             end_as(table, &mut runner, claimed, Class::Short);
         },
@@ -327,15 +352,16 @@ fn owner_beside_runner<W: World + Send + Sync, T: Threads + Wait + Sync>(
 }
 
 /// An I/O of handle 5 that a runner has claimed before its owner begins to wait, and that it ends
-/// short so many turns after that. The owner is the second of two backends with four handles each.
+/// short at the moment. The owner is the second of two backends with four handles each, whose
+/// generations begin at 3.
 fn claimed_before<W: World + Send + Sync, T: Threads + Wait + Sync>(
     rt: &T,
     alloc: Global,
-    turns: u32,
+    moment: &Moment,
 ) -> Result<Option<Waited>, AllocError>
     requires { W.handles ≡ 8 }
 {
-    let (table, mut actors) = Table::<Note, W>::open(alloc, 2, 4, 1, 0)?;
+    let (table, mut actors) = Table::<Note, W>::open(alloc, 2, 4, 1, 3)?;
     let Some(mut runner) = last(&table, &mut actors) else {
         return Ok(None);
     };
@@ -348,8 +374,7 @@ fn claimed_before<W: World + Send + Sync, T: Threads + Wait + Sync>(
     let Some(claimed) = claimed_by(&table, &mut runner, token.reference()) else {
         return Ok(None);
     };
-    let moment = Moment::new(1, turns);
-    Ok(Some(owner_beside_runner(rt, &table, owner, token, runner, claimed, &moment)))
+    Ok(Some(owner_beside_runner(rt, &table, owner, token, runner, claimed, moment)))
 }
 
 const SHORT: Waited = Waited {
@@ -360,7 +385,7 @@ const SHORT: Waited = Waited {
 
 #[test]
 fn runner_has_claimed_before(rt: HostRuntime) -> Result<(), AllocError> {
-    let Some(waited) = claimed_before::<Brand, _>(&rt, rt.alloc(), 0)? else {
+    let Some(waited) = claimed_before::<Brand, _>(&rt, rt.alloc(), &Moment::new(1, 0))? else {
         panic!(&rt; "a handle is free")
     };
     assert!(&rt; waited == SHORT);
@@ -372,11 +397,24 @@ fn runner_has_claimed_before(rt: HostRuntime) -> Result<(), AllocError> {
 #[test]
 fn owner_sleeps_until_it_is_woken(rt: HostRuntime) -> Result<(), AllocError> {
     for turns in 0..400 {
-        let Some(waited) = claimed_before::<Brand, _>(&rt, rt.alloc(), 5 * turns)? else {
+        let moment = Moment::new(1, 5 * turns);
+        let Some(waited) = claimed_before::<Brand, _>(&rt, rt.alloc(), &moment)? else {
             panic!(&rt; "a handle is free")
         };
         assert!(&rt; waited == SHORT);
     }
+    Ok(())
+}
+
+/// The runner ends the I/O only once the owner rests: a wait that looked again and again instead
+/// would never return.
+#[test]
+fn a_wait_rests_and_does_not_spin(rt: HostRuntime) -> Result<(), AllocError> {
+    let moment = Moment::when_rested();
+    let Some(waited) = claimed_before::<Brand, _>(&rt, rt.alloc(), &moment)? else {
+        panic!(&rt; "a handle is free")
+    };
+    assert!(&rt; waited == SHORT);
     Ok(())
 }
 
@@ -457,7 +495,7 @@ fn three_wait<W: World + Send + Sync, T: Threads + Wait + Sync>(
         rt,
         || -> Waited
             requires { IsOf shared.now owner × IsInFlight owner.known token
-                × HasClaimed shared.now fourth claimed.0 claimed.1.label }
+                × HasClaimed shared.now fourth claimed.0 claimed.1.label × (W.handles ≡ 8) }
         { owner_beside_runner(rt, shared, owner, token, fourth, claimed, &moment) },
         || -> (u64, u64)
             requires { IsOf shared.now second × IsOf shared.now third
