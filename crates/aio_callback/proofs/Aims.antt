@@ -2,18 +2,26 @@
 use Rattle.std.proofs.Common.{◌≡◌, List, [], ◌∷◌, map, refl, arith}
 use Rattle.aio_callback.specs.declared.chain.CallbackId.{CallbackId}
 use Rattle.aio_callback.specs.declared.chain.CallbackId.TheVariants.{File, Buffer, Count}
+use Rattle.aio_callback.specs.declared.chain.CallbackId.TheVariants.{ZeroBuffer}
 use Rattle.aio_callback.specs.Reading.{Reading, ReadsAs, aim_in, number_of_id}
 
 same-id : (a b : CallbackId) → number_of_id a ≡ number_of_id b → a ≡ b
 same-id File File e = refl
 same-id File Buffer e = absurd (omega arith)
 same-id File Count e = absurd (omega arith)
+same-id File ZeroBuffer e = absurd (omega arith)
 same-id Buffer File e = absurd (omega arith)
 same-id Buffer Buffer e = refl
 same-id Buffer Count e = absurd (omega arith)
+same-id Buffer ZeroBuffer e = absurd (omega arith)
 same-id Count File e = absurd (omega arith)
 same-id Count Buffer e = absurd (omega arith)
 same-id Count Count e = refl
+same-id Count ZeroBuffer e = absurd (omega arith)
+same-id ZeroBuffer File e = absurd (omega arith)
+same-id ZeroBuffer Buffer e = absurd (omega arith)
+same-id ZeroBuffer Count e = absurd (omega arith)
+same-id ZeroBuffer ZeroBuffer e = refl
 
 same-ids : (xs ys : List CallbackId) → map number_of_id xs ≡ map number_of_id ys → xs ≡ ys
 same-ids [] [] e = refl

@@ -1,6 +1,6 @@
--- A chain of callbacks never raises the number of its result, and changes no page.
-use Rattle.std.proofs.Common.{◌≡◌, ℕ, ◌≤◌, Bool, true, false, nat_lt, ◌==◌, if◌then◌else◌}
-use Rattle.std.proofs.Common.{List, [], ◌∷◌, take, le_refl, refl, ◌∙◌, arith, Option}
+-- A chain of callbacks never raises the number of its result.
+use Rattle.std.proofs.Common.{◌≡◌, ℕ, zero, suc, ap, subst, ◌≤◌, Bool, true, false, nat_lt, ◌==◌}
+use Rattle.std.proofs.Common.{if◌then◌else◌, List, [], ◌∷◌, take, le_refl, refl, arith, Option}
 use Rattle.std.proofs.Common.{Some, None, pos}
 use Rattle.std.proofs.lemmas.List.Quantifiers.{position-Some}
 use Rattle.std.proofs.lemmas.List.{length-take}
@@ -10,7 +10,12 @@ use Rattle.aio_callback.specs.declared.chain.CallbackId.{CallbackId}
 use Rattle.aio_callback.specs.declared.chain.CallbackId.TheVariants.{File, Buffer, Count}
 use Rattle.aio_callback.specs.Chain.{result_of, number_in, is_negative, is_error, is_bad, first_bad}
 use Rattle.aio_callback.specs.Chain.{stopped_at, after_file, after_buffer, Outcome, after_callback}
-use Rattle.aio_callback.specs.Chain.{chain_of, is_checked, good_of}
+use Rattle.aio_callback.specs.declared.chain.CallbackId.TheVariants.{ZeroBuffer}
+use Rattle.aio_callback.specs.Chain.{chain_of, is_checked, good_of, warned, after_zero}
+use Rattle.aio_callback.specs.Chain.{bad_among, zeroed_first, first_of, IsWithin}
+use Rattle.aio_callback.specs.declared.chain.Raw.{Raw}
+use Rattle.aio_callback.specs.declared.chain.Raw.TheVariants.{Read, Failed}
+use Rattle.std.specs.Prelude.{IfSome}
 
 abbrev Below : ℕ → AioResult → Type 0
 Below n p = number_in p.result ≤ n
@@ -42,11 +47,29 @@ buffer_below pages p =
     either_below (is_error p.status) p _ (number_in p.result) (le_refl (number_in p.result))
     (stopped_below pages p (first_bad (take (number_in p.result) pages)) refl)
 
+pub warned_same : (k : ℕ) (p : AioResult) → (warned k p).result ≡ p.result
+warned_same zero p = refl
+warned_same (suc k) p = refl
+
+either_outcome_below : (b : Bool) (x y : Outcome) (n : ℕ) → Below n x.result → Below n y.result
+    → Below n (if b then x else y).result
+either_outcome_below true x y n l r = l
+either_outcome_below false x y n l r = r
+
+pub zero_below : (o : Outcome) → Below (number_in o.result.result) (after_zero o).result
+unfolding after_zero
+zero_below o =
+    let n : ℕ = number_in o.result.result in
+    let same = ap number_in (warned_same (bad_among (take n o.pages)) o.result) in
+    either_outcome_below (is_error o.result.status) o (zeroed_first n o) n (le_refl n)
+    (omega arith)
+
 callback_below : (count : ℕ) (id : CallbackId) (o : Outcome)
     → Below (number_in o.result.result) (after_callback count id o).result
 callback_below count File o = file_below count o.result
 callback_below count Buffer o = buffer_below o.pages o.result
 callback_below count Count o = le_refl (number_in o.result.result)
+callback_below count ZeroBuffer o = zero_below o
 
 pub chain_below : (count : ℕ) (ids : List CallbackId) (o : Outcome)
     → Below (number_in o.result.result) (chain_of count ids o).result
@@ -66,15 +89,18 @@ good_below count ids o =
     let a = good_few (is_checked ids) (number_in (chain_of count ids o).result.result) in
     let b = chain_below count ids o in omega arith
 
-callback_pages : (count : ℕ) (id : CallbackId) (o : Outcome)
-    → (after_callback count id o).pages ≡ o.pages
-callback_pages count File o = refl
-callback_pages count Buffer o = refl
-callback_pages count Count o = refl
+first_within : (count : ℕ) (answer : Raw) → IsWithin count answer
+    → number_in (first_of answer).result ≤ count
+first_within count Failed w = omega arith
+first_within count (Read n) w = w
 
--- no callback changes a page
-pub chain_pages : (count : ℕ) (ids : List CallbackId) (o : Outcome)
-    → (chain_of count ids o).pages ≡ o.pages
-chain_pages count [] o = refl
-chain_pages count (id ∷ ids) o =
-    callback_pages count id (chain_of count ids o) ∙ chain_pages count ids o
+-- nor more than were asked for
+pub good_within : (count : ℕ) (ids : List CallbackId) (raw : Option Raw) (answer : Raw)
+    (first p : AioResult) → IfSome raw (λ a. IsWithin count a) → raw ≡ Some answer
+    → first ≡ first_of answer → number_in p.result ≤ number_in first.result → good_of ids p ≤ count
+good_within count ids raw answer first p w e f below =
+    let within = subst (λ (o : Option Raw). IfSome o (λ a. IsWithin count a)) e w in
+    let a = first_within count answer within in
+    let b = good_few (is_checked ids) (number_in p.result) in
+    let same = ap (λ (q : AioResult). number_in q.result) f in
+    omega arith

@@ -1,5 +1,5 @@
--- What passed a Buffer callback is not bad.
-use Rattle.std.proofs.Common.{◌≡◌, ℕ, ◌<◌, ◌≤◌, Bool, true, false, cond, nat_lt, ◌==◌}
+-- What passed a Buffer or a ZeroBuffer callback is not bad.
+use Rattle.std.proofs.Common.{◌≡◌, ℕ, zero, suc, ◌<◌, ◌≤◌, Bool, true, false, cond, nat_lt, ◌==◌}
 use Rattle.std.proofs.Common.{if◌then◌else◌, List, [], ◌∷◌, take, length, get_or, refl, sym, ap}
 use Rattle.std.proofs.Common.{◌∙◌, arith, Option, Some, None, pos}
 use Rattle.std.specs.List.{position_or_len}
@@ -15,8 +15,13 @@ use Rattle.aio_callback.specs.declared.chain.CallbackId.{CallbackId}
 use Rattle.aio_callback.specs.declared.chain.CallbackId.TheVariants.{File, Buffer, Count}
 use Rattle.aio_callback.specs.Chain.{result_of, number_in, is_negative, is_error, is_bad, first_bad}
 use Rattle.aio_callback.specs.Chain.{stopped_at, first_of, after_file, after_buffer, Outcome}
-use Rattle.aio_callback.specs.Chain.{outcome_of, chain_of, is_checked, good_of}
-use Rattle.aio_callback.proofs.Below.{chain_below, chain_pages}
+use Rattle.aio_callback.specs.declared.chain.CallbackId.TheVariants.{ZeroBuffer}
+use Rattle.aio_callback.specs.Chain.{chain_of, is_checked, good_of, begun, after_zero}
+use Rattle.aio_callback.specs.Chain.{bad_among, zeroed_first}
+use Rattle.page_check.specs.SynchronousAnswer.{zero_page}
+use Rattle.aio_callback.proofs.Below.{chain_below, warned_same}
+use Rattle.aio_callback.proofs.Changes.{zeros_not_bad, held_pages, begun_holds}
+use Rattle.aio_callback.proofs.Zeroing.{front_zeros}
 
 -- the first n pages are not bad
 abbrev Clean : List (List ℕ) → ℕ → Type 0
@@ -48,7 +53,7 @@ stopped_clean pages p n le is (Some i) e k lt =
     let l = length-take n pages in
     ap is_bad (sym (get_or-take n pages k [] (let x = s.0 in omega arith))) ∙ s.2 k lt
 
--- an error, or a result that passed a Buffer, tells pages that are not bad
+-- an error, or a result that passed a Buffer or a ZeroBuffer, tells pages that are not bad
 record Tells (pages : List (List ℕ)) (checked : Bool) (p : AioResult) : Type 0 where
   failed : is_error p.status ≡ true → Clean pages (number_in p.result)
   passed : checked ≡ true → Clean pages (number_in p.result)
@@ -91,40 +96,81 @@ buffer_tells pages c p le t =
     (first_bad (take (number_in p.result) pages)) refl in
     record { failed = λ _. s; passed = λ _. s })
 
-abbrev has_buffer : List CallbackId → Bool
-has_buffer [] = false
-has_buffer (Buffer ∷ ids) = true
-has_buffer (File ∷ ids) = has_buffer ids
-has_buffer (Count ∷ ids) = has_buffer ids
+not_bad_now : (bad : Bool) (page : List ℕ) → is_bad page ≡ bad
+    → is_bad (if bad then zero_page else page) ≡ false
+not_bad_now true page e = zeros_not_bad
+not_bad_now false page e = e
 
-checked_has : (ids : List CallbackId) → is_checked ids ≡ true → has_buffer ids ≡ true
-checked_has [] e = e
-checked_has (Buffer ∷ ids) e = refl
-checked_has (File ∷ ids) e = checked_has ids e
-checked_has (Count ∷ ids) e = checked_has ids e
-
-abbrev begun : Raw → List (List ℕ) → Outcome
-begun raw pages = outcome_of (first_of raw) pages
+zeros_clean : (pages : List (List ℕ)) (n k : ℕ) → n ≤ length pages → k < n
+    → is_bad (get_or (front_zeros n pages) k []) ≡ false
+zeros_clean pages zero k le lt = absurd (omega arith)
+zeros_clean [] (suc n) k le lt = absurd (omega arith)
+zeros_clean (p ∷ ps) (suc n) zero le lt = not_bad_now (is_bad p) p refl
+zeros_clean (p ∷ ps) (suc n) (suc k) le lt = zeros_clean ps n k (omega arith) (omega arith)
 
 abbrev TellsOf : Bool → Outcome → Type 0
 TellsOf c o = Tells o.pages c o.result
 
+either_outcome_tells : (b : Bool) (c : Bool) (x y : Outcome) → (b ≡ true → TellsOf c x)
+    → TellsOf c y → TellsOf c (if b then x else y)
+either_outcome_tells true c x y l r = l refl
+either_outcome_tells false c x y l r = r
+
+zero_tells : (c : Bool) (o : Outcome) → number_in o.result.result ≤ length o.pages → TellsOf c o
+    → TellsOf true (after_zero o)
+unfolding after_zero
+zero_tells c o le t =
+    let n : ℕ = number_in o.result.result in
+    let same : number_in (zeroed_first n o).result.result ≡ n =
+    ap number_in (warned_same (bad_among (take n o.pages)) o.result) in
+    let clean : Clean (zeroed_first n o).pages (number_in (zeroed_first n o).result.result) =
+    λ k lt. zeros_clean o.pages n k le (omega arith) in
+    either_outcome_tells (is_error o.result.status) true o (zeroed_first n o)
+    (λ e. record { failed = t.failed; passed = λ _. t.failed e })
+    (record { failed = λ _. clean; passed = λ _. clean })
+
+-- a callback that checks pages is among them
+abbrev has_check : List CallbackId → Bool
+has_check [] = false
+has_check (Buffer ∷ ids) = true
+has_check (ZeroBuffer ∷ ids) = true
+has_check (File ∷ ids) = has_check ids
+has_check (Count ∷ ids) = has_check ids
+
+checked_has : (ids : List CallbackId) → is_checked ids ≡ true → has_check ids ≡ true
+checked_has [] e = e
+checked_has (Buffer ∷ ids) e = refl
+checked_has (ZeroBuffer ∷ ids) e = refl
+checked_has (File ∷ ids) e = checked_has ids e
+checked_has (Count ∷ ids) e = checked_has ids e
+
+-- no more pages were read than there are
+in_room : (count : ℕ) (ids : List CallbackId) (raw : Raw) (pages : List (List ℕ))
+    → number_in (first_of raw).result ≤ length pages
+    → number_in (chain_of count ids (begun raw pages)).result.result
+    ≤ length (chain_of count ids (begun raw pages)).pages
+in_room count ids raw pages le =
+    let o = chain_of count ids (begun raw pages) in
+    let b = chain_below count ids (begun raw pages) in
+    let l = held_pages o.zeroed pages o.pages (begun_holds count ids raw pages) in omega arith
+
 chain_tells : (count : ℕ) (ids : List CallbackId) (raw : Raw) (pages : List (List ℕ))
     → number_in (first_of raw).result ≤ length pages
-    → TellsOf (has_buffer ids) (chain_of count ids (begun raw pages))
+    → TellsOf (has_check ids) (chain_of count ids (begun raw pages))
 chain_tells count [] (Read n) pages le =
     record { failed = λ e. absurd (cc); passed = λ e. absurd (cc) }
 chain_tells count [] Failed pages le =
     record { failed = λ e. absurd (cc); passed = λ e. absurd (cc) }
 chain_tells count (File ∷ ids) raw pages le =
     let o = chain_of count ids (begun raw pages) in
-    file_tells count o.pages (has_buffer ids) o.result (chain_tells count ids raw pages le)
+    file_tells count o.pages (has_check ids) o.result (chain_tells count ids raw pages le)
 chain_tells count (Buffer ∷ ids) raw pages le =
     let o = chain_of count ids (begun raw pages) in
-    let b = chain_below count ids (begun raw pages) in
-    let l = ap (λ (ps : List (List ℕ)). length ps) (chain_pages count ids (begun raw pages)) in
-    buffer_tells o.pages (has_buffer ids) o.result (omega arith)
+    buffer_tells o.pages (has_check ids) o.result (in_room count ids raw pages le)
     (chain_tells count ids raw pages le)
+chain_tells count (ZeroBuffer ∷ ids) raw pages le =
+    zero_tells (has_check ids) (chain_of count ids (begun raw pages))
+    (in_room count ids raw pages le) (chain_tells count ids raw pages le)
 chain_tells count (Count ∷ ids) raw pages le = chain_tells count ids raw pages le
 
 good_by : (c : Bool) (pages : List (List ℕ)) (p : AioResult)

@@ -1,26 +1,27 @@
 -- A record that was answered from the told pages is completed by its callbacks.
 use Rattle.std.proofs.Common.{◌≡◌, ◌≢◌, ℕ, ◌+◌, ◌<◌, ◌≤◌, Bool, true, false, cond, ◌==◌}
-use Rattle.std.proofs.Common.{List, [], length, get_or, refl, sym, ap, ◌∙◌, subst, arith}
+use Rattle.std.proofs.Common.{List, [], ◌∷◌, map, length, get_or, refl, sym, ap, ◌∙◌, subst, arith}
 use Rattle.std.proofs.Common.{Option, Some, None}
 use Rattle.std.specs.Prelude.{IfSome}
 use Rattle.std.proofs.lemmas.List.{get_or-take}
 use Rattle.std.proofs.lemmas.List.FromFn.{get_or-map-range_with_len}
 use Rattle.page_check.specs.Told.{Told, page_of, blocks_of}
 use Rattle.page_check.specs.Verdict.{verdict_of, IsValid}
-use Rattle.page_check.specs.SynchronousAnswer.{Page, found_at}
-use Rattle.page_check.proofs.SynchronousReads.{found_at-page}
+use Rattle.page_check.specs.SynchronousAnswer.{Page, Damaged, found_at}
+use Rattle.page_check.proofs.SynchronousReads.{found_at-page, found_at-damaged}
 use Rattle.page_check.specs.declared.verdict.Verdict.{Verdict}
 use Rattle.page_check.specs.declared.verdict.Verdict.TheVariants.{Zero, Sane, Bad}
 use Rattle.aio_disk.specs.Disk.{ReadsPages}
 use Rattle.aio_word.specs.declared.Class.TheVariants.{Unended, Whole, Short}
 use Rattle.aio_callback.specs.declared.chain.Raw.{Raw}
 use Rattle.aio_callback.specs.declared.chain.Raw.TheVariants.{Read, Failed}
-use Rattle.aio_callback.specs.Chain.{is_bad_verdict, first_of, class_of, outcome_of, chain_of}
+use Rattle.aio_callback.specs.Chain.{is_bad, is_bad_verdict, class_of, begun, chain_of}
 use Rattle.aio_callback.specs.Chain.{good_of, Outcome}
-use Rattle.aio_callback.specs.Good.{IsGood}
+use Rattle.aio_callback.specs.Good.{IsGivenAs}
 use Rattle.aio_callback.specs.Reading.{Reading, IsToldRead, Answered, Completed}
-use Rattle.aio_callback.specs.Reading.{Fits, shared_of, IsSharedOf, aim_in}
-use Rattle.aio_callback.proofs.Below.{good_below, chain_pages}
+use Rattle.aio_callback.specs.Reading.{Fits, shared_of, IsSharedOf, aim_in, number_of_id}
+use Rattle.aio_callback.proofs.Below.{good_below}
+use Rattle.aio_callback.proofs.Changes.{IsHeld, held_at, held_pages, begun_holds}
 use Rattle.aio_callback.proofs.Clean.{good_clean}
 
 not_bad : (v : Verdict) → is_bad_verdict v ≡ false → v ≢ Bad
@@ -29,9 +30,9 @@ not_bad Sane e b = absurd (cc)
 not_bad Bad e b = absurd (cc)
 
 -- the page of a block that the relation has
-record IsPageOf (told : Told) (relation block : ℕ) (page : List ℕ) : Type 0 where
-  there : block < blocks_of told relation
-  same : page ≡ page_of told relation block
+pub record IsPageOf (told : Told) (relation block : ℕ) (page : List ℕ) : Type 0 where
+  pub there : block < blocks_of told relation
+  pub same : page ≡ page_of told relation block
 
 -- a valid one is what its block gives
 found_good : (told : Option Told) (relation block : ℕ) (page : List ℕ) → IsValid page
@@ -42,8 +43,22 @@ found_good (Some t) relation block page valid h =
     let P : List ℕ → Type 0 = λ p. found_at t relation block ≡ Page p in
     subst P (sym h.same) (found_at-page t relation block h.there (subst IsValid h.same valid))
 
+is_bad-verdict : (v : Verdict) → is_bad_verdict v ≡ true → v ≡ Bad
+is_bad-verdict Bad is = refl
+is_bad-verdict Zero is = absurd (cc)
+is_bad-verdict Sane is = absurd (cc)
+
+-- and a bad one tells that its block is damaged
+pub found_bad : (told : Option Told) (relation block : ℕ) (page : List ℕ) → is_bad page ≡ true
+    → IfSome told (λ t. IsPageOf t relation block page)
+    → IfSome told (λ t. found_at t relation block ≡ Damaged)
+found_bad None relation block page bad h = h
+found_bad (Some t) relation block page bad h =
+    found_at-damaged t relation block h.there
+    (is_bad-verdict (verdict_of (page_of t relation block)) (ap is_bad (sym h.same) ∙ bad))
+
 -- a page among those that were read is that of its block
-told_at : (told : Option Told) (relation first n i : ℕ) (pages : List (List ℕ)) → i < n
+pub told_at : (told : Option Told) (relation first n i : ℕ) (pages : List (List ℕ)) → i < n
     → IfSome told (λ t. ReadsPages t relation first n pages)
     → IfSome told (λ t. IsPageOf t relation (first + i) (get_or pages i []))
 told_at None relation first n i pages lt h = h
@@ -54,39 +69,47 @@ told_at (Some t) relation first n i pages lt h = record {
       ∙ get_or-map-range_with_len (page_of t relation) first n i (first + i) [] lt refl);
 }
 
+-- what a page that is held in place of a told one is given as
+given_as : (told : Option Told) (relation block : ℕ) (mark : Bool) (read page : List ℕ)
+    → IfSome told (λ t. IsPageOf t relation block read) → IsValid page → IsHeld mark read page
+    → IsGivenAs told relation block page mark
+given_as told relation block false read page there valid held = record {
+  valid = valid;
+  told_page = found_good told relation block page valid
+      (subst (λ (x : List ℕ). IfSome told (λ t. IsPageOf t relation block x)) (sym held) there);
+}
+given_as told relation block true read page there valid held =
+    record { zeros = held.zeros; told_bad = found_bad told relation block read held.bad there }
+
 -- what the callbacks make of this answer and these pages
 abbrev run : Reading → Raw → List (List ℕ) → Outcome
-run r answer pages = chain_of r.count r.ids (outcome_of (first_of answer) pages)
+run r answer pages = chain_of r.count r.ids (begun answer pages)
 
 goods : (told : Option Told) (r : Reading) (answer : Raw) (pages : List (List ℕ))
     → IsToldRead told r answer pages → r.count ≤ length pages
     → (i : ℕ) → i < good_of r.ids (run r answer pages).result
-    → IsGood told r.relation (r.first + i) (get_or (run r answer pages).pages i [])
+    → IsGivenAs told r.relation (r.first + i) (get_or (run r answer pages).pages i [])
+    (get_or (run r answer pages).zeroed i false)
 goods told r Failed pages h room i lt =
-    absurd (let b = good_below r.count r.ids (outcome_of (first_of Failed) pages) in omega arith)
+    let b = good_below r.count r.ids (begun Failed pages) in absurd (omega arith)
 goods told r (Read n) pages h room i lt =
-    let b = good_below r.count r.ids (outcome_of (first_of (Read n)) pages) in
+    let b = good_below r.count r.ids (begun (Read n) pages) in
     let w = h.0 in
-    let same = chain_pages r.count r.ids (outcome_of (first_of (Read n)) pages) in
-    let valid : IsValid (get_or (run r (Read n) pages).pages i []) =
-    not_bad (verdict_of (get_or (run r (Read n) pages).pages i []))
+    let o = run r (Read n) pages in
+    let valid : IsValid (get_or o.pages i []) =
+    not_bad (verdict_of (get_or o.pages i []))
     (good_clean r.count r.ids (Read n) pages (omega arith) i lt) in
-    record {
-      valid = valid;
-      told_page = found_good told r.relation (r.first + i)
-          (get_or (run r (Read n) pages).pages i []) valid
-          (subst (λ (ps : List (List ℕ)).
-          IfSome told (λ t. IsPageOf t r.relation (r.first + i) (get_or ps i [])))
-          (sym same) (told_at told r.relation r.first n i pages (omega arith) h.1));
-    }
+    given_as told r.relation (r.first + i) (get_or o.zeroed i false) (get_or pages i [])
+    (get_or o.pages i []) (told_at told r.relation r.first n i pages (omega arith) h.1) valid
+    (held_at o.zeroed pages o.pages i (omega arith) (begun_holds r.count r.ids (Read n) pages))
 
 few : (told : Option Told) (r : Reading) (answer : Raw) (pages : List (List ℕ))
     → IsToldRead told r answer pages → good_of r.ids (run r answer pages).result ≤ r.count
 few told r (Read n) pages h =
-    let b = good_below r.count r.ids (outcome_of (first_of (Read n)) pages) in
+    let b = good_below r.count r.ids (begun (Read n) pages) in
     let w = h.0 in omega arith
 few told r Failed pages h =
-    let b = good_below r.count r.ids (outcome_of (first_of Failed) pages) in omega arith
+    let b = good_below r.count r.ids (begun Failed pages) in omega arith
 
 still : (told : Option Told) (r : Reading) (answer other : Raw) (pages : List (List ℕ))
     → IsToldRead told r answer pages → IsToldRead told (shared_of r other) answer pages
@@ -149,6 +172,7 @@ fits_after told relations r s a h room aimed some w =
 pub aim_after : (told : Option Told) (r s : Reading) → Answered told r
     → IfSome r.raw (IsSharedOf s r) → aim_in s ≡ aim_in r
 aim_after told r s a h =
+    let o = run r a.answer r.pages in
     ap aim_in (shared_by_answer r s r.raw a.answer a.is h)
-    ∙ ap (λ (ps : List (List ℕ)). aim_in (record r { pages = ps }))
-    (chain_pages r.count r.ids (outcome_of (first_of a.answer) r.pages))
+    ∙ ap (λ (n : ℕ). n ∷ r.relation ∷ r.first ∷ r.count ∷ map number_of_id r.ids)
+    (held_pages o.zeroed r.pages o.pages (begun_holds r.count r.ids a.answer r.pages))

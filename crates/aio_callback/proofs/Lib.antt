@@ -1,9 +1,11 @@
 pub mod Below
+pub mod Changes
 pub mod Clean
 pub mod Completing
-pub mod FiveWays
+pub mod SixWays
 pub mod Grown
 pub mod ReadInto
 pub mod Refilled
 pub mod Trying
 pub mod Aims
+pub mod Zeroing

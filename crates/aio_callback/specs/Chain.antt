@@ -1,20 +1,24 @@
 -- The chain of callbacks of a read: from the raw answer and the pages that were read to the result
 -- and the pages that are held. The callbacks run from the last registered to the first.
 use Rattle.std.specs.Prelude.{ℕ, ◌≤◌, Bool, true, false, ◌||◌, ◌==◌, cond, nat_lt}
-use Rattle.std.specs.Prelude.{List, [], ◌∷◌, take, position, Option, Some, None, if◌then◌else◌}
-use Rattle.std.specs.Prelude.{ℤ, pos, negsuc}
+use Rattle.std.specs.Prelude.{List, [], ◌∷◌, ◌++◌, length, map, take, drop, position, count_by}
+use Rattle.std.specs.Prelude.{replicate, Option, Some, None, if◌then◌else◌, zero, suc, ℤ, pos}
+use Rattle.std.specs.Prelude.{negsuc}
+use Rattle.std.specs.List.{zip}
 use Rattle.page_check.specs.declared.verdict.Verdict.{Verdict}
 use Rattle.page_check.specs.declared.verdict.Verdict.TheVariants.{Bad}
 use Rattle.page_check.specs.Verdict.{verdict_of}
+use Rattle.page_check.specs.SynchronousAnswer.{zero_page}
 use Rattle.aio_result.specs.declared.AioResult.{AioResult}
 use Rattle.aio_result.specs.declared.Status.{Status}
-use Rattle.aio_result.specs.declared.Status.TheVariants.{Good, Partial, Error}
+use Rattle.aio_result.specs.declared.Status.TheVariants.{Good, Partial, Warning, Error}
 use Rattle.aio_word.specs.declared.Class.{Class}
 use Rattle.aio_word.specs.declared.Class.TheVariants as class
 use Rattle.aio_callback.specs.declared.chain.Raw.{Raw}
 use Rattle.aio_callback.specs.declared.chain.Raw.TheVariants.{Read, Failed}
 use Rattle.aio_callback.specs.declared.chain.CallbackId.{CallbackId}
 use Rattle.aio_callback.specs.declared.chain.CallbackId.TheVariants.{File, Buffer, Count}
+use Rattle.aio_callback.specs.declared.chain.CallbackId.TheVariants.{ZeroBuffer}
 
 abbrev pub result_of : ℕ → Status → ℕ → ℤ → AioResult
 result_of id status error number =
@@ -76,19 +80,66 @@ unfoldable pub after_buffer : List (List ℕ) → AioResult → AioResult
 after_buffer pages p =
     if is_error p.status then p else stopped_at p (first_bad (take (number_in p.result) pages))
 
--- a result beside the pages that are then held
+-- a result beside the pages that are then held, and which of them were set to zeros
 pub record Outcome : Type 0 where
   pub result : AioResult
   pub pages : List (List ℕ)
+  pub zeroed : List Bool
 
-abbrev pub outcome_of : AioResult → List (List ℕ) → Outcome
-outcome_of result pages = record { result = result; pages = pages }
+abbrev pub outcome_of : AioResult → List (List ℕ) → List Bool → Outcome
+outcome_of result pages zeroed = record { result = result; pages = pages; zeroed = zeroed }
 
--- what one callback makes of the outcome before it: today none changes a page
+-- so many pages, none of which was set to zeros
+abbrev pub none_zeroed : ℕ → List Bool
+none_zeroed room = replicate room false
+
+-- before any callback
+abbrev pub begun : Raw → List (List ℕ) → Outcome
+begun answer pages = outcome_of (first_of answer) pages (none_zeroed (length pages))
+
+-- zeros in place of a bad page
+abbrev pub zeros_if_bad : List ℕ → List ℕ
+zeros_if_bad page = if is_bad page then zero_page else page
+
+-- a page is zeroed where it was before, or is bad now
+abbrev pub mark_if_bad : List ℕ × Bool → Bool
+mark_if_bad x = is_bad x.0 || x.1
+
+-- all bad ones of these pages
+abbrev pub zeros_for_bad : List (List ℕ) → List (List ℕ)
+zeros_for_bad pages = map zeros_if_bad pages
+
+abbrev pub marks_for_bad : List (List ℕ) → List Bool → List Bool
+marks_for_bad pages zeroed = map mark_if_bad (zip pages zeroed)
+
+-- how many of these pages are bad
+abbrev pub bad_among : List (List ℕ) → ℕ
+bad_among pages = count_by is_bad pages
+
+-- a warning that says how many pages were zeroed, if any was
+abbrev pub warned : ℕ → AioResult → AioResult
+warned zero p = p
+warned (suc k) p = result_of 4 Warning (suc k) p.result
+
+-- the bad ones among the first n pages are set to zeros
+abbrev pub zeroed_first : ℕ → Outcome → Outcome
+zeroed_first n o = record {
+  result = warned (bad_among (take n o.pages)) o.result;
+  pages = zeros_for_bad (take n o.pages) ++ drop n o.pages;
+  zeroed = marks_for_bad (take n o.pages) (take n o.zeroed) ++ drop n o.zeroed;
+}
+
+-- an error stays; else the bad pages among those that were read become zeros
+unfoldable pub after_zero : Outcome → Outcome
+after_zero o =
+    if is_error o.result.status then o else zeroed_first (number_in o.result.result) o
+
+-- what one callback makes of the outcome before it
 abbrev pub after_callback : ℕ → CallbackId → Outcome → Outcome
 after_callback count File o = record o { result = after_file count o.result }
 after_callback count Buffer o = record o { result = after_buffer o.pages o.result }
 after_callback count Count o = o
+after_callback count ZeroBuffer o = after_zero o
 
 -- the callbacks run from the last registered to the first
 abbrev pub chain_of : ℕ → List CallbackId → Outcome → Outcome
@@ -103,10 +154,11 @@ abbrev pub has_file : List CallbackId → Bool
 has_file [] = false
 has_file (id ∷ ids) = is_file id || has_file ids
 
--- some registered Buffer runs after some File
+-- some registered Buffer or ZeroBuffer runs after some File
 abbrev pub is_checked : List CallbackId → Bool
 is_checked [] = false
 is_checked (Buffer ∷ ids) = has_file ids || is_checked ids
+is_checked (ZeroBuffer ∷ ids) = has_file ids || is_checked ids
 is_checked (File ∷ ids) = is_checked ids
 is_checked (Count ∷ ids) = is_checked ids
 

@@ -3,6 +3,7 @@ use Rattle.std.specs.Prelude.{◌+◌, ◌-◌, ◌^◌, min, List, [], ◌∷�
 use Rattle.aio_result.specs.declared.AioResult.{AioResult}
 use Rattle.aio_callback.specs.declared.chain.CallbackId.{CallbackId}
 use Rattle.aio_callback.specs.declared.chain.CallbackId.TheVariants.{File, Buffer, Count}
+use Rattle.aio_callback.specs.declared.chain.CallbackId.TheVariants.{ZeroBuffer}
 use Rattle.aio_callback.specs.declared.counting.Counts.{Counts}
 use Rattle.aio_callback.specs.Chain.{number_in}
 
@@ -19,3 +20,4 @@ counted_of [] r c = c
 counted_of (Count ∷ ids) r c = counted_of ids r (counted_once r c)
 counted_of (File ∷ ids) r c = counted_of ids r c
 counted_of (Buffer ∷ ids) r c = counted_of ids r c
+counted_of (ZeroBuffer ∷ ids) r c = counted_of ids r c

@@ -1,12 +1,12 @@
 -- What the places of pages were told.
-use Rattle.std.specs.Prelude.{◌≡◌, ℕ, ◌+◌, List, ◌++◌, map, nat_lt, Option, Some, None}
+use Rattle.std.specs.Prelude.{◌≡◌, ℕ, ◌+◌, List, ◌++◌, map, nat_lt, Option, Some, None, not, ◌&&◌}
 use Rattle.std.specs.Prelude.{if◌then◌else◌}
 use Rattle.std.specs.List.{range_with_len}
 use Rattle.aio_word.specs.declared.WaitRef.{WaitRef}
 use Rattle.aio_callback.specs.Chain.{good_of}
-use Rattle.aio_callback.specs.Reading.{Reading, page_in}
+use Rattle.aio_callback.specs.Reading.{Reading, page_in, zeroed_in}
 
--- one block is done under a wait reference, with its page where that is good
+-- one block is done under a wait reference, with its page where that is good and was not zeroed
 pub record Finish : Type 0 where
   pub relation : ℕ
   pub block : ℕ
@@ -27,7 +27,8 @@ finish_of r i = record {
   relation = r.relation;
   block = r.first + i;
   reference = reference_in r;
-  page = if nat_lt i (good_of r.ids r.result) then Some (page_in r i) else None;
+  page = if nat_lt i (good_of r.ids r.result) && not (zeroed_in r i) then Some (page_in r i)
+      else None;
 }
 
 -- all its blocks in rising order

@@ -15,8 +15,10 @@ use Rattle.aio_callback.specs.declared.chain.Raw.{Raw}
 use Rattle.aio_callback.specs.declared.chain.Raw.TheVariants.{Read, Failed}
 use Rattle.aio_callback.specs.declared.chain.CallbackId.{CallbackId}
 use Rattle.aio_callback.specs.declared.chain.CallbackId.TheVariants.{File, Buffer, Count}
-use Rattle.aio_callback.specs.Chain.{Outcome, result_of, first_of, class_of, chain_of, good_of}
-use Rattle.aio_callback.specs.Good.{IsGood}
+use Rattle.aio_callback.specs.declared.chain.CallbackId.TheVariants.{ZeroBuffer}
+use Rattle.aio_callback.specs.Chain.{Outcome, outcome_of, none_zeroed, begun, result_of, class_of}
+use Rattle.aio_callback.specs.Chain.{chain_of, good_of}
+use Rattle.aio_callback.specs.Good.{IsGivenAs}
 
 pub record Reading : Type 0 where
   pub label : Label
@@ -30,11 +32,14 @@ pub record Reading : Type 0 where
   pub result : AioResult
   -- its pages, as many as it has room for
   pub pages : List (List ℕ)
+  -- which of them were set to zeros when it ended
+  pub zeroed : List Bool
 
 abbrev pub number_of_id : CallbackId → ℕ
 number_of_id File = 1
 number_of_id Buffer = 2
 number_of_id Count = 3
+number_of_id ZeroBuffer = 4
 
 -- what it is to read, and into how much room
 abbrev pub aim_in : Reading → List ℕ
@@ -51,6 +56,9 @@ pub record ReadsAs (r s : Reading) : Type 0 where
 abbrev pub page_in : Reading → ℕ → List ℕ
 page_in r i = slice_index_or r.pages i []
 
+abbrev pub zeroed_in : Reading → ℕ → Bool
+zeroed_in r i = slice_index_or r.zeroed i false
+
 -- the raw answer says of these pages what a disk's answer to this read says
 abbrev pub IsToldRead : Option Told → Reading → Raw → List (List ℕ) → Type 0
 IsToldRead told r (Read n) pages =
@@ -63,9 +71,11 @@ pub record Answered (told : Option Told) (r : Reading) : Type 0 where
   pub is : r.raw ≡ Some answer
   pub told_read : IsToldRead told r answer r.pages
 
--- the first pages are those of the blocks, valid and as they are told
+-- the first pages are those of the blocks, valid and as they are told, or zeros in place of bad
+-- ones
 abbrev pub AllGood : Option Told → Reading → ℕ → Type 0
-AllGood told r good = (i : ℕ) → i < good → IsGood told r.relation (r.first + i) (page_in r i)
+AllGood told r good = (i : ℕ) → i < good
+    → IsGivenAs told r.relation (r.first + i) (page_in r i) (zeroed_in r i)
 
 -- the read has ended: its result and its pages are those of its callbacks, for some answer and the
 -- pages that were read then
@@ -74,8 +84,7 @@ pub record Completed (told : Option Told) (r : Reading) : Type 0 where
   pub read : List (List ℕ)
   pub told_read : IsToldRead told r answer read
   pub class : r.label.ended ≡ class_of r.count answer
-  pub outcome : record { result = r.result; pages = r.pages } ≡
-      chain_of r.count r.ids (record { result = first_of answer; pages = read })
+  pub outcome : outcome_of r.result r.pages r.zeroed ≡ chain_of r.count r.ids (begun answer read)
   pub few : good_of r.ids r.result ≤ r.count
   pub good : AllGood told r (good_of r.ids r.result)
 
@@ -98,6 +107,7 @@ made room = record {
   raw = None;
   result = result_of 0 Unknown 0 (pos 0);
   pages = replicate room (replicate 8192 0);
+  zeroed = none_zeroed room;
 }
 
 -- after `bind`: no answer stands
@@ -126,12 +136,12 @@ shared_by r o class = record r {
   label = record r.label { ended = class; settled = false };
   result = o.result;
   pages = o.pages;
+  zeroed = o.zeroed;
 }
 
 abbrev pub shared_of : Reading → Raw → Reading
 shared_of r answer =
-    shared_by r (chain_of r.count r.ids (record { result = first_of answer; pages = r.pages }))
-    (class_of r.count answer)
+    shared_by r (chain_of r.count r.ids (begun answer r.pages)) (class_of r.count answer)
 
 abbrev pub IsSharedOf : Reading → Reading → Raw → Type 0
 IsSharedOf s r answer = s ≡ shared_of r answer

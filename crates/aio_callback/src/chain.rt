@@ -2,8 +2,9 @@
 ghost use Rattle.std.specs.Prelude.{◌≡◌, ◌≤◌, length, pos};
 ghost use Rattle.aio_callback.specs.Chain.{number_in, is_bad, first_bad, is_error, first_of};
 ghost use Rattle.aio_callback.specs.Chain.{class_of, IsWithin, after_file, after_buffer};
-ghost use Rattle.aio_callback.specs.Chain.{outcome_of, after_callback, chain_of, has_file};
-ghost use Rattle.aio_callback.specs.Chain.{is_checked};
+ghost use Rattle.aio_callback.specs.Chain.{outcome_of, after_zero, after_callback, chain_of};
+ghost use Rattle.aio_callback.specs.Chain.{zeros_if_bad, bad_among, zeros_for_bad, marks_for_bad};
+ghost use Rattle.aio_callback.specs.Chain.{has_file, is_checked};
 
 use aio_result::{AioResult, Status};
 use aio_word::Class;
@@ -19,6 +20,9 @@ pub enum CallbackId {
     Buffer = 2,
     /// Counts, at the owner alone.
     Count = 3,
+    /// Checks the pages, and sets the bad ones to zeros (`buffer_readv_complete` of `bufmgr.c`
+    /// under `zero_damaged_pages`).
+    ZeroBuffer = 4,
 }
 
 /// What a read answered.
@@ -138,39 +142,107 @@ fn run_buffer(pages: &[Page], before: AioResult) -> AioResult
     }
 }
 
+// Sets a bad page to zeros, and says whether it was bad.
+fn zero_if_bad(page: &mut Page) -> bool
+    ensures bad { result ≡ is_bad page.old }
+    ensures zeros { page.new ≡ zeros_if_bad page.old }
+{
+    let bad = is_bad_page(page);
+    if bad {
+        page.bytes_mut().fill(0);
+    }
+    bad
+}
+
+// Sets the bad ones of these pages to zeros, and counts them.
+fn zero_bad_pages(pages: &mut [Page], zeroed: &mut [bool]) -> u32
+    requires many { length pages.old ≤ 128 }
+    requires marks { length zeroed.old ≡ length pages.old }
+    ensures count { result ≡ bad_among pages.old }
+    ensures pages { pages.new ≡ zeros_for_bad pages.old }
+    ensures zeroed { zeroed.new ≡ marks_for_bad pages.old zeroed.old }
+{
+    let mut count = 0;
+    for index in 0..pages.len() {
+        if zero_if_bad(&mut pages[index]) {
+            zeroed[index] = true;
+            count += 1;
+        }
+    }
+    count
+}
+
+#[tactic(auto, unfolding(crate::specs::Chain::after_zero))]
+fn run_zero(pages: &mut [Page], zeroed: &mut [bool], before: AioResult) -> AioResult
+    requires many { length pages.old ≤ 128 }
+    requires marks { length zeroed.old ≡ length pages.old }
+    requires within { number_in before.result ≤ length pages.old }
+    ensures { outcome_of result pages.new zeroed.new
+        ≡ after_zero (outcome_of before pages.old zeroed.old) }
+{
+    let failed = is_error_status(before.status);
+    if failed {
+        return before;
+    }
+    let read = number(before.result) as usize;
+    match zero_bad_pages(&mut pages[..read], &mut zeroed[..read]) {
+        0 => before,
+        count => AioResult {
+            id: CallbackId::ZeroBuffer as u8,
+            status: Status::Warning,
+            error: count,
+            result: before.result,
+        },
+    }
+}
+
 #[tactic(auto, using(crate::proofs::Below::file_below, crate::proofs::Below::buffer_below))]
-fn run_callback(id: CallbackId, count: u32, pages: &[Page], before: AioResult) -> AioResult
-    requires many { length pages.now ≤ 128 }
-    requires within { number_in before.result ≤ length pages.now }
-    ensures value { outcome_of result pages.now
-        ≡ after_callback count id (outcome_of before pages.now) }
+fn run_callback(
+    id: CallbackId,
+    count: u32,
+    pages: &mut [Page],
+    zeroed: &mut [bool],
+    before: AioResult,
+) -> AioResult
+    requires many { length pages.old ≤ 128 }
+    requires marks { length zeroed.old ≡ length pages.old }
+    requires within { number_in before.result ≤ length pages.old }
+    ensures value { outcome_of result pages.new zeroed.new
+        ≡ after_callback count id (outcome_of before pages.old zeroed.old) }
     ensures below { number_in result.result ≤ number_in before.result }
+    ensures room { (length pages.new ≡ length pages.old)
+        × (length zeroed.new ≡ length zeroed.old) }
 {
     match id {
         CallbackId::File => run_file(count, before),
         CallbackId::Buffer => run_buffer(pages, before),
         CallbackId::Count => before,
+        CallbackId::ZeroBuffer => run_zero(pages, zeroed, before),
     }
 }
 
-// Runs the callbacks, from the last to the first. None of them changes a page.
+// Runs the callbacks, from the last to the first.
 pub(crate) fn run_chain(
     ids: &[CallbackId],
     count: u32,
-    pages: &[Page],
+    pages: &mut [Page],
+    zeroed: &mut [bool],
     first: AioResult,
 ) -> AioResult
-    requires many { length pages.now ≤ 128 }
-    requires within { number_in first.result ≤ length pages.now }
-    ensures value { outcome_of result pages.now
-        ≡ chain_of count ids.now (outcome_of first pages.now) }
+    requires many { length pages.old ≤ 128 }
+    requires marks { length zeroed.old ≡ length pages.old }
+    requires within { number_in first.result ≤ length pages.old }
+    ensures value { outcome_of result pages.new zeroed.new
+        ≡ chain_of count ids.now (outcome_of first pages.old zeroed.old) }
     ensures below { number_in result.result ≤ number_in first.result }
+    ensures room { (length pages.new ≡ length pages.old)
+        × (length zeroed.new ≡ length zeroed.old) }
 {
     match ids {
         [] => first,
         [id, others @ ..] => {
-            let before = run_chain(others, count, pages, first);
-            run_callback(*id, count, pages, before)
+            let before = run_chain(others, count, pages, zeroed, first);
+            run_callback(*id, count, pages, zeroed, before)
         }
     }
 }
@@ -184,13 +256,15 @@ fn has_file_in(ids: &[CallbackId]) -> bool
     }
 }
 
-// Whether some Buffer runs after some File.
+// Whether some Buffer or ZeroBuffer runs after some File.
 pub(crate) fn checks(ids: &[CallbackId]) -> bool
     ensures { result ≡ is_checked ids.now }
 {
     match ids {
         [] => false,
-        [CallbackId::Buffer, others @ ..] => has_file_in(others) || checks(others),
+        [CallbackId::Buffer | CallbackId::ZeroBuffer, others @ ..] => {
+            has_file_in(others) || checks(others)
+        }
         [_, others @ ..] => checks(others),
     }
 }

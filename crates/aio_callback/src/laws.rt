@@ -1,20 +1,24 @@
 //! Laws on records, each the contract of a function that does nothing.
-ghost use Rattle.std.specs.Prelude.{◌≡◌, ◌≢◌, ◌≤◌, ℕ, List, length, Option, Some};
+ghost use Rattle.std.specs.Prelude.{◌≡◌, ◌≢◌, ◌≤◌, ℕ, Bool, false, List, length, Option, Some};
 ghost use Rattle.page_check.specs.Told.{Told};
 ghost use Rattle.aio_word.specs.declared.Class.TheVariants.{Unended};
 ghost use Rattle.aio_callback.specs.declared.chain.Raw.{Raw};
 ghost use Rattle.aio_callback.specs.Chain.{good_of};
 ghost use Rattle.aio_callback.specs.Reading.{Reading, Fits, IsToldRead, Answered, with_pages};
-ghost use Rattle.aio_callback.specs.Reading.{aim_in, ReadsAs};
+ghost use Rattle.aio_callback.specs.Reading.{aim_in, ReadsAs, zeroed_in};
 ghost use Rattle.aio_callback.specs.Cases.{stream_ids, IsOneOf, given_of};
 
-/// A record with the callbacks of a stream has ended in one of five ways, and its good pages are as
-/// many as its owner gives in that case.
-pub fn stream_records_end_in_five_ways()
-    ensures case { (told : Option Told) (relations : ℕ) (r : Reading) → Fits told relations r
-        → r.label.ended ≢ Unended → r.ids ≡ stream_ids → IsOneOf told r }
-    ensures given { (r : Reading) → r.ids ≡ stream_ids
+/// A record with the callbacks of a stream has ended in one of six ways, and its good pages are as
+/// many as its owner gives in that case. None of them was zeroed unless damaged pages are.
+pub fn stream_records_end_in_six_ways()
+    ensures case { (told : Option Told) (relations : ℕ) (r : Reading) (zero : Bool)
+        → Fits told relations r → r.label.ended ≢ Unended → r.ids ≡ stream_ids zero
+        → IsOneOf zero told r }
+    ensures given { (r : Reading) (zero : Bool) → r.ids ≡ stream_ids zero
         → good_of r.ids r.result ≡ given_of r.result }
+    ensures not_zeroed { (told : Option Told) (relations : ℕ) (r : Reading)
+        → Fits told relations r → r.label.ended ≢ Unended → r.ids ≡ stream_ids false
+        → (i : ℕ) → zeroed_in r i ≡ false }
 {}
 
 /// A record whose first pages were lent and read, and that was then given what the read answered,

@@ -1,7 +1,7 @@
 //! The record of a read.
 ghost use Rattle.std.specs.Prelude.{◌≡◌, ◌≢◌, ◌≤◌, ◌<◌, ◌+◌, ◌^◌, ℕ, length, take, true, false};
 ghost use Rattle.std.specs.Prelude.{nat_lt, option_map, if◌then◌else◌, Some, None, IfOk, IfErr};
-ghost use Rattle.std.specs.Prelude.{Option, IfSome};
+ghost use Rattle.std.specs.Prelude.{Option, IfSome, not, ◌&&◌};
 ghost use Rattle.std.specs.Borrow.{Lends, Array, sem};
 ghost use Rattle.page_check.specs.Told.{Told};
 ghost use Rattle.page_check.specs.contracts.page.Page.{the_row as page_row};
@@ -10,7 +10,7 @@ ghost use Rattle.aio_callback.specs.contracts.record.ReadIo.{the_row};
 ghost use Rattle.aio_handle.specs.Labels.{bound};
 ghost use Rattle.aio_callback.specs.Counting.{counted_of};
 ghost use Rattle.aio_callback.specs.Chain.{good_of, IsWithin};
-ghost use Rattle.aio_callback.specs.Good.{IsGood};
+ghost use Rattle.aio_callback.specs.Good.{IsGivenAs};
 
 use crate::chain::{CallbackId, Raw, checks, first_result, number, run_chain};
 use crate::counting::{Counts, run_local};
@@ -44,6 +44,8 @@ pub struct ReadIo {
     raw: Option<Raw>,
     result: AioResult,
     pages: Vec<Page>,
+    // Which pages were set to zeros when the read ended.
+    zeroed: Vec<bool>,
 }
 
 impl Model for ReadIo {
@@ -64,6 +66,7 @@ impl Model for ReadIo {
       raw = r.raw;
       result = r.result;
       pages = r.pages.items;
+      zeroed = r.zeroed.items;
     } };
 
     ghost invariant = { IsSound };
@@ -121,9 +124,9 @@ fn unended(handle: u32, generation: u64) -> Label
 }
 
 impl ReadIo {
-    ghost use Rattle.aio_callback.specs.Reading.{page_in, aim_in, Answered, Fits, Completed};
+    ghost use Rattle.aio_callback.specs.Reading.{page_in, zeroed_in, aim_in, Answered, Fits};
     ghost use Rattle.aio_callback.specs.Reading.{AllGood, made, aimed_at, with_pages, IsSharedOf};
-    ghost use Rattle.aio_callback.specs.Reading.{settled_of};
+    ghost use Rattle.aio_callback.specs.Reading.{settled_of, Completed};
     ghost use Rattle.aio_callback.specs.Finished.{Grew, finishes};
 
     /// A record with `room` pages of zeros, 1 to 128, which it keeps for good. It is not aimed yet.
@@ -137,6 +140,7 @@ impl ReadIo {
         for _ in 0..room {
             pages.push_reserved(Page::zeroed(alloc)?);
         }
+        let zeroed = vec![in alloc; false; room as usize]?;
         Ok(ReadIo {
             label: unended(0, 0),
             relation: 0,
@@ -153,6 +157,7 @@ impl ReadIo {
                 result: 0,
             },
             pages,
+            zeroed,
         })
     }
 
@@ -256,24 +261,37 @@ impl ReadIo {
         }
     }
 
-    /// A good page of a record that has ended: that of the block `first + index`.
+    /// A good page of a record that has ended: that of the block `first + index`, or zeros where
+    /// [`ReadIo::zeroed`] says so.
     pub fn page(&self, index: u32) -> &Page
         requires ended { self.now.label.ended ≢ Unended }
         requires good { index < good_of self.now.ids self.now.result }
         ensures value { result.now ≡ page_in self.now index }
-        ensures good { (told : Option Told) (relations : ℕ) → Fits told relations self.now
-            → IsGood told self.now.relation (self.now.first + index) result.now }
+        ensures given { (told : Option Told) (relations : ℕ) → Fits told relations self.now
+            → IsGivenAs told self.now.relation (self.now.first + index) result.now
+            (zeroed_in self.now index) }
     {
         &self.pages[index as usize]
     }
 
-    // The page of a block, where it is good.
+    /// Whether a good page of a record that has ended was bad and is zeros now, by
+    /// [`CallbackId::ZeroBuffer`].
+    pub fn zeroed(&self, index: u32) -> bool
+        requires ended { self.now.label.ended ≢ Unended }
+        requires good { index < good_of self.now.ids self.now.result }
+        ensures { result ≡ zeroed_in self.now index }
+    {
+        self.zeroed[index as usize]
+    }
+
+    // The page of a block, where it is good and was not zeroed.
     fn page_if(&self, index: u32, good: u32) -> Option<&Page>
         requires { good ≤ length self.now.pages }
         ensures { option_map (λ p. p.now) result
-            ≡ (if nat_lt index good then Some (page_in self.now index) else None) }
+            ≡ (if nat_lt index good && not (zeroed_in self.now index)
+            then Some (page_in self.now index) else None) }
     {
-        if index < good {
+        if index < good && !self.zeroed[index as usize] {
             Some(&self.pages[index as usize])
         } else {
             None
@@ -291,17 +309,19 @@ impl ReadIo {
         let Some(answer) = self.raw else {
             unreachable!()
         };
+        self.zeroed.fill(false);
         self.result = run_chain(
             &self.ids[..self.id_count],
             self.count,
-            self.pages.as_slice(),
+            self.pages.as_mut_slice(),
+            self.zeroed.as_mut_slice(),
             first_result(answer),
         );
         self.label.ended = answer.class(self.count);
         self.label.settled = false;
     }
 
-    // Hands each block over, with its page where it is good.
+    // Hands each block over, with its page where it is good and was not zeroed.
     fn finish_all<W: World, P: Places<W>, T: Wait>(&self, rt: &T, places: &mut P)
         requires few { good_of self.now.ids self.now.result ≤ length self.now.pages }
         requires good { AllGood W.told self.now (good_of self.now.ids self.now.result) }

@@ -6,7 +6,7 @@ ghost use Rattle.aio_callback.specs.Reading.{Fits};
 ghost use Rattle.aio_callback.specs.Cases.{stream_ids, IsOneOf, given_of};
 ghost use Rattle.aio_callback.specs.Trials.{IsAwaited};
 
-use crate::CallbackId::{Buffer, Count, File};
+use crate::CallbackId::{Buffer, Count, File, ZeroBuffer};
 use crate::{CallbackId, Counts, NoPlaces, Places, Raw, ReadIo, TooMany, laws};
 use aio_disk::{Disk, MemShelf, SteadyDisk, have_distinct_names};
 use aio_handle::Record;
@@ -133,15 +133,27 @@ fn result_of(id: u8, status: Status, error: u32, number: i32) -> AioResult {
     }
 }
 
-/// How a read of blocks 10 to 13 of relation 3 ends, and what the places are told, where the page
-/// at an offset may be bad.
+fn is_blank(page: &Page) -> bool {
+    page.bytes().iter().all(|byte| *byte == 0)
+}
+
+/// What became of a read, what the places were told, and for each good page whether it was zeroed
+/// and whether it is all zeros.
+#[derive(Drop)]
+struct Ended {
+    ending: Ending,
+    notes: Notes,
+    zeroed: Vec<(bool, bool)>,
+}
+
+/// How a read of blocks 10 to 13 of relation 3 ends, where the page at an offset may be bad.
 fn end_of<T: Wait>(
     rt: &T,
     alloc: Global,
     ids: &[CallbackId],
     answer: Raw,
     bad: Option<usize>,
-) -> Result<Option<(Ending, Notes)>, AllocError>
+) -> Result<Option<Ended>, AllocError>
     requires answer { IsWithin 4 answer }
     requires bad { IfSome bad (λ i. i < 4) }
 {
@@ -155,7 +167,15 @@ fn end_of<T: Wait>(
         calls: Vec::new(alloc),
     };
     let ending = completed::<Brand, Notes, T>(rt, &mut io, answer, &mut notes);
-    Ok(Some((ending, notes)))
+    let mut zeroed = Vec::new(alloc);
+    for index in 0..io.good() {
+        zeroed.push((io.zeroed(index), is_blank(io.page(index))))?;
+    }
+    Ok(Some(Ended {
+        ending,
+        notes,
+        zeroed,
+    }))
 }
 
 /// A read and what becomes of it.
@@ -178,8 +198,8 @@ fn case_of(answer: Raw, bad: Option<usize>, class: Class, value: AioResult, good
     }
 }
 
-/// What the places are told where this many pages are good.
-fn told_calls(alloc: Global, good: u32) -> Result<Vec<Finished>, AllocError> {
+/// What the places are told where this many pages are good, and one of them may have been zeroed.
+fn told_calls(alloc: Global, good: u32, zeroed: Option<u32>) -> Result<Vec<Finished>, AllocError> {
     let mut calls = Vec::new(alloc);
     for index in 0..4 {
         calls.push(Finished {
@@ -187,28 +207,49 @@ fn told_calls(alloc: Global, good: u32) -> Result<Vec<Finished>, AllocError> {
             block: 10 + index,
             handle: 7,
             generation: 9,
-            has_page: index < good,
+            has_page: index < good && zeroed != Some(index),
         })?;
     }
     Ok(calls)
 }
 
-/// Checks how a read ends, and that the places are told of each block in rising order.
+/// That of this many good pages this one alone, if any, was zeroed, and that all are zeros.
+fn told_zeroed(
+    alloc: Global,
+    good: u32,
+    zeroed: Option<u32>,
+) -> Result<Vec<(bool, bool)>, AllocError> {
+    let mut marks = Vec::new(alloc);
+    for index in 0..good {
+        marks.push((zeroed == Some(index), true))?;
+    }
+    Ok(marks)
+}
+
+/// Checks how a read ends, that the places are told of each block in rising order, and which page
+/// was zeroed.
 fn check_case<R: Abort + AllocGlobal + Wait>(
     rt: &R,
     ids: &[CallbackId],
     case: Case,
+    zeroed: Option<u32>,
 ) -> Result<(), Fail> {
     assert!(rt; matches!(case.answer, Raw::Failed | Raw::Read(0..=4)));
     assert!(rt; case.bad.is_none_or(|index| index < 4));
-    let Some((ending, notes)) = end_of(rt, rt.alloc(), ids, case.answer, case.bad)? else {
+    let Some(ended) = end_of(rt, rt.alloc(), ids, case.answer, case.bad)? else {
         panic!(rt; "there is room for the callbacks")
     };
-    assert_eq!(rt; ending, case.ending, "{case:?}");
-    assert_eq!(rt; case.answer.class(4), ending.class, "{case:?}");
+    let good = case.ending.good;
+    assert_eq!(rt; ended.ending, case.ending, "{case:?}");
+    assert_eq!(rt; case.answer.class(4), case.ending.class, "{case:?}");
     assert_eq!(rt;
-        notes.calls,
-        told_calls(rt.alloc(), ending.good)?,
+        ended.notes.calls,
+        told_calls(rt.alloc(), good, zeroed)?,
+        "{case:?}"
+    );
+    assert_eq!(rt;
+        ended.zeroed,
+        told_zeroed(rt.alloc(), good, zeroed)?,
         "{case:?}"
     );
     Ok(())
@@ -253,7 +294,7 @@ fn what_a_stream_makes_of_answers(rt: HostRuntime) -> Result<(), Fail> {
         ),
     ];
     for (case, number) in rows {
-        check_case(&rt, &[Count, Buffer, File], case)?;
+        check_case(&rt, &[Count, Buffer, File], case, None)?;
         let result = case.ending.result;
         assert!(rt; result.id < 64 && result.error < 1 << 23);
         assert_eq!(rt; encode(&result), number, "{case:?}");
@@ -292,7 +333,77 @@ fn without_a_check_after_the_file_nothing_is_good(rt: HostRuntime) -> Result<(),
         ),
     ];
     for (ids, case) in rows {
-        check_case(&rt, ids, case)?;
+        check_case(&rt, ids, case, None)?;
+    }
+    Ok(())
+}
+
+#[test]
+fn bad_pages_are_zeroed(rt: HostRuntime) -> Result<(), Fail> {
+    let zeroed = result_of(4, Status::Warning, 1, 4);
+    let zeroed_part = result_of(4, Status::Warning, 1, 3);
+    let part = result_of(1, Status::Partial, 0, 3);
+    let unread = result_of(1, Status::Error, 1, 0);
+    let past_end = result_of(1, Status::Error, 2, 0);
+    let rows = [
+        (
+            case_of(Raw::Read(4), Some(2), Class::Whole, zeroed, 4),
+            Some(2),
+            0x00000004000002c4,
+        ),
+        (
+            case_of(Raw::Read(3), Some(2), Class::Short, zeroed_part, 3),
+            Some(2),
+            0x00000003000002c4,
+        ),
+        (
+            case_of(Raw::Read(3), Some(3), Class::Short, part, 3),
+            None,
+            0x0000000300000081,
+        ),
+        (
+            case_of(Raw::Failed, Some(2), Class::Failed, unread, 0),
+            None,
+            0x0000000000000301,
+        ),
+        (
+            case_of(Raw::Read(0), Some(2), Class::Short, past_end, 0),
+            None,
+            0x0000000000000501,
+        ),
+    ];
+    for (case, page, number) in rows {
+        check_case(&rt, &[Count, ZeroBuffer, File], case, page)?;
+        let result = case.ending.result;
+        assert!(rt; result.id < 64 && result.error < 1 << 23);
+        assert_eq!(rt; encode(&result), number, "{case:?}");
+    }
+    Ok(())
+}
+
+#[test]
+fn zeroing_goes_with_other_callbacks(rt: HostRuntime) -> Result<(), Fail> {
+    let zeroed = result_of(4, Status::Warning, 1, 4);
+    let invalid = result_of(2, Status::Error, 2, 2);
+    let rows: [(&[CallbackId], Case, Option<u32>); 3] = [
+        (
+            &[ZeroBuffer, Buffer, File],
+            case_of(Raw::Read(4), Some(2), Class::Whole, invalid, 2),
+            None,
+        ),
+        (
+            &[Count, Buffer, ZeroBuffer, File],
+            case_of(Raw::Read(4), Some(2), Class::Whole, zeroed, 4),
+            Some(2),
+        ),
+        (
+            &[Count, ZeroBuffer],
+            case_of(Raw::Read(4), Some(2), Class::Whole, zeroed, 0),
+            None,
+        ),
+    ];
+    for (ids, case, page) in rows {
+        check_case(&rt, ids, case, page)?;
     }
     Ok(())
 }
@@ -344,27 +455,27 @@ fn each_count_counts(rt: HostRuntime) -> Result<(), Fail> {
 }
 
 /// How many pages the owner of an ended record with a stream's callbacks gives.
-fn given<W: World>(io: &ReadIo) -> u32
+fn given<W: World>(io: &ReadIo, zero: bool) -> u32
     requires fits { Fits W.told W.relations io.now }
     requires ended { io.now.label.ended ≢ Unended }
-    requires ids { io.now.ids ≡ stream_ids }
-    ensures case { IsOneOf W.told io.now }
+    requires ids { io.now.ids ≡ stream_ids zero }
+    ensures case { IsOneOf zero W.told io.now }
     ensures given { result ≡ given_of io.now.result }
 {
-    laws::stream_records_end_in_five_ways();
+    laws::stream_records_end_in_six_ways();
     io.good()
 }
 
 /// Reads the pages of an aimed record from a disk, completes it, and answers how many pages its
 /// owner gives.
-fn read_in<W: World, D: Disk, T: Wait>(rt: &T, disk: &mut D, io: &mut ReadIo) -> u32
+fn read_in<W: World, D: Disk, T: Wait>(rt: &T, disk: &mut D, io: &mut ReadIo, zero: bool) -> u32
     requires told { (D.told disk.old ≡ W.told) × (D.relations disk.old ≡ W.relations) }
     requires relation { io.old.relation < W.relations }
     requires aimed { io.old.aimed ≡ true }
     requires unanswered { io.old.raw ≡ None }
     requires unended { io.old.label.ended ≡ Unended }
-    requires ids { io.old.ids ≡ stream_ids }
-    ensures case { IsOneOf W.told io.new }
+    requires ids { io.old.ids ≡ stream_ids zero }
+    ensures case { IsOneOf zero W.told io.new }
     ensures fits { Fits W.told W.relations io.new }
     ensures ended { io.new.label.ended ≢ Unended }
 {
@@ -375,7 +486,7 @@ fn read_in<W: World, D: Disk, T: Wait>(rt: &T, disk: &mut D, io: &mut ReadIo) ->
     };
     io.answer(answer);
     io.complete_shared::<W, NoPlaces, T>(rt, &mut NoPlaces);
-    given::<W>(io)
+    given::<W>(io, zero)
 }
 
 /// A disk with one file of three blocks of zeros, but for a byte of the second.
@@ -393,50 +504,76 @@ fn three_blocks(alloc: Global) -> Result<Option<SteadyDisk>, AllocError>
     Ok(shelf.open(names.as_slice()).ok())
 }
 
-/// A read of four blocks of a disk that tells its contents, from this block on: the class, the
-/// result, how many pages are given, and the first bytes of the good pages.
+/// The callbacks of a stream.
+fn callbacks(zero: bool) -> [CallbackId; 3]
+    ensures { result ≡ stream_ids zero }
+{
+    if zero {
+        [Count, ZeroBuffer, File]
+    } else {
+        [Count, Buffer, File]
+    }
+}
+
+/// A read of four blocks of a disk that tells its contents, from this block on: how it ends, how
+/// many pages are given, and for each good page whether it was zeroed and whether it is all zeros.
 fn read_of_disk<T: Wait>(
     rt: &T,
     alloc: Global,
     first: u32,
-) -> Result<Option<(Ending, u32, Vec<u8>)>, AllocError>
+    zero: bool,
+) -> Result<Option<(Ending, u32, Vec<(bool, bool)>)>, AllocError>
     requires { first < 8 }
 {
     let Some(mut disk) = three_blocks(alloc)? else {
         return Ok(None);
     };
     let mut io = ReadIo::make(alloc, 5)?;
-    if io.aim(0, first, 4, &[Count, Buffer, File]).is_err() {
+    if io.aim(0, first, 4, &callbacks(zero)).is_err() {
         return Ok(None);
     }
-    let given = read_in::<Brand, SteadyDisk, T>(rt, &mut disk, &mut io);
-    let mut bytes = Vec::new(alloc);
+    let given = read_in::<Brand, SteadyDisk, T>(rt, &mut disk, &mut io, zero);
+    let mut zeroed = Vec::new(alloc);
     for index in 0..io.good() {
-        bytes.push(io.page(index).bytes()[0])?;
+        zeroed.push((io.zeroed(index), is_blank(io.page(index))))?;
     }
-    Ok(Some((ending_of(&io), given, bytes)))
+    Ok(Some((ending_of(&io), given, zeroed)))
 }
 
 #[test]
 fn reads_of_a_disk_fit_what_it_tells(rt: HostRuntime) -> Result<(), Fail> {
+    let invalid = result_of(2, Status::Error, 1, 1);
+    let first_invalid = result_of(2, Status::Error, 0, 0);
+    let part = result_of(1, Status::Partial, 0, 1);
+    let past_end = result_of(1, Status::Error, 2, 0);
+    let zeroed = result_of(4, Status::Warning, 1, 3);
+    let first_zeroed = result_of(4, Status::Warning, 1, 2);
     let rows = [
-        (0, Class::Short, result_of(2, Status::Error, 1, 1), 1),
-        (1, Class::Short, result_of(2, Status::Error, 0, 0), 0),
-        (2, Class::Short, result_of(1, Status::Partial, 0, 1), 1),
-        (3, Class::Short, result_of(1, Status::Error, 2, 0), 0),
+        (0, false, invalid, 1, None),
+        (1, false, first_invalid, 0, None),
+        (2, false, part, 1, None),
+        (3, false, past_end, 0, None),
+        (0, true, zeroed, 3, Some(1)),
+        (1, true, first_zeroed, 2, Some(0)),
+        (2, true, part, 1, None),
+        (3, true, past_end, 0, None),
     ];
-    for (first, class, result, good) in rows {
-        let Some((ending, given, bytes)) = read_of_disk(&rt, rt.alloc(), first)? else {
+    for (first, zero, result, good, page) in rows {
+        let Some((ending, given, zeroed)) = read_of_disk(&rt, rt.alloc(), first, zero)? else {
             panic!(&rt; "the disk is there")
         };
         let wanted = Ending {
-            class,
+            class: Class::Short,
             result,
             good,
         };
         assert_eq!(rt; ending, wanted, "from block {first}");
-        assert_eq!(rt; (given, bytes.len()), (good, good as usize));
-        assert!(rt; bytes.iter().all(|byte| *byte == 0));
+        assert_eq!(rt; given, good, "from block {first}");
+        assert_eq!(rt;
+            zeroed,
+            told_zeroed(rt.alloc(), good, page)?,
+            "from block {first}"
+        );
     }
     Ok(())
 }

@@ -1,10 +1,10 @@
 -- How a run over an opened disk ends, by what its lengths and its blocks gave.
-use Rattle.std.proofs.Common.{◌≡◌, ℕ, ◌+◌, ◌<◌, ◌≤◌, List, length, get_or, refl, ap, arith, subst}
-use Rattle.std.proofs.Common.{true, false, sym, ◌∙◌, inr}
+use Rattle.std.proofs.Common.{◌≡◌, ℕ, ◌+◌, ◌<◌, ◌≤◌, List, [], length, get_or, refl, ap, arith}
+use Rattle.std.proofs.Common.{subst, true, false, sym, ◌∙◌, inr}
 use Rattle.std.specs.Prelude.{Option, Some, None, IfSome, slice_index, nat_lt, cond}
 use Rattle.std.proofs.lemmas.Bool.Decides.{nat_tests}
 use Rattle.page_check.specs.Told.{Told, blocks_of}
-use Rattle.page_check.specs.SynchronousAnswer.{found_at, reader_of}
+use Rattle.page_check.specs.SynchronousAnswer.{found_at, reader_of, zeroing}
 use Rattle.heap_scan.specs.declared.sums.PageSums.{PageSums}
 use Rattle.aio_disk.specs.Counts.{raised_by}
 use Rattle.aio_disk.specs.Shelf.{Files, told_of}
@@ -16,14 +16,15 @@ use Rattle.aioscan_cmd.specs.Outcomes.{is_refused}
 use Rattle.aioscan_cmd.specs.Lengths.{HasLengths, HasNoLengths}
 use Rattle.aioscan_cmd.specs.Reading.{Seen, seen, Lists}
 use Rattle.aioscan_cmd.specs.Run.{Ran, RanBy, RanOn, EarlierFit, FitsInOrder, lengths_known}
-use Rattle.aioscan_cmd.specs.Run.{limit_known}
+use Rattle.aioscan_cmd.specs.Run.{IsWarnedUpTo, SynchronousRun, limit_known}
 use Rattle.aioscan_cmd.specs.declared.report.Outcome.{Outcome}
 use Rattle.aioscan_cmd.specs.declared.report.Outcome.TheVariants.{Done, Invalid, Usage, CannotOpen}
 use Rattle.aioscan_cmd.specs.declared.report.Outcome.TheVariants.{NoLength, Unread, CannotWrite}
 use Rattle.aioscan_cmd.specs.declared.report.Outcome.TheVariants.{NoMemory, Missing, TooLong}
-use Rattle.aioscan_cmd.proofs.Lists.{lists_nothing, lists_same}
+use Rattle.aioscan_cmd.proofs.Lists.{lists_nothing, lists_same, no_warnings, reached_none}
 use Rattle.aioscan_cmd.proofs.Files.{requests_of-same}
-use Rattle.aioscan_cmd.proofs.Growing.{GrewByPrefix-nothing}
+use Rattle.aioscan_cmd.proofs.Growing.{GrewByPrefix-nothing, GrewByPrefix-some}
+use Rattle.aio_disk.specs.Sink.{GrewByPrefix}
 
 -- lengths of which the one at r is the first that is too long
 abbrev long_at : ℕ → ℕ → ℕ → ℕ
@@ -48,39 +49,39 @@ long_known None limit r long = long_here limit r
 long_known (Some t) limit r long = long
 
 pub ran_out_of_memory : (told : Option Told) (relations : ℕ) (command : Command) (s : Seen)
-    → Ran told relations command s s NoMemory
+    → Ran told relations command s s NoMemory []
 ran_out_of_memory told relations command s = record {
   answered = λ _. 0;
   segment = 0;
   in_order = tt;
-  lists = λ is. lists_nothing _ _ s.written;
+  lists = λ is. lists_nothing command.settings.zero told _ s.written;
   few_reads = λ _. omega arith;
-  untouched = λ is. refl;
+  untouched = λ is. (refl, refl);
 }
 
 -- no disk was opened
 pub ran_without_disk : (told : Option Told) (relations : ℕ) (command : Command) (s : Seen)
-    → Ran told relations command s s CannotOpen
+    → Ran told relations command s s CannotOpen []
 ran_without_disk told relations command s = record {
   answered = λ _. 0;
   segment = 0;
   in_order = tt;
   lists = λ is. absurd (cc);
   few_reads = λ _. omega arith;
-  untouched = λ is. refl;
+  untouched = λ is. (refl, refl);
 }
 
 -- the lengths could not be had
 pub ran_into_refusal : (told : Option Told) (relations : ℕ) (command : Command) (s : Seen)
     (segment : ℕ) (o : Outcome) → HasNoLengths told segment relations o
-    → Ran told relations command s s o
+    → Ran told relations command s s o []
 ran_into_refusal told relations command s segment (NoLength r) has = record {
   answered = long_at (limit_known told segment) r;
   segment = segment;
   in_order = (has.0, earlier_known told (limit_known told segment) r has.1);
   lists = λ is. absurd (cc);
   few_reads = λ _. omega arith;
-  untouched = λ is. refl;
+  untouched = λ is. (refl, refl);
 }
 ran_into_refusal told relations command s segment (TooLong r) has = record {
   answered = long_at (limit_known told segment) r;
@@ -92,7 +93,7 @@ ran_into_refusal told relations command s segment (TooLong r) has = record {
   );
   lists = λ is. absurd (cc);
   few_reads = λ _. omega arith;
-  untouched = λ is. refl;
+  untouched = λ is. (refl, refl);
 }
 ran_into_refusal told relations command s segment NoMemory has =
     ran_out_of_memory told relations command s
@@ -142,18 +143,20 @@ refused_not o not is = absurd (cc)
 
 -- blocks were listed, all of them or up to a stop
 pub ran_listed : (told now : Option Told) (segment relations : ℕ) (command : Command)
-    (lengths : List ℕ) (output after : Option (List ℕ)) (read : ℕ) (o : Outcome) → now ≡ told
+    (lengths : List ℕ) (output after : Option (List ℕ)) (read : ℕ) (o : Outcome) (w : List ℕ)
+    → now ≡ told
     → relations ≡ length (relations_of command) → HasLengths told segment relations lengths
-    → Lists (reader_of now) (requests_of (slice_index lengths) command) output after o
+    → Lists command.settings.zero now (requests_of (slice_index lengths) command) output after o w
     → (read < last_count → read ≤ length (requests_of (slice_index lengths) command))
-    → Ran told relations command (seen output 0) (seen after read) o
-ran_listed told now segment relations command lengths output after read o same all has lists few =
+    → Ran told relations command (seen output 0) (seen after read) o w
+ran_listed told now segment relations command lengths output after read o w same all has lists few =
     let requests = same_requests told segment relations command lengths all has in record {
       answered = slice_index lengths;
       segment = segment;
       in_order = fits_where_listed _ _ relations o lists.begun
           (lengths_fit told segment relations lengths has);
-      lists = λ is. lists_same (reader_of told) _ _ output after o requests (rw (← same) lists);
+      lists = λ is. lists_same command.settings.zero told _ _ output after o w requests
+          (rw (← same) lists);
       few_reads = λ below. omega (arith, few below, ap length requests);
       untouched = λ is. absurd (refused_not o lists.begun is);
     }
@@ -173,36 +176,37 @@ shelf_untouched output after read reads now back same =
 
 -- a disk that was not read before is taken back
 pub ran_on_shelf : (told now : Option Told) (relations count : ℕ) (command : Command)
-    (output after : Option (List ℕ)) (read reads total : ℕ) (o : Outcome) → now ≡ told
-    → count ≡ relations → total ≡ raised_by read reads
-    → Ran now count command (seen output 0) (seen after read) o
-    → Ran told relations command (seen output reads) (seen after total) o
-ran_on_shelf told now relations count command output after read reads total o same all back run =
+    (output after : Option (List ℕ)) (read reads total : ℕ) (o : Outcome) (w : List ℕ)
+    → now ≡ told → count ≡ relations → total ≡ raised_by read reads
+    → Ran now count command (seen output 0) (seen after read) o w
+    → Ran told relations command (seen output reads) (seen after total) o w
+ran_on_shelf told now relations count command output after read reads total o w same all back run =
     rw (← same, ← all) (record {
       answered = run.answered;
       segment = run.segment;
       in_order = run.in_order;
       lists = run.lists;
       few_reads = shelf_few read reads total _ back run.few_reads;
-      untouched = λ is. shelf_untouched output after read reads total back (run.untouched is);
+      untouched = λ is. (let kept = run.untouched is in
+          (shelf_untouched output after read reads total back kept.0, kept.1));
     })
 
 -- a run that read nothing, where the count of reads stayed
 pub ran_still : (told : Option Told) (relations : ℕ) (command : Command)
     (output : Option (List ℕ)) (reads now : ℕ) (o : Outcome) → now ≡ reads
-    → Ran told relations command (seen output reads) (seen output reads) o
-    → Ran told relations command (seen output reads) (seen output now) o
+    → Ran told relations command (seen output reads) (seen output reads) o []
+    → Ran told relations command (seen output reads) (seen output now) o []
 ran_still told relations command output reads now o same ran =
-    let P : ℕ → Type 0 = λ n. Ran told relations command (seen output reads) (seen output n) o in
-    subst P (sym same) ran
+    let P : ℕ → Type 0 = λ n. Ran told relations command (seen output reads) (seen output n) o []
+    in subst P (sym same) ran
 
 -- nothing was read for want of memory
 pub ran_without_memory : (told : Option Told) (relations : ℕ) (command : Command)
     (output : Option (List ℕ)) (reads now : ℕ) (o : Outcome) → o ≡ NoMemory → now ≡ reads
-    → Ran told relations command (seen output reads) (seen output now) o
+    → Ran told relations command (seen output reads) (seen output now) o []
 ran_without_memory told relations command output reads now o is same =
     let P : Outcome → Type 0 = λ x. Ran told relations command (seen output reads)
-    (seen output now) x in
+    (seen output now) x [] in
     subst P (sym is)
     (ran_still told relations command output reads now NoMemory same
     (ran_out_of_memory told relations command (seen output reads)))
@@ -211,39 +215,51 @@ ran_without_memory told relations command output reads now o is same =
 pub ran_refused : (told : Option Told) (relations : ℕ) (command : Command)
     (output : Option (List ℕ)) (reads now segment : ℕ) (o refusal : Outcome) → o ≡ refusal
     → now ≡ reads → HasNoLengths told segment relations refusal
-    → Ran told relations command (seen output reads) (seen output now) o
+    → Ran told relations command (seen output reads) (seen output now) o []
 ran_refused told relations command output reads now segment o refusal is same has =
     let P : Outcome → Type 0 = λ x. Ran told relations command (seen output reads)
-    (seen output now) x in
+    (seen output now) x [] in
     subst P (sym is)
     (ran_still told relations command output reads now refusal same
     (ran_into_refusal told relations command (seen output reads) segment refusal has))
 
 -- nothing was read, since a disk could not be opened
 pub ran_unopened : (told : Option Told) (relations : ℕ) (command : Command)
-    (output after : Option (List ℕ)) (reads now : ℕ) (o : Outcome) → o ≡ CannotOpen
-    → after ≡ output → now ≡ reads
-    → Ran told relations command (seen output reads) (seen after now) o
-ran_unopened told relations command output after reads now o is kept same =
+    (output after : Option (List ℕ)) (reads now : ℕ) (o : Outcome) (w : List ℕ) → o ≡ CannotOpen
+    → w ≡ [] → after ≡ output → now ≡ reads
+    → Ran told relations command (seen output reads) (seen after now) o w
+ran_unopened told relations command output after reads now o w is none kept same =
     let P : Outcome → Type 0 = λ x. Ran told relations command (seen output reads)
-    (seen after now) x in
+    (seen after now) x w in
+    let R : List ℕ → Type 0 = λ l. Ran told relations command (seen output reads)
+    (seen after now) CannotOpen l in
     let Q : Option (List ℕ) → Type 0 = λ a. Ran told relations command (seen output reads)
-    (seen a now) CannotOpen in
-    subst P (sym is) (subst Q (sym kept)
+    (seen a now) CannotOpen [] in
+    subst P (sym is) (subst R (sym none) (subst Q (sym kept)
     (ran_still told relations command output reads now CannotOpen same
-    (ran_without_disk told relations command (seen output reads))))
+    (ran_without_disk told relations command (seen output reads)))))
 
 -- the same run, said of the same contents
 pub ran_same : (told now : Option Told) (relations count : ℕ) (command : Command)
-    (output : Option (List ℕ)) (reads before : ℕ) (after : Seen) (o : Outcome) → now ≡ told
-    → count ≡ relations → before ≡ reads
-    → Ran now count command (seen output before) after o
-    → Ran told relations command (seen output reads) after o
-ran_same told now relations count command output reads before after o same all kept ran =
+    (output : Option (List ℕ)) (reads before : ℕ) (after : Seen) (o : Outcome) (w : List ℕ)
+    → now ≡ told → count ≡ relations → before ≡ reads
+    → Ran now count command (seen output before) after o w
+    → Ran told relations command (seen output reads) after o w
+ran_same told now relations count command output reads before after o w same all kept ran =
     rw (← same, ← all, ← kept) ran
 
+-- no text was written yet, and nothing was warned of
+pub warned_of_none : (run : SynchronousRun) (b a : Option (List ℕ)) (w text : List ℕ) → w ≡ []
+    → GrewByPrefix b a text → IsWarnedUpTo run b a w
+warned_of_none run b a w text none grew = let some = GrewByPrefix-some b a text grew in record {
+  k = 0;
+  among = omega arith;
+  reached = (some.0, reached_none b a some.0 some.1);
+  are = none ∙ sym no_warnings;
+}
+
 unread_by : (files : Option Files) (c : Command) (made : Option ℕ) (s : Seen)
-    → RanBy files c made s s NoMemory
+    → RanBy files c made s s NoMemory []
 unread_by files c None s =
     ran_out_of_memory (told_of files (relations_of c)) (length (relations_of c)) c s
 unread_by files c (Some n) s = record {
@@ -251,15 +267,24 @@ unread_by files c (Some n) s = record {
   in_order = tt;
   writes = GrewByPrefix-nothing s.written s.written _ refl;
   reads = refl;
+  quiet = refl;
+  warned = warned_of_none _ s.written s.written [] [] refl
+      (GrewByPrefix-nothing s.written s.written [] refl);
 }
 
 -- words that may be a command could not be read for want of memory
 pub ran_unread : (files : Option Files) (command : Option Command) (s : Seen) (o : Outcome)
-    → o ≡ NoMemory → RanOn files command s s o
-ran_unread files None s o is = tt
+    → o ≡ NoMemory → RanOn files command s s o []
+ran_unread files None s o is = refl
 ran_unread files (Some c) s o is =
-    let P : Outcome → Type 0 = λ x. RanBy files c c.made s s x in
+    let P : Outcome → Type 0 = λ x. RanBy files c c.made s s x [] in
     subst P (sym is) (unread_by files c c.made s)
+
+-- words that are no command
+pub ran_no_command : (files : Option Files) (command : Option Command) (b a : Seen) (o : Outcome)
+    → command ≡ None → RanOn files command b a o []
+ran_no_command files command b a o none =
+    let P : Option Command → Type 0 = λ c. RanOn files c b a o [] in subst P (sym none) refl
 
 -- no sums of a run that ended otherwise
 pub no_sums_told : (told : Option Told) (command : Command) (o : Outcome) (sums : PageSums)
@@ -283,14 +308,17 @@ refused_sums told command o refusal sums segment relations is has =
 pub listed_sums : (told now : Option Told) (segment relations : ℕ) (command : Command)
     (lengths : List ℕ) (o : Outcome) (sums : PageSums) → now ≡ told
     → relations ≡ length (relations_of command) → HasLengths told segment relations lengths
-    → (o ≡ Done → HasSums (reader_of now) (requests_of (slice_index lengths) command) sums)
+    → (o ≡ Done → HasSums (reader_of command.settings.zero now)
+    (requests_of (slice_index lengths) command) sums)
     → HasSumsTold told command o sums
 listed_sums None now segment relations command lengths o sums same all has listed = tt
 listed_sums (Some t) now segment relations command lengths o sums same all has listed = λ done.
     (let requests = same_requests (Some t) segment relations command lengths all has in
     let P : Option Told → Type 0 =
-    λ n. HasSums (reader_of n) (requests_of (slice_index lengths) command) sums in
-    let Q : List Request → Type 0 = λ l. HasSums (Some (found_at t)) l sums in
+    λ n. HasSums (reader_of command.settings.zero n) (requests_of (slice_index lengths) command)
+    sums in
+    let Q : List Request → Type 0 =
+    λ l. HasSums (Some (zeroing command.settings.zero (found_at t))) l sums in
     subst Q requests (subst P same (listed done)))
 
 pub sums_same : (told now : Option Told) (command : Command) (o : Outcome) (sums : PageSums)

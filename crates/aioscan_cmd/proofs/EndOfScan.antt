@@ -1,13 +1,12 @@
 -- What a scan has counted at its end, and what its disks add to a shelf.
 use Rattle.std.proofs.Common.{◌≡◌, ◌≢◌, ◌≤◌, ◌<◌, ◌+◌, ◌⊎◌, ◌∷◌, [], ℕ, List, length, sum_by, refl}
 use Rattle.std.proofs.Common.{sym, ap, ◌∙◌, subst, arith, inl, inr, ⊎_elim, true, false}
-use Rattle.std.specs.Prelude.{Option, Some, None, IfSome}
+use Rattle.std.specs.Prelude.{Bool, Option, Some, None, IfSome}
 use Rattle.std.specs.List.{All}
 use Rattle.std.proofs.lemmas.Bool.{cases_lt}
 use Rattle.std.proofs.lemmas.List.Elements.{All-weaker, All-head, All-tail}
 use Rattle.std.proofs.lemmas.List.Sums.{get_or-le-sum_by, sum_by-cons}
 use Rattle.page_check.specs.Told.{Told}
-use Rattle.page_check.specs.SynchronousAnswer.{Reader, reader_of}
 use Rattle.aio_disk.specs.Counts.{RisesBy, Rose, ShelfCounts, raised_by}
 use Rattle.aio_handle.specs.Executing.{last_count}
 use Rattle.scan_rounds.specs.Opening.{workers_by, workers_in}
@@ -111,9 +110,9 @@ is_refusal Usage = inr (λ e. cc)
 is_refusal (NoLength r) = inr (λ e. cc)
 is_refusal (TooLong r) = inr (λ e. cc)
 
-module _ (asked : Asked) (found : Option Reader) (written now_written : Option (List ℕ))
-    (before opened : ShelfCounts) (faults reads : ℕ) (o : Outcome)
-    (scanned : HasScanned asked found written now_written before opened faults reads o) where
+module _ (asked : Asked) (told : Option Told) (written now_written : Option (List ℕ))
+    (before opened : ShelfCounts) (faults reads : ℕ) (o : Outcome) (w : List ℕ)
+    (scanned : HasScanned asked told written now_written before opened faults reads o w) where
   -- a disk could not be opened is the one refusal
   only_refusal : is_refused o ≡ true → o ≡ CannotOpen
   only_refusal is = ⊎_elim (λ e. e)
@@ -191,22 +190,20 @@ module _ (asked : Asked) (found : Option Reader) (written now_written : Option (
       few_read : reads < last_count → reads ≤ length (requests_for asked)
       few_read below = omega (arith, below_last below, counted.few)
 
-      pub ended_ran : (told disk_told : Option Told) (relations : ℕ) → found ≡ reader_of told
-          → told ≡ disk_told → relations ≡ length (relations_of asked.command.now)
+      pub ended_ran : (disk_told : Option Told) (relations : ℕ) → told ≡ disk_told
+          → relations ≡ length (relations_of asked.command.now)
           → HasLengths disk_told asked.segment relations asked.lengths.now
           → Ran disk_told relations asked.command.now (seen written before.reads)
-          (seen now_written now.reads) o
-      ended_ran told disk_told relations found_is same all has =
-          let P : Option Reader → Type 0 =
-          λ f. Lists f (requests_for asked) written now_written o in ⊎_elim
+          (seen now_written now.reads) o w
+      ended_ran disk_told relations same all has =
+          ⊎_elim
           (λ is. (let none = scanned.cannot_open is in
           ran_unopened disk_told relations asked.command.now written now_written before.reads
-          now.reads o is none.1 (omega (arith, reads_raised, none.3))))
+          now.reads o w is none.4 none.1 (omega (arith, reads_raised, none.3))))
           (λ not. ran_on_shelf disk_told disk_told relations relations asked.command.now written
-          now_written reads before.reads now.reads o refl refl reads_raised
+          now_written reads before.reads now.reads o w refl refl reads_raised
           (ran_listed disk_told told asked.segment relations asked.command.now asked.lengths.now
-          written
-          now_written reads o same all has (subst P found_is (scanned.lists not)) few_read))
+          written now_written reads o w same all has (scanned.lists not) few_read))
           (is_refusal o)
 
 -- the numbers of a scan that was finished
@@ -220,41 +217,41 @@ none_by_workers s t runners by_runners by_workers same are none is sync =
     is ∙ none (are ∙ ap workers_in same ∙ no_workers_by t sync)
 
 -- there was no memory for a scan
-pub nothing_listed : (found : Option Reader) (asked : Asked) (s : Option (List ℕ)) (o : Outcome)
-    → o ≡ NoMemory → Lists found (requests_for asked) s s o
-nothing_listed found asked s o is =
-    let P : Outcome → Type 0 = λ x. Lists found (requests_for asked) s s x in
-    subst P (sym is) (lists_nothing found (requests_for asked) s)
+pub nothing_listed : (zero : Bool) (told : Option Told) (asked : Asked) (s : Option (List ℕ))
+    (o : Outcome) → o ≡ NoMemory → Lists zero told (requests_for asked) s s o []
+nothing_listed zero told asked s o is =
+    let P : Outcome → Type 0 = λ x. Lists zero told (requests_for asked) s s x [] in
+    subst P (sym is) (lists_nothing zero told (requests_for asked) s)
 
 -- or for a disk
-pub scanned_nothing : (asked : Asked) (found : Option Reader) (s : Option (List ℕ))
+pub scanned_nothing : (asked : Asked) (told : Option Told) (s : Option (List ℕ))
     (before now : ShelfCounts) (faults reads : ℕ) (o : Outcome) → o ≡ NoMemory
     → before.open_faults ≤ now.open_faults
     → (now.length_faults ≡ before.length_faults) × (now.faults ≡ before.faults)
     × (now.reads ≡ before.reads)
-    → HasScanned asked found s s before now faults reads o
-scanned_nothing asked found s before now faults reads o is opens others = record {
+    → HasScanned asked told s s before now faults reads o []
+scanned_nothing asked told s before now faults reads o is opens others = record {
   opens = opens;
   others = others;
-  lists = λ _. nothing_listed found asked s o is;
+  lists = λ _. nothing_listed (asked.command.now).settings.zero told asked s o is;
   cannot_open = λ refused. absurd (cc);
   unread = λ r b unread. absurd (cc);
 }
 
 -- a disk could not be opened
-pub scan_refused : (asked : Asked) (found : Option Reader) (s : Option (List ℕ))
+pub scan_refused : (asked : Asked) (told : Option Told) (s : Option (List ℕ))
     (before now : ShelfCounts) (faults reads : ℕ) (o : Outcome) → o ≡ CannotOpen
     → before.open_faults ≤ now.open_faults
     → (now.length_faults ≡ before.length_faults) × (now.faults ≡ before.faults)
     × (now.reads ≡ before.reads)
     → Rose before.open_faults now.open_faults → faults ≡ 0 → reads ≡ 0
-    → HasScanned asked found s s before now faults reads o
-scan_refused asked found s before now faults reads o is opens others rose no_faults no_reads =
+    → HasScanned asked told s s before now faults reads o []
+scan_refused asked told s before now faults reads o is opens others rose no_faults no_reads =
     record {
       opens = opens;
       others = others;
       lists = λ not. absurd (not is);
-      cannot_open = λ _. (rose, refl, no_faults, no_reads);
+      cannot_open = λ _. (rose, refl, no_faults, no_reads, refl);
       unread = λ r b unread. absurd (cc);
     }
 

@@ -79,3 +79,9 @@ GrewByPrefix-whole (Some b) a text grew = (
   grew ∙ ap {B = Option (List ℕ)} (λ (l : List ℕ). Some (b ++ l))
       (sym (take_all (length text) text (omega arith))),
 )
+
+-- a begin of a text is a text
+pub GrewByPrefix-some : (b a : Option (List ℕ)) (text : List ℕ) → GrewByPrefix b a text
+    → (more : List ℕ) × Grew b a more
+GrewByPrefix-some None a text grew = ([], grew)
+GrewByPrefix-some (Some b) a text grew = (take grew.0 text, grew.1)

@@ -1,20 +1,24 @@
 -- Jobs whose texts are written one after the other.
 use Rattle.std.proofs.Common.{◌≡◌, ◌≢◌, ℕ, zero, suc, ◌+◌, ◌<◌, ◌≤◌, List, [], ◌∷◌, ◌++◌, map, take}
 use Rattle.std.proofs.Common.{drop, length, get_or, refl, sym, ap, ◌∙◌, subst, arith}
-use Rattle.std.proofs.Common.{append-nil, length-append}
+use Rattle.std.proofs.Common.{append-nil, length-append, Bool, true, false}
 use Rattle.std.specs.Prelude.{Option, Some, None, slice_get, ⊤, cond}
 use Rattle.std.specs.List.{range_with_len}
 use Rattle.std.proofs.lemmas.Grind.{flat_map-append}
 use Rattle.std.proofs.lemmas.List.{take_more, take_all, take-append-drop}
 use Rattle.std.proofs.lemmas.List.Concat.{flat_map-cons}
 use Rattle.std.proofs.lemmas.List.Sums.{sum_by-cons, get_or-le-sum_by}
-use Rattle.page_check.specs.SynchronousAnswer.{Reader, Found, Page as FoundPage, Damaged}
+use Rattle.page_check.specs.Told.{Told}
+use Rattle.page_check.specs.SynchronousAnswer.{Reader, Found, Page as FoundPage, Zeroed, Damaged}
 use Rattle.page_check.specs.SynchronousAnswer.{Absent, Ending, End, Invalid as SaidInvalid}
 use Rattle.page_check.specs.SynchronousAnswer.{PastEnd as SaidPastEnd}
 use Rattle.page_check.specs.SynchronousAnswer.{found_for, ending_in, ending_at, stop_of}
+use Rattle.page_check.specs.SynchronousAnswer.{reader_of}
 use Rattle.page_check.specs.IsAnswer.{EndsAt}
 use Rattle.page_check.proofs.AnswersOfLists.{stop_of-length}
 use Rattle.heap_scan.specs.Job.{IsJobAnswer, block_entry}
+use Rattle.heap_scan.specs.Listing.{listing}
+use Rattle.heap_scan.specs.Warnings.{warnings_of}
 use Rattle.heap_scan.specs.declared.sums.PageSums.{PageSums}
 use Rattle.scan_rounds.specs.Jobs.{IsListed, AreAnswered, entries_in, said_end, unread_among}
 use Rattle.scan_rounds.specs.Jobs.{blocks_among, is_unread}
@@ -23,7 +27,8 @@ use Rattle.scan_rounds.specs.declared.job.Ending.TheVariants as ending
 use Rattle.scan_rounds.specs.declared.job.Job.{Job}
 use Rattle.aio_disk.specs.Sink.{Grew, GrewByPrefix}
 use Rattle.aioscan_cmd.specs.RequestList.{Request, block_range, request}
-use Rattle.aioscan_cmd.specs.Reading.{Lists, HasWritten}
+use Rattle.aioscan_cmd.specs.Outcomes.{ending_of, is_refused, stopped_at}
+use Rattle.aioscan_cmd.specs.Reading.{GrewBy, Lists, HasWritten}
 use Rattle.aioscan_cmd.specs.Listing.{requests_in, unread_count, outcome_for, IsListedBy}
 use Rattle.aioscan_cmd.specs.Listing.{AreListedBy}
 use Rattle.aioscan_cmd.specs.declared.report.Outcome.{Outcome}
@@ -31,8 +36,9 @@ use Rattle.aioscan_cmd.specs.declared.report.Outcome.TheVariants.{Done}
 use Rattle.aioscan_cmd.specs.declared.report.Outcome.TheVariants.{CannotWrite}
 use Rattle.aioscan_cmd.specs.declared.report.Outcome.TheVariants.{NoMemory}
 use Rattle.aioscan_cmd.proofs.Cutting.{block_range_length}
-use Rattle.aioscan_cmd.proofs.Growing.{Grew-same, Grew-stays, GrewByPrefix-whole}
+use Rattle.aioscan_cmd.proofs.Growing.{Grew-same, Grew-stays, GrewByPrefix-some, GrewByPrefix-whole}
 use Rattle.aioscan_cmd.proofs.Lists.{lists_append, lists_more, lists_same, lists_none}
+use Rattle.aioscan_cmd.proofs.Lists.{no_warnings, reached_none}
 
 mapped : {X Y : Type 0} (f : X → Y) (xs : List X) (k : ℕ) (y : Y) → slice_get (map f xs) k ≡ Some y
     → (x : X) × (y ≡ f x)
@@ -52,11 +58,13 @@ entry_of_range r first count k b e here named =
 
 damaged_at : (x : Found) (n b : ℕ) → ending_in x n ≡ SaidInvalid b → b ≡ n
 damaged_at (FoundPage bytes) n b is = absurd (cc)
+damaged_at Zeroed n b is = absurd (cc)
 damaged_at Damaged n b is = cc
 damaged_at Absent n b is = absurd (cc)
 
 absent_at : (x : Found) (n b : ℕ) → ending_in x n ≡ SaidPastEnd b → b ≡ n
 absent_at (FoundPage bytes) n b is = absurd (cc)
+absent_at Zeroed n b is = absurd (cc)
 absent_at Damaged n b is = absurd (cc)
 absent_at Absent n b is = cc
 
@@ -90,119 +98,128 @@ module _ (r first count : ℕ) where
       entry_of_range r first count k b stop.0
       (ap (slice_get blocks) ends.0 ∙ sym (stop_of-length f blocks) ∙ stop.1) stop.2
 
-  -- the job's text was written
-  text_listed : (found : Option Reader) (text : List ℕ) (sums : PageSums)
-      (b a : Option (List ℕ)) (end : JobEnding)
-      → IsJobAnswer found (λ _. ⊤) blocks text sums (said_end end) → Grew b a text
-      → Lists found blocks b a (outcome_for r end)
-  text_listed found text sums b a ending.Pages answer grew = record {
-    begun = refl;
-    text = text;
-    sums = sums;
-    answer = answer;
-    here = λ e is. absurd (cc);
-    grew = grew;
-  }
-  text_listed found text sums b a (ending.Invalid n) answer grew = record {
-    begun = refl;
-    text = text;
-    sums = sums;
-    answer = answer;
-    here = λ e is.
-        (invalid_here found (length answer.pages) n answer.answers.endings.0 ∙ is);
-    grew = grew;
-  }
-  text_listed found text sums b a (ending.PastEnd n) answer grew = record {
-    begun = refl;
-    text = text;
-    sums = sums;
-    answer = answer;
-    here = λ e is.
-        (missing_here found (length answer.pages) n answer.answers.endings.0 ∙ is);
-    grew = grew;
-  }
-  text_listed found text sums b a (ending.Unread n) answer grew = record {
-    begun = refl;
-    text = text;
-    sums = sums;
-    answer = answer;
-    here = λ e is.
-        (let stop = answer.answers.endings.0 in
-        entry_of_range r first count (length answer.pages) n stop.next stop.here stop.named ∙ is);
-    grew = grew;
-  }
-  text_listed found text sums b a ending.NoMemory answer grew = record {
-    begun = refl;
-    text = text;
-    sums = sums;
-    answer = answer;
-    here = λ e is. absurd (cc);
-    grew = GrewByPrefix-whole b a text grew;
-  }
+  module _ (zero : Bool) (told : Option Told) (text warnings : List ℕ) (sums : PageSums)
+      (b a : Option (List ℕ)) where
+    abbrev Answer : Option Ending → Type 0
+    Answer end = IsJobAnswer (reader_of zero told) (λ _. ⊤) blocks text warnings sums end
 
-  -- the write failed
-  abbrev Pages : Option Reader → List ℕ → PageSums → Type 0
-  Pages found text sums = IsJobAnswer found (λ _. ⊤) blocks text sums None
+    -- the job's text was written whole, and its warnings behind it
+    listed_whole : (o : Outcome) → is_refused o ≡ false → (answer : Answer (ending_of o))
+        → ((e : Request) → stopped_at o ≡ Some e
+        → slice_get blocks (length answer.pages) ≡ Some e)
+        → GrewBy o b a text → Grew b a text → (zero ≡ false → warnings ≡ [])
+        → Lists zero told blocks b a o warnings
+    listed_whole o begun answer here grew all quiet =
+        let n = length answer.pages in
+        let every = take_all n answer.pages (omega arith) in record {
+          begun = begun;
+          text = text;
+          all_warnings = warnings;
+          sums = sums;
+          answer = answer;
+          here = here;
+          grew = grew;
+          whole = n;
+          among = omega arith;
+          all = λ _. refl;
+          reached = (
+            [],
+            Grew-same b a text _
+                (answer.text_is ∙ ap listing (sym every)
+                ∙ sym (append-nil (listing (take n answer.pages)))) all,
+          );
+          warned = answer.warnings_are ∙ ap warnings_of (sym every);
+          quiet = quiet;
+        }
 
-  without_end : (found : Option Reader) (text : List ℕ) (sums : PageSums) (end : Option Ending)
-      → IsJobAnswer found (λ _. ⊤) blocks text sums end → Pages found text sums
-  without_end found text sums end answer = record {
-    pages = answer.pages;
-    text_is = answer.text_is;
-    sums_are = answer.sums_are;
-    answers = record { first = answer.answers.first; endings = tt };
-  }
+    text_listed : (end : JobEnding) → Answer (said_end end) → Grew b a text
+        → (zero ≡ false → warnings ≡ []) → Lists zero told blocks b a (outcome_for r end) warnings
+    text_listed ending.Pages answer grew quiet =
+        listed_whole (outcome_for r ending.Pages) refl answer (λ e is. absurd (cc)) grew grew quiet
+    text_listed (ending.Invalid n) answer grew quiet =
+        listed_whole (outcome_for r (ending.Invalid n)) refl answer
+        (λ e is. (invalid_here (reader_of zero told) (length answer.pages) n
+        answer.answers.endings.0 ∙ is)) grew grew quiet
+    text_listed (ending.PastEnd n) answer grew quiet =
+        listed_whole (outcome_for r (ending.PastEnd n)) refl answer
+        (λ e is. (missing_here (reader_of zero told) (length answer.pages) n
+        answer.answers.endings.0 ∙ is)) grew grew quiet
+    text_listed (ending.Unread n) answer grew quiet =
+        listed_whole (outcome_for r (ending.Unread n)) refl answer
+        (λ e is. (let stop = answer.answers.endings.0 in
+        entry_of_range r first count (length answer.pages) n stop.next stop.here stop.named ∙ is))
+        grew grew quiet
+    text_listed ending.NoMemory answer grew quiet =
+        listed_whole (outcome_for r ending.NoMemory) refl answer (λ e is. absurd (cc))
+        (GrewByPrefix-whole b a text grew) grew quiet
 
-  unwritten : (found : Option Reader) (text : List ℕ) (sums : PageSums)
-      (b a : Option (List ℕ)) (end : JobEnding)
-      → IsJobAnswer found (λ _. ⊤) blocks text sums (said_end end) → GrewByPrefix b a text
-      → Lists found blocks b a CannotWrite
-  unwritten found text sums b a end answer grew = record {
-    begun = refl;
-    text = text;
-    sums = sums;
-    answer = without_end found text sums (said_end end) answer;
-    here = λ e is. absurd (cc);
-    grew = grew;
-  }
+    -- the write failed, so that nothing was warned of
+    without_end : (end : Option Ending) → Answer end → Answer None
+    without_end end answer = record {
+      pages = answer.pages;
+      text_is = answer.text_is;
+      warnings_are = answer.warnings_are;
+      sums_are = answer.sums_are;
+      answers = record { first = answer.answers.first; endings = tt };
+    }
 
-  unwritten_for_memory : (found : Option Reader) (text : List ℕ) (sums : PageSums)
-      (b a : Option (List ℕ)) (end : JobEnding)
-      → IsJobAnswer found (λ _. ⊤) blocks text sums (said_end end) → GrewByPrefix b a text
-      → Lists found blocks b a NoMemory
-  unwritten_for_memory found text sums b a end answer grew = record {
-    begun = refl;
-    text = text;
-    sums = sums;
-    answer = without_end found text sums (said_end end) answer;
-    here = λ e is. absurd (cc);
-    grew = grew;
-  }
+    unwritten : (end : JobEnding) → Answer (said_end end) → GrewByPrefix b a text
+        → Lists zero told blocks b a CannotWrite []
+    unwritten end answer grew = let some = GrewByPrefix-some b a text grew in record {
+      begun = refl;
+      text = text;
+      all_warnings = warnings;
+      sums = sums;
+      answer = without_end (said_end end) answer;
+      here = λ e is. absurd (cc);
+      grew = grew;
+      whole = 0;
+      among = omega arith;
+      all = λ is. absurd (cc);
+      reached = (some.0, reached_none b a some.0 some.1);
+      warned = sym no_warnings;
+      quiet = λ _. refl;
+    }
+
+    unwritten_for_memory : (end : JobEnding) → Answer (said_end end) → GrewByPrefix b a text
+        → Lists zero told blocks b a NoMemory []
+    unwritten_for_memory end answer grew = let some = GrewByPrefix-some b a text grew in record {
+      begun = refl;
+      text = text;
+      all_warnings = warnings;
+      sums = sums;
+      answer = without_end (said_end end) answer;
+      here = λ e is. absurd (cc);
+      grew = grew;
+      whole = 0;
+      among = omega arith;
+      all = λ is. absurd (cc);
+      reached = (some.0, reached_none b a some.0 some.1);
+      warned = sym no_warnings;
+      quiet = λ _. refl;
+    }
 
 module _ (job : Job) (b a : Option (List ℕ)) where
   pub job_written : (o : Outcome) → o ≡ outcome_for job.relation job.ending
-      → Grew b a job.text.items → IsListedBy job b a o
-  job_written o is grew = λ found asked listed.
-      (let Q : Outcome → Type 0 = λ x. Lists found (entries_in asked) b a x in
-      let R : ℕ → Type 0 = λ r. Lists found (entries_in asked) b a (outcome_for r job.ending) in
+      → Grew b a job.text.items → IsListedBy job b a o job.warnings.items
+  job_written o is grew = λ zeroes told asked listed.
+      (let w = job.warnings.items in
+      let Q : Outcome → Type 0 = λ x. Lists zeroes told (entries_in asked) b a x w in
+      let R : ℕ → Type 0 = λ r. Lists zeroes told (entries_in asked) b a
+      (outcome_for r job.ending) w in
       subst Q (sym is) (subst R (sym listed.same.0)
-      (text_listed asked.relation asked.first asked.count found job.text.items job.tally b a
-      job.ending listed.answer grew)))
+      (text_listed asked.relation asked.first asked.count zeroes told job.text.items w job.tally b a
+      job.ending listed.answer grew listed.quiet)))
 
-  pub empty_written : (o : Outcome) → o ≡ outcome_for job.relation job.ending
-      → job.text.items ≡ [] → a ≡ b → IsListedBy job b a o
-  empty_written o is none same =
-      job_written o is (Grew-same b a [] job.text.items (sym none) (Grew-stays b a same))
+  pub job_unwritten : GrewByPrefix b a job.text.items → IsListedBy job b a CannotWrite []
+  job_unwritten grew = λ zeroes told asked listed.
+      unwritten asked.relation asked.first asked.count zeroes told job.text.items job.warnings.items
+      job.tally b a job.ending listed.answer grew
 
-  pub job_unwritten : GrewByPrefix b a job.text.items → IsListedBy job b a CannotWrite
-  job_unwritten grew = λ found asked listed.
-      unwritten asked.relation asked.first asked.count found job.text.items job.tally b a job.ending
-      listed.answer grew
-
-  pub job_out_of_memory : GrewByPrefix b a job.text.items → IsListedBy job b a NoMemory
-  job_out_of_memory grew = λ found asked listed.
-      unwritten_for_memory asked.relation asked.first asked.count found job.text.items job.tally b a
-      job.ending listed.answer grew
+  pub job_out_of_memory : GrewByPrefix b a job.text.items → IsListedBy job b a NoMemory []
+  job_out_of_memory grew = λ zeroes told asked listed.
+      unwritten_for_memory asked.relation asked.first asked.count zeroes told job.text.items
+      job.warnings.items job.tally b a job.ending listed.answer grew
 
 ended_unread : (r : ℕ) (end : JobEnding)
     → unread_count (outcome_for r end) ≡ cond (is_unread end) 1 0
@@ -211,10 +228,6 @@ ended_unread r (ending.Invalid b) = refl
 ended_unread r (ending.Unread b) = refl
 ended_unread r (ending.PastEnd b) = refl
 ended_unread r ending.NoMemory = refl
-
-pub empty_text : (text : List ℕ) → length text ≡ 0 → text ≡ []
-empty_text [] none = refl
-empty_text (byte ∷ text) none = absurd (omega (arith, none))
 
 -- a job that ended in Unread is one
 pub one_unread : (job : Job) (o : Outcome) → o ≡ outcome_for job.relation job.ending
@@ -257,44 +270,53 @@ requests_one_more jobs job =
     ∙ ap (λ (l : List Request). requests_in jobs ++ l) (append-nil (entries_in job))
 
 -- the texts of the first k jobs were written
-abbrev pub FirstListed : List Job → ℕ → Option (List ℕ) → Option (List ℕ) → Type 0
-FirstListed jobs k b a = (found : Option Reader) (asked : List Job) → AreAnswered found asked jobs
-    → Lists found (requests_in (take k asked)) b a Done
+abbrev pub FirstListed : List Job → ℕ → Option (List ℕ) → Option (List ℕ) → List ℕ → Type 0
+FirstListed jobs k b a w =
+    (zeroes : Bool) (told : Option Told) (asked : List Job) → AreAnswered zeroes told asked jobs
+    → Lists zeroes told (requests_in (take k asked)) b a Done w
 
 module _ (jobs : List Job) (k : ℕ) (job : Job) (b m a : Option (List ℕ)) (inside : k < length jobs)
     (is : job ≡ get_or jobs k job) where
   -- and then that of the next, up to its end or not
-  pub next_listed : (o : Outcome) → FirstListed jobs k b m → IsListedBy job m a o
-      → (found : Option Reader) (asked : List Job) → AreAnswered found asked jobs
-      → Lists found (requests_in (take (k + 1) asked)) b a o
-  next_listed o before here found asked all =
+  pub next_listed : (o : Outcome) (v w : List ℕ) → FirstListed jobs k b m v
+      → IsListedBy job m a o w
+      → (zeroes : Bool) (told : Option Told) (asked : List Job) → AreAnswered zeroes told asked jobs
+      → Lists zeroes told (requests_in (take (k + 1) asked)) b a o (v ++ w)
+  next_listed o v w before here zeroes told asked all =
       let below : k < length asked = omega (arith, all.as_many) in
       let one = all.each k job below in
       let this = get_or asked k job in
-      let P : Job → Type 0 = λ j. IsListed found (λ _. ⊤) this j in
+      let P : Job → Type 0 = λ j. IsListed zeroes told (λ _. ⊤) this j in
       let more : requests_in (take (k + 1) asked) ≡ requests_in (take k asked) ++ entries_in this =
       ap requests_in (take_more asked k job below) ∙ requests_one_more (take k asked) this in
-      lists_same found _ _ b a o (sym more)
-      (lists_append found (requests_in (take k asked)) (entries_in this) b m a o
-      (before found asked all) (here found this (subst P (sym is) one)))
+      lists_same zeroes told _ _ b a o (v ++ w) (sym more)
+      (lists_append zeroes told (requests_in (take k asked)) (entries_in this) b m a o v w
+      (before zeroes told asked all) (here zeroes told this (subst P (sym is) one)))
 
-  pub next_stopped : (o : Outcome) → o ≢ Done → FirstListed jobs k b m → IsListedBy job m a o
-      → AreListedBy jobs b a o
-  next_stopped o stops before here = λ found asked all.
+  pub next_done : (o : Outcome) (v w : List ℕ) → o ≡ Done → FirstListed jobs k b m v
+      → IsListedBy job m a o w → FirstListed jobs (k + 1) b a (v ++ w)
+  next_done o v w done before here = λ zeroes told asked all.
+      (let P : Outcome → Type 0 =
+      λ x. Lists zeroes told (requests_in (take (k + 1) asked)) b a x (v ++ w) in
+      subst P done (next_listed o v w before here zeroes told asked all))
+
+  pub next_stopped : (o : Outcome) (v w : List ℕ) → o ≢ Done → FirstListed jobs k b m v
+      → IsListedBy job m a o w → AreListedBy jobs b a o (v ++ w)
+  next_stopped o v w stops before here = λ zeroes told asked all.
       (let parts : requests_in asked
       ≡ requests_in (take (k + 1) asked) ++ requests_in (drop (k + 1) asked) =
       ap requests_in (sym (take-append-drop (k + 1) asked))
       ∙ flat_map-append entries_in (take (k + 1) asked) (drop (k + 1) asked) in
-      lists_same found _ _ b a o (sym parts)
-      (lists_more found (requests_in (take (k + 1) asked)) (requests_in (drop (k + 1) asked)) b a o
-      stops (next_listed o before here found asked all)))
+      lists_same zeroes told _ _ b a o (v ++ w) (sym parts)
+      (lists_more zeroes told (requests_in (take (k + 1) asked)) (requests_in (drop (k + 1) asked))
+      b a o (v ++ w) stops (next_listed o v w before here zeroes told asked all)))
 
-pub all_listed : (jobs : List Job) (k : ℕ) (b a : Option (List ℕ)) → length jobs ≤ k
-    → FirstListed jobs k b a → AreListedBy jobs b a Done
-all_listed jobs k b a all listed = λ found asked answered.
-    lists_same found _ _ b a Done
+pub all_listed : (jobs : List Job) (k : ℕ) (b a : Option (List ℕ)) (w : List ℕ)
+    → length jobs ≤ k → FirstListed jobs k b a w → AreListedBy jobs b a Done w
+all_listed jobs k b a w all listed = λ zeroes told asked answered.
+    lists_same zeroes told _ _ b a Done w
     (ap requests_in (take_all k asked (omega (arith, answered.as_many))))
-    (listed found asked answered)
+    (listed zeroes told asked answered)
 
 -- a job ends in no fault of a write
 not_write : (r : ℕ) (end : JobEnding) → outcome_for r end ≢ CannotWrite
@@ -311,5 +333,5 @@ stopped_by_job job o before now is later = record {
   cannot_write = λ fault. absurd (not_write job.relation job.ending (sym is ∙ fault));
 }
 
-pub none_listed : (jobs : List Job) (s : Option (List ℕ)) → FirstListed jobs 0 s s
-none_listed jobs s = λ found asked all. lists_none found s
+pub none_listed : (jobs : List Job) (s : Option (List ℕ)) → FirstListed jobs 0 s s []
+none_listed jobs s = λ zeroes told asked all. lists_none zeroes told s

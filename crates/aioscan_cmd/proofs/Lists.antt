@@ -1,15 +1,19 @@
 -- Lists of blocks that were listed one after the other.
-use Rattle.std.proofs.Common.{◌≡◌, ◌≢◌, ◌+◌, ℕ, List, [], ◌++◌, length, refl, sym, ap, ◌∙◌}
-use Rattle.std.proofs.Common.{subst, arith, length-append}
+use Rattle.std.proofs.Common.{◌≡◌, ◌≢◌, ◌+◌, ℕ, Bool, List, [], ◌++◌, length, take, refl, sym, ap}
+use Rattle.std.proofs.Common.{◌∙◌, subst, arith, append_assoc, length-append}
 use Rattle.std.specs.Prelude.{Option, Some, None, slice_get, ⊤}
-use Rattle.page_check.specs.SynchronousAnswer.{Ending, End, Reader}
+use Rattle.std.proofs.Math.Seq.{take-append-add}
+use Rattle.std.proofs.lemmas.List.{take_all}
+use Rattle.page_check.specs.Told.{Told}
+use Rattle.page_check.specs.SynchronousAnswer.{Ending, End, Reader, reader_of}
 use Rattle.page_check.proofs.AnswersInOrder.{answered_none, slice_get_front, slice_get_back}
 use Rattle.page_check.proofs.AnswersOfLists.{length_whole}
 use Rattle.page_check.proofs.AnswersOfBlocks.{answered_no_block}
 use Rattle.heap_scan.specs.Job.{IsJobAnswer}
 use Rattle.heap_scan.specs.Listing.{listing}
 use Rattle.heap_scan.specs.Sums.{joined, no_sums, sums_of}
-use Rattle.heap_scan.proofs.Jobs.{job_append, job_more, IsEarly}
+use Rattle.heap_scan.specs.Warnings.{warnings_of}
+use Rattle.heap_scan.proofs.Jobs.{job_append, job_more, listing-append, warnings-append, IsEarly}
 use Rattle.heap_scan.proofs.Summing.{sums_of-none}
 use Rattle.aio_disk.specs.Sink.{Grew}
 use Rattle.aioscan_cmd.specs.RequestList.{Request, Page}
@@ -19,7 +23,7 @@ use Rattle.aioscan_cmd.specs.declared.report.Outcome.{Outcome}
 use Rattle.aioscan_cmd.specs.declared.report.Outcome.TheVariants.{Done, Invalid, Usage, CannotOpen}
 use Rattle.aioscan_cmd.specs.declared.report.Outcome.TheVariants.{NoLength, Unread, CannotWrite}
 use Rattle.aioscan_cmd.specs.declared.report.Outcome.TheVariants.{NoMemory, Missing, TooLong}
-use Rattle.aioscan_cmd.proofs.Growing.{Grew-nothing, Grew-append, GrewByPrefix-nothing}
+use Rattle.aioscan_cmd.proofs.Growing.{Grew-nothing, Grew-append, Grew-same, GrewByPrefix-nothing}
 use Rattle.aioscan_cmd.proofs.Growing.{GrewByPrefix-append}
 
 pub no_listing : listing (let none : List Page = [] in none) ≡ []
@@ -29,25 +33,45 @@ no_listing = refl
 no_pages_sums : sums_of (let none : List Page = [] in none) ≡ no_sums
 no_pages_sums = sums_of-none (Unit {0})
 
+pub no_warnings : warnings_of (let none : List Page = [] in none) ≡ []
+unfolding warnings_of
+no_warnings = refl
+
 -- no blocks have no pages
-pub no_answer : (found : Option Reader) → IsJobAnswer found (λ (e : Request). ⊤) [] [] no_sums
+pub no_answer : (found : Option Reader) → IsJobAnswer found (λ (e : Request). ⊤) [] [] [] no_sums
     (Some End)
 no_answer found = record {
   pages = [];
   text_is = sym no_listing;
+  warnings_are = sym no_warnings;
   sums_are = sym no_pages_sums;
   answers = answered_no_block found (λ _. ⊤);
 }
 
+-- no page was listed, and then any text was written
+pub reached_none : (b a : Option (List ℕ)) (more : List ℕ) → Grew b a more
+    → Grew b a (listing (let none : List Page = [] in none) ++ more)
+reached_none b a more grew =
+    Grew-same b a more _ (ap (λ (l : List ℕ). l ++ more) (sym no_listing)) grew
+
 -- no blocks
-pub lists_none : (found : Option Reader) (s : Option (List ℕ)) → Lists found [] s s Done
-lists_none found s = record {
+pub lists_none : (zero : Bool) (told : Option Told) (s : Option (List ℕ))
+    → Lists zero told [] s s Done []
+unfolding no_answer
+lists_none zero told s = record {
   begun = refl;
   text = [];
+  all_warnings = [];
   sums = no_sums;
-  answer = no_answer found;
+  answer = no_answer (reader_of zero told);
   here = λ e is. absurd (cc);
   grew = Grew-nothing s;
+  whole = 0;
+  among = omega arith;
+  all = λ _. refl;
+  reached = ([], reached_none s s [] (Grew-nothing s));
+  warned = sym no_warnings;
+  quiet = λ _. refl;
 }
 
 GrewBy-append : (o : Outcome) (b m a : Option (List ℕ)) (xs ys : List ℕ) → Grew b m xs
@@ -63,29 +87,62 @@ GrewBy-append CannotOpen b m a xs ys first second = Grew-append b m a xs ys firs
 GrewBy-append (NoLength r) b m a xs ys first second = Grew-append b m a xs ys first second
 GrewBy-append (TooLong r) b m a xs ys first second = Grew-append b m a xs ys first second
 
+-- the warnings of pages that were all listed whole
+module _ (zero : Bool) (told : Option Told) (requests : List Request) (b a : Option (List ℕ))
+    (o : Outcome) (w : List ℕ) (lists : Lists zero told requests b a o w) where
+  pub all_warned : lists.whole ≡ length lists.answer.pages → w ≡ warnings_of lists.answer.pages
+  all_warned all =
+      lists.warned ∙ ap (λ (k : ℕ). warnings_of (take k lists.answer.pages)) all
+      ∙ ap warnings_of (take_all (length lists.answer.pages) lists.answer.pages (omega arith))
+
 -- some blocks to their end, and then some more
-pub lists_append : (found : Option Reader) (xs ys : List Request) (b m a : Option (List ℕ))
-    (o : Outcome)
-    → Lists found xs b m Done → Lists found ys m a o → Lists found (xs ++ ys) b a o
+pub lists_append : (zero : Bool) (told : Option Told) (xs ys : List Request)
+    (b m a : Option (List ℕ)) (o : Outcome) (v w : List ℕ)
+    → Lists zero told xs b m Done v → Lists zero told ys m a o w
+    → Lists zero told (xs ++ ys) b a o (v ++ w)
 unfolding job_append
-lists_append found xs ys b m a o front back =
-    let n = length front.answer.pages in
-    let k = length back.answer.pages in
-    let size : length (front.answer.pages ++ back.answer.pages) ≡ n + k =
-    length-append front.answer.pages back.answer.pages in
-    let all : n ≡ length xs =
-    length_whole found xs front.answer.pages front.answer.answers.endings.0 in record {
+lists_append zero told xs ys b m a o v w front back =
+    let found = reader_of zero told in
+    let ps = front.answer.pages in
+    let qs = back.answer.pages in
+    let n = length ps in
+    let size : length (ps ++ qs) ≡ n + length qs = length-append ps qs in
+    let all : n ≡ length xs = length_whole found xs ps front.answer.answers.endings.0 in
+    let among = back.among in
+    let more = back.reached.0 in
+    let taken : take (n + back.whole) (ps ++ qs) ≡ ps ++ take back.whole qs =
+    take-append-add ps qs back.whole in record {
       begun = back.begun;
       text = front.text ++ back.text;
+      all_warnings = front.all_warnings ++ back.all_warnings;
       sums = joined front.sums back.sums;
       answer =
-          job_append found (λ _. ⊤) xs ys front.text back.text front.sums back.sums (ending_of o)
-          front.answer back.answer;
+          job_append found (λ _. ⊤) xs ys front.text back.text front.all_warnings
+          back.all_warnings front.sums back.sums (ending_of o) front.answer back.answer;
       here = λ e is. (
-          ap (slice_get (xs ++ ys)) (size ∙ ap (λ (i : ℕ). i + k) all)
-          ∙ slice_get_back xs ys k ∙ back.here e is);
+          ap (slice_get (xs ++ ys)) (size ∙ ap (λ (i : ℕ). i + length qs) all)
+          ∙ slice_get_back xs ys (length qs) ∙ back.here e is);
       grew =
           GrewBy-append o b m a front.text back.text front.grew back.grew;
+      whole = n + back.whole;
+      among = omega (arith, size);
+      all = λ is. (let every = back.all is in omega (arith, size));
+      reached = (
+        more,
+        Grew-same b a _ _
+            (ap (λ (l : List ℕ). l ++ (listing (take back.whole qs) ++ more)) front.answer.text_is
+            ∙ sym (append_assoc (listing ps) (listing (take back.whole qs)) more)
+            ∙ ap (λ (l : List ℕ). l ++ more)
+            (sym (listing-append ps (take back.whole qs)) ∙ ap listing (sym taken)))
+            (Grew-append b m a front.text (listing (take back.whole qs) ++ more) front.grew
+            back.reached.1),
+      );
+      warned =
+          ap (λ (l : List ℕ). l ++ w) (all_warned zero told xs b m Done v front (front.all refl))
+          ∙ ap (λ (l : List ℕ). warnings_of ps ++ l) back.warned
+          ∙ sym (warnings-append ps (take back.whole qs)) ∙ ap warnings_of (sym taken);
+      quiet = λ off. (
+          ap (λ (l : List ℕ). l ++ w) (front.quiet off) ∙ back.quiet off);
     }
 
 none_early : IsEarly None
@@ -107,40 +164,55 @@ early (NoLength r) stops = none_early
 early (TooLong r) stops = none_early
 
 -- listing stopped, whatever is asked for behind
-pub lists_more : (found : Option Reader) (xs ys : List Request) (b a : Option (List ℕ))
-    (o : Outcome)
-    → o ≢ Done → Lists found xs b a o → Lists found (xs ++ ys) b a o
+pub lists_more : (zero : Bool) (told : Option Told) (xs ys : List Request)
+    (b a : Option (List ℕ)) (o : Outcome) (w : List ℕ)
+    → o ≢ Done → Lists zero told xs b a o w → Lists zero told (xs ++ ys) b a o w
 unfolding job_more
-lists_more found xs ys b a o stops front = record {
+lists_more zero told xs ys b a o w stops front = record {
   begun = front.begun;
   text = front.text;
+  all_warnings = front.all_warnings;
   sums = front.sums;
   answer =
-      job_more found (λ _. ⊤) xs ys front.text front.sums (ending_of o) (early o stops)
-      front.answer;
+      job_more (reader_of zero told) (λ _. ⊤) xs ys front.text front.all_warnings front.sums
+      (ending_of o) (early o stops) front.answer;
   here = λ e is. slice_get_front xs ys (length front.answer.pages) e (front.here e is);
   grew = front.grew;
+  whole = front.whole;
+  among = front.among;
+  all = front.all;
+  reached = front.reached;
+  warned = front.warned;
+  quiet = front.quiet;
 }
 
-pub lists_same : (found : Option Reader) (xs ys : List Request) (b a : Option (List ℕ))
-    (o : Outcome)
-    → xs ≡ ys → Lists found xs b a o → Lists found ys b a o
-lists_same found xs ys b a o same lists =
-    let P : List Request → Type 0 = λ l. Lists found l b a o in subst P same lists
+pub lists_same : (zero : Bool) (told : Option Told) (xs ys : List Request)
+    (b a : Option (List ℕ)) (o : Outcome) (w : List ℕ)
+    → xs ≡ ys → Lists zero told xs b a o w → Lists zero told ys b a o w
+lists_same zero told xs ys b a o w same lists =
+    let P : List Request → Type 0 = λ l. Lists zero told l b a o w in subst P same lists
 
 -- there was no memory before a page was given
-pub lists_nothing : (found : Option Reader) (xs : List Request) (s : Option (List ℕ))
-    → Lists found xs s s NoMemory
-lists_nothing found xs s = record {
+pub lists_nothing : (zero : Bool) (told : Option Told) (xs : List Request) (s : Option (List ℕ))
+    → Lists zero told xs s s NoMemory []
+lists_nothing zero told xs s = record {
   begun = refl;
   text = [];
+  all_warnings = [];
   sums = no_sums;
   answer = record {
     pages = [];
     text_is = sym no_listing;
+    warnings_are = sym no_warnings;
     sums_are = sym no_pages_sums;
-    answers = answered_none found (λ _. ⊤) xs;
+    answers = answered_none (reader_of zero told) (λ _. ⊤) xs;
   };
   here = λ e is. absurd (cc);
   grew = GrewByPrefix-nothing s s [] refl;
+  whole = 0;
+  among = omega arith;
+  all = λ is. absurd (cc);
+  reached = ([], reached_none s s [] (Grew-nothing s));
+  warned = sym no_warnings;
+  quiet = λ _. refl;
 }

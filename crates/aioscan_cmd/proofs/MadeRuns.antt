@@ -1,19 +1,23 @@
 -- Runs over generated pages: each block gives its page, so reading ends behind the last.
 use Rattle.std.proofs.Common.{◌≡◌, ◌≢◌, ◌⊎◌, ℕ, zero, suc, ◌+◌, ◌-◌, ◌<◌, ◌≤◌, ◌^◌, List, ◌∷◌}
 use Rattle.std.proofs.Common.{length, map, get_or, refl, sym, ap, subst, ◌∙◌, arith, inl, inr}
-use Rattle.std.proofs.Common.{append-nil, true}
-use Rattle.std.specs.Prelude.{Option, Some, None}
+use Rattle.std.proofs.Common.{append-nil, [], take, Bool, true, false}
+use Rattle.std.specs.Prelude.{Option, Some, None, cond}
 use Rattle.std.specs.List.{range_with_len}
 use Rattle.std.proofs.Math.Nat.{min-eq_left}
+use Rattle.std.proofs.lemmas.List.{take_all}
 use Rattle.std.proofs.lemmas.List.FromFn.{length-map-range_with_len}
 use Rattle.page_check.specs.Told.{Told, blocks_of}
-use Rattle.page_check.specs.SynchronousAnswer.{Reader, found_at, pages_of, stop_of}
+use Rattle.page_check.specs.SynchronousAnswer.{Reader, Found, Page as FoundPage, found_at, given_as}
+use Rattle.page_check.specs.SynchronousAnswer.{is_page, pages_of, stop_of, zeroed_if_damaged}
+use Rattle.page_check.specs.SynchronousAnswer.{zeroing}
 use Rattle.page_check.specs.Verdict.{IsValid}
 use Rattle.page_check.proofs.AnswersOfLists.{all_given}
 use Rattle.page_check.proofs.SynchronousReads.{pages_of-cons, pages_of-none}
 use Rattle.page_check.proofs.SynchronousReads.{stop_of-cons, stop_of-none}
 use Rattle.heap_scan.specs.Job.{block_entry}
 use Rattle.heap_scan.specs.Sums.{FitSums, sums_of}
+use Rattle.heap_scan.specs.Warnings.{warnings_of}
 use Rattle.heap_scan.specs.declared.sums.PageSums.{PageSums}
 use Rattle.heap_scan.proofs.Summing.{sums_fit}
 use Rattle.aio_disk.specs.Counts.{Rose, ShelfCounts}
@@ -23,19 +27,24 @@ use Rattle.aioscan_cmd.specs.Generated.{made_page, made_files, made_told, summar
 use Rattle.aioscan_cmd.specs.Causes.{HasCauses}
 use Rattle.aioscan_cmd.specs.Reading.{Seen, GrewBy, HasWritten, seen}
 use Rattle.aioscan_cmd.specs.RequestList.{Request, Page, block_range, requests_of}
-use Rattle.aioscan_cmd.specs.Run.{EarlierFit, EndsMade, FitsInOrder, Ran, RanMade, Writes}
-use Rattle.aioscan_cmd.specs.Run.{made_run, outcome_at, run_of}
+use Rattle.aioscan_cmd.specs.Run.{EarlierFit, EndsMade, FitsInOrder, IsWarned, Ran, RanMade}
+use Rattle.aioscan_cmd.specs.Run.{Writes, made_run, outcome_at, run_of}
 use Rattle.aioscan_cmd.specs.Sums.{HasSums, HasSumsTold, kept_sums}
 use Rattle.aioscan_cmd.specs.declared.report.Outcome.{Outcome}
 use Rattle.aioscan_cmd.specs.declared.report.Outcome.TheVariants.{Done, CannotWrite, NoMemory}
 use Rattle.aioscan_cmd.specs.declared.report.Outcome.TheVariants.{Usage, CannotOpen}
 use Rattle.aioscan_cmd.specs.declared.report.Outcome.TheVariants.{NoLength, Unread}
+use Rattle.aioscan_cmd.proofs.EndOfRun.{warned_of_none}
 use Rattle.aioscan_cmd.proofs.Growing.{GrewByPrefix-nothing}
 use Rattle.aioscan_cmd.proofs.MadePages.{made_blocks, made_found, made_valid}
-use Rattle.aioscan_cmd.proofs.TopClauses.{complete, writes}
+use Rattle.aioscan_cmd.proofs.TopClauses.{complete, warned, writes}
 
 abbrev given_of : ℕ → Page
-given_of block = record { entry = block_entry 0 block; page = made_page block }
+given_of block = record {
+  entry = block_entry 0 block;
+  page = made_page block;
+  zeroed = false;
+}
 
 abbrev givens : ℕ → ℕ → List Page
 givens start m = map given_of (range_with_len start m)
@@ -57,23 +66,41 @@ kept_fit s fit =
 abbrev FitsMade : ℕ → Outcome → Type 0
 FitsMade n o = FitsInOrder (length_limit 131072) (blocks_of (made_told n)) 1 o
 
-module _ (n : ℕ) (few : n ≤ 4096) where
+-- a page that is found is given as it is, whether or not damaged ones are zeroed
+valid_either : (z : Bool) (x : Found) (page : List ℕ) → x ≡ FoundPage page
+    → cond z (zeroed_if_damaged x) x ≡ FoundPage page
+valid_either true x page is = ap zeroed_if_damaged is
+valid_either false x page is = is
+
+-- none of these pages was zeroed
+quiet_from : (start m k : ℕ) → warnings_of (take k (givens start m)) ≡ []
+unfolding warnings_of
+quiet_from start m zero = refl
+quiet_from start zero (suc k) = refl
+quiet_from start (suc m) (suc k) = quiet_from (start + 1) m k
+
+module _ (z : Bool) (n : ℕ) (few : n ≤ 4096) where
   abbrev f : Reader
-  f = found_at (made_told n)
+  f = zeroing z (found_at (made_told n))
+
+  found_here : (block : ℕ) → block < n → f 0 block ≡ FoundPage (made_page block)
+  found_here block below = valid_either z _ _ (made_found n block few below)
 
   pages_from : (start m : ℕ) → start + m ≤ n
       → pages_of f (block_range 0 start m) ≡ givens start m
   pages_from start zero within = pages_of-none f
   pages_from start (suc m) within =
-      pages_of-cons f (given_of start) (block_range 0 (start + 1) m)
-      (made_found n start few (omega arith))
+      let is = found_here start (omega arith) in
+      let rest = block_range 0 (start + 1) m in
+      pages_of-cons f (block_entry 0 start) rest (ap is_page is)
+      ∙ ap (λ (x : Found). given_as x (block_entry 0 start) ∷ pages_of f rest) is
       ∙ ap (λ (l : List Page). given_of start ∷ l) (pages_from (start + 1) m (omega arith))
 
   stop_from : (start m : ℕ) → start + m ≤ n → stop_of f (block_range 0 start m) ≡ None
   stop_from start zero within = stop_of-none f
   stop_from start (suc m) within =
-      stop_of-cons f (given_of start) (block_range 0 (start + 1) m)
-      (made_found n start few (omega arith))
+      stop_of-cons f (block_entry 0 start) (block_range 0 (start + 1) m)
+      (ap is_page (found_here start (omega arith)))
       ∙ stop_from (start + 1) m (omega arith)
 
   abbrev requests : List Request
@@ -122,11 +149,11 @@ module _ (n : ℕ) (few : n ≤ 4096) where
 
   -- the line of the sums was written, or a begin of it
   made_writes : (b a : Option (List ℕ)) (o : Outcome) → EndsMade o
-      → GrewBy o b a (summary_of (sums_of (pages_of f requests))) → Writes (made_run n) b a o
+      → GrewBy o b a (summary_of (sums_of (pages_of f requests))) → Writes (made_run z n) b a o
   made_writes b a o ends grew =
       let text = summary_of (sums_of (pages_of f requests)) in
       let P : Outcome → Type 0 = λ x. GrewBy x b a text in
-      let Q : Outcome → Type 0 = λ x. Writes (made_run n) b a x in elim ends [
+      let Q : Outcome → Type 0 = λ x. Writes (made_run z n) b a x in elim ends [
         | inl done ↦ subst Q (sym done) (made_done, subst P done grew)
         | inr other ↦ elim other [
           | inl cut ↦ subst Q (sym cut) (subst P cut grew)
@@ -134,14 +161,42 @@ module _ (n : ℕ) (few : n ≤ 4096) where
         ]
       ]
 
-  pub ran_made : (b a : Option (List ℕ)) (k : ℕ) (o : Outcome) → EndsMade o
-      → GrewBy o b a (summary_of (sums_of (pages_of f requests)))
-      → RanMade n (seen b k) (seen a k) o
-  ran_made b a k o ends grew = record {
+  -- and there is nothing to warn of
+  pub none_warned : (k : ℕ) → warnings_of (take k (pages_of f requests)) ≡ []
+  none_warned k =
+      ap (λ (l : List Page). warnings_of (take k l)) (pages_from 0 n (omega arith))
+      ∙ quiet_from 0 n k
+
+  pub all_quiet : warnings_of (pages_of f requests) ≡ []
+  all_quiet =
+      let m = length (pages_of f requests) in
+      ap warnings_of (sym (take_all m (pages_of f requests) (omega arith))) ∙ none_warned m
+
+  made_warned : (b a : Option (List ℕ)) (o : Outcome) (w : List ℕ) → EndsMade o → w ≡ []
+      → GrewBy o b a (summary_of (sums_of (pages_of f requests))) → IsWarned (made_run z n) b a o w
+  made_warned b a o w ends none grew =
+      let text = summary_of (sums_of (pages_of f requests)) in
+      let P : Outcome → Type 0 = λ x. GrewBy x b a text in
+      let Q : Outcome → Type 0 = λ x. IsWarned (made_run z n) b a x w in elim ends [
+        | inl done ↦ subst Q (sym done) (none ∙ sym all_quiet)
+        | inr other ↦ elim other [
+          | inl cut ↦ subst Q (sym cut)
+              (warned_of_none (made_run z n) b a w text none (subst P cut grew))
+          | inr memory ↦ subst Q (sym memory)
+              (warned_of_none (made_run z n) b a w text none (subst P memory grew))
+        ]
+      ]
+
+  pub ran_made : (b a : Option (List ℕ)) (k : ℕ) (o : Outcome) (w : List ℕ) → EndsMade o
+      → w ≡ [] → GrewBy o b a (summary_of (sums_of (pages_of f requests)))
+      → RanMade z n (seen b k) (seen a k) o w
+  ran_made b a k o w ends none grew = record {
     ends = ends;
     in_order = made_in_order o ends;
     writes = made_writes b a o ends grew;
     reads = refl;
+    quiet = none;
+    warned = made_warned b a o w ends none grew;
   }
 
 -- such a run ends in none of these
@@ -206,15 +261,17 @@ made_causes s wb wn o ends written =
     }
 
 -- there was no memory
-pub ran_made_without_memory : (n : ℕ) (s : Option (List ℕ)) (k : ℕ) (o : Outcome)
-    → o ≡ NoMemory → RanMade n (seen s k) (seen s k) o
-ran_made_without_memory n s k o is =
-    let P : Outcome → Type 0 = λ x. RanMade n (seen s k) (seen s k) x in
+pub ran_made_without_memory : (z : Bool) (n : ℕ) (s : Option (List ℕ)) (k : ℕ) (o : Outcome)
+    (w : List ℕ) → o ≡ NoMemory → w ≡ [] → RanMade z n (seen s k) (seen s k) o w
+ran_made_without_memory z n s k o w is none =
+    let P : Outcome → Type 0 = λ x. RanMade z n (seen s k) (seen s k) x w in
     subst P (sym is) (record {
       ends = inr (inr refl);
       in_order = tt;
       writes = GrewByPrefix-nothing s s _ refl;
       reads = refl;
+      quiet = none;
+      warned = warned_of_none _ s s w [] none (GrewByPrefix-nothing s s [] refl);
     })
 
 -- where no open failed, their count does not matter
@@ -260,34 +317,57 @@ module _ (n : ℕ) (c : Command) (is : IsMade n c) where
       ap (λ (fs : List (List ℕ)). are_there (made_files n).named (distinct fs)) is.0
 
   -- the run over them listed all, or found no memory
-  pub all_listed : (told : Option Told) (relations : ℕ) (b a : Seen) (o : Outcome)
-      (before now : ShelfCounts) (wb wn : ℕ) → told ≡ Some (made_told n) → relations ≡ 1
-      → Ran told relations c b a o → HasCauses before now wb wn o → o ≢ Usage → o ≢ CannotOpen
-      → ¬ Rose before.length_faults now.length_faults → ¬ Rose before.faults now.faults
-      → ¬ Rose wb wn → (o ≡ Done) ⊎ (o ≡ NoMemory)
-  all_listed told relations b a o before now wb wn told_is one ran causes words sure lengths reads
-      failed =
-      let P : Option Told → Type 0 = λ t. Ran t relations c b a o in
-      let Q : ℕ → Type 0 = λ r. Ran (Some (made_told n)) r c b a o in
-      let here = subst Q (one ∙ sym one_relation) (subst P told_is ran) in
-      let run = run_of (made_told n) c in
-      let done : run.outcome ≡ Done =
-      ap (λ (l : List Request).
-      outcome_at (found_at (made_told n)) (stop_of (found_at (made_told n)) l))
-      made_requests ∙ made_done n is.3 in
-      let still : ¬ Rose 0 0 = λ rose. absurd (omega (arith, rose)) in
-      elim (complete run (but_opens before) (but_opens now) wb wn b.written a.written o words
-      (causes_but_opens before now wb wn o causes sure) here.in_order
-      (writes (made_told n) _ c b a o here) still lengths reads failed
-      (λ q below. made_fits n is.3 q (omega (arith, below, one_relation)))) [
-        | inl same ↦ inl (same ∙ done)
-        | inr memory ↦ inr memory
-      ]
+  module _ (told : Option Told) (relations : ℕ) (b a : Seen) (o : Outcome) (w : List ℕ)
+      (told_is : told ≡ Some (made_told n)) (one : relations ≡ 1)
+      (ran : Ran told relations c b a o w) where
+    ran_here : Ran (Some (made_told n)) (length (relations_of c)) c b a o w
+    ran_here =
+        let P : Option Told → Type 0 = λ t. Ran t relations c b a o w in
+        let Q : ℕ → Type 0 = λ r. Ran (Some (made_told n)) r c b a o w in
+        subst Q (one ∙ sym one_relation) (subst P told_is ran)
+
+    pub all_listed : (before now : ShelfCounts) (wb wn : ℕ) → HasCauses before now wb wn o
+        → o ≢ Usage → o ≢ CannotOpen → ¬ Rose before.length_faults now.length_faults
+        → ¬ Rose before.faults now.faults → ¬ Rose wb wn → (o ≡ Done) ⊎ (o ≡ NoMemory)
+    all_listed before now wb wn causes words sure lengths reads failed =
+        let run = run_of (made_told n) c in
+        let found = zeroing c.settings.zero (found_at (made_told n)) in
+        let done : run.outcome ≡ Done =
+        ap (λ (l : List Request). outcome_at found (stop_of found l)) made_requests
+        ∙ made_done c.settings.zero n is.3 in
+        let still : ¬ Rose 0 0 = λ rose. absurd (omega (arith, rose)) in
+        elim (complete run (but_opens before) (but_opens now) wb wn b.written a.written o words
+        (causes_but_opens before now wb wn o causes sure) ran_here.in_order
+        (writes (made_told n) _ c b a o w ran_here) still lengths reads failed
+        (λ q below. made_fits c.settings.zero n is.3 q (omega (arith, below, one_relation)))) [
+          | inl same ↦ inl (same ∙ done)
+          | inr memory ↦ inr memory
+        ]
+
+    -- and has warned of nothing
+    pub none_to_warn : (o ≡ Done) ⊎ (o ≡ NoMemory) → w ≡ []
+    none_to_warn ends =
+        let found = zeroing c.settings.zero (found_at (made_told n)) in
+        let run = run_of (made_told n) c in
+        let said = warned (made_told n) _ c b a o w ran_here in
+        let Q : Outcome → Type 0 = λ x. IsWarned run b.written a.written x w in elim ends [
+          | inl done ↦ subst Q done said
+              ∙ ap (λ (l : List Request). warnings_of (pages_of found l)) made_requests
+              ∙ all_quiet c.settings.zero n is.3
+          | inr memory ↦ let cut = subst Q memory said in
+              cut.are
+              ∙ ap (λ (l : List Request). warnings_of (take cut.k (pages_of found l)))
+              made_requests
+              ∙ none_warned c.settings.zero n is.3 cut.k
+        ]
 
   pub listed_sums_made : (told : Option Told) (o : Outcome) (sums : PageSums)
       → told ≡ Some (made_told n) → o ≡ Done → HasSumsTold told c o sums
-      → sums ≡ sums_of (pages_of (found_at (made_told n)) (block_range 0 0 n))
+      → sums ≡ sums_of (pages_of (zeroing c.settings.zero (found_at (made_told n)))
+      (block_range 0 0 n))
   listed_sums_made told o sums told_is done has =
       let P : Option Told → Type 0 = λ t. HasSumsTold t c o sums in
-      let Q : List Request → Type 0 = λ l. HasSums (Some (found_at (made_told n))) l sums in
-      made_sums n is.3 sums (subst Q made_requests (subst P told_is has done))
+      let Q : List Request → Type 0 =
+      λ l. HasSums (Some (zeroing c.settings.zero (found_at (made_told n)))) l sums in
+      made_sums c.settings.zero n is.3 sums
+      (subst Q made_requests (subst P told_is has done))

@@ -25,6 +25,7 @@ any_settings = record {
   batch = false;
   full = false;
   segment = 131072;
+  zero = false;
 }
 
 abbrev command_with : Option ℕ → Option ℕ → List (List ℕ) → Command

@@ -1,26 +1,29 @@
 -- What the top call promises over a shelf that tells, from how the run ended.
 use Rattle.std.proofs.Common.{◌≡◌, ◌≢◌, ℕ, ◌<◌, ◌≤◌, List, ◌++◌, length, take, refl, sym, ap}
-use Rattle.std.proofs.Common.{◌∙◌, arith, inl, inr, length-append, subst, true}
-use Rattle.std.specs.Prelude.{Option, Some, None, IfSome, slice_get}
+use Rattle.std.proofs.Common.{◌∙◌, [], arith, inl, inr, length-append, subst, true}
+use Rattle.std.specs.Prelude.{Bool, Option, Some, None, IfSome, slice_get}
 use Rattle.std.proofs.Math.Seq.{take-append_seam}
 use Rattle.std.proofs.lemmas.Bool.{cases_lt}
+use Rattle.std.proofs.lemmas.List.{take-append-le}
 use Rattle.page_check.specs.Told.{Told, blocks_of}
-use Rattle.page_check.specs.SynchronousAnswer.{Found, Page as FoundPage, Damaged, Absent, Reader}
+use Rattle.page_check.specs.SynchronousAnswer.{Found, Page as FoundPage, Zeroed, Damaged, Absent}
+use Rattle.page_check.specs.SynchronousAnswer.{Reader, zeroing}
 use Rattle.page_check.specs.SynchronousAnswer.{End, PastEnd, Invalid as EndsInvalid}
 use Rattle.page_check.specs.SynchronousAnswer.{found_at, found_for, pages_of, stop_of, ending_in}
 use Rattle.page_check.specs.SynchronousAnswer.{ending_at}
 use Rattle.page_check.proofs.AnswersOfLists.{all_given, stop_of-length}
 use Rattle.heap_scan.specs.Listing.{listing}
+use Rattle.heap_scan.specs.Warnings.{warnings_of}
 use Rattle.heap_scan.proofs.Jobs.{listing-append}
 use Rattle.aio_disk.specs.Counts.{ShelfCounts}
 use Rattle.aio_disk.specs.Shelf.{Files, told_of}
-use Rattle.aio_disk.specs.Sink.{GrewByPrefix}
+use Rattle.aio_disk.specs.Sink.{Grew, GrewByPrefix}
 use Rattle.aioscan_cmd.specs.Command.{Command, relations_of}
-use Rattle.aioscan_cmd.specs.RequestList.{Request, request, requests_of}
+use Rattle.aioscan_cmd.specs.RequestList.{Request, Page, request, requests_of}
 use Rattle.aioscan_cmd.specs.Outcomes.{is_refused}
 use Rattle.aioscan_cmd.specs.Reading.{Seen, Lists}
 use Rattle.aioscan_cmd.specs.Run.{SynchronousRun, run_of, made_run, OnTold, OnSource, RanOn, RanBy}
-use Rattle.aioscan_cmd.specs.Run.{Ran, RanMade, EndsMade, Writes}
+use Rattle.aioscan_cmd.specs.Run.{Ran, RanMade, EndsMade, IsCutAt, IsWarned, IsWarnedUpTo, Writes}
 use Rattle.aioscan_cmd.specs.Run.{EarlierFit, FitsInOrder, outcome_by, outcome_at}
 use Rattle.aioscan_cmd.specs.Causes.{HasCauses, IsExact, IsComplete}
 use Rattle.aioscan_cmd.specs.declared.report.Outcome.{Outcome}
@@ -28,10 +31,12 @@ use Rattle.aioscan_cmd.specs.declared.report.Outcome.TheVariants.{Done, Invalid,
 use Rattle.aioscan_cmd.specs.declared.report.Outcome.TheVariants.{NoLength, Unread, CannotWrite}
 use Rattle.aioscan_cmd.specs.declared.report.Outcome.TheVariants.{NoMemory, Missing, TooLong}
 use Rattle.aioscan_cmd.proofs.Growing.{Grew-same, GrewByPrefix-same, GrewByPrefix-more}
+use Rattle.aioscan_cmd.proofs.Lists.{all_warned}
 
 -- the outcome where reading ends
 done_by : (f : Found) (r b block : ℕ) → ending_in f block ≡ End → outcome_by f r b ≡ Done
 done_by (FoundPage bytes) r b block is = refl
+done_by Zeroed r b block is = refl
 done_by Damaged r b block is = absurd (cc)
 done_by Absent r b block is = absurd (cc)
 
@@ -42,49 +47,57 @@ done_at f (Some e) is = done_by (found_for f e) e.relation e.block e.block is
 
 invalid_by : (f : Found) (r b : ℕ) → ending_in f b ≡ EndsInvalid b → outcome_by f r b ≡ Invalid r b
 invalid_by (FoundPage bytes) r b is = absurd (cc)
+invalid_by Zeroed r b is = absurd (cc)
 invalid_by Damaged r b is = refl
 invalid_by Absent r b is = absurd (cc)
 
 missing_by : (f : Found) (r b : ℕ) → ending_in f b ≡ PastEnd b → outcome_by f r b ≡ Missing r b
 missing_by (FoundPage bytes) r b is = absurd (cc)
+missing_by Zeroed r b is = absurd (cc)
 missing_by Damaged r b is = absurd (cc)
 missing_by Absent r b is = refl
 
 -- a run over contents that are told: its pages are the first of synchronous reads
-module _ (f : Reader) (requests : List Request) (b a : Seen) (o : Outcome)
-    (lists : Lists (Some f) requests b.written a.written o) where
+module _ (zero : Bool) (t : Told) (requests : List Request) (b a : Seen) (o : Outcome)
+    (w : List ℕ) (lists : Lists zero (Some t) requests b.written a.written o w) where
+  abbrev f : Reader
+  f = zeroing zero (found_at t)
+
+  abbrev all_pages : List Page
+  all_pages = pages_of f requests
+
   -- all of them
-  text_all : length lists.answer.pages ≡ length (pages_of f requests)
-      → lists.text ≡ listing (pages_of f requests)
+  text_all : length lists.answer.pages ≡ length all_pages → lists.text ≡ listing all_pages
   text_all all =
       lists.answer.text_is
       ∙ ap listing (sym (all_given f requests lists.answer.pages lists.answer.answers.first all))
 
   -- and reading stops behind them
   stop_here : (e : Request) → slice_get requests (length lists.answer.pages) ≡ Some e
-      → length lists.answer.pages ≡ length (pages_of f requests) → stop_of f requests ≡ Some e
+      → length lists.answer.pages ≡ length all_pages → stop_of f requests ≡ Some e
   stop_here e here all =
       stop_of-length f requests ∙ ap (slice_get requests) (sym all) ∙ here
 
   text_begins : GrewByPrefix b.written a.written lists.text
-      → GrewByPrefix b.written a.written (listing (pages_of f requests))
+      → GrewByPrefix b.written a.written (listing all_pages)
   text_begins grew =
       let rest = lists.answer.answers.first.0 in
-      let same : lists.text ++ listing rest ≡ listing (pages_of f requests) =
+      let same : lists.text ++ listing rest ≡ listing all_pages =
       ap (λ (l : List ℕ). l ++ listing rest) lists.answer.text_is
       ∙ sym (listing-append lists.answer.pages rest)
       ∙ ap listing (sym lists.answer.answers.first.1) in
       GrewByPrefix-same b.written a.written _ _ same
       (GrewByPrefix-more b.written a.written lists.text (listing rest) grew)
 
-  text_first : lists.text ≡ listing (take (length lists.answer.pages) (pages_of f requests))
-  text_first =
-      lists.answer.text_is
-      ∙ ap listing
-      (sym (ap (take (length lists.answer.pages)) lists.answer.answers.first.1
-      ∙ take-append_seam lists.answer.pages lists.answer.answers.first.0))
+  first_pages : lists.answer.pages ≡ take (length lists.answer.pages) all_pages
+  first_pages =
+      sym (ap (take (length lists.answer.pages)) lists.answer.answers.first.1
+      ∙ take-append_seam lists.answer.pages lists.answer.answers.first.0)
 
-  among : length lists.answer.pages ≤ length (pages_of f requests)
+  text_first : lists.text ≡ listing (take (length lists.answer.pages) all_pages)
+  text_first = lists.answer.text_is ∙ ap listing first_pages
+
+  among : length lists.answer.pages ≤ length all_pages
   among =
       omega (
         arith,
@@ -92,61 +105,148 @@ module _ (f : Reader) (requests : List Request) (b a : Seen) (o : Outcome)
         length-append lists.answer.pages lists.answer.answers.first.0,
       )
 
+  -- the block of an outcome could not be read
+  cut_at : (r k : ℕ) → slice_get requests (length lists.answer.pages) ≡ Some (request r k)
+      → Grew b.written a.written lists.text
+      → (run : SynchronousRun) → run.requests ≡ requests → run.pages ≡ all_pages
+      → IsCutAt run b.written a.written r k
+  cut_at r k here grew run requests_are pages_are =
+      let P : List Request → Type 0 =
+      λ l. slice_get l (length lists.answer.pages) ≡ Some (request r k) in
+      let Q : List Page → Type 0 = λ l. length lists.answer.pages ≤ length l in
+      let R : List Page → Type 0 = λ l. Grew b.written a.written
+      (listing (take (length lists.answer.pages) l)) in record {
+        k = length lists.answer.pages;
+        here = subst P (sym requests_are) here;
+        among = subst Q (sym pages_are) among;
+        grew = subst R (sym pages_are) (Grew-same b.written a.written _ _ text_first grew);
+      }
+
+  -- all of them were listed whole
+  warned_all : lists.whole ≡ length lists.answer.pages
+      → length lists.answer.pages ≡ length all_pages → w ≡ warnings_of all_pages
+  warned_all whole all =
+      all_warned zero (Some t) requests b.written a.written o w lists whole
+      ∙ ap warnings_of
+      (sym (all_given f requests lists.answer.pages lists.answer.answers.first all))
+
+  warned_first : lists.whole ≡ length lists.answer.pages
+      → w ≡ warnings_of (take (length lists.answer.pages) all_pages)
+  warned_first whole =
+      all_warned zero (Some t) requests b.written a.written o w lists whole
+      ∙ ap warnings_of first_pages
+
+  -- the first of them were listed whole
+  whole_pages : take lists.whole lists.answer.pages ≡ take lists.whole all_pages
+  whole_pages =
+      sym (ap (take lists.whole) lists.answer.answers.first.1
+      ∙ take-append-le lists.whole lists.answer.pages lists.answer.answers.first.0 lists.among)
+
+  warned_up_to : (run : SynchronousRun) → run.pages ≡ all_pages
+      → IsWarnedUpTo run b.written a.written w
+  warned_up_to run pages_are =
+      let few = among in
+      let within = lists.among in
+      let Q : List Page → Type 0 = λ l. lists.whole ≤ length l in
+      let R : List Page → Type 0 = λ l. Grew b.written a.written (listing l ++ lists.reached.0) in
+      let here : take lists.whole lists.answer.pages ≡ take lists.whole run.pages =
+      whole_pages ∙ ap (take lists.whole) (sym pages_are) in record {
+        k = lists.whole;
+        among = subst Q (sym pages_are) (omega arith);
+        reached = (lists.reached.0, subst R here lists.reached.1);
+        are = lists.warned ∙ ap warnings_of here;
+      }
+
 untouched_same : (b a : Seen) → a ≡ b → a.written ≡ b.written
 untouched_same b a same = ap (λ (s : Seen). s.written) same
 
-pub writes : (t : Told) (n : ℕ) (c : Command) (b a : Seen) (o : Outcome)
-    → Ran (Some t) n c b a o → Writes (run_of t c) b.written a.written o
-writes t n c b a Done ran =
-    let f = found_at t in
-    let requests = requests_of (blocks_of t) c in
-    let lists = ran.lists refl in
-    let end = lists.answer.answers.endings.0 in (
-      done_at f (stop_of f requests) end.1,
-      Grew-same b.written a.written _ _ (text_all f requests b a Done lists end.0) lists.grew,
-    )
-writes t n c b a (Invalid r k) ran =
-    let f = found_at t in
-    let requests = requests_of (blocks_of t) c in
-    let lists = ran.lists refl in
-    let end = lists.answer.answers.endings.0 in
-    let stop = stop_here f requests b a (Invalid r k) lists (request r k)
-    (lists.here (request r k) refl) end.0 in (
-      ap (outcome_at f) stop ∙ invalid_by (f r k) r k (sym (ap (ending_at f) stop) ∙ end.1),
-      Grew-same b.written a.written _ _ (text_all f requests b a (Invalid r k) lists end.0)
-          lists.grew,
-    )
-writes t n c b a (Missing r k) ran =
-    let f = found_at t in
-    let requests = requests_of (blocks_of t) c in
-    let lists = ran.lists refl in
-    let end = lists.answer.answers.endings.0 in
-    let stop = stop_here f requests b a (Missing r k) lists (request r k)
-    (lists.here (request r k) refl) end.0 in (
-      ap (outcome_at f) stop ∙ missing_by (f r k) r k (sym (ap (ending_at f) stop) ∙ end.1),
-      Grew-same b.written a.written _ _ (text_all f requests b a (Missing r k) lists end.0)
-          lists.grew,
-    )
-writes t n c b a (Unread r k) ran =
-    let f = found_at t in
-    let requests = requests_of (blocks_of t) c in
-    let lists = ran.lists refl in record {
-      k = length lists.answer.pages;
-      here = lists.here (request r k) refl;
-      among = among f requests b a (Unread r k) lists;
-      grew = Grew-same b.written a.written _ _ (text_first f requests b a (Unread r k) lists)
-          lists.grew;
-    }
-writes t n c b a CannotWrite ran =
-    let lists = ran.lists refl in
-    text_begins (found_at t) (requests_of (blocks_of t) c) b a CannotWrite lists lists.grew
-writes t n c b a NoMemory ran =
-    let lists = ran.lists refl in
-    text_begins (found_at t) (requests_of (blocks_of t) c) b a NoMemory lists lists.grew
-writes t n c b a Usage ran = untouched_same b a (ran.untouched refl)
-writes t n c b a CannotOpen ran = untouched_same b a (ran.untouched refl)
-writes t n c b a (NoLength r) ran = untouched_same b a (ran.untouched refl)
-writes t n c b a (TooLong r) ran = untouched_same b a (ran.untouched refl)
+module _ (t : Told) (n : ℕ) (c : Command) (b a : Seen) where
+  abbrev zero : Bool
+  zero = c.settings.zero
+
+  abbrev found : Reader
+  found = zeroing zero (found_at t)
+
+  abbrev blocks : List Request
+  blocks = requests_of (blocks_of t) c
+
+  abbrev run : SynchronousRun
+  run = run_of t c
+
+  pub writes : (o : Outcome) (w : List ℕ) → Ran (Some t) n c b a o w
+      → Writes run b.written a.written o
+  writes Done w ran =
+      let lists = ran.lists refl in
+      let end = lists.answer.answers.endings.0 in (
+        done_at found (stop_of found blocks) end.1,
+        Grew-same b.written a.written _ _ (text_all zero t blocks b a Done w lists end.0)
+            lists.grew,
+      )
+  writes (Invalid r k) w ran =
+      let lists = ran.lists refl in
+      let end = lists.answer.answers.endings.0 in
+      let stop = stop_here zero t blocks b a (Invalid r k) w lists (request r k)
+      (lists.here (request r k) refl) end.0 in (
+        ap (outcome_at found) stop
+            ∙ invalid_by (found r k) r k (sym (ap (ending_at found) stop) ∙ end.1),
+        Grew-same b.written a.written _ _
+            (text_all zero t blocks b a (Invalid r k) w lists end.0) lists.grew,
+      )
+  writes (Missing r k) w ran =
+      let lists = ran.lists refl in
+      let end = lists.answer.answers.endings.0 in
+      let stop = stop_here zero t blocks b a (Missing r k) w lists (request r k)
+      (lists.here (request r k) refl) end.0 in (
+        ap (outcome_at found) stop
+            ∙ missing_by (found r k) r k (sym (ap (ending_at found) stop) ∙ end.1),
+        Grew-same b.written a.written _ _
+            (text_all zero t blocks b a (Missing r k) w lists end.0) lists.grew,
+      )
+  writes (Unread r k) w ran =
+      let lists = ran.lists refl in
+      cut_at zero t blocks b a (Unread r k) w lists r k (lists.here (request r k) refl) lists.grew
+      run refl refl
+  writes CannotWrite w ran =
+      let lists = ran.lists refl in
+      text_begins zero t blocks b a CannotWrite w lists lists.grew
+  writes NoMemory w ran =
+      let lists = ran.lists refl in
+      text_begins zero t blocks b a NoMemory w lists lists.grew
+  writes Usage w ran = untouched_same b a (ran.untouched refl).0
+  writes CannotOpen w ran = untouched_same b a (ran.untouched refl).0
+  writes (NoLength r) w ran = untouched_same b a (ran.untouched refl).0
+  writes (TooLong r) w ran = untouched_same b a (ran.untouched refl).0
+
+  -- and what it has warned of
+  pub warned : (o : Outcome) (w : List ℕ) → Ran (Some t) n c b a o w
+      → IsWarned run b.written a.written o w
+  unfolding cut_at
+  warned Done w ran =
+      let lists = ran.lists refl in
+      warned_all zero t blocks b a Done w lists (lists.all refl)
+      lists.answer.answers.endings.0.0
+  warned (Invalid r k) w ran =
+      let lists = ran.lists refl in
+      warned_all zero t blocks b a (Invalid r k) w lists (lists.all refl)
+      lists.answer.answers.endings.0.0
+  warned (Missing r k) w ran =
+      let lists = ran.lists refl in
+      warned_all zero t blocks b a (Missing r k) w lists (lists.all refl)
+      lists.answer.answers.endings.0.0
+  warned (Unread r k) w ran =
+      let lists = ran.lists refl in (
+        cut_at zero t blocks b a (Unread r k) w lists r k (lists.here (request r k) refl)
+            lists.grew run refl refl,
+        warned_first zero t blocks b a (Unread r k) w lists (lists.all refl),
+      )
+  warned CannotWrite w ran =
+      warned_up_to zero t blocks b a CannotWrite w (ran.lists refl) run refl
+  warned NoMemory w ran =
+      warned_up_to zero t blocks b a NoMemory w (ran.lists refl) run refl
+  warned Usage w ran = (ran.untouched refl).1
+  warned CannotOpen w ran = (ran.untouched refl).1
+  warned (NoLength r) w ran = (ran.untouched refl).1
+  warned (TooLong r) w ran = (ran.untouched refl).1
 
 -- the first relation that is too long is one alone
 first_too_long : (limit : ℕ) (blocks : ℕ → ℕ) (q r : ℕ) → limit < blocks q
@@ -212,32 +312,32 @@ complete run before now wb wn b a (TooLong r) words causes fits writes opens len
     absurd (let within = fit r fits.0 in let long = fits.1 in omega arith)
 
 -- over a shelf that tells, what holds of each run holds of this one
-told_by : (told : Option Told) (c : Command) (b a : Seen) (o : Outcome)
+told_by : (told : Option Told) (c : Command) (b a : Seen) (o : Outcome) (w : List ℕ)
     (P : SynchronousRun → Type 0)
-    → ((t : Told) → Ran (Some t) (length (relations_of c)) c b a o → P (run_of t c))
-    → Ran told (length (relations_of c)) c b a o → IfSome told (λ t. P (run_of t c))
-told_by None c b a o P each ran = tt
-told_by (Some t) c b a o P each ran = each t ran
+    → ((t : Told) → Ran (Some t) (length (relations_of c)) c b a o w → P (run_of t c))
+    → Ran told (length (relations_of c)) c b a o w → IfSome told (λ t. P (run_of t c))
+told_by None c b a o w P each ran = tt
+told_by (Some t) c b a o w P each ran = each t ran
 
 on_source : (files : Option Files) (c : Command) (made : Option ℕ) (b a : Seen) (o : Outcome)
-    (P : SynchronousRun → Type 0)
-    → ((t : Told) → Ran (Some t) (length (relations_of c)) c b a o → P (run_of t c))
-    → ((n : ℕ) → RanMade n b a o → P (made_run n))
-    → RanBy files c made b a o → OnSource files c made P
-on_source files c None b a o P each each_made ran =
-    told_by (told_of files (relations_of c)) c b a o P each ran
-on_source files c (Some n) b a o P each each_made ran = each_made n ran
+    (w : List ℕ) (P : SynchronousRun → Type 0)
+    → ((t : Told) → Ran (Some t) (length (relations_of c)) c b a o w → P (run_of t c))
+    → ((z : Bool) (n : ℕ) → RanMade z n b a o w → P (made_run z n))
+    → RanBy files c made b a o w → OnSource files c made P
+on_source files c None b a o w P each each_made ran =
+    told_by (told_of files (relations_of c)) c b a o w P each ran
+on_source files c (Some n) b a o w P each each_made ran = each_made c.settings.zero n ran
 
 pub on_told : (files : Option Files) (command : Option Command) (b a : Seen) (o : Outcome)
-    (P : SynchronousRun → Type 0)
+    (w : List ℕ) (P : SynchronousRun → Type 0)
     → ((t : Told) (c : Command) → command ≡ Some c
-    → Ran (Some t) (length (relations_of c)) c b a o → P (run_of t c))
-    → ((n : ℕ) → command ≢ None → RanMade n b a o → P (made_run n))
-    → RanOn files command b a o → OnTold files command P
-on_told files None b a o P each each_made ran = tt
-on_told files (Some c) b a o P each each_made ran =
-    on_source files c c.made b a o P (λ t r. each t c refl r)
-    (λ n r. each_made n (λ none. absurd (cc)) r) ran
+    → Ran (Some t) (length (relations_of c)) c b a o w → P (run_of t c))
+    → ((z : Bool) (n : ℕ) → command ≢ None → RanMade z n b a o w → P (made_run z n))
+    → RanOn files command b a o w → OnTold files command P
+on_told files None b a o w P each each_made ran = tt
+on_told files (Some c) b a o w P each each_made ran =
+    on_source files c c.made b a o w P (λ t r. each t c refl r)
+    (λ z n r. each_made z n (λ none. absurd (cc)) r) ran
 
 -- words that are a command do not end in Usage
 not_usage : (command : Option Command) (c : Command) (o : Outcome)
@@ -245,30 +345,36 @@ not_usage : (command : Option Command) (c : Command) (o : Outcome)
 not_usage command c o usage some = λ is. (let none = usage is in cc)
 
 module _ (files : Option Files) (command : Option Command) (b a : Seen) (o : Outcome)
-    (ran : RanOn files command b a o) where
+    (w : List ℕ) (ran : RanOn files command b a o w) where
   pub told_writes : OnTold files command (λ run. Writes run b.written a.written o)
   told_writes =
-      on_told files command b a o (λ run. Writes run b.written a.written o)
-      (λ t c some r. writes t (length (relations_of c)) c b a o r)
-      (λ n some r. r.writes) ran
+      on_told files command b a o w (λ run. Writes run b.written a.written o)
+      (λ t c some r. writes t (length (relations_of c)) c b a o w r)
+      (λ z n some r. r.writes) ran
+
+  pub told_warned : OnTold files command (λ run. IsWarned run b.written a.written o w)
+  told_warned =
+      on_told files command b a o w (λ run. IsWarned run b.written a.written o w)
+      (λ t c some r. warned t (length (relations_of c)) c b a o w r)
+      (λ z n some r. r.warned) ran
 
   pub told_exact : OnTold files command (λ run. IsExact run o)
   told_exact =
-      on_told files command b a o (λ run. IsExact run o)
+      on_told files command b a o w (λ run. IsExact run o)
       (λ t c some r. exact (run_of t c) o r.in_order)
-      (λ n some r. exact (made_run n) o r.in_order) ran
+      (λ z n some r. exact (made_run z n) o r.in_order) ran
 
   pub told_complete : (before now : ShelfCounts) (wb wn : ℕ) → (o ≡ Usage → command ≡ None)
       → HasCauses before now wb wn o
       → OnTold files command (λ run. IsComplete run before now wb wn o)
   told_complete before now wb wn usage causes =
-      on_told files command b a o (λ run. IsComplete run before now wb wn o)
+      on_told files command b a o w (λ run. IsComplete run before now wb wn o)
       (λ t c some r.
       complete (run_of t c) before now wb wn b.written a.written o
       (not_usage command c o usage some) causes r.in_order
-      (writes t (length (relations_of c)) c b a o r))
-      (λ n some r.
-      complete (made_run n) before now wb wn b.written a.written o (λ is. some (usage is)) causes
+      (writes t (length (relations_of c)) c b a o w r))
+      (λ z n some r.
+      complete (made_run z n) before now wb wn b.written a.written o (λ is. some (usage is)) causes
       r.in_order r.writes) ran
 
 made_not_refused : (o : Outcome) → EndsMade o → is_refused o ≡ true → ⊥
@@ -282,13 +388,13 @@ made_not_refused o ends refused =
     ]
 
 untouched_by : (files : Option Files) (c : Command) (made : Option ℕ) (b a : Seen) (o : Outcome)
-    → RanBy files c made b a o → is_refused o ≡ true → a.written ≡ b.written
-untouched_by files c None b a o ran refused = untouched_same b a (ran.untouched refused)
-untouched_by files c (Some n) b a o ran refused = absurd (made_not_refused o ran.ends refused)
+    (w : List ℕ) → RanBy files c made b a o w → is_refused o ≡ true → a.written ≡ b.written
+untouched_by files c None b a o w ran refused = untouched_same b a (ran.untouched refused).0
+untouched_by files c (Some n) b a o w ran refused = absurd (made_not_refused o ran.ends refused)
 
 pub any_untouched : (files : Option Files) (command : Option Command) (b a : Seen) (o : Outcome)
-    → (command ≡ None → a.written ≡ b.written)
-    → RanOn files command b a o → is_refused o ≡ true → a.written ≡ b.written
-any_untouched files None b a o unread ran refused = unread refl
-any_untouched files (Some c) b a o unread ran refused =
-    untouched_by files c c.made b a o ran refused
+    (w : List ℕ) → (command ≡ None → a.written ≡ b.written)
+    → RanOn files command b a o w → is_refused o ≡ true → a.written ≡ b.written
+any_untouched files None b a o w unread ran refused = unread refl
+any_untouched files (Some c) b a o w unread ran refused =
+    untouched_by files c c.made b a o w ran refused

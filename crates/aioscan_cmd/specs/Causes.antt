@@ -1,6 +1,6 @@
 -- Why a run ended as it did, and in which order it calls the outside, seen by what it counts.
-use Rattle.std.specs.Prelude.{◌≡◌, ◌≢◌, ◌⊎◌, ℕ, ◌<◌, ◌≤◌, List, Option, true}
-use Rattle.page_check.specs.SynchronousAnswer.{Reader}
+use Rattle.std.specs.Prelude.{◌≡◌, ◌≢◌, ◌⊎◌, ℕ, ◌<◌, ◌≤◌, List, [], Option, true}
+use Rattle.page_check.specs.Told.{Told}
 use Rattle.aio_disk.specs.Counts.{Rose, ShelfCounts}
 use Rattle.aioscan_cmd.specs.Cutting.{requests_for}
 use Rattle.aioscan_cmd.specs.Outcomes.{is_refused}
@@ -31,15 +31,16 @@ pub record HasCauses (before now : ShelfCounts) (write_faults_before write_fault
 
 -- how a scan ended whose disks have counted so many faults and reads: a disk that could not be
 -- opened is the only refusal
-pub record HasScanned (asked : Asked) (found : Option Reader)
+pub record HasScanned (asked : Asked) (told : Option Told)
     (written now_written : Option (List ℕ)) (before now : ShelfCounts) (faults reads : ℕ)
-    (outcome : Outcome) : Type 0 where
+    (outcome : Outcome) (warnings : List ℕ) : Type 0 where
   pub opens : before.open_faults ≤ now.open_faults
   pub others : (now.length_faults ≡ before.length_faults) × (now.faults ≡ before.faults)
       × (now.reads ≡ before.reads)
-  pub lists : outcome ≢ CannotOpen → Lists found (requests_for asked) written now_written outcome
+  pub lists : outcome ≢ CannotOpen → Lists (asked.command.now).settings.zero told
+      (requests_for asked) written now_written outcome warnings
   pub cannot_open : outcome ≡ CannotOpen → Rose before.open_faults now.open_faults
-      × (now_written ≡ written) × (faults ≡ 0) × (reads ≡ 0)
+      × (now_written ≡ written) × (faults ≡ 0) × (reads ≡ 0) × (warnings ≡ [])
   pub unread : (r b : ℕ) → outcome ≡ Unread r b → 0 < faults
 
 -- the words are read first; blocks are read only once each length was had and all disks were

@@ -1,10 +1,14 @@
 -- What a run leaves on the error stream.
-use Rattle.std.specs.Prelude.{◌≡◌, ◌&&◌, ◌++◌, ℕ, List, [], Option, Some, None, Bool, true, false}
+use Rattle.std.specs.Prelude.{◌≡◌, ◌≤◌, ◌&&◌, ◌++◌, ℕ, List, [], Option, Some, None, Bool, true}
+use Rattle.std.specs.Prelude.{false}
 use Rattle.aio_disk.specs.Counts.{Rose}
+use Rattle.aio_disk.specs.Shelf.{Files}
 use Rattle.aio_disk.specs.Sink.{Grew, GrewByPrefix}
 use Rattle.aio_trace.specs.TotalsText.{line_of as totals_text}
 use Rattle.aioscan_cmd.specs.Command.{Command}
 use Rattle.aioscan_cmd.specs.Outcomes.{line_of, has_totals}
+use Rattle.aioscan_cmd.specs.Reading.{Seen}
+use Rattle.aioscan_cmd.specs.Run.{IsWarned, OnTold, RanOn}
 use Rattle.aioscan_cmd.specs.declared.report.Line.{Line}
 use Rattle.aioscan_cmd.specs.declared.report.Line.TheVariants.{Whole, Cut, NoMemory as NoRoom}
 use Rattle.aioscan_cmd.specs.declared.report.Numbers.{Numbers}
@@ -27,8 +31,8 @@ abbrev pub totals_line : Bool → Numbers → List ℕ
 totals_line false n = []
 totals_line true n = totals_text n.incarnations n.by_workers n.by_backends
 
--- what a run with this outcome and these numbers has to say: the line of the outcome, then that of
--- the totals
+-- what a run with this outcome and these numbers has to say at its end: the line of the outcome,
+-- then that of the totals
 abbrev pub lines_of : Option Command → Outcome → Numbers → List ℕ
 lines_of command outcome numbers =
     line_of outcome ++ totals_line (shows_totals command outcome) numbers
@@ -41,6 +45,43 @@ pub record IsToldOnErr (text : List ℕ) (line : Line) (before after : Option (L
   pub cut : line ≡ Cut → GrewByPrefix before after text × Rose faults_before faults_now
   pub no_memory : line ≡ NoRoom → GrewByPrefix before after text
   pub silent : text ≡ [] → (line ≡ Whole) × (after ≡ before) × (faults_now ≡ faults_before)
+
+-- the error stream of a run: how much reached it of what was told so far, what it holds, where it
+-- tells that, and how often a write has failed
+pub record ErrorStream : Type 0 where
+  pub line : Line
+  pub written : Option (List ℕ)
+  pub faults : ℕ
+
+abbrev pub error_stream : Line → Option (List ℕ) → ℕ → ErrorStream
+error_stream line written faults =
+    record { line = line; written = written; faults = faults }
+
+-- this text was told behind whatever was told before; nothing of it where that was cut off
+pub record Tells (text : List ℕ) (before now : ErrorStream) : Type 0 where
+  pub later : before.faults ≤ now.faults
+  pub more : (so_far : List ℕ) (begun : Option (List ℕ)) (faults : ℕ)
+      → faults ≤ before.faults
+      → IsToldOnErr so_far before.line begun before.written faults before.faults
+      → IsToldOnErr (so_far ++ text) now.line begun now.written faults now.faults
+
+-- warnings of which this holds were told
+pub record Warns (Are : List ℕ → Type 0) (before now : ErrorStream) : Type 0 where
+  pub warnings : List ℕ
+  pub tells : Tells warnings before now
+  pub are : Are warnings
+
+-- what is on the error stream at the end: the warnings of the pages that were listed, and then the
+-- lines of the end
+pub record IsToldBy (files : Option Files) (command : Option Command) (before now : Seen)
+    (outcome : Outcome) (numbers : Numbers) (line : Line) (err_before err_after : Option (List ℕ))
+    (faults_before faults_now : ℕ) : Type 0 where
+  pub warnings : List ℕ
+  pub told : IsToldOnErr (warnings ++ lines_of command outcome numbers) line err_before err_after
+      faults_before faults_now
+  pub ran : RanOn files command before now outcome warnings
+  pub warned : OnTold files command
+      (λ run. IsWarned run before.written now.written outcome warnings)
 
 -- the line of this outcome has numbers
 abbrev pub HasNumbers : Outcome → Type 0

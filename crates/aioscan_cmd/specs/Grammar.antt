@@ -40,7 +40,7 @@ option_names =
 
 -- the flags
 abbrev pub flag_names : List Text
-flag_names = codes "batch" ∷ codes "full" ∷ codes "stats" ∷ []
+flag_names = codes "batch" ∷ codes "full" ∷ codes "stats" ∷ codes "zero-damaged" ∷ []
 
 -- the command
 unfoldable pub the_command : App

@@ -1,14 +1,16 @@
 -- What the rounds of a run have listed.
-use Rattle.std.specs.Prelude.{◌≡◌, ◌≢◌, ◌⊎◌, ℕ, ◌++◌, List, [], Option}
+use Rattle.std.specs.Prelude.{◌≡◌, ◌≢◌, ◌⊎◌, ℕ, ◌++◌, Bool, List, [], Option}
 use Rattle.std.specs.Prelude.{⊤}
 use Rattle.std.specs.List.{flat_map}
-use Rattle.page_check.specs.SynchronousAnswer.{Reader}
+use Rattle.page_check.specs.Told.{Told}
+use Rattle.page_check.specs.SynchronousAnswer.{reader_of}
 use Rattle.scan_rounds.specs.Jobs.{IsListed, AreAnswered, entries_in}
 use Rattle.scan_rounds.specs.declared.job.Ending.{Ending as JobEnding}
 use Rattle.scan_rounds.specs.declared.job.Ending.TheVariants as ending
 use Rattle.scan_rounds.specs.declared.job.Job.{Job}
 use Rattle.aioscan_cmd.specs.RequestList.{Request}
 use Rattle.aioscan_cmd.specs.Reading.{Lists, HasWritten}
+use Rattle.aioscan_cmd.specs.ErrorLine.{ErrorStream, Warns, error_stream}
 use Rattle.aioscan_cmd.specs.Sums.{HasSums}
 use Rattle.aioscan_cmd.specs.declared.lister.Lister.{Lister}
 use Rattle.aioscan_cmd.specs.declared.report.Outcome.{Outcome}
@@ -41,47 +43,57 @@ unread_count CannotWrite = 0
 unread_count NoMemory = 0
 unread_count (TooLong r) = 0
 
--- the text of a job was written: the blocks that it was asked for were listed
-abbrev pub IsListedBy : Job → Option (List ℕ) → Option (List ℕ) → Outcome → Type 0
-IsListedBy job before now outcome =
-    (found : Option Reader) (asked : Job) → IsListed found (λ _. ⊤) asked job
-    → Lists found (entries_in asked) before now outcome
+-- the text of a job was written: the blocks that it was asked for were listed, with these warnings
+abbrev pub IsListedBy : Job → Option (List ℕ) → Option (List ℕ) → Outcome → List ℕ → Type 0
+IsListedBy job before now outcome warnings =
+    (zero : Bool) (told : Option Told) (asked : Job) → IsListed zero told (λ _. ⊤) asked job
+    → Lists zero told (entries_in asked) before now outcome warnings
 
 -- and the texts of some jobs
-abbrev pub AreListedBy : List Job → Option (List ℕ) → Option (List ℕ) → Outcome → Type 0
-AreListedBy jobs before now outcome =
-    (found : Option Reader) (asked : List Job) → AreAnswered found asked jobs
-    → Lists found (requests_in asked) before now outcome
+abbrev pub AreListedBy : List Job → Option (List ℕ) → Option (List ℕ) → Outcome → List ℕ → Type 0
+AreListedBy jobs before now outcome warnings =
+    (zero : Bool) (told : Option Told) (asked : List Job) → AreAnswered zero told asked jobs
+    → Lists zero told (requests_in asked) before now outcome warnings
 
-module _ {W O : Type 0} where
+module _ {W O E : Type 0} where
   -- something has ended the run, or no block is left
-  abbrev pub IsOver : Lister W O → Type 0
+  abbrev pub IsOver : Lister W O E → Type 0
   IsOver l = (l.outcome ≢ Done) ⊎ (l.blocks ≡ [])
 
   -- these jobs were cut off, where nothing has ended the run; nothing was written
-  pub record Puts (s : Lister W O) (asked : List Job) (t : Lister W O) : Type 0 where
-    pub loan : t.out.ghost_name ≡ s.out.ghost_name
+  pub record Puts (s : Lister W O E) (asked : List Job) (t : Lister W O E) : Type 0 where
+    pub loans : (t.out.ghost_name ≡ s.out.ghost_name) × (t.err.ghost_name ≡ s.err.ghost_name)
     pub out : t.out.now ≡ s.out.now
+    pub err : t.err.now ≡ s.err.now
+    pub line : t.line ≡ s.line
+    pub zero : t.zero ≡ s.zero
     pub outcome : t.outcome ≡ s.outcome
     pub sums : t.sums ≡ s.sums
     pub cut : s.blocks ≡ requests_in asked ++ t.blocks
 
-  module _ (found : Option Reader) (written : O → Option (List ℕ)) (faults : O → ℕ) where
+  module _ (told : Option Told) (written : O → Option (List ℕ)) (faults : O → ℕ)
+      (err_written : E → Option (List ℕ)) (err_faults : E → ℕ) where
+    abbrev pub errors_of : Lister W O E → ErrorStream
+    errors_of l = error_stream l.line (err_written l.err.now) (err_faults l.err.now)
+
     -- of these blocks the first were listed: all that are not left, where nothing has ended the run
-    pub record HasListed (all : List Request) (before : Option (List ℕ)) (faults_before : ℕ)
-        (l : Lister W O) : Type 0 where
+    pub record HasListed (zero : Bool) (all : List Request) (before : Option (List ℕ))
+        (faults_before : ℕ) (errors : ErrorStream) (l : Lister W O E) : Type 0 where
       pub asked : List Request
       pub rest : List Request
       pub cut : all ≡ asked ++ rest
       pub left : l.outcome ≡ Done → rest ≡ l.blocks
-      pub lists : Lists found asked before (written l.out.now) l.outcome
-      pub sums : l.outcome ≡ Done → HasSums found asked l.sums
+      pub zero_is : l.zero ≡ zero
+      pub lists : Warns (Lists zero told asked before (written l.out.now) l.outcome) errors
+          (errors_of l)
+      pub sums : l.outcome ≡ Done → HasSums (reader_of zero told) asked l.sums
       pub writes : HasWritten faults_before (faults l.out.now) l.outcome
 
     -- some rounds have led from one state to the other: whatever was listed by the first, with
     -- what they have listed it has been by the second
-    abbrev pub Follows : Lister W O → Lister W O → Type 0
+    abbrev pub Follows : Lister W O E → Lister W O E → Type 0
     Follows s t =
-        (t.out.ghost_name ≡ s.out.ghost_name)
-        × ((all : List Request) (before : Option (List ℕ)) (faults_before : ℕ)
-        → HasListed all before faults_before s → HasListed all before faults_before t)
+        (t.out.ghost_name ≡ s.out.ghost_name) × (t.err.ghost_name ≡ s.err.ghost_name)
+        × ((zero : Bool) (all : List Request) (before : Option (List ℕ)) (faults_before : ℕ)
+        (errors : ErrorStream) → HasListed zero all before faults_before errors s
+        → HasListed zero all before faults_before errors t)

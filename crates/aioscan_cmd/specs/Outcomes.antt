@@ -51,6 +51,19 @@ is_refused (Unread r b) = false
 is_refused CannotWrite = false
 is_refused NoMemory = false
 
+-- a text may not have been written whole
+abbrev pub is_cut : Outcome → Bool
+is_cut CannotWrite = true
+is_cut NoMemory = true
+is_cut Done = false
+is_cut (Invalid r b) = false
+is_cut (Missing r b) = false
+is_cut (Unread r b) = false
+is_cut Usage = false
+is_cut CannotOpen = false
+is_cut (NoLength r) = false
+is_cut (TooLong r) = false
+
 -- the run was not refused and found memory: with `--stats` its totals are told
 abbrev pub has_totals : Outcome → Bool
 has_totals Done = true

@@ -1,13 +1,13 @@
 -- What a run asks for, and what one thread's synchronous reads of it give.
 use Rattle.std.specs.Prelude.{◌≡◌, ◌⊎◌, ℕ, ◌+◌, ◌<◌, ◌≤◌, List, length, take, slice_get, Option}
-use Rattle.std.specs.Prelude.{Some}
-use Rattle.std.specs.Prelude.{None}
-use Rattle.std.specs.Prelude.{IfSome, false, true}
+use Rattle.std.specs.Prelude.{◌++◌, [], Bool, Some, None, IfSome, false, true}
 use Rattle.page_check.specs.Told.{Told, blocks_of}
-use Rattle.page_check.specs.SynchronousAnswer.{Found, Page as FoundPage, Damaged, Absent, found_for}
-use Rattle.page_check.specs.SynchronousAnswer.{Reader, found_at, reader_of, pages_of, stop_of}
+use Rattle.page_check.specs.SynchronousAnswer.{Found, Page as FoundPage, Zeroed, Damaged, Absent}
+use Rattle.page_check.specs.SynchronousAnswer.{found_for, zeroing}
+use Rattle.page_check.specs.SynchronousAnswer.{Reader, found_at, pages_of, stop_of}
 use Rattle.heap_scan.specs.Listing.{listing}
 use Rattle.heap_scan.specs.Sums.{sums_of}
+use Rattle.heap_scan.specs.Warnings.{warnings_of}
 use Rattle.aio_disk.specs.Shelf.{AllThereIfTold, Files, told_of}
 use Rattle.aio_disk.specs.Sink.{Grew, GrewByPrefix}
 use Rattle.aio_handle.specs.Executing.{last_count}
@@ -24,6 +24,7 @@ use Rattle.aioscan_cmd.specs.declared.report.Outcome.TheVariants.{NoMemory, Miss
 -- the outcome where nothing but the pages ends a run
 abbrev pub outcome_by : Found → ℕ → ℕ → Outcome
 outcome_by (FoundPage bytes) r b = Done
+outcome_by Zeroed r b = Done
 outcome_by Damaged r b = Invalid r b
 outcome_by Absent r b = Missing r b
 
@@ -44,29 +45,30 @@ pub record SynchronousRun : Type 0 where
 
 abbrev pub run_of : Told → Command → SynchronousRun
 run_of told command =
+    let found = zeroing command.settings.zero (found_at told) in
     let requests = requests_of (blocks_of told) command in
-    let pages = pages_of (found_at told) requests in record {
+    let pages = pages_of found requests in record {
       relations = length (relations_of command);
       lengths = blocks_of told;
       limit = length_limit told.segment;
       requests = requests;
       pages = pages;
-      outcome = outcome_at (found_at told) (stop_of (found_at told) requests);
+      outcome = outcome_at found (stop_of found requests);
       text = listing pages;
     }
 
 -- over so many generated pages: all blocks of their relation, and the line of the sums of the pages
-abbrev pub made_run : ℕ → SynchronousRun
-made_run n =
+abbrev pub made_run : Bool → ℕ → SynchronousRun
+made_run zero n =
+    let found = zeroing zero (found_at (made_told n)) in
     let requests = block_range 0 0 n in
-    let pages = pages_of (found_at (made_told n)) requests in record {
+    let pages = pages_of found requests in record {
       relations = 1;
       lengths = blocks_of (made_told n);
       limit = length_limit (made_told n).segment;
       requests = requests;
       pages = pages;
-      outcome =
-          outcome_at (found_at (made_told n)) (stop_of (found_at (made_told n)) requests);
+      outcome = outcome_at found (stop_of found requests);
       text = summary_of (sums_of pages);
     }
 
@@ -74,7 +76,7 @@ made_run n =
 -- whether or not
 abbrev pub OnSource : Option Files → Command → Option ℕ → (SynchronousRun → Type 0) → Type 0
 OnSource files c None P = IfSome (told_of files (relations_of c)) (λ told. P (run_of told c))
-OnSource files c (Some n) P = P (made_run n)
+OnSource files c (Some n) P = P (made_run c.settings.zero n)
 
 -- where the words are a command
 abbrev pub OnTold : Option Files → Option Command → (SynchronousRun → Type 0) → Type 0
@@ -110,6 +112,29 @@ Writes run before after CannotOpen = after ≡ before
 Writes run before after (NoLength r) = after ≡ before
 Writes run before after (TooLong r) = after ≡ before
 
+-- the text of the first pages was written whole, and these are their warnings
+pub record IsWarnedUpTo (run : SynchronousRun) (before after : Option (List ℕ))
+    (warnings : List ℕ) : Type 0 where
+  pub k : ℕ
+  pub among : k ≤ length run.pages
+  pub reached : (more : List ℕ) × Grew before after (listing (take k run.pages) ++ more)
+  pub are : warnings ≡ warnings_of (take k run.pages)
+
+-- what a run with this outcome has warned of: of the pages that it has listed
+abbrev pub IsWarned : SynchronousRun → Option (List ℕ) → Option (List ℕ) → Outcome → List ℕ
+    → Type 0
+IsWarned run before after Done warnings = warnings ≡ warnings_of run.pages
+IsWarned run before after (Invalid r b) warnings = warnings ≡ warnings_of run.pages
+IsWarned run before after (Missing r b) warnings = warnings ≡ warnings_of run.pages
+IsWarned run before after (Unread r b) warnings =
+    (cut : IsCutAt run before after r b) × (warnings ≡ warnings_of (take cut.k run.pages))
+IsWarned run before after CannotWrite warnings = IsWarnedUpTo run before after warnings
+IsWarned run before after NoMemory warnings = IsWarnedUpTo run before after warnings
+IsWarned run before after Usage warnings = warnings ≡ []
+IsWarned run before after CannotOpen warnings = warnings ≡ []
+IsWarned run before after (NoLength r) warnings = warnings ≡ []
+IsWarned run before after (TooLong r) warnings = warnings ≡ []
+
 -- the relations before this one are not too long
 abbrev pub EarlierFit : ℕ → (ℕ → ℕ) → ℕ → Type 0
 EarlierFit limit lengths r = (q : ℕ) → q < r → lengths q ≤ limit
@@ -139,38 +164,45 @@ abbrev pub limit_known : Option Told → ℕ → ℕ
 limit_known (Some told) segment = length_limit told.segment
 limit_known None segment = length_limit segment
 
--- what is known of a run whether or not its contents are told
+-- what is known of a run, and of its warnings, whether or not its contents are told
 pub record Ran (told : Option Told) (relations : ℕ) (command : Command) (before now : Seen)
-    (outcome : Outcome) : Type 0 where
+    (outcome : Outcome) (warnings : List ℕ) : Type 0 where
   pub answered : ℕ → ℕ
   pub segment : ℕ
   pub in_order : FitsInOrder (limit_known told segment) (lengths_known told answered) relations
       outcome
   pub lists : is_refused outcome ≡ false
-      → Lists (reader_of told) (requests_of (lengths_known told answered) command) before.written
-      now.written outcome
+      → Lists command.settings.zero told (requests_of (lengths_known told answered) command)
+      before.written now.written outcome warnings
   -- as far as the count goes, there were no more reads than blocks that were asked for
   pub few_reads : now.reads < last_count
       → now.reads ≤ before.reads + length (requests_of (lengths_known told answered) command)
-  pub untouched : is_refused outcome ≡ true → now ≡ before
+  pub untouched : is_refused outcome ≡ true → (now ≡ before) × (warnings ≡ [])
 
 -- how a run over generated pages may end
 abbrev pub EndsMade : Outcome → Type 0
 EndsMade outcome = (outcome ≡ Done) ⊎ ((outcome ≡ CannotWrite) ⊎ (outcome ≡ NoMemory))
 
--- what is known of a run over so many generated pages: the shelf that was handed in is not read
-pub record RanMade (n : ℕ) (before now : Seen) (outcome : Outcome) : Type 0 where
+-- what is known of a run over so many generated pages: the shelf that was handed in is not read,
+-- and there is nothing to warn of
+pub record RanMade (zero : Bool) (n : ℕ) (before now : Seen) (outcome : Outcome)
+    (warnings : List ℕ) : Type 0 where
   pub ends : EndsMade outcome
   pub in_order : FitsInOrder (length_limit (made_told n).segment) (blocks_of (made_told n)) 1
       outcome
-  pub writes : Writes (made_run n) before.written now.written outcome
+  pub writes : Writes (made_run zero n) before.written now.written outcome
   pub reads : now.reads ≡ before.reads
+  pub quiet : warnings ≡ []
+  pub warned : IsWarned (made_run zero n) before.written now.written outcome warnings
 
-abbrev pub RanBy : Option Files → Command → Option ℕ → Seen → Seen → Outcome → Type 0
-RanBy files c None before now outcome =
-    Ran (told_of files (relations_of c)) (length (relations_of c)) c before now outcome
-RanBy files c (Some n) before now outcome = RanMade n before now outcome
+abbrev pub RanBy : Option Files → Command → Option ℕ → Seen → Seen → Outcome → List ℕ → Type 0
+RanBy files c None before now outcome warnings =
+    Ran (told_of files (relations_of c)) (length (relations_of c)) c before now outcome warnings
+RanBy files c (Some n) before now outcome warnings =
+    RanMade c.settings.zero n before now outcome warnings
 
-abbrev pub RanOn : Option Files → Option Command → Seen → Seen → Outcome → Type 0
-RanOn files command before now outcome =
-    IfSome command (λ c. RanBy files c c.made before now outcome)
+-- words that are no command have nothing to warn of
+abbrev pub RanOn : Option Files → Option Command → Seen → Seen → Outcome → List ℕ → Type 0
+RanOn files None before now outcome warnings = warnings ≡ []
+RanOn files (Some c) before now outcome warnings =
+    RanBy files c c.made before now outcome warnings

@@ -1,7 +1,7 @@
 -- The sums over the pages of a run, as its jobs have added them up.
 use Rattle.std.specs.Prelude.{◌≡◌, ℕ, ◌-◌, ◌^◌, List, sum_by, min, Option, Some, IfSome, ⊤}
 use Rattle.std.specs.List.{All}
-use Rattle.page_check.specs.SynchronousAnswer.{End, Reader, found_at}
+use Rattle.page_check.specs.SynchronousAnswer.{End, Reader, found_at, zeroing}
 use Rattle.page_check.specs.Told.{Told, blocks_of}
 use Rattle.heap_scan.specs.Job.{IsJobAnswer}
 use Rattle.heap_scan.specs.declared.sums.PageSums.{PageSums}
@@ -39,12 +39,14 @@ GaveAll jobs = All (λ (j : Job). j.ending ≡ ending.Pages) jobs
 pub record HasSums (found : Option Reader) (requests : List Request) (sums : PageSums)
     : Type 0 where
   pub text : List ℕ
+  pub warnings : List ℕ
   pub total : PageSums
-  pub answer : IsJobAnswer found (λ _. ⊤) requests text total (Some End)
+  pub answer : IsJobAnswer found (λ _. ⊤) requests text warnings total (Some End)
   pub sums_are : sums ≡ kept_sums total
 
 -- of the blocks that a command asks for, where all were listed and the contents are told
 abbrev pub HasSumsTold : Option Told → Command → Outcome → PageSums → Type 0
 HasSumsTold told command outcome sums =
     IfSome told (λ t. outcome ≡ Done
-    → HasSums (Some (found_at t)) (requests_of (blocks_of t) command) sums)
+    → HasSums (Some (zeroing command.settings.zero (found_at t)))
+    (requests_of (blocks_of t) command) sums)

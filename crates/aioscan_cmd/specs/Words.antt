@@ -80,8 +80,8 @@ NamesSource (Some n) rows = Unit {0}
 
 -- the settings, where each option that they come from has a right value
 abbrev pub settings_with : Option MethodKind → Option ℕ → Option ℕ → Option ℕ → Option ℕ → Option ℕ
-    → Option ℕ → Bool → Bool → Option ScanSettings
-settings_with (Some m) (Some w) (Some n) (Some c) (Some o) (Some h) (Some b) batch full =
+    → Option ℕ → Bool → Bool → Bool → Option ScanSettings
+settings_with (Some m) (Some w) (Some n) (Some c) (Some o) (Some h) (Some b) batch full zero =
     Some (record {
       method = m;
       workers = w;
@@ -93,8 +93,9 @@ settings_with (Some m) (Some w) (Some n) (Some c) (Some o) (Some h) (Some b) bat
       batch = batch;
       full = full;
       segment = 131072;
+      zero = zero;
     })
-settings_with _ _ _ _ _ _ _ _ _ = None
+settings_with _ _ _ _ _ _ _ _ _ _ = None
 
 -- what is listed: files, or generated pages
 pub record Source : Type 0 where
@@ -150,6 +151,7 @@ module _ (rows : List Row) where
       (number_or 16 16384 128 (text_of (codes "buffers")))
       (is_set (text_of (codes "batch")))
       (is_set (text_of (codes "full")))
+      (is_set (text_of (codes "zero-damaged")))
 
   abbrev pub command_in : Option Command
   command_in = command_with

@@ -1,7 +1,8 @@
-//! The lines on the error stream.
+//! What is told on the error stream.
 ghost use Rattle.std.specs.Prelude.{◌≡◌, ◌≤◌, ◌++◌, [], IfOk, IfSome, IsNone, string_bytes, true};
 ghost use Rattle.aioscan_cmd.specs.Outcomes.{line_of};
-ghost use Rattle.aioscan_cmd.specs.ErrorLine.{IsToldOnErr, HasNumbers, totals_line};
+ghost use Rattle.aioscan_cmd.specs.ErrorLine.{IsToldOnErr, HasNumbers, Tells, error_stream};
+ghost use Rattle.aioscan_cmd.specs.ErrorLine.{totals_line};
 
 use crate::report::{Ended, Numbers};
 use crate::{Line, Outcome};
@@ -43,8 +44,8 @@ fn numbered_line(alloc: Global, outcome: Outcome) -> Result<String, AllocError>
     }
 }
 
-// Writes a line, where it is not empty.
-fn write_text<E: Sink>(text: &str, err: &mut E) -> Line
+// Writes a text by one write, where it is not empty.
+fn write_text<E: Sink>(text: &[u8], err: &mut E) -> Line
     ensures told { IsToldOnErr text.now result (E.written err.old) (E.written err.new)
         (E.faults err.old) (E.faults err.new) }
     ensures later { E.faults err.old ≤ E.faults err.new }
@@ -52,7 +53,7 @@ fn write_text<E: Sink>(text: &str, err: &mut E) -> Line
     if text.is_empty() {
         return Line::Whole;
     }
-    match err.write(text.as_bytes()) {
+    match err.write(text) {
         Ok(()) => Line::Whole,
         Err(WriteFault::Device) => Line::Cut,
         Err(WriteFault::Memory) => Line::NoMemory,
@@ -66,10 +67,10 @@ fn write_line<E: Sink>(alloc: Global, outcome: Outcome, err: &mut E) -> Line
     ensures later { E.faults err.old ≤ E.faults err.new }
 {
     if let Some(text) = fixed_line(outcome) {
-        return write_text(text, err);
+        return write_text(text.as_bytes(), err);
     }
     match numbered_line(alloc, outcome) {
-        Ok(text) => write_text(text.as_str(), err),
+        Ok(text) => write_text(text.as_str().as_bytes(), err),
         Err(_) => Line::NoMemory,
     }
 }
@@ -86,14 +87,14 @@ fn write_totals<E: Sink>(alloc: Global, numbers: Numbers, err: &mut E) -> Line
         by_backends,
     } = numbers;
     match numbers_text(alloc, incarnations, by_workers, by_backends) {
-        Ok(text) => write_text(text.as_str(), err),
+        Ok(text) => write_text(text.as_str().as_bytes(), err),
         Err(_) => Line::NoMemory,
     }
 }
 
-/// Writes the line of an outcome, and that of the totals behind it where it is shown. What cuts the
-/// first off ends writing.
-pub(crate) fn write_lines<E: Sink>(alloc: Global, ended: Ended, err: &mut E) -> Line
+// Writes the line of an outcome, and that of the totals behind it where it is shown. What cuts the
+// first off ends writing.
+fn write_lines<E: Sink>(alloc: Global, ended: Ended, err: &mut E) -> Line
     ensures told { IsToldOnErr
         (line_of ended.end.outcome ++ totals_line ended.shows_totals ended.end.numbers) result
         (E.written err.old) (E.written err.new) (E.faults err.old) (E.faults err.new) }
@@ -105,6 +106,31 @@ pub(crate) fn write_lines<E: Sink>(alloc: Global, ended: Ended, err: &mut E) -> 
     }
     match line {
         Line::Whole => write_totals(alloc, ended.end.numbers, err),
+        cut => cut,
+    }
+}
+
+/// Writes warnings behind what was told so far, by one write, where there are any and nothing was
+/// cut off.
+pub(crate) fn write_warnings<E: Sink>(line: Line, warnings: &[u8], err: &mut E) -> Line
+    ensures { Tells warnings.now (error_stream line (E.written err.old) (E.faults err.old))
+        (error_stream result (E.written err.new) (E.faults err.new)) }
+{
+    match line {
+        Line::Whole => write_text(warnings, err),
+        cut => cut,
+    }
+}
+
+/// Writes the lines of a run's end behind what was told so far, where nothing was cut off.
+pub(crate) fn write_end<E: Sink>(alloc: Global, ended: Ended, err: &mut E) -> Line
+    ensures { Tells
+        (line_of ended.end.outcome ++ totals_line ended.shows_totals ended.end.numbers)
+        (error_stream ended.end.line (E.written err.old) (E.faults err.old))
+        (error_stream result (E.written err.new) (E.faults err.new)) }
+{
+    match ended.end.line {
+        Line::Whole => write_lines(alloc, ended, err),
         cut => cut,
     }
 }

@@ -1,15 +1,20 @@
 //! Lists by rounds what a command asks for.
-ghost use Rattle.std.specs.Prelude.{◌≡◌, ◌≢◌, ◌≤◌, ◌++◌, ◌∷◌, [], length, take, false};
+ghost use Rattle.std.specs.Prelude.{◌≡◌, ◌≢◌, ◌≤◌, ◌++◌, ◌∷◌, [], length, take, false, IsErrOf};
 ghost use Rattle.std.specs.List.{All};
 ghost use Rattle.scan_rounds.specs.Jobs.{IsFresh, unread_among};
 ghost use Rattle.aioscan_cmd.specs.Reading.{HasWritten};
 ghost use Rattle.aioscan_cmd.specs.Listing.{requests_in, unread_count, outcome_for};
 ghost use Rattle.aioscan_cmd.specs.Listing.{IsListedBy, AreListedBy};
+ghost use Rattle.aioscan_cmd.specs.ErrorLine.{Warns, error_stream};
+ghost use Rattle.aio_disk.specs.Counts.{Rose};
+ghost use Rattle.aio_disk.specs.Sink.{SinkTakes};
+ghost use Rattle.aio_disk.specs.declared.fault.WriteFault.TheVariants.{Device};
 ghost use Rattle.aioscan_cmd.specs.Sums.{GaveAll, kept_sums, total_of};
 ghost use Rattle.heap_scan.specs.Sums.{joined};
 
-use crate::Outcome;
 use crate::cutter::Cutter;
+use crate::error_line::write_warnings;
+use crate::{Line, Outcome};
 use aio_disk::{Sink, WriteFault};
 use heap_scan::PageSums;
 use page_check::World;
@@ -17,9 +22,14 @@ use scan_rounds::{Agenda, Ending, Job};
 
 /// What a run has still to list, and where to.
 #[derive(Drop)]
-pub(crate) struct Lister<'a, 'w, W: World, O: Sink> {
+pub(crate) struct Lister<'a, 'e, 'w, W: World, O: Sink, E: Sink> {
     pub(crate) blocks: Cutter<'a, 'w, W>,
     pub(crate) out: &'a mut O,
+    pub(crate) err: &'e mut E,
+    /// How much of the warnings so far reached the error stream.
+    pub(crate) line: Line,
+    /// Whether damaged pages are listed as zeros.
+    pub(crate) zero: bool,
     /// `Done` as long as nothing has ended the run.
     pub(crate) outcome: Outcome,
     /// The sums over the pages of the jobs that were done.
@@ -55,37 +65,60 @@ fn outcome_of(job: &Job) -> Outcome
     }
 }
 
-// Writes a job's text, where it is not empty.
-fn write_job<O: Sink>(job: &Job, out: &mut O) -> Outcome
-    ensures lists { IsListedBy job.now (O.written out.old) (O.written out.new) result }
-    ensures writes { HasWritten (O.faults out.old) (O.faults out.new) result }
-    ensures unread { unread_count result ≤ unread_among (job.now ∷ []) }
-    ensures gave { result ≡ Outcome.Done → GaveAll (job.now ∷ []) }
+// Writes a text by one write, where it is not empty.
+fn write_text<O: Sink>(text: &[u8], out: &mut O) -> Result<(), WriteFault>
+    ensures takes { SinkTakes (O.written out.old) (O.written out.new) result text.now }
+    ensures later { O.faults out.old ≤ O.faults out.new }
+    ensures device { IsErrOf result Device → Rose (O.faults out.old) (O.faults out.new) }
 {
-    if job.text.is_empty() {
-        return outcome_of(job);
+    if text.is_empty() {
+        return Ok(());
     }
-    match out.write(job.text.as_slice()) {
-        Ok(()) => outcome_of(job),
-        Err(WriteFault::Device) => Outcome::CannotWrite,
-        Err(WriteFault::Memory) => Outcome::NoMemory,
+    out.write(text)
+}
+
+// Writes a job's text, and its warnings where that was written whole.
+fn write_job<O: Sink, E: Sink>(job: &Job, out: &mut O, line: Line, err: &mut E) -> (Outcome, Line)
+    ensures lists { Warns (IsListedBy job.now (O.written out.old) (O.written out.new) result.0)
+        (error_stream line (E.written err.old) (E.faults err.old))
+        (error_stream result.1 (E.written err.new) (E.faults err.new)) }
+    ensures writes { HasWritten (O.faults out.old) (O.faults out.new) result.0 }
+    ensures unread { unread_count result.0 ≤ unread_among (job.now ∷ []) }
+    ensures gave { result.0 ≡ Outcome.Done → GaveAll (job.now ∷ []) }
+{
+    match write_text(job.text.as_slice(), out) {
+        Ok(()) => (
+            outcome_of(job),
+            write_warnings(line, job.warnings.as_slice(), err),
+        ),
+        Err(WriteFault::Device) => (Outcome::CannotWrite, line),
+        Err(WriteFault::Memory) => (Outcome::NoMemory, line),
     }
 }
 
-// Writes the texts of jobs, up to the first that ended in a fault.
-fn write_jobs<O: Sink>(jobs: &[Job], out: &mut O) -> Outcome
-    ensures lists { AreListedBy jobs.now (O.written out.old) (O.written out.new) result }
-    ensures writes { HasWritten (O.faults out.old) (O.faults out.new) result }
-    ensures unread { unread_count result ≤ unread_among jobs.now }
-    ensures gave { result ≡ Outcome.Done → GaveAll jobs.now }
+// Writes the texts and the warnings of jobs, up to the first that ended in a fault.
+fn write_jobs<O: Sink, E: Sink>(
+    jobs: &[Job],
+    out: &mut O,
+    mut line: Line,
+    err: &mut E,
+) -> (Outcome, Line)
+    ensures lists { Warns (AreListedBy jobs.now (O.written out.old) (O.written out.new) result.0)
+        (error_stream line (E.written err.old) (E.faults err.old))
+        (error_stream result.1 (E.written err.new) (E.faults err.new)) }
+    ensures writes { HasWritten (O.faults out.old) (O.faults out.new) result.0 }
+    ensures unread { unread_count result.0 ≤ unread_among jobs.now }
+    ensures gave { result.0 ≡ Outcome.Done → GaveAll jobs.now }
 {
     for job in jobs {
-        match write_job(job, out) {
+        let (outcome, reached) = write_job(job, out, line, err);
+        line = reached;
+        match outcome {
             Outcome::Done => {}
-            outcome => return outcome,
+            outcome => return (outcome, line),
         }
     }
-    Outcome::Done
+    (Outcome::Done, line)
 }
 
 // Adds the sums of jobs to these.
@@ -115,10 +148,9 @@ fn goes_on(outcome: Outcome) -> bool
     }
 }
 
-impl<'a, 'w, W: World, O: Sink> Agenda<W> for Lister<'a, 'w, W, O> {
+impl<'a, 'e, 'w, W: World, O: Sink, E: Sink> Agenda<W> for Lister<'a, 'e, 'w, W, O, E> {
     ghost use Rattle.std.specs.Prelude.{length};
     ghost use Rattle.std.proofs.Common.{refl, ◌∙◌};
-    ghost use Rattle.page_check.specs.SynchronousAnswer.{reader_of};
     ghost use Rattle.aioscan_cmd.specs.Listing.{unread_count, IsOver, Puts, Follows};
 
     ghost left = { λ l. length l.blocks };
@@ -127,7 +159,9 @@ impl<'a, 'w, W: World, O: Sink> Agenda<W> for Lister<'a, 'w, W, O> {
 
     ghost puts = { Puts };
 
-    ghost follows = { Follows (reader_of W.told) O.written O.faults };
+    ghost follows = { Follows W.told O.written O.faults E.written E.faults };
+
+    ghost zero = { λ l. l.zero };
 
     ghost is_over = { IsOver };
 
@@ -141,7 +175,9 @@ impl<'a, 'w, W: World, O: Sink> Agenda<W> for Lister<'a, 'w, W, O> {
     fn end(&mut self, jobs: &[Job]) -> bool {
         match self.outcome {
             Outcome::Done => {
-                self.outcome = write_jobs(jobs, self.out);
+                let (outcome, line) = write_jobs(jobs, self.out, self.line, self.err);
+                self.outcome = outcome;
+                self.line = line;
                 self.sums = add_up(jobs, self.sums);
                 goes_on(self.outcome)
             }
@@ -149,10 +185,12 @@ impl<'a, 'w, W: World, O: Sink> Agenda<W> for Lister<'a, 'w, W, O> {
         }
     }
 
-    ghost follows_itself = { λ a. (refl, λ all before faults was. was) };
+    ghost follows_itself = { λ a. (refl, refl, λ zero all before faults errors was. was) };
 
     ghost follows_on = { λ a b c first second. (
       second.0 ∙ first.0,
-      λ all before faults was. second.1 all before faults (first.1 all before faults was),
+      second.1 ∙ first.1,
+      λ zero all before faults errors was.
+          second.2 zero all before faults errors (first.2 zero all before faults errors was),
     ) };
 }

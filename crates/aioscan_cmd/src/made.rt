@@ -5,13 +5,14 @@ ghost use Rattle.aioscan_cmd.specs.Command.{IsMade};
 ghost use Rattle.aioscan_cmd.specs.Generated.{made_files, summary_of};
 ghost use Rattle.aioscan_cmd.specs.Reading.{GrewBy, HasWritten, seen};
 ghost use Rattle.aioscan_cmd.specs.Run.{EndsMade, RanMade};
+ghost use Rattle.aioscan_cmd.specs.ErrorLine.{Warns, error_stream};
 ghost use Rattle.aioscan_cmd.specs.Totals.{AreCounted};
 
-use crate::Outcome;
 use crate::generated::make_file;
 use crate::relation_files::list_files;
 use crate::report::RunEnd;
 use crate::words::Command;
+use crate::{Line, Outcome};
 use aio_disk::{MemShelf, Sink, SteadyShelf, WriteFault};
 use heap_scan::PageSums;
 use std::alloc::{AllocError, Global};
@@ -69,16 +70,19 @@ fn write_summary<O: Sink>(alloc: Global, sums: PageSums, out: &mut O) -> Outcome
 }
 
 /// Scans so many generated pages, and writes the line of their sums.
-pub(crate) fn list_made<O: Sink, R: Threads + Wait + Sync>(
+pub(crate) fn list_made<O: Sink, E: Sink, R: Threads + Wait + Sync>(
     rt: &R,
     alloc: Global,
     command: &Command<'_>,
     pages: u32,
     out: &mut O,
+    err: &mut E,
 ) -> RunEnd
     requires made { IsMade pages command.now }
-    ensures ran { (k : ℕ) → RanMade pages (seen (O.written out.old) k)
-        (seen (O.written out.new) k) result.outcome }
+    ensures ran { Warns (λ warnings. (k : ℕ) → RanMade command.now.settings.zero pages
+        (seen (O.written out.old) k) (seen (O.written out.new) k) result.outcome warnings)
+        (error_stream Line.Whole (E.written err.old) (E.faults err.old))
+        (error_stream result.line (E.written err.new) (E.faults err.new)) }
     ensures writes { HasWritten (O.faults out.old) (O.faults out.new) result.outcome }
     ensures counted { (s : ShelfCounts) → AreCounted (Some pages) (Some command.now) s s
         result.outcome result.numbers }
@@ -86,7 +90,7 @@ pub(crate) fn list_made<O: Sink, R: Threads + Wait + Sync>(
     let Ok(mut shelf) = made_shelf(alloc, pages) else {
         return RunEnd::without_reads(Outcome::NoMemory);
     };
-    let end = list_files(rt, alloc, command, &mut shelf, &mut Quiet);
+    let end = list_files(rt, alloc, command, &mut shelf, &mut Quiet, err);
     if end.outcome.is_done() {
         return RunEnd {
             outcome: write_summary(alloc, end.sums, out),

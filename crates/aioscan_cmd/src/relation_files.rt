@@ -5,31 +5,35 @@ ghost use Rattle.aioscan_cmd.specs.Command.{relations_of};
 ghost use Rattle.aioscan_cmd.specs.Reading.{seen};
 ghost use Rattle.aioscan_cmd.specs.Run.{Ran};
 ghost use Rattle.aioscan_cmd.specs.Causes.{HasCauses, CallsInOrder, IsOpened};
+ghost use Rattle.aioscan_cmd.specs.ErrorLine.{Warns, error_stream};
 ghost use Rattle.aioscan_cmd.specs.Sums.{HasSumsTold};
 ghost use Rattle.aioscan_cmd.specs.Totals.{AreCounted};
 
-use crate::Outcome;
 use crate::relations::Relations;
 use crate::report::RunEnd;
 use crate::scan::scan_disk;
 use crate::words::Command;
+use crate::{Line, Outcome};
 use aio_disk::{OpenFault, Shelf, Sink};
 use std::alloc::Global;
 use std::sync::Wait;
 use std::thread::Threads;
 
 /// Opens a disk for the relations, and lists what the command asks for.
-pub(crate) fn list_files<S: Shelf, O: Sink, R: Threads + Wait + Sync>(
+pub(crate) fn list_files<S: Shelf, O: Sink, E: Sink, R: Threads + Wait + Sync>(
     rt: &R,
     alloc: Global,
     command: &Command<'_>,
     shelf: &mut S,
     out: &mut O,
+    err: &mut E,
 ) -> RunEnd
-    ensures ran { Ran (told_of (S.told shelf.old) (relations_of command.now))
+    ensures ran { Warns (Ran (told_of (S.told shelf.old) (relations_of command.now))
         (length (relations_of command.now)) command.now
         (seen (O.written out.old) (S.counts shelf.old).reads)
-        (seen (O.written out.new) (S.counts shelf.new).reads) result.outcome }
+        (seen (O.written out.new) (S.counts shelf.new).reads) result.outcome)
+        (error_stream Line.Whole (E.written err.old) (E.faults err.old))
+        (error_stream result.line (E.written err.new) (E.faults err.new)) }
     ensures causes { HasCauses (S.counts shelf.old) (S.counts shelf.new) (O.faults out.old)
         (O.faults out.new) result.outcome }
     ensures order { CallsInOrder (S.counts shelf.old) (S.counts shelf.new) result.outcome }
@@ -50,6 +54,6 @@ pub(crate) fn list_files<S: Shelf, O: Sink, R: Threads + Wait + Sync>(
     match shelf.open(relations.names()) {
         Err(OpenFault::Device) => RunEnd::without_reads(Outcome::CannotOpen),
         Err(OpenFault::Memory) => RunEnd::without_reads(Outcome::NoMemory),
-        Ok(disk) => scan_disk(rt, alloc, command, &relations, disk, shelf, out),
+        Ok(disk) => scan_disk(rt, alloc, command, &relations, disk, shelf, out, err),
     }
 }

@@ -43,7 +43,7 @@ impl Outcome {
     }
 }
 
-/// How much of the lines of outcome and totals reached the error stream.
+/// How much of the warnings and of the lines of outcome and totals reached the error stream.
 #[derive(Clone, Copy, Debug, PartialEq, Eq)]
 pub enum Line {
     /// All of them; also where there is none, and then nothing was written.
@@ -70,14 +70,17 @@ pub(crate) struct Numbers {
 pub(crate) struct RunEnd {
     pub(crate) outcome: Outcome,
     pub(crate) numbers: Numbers,
+    /// How much of the warnings reached the error stream.
+    pub(crate) line: Line,
     /// The sums over the pages, where all were listed.
     pub(crate) sums: PageSums,
 }
 
 impl RunEnd {
-    /// The end of a run that read no block.
+    /// The end of a run that read no block and told nothing.
     pub(crate) fn without_reads(outcome: Outcome) -> RunEnd
         ensures outcome { result.outcome ≡ outcome }
+        ensures line { result.line ≡ Line.Whole }
         ensures numbers { (result.numbers.incarnations ≡ 0) × (result.numbers.by_workers ≡ 0)
             × (result.numbers.by_backends ≡ 0) }
     {
@@ -88,6 +91,7 @@ impl RunEnd {
                 by_workers: 0,
                 by_backends: 0,
             },
+            line: Line::Whole,
             sums: PageSums::default(),
         }
     }
@@ -138,7 +142,7 @@ pub struct Report {
     pub status: u8,
     /// What the status stands for, with its numbers.
     pub outcome: Outcome,
-    /// How much of its line, and of that of the totals, reached the error stream.
+    /// How much of its warnings, of its line and of that of the totals reached the error stream.
     pub line: Line,
     /// How many I/Os were made through handles.
     pub incarnations: u128,

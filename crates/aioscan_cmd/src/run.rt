@@ -1,36 +1,39 @@
 //! The top call.
-ghost use Rattle.std.specs.Prelude.{◌≡◌, ◌≢◌, ◌<◌, ◌≤◌, ◌⊎◌, length, map, None, Some, true};
-ghost use Rattle.std.specs.Prelude.{IfSome, string_bytes};
+ghost use Rattle.std.specs.Prelude.{◌≡◌, ◌≢◌, ◌<◌, ◌≤◌, ◌⊎◌, ℕ, List, length, map, None, Some};
+ghost use Rattle.std.specs.Prelude.{true, IfSome, string_bytes};
 ghost use Rattle.aioscan_cmd.specs.Words.{command_of};
 ghost use Rattle.aioscan_cmd.specs.Outcomes.{status_of, is_refused};
 ghost use Rattle.aioscan_cmd.specs.Reading.{seen};
 ghost use Rattle.aioscan_cmd.specs.Run.{RanOn, OnTold, IsThere, Writes};
 ghost use Rattle.aioscan_cmd.specs.Causes.{HasCauses, CallsInOrder, IsExact, IsComplete, IsOpened};
-ghost use Rattle.aioscan_cmd.specs.ErrorLine.{IsToldOnErr, lines_of, shows_totals};
+ghost use Rattle.aioscan_cmd.specs.ErrorLine.{IsToldBy, Warns, error_stream, shows_totals};
 ghost use Rattle.aioscan_cmd.specs.Totals.{AreCounted, made_by, numbers_in};
 
-use crate::error_line::write_lines;
+use crate::error_line::write_end;
 use crate::made::list_made;
 use crate::relation_files::list_files;
 use crate::report::{Ended, RunEnd};
 use crate::words::{Command, Refusal, read_command};
-use crate::{Outcome, Report};
+use crate::{Line, Outcome, Report};
 use aio_disk::{Shelf, Sink};
 use std::alloc::Global;
 use std::sync::Wait;
 use std::thread::Threads;
 
 // Lists what the command asks for: files, or generated pages.
-fn run_command<S: Shelf, O: Sink, R: Threads + Wait + Sync>(
+fn run_command<S: Shelf, O: Sink, E: Sink, R: Threads + Wait + Sync>(
     rt: &R,
     alloc: Global,
     command: &Command<'_>,
     shelf: &mut S,
     out: &mut O,
+    err: &mut E,
 ) -> RunEnd
-    ensures ran { RanOn (S.told shelf.old) (Some command.now)
+    ensures ran { Warns (RanOn (S.told shelf.old) (Some command.now)
         (seen (O.written out.old) (S.counts shelf.old).reads)
-        (seen (O.written out.new) (S.counts shelf.new).reads) result.outcome }
+        (seen (O.written out.new) (S.counts shelf.new).reads) result.outcome)
+        (error_stream Line.Whole (E.written err.old) (E.faults err.old))
+        (error_stream result.line (E.written err.new) (E.faults err.new)) }
     ensures causes { HasCauses (S.counts shelf.old) (S.counts shelf.new) (O.faults out.old)
         (O.faults out.new) result.outcome }
     ensures order { CallsInOrder (S.counts shelf.old) (S.counts shelf.new) result.outcome }
@@ -42,18 +45,19 @@ fn run_command<S: Shelf, O: Sink, R: Threads + Wait + Sync>(
     ensures words { result.outcome ≢ Outcome.Usage }
 {
     match command.made() {
-        None => list_files(rt, alloc, command, shelf, out),
-        Some(pages) => list_made(rt, alloc, command, pages, out),
+        None => list_files(rt, alloc, command, shelf, out, err),
+        Some(pages) => list_made(rt, alloc, command, pages, out, err),
     }
 }
 
 // Reads the words, and lists what they ask for.
-fn run<S: Shelf, O: Sink, R: Threads + Wait + Sync>(
+fn run<S: Shelf, O: Sink, E: Sink, R: Threads + Wait + Sync>(
     rt: &R,
     alloc: Global,
     words: &[String],
     shelf: &mut S,
     out: &mut O,
+    err: &mut E,
 ) -> Ended
     ensures usage { result.end.outcome ≡ Outcome.Usage
         → command_of (map string_bytes words.now) ≡ None }
@@ -61,9 +65,11 @@ fn run<S: Shelf, O: Sink, R: Threads + Wait + Sync>(
         → (result.end.outcome ≡ Outcome.Usage) ⊎ (result.end.outcome ≡ Outcome.NoMemory) }
     ensures unread { command_of (map string_bytes words.now) ≡ None
         → (O.written out.new ≡ O.written out.old) × (S.counts shelf.new ≡ S.counts shelf.old) }
-    ensures ran { RanOn (S.told shelf.old) (command_of (map string_bytes words.now))
+    ensures ran { Warns (RanOn (S.told shelf.old) (command_of (map string_bytes words.now))
         (seen (O.written out.old) (S.counts shelf.old).reads)
-        (seen (O.written out.new) (S.counts shelf.new).reads) result.end.outcome }
+        (seen (O.written out.new) (S.counts shelf.new).reads) result.end.outcome)
+        (error_stream Line.Whole (E.written err.old) (E.faults err.old))
+        (error_stream result.end.line (E.written err.new) (E.faults err.new)) }
     ensures causes { HasCauses (S.counts shelf.old) (S.counts shelf.new) (O.faults out.old)
         (O.faults out.new) result.end.outcome }
     ensures order { CallsInOrder (S.counts shelf.old) (S.counts shelf.new) result.end.outcome }
@@ -78,7 +84,7 @@ fn run<S: Shelf, O: Sink, R: Threads + Wait + Sync>(
 {
     match read_command(alloc, words) {
         Ok(command) => {
-            let end = run_command(rt, alloc, &command, shelf, out);
+            let end = run_command(rt, alloc, &command, shelf, out, err);
             Ended::of(end, command.stats())
         }
         Err(Refusal::Usage) => Ended::of(RunEnd::without_reads(Outcome::Usage), false),
@@ -93,10 +99,13 @@ fn run<S: Shelf, O: Sink, R: Threads + Wait + Sync>(
 /// disk is opened for all of them, and their lengths are taken in order, each tested before the
 /// next is taken. Then a disk is opened for each other backend, and for each I/O worker. Jobs of at
 /// most 64 blocks of one file are done in rounds, one by each backend; after a round the text of
-/// each job goes to `out` by one write, in their order, up to the first that ended in a fault. A
-/// line on `err` names what ended the run, where that is not the end of the list. With `--stats`
-/// the line of totals follows, unless the run was refused or there was no memory. All disks are
-/// taken back in every case. It may wait.
+/// each job goes to `out` by one write, in their order, up to the first that ended in a fault. With
+/// `--zero-damaged` an invalid page is listed as a page of zeros, and once the text of its job was
+/// written whole, the job's warnings go to `err` by one write: a line for each such page. At the
+/// end a line on `err` names what ended the run, where that is not the end of the list. With
+/// `--stats` the line of totals follows, unless the run was refused or there was no memory. What
+/// cuts off a text on `err` ends writing there. All disks are taken back in every case. It may
+/// wait.
 pub fn aioscan<S: Shelf, O: Sink, E: Sink, R: Threads + Wait + Sync>(
     rt: &R,
     alloc: Global,
@@ -117,15 +126,17 @@ pub fn aioscan<S: Shelf, O: Sink, E: Sink, R: Threads + Wait + Sync>(
         → (O.written out.new ≡ O.written out.old) × (S.counts shelf.new ≡ S.counts shelf.old) }
 
     // What became of the run: over any shelf, and as synchronous reads give it, where it tells.
-    ensures ran { RanOn (S.told shelf.old) (command_of (map string_bytes words.now))
+    ensures ran { (warnings : List ℕ) × RanOn (S.told shelf.old)
+        (command_of (map string_bytes words.now))
         (seen (O.written out.old) (S.counts shelf.old).reads)
-        (seen (O.written out.new) (S.counts shelf.new).reads) result.outcome }
+        (seen (O.written out.new) (S.counts shelf.new).reads) result.outcome warnings }
     ensures writes { OnTold (S.told shelf.old) (command_of (map string_bytes words.now)) (λ run.
         Writes run (O.written out.old) (O.written out.new) result.outcome) }
     ensures untouched { is_refused result.outcome ≡ true → O.written out.new ≡ O.written out.old }
-    ensures told_on_err { IsToldOnErr (lines_of (command_of (map string_bytes words.now))
-        result.outcome (numbers_in result)) result.line
-        (E.written err.old) (E.written err.new) (E.faults err.old) (E.faults err.new) }
+    ensures told_on_err { IsToldBy (S.told shelf.old) (command_of (map string_bytes words.now))
+        (seen (O.written out.old) (S.counts shelf.old).reads)
+        (seen (O.written out.new) (S.counts shelf.new).reads) result.outcome (numbers_in result)
+        result.line (E.written err.old) (E.written err.new) (E.faults err.old) (E.faults err.new) }
 
     // Why each outcome comes, and in which order the outside is called.
     ensures causes { HasCauses (S.counts shelf.old) (S.counts shelf.new) (O.faults out.old)
@@ -145,8 +156,8 @@ pub fn aioscan<S: Shelf, O: Sink, E: Sink, R: Threads + Wait + Sync>(
         (command_of (map string_bytes words.now)) (S.counts shelf.old)
         (S.counts shelf.new) result.outcome (numbers_in result) }
 {
-    let ended = run(rt, alloc, words, shelf, out);
-    let line = write_lines(alloc, ended, err);
+    let ended = run(rt, alloc, words, shelf, out, err);
+    let line = write_end(alloc, ended, err);
     let RunEnd {
         outcome,
         numbers,

@@ -15,10 +15,10 @@ ghost use Rattle.aioscan_cmd.specs.Lengths.{HasLengths};
 ghost use Rattle.aioscan_cmd.specs.Reading.{Lists, HasWritten, seen};
 ghost use Rattle.aioscan_cmd.specs.Run.{Ran};
 ghost use Rattle.aioscan_cmd.specs.Causes.{HasScanned, HasCauses, CallsInOrder};
+ghost use Rattle.aioscan_cmd.specs.ErrorLine.{Warns, error_stream};
 ghost use Rattle.aioscan_cmd.specs.Sums.{HasSums, HasSumsTold};
 ghost use Rattle.aioscan_cmd.specs.Totals.{AreCounted, AreOfScan};
 
-use crate::Outcome;
 use crate::cutter::{Asked, Cutter};
 use crate::disks::{open_others, take_all_back};
 use crate::lengths::take_lengths;
@@ -26,6 +26,7 @@ use crate::lister::Lister;
 use crate::relations::Relations;
 use crate::report::{Numbers, RunEnd};
 use crate::words::Command;
+use crate::{Line, Outcome};
 use aio_disk::{Disk, OpenFault, Shelf, Sink};
 use heap_scan::PageSums;
 use page_check::World;
@@ -43,25 +44,30 @@ fn give_back<O: Sink>(out: &mut O)
 }
 
 // Lists by rounds what is asked for.
-fn list_rounds<W: World + Send + Sync, D: Disk, O: Sink, R: Threads + Wait + Sync>(
+fn list_rounds<W: World + Send + Sync, D: Disk, O: Sink, E: Sink, R: Threads + Wait + Sync>(
     rt: &R,
     scan: &mut Scan<W, D>,
     asked: Asked<'_, '_>,
     out: &mut O,
-) -> (Outcome, PageSums)
+    err: &mut E,
+) -> (Outcome, Line, PageSums)
     requires scan { IsScan (meter D.told D.relations D.reads D.faults) W.told W.relations
         scan.old }
     requires room { 2 ^ 37 ≤ scan.old.room }
     requires asked { IsAsked asked }
+    requires zero { scan.old.zero ≡ (settings_for asked).zero }
     requires world { W.relations ≡ length asked.relations.now }
     ensures scan { IsScan (meter D.told D.relations D.reads D.faults) W.told W.relations
         scan.new }
     ensures same { IsSameScan scan.old scan.new }
-    ensures lists { Lists (reader_of W.told) (requests_for asked.entry) (O.written out.old)
-        (O.written out.new) result.0 }
+    ensures lists { Warns (Lists (settings_for asked.entry).zero W.told (requests_for asked.entry)
+        (O.written out.old) (O.written out.new) result.0)
+        (error_stream Line.Whole (E.written err.old) (E.faults err.old))
+        (error_stream result.1 (E.written err.new) (E.faults err.new)) }
     ensures writes { HasWritten (O.faults out.old) (O.faults out.new) result.0 }
     ensures sums { result.0 ≡ Outcome.Done
-        → HasSums (reader_of W.told) (requests_for asked.entry) result.1 }
+        → HasSums (reader_of (settings_for asked.entry).zero W.told) (requests_for asked.entry)
+        result.2 }
     ensures taken { taken_by scan.new.backends.items
         ≤ taken_by scan.old.backends.items + length (requests_for asked.entry) }
     ensures unread { (r b : ℕ) → result.0 ≡ Outcome.Unread r b → 0 < scan.new.unread }
@@ -70,27 +76,34 @@ fn list_rounds<W: World + Send + Sync, D: Disk, O: Sink, R: Threads + Wait + Syn
     let lister = Lister {
         blocks,
         out,
+        err,
+        line: Line::Whole,
+        zero: asked.command.settings().zero,
         outcome: Outcome::Done,
         sums: PageSums::default(),
     };
     let lister = scan.run(rt, lister);
     let Lister {
-        blocks: _,
         out,
+        err,
+        line,
         outcome,
         sums,
+        ..
     } = lister;
     give_back(out);
-    (outcome, sums)
+    give_back(err);
+    (outcome, line, sums)
 }
 
 // Lists what is asked for, over a disk for each backend and each worker. The disks come back.
-fn list_disks<W: World + Send + Sync, D: Disk, O: Sink, R: Threads + Wait + Sync>(
+fn list_disks<W: World + Send + Sync, D: Disk, O: Sink, E: Sink, R: Threads + Wait + Sync>(
     rt: &R,
     alloc: Global,
     asked: Asked<'_, '_>,
     disks: Vec<D>,
     out: &mut O,
+    err: &mut E,
 ) -> (Vec<D>, RunEnd)
     requires asked { IsAsked asked }
     requires world { W.relations ≡ length asked.relations.now }
@@ -99,21 +112,24 @@ fn list_disks<W: World + Send + Sync, D: Disk, O: Sink, R: Threads + Wait + Sync
         W.relations asked.segment) disks.items }
     requires handles { (settings_for asked).backends * (settings_for asked).handles
         ≡ W.handles }
-    ensures lists { Lists (reader_of W.told) (requests_for asked.entry) (O.written out.old)
-        (O.written out.new) result.1.outcome }
+    ensures lists { Warns (Lists (settings_for asked.entry).zero W.told (requests_for asked.entry)
+        (O.written out.old) (O.written out.new) result.1.outcome)
+        (error_stream Line.Whole (E.written err.old) (E.faults err.old))
+        (error_stream result.1.line (E.written err.new) (E.faults err.new)) }
     ensures writes { HasWritten (O.faults out.old) (O.faults out.new) result.1.outcome }
     ensures unread { (r b : ℕ) → result.1.outcome ≡ Outcome.Unread r b
         → 0 < sum_by D.faults result.0.items }
     ensures counted { AreOfScan asked.entry D.reads result.0.items result.1.numbers }
     ensures sums { result.1.outcome ≡ Outcome.Done
-        → HasSums (reader_of W.told) (requests_for asked.entry) result.1.sums }
+        → HasSums (reader_of (settings_for asked.entry).zero W.told) (requests_for asked.entry)
+        result.1.sums }
 {
     let settings = asked.settings();
     let mut scan = match Scan::<W, D>::open(alloc, &settings, disks) {
         Ok(scan) => scan,
         Err(disks) => return (disks, RunEnd::without_reads(Outcome::NoMemory)),
     };
-    let (outcome, sums) = list_rounds(rt, &mut scan, asked, out);
+    let (outcome, line, sums) = list_rounds(rt, &mut scan, asked, out, err);
     let (totals, disks) = scan.finish();
     let numbers = Numbers {
         incarnations: totals.incarnations(),
@@ -123,6 +139,7 @@ fn list_disks<W: World + Send + Sync, D: Disk, O: Sink, R: Threads + Wait + Sync
     let end = RunEnd {
         outcome,
         numbers,
+        line,
         sums,
     };
     (disks, end)
@@ -141,13 +158,14 @@ fn disk_count(settings: &ScanSettings) -> usize
 }
 
 // Opens the disks that are not open yet, and lists what is asked for over all. They come back.
-fn open_and_list<W: World + Send + Sync, S: Shelf, O: Sink, R: Threads + Wait + Sync>(
+fn open_and_list<W: World + Send + Sync, S: Shelf, O: Sink, E: Sink, R: Threads + Wait + Sync>(
     rt: &R,
     alloc: Global,
     asked: Asked<'_, '_>,
     mut disks: Vec<S::Disk>,
     shelf: &mut S,
     out: &mut O,
+    err: &mut E,
 ) -> (Vec<S::Disk>, RunEnd)
     requires asked { IsAsked asked }
     requires told { told_of (S.told shelf.old) asked.relations.now ≡ W.told }
@@ -159,14 +177,17 @@ fn open_and_list<W: World + Send + Sync, S: Shelf, O: Sink, R: Threads + Wait + 
         S.Disk.reads W.told W.relations asked.segment) disks.items }
     requires room { (vec_len disks ≤ 1) × (disks_of (settings_for asked)
         ≤ vec_capacity disks) }
-    ensures scanned { HasScanned asked.entry (reader_of W.told) (O.written out.old)
+    ensures scanned { Warns (HasScanned asked.entry W.told (O.written out.old)
         (O.written out.new) (S.counts shelf.old) (S.counts shelf.new)
         (sum_by S.Disk.faults result.0.items) (sum_by S.Disk.reads result.0.items)
-        result.1.outcome }
+        result.1.outcome)
+        (error_stream Line.Whole (E.written err.old) (E.faults err.old))
+        (error_stream result.1.line (E.written err.new) (E.faults err.new)) }
     ensures writes { HasWritten (O.faults out.old) (O.faults out.new) result.1.outcome }
     ensures counted { AreOfScan asked.entry S.Disk.reads result.0.items result.1.numbers }
     ensures sums { result.1.outcome ≡ Outcome.Done
-        → HasSums (reader_of W.told) (requests_for asked.entry) result.1.sums }
+        → HasSums (reader_of (settings_for asked.entry).zero W.told) (requests_for asked.entry)
+        result.1.sums }
     ensures sure { S.surely_opens shelf.old asked.entry.relations.now ≡ true
         → result.1.outcome ≢ Outcome.CannotOpen }
     ensures told { S.told shelf.new ≡ S.told shelf.old }
@@ -174,14 +195,14 @@ fn open_and_list<W: World + Send + Sync, S: Shelf, O: Sink, R: Threads + Wait + 
     let settings = asked.settings();
     let names = asked.relations.names();
     match open_others(shelf, names, &mut disks, disk_count(&settings)) {
-        Ok(()) => list_disks::<W, S::Disk, O, R>(rt, alloc, asked, disks, out),
+        Ok(()) => list_disks::<W, S::Disk, O, E, R>(rt, alloc, asked, disks, out, err),
         Err(OpenFault::Device) => (disks, RunEnd::without_reads(Outcome::CannotOpen)),
         Err(OpenFault::Memory) => (disks, RunEnd::without_reads(Outcome::NoMemory)),
     }
 }
 
 // Opens the other disks, lists what is asked for, and gives all disks back.
-fn run_scan<W: World + Send + Sync, S: Shelf, O: Sink, R: Threads + Wait + Sync>(
+fn run_scan<W: World + Send + Sync, S: Shelf, O: Sink, E: Sink, R: Threads + Wait + Sync>(
     rt: &R,
     alloc: Global,
     asked: Asked<'_, '_>,
@@ -189,6 +210,7 @@ fn run_scan<W: World + Send + Sync, S: Shelf, O: Sink, R: Threads + Wait + Sync>
     first: S::Disk,
     shelf: &mut S,
     out: &mut O,
+    err: &mut E,
 ) -> RunEnd
     requires asked { IsAsked asked }
     requires settings { (settings.now ≡ settings_for asked) × AreSettings settings.now }
@@ -202,9 +224,11 @@ fn run_scan<W: World + Send + Sync, S: Shelf, O: Sink, R: Threads + Wait + Sync>
     requires unread { (S.Disk.faults first ≡ 0) × (S.Disk.reads first ≡ 0) }
     requires lengths { HasLengths (S.Disk.told first) asked.segment (length asked.relations.now)
         asked.lengths.now }
-    ensures ran { Ran (S.Disk.told first) (length asked.entry.relations.now)
+    ensures ran { Warns (Ran (S.Disk.told first) (length asked.entry.relations.now)
         asked.entry.command.now (seen (O.written out.old) (S.counts shelf.old).reads)
-        (seen (O.written out.new) (S.counts shelf.new).reads) result.outcome }
+        (seen (O.written out.new) (S.counts shelf.new).reads) result.outcome)
+        (error_stream Line.Whole (E.written err.old) (E.faults err.old))
+        (error_stream result.line (E.written err.new) (E.faults err.new)) }
     ensures causes { HasCauses (S.counts shelf.old) (S.counts shelf.new) (O.faults out.old)
         (O.faults out.new) result.outcome }
     ensures order { CallsInOrder (S.counts shelf.old) (S.counts shelf.new) result.outcome }
@@ -222,14 +246,14 @@ fn run_scan<W: World + Send + Sync, S: Shelf, O: Sink, R: Threads + Wait + Sync>
         return RunEnd::without_reads(Outcome::NoMemory);
     };
     disks.push_reserved(first);
-    let (disks, end) = open_and_list::<W, S, O, R>(rt, alloc, asked, disks, shelf, out);
+    let (disks, end) = open_and_list::<W, S, O, E, R>(rt, alloc, asked, disks, shelf, out, err);
     take_all_back(shelf, disks);
     end
 }
 
 /// Takes the lengths, and lists the blocks that the command asks for. The disk goes back to the
 /// shelf.
-pub(crate) fn scan_disk<S: Shelf, O: Sink, R: Threads + Wait + Sync>(
+pub(crate) fn scan_disk<S: Shelf, O: Sink, E: Sink, R: Threads + Wait + Sync>(
     rt: &R,
     alloc: Global,
     command: &Command<'_>,
@@ -237,6 +261,7 @@ pub(crate) fn scan_disk<S: Shelf, O: Sink, R: Threads + Wait + Sync>(
     mut disk: S::Disk,
     shelf: &mut S,
     out: &mut O,
+    err: &mut E,
 ) -> RunEnd
     requires relations { relations.now ≡ relations_of command.now }
     requires told { S.Disk.told disk ≡ told_of (S.told shelf.old) relations.now }
@@ -244,9 +269,11 @@ pub(crate) fn scan_disk<S: Shelf, O: Sink, R: Threads + Wait + Sync>(
     requires disk { S.Disk.relations disk ≡ length relations.now }
     requires unread { (S.Disk.length_faults disk ≡ 0) × (S.Disk.faults disk ≡ 0)
         × (S.Disk.reads disk ≡ 0) }
-    ensures ran { Ran (S.Disk.told disk) (length relations.now) command.now
+    ensures ran { Warns (Ran (S.Disk.told disk) (length relations.now) command.now
         (seen (O.written out.old) (S.counts shelf.old).reads)
-        (seen (O.written out.new) (S.counts shelf.new).reads) result.outcome }
+        (seen (O.written out.new) (S.counts shelf.new).reads) result.outcome)
+        (error_stream Line.Whole (E.written err.old) (E.faults err.old))
+        (error_stream result.line (E.written err.new) (E.faults err.new)) }
     ensures causes { HasCauses (S.counts shelf.old) (S.counts shelf.new) (O.faults out.old)
         (O.faults out.new) result.outcome }
     ensures order { CallsInOrder (S.counts shelf.old) (S.counts shelf.new) result.outcome }
@@ -267,7 +294,7 @@ pub(crate) fn scan_disk<S: Shelf, O: Sink, R: Threads + Wait + Sync>(
                 segment: disk.segment(),
             };
             let settings = asked.settings();
-            run_scan::<Brand, S, O, R>(rt, alloc, asked, &settings, disk, shelf, out)
+            run_scan::<Brand, S, O, E, R>(rt, alloc, asked, &settings, disk, shelf, out, err)
         }
         Err(outcome) => {
             shelf.take_back(disk);

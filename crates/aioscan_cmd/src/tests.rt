@@ -10,3 +10,4 @@ mod settings;
 mod slow;
 mod untold;
 mod words;
+mod zero_damaged;

@@ -39,6 +39,7 @@ fn read_ten<W: World, D: Disk, R: Wait + Print + AllocGlobal>(
         full,
         batch: false,
         segment: 131072,
+        zero: false,
     };
     // One backend with four handles, and no runner: the sync method executes each I/O in place.
     let (table, mut actors) = Table::<ReadIo, W>::open(rt.alloc(), 1, 4, 0, 0)?;

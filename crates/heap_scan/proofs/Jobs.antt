@@ -7,6 +7,7 @@ use Rattle.page_check.specs.SynchronousAnswer.{Entry, Given, Ending, End, Reader
 use Rattle.page_check.proofs.AnswersOfLists.{answered_append, answered_more}
 use Rattle.heap_scan.specs.PageText.{page_text_of}
 use Rattle.heap_scan.specs.Listing.{listing}
+use Rattle.heap_scan.specs.Warnings.{warning_for, warnings_of}
 use Rattle.heap_scan.specs.Job.{endings_of, IsJobAnswer}
 use Rattle.heap_scan.specs.Sums.{joined}
 use Rattle.heap_scan.specs.declared.sums.PageSums.{PageSums}
@@ -22,16 +23,24 @@ module _ {P : Type 0} where
   listing-append xs ys =
       flat_map-append (λ (g : Given P). page_text_of g.entry.relation g.entry.block g.page) xs ys
 
+  pub warnings-append : (xs ys : List (Given P))
+      → warnings_of (xs ++ ys) ≡ warnings_of xs ++ warnings_of ys
+  unfolding warnings_of
+  warnings-append xs ys = flat_map-append warning_for xs ys
+
   -- a job that was listed to its end, and then another
   unfoldable pub job_append : (found : Option Reader) (may : Entry P → Type 0)
-      (xs ys : List (Entry P)) (front back : List ℕ) (some more : PageSums) (end : Option Ending)
-      → IsJobAnswer found may xs front some (Some End)
-      → IsJobAnswer found may ys back more end
-      → IsJobAnswer found may (xs ++ ys) (front ++ back) (joined some more) end
-  job_append found may xs ys front back some more end first second = record {
+      (xs ys : List (Entry P)) (front back early late : List ℕ) (some more : PageSums)
+      (end : Option Ending)
+      → IsJobAnswer found may xs front early some (Some End)
+      → IsJobAnswer found may ys back late more end
+      → IsJobAnswer found may (xs ++ ys) (front ++ back) (early ++ late) (joined some more) end
+  job_append found may xs ys front back early late some more end first second = record {
     pages = first.pages ++ second.pages;
     text_is = (let one = first.text_is in let two = second.text_is in
         rw (one, two) (sym (listing-append first.pages second.pages)));
+    warnings_are = (let one = first.warnings_are in let two = second.warnings_are in
+        rw (one, two) (sym (warnings-append first.pages second.pages)));
     sums_are = (let one = first.sums_are in let two = second.sums_are in
         rw (one, two) (sym (sums_of-append first.pages second.pages)));
     answers =
@@ -41,12 +50,13 @@ module _ {P : Type 0} where
 
   -- a job that did not reach the end of its blocks is one of more
   unfoldable pub job_more : (found : Option Reader) (may : Entry P → Type 0)
-      (xs ys : List (Entry P)) (text : List ℕ) (sums : PageSums) (end : Option Ending)
-      → IsEarly end → IsJobAnswer found may xs text sums end
-      → IsJobAnswer found may (xs ++ ys) text sums end
-  job_more found may xs ys text sums end early job = record {
+      (xs ys : List (Entry P)) (text warnings : List ℕ) (sums : PageSums) (end : Option Ending)
+      → IsEarly end → IsJobAnswer found may xs text warnings sums end
+      → IsJobAnswer found may (xs ++ ys) text warnings sums end
+  job_more found may xs ys text warnings sums end early job = record {
     pages = job.pages;
     text_is = job.text_is;
+    warnings_are = job.warnings_are;
     sums_are = job.sums_are;
     answers = answered_more found may xs ys job.pages (endings_of end) early job.answers;
   }

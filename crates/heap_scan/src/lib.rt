@@ -2,8 +2,9 @@
 //!
 //! `page_text` appends exactly the definition `page_text_of`, which is stated over the list of line
 //! pointers and decimal numbers, and two laws of that text stand beside it. `Listing` is the text
-//! of many pages. `tally` adds a page to sums over pages, the definition `tallied`. What writes the
-//! pieces of a line is public, for texts that say more of a page.
+//! of many pages. `warning_text` appends the line that warns of a page given as zeros,
+//! `warnings_of` are those of many pages. `tally` adds a page to sums over pages, the definition
+//! `tallied`. What writes the pieces of a line is public, for texts that say more of a page.
 #![tactic(auto)]
 
 pub mod backward;
@@ -11,10 +12,12 @@ pub mod laws;
 mod lines;
 mod sums;
 mod text;
+mod warning;
 
 pub use lines::{ITEM_ROOM, PAGE_ROOM, put_item, put_page_line};
 pub use sums::{PageSums, tally};
 pub use text::page_text;
+pub use warning::warning_text;
 
 #[cfg(test)]
 mod tests;

@@ -1,6 +1,6 @@
 //! Texts of worked pages, and sums over them.
 use crate::laws::a_page_adds_few;
-use crate::{PageSums, page_text, tally};
+use crate::{PageSums, page_text, tally, warning_text};
 use page_check::{Page, Verdict, check};
 use std::alloc::{AllocError, Global};
 use std::test::Fail;
@@ -59,6 +59,24 @@ fn worked_texts(rt: HostRuntime) -> Result<(), Fail> {
     ];
     for (bounds, items, text) in rows {
         let out = text_of(alloc, &page_of(alloc, bounds, items)?)?;
+        assert_eq!(rt; out.as_slice(), text.as_bytes(), "{text}");
+    }
+    Ok(())
+}
+
+#[test]
+fn warnings_name_the_page(rt: HostRuntime) -> Result<(), Fail> {
+    let rows: [((u32, u32), &str); 3] = [
+        ((0, 12), "before\nzeroed page 0 12\n"),
+        ((7, 0), "before\nzeroed page 7 0\n"),
+        (
+            (u32::MAX, u32::MAX),
+            "before\nzeroed page 4294967295 4294967295\n",
+        ),
+    ];
+    for ((relation, block), text) in rows {
+        let mut out = String::from_str(rt.alloc(), "before\n")?.into_bytes();
+        warning_text(relation, block, &mut out)?;
         assert_eq!(rt; out.as_slice(), text.as_bytes(), "{text}");
     }
     Ok(())

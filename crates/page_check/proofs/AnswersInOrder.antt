@@ -5,11 +5,10 @@ use Rattle.std.specs.Prelude.{Option, Some, None, slice_get}
 use Rattle.std.specs.List.{All}
 use Rattle.std.proofs.lemmas.List.{length-map, map-append}
 use Rattle.std.proofs.lemmas.List.Elements.{All-append}
-use Rattle.page_check.specs.Verdict.{IsValid}
 use Rattle.page_check.specs.SynchronousAnswer.{Entry, Given, Ending}
 use Rattle.page_check.specs.SynchronousAnswer.{Reader}
 use Rattle.page_check.specs.SynchronousAnswer.{pages_of}
-use Rattle.page_check.specs.IsAnswer.{Begins, AreFirst, IsAnswer}
+use Rattle.page_check.specs.IsAnswer.{Begins, AreFirst, IsGiven, IsAnswer}
 use Rattle.page_check.specs.IsAnswer.{Next, Page, Stop, IsNextPage, IsNext, with_next}
 
 -- the element behind the first ones
@@ -66,8 +65,8 @@ module _ {P : Type 0} where
   first_none None entries = (λ k d below. absurd (omega arith), (entries, refl))
   first_none (Some f) entries = (pages_of f entries, refl)
 
-  pub one_valid : (given : Given P) → IsValid given.page → All (λ g. IsValid g.page) (given ∷ [])
-  one_valid given valid = λ k d below. (let first : k ≡ 0 = omega arith in rw first valid)
+  one_given : (given : Given P) → IsGiven given → All IsGiven (given ∷ [])
+  one_given given is = λ k d below. (let first : k ≡ 0 = omega arith in rw first is)
 
   first_next : (found : Option Reader) (entries : List (Entry P)) (pages : List (Given P))
       (given : Given P) → AreFirst found entries pages
@@ -78,8 +77,7 @@ module _ {P : Type 0} where
       ap (slice_get entries) (length-map pages (λ (g : Given P). g.entry)) ∙ next.1 in
       let begins =
       begins_next (map (λ (g : Given P). g.entry) pages) entries given.entry first.1 here in (
-        All-append (λ (g : Given P). IsValid g.page) pages (given ∷ []) first.0
-            (one_valid given next.0),
+        All-append IsGiven pages (given ∷ []) first.0 (one_given given next.0),
         (
           begins.0,
           begins.1

@@ -1,19 +1,19 @@
 -- Answers to lists that are joined.
 use Rattle.std.proofs.Common.{◌≡◌, ◌≢◌, ◌⊎◌, ℕ, ◌+◌, List, [], ◌∷◌, ◌++◌, length, map, refl, sym}
 use Rattle.std.proofs.Common.{ap}
-use Rattle.std.proofs.Common.{◌∙◌, arith, append_assoc, append-nil, inl, inr, false, subst}
+use Rattle.std.proofs.Common.{◌∙◌, arith, append_assoc, append-nil, inl, inr, true, false, subst}
 use Rattle.std.proofs.Common.{length-append}
 use Rattle.std.specs.Prelude.{Option, Some, None, slice_get}
 use Rattle.std.specs.List.{All}
 use Rattle.std.proofs.lemmas.List.{length-map, map-append}
 use Rattle.std.proofs.lemmas.List.Elements.{All-append}
-use Rattle.page_check.specs.Verdict.{IsValid}
 use Rattle.page_check.specs.SynchronousAnswer.{Entry, Given, Ending, End, Invalid, PastEnd, Unread}
-use Rattle.page_check.specs.SynchronousAnswer.{Found, Page, Damaged, Absent, Reader}
+use Rattle.page_check.specs.SynchronousAnswer.{Found, Page, Zeroed, Damaged, Absent, Reader}
+use Rattle.page_check.specs.SynchronousAnswer.{given_for}
 use Rattle.page_check.specs.SynchronousAnswer.{found_for, is_page, can_read, pages_of, stop_of}
 use Rattle.page_check.specs.SynchronousAnswer.{ending_in, ending_at, ending_of}
-use Rattle.page_check.specs.IsAnswer.{Begins, AreFirst, StopsAt, EndsAt, IsEnding, IsAnswer}
-use Rattle.page_check.specs.IsAnswer.{OneEnding}
+use Rattle.page_check.specs.IsAnswer.{Begins, IsGiven, AreFirst, StopsAt, EndsAt, IsEnding}
+use Rattle.page_check.specs.IsAnswer.{IsAnswer, OneEnding}
 use Rattle.page_check.proofs.SynchronousReads.{pages_of-cons, stop_of-cons, pages_of-none}
 use Rattle.page_check.proofs.SynchronousReads.{pages_of-stop, stop_of-stop, stop_of-none}
 use Rattle.page_check.proofs.Places.{pages_of-length}
@@ -21,13 +21,15 @@ use Rattle.page_check.proofs.AnswersInOrder.{begins_more, begins_all, slice_get_
 use Rattle.page_check.proofs.AnswersInOrder.{slice_get_back}
 
 -- an entry gives its page, or reading stops at it
-gives_or_stops : (r : Found) → ((bytes : List ℕ) × (r ≡ Page bytes)) ⊎ (is_page r ≡ false)
-gives_or_stops (Page bytes) = inl (bytes, refl)
+gives_or_stops : (r : Found) → (is_page r ≡ true) ⊎ (is_page r ≡ false)
+gives_or_stops (Page bytes) = inl refl
+gives_or_stops Zeroed = inl refl
 gives_or_stops Damaged = inr refl
 gives_or_stops Absent = inr refl
 
 not_end : (r : Found) (block : ℕ) → is_page r ≡ false → ending_in r block ≢ End
 not_end (Page bytes) block none is = absurd (cc)
+not_end Zeroed block none is = absurd (cc)
 not_end Damaged block none is = absurd (cc)
 not_end Absent block none is = absurd (cc)
 
@@ -38,21 +40,20 @@ module _ {P : Type 0} (f : Reader) where
     pub pages : pages_of f (xs ++ ys) ≡ pages_of f xs ++ pages_of f ys
     pub stop : stop_of f (xs ++ ys) ≡ stop_of f ys
 
-  whole_next : (x : Entry P) (bytes : List ℕ) (xs ys : List (Entry P))
-      → found_for f x ≡ Page bytes → IsWhole xs ys → IsWhole (x ∷ xs) ys
-  whole_next x bytes xs ys is rest =
-      let g : Given P = record { entry = x; page = bytes } in
-      let here = pages_of-cons f g xs is in record {
+  whole_next : (x : Entry P) (xs ys : List (Entry P)) → can_read f x ≡ true → IsWhole xs ys
+      → IsWhole (x ∷ xs) ys
+  whole_next x xs ys can rest =
+      let g = given_for f x in
+      let here = pages_of-cons f x xs can in record {
         all = omega (arith, ap length here, rest.all);
-        pages = pages_of-cons f g (xs ++ ys) is ∙ ap (λ (l : List (Given P)). g ∷ l) rest.pages
+        pages = pages_of-cons f x (xs ++ ys) can ∙ ap (λ (l : List (Given P)). g ∷ l) rest.pages
             ∙ ap (λ (l : List (Given P)). l ++ pages_of f ys) (sym here);
-        stop = stop_of-cons f g (xs ++ ys) is ∙ rest.stop;
+        stop = stop_of-cons f x (xs ++ ys) can ∙ rest.stop;
       }
 
-  ending_next : (x : Entry P) (bytes : List ℕ) (xs : List (Entry P)) → found_for f x ≡ Page bytes
+  ending_next : (x : Entry P) (xs : List (Entry P)) → can_read f x ≡ true
       → ending_of f (x ∷ xs) ≡ ending_of f xs
-  ending_next x bytes xs is =
-      ap (ending_at f) (stop_of-cons f (record { entry = x; page = bytes }) xs is)
+  ending_next x xs can = ap (ending_at f) (stop_of-cons f x xs can)
 
   ending_here : (x : Entry P) (xs : List (Entry P)) → can_read f x ≡ false
       → ending_of f (x ∷ xs) ≡ ending_in (found_for f x) x.block
@@ -65,8 +66,7 @@ module _ {P : Type 0} (f : Reader) where
     stop = refl;
   }
   whole (x ∷ xs) ys end = elim (gives_or_stops (found_for f x)) [
-    | inl is ↦ whole_next x is.0 xs ys is.1
-        (whole xs ys (sym (ending_next x is.0 xs is.1) ∙ end))
+    | inl can ↦ whole_next x xs ys can (whole xs ys (sym (ending_next x xs can) ∙ end))
     | inr none ↦ absurd (not_end (found_for f x) x.block none (sym (ending_here x xs none) ∙ end))
   ]
 
@@ -75,20 +75,19 @@ module _ {P : Type 0} (f : Reader) where
     pub pages : pages_of f (xs ++ ys) ≡ pages_of f xs
     pub stop : stop_of f (xs ++ ys) ≡ stop_of f xs
 
-  stopped_next : (x : Entry P) (bytes : List ℕ) (xs ys : List (Entry P))
-      → found_for f x ≡ Page bytes → IsStopped xs ys → IsStopped (x ∷ xs) ys
-  stopped_next x bytes xs ys is rest =
-      let g : Given P = record { entry = x; page = bytes } in record {
-        pages = pages_of-cons f g (xs ++ ys) is ∙ ap (λ (l : List (Given P)). g ∷ l) rest.pages
-            ∙ sym (pages_of-cons f g xs is);
-        stop = stop_of-cons f g (xs ++ ys) is ∙ rest.stop ∙ sym (stop_of-cons f g xs is);
+  stopped_next : (x : Entry P) (xs ys : List (Entry P)) → can_read f x ≡ true → IsStopped xs ys
+      → IsStopped (x ∷ xs) ys
+  stopped_next x xs ys can rest =
+      let g = given_for f x in record {
+        pages = pages_of-cons f x (xs ++ ys) can ∙ ap (λ (l : List (Given P)). g ∷ l) rest.pages
+            ∙ sym (pages_of-cons f x xs can);
+        stop = stop_of-cons f x (xs ++ ys) can ∙ rest.stop ∙ sym (stop_of-cons f x xs can);
       }
 
   pub stopped : (xs ys : List (Entry P)) → ending_of f xs ≢ End → IsStopped xs ys
   stopped [] ys end = absurd (end (ap (ending_at {P = P} f) (stop_of-none f)))
   stopped (x ∷ xs) ys end = elim (gives_or_stops (found_for f x)) [
-    | inl is ↦ stopped_next x is.0 xs ys is.1
-        (stopped xs ys (λ e. end (ending_next x is.0 xs is.1 ∙ e)))
+    | inl can ↦ stopped_next x xs ys can (stopped xs ys (λ e. end (ending_next x xs can ∙ e)))
     | inr none ↦ record {
       pages = pages_of-stop f x (xs ++ ys) none ∙ sym (pages_of-stop f x xs none);
       stop = stop_of-stop f x (xs ++ ys) none ∙ sym (stop_of-stop f x xs none);
@@ -178,7 +177,7 @@ module _ {P : Type 0} where
       let all : xs ≡ entries front = begins_all (entries front) xs first.1
       (length-map front (λ (g : Given P). g.entry) ∙ end) in
       let begins = begins_append (entries front) (entries back) ys second.1 in (
-        All-append (λ (g : Given P). IsValid g.page) front back first.0 second.0,
+        All-append IsGiven front back first.0 second.0,
         (
           begins.0,
           ap (λ (l : List (Entry P)). l ++ ys) all ∙ begins.1

@@ -1,11 +1,13 @@
 -- What may be answered next, by what is found at that place of the list.
-use Rattle.std.proofs.Common.{◌≡◌, ℕ, ◌+◌, ◌≤◌, false, List, length, refl, sym, ap, ◌∙◌, arith}
+use Rattle.std.proofs.Common.{◌≡◌, ℕ, ◌+◌, ◌≤◌, true, false, List, length, refl, sym, ap, ◌∙◌}
+use Rattle.std.proofs.Common.{arith}
 use Rattle.std.specs.Prelude.{Option, Some, None, IfSome, slice_get}
 use Rattle.std.proofs.lemmas.Option.{slice_get_past}
 use Rattle.page_check.specs.Verdict.{IsValid}
 use Rattle.page_check.specs.SynchronousAnswer.{Entry, Given, End, Invalid, PastEnd, Unread}
-use Rattle.page_check.specs.SynchronousAnswer.{Found, Page as FoundPage, Damaged, Absent, Reader}
-use Rattle.page_check.specs.SynchronousAnswer.{found_for, is_page, page_in, can_read, pages_of}
+use Rattle.page_check.specs.SynchronousAnswer.{Found, Page as FoundPage, Zeroed, Damaged, Absent}
+use Rattle.page_check.specs.SynchronousAnswer.{Reader, found_for, is_page, is_zeroed, page_in}
+use Rattle.page_check.specs.SynchronousAnswer.{zero_page, given_as, can_read, pages_of}
 use Rattle.page_check.specs.SynchronousAnswer.{read_count, ending_in, ending_at, ending_of}
 use Rattle.page_check.specs.IsAnswer.{Page, Stop, IsNext}
 use Rattle.page_check.proofs.Places.{count-within, count-more, count-stop, pages_of-length}
@@ -15,18 +17,24 @@ use Rattle.page_check.proofs.Places.{pages_of-at}
 abbrev pub IsReached : {P : Type 0} → Option Reader → List (Entry P) → ℕ → Type 0
 IsReached found es k = IfSome found (λ f. k ≤ read_count f es)
 
+zeros_in : (shown : Found) → is_zeroed shown ≡ true → page_in shown ≡ zero_page
+zeros_in (FoundPage bytes) zeroed = absurd (cc)
+zeros_in Zeroed zeroed = refl
+zeros_in Damaged zeroed = absurd (cc)
+zeros_in Absent zeroed = absurd (cc)
+
 module _ {P : Type 0} (may : Entry P → Type 0) (es : List (Entry P)) (k : ℕ) (e : Entry P)
     (here : slice_get es k ≡ Some e) where
-  -- the page of the entry, and then the next one is reached
-  pub next-page : (found : Option Reader) (page : List ℕ) → IsReached found es k → IsValid page
-      → IfSome found (λ f. found_for f e ≡ FoundPage page)
-      → IsNext found may es k (Page (record { entry = e; page = page }))
-      × IsReached found es (k + 1)
-  next-page None page far valid is = ((valid, here), tt)
-  next-page (Some f) page far valid is =
-      let below = count-more f es k e here far (ap is_page is) in
-      let given = ap {B = Option (Given P)}
-      (λ (r : Found). Some (record { entry = e; page = page_in r })) is in
+  -- the page of the entry, or zeros in its place, and then the next one is reached
+  pub next-page : (found : Option Reader) (shown : Found) → IsReached found es k
+      → is_page shown ≡ true → IsValid (page_in shown)
+      → IfSome found (λ f. found_for f e ≡ shown)
+      → IsNext found may es k (Page (given_as shown e)) × IsReached found es (k + 1)
+  next-page None shown far page valid is =
+      ((record { valid = valid; zeros = zeros_in shown }, here), tt)
+  next-page (Some f) shown far page valid is =
+      let below = count-more f es k e here far (ap is_page is ∙ page) in
+      let given = ap {B = Option (Given P)} (λ (r : Found). Some (given_as r e)) is in
       (pages_of-at f es k e here below ∙ given, omega (arith, below))
 
   stops_at : (f : Reader) → k ≤ read_count f es → can_read f e ≡ false

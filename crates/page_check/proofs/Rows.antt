@@ -1,12 +1,13 @@
 -- Worked pages: what the definitions say of them.
 use Rattle.std.proofs.Common.{◌≡◌, ℕ, ◌/◌, ◌%◌, List, [], ◌∷◌, ◌++◌, replicate, refl, length, zero}
-use Rattle.std.proofs.Common.{suc, map, ◌<◌, arith, ap, sym, ◌∙◌}
+use Rattle.std.proofs.Common.{suc, map, ◌<◌, arith, ap, sym, ◌∙◌, Bool, true, false}
 use Rattle.std.specs.Prelude.{Option, Some, None, ⊤}
 use Rattle.std.proofs.lemmas.Option.{slice_get_within, same_Some}
 use Rattle.std.specs.List.{range_with_len}
 use Rattle.page_check.specs.Told.{Told, told_in, joined, page_at, block_count, blocks_of}
 use Rattle.page_check.specs.SynchronousAnswer.{Entry, End, Invalid, PastEnd, found_at, read_count}
 use Rattle.page_check.specs.SynchronousAnswer.{pages_of, ending_of, Given, Unread, Reader}
+use Rattle.page_check.specs.SynchronousAnswer.{zeroing}
 use Rattle.page_check.specs.IsAnswer.{Answers, IsAnswer}
 use Rattle.page_check.specs.Fields.{u16_at, u32_at, header_of}
 use Rattle.page_check.specs.declared.verdict.Verdict.TheVariants.{Zero, Sane, Bad}
@@ -88,6 +89,13 @@ abbrev blocks : ℕ → ℕ → List (Entry (Unit {0}))
 blocks first n =
     map (λ b. record { relation = 0; block = b; per_buffer_data = tt }) (range_with_len first n)
 
+abbrev block : ℕ → Entry (Unit {0})
+block b = record { relation = 0; block = b; per_buffer_data = tt }
+
+-- an empty page, given for its block
+abbrev of_block : ℕ → Given (Unit {0})
+of_block b = record { entry = block b; page = E; zeroed = false }
+
 -- one relation in one file, with the segment size that PostgreSQL is built with
 abbrev of_one_file : List ℕ → Told
 of_one_file bytes = told_in 131072 ((bytes ∷ []) ∷ [])
@@ -101,16 +109,38 @@ two_before_the_bad : (length (pages_of (found_at bad_at_12) (blocks 10 4)) ≡ 2
 unfolding read_count found_at joined page_at block_count verdict_of header_of u16_at u32_at
 two_before_the_bad = (refl, refl)
 
+-- with damaged pages zeroed all four are given, the third as zeros
+abbrev zeroing_at_12 : Reader
+zeroing_at_12 = zeroing true (found_at bad_at_12)
+
+zeros_in_place_of_the_bad :
+    (map {B = ℕ × Bool} (λ (g : Given (Unit {0})). (g.entry.block, g.zeroed))
+    (pages_of zeroing_at_12 (blocks 10 4))
+    ≡ ((10, false) ∷ (11, false) ∷ (12, true) ∷ (13, false) ∷ []))
+    × (ending_of zeroing_at_12 (blocks 10 4) ≡ End)
+unfolding read_count found_at joined page_at block_count verdict_of header_of u16_at u32_at
+zeros_in_place_of_the_bad = (refl, refl)
+
+the_zeroed_page_has_no_set_byte : pages_of zeroing_at_12 (blocks 12 1)
+    ≡ (record { entry = block 12; page = replicate 8192 0; zeroed = true } ∷ [])
+unfolding read_count found_at joined page_at block_count verdict_of header_of u16_at u32_at
+the_zeroed_page_has_no_set_byte = refl
+
 -- 4 pages, blocks 3 to 4: one page, then past the end
 abbrev four : Told
 four = of_one_file (pages 4 [])
 
 one_before_the_end :
     (pages_of (found_at four) (blocks 3 2)
-    ≡ (record { entry = record { relation = 0; block = 3; per_buffer_data = tt }; page = E } ∷ []))
+    ≡ (of_block 3 ∷ []))
     × (ending_of (found_at four) (blocks 3 2) ≡ PastEnd 4)
 unfolding read_count found_at joined page_at block_count verdict_of header_of u16_at u32_at
 one_before_the_end = (refl, refl)
+
+-- but a block that is not there is no page of zeros
+no_zeros_past_the_end : ending_of (zeroing true (found_at four)) (blocks 3 2) ≡ PastEnd 4
+unfolding read_count found_at joined page_at block_count verdict_of header_of u16_at u32_at
+no_zeros_past_the_end = refl
 
 -- 8191 bytes are no block, and an empty list ends at once
 no_block : (blocks_of (of_one_file (replicate 8191 0)) 0 ≡ 0)
@@ -118,15 +148,12 @@ no_block : (blocks_of (of_one_file (replicate 8191 0)) 0 ≡ 0)
 unfolding joined block_count read_count
 no_block = (refl, refl)
 
-abbrev block : ℕ → Entry (Unit {0})
-block b = record { relation = 0; block = b; per_buffer_data = tt }
-
 -- what may be answered to the blocks 3 and 4 of the four pages
 abbrev IsAnswered : Answers (Unit {0}) → Type 0
 IsAnswered = IsAnswer (Some (found_at four)) (λ _. ⊤) (blocks 3 2)
 
 abbrev three : Given (Unit {0})
-three = record { entry = block 3; page = E }
+three = of_block 3
 
 -- nothing yet, or the page of block 3
 no_answer_yet : IsAnswered (record { pages = []; endings = [] })
@@ -147,7 +174,7 @@ past_the_end_twice = record {
 
 -- all pages of the blocks 2 and 3, then the end, which stays
 the_end_twice : IsAnswer (Some (found_at four)) (λ _. ⊤) (blocks 2 2) (record {
-  pages = record { entry = block 2; page = E } ∷ three ∷ [];
+  pages = of_block 2 ∷ three ∷ [];
   endings = End ∷ End ∷ [];
 })
 unfolding read_count found_at joined page_at block_count verdict_of header_of u16_at u32_at

@@ -1,15 +1,14 @@
--- Synchronous reads of a list that begins with entries whose pages were read.
-use Rattle.std.proofs.Common.{◌≡◌, ◌≢◌, ℕ, ◌<◌, ◌≤◌, suc, List, [], ◌∷◌, ◌++◌, map, take, true}
-use Rattle.std.proofs.Common.{false, refl, ap, ◌∙◌, arith}
+-- Synchronous reads of a list, entry by entry.
+use Rattle.std.proofs.Common.{◌≡◌, ◌≢◌, ℕ, ◌<◌, ◌≤◌, suc, List, [], ◌∷◌, map, take, true}
+use Rattle.std.proofs.Common.{false, refl, ap, arith}
 use Rattle.std.specs.Prelude.{Some, None, nat_le, slice_get}
-use Rattle.std.specs.List.{All}
 use Rattle.std.proofs.lemmas.Bool.Decides.{nat_tests}
 use Rattle.page_check.specs.declared.verdict.Verdict.{Verdict}
 use Rattle.page_check.specs.declared.verdict.Verdict.TheVariants.{Zero, Sane, Bad}
 use Rattle.page_check.specs.Verdict.{verdict_of, IsValid}
 use Rattle.page_check.specs.Told.{Told, blocks_of, page_of}
-use Rattle.page_check.specs.SynchronousAnswer.{Entry, Given, Found, Page, Damaged, Absent, Reader}
-use Rattle.page_check.specs.SynchronousAnswer.{found_at, found_by, found_for, is_page, page_in}
+use Rattle.page_check.specs.SynchronousAnswer.{Entry, Page, Damaged, Absent, Reader}
+use Rattle.page_check.specs.SynchronousAnswer.{found_at, found_by}
 use Rattle.page_check.specs.SynchronousAnswer.{can_read}
 use Rattle.page_check.specs.SynchronousAnswer.{given_for, read_count, pages_of, stop_of}
 
@@ -54,48 +53,16 @@ module _ {P : Type 0} (found : Reader) where
   unfolding read_count
   read_count-stop e rest cannot = rw cannot refl
 
-  -- the page of this entry was read
-  abbrev pub IsRead : Given P → Type 0
-  IsRead g = found_for found g.entry ≡ Page g.page
+  -- an entry that gives its page
+  pub pages_of-cons : (e : Entry P) (rest : List (Entry P)) → can_read found e ≡ true
+      → pages_of found (e ∷ rest) ≡ given_for found e ∷ pages_of found rest
+  pages_of-cons e rest can =
+      ap (λ (n : ℕ). map (given_for found) (take n (e ∷ rest))) (read_count-cons e rest can)
 
-  can_read_given : (g : Given P) → IsRead g → can_read found g.entry ≡ true
-  can_read_given g is = ap is_page is
-
-  given_again : (g : Given P) → IsRead g → given_for found g.entry ≡ g
-  given_again g is =
-      ap {B = Given P} (λ (f : Found). record { entry = g.entry; page = page_in f }) is
-
-  pub pages_of-cons : (g : Given P) (rest : List (Entry P)) → IsRead g
-      → pages_of found (g.entry ∷ rest) ≡ g ∷ pages_of found rest
-  pages_of-cons g rest is =
-      let count = read_count-cons g.entry rest (can_read_given g is) in
-      ap (λ (n : ℕ). map (given_for found) (take n (g.entry ∷ rest))) count
-      ∙ ap (λ (h : Given P). h ∷ pages_of found rest) (given_again g is)
-
-  pub stop_of-cons : (g : Given P) (rest : List (Entry P)) → IsRead g
-      → stop_of found (g.entry ∷ rest) ≡ stop_of found rest
-  stop_of-cons g rest is =
-      ap (λ (n : ℕ). slice_get (g.entry ∷ rest) n)
-      (read_count-cons g.entry rest (can_read_given g is))
-
-  -- entries whose pages were read give these pages, whatever is asked for behind them
-  pub pages_of-read : (given : List (Given P)) (rest : List (Entry P)) → All IsRead given
-      → pages_of found (map (λ g. g.entry) given ++ rest) ≡ given ++ pages_of found rest
-  pages_of-read [] rest each = refl
-  pages_of-read (g ∷ given) rest each =
-      let first : IsRead g = each 0 g (omega arith) in
-      let others : All IsRead given = λ k d below. each (suc k) d (omega arith) in
-      pages_of-cons g (map (λ h. h.entry) given ++ rest) first
-      ∙ ap (λ (l : List (Given P)). g ∷ l) (pages_of-read given rest others)
-
-  -- and reading stops where it stops behind them
-  pub stop_of-read : (given : List (Given P)) (rest : List (Entry P)) → All IsRead given
-      → stop_of found (map (λ g. g.entry) given ++ rest) ≡ stop_of found rest
-  stop_of-read [] rest each = refl
-  stop_of-read (g ∷ given) rest each =
-      let first : IsRead g = each 0 g (omega arith) in
-      let others : All IsRead given = λ k d below. each (suc k) d (omega arith) in
-      stop_of-cons g (map (λ h. h.entry) given ++ rest) first ∙ stop_of-read given rest others
+  pub stop_of-cons : (e : Entry P) (rest : List (Entry P)) → can_read found e ≡ true
+      → stop_of found (e ∷ rest) ≡ stop_of found rest
+  stop_of-cons e rest can =
+      ap (λ (n : ℕ). slice_get (e ∷ rest) n) (read_count-cons e rest can)
 
   -- an empty list has no pages
   pub pages_of-none : pages_of found (let none : List (Entry P) = [] in none) ≡ []

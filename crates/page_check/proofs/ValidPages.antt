@@ -6,6 +6,7 @@ use Rattle.page_check.specs.declared.fields.PageHeader.{PageHeader}
 use Rattle.page_check.specs.declared.verdict.Verdict.TheVariants.{Zero, Sane, Bad}
 use Rattle.page_check.specs.Fields.{header_of, u16_at}
 use Rattle.page_check.specs.Verdict.{IsValid, verdict_of, is_sane, is_all_zero}
+use Rattle.page_check.specs.SynchronousAnswer.{zero_page}
 use Rattle.page_check.specs.LinePointers.{count_of}
 
 sane_lower : (header : PageHeader) → is_sane header ≡ true → header.lower ≤ 8192
@@ -80,6 +81,11 @@ verdict_of-sane page sane =
 pub verdict_of-zero : (page : List ℕ) → is_all_zero page ≡ true → verdict_of page ≡ Zero
 unfolding verdict_of
 verdict_of-zero page zeros = rw zeros refl
+
+-- zeros in place of a damaged page are a valid page
+pub zero_page_valid : IsValid zero_page
+unfolding verdict_of
+zero_page_valid = λ bad. absurd (cc)
 
 pub verdict_of-bad : (page : List ℕ) → is_all_zero page ≡ false → is_sane (header_of page) ≡ false
     → verdict_of page ≡ Bad

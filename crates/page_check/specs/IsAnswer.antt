@@ -1,12 +1,12 @@
 -- What may have been answered so far to a list of blocks: some of its first pages, and then perhaps
 -- an ending.
-use Rattle.std.specs.Prelude.{◌≡◌, ℕ, List, [], ◌∷◌, ◌++◌, length, map}
+use Rattle.std.specs.Prelude.{◌≡◌, ℕ, true, List, [], ◌∷◌, ◌++◌, length, map}
 use Rattle.std.specs.Prelude.{slice_get, ⊤}
 use Rattle.std.specs.Prelude.{Option, Some, None}
 use Rattle.std.specs.List.{All}
 use Rattle.page_check.specs.Verdict.{IsValid}
 use Rattle.page_check.specs.SynchronousAnswer.{Entry, Given, Ending, End, Invalid, PastEnd, Unread}
-use Rattle.page_check.specs.SynchronousAnswer.{Reader, pages_of, ending_of}
+use Rattle.page_check.specs.SynchronousAnswer.{Reader, zero_page, pages_of, ending_of}
 
 -- the answers so far: pages, then one ending as often as it was asked for
 pub record Answers (P : Type 0) : Type 0 where
@@ -31,12 +31,17 @@ module _ {P : Type 0} where
     pub named : block ≡ next.block
     pub cause : may next
 
-  -- the first pages: those of synchronous reads; where nothing is told, valid ones of the first
+  -- a page that may be given where nothing is told: a valid one, and zeros where it was zeroed
+  pub record IsGiven (given : Given P) : Type 0 where
+    pub valid : IsValid given.page
+    pub zeros : given.zeroed ≡ true → given.page ≡ zero_page
+
+  -- the first pages: those of synchronous reads; where nothing is told, such ones of the first
   -- entries
   abbrev pub AreFirst : Option Reader → List (Entry P) → List (Given P) → Type 0
   AreFirst (Some found) entries pages = Begins pages (pages_of found entries)
   AreFirst None entries pages =
-      All (λ g. IsValid g.page) pages × Begins (map (λ g. g.entry) pages) entries
+      All IsGiven pages × Begins (map (λ g. g.entry) pages) entries
 
   -- how the list ends behind the first k pages: as synchronous reads do, behind all of theirs;
   -- where nothing is told, behind the last entry, or at the next one
@@ -70,7 +75,7 @@ module _ {P : Type 0} where
   abbrev pub IsNextPage : Option Reader → List (Entry P) → ℕ → Given P → Type 0
   IsNextPage (Some found) entries k given = slice_get (pages_of found entries) k ≡ Some given
   IsNextPage None entries k given =
-      IsValid given.page × (slice_get entries k ≡ Some given.entry)
+      IsGiven given × (slice_get entries k ≡ Some given.entry)
 
   abbrev pub IsNext : Option Reader → (Entry P → Type 0) → List (Entry P) → ℕ → Next P → Type 0
   IsNext found may entries k (Page given) = IsNextPage found entries k given

@@ -1,6 +1,6 @@
 -- What one thread's synchronous reads give for a list of blocks.
 use Rattle.std.specs.Prelude.{ℕ, Bool, true, false, nat_le, if◌then◌else◌, List, [], map, take}
-use Rattle.std.specs.Prelude.{slice_get}
+use Rattle.std.specs.Prelude.{slice_get, replicate, cond}
 use Rattle.std.specs.Prelude.{Option, Some, None}
 use Rattle.std.specs.List.{prefix_len}
 use Rattle.std.specs.Option.{option_map}
@@ -16,10 +16,11 @@ pub record Entry (P : Type 0) : Type 0 where
   pub block : ℕ
   pub per_buffer_data : P
 
--- a page that was given for an entry
+-- a page that was given for an entry, and whether it is zeros in place of an invalid one
 pub record Given (P : Type 0) : Type 0 where
   pub entry : Entry P
   pub page : List ℕ
+  pub zeroed : Bool
 
 -- how a list of entries ends: behind its last page, or at a block that has none to give
 pub data Ending : Type 0 where
@@ -28,9 +29,11 @@ pub data Ending : Type 0 where
   PastEnd : (block : ℕ) → Ending
   Unread : (block : ℕ) → Ending
 
--- what a block gives: its page, or that the page is Bad, or that there is no such block
+-- what a block gives: its page, or zeros in place of a Bad one, or that the page is Bad, or that
+-- there is no such block
 pub data Found : Type 0 where
   Page : (bytes : List ℕ) → Found
+  Zeroed : Found
   Damaged : Found
   Absent : Found
 
@@ -50,22 +53,47 @@ found_at told relation block =
     if nat_le (blocks_of told relation) block then Absent
     else found_by (verdict_of (page_of told relation block)) (page_of told relation block)
 
-abbrev pub reader_of : Option Told → Option Reader
-reader_of told = option_map found_at told
+-- a Bad page is given as zeros (`zero_damaged_pages`)
+abbrev pub zeroed_if_damaged : Found → Found
+zeroed_if_damaged (Page bytes) = Page bytes
+zeroed_if_damaged Zeroed = Zeroed
+zeroed_if_damaged Damaged = Zeroed
+zeroed_if_damaged Absent = Absent
+
+-- what each block gives, with damaged pages zeroed or not
+abbrev pub zeroing : Bool → Reader → Reader
+zeroing zero found =
+    λ relation block. cond zero (zeroed_if_damaged (found relation block)) (found relation block)
+
+abbrev pub reader_of : Bool → Option Told → Option Reader
+reader_of zero told = option_map (λ t. zeroing zero (found_at t)) told
+
+-- a page without a set byte
+abbrev pub zero_page : List ℕ
+zero_page = replicate 8192 0
 
 abbrev pub is_page : Found → Bool
 is_page (Page bytes) = true
+is_page Zeroed = true
 is_page Damaged = false
 is_page Absent = false
 
+abbrev pub is_zeroed : Found → Bool
+is_zeroed (Page bytes) = false
+is_zeroed Zeroed = true
+is_zeroed Damaged = false
+is_zeroed Absent = false
+
 abbrev pub page_in : Found → List ℕ
 page_in (Page bytes) = bytes
+page_in Zeroed = zero_page
 page_in Damaged = []
 page_in Absent = []
 
 -- where a list ends, by what was found at its entry of this block
 abbrev pub ending_in : Found → ℕ → Ending
 ending_in (Page bytes) block = End
+ending_in Zeroed block = End
 ending_in Damaged block = Invalid block
 ending_in Absent block = PastEnd block
 
@@ -76,8 +104,12 @@ module _ {P : Type 0} where
   abbrev pub can_read : Reader → Entry P → Bool
   can_read found e = is_page (found_for found e)
 
+  -- what was found, given for the entry
+  abbrev pub given_as : Found → Entry P → Given P
+  given_as found e = record { entry = e; page = page_in found; zeroed = is_zeroed found }
+
   abbrev pub given_for : Reader → Entry P → Given P
-  given_for found e = record { entry = e; page = page_in (found_for found e) }
+  given_for found e = given_as (found_for found e) e
 
   -- how many entries stand before the first that gives no page
   unfoldable pub read_count : Reader → List (Entry P) → ℕ

@@ -1,12 +1,12 @@
 //! Laws on what a scan may have answered to a list of blocks, each the contract of a function that
 //! does nothing. They hold of contents that are told, and of contents that are not.
 ghost use Rattle.std.specs.Prelude.{◌≡◌, ◌≢◌, ◌≤◌, ◌+◌, ◌⊎◌, ◌++◌, ◌∷◌, [], ℕ, List, length};
-ghost use Rattle.std.specs.Prelude.{Option, Some, IfSome, slice_get, All};
+ghost use Rattle.std.specs.Prelude.{Option, Some, IfSome, slice_get, All, true};
 ghost use Rattle.page_check.specs.Verdict.{IsValid};
 ghost use Rattle.page_check.specs.SynchronousAnswer.{Entry, Given, Ending, End, Invalid, PastEnd};
-ghost use Rattle.page_check.specs.SynchronousAnswer.{Unread, Page as FoundPage, Damaged, Absent};
+ghost use Rattle.page_check.specs.SynchronousAnswer.{Unread, Damaged, Absent, Found, is_page};
 ghost use Rattle.page_check.specs.SynchronousAnswer.{Reader, found_for, read_count, pages_of};
-ghost use Rattle.page_check.specs.SynchronousAnswer.{ending_of};
+ghost use Rattle.page_check.specs.SynchronousAnswer.{page_in, given_as, ending_of};
 ghost use Rattle.page_check.specs.IsAnswer.{IsAnswer, IsNext, Next, Page, Stop, with_next};
 
 use std::marker::Brand;
@@ -39,10 +39,11 @@ pub fn answers_come_one_by_one<P, M: MayBeUnread<P>>()
 /// it can be read.
 pub fn what_is_found_is_answered_next<P, M: MayBeUnread<P>>()
     ensures page { (found : Option Reader) (entries : List (Entry P)) (k : ℕ) (e : Entry P)
-        (page : List ℕ) → slice_get entries k ≡ Some e
-        → IfSome found (λ f. k ≤ read_count f entries) → IsValid page
-        → IfSome found (λ f. found_for f e ≡ FoundPage page)
-        → IsNext found M.may entries k (Page (record { entry = e; page = page }))
+        (shown : Found) → slice_get entries k ≡ Some e
+        → IfSome found (λ f. k ≤ read_count f entries)
+        → is_page shown ≡ true → IsValid (page_in shown)
+        → IfSome found (λ f. found_for f e ≡ shown)
+        → IsNext found M.may entries k (Page (given_as shown e))
         × IfSome found (λ f. k + 1 ≤ read_count f entries) }
     ensures invalid { (found : Option Reader) (entries : List (Entry P)) (k : ℕ) (e : Entry P)
         → slice_get entries k ≡ Some e → IfSome found (λ f. k ≤ read_count f entries)

@@ -2,14 +2,14 @@
 use Rattle.std.proofs.Common.{◌≡◌, ℕ, ◌+◌, ◌-◌, ◌<◌, ◌≤◌, List, [], ◌∷◌, ◌++◌, length, map}
 use Rattle.std.proofs.Common.{drop}
 use Rattle.std.proofs.Common.{refl, ap, sym, subst, arith, ◌∙◌}
-use Rattle.std.specs.Prelude.{Option, Some, None, IfSome, slice_get}
+use Rattle.std.specs.Prelude.{Option, Some, None, IfSome, false, slice_get}
 use Rattle.std.specs.List.{range_with_len}
 use Rattle.std.proofs.lemmas.List.{length-map, length-append}
 use Rattle.std.proofs.lemmas.List.FromFn.{length-range_with_len}
 use Rattle.std.specs.declared.snapshot.Snapshot.{Snapshot}
 use Rattle.aio_handle.specs.Shown.{Standing}
 use Rattle.page_check.specs.Told.{Told}
-use Rattle.page_check.specs.SynchronousAnswer.{Entry, read_count, reader_of}
+use Rattle.page_check.specs.SynchronousAnswer.{read_count, reader_of}
 use Rattle.page_check.specs.IsAnswer.{IsNext, Next as Said, Stop as SaidStop}
 use Rattle.aio_word.specs.declared.Known.{Known}
 use Rattle.aio_word.specs.Stands.{IsIn}
@@ -35,13 +35,13 @@ use Rattle.read_stream.specs.Open.{Gives, Keeps, IsAtHand, IsBetween, IsGiving, 
 use Rattle.read_stream.specs.Open.{IsShown, IsStop}
 use Rattle.read_stream.specs.Open.{IfUnread, IsWant, UnderwayBut, asked_of, block_of}
 use Rattle.read_stream.specs.Open.{blocks_in, runs_in, count_some, hand_from, page_at}
-use Rattle.read_stream.specs.Open.{paid_at, pending_in, rest_of, shown}
+use Rattle.read_stream.specs.Open.{paid_at, pending_in, rest_of, shown, zeroed_at}
 use Rattle.read_stream.specs.Parts.{Has, IsPart}
 use Rattle.read_stream.proofs.Answered.{failed_read, page_is_next, stop_is_next}
 use Rattle.read_stream.proofs.Counting.{below-at, here-at, mapped-at, none-at, rest-at}
 use Rattle.read_stream.proofs.Flown.{are-for-later}
 use Rattle.read_stream.proofs.Moving.{first-of, more-free}
-use Rattle.read_stream.proofs.Nexts.{next-end, next-page}
+use Rattle.read_stream.proofs.Nexts.{next-end, next-page, reaches-then}
 use Rattle.read_stream.proofs.Serving.{range_first, with_reads}
 use Rattle.read_stream.proofs.Wants.{few_in_queue}
 use Rattle.read_stream.proofs.Steady.{Same, steady_moved}
@@ -116,16 +116,16 @@ module _ {W S P : Type 0} (left : S → List (ℕ × P)) (told : Option Told)
   -- the same answer of the same stream
   pub next_kept : (q : Known) (s n : ReadStream W S P) (x : Said P) → Keeps s n
       → n.given ≡ s.given
-      → IsNext (reader_of told) (MayBeUnread n.scope.was.value q)
+      → IsNext (reader_of n.scope.zero told) (MayBeUnread n.scope.was.value q)
       (entries_of n.scope.relation (left n.source_was.value)) n.given x
-      → IsNext (reader_of told) (MayBeUnread s.scope.was.value q)
+      → IsNext (reader_of s.scope.zero told) (MayBeUnread s.scope.was.value q)
       (entries_of s.scope.relation (left s.source_was.value)) s.given x
   next_kept q s n x k given is =
-      subst (λ (z : ℕ). IsNext (reader_of told) (MayBeUnread s.scope.was.value q)
+      subst (λ (z : ℕ). IsNext (reader_of s.scope.zero told) (MayBeUnread s.scope.was.value q)
       (entries_of s.scope.relation (left s.source_was.value)) z x) given
-      (subst (λ z. IsNext (reader_of told) (MayBeUnread s.scope.was.value q)
+      (subst (λ z. IsNext (reader_of s.scope.zero told) (MayBeUnread s.scope.was.value q)
       (entries_of s.scope.relation (left z.value)) n.given x) k.source_was
-      (subst (λ (z : Scope W). IsNext (reader_of told) (MayBeUnread z.was.value q)
+      (subst (λ (z : Scope W). IsNext (reader_of z.zero told) (MayBeUnread z.was.value q)
       (entries_of z.relation (left n.source_was.value)) n.given x) k.scope is))
 
   -- the stream keeps what its actor knows
@@ -138,6 +138,7 @@ module _ {W S P : Type 0} (left : S → List (ℕ × P)) (told : Option Told)
           place = v.place;
           settings = v.settings;
           scope = v.scope;
+          zero = v.zero;
           queue = v.queue;
           wants = v.wants;
           short = v.short;
@@ -215,6 +216,7 @@ module _ {W S P : Type 0} (left : S → List (ℕ × P)) (told : Option Told)
           place = v.place;
           settings = v.settings;
           scope = v.scope;
+          zero = v.zero;
           queue = v.queue;
           wants = v.wants;
           short = v.short;
@@ -250,7 +252,7 @@ module _ {W S P : Type 0} (left : S → List (ℕ × P)) (told : Option Told)
   -- a stream stops
   pub between_stopped : (p : Known) (s : ReadStream W S P) (hand behind : List ℕ) (paid : ℕ)
       (e : Ending) → UnderwayBut left told relations handles hand behind paid p s
-      → IsNext (reader_of told) (MayBeUnread s.scope.was.value p)
+      → IsNext (reader_of s.scope.zero told) (MayBeUnread s.scope.was.value p)
       (entries_of s.scope.relation (left s.source_was.value)) s.given (SaidStop (said_of e))
       → IfUnread e (λ b. IfSome s.current
       (IsFailedRead s.scope.was.value p s.scope.relation b))
@@ -261,6 +263,7 @@ module _ {W S P : Type 0} (left : S → List (ℕ × P)) (told : Option Told)
           place = v.place;
           settings = v.settings;
           scope = v.scope;
+          zero = v.zero;
           queue = v.queue;
           wants = v.wants;
           short = v.short;
@@ -304,7 +307,7 @@ module _ {W S P : Type 0} (left : S → List (ℕ × P)) (told : Option Told)
       (a : Asked P) (e : Ending) → slice_get s.desk.now.queue.items 0 ≡ Some a
       → UnderwayBut left told relations handles hand behind paid p s
       → IsStop told s.current a.block e
-      → IsNext (reader_of told) (MayBeUnread s.scope.was.value p)
+      → IsNext (reader_of s.scope.zero told) (MayBeUnread s.scope.was.value p)
       (entries_of s.scope.relation (left s.source_was.value)) s.given (SaidStop (said_of e))
       × IsBetween left told relations handles p (record s { step = step.Stop e })
   stopped_by p s hand behind paid a e first u is =
@@ -324,7 +327,7 @@ module _ {W S P : Type 0} (left : S → List (ℕ × P)) (told : Option Told)
   pub ended : (p : Known) (s : ReadStream W S P) (hand behind : List ℕ) (paid : ℕ)
       → s.desk.now.queue.items ≡ [] → left s.source ≡ []
       → UnderwayBut left told relations handles hand behind paid p s
-      → IsNext (reader_of told) (MayBeUnread s.scope.was.value p)
+      → IsNext (reader_of s.scope.zero told) (MayBeUnread s.scope.was.value p)
       (entries_of s.scope.relation (left s.source_was.value)) s.given
       (SaidStop (said_of ending.End))
       × IsBetween left told relations handles p (record s { step = step.Stop ending.End })
@@ -335,7 +338,7 @@ module _ {W S P : Type 0} (left : S → List (ℕ × P)) (told : Option Told)
       ∙ empty)) in
       let n = length-map (left s.source_was.value) (entry_of s.scope.relation) in
       let few = g.few in
-      let next = next-end (MayBeUnread s.scope.was.value p)
+      let next = next-end s.scope.zero (MayBeUnread s.scope.was.value p)
       (entries_of s.scope.relation (left s.source_was.value)) s.given told g.readable
       (omega arith) in
       (next, between_stopped p s hand behind paid ending.End u next tt)
@@ -344,22 +347,23 @@ module _ {W S P : Type 0} (left : S → List (ℕ × P)) (told : Option Told)
   next-shown : (p : Known) (s : ReadStream W S P) (a : Asked P) (pin : Option (Pin W))
       (o : Option Reading) (rest : List (ℕ × P))
       → drop s.given (left s.source_was.value) ≡ asked_of a ∷ rest
-      → IfSome (reader_of told) (λ f. s.given
+      → IfSome (reader_of s.scope.zero told) (λ f. s.given
       ≤ read_count f (entries_of s.scope.relation (left s.source_was.value)))
       → IfSome o (IsTakenIn s.scope told relations p)
       → IsShown told s.scope.relation pin o a.block
-      → IsNext (reader_of told) (MayBeUnread s.scope.was.value p)
+      → IsNext (reader_of s.scope.zero told) (MayBeUnread s.scope.was.value p)
       (entries_of s.scope.relation (left s.source_was.value)) s.given
-      (page_for s.scope.relation a.block a.per_buffer_data (page_at pin o a.block))
-      × IfSome (reader_of told) (λ f. s.given + 1
+      (page_for s.scope.relation a.block a.per_buffer_data (page_at pin o a.block)
+      (zeroed_at pin o a.block))
+      × IfSome (reader_of s.scope.zero told) (λ f. s.given + 1
       ≤ read_count f (entries_of s.scope.relation (left s.source_was.value)))
   next-shown p s a (Some pin) None rest here far taken is =
-      next-page (MayBeUnread s.scope.was.value p)
+      next-page s.scope.zero (MayBeUnread s.scope.was.value p)
       (entries_of s.scope.relation (left s.source_was.value)) s.given
       (entry_of s.scope.relation (asked_of a))
       (mapped-at (entry_of s.scope.relation) (left s.source_was.value) s.given (asked_of a)
       (here-at (left s.source_was.value) s.given (asked_of a) rest here))
-      told (pinned_page pin) far is.at_hand
+      told (pinned_page pin) false far (λ never. absurd (cc)) is.at_hand
   next-shown p s a None (Some io) rest here far taken is =
       page_is_next s.scope told relations (left s.source_was.value) s.given a.block
       a.per_buffer_data rest here far p io taken is.at_hand is.good
@@ -376,21 +380,22 @@ module _ {W S P : Type 0} (left : S → List (ℕ × P)) (told : Option Told)
         ≡ asked_of a ∷ (map asked_of (drop 1 s.desk.now.queue.items) ++ left s.source)
     here = left-of p s (hand_from s.current a.block) [] (paid_at s.current a.block) a first u.going
 
-    next : IsNext (reader_of told) (MayBeUnread s.scope.was.value p)
+    next : IsNext (reader_of s.scope.zero told) (MayBeUnread s.scope.was.value p)
         (entries_of s.scope.relation (left s.source_was.value)) s.given
-        (page_for s.scope.relation a.block a.per_buffer_data (page_at s.pin s.current a.block))
-        × IfSome (reader_of told) (λ f. s.given + 1
+        (page_for s.scope.relation a.block a.per_buffer_data (page_at s.pin s.current a.block)
+        (zeroed_at s.pin s.current a.block))
+        × IfSome (reader_of s.scope.zero told) (λ f. s.given + 1
         ≤ read_count f (entries_of s.scope.relation (left s.source_was.value)))
     next = next-shown p s a s.pin s.current
         (map asked_of (drop 1 s.desk.now.queue.items) ++ left s.source) here u.going.readable
         u.steady.current is
 
-    pub given_next : IsNext (reader_of told) (MayBeUnread s.scope.was.value p)
+    pub given_next : IsNext (reader_of s.scope.zero told) (MayBeUnread s.scope.was.value p)
         (entries_of s.scope.relation (left s.source_was.value)) s.given
         (said_by n.scope.relation n.step (shown n))
     given_next =
         let P' : Scope W → Option (Pin W) → Option Reading → Step P → Type 0 =
-        λ c pin o t. IsNext (reader_of told) (MayBeUnread s.scope.was.value p)
+        λ c pin o t. IsNext (reader_of s.scope.zero told) (MayBeUnread s.scope.was.value p)
         (entries_of s.scope.relation (left s.source_was.value)) s.given
         (said_by c.relation t (shown (record n { pin = pin; current = o; step = t }))) in
         subst (λ (z : Scope W). P' z n.pin n.current n.step) (sym k.keeps.scope)
@@ -483,12 +488,10 @@ module _ {W S P : Type 0} (left : S → List (ℕ × P)) (told : Option Told)
         let n-long = long in
         record {
           few = let y = k.given in omega arith;
-          readable = subst
-              (λ (z : List (Entry P)). IfSome (reader_of told) (λ r. n.given ≤ read_count r z))
-              (sym entries)
-              (subst (λ (z : ℕ). IfSome (reader_of told) (λ r. z
-              ≤ read_count r (entries_of s.scope.relation (left s.source_was.value))))
-              (sym k.given) next.1);
+          readable = reaches-then told s.scope.zero n.scope.zero (s.given + 1) n.given
+              (entries_of s.scope.relation (left s.source_was.value))
+              (entries_of n.scope.relation (left n.source_was.value))
+              (ap (λ (z : Scope W). z.zero) scope) k.given entries next.1;
           blocks = ap (λ (z : List (Asked P)). map asked_of z ++ left n.source) items
               ∙ (ap (λ z. map asked_of (drop 1 was) ++ left z) k.source
               ∙ (sym (rest-at (left s.source_was.value) s.given (asked_of a) more here)
@@ -545,7 +548,7 @@ module _ {W S P : Type 0} (left : S → List (ℕ × P)) (told : Option Told)
               (sym k.pin)
               (subst (λ (z : Option Reading). IsShown told s.scope.relation s.pin z a.block)
               (sym k.current) is)));
-          stopped = subst (λ (z : Step P). IfStopped z (λ e. IsNext (reader_of told)
+          stopped = subst (λ (z : Step P). IfStopped z (λ e. IsNext (reader_of n.scope.zero told)
               (MayBeUnread n.scope.was.value p)
               (entries_of n.scope.relation (left n.source_was.value)) n.given
               (SaidStop (said_of e)))) (sym k.step) tt;

@@ -2,11 +2,10 @@
 use Rattle.std.proofs.Common.{◌≡◌, ℕ, ◌+◌, ◌<◌, ◌≤◌, List, [], ◌∷◌, ◌++◌, length, map, drop}
 use Rattle.std.proofs.Common.{refl}
 use Rattle.std.proofs.Common.{ap, sym, subst, arith, ◌∙◌, true, append_assoc, length-append}
-use Rattle.std.specs.Prelude.{Option, Some, None, IfSome}
+use Rattle.std.specs.Prelude.{Option, Some, None}
 use Rattle.std.proofs.lemmas.List.{append-nil, length-map, map-append}
 use Rattle.std.proofs.lemmas.List.FromFn.{length-range_with_len}
 use Rattle.page_check.specs.Told.{Told}
-use Rattle.page_check.specs.SynchronousAnswer.{Entry, read_count, reader_of}
 use Rattle.aio_word.specs.declared.Known.{Known}
 use Rattle.aio_word.specs.declared.WaitRef.{WaitRef}
 use Rattle.aio_word.specs.Stands.{IsIn}
@@ -29,6 +28,7 @@ use Rattle.read_stream.specs.Open.{IsWant, asked_of, block_of, blocks_by, blocks
 use Rattle.read_stream.specs.Open.{runs_in}
 use Rattle.read_stream.specs.Open.{count_some, pending_in, rest_of}
 use Rattle.read_stream.specs.Went.{Went}
+use Rattle.read_stream.proofs.Nexts.{reaches-then}
 use Rattle.read_stream.proofs.Flown.{are-for-later}
 use Rattle.read_stream.proofs.Going.{went_nothing}
 use Rattle.read_stream.proofs.Lists.{each-pushed}
@@ -393,12 +393,10 @@ module _ {W S P : Type 0} (left : S → List (ℕ × P)) (told : Option Told)
             (let z = u.steady.all in omega arith);
         going = record {
           few = let z = g.few in let y = e.given in omega arith;
-          readable = subst
-              (λ (z : List (Entry P)). IfSome (reader_of told) (λ r. n.given ≤ read_count r z))
-              (sym entries)
-              (subst (λ (z : ℕ). IfSome (reader_of told) (λ r. z
-              ≤ read_count r (entries_of s.scope.relation (left s.source_was.value))))
-              (sym e.given) g.readable);
+          readable = reaches-then told s.scope.zero n.scope.zero s.given n.given
+              (entries_of s.scope.relation (left s.source_was.value))
+              (entries_of n.scope.relation (left n.source_was.value))
+              (ap (λ (z : Scope W). z.zero) scope) e.given entries g.readable;
           blocks = asked
               ∙ (g.blocks
               ∙ (ap (λ (z : ℕ). drop z (left s.source_was.value)) (sym e.given)
@@ -452,6 +450,7 @@ module _ {W S P : Type 0} (left : S → List (ℕ × P)) (told : Option Told)
           place = v.place;
           settings = v.settings;
           scope = v.scope;
+          zero = v.zero;
           queue = v.queue;
           wants = v.wants;
           short = v.short;
@@ -509,6 +508,7 @@ module _ {W S P : Type 0} (left : S → List (ℕ × P)) (told : Option Told)
           place = v.place;
           settings = v.settings;
           scope = v.scope;
+          zero = v.zero;
           queue = v.queue;
           wants = v.wants;
           short = v.short;

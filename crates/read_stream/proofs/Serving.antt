@@ -114,6 +114,7 @@ queue_then a b d x y = record {
       y.same.settings.3 ∙ x.same.settings.3,
       y.same.settings.4 ∙ x.same.settings.4,
       y.same.settings.5 ∙ x.same.settings.5,
+      y.same.settings.6 ∙ x.same.settings.6,
     );
     queue = y.same.queue ∙ x.same.queue;
     wants = y.same.wants ∙ x.same.wants;
@@ -139,7 +140,7 @@ popped s queue pl e = record {
   same = record {
     scope = refl;
     source_was = refl;
-    settings = (refl, refl, refl, refl, refl, refl);
+    settings = (refl, refl, refl, refl, refl, refl, refl);
     queue = refl;
     wants = refl;
   };
@@ -163,7 +164,7 @@ taken_out s io = record {
   same = record {
     scope = refl;
     source_was = refl;
-    settings = (refl, refl, refl, refl, refl, refl);
+    settings = (refl, refl, refl, refl, refl, refl, refl);
     queue = refl;
     wants = refl;
   };
@@ -199,6 +200,7 @@ module _ {W S P : Type 0} (left : S → List (ℕ × P)) (told : Option Told)
               place = v.place;
               settings = v.settings;
               scope = v.scope;
+              zero = v.zero;
               queue = v.queue;
               wants = v.wants;
               short = v.short;
@@ -244,6 +246,7 @@ module _ {W S P : Type 0} (left : S → List (ℕ × P)) (told : Option Told)
             place = v.place;
             settings = v.settings;
             scope = v.scope;
+            zero = v.zero;
             queue = v.queue;
             wants = v.wants;
             short = v.short;

@@ -232,7 +232,7 @@ module _ {W : Type 0} (c : Scope W) (told : Option Told) (relations : ℕ) where
 
 -- a record that was aimed, and then bound
 pub aimed-as : {W : Type 0} (c : Scope W) (io x y : Reading) (first count : ℕ)
-    → x ≡ aimed_at c.relation first count stream_ids io → length io.pages ≡ c.combine
+    → x ≡ aimed_at c.relation first count (stream_ids c.zero) io → length io.pages ≡ c.combine
     → aim_in y ≡ aim_in x → IsAimed c y × (y.first ≡ first) × (y.count ≡ count)
 aimed-as c io x y first count is room same =
     let r : ReadsAs y x = reads-as y x same in (

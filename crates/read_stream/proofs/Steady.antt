@@ -4,7 +4,6 @@ use Rattle.std.proofs.Common.{refl}
 use Rattle.std.proofs.Common.{subst, arith, ◌∙◌}
 use Rattle.std.specs.Prelude.{Option, Some, None, IfSome}
 use Rattle.page_check.specs.Told.{Told}
-use Rattle.page_check.specs.SynchronousAnswer.{Entry, read_count, reader_of}
 use Rattle.aio_word.specs.declared.Known.{Known}
 use Rattle.aio_word.specs.Stands.{IsIn}
 use Rattle.aio_callback.specs.Reading.{Reading}
@@ -20,6 +19,7 @@ use Rattle.read_stream.specs.Open.{IsSameDesk, IsSteady, IsGoing, IsWant, Keeps,
 use Rattle.read_stream.specs.Open.{Stays, asked_of, block_of, blocks_in, runs_in, pending_in}
 use Rattle.read_stream.specs.Open.{count_some}
 use Rattle.read_stream.specs.Went.{Went}
+use Rattle.read_stream.proofs.Nexts.{reaches-then}
 use Rattle.read_stream.proofs.Submitted.{taken-grown}
 
 -- the same stream over the same desk
@@ -78,7 +78,15 @@ keeps_then a b d x y = record {
 
 desk-then : {W S P : Type 0} (a b d : ReadStream W S P) → IsSameDesk a.desk.now b.desk.now
     → IsSameDesk b.desk.now d.desk.now → IsSameDesk a.desk.now d.desk.now
-desk-then a b d x y = (y.0 ∙ x.0, y.1 ∙ x.1, y.2 ∙ x.2, y.3 ∙ x.3, y.4 ∙ x.4, y.5 ∙ x.5)
+desk-then a b d x y = (
+  y.0 ∙ x.0,
+  y.1 ∙ x.1,
+  y.2 ∙ x.2,
+  y.3 ∙ x.3,
+  y.4 ∙ x.4,
+  y.5 ∙ x.5,
+  y.6 ∙ x.6,
+)
 
 pub keeps_same : {W S P : Type 0} (s : ReadStream W S P) → Keeps s s
 keeps_same s = record { desk = refl; scope = refl; source_was = refl }
@@ -86,7 +94,7 @@ keeps_same s = record { desk = refl; scope = refl; source_was = refl }
 pub stays_same : {W S P : Type 0} (s : ReadStream W S P) → Stays s s
 stays_same s = record {
   keeps = keeps_same s;
-  settings = (refl, refl, refl, refl, refl, refl);
+  settings = (refl, refl, refl, refl, refl, refl, refl);
   pin = refl;
   current = refl;
   step = refl;
@@ -96,7 +104,7 @@ stays_same s = record {
 pub moves_same : {W S P : Type 0} (s : ReadStream W S P) → Moves s s
 moves_same s = record {
   keeps = keeps_same s;
-  settings = (refl, refl, refl, refl, refl, refl);
+  settings = (refl, refl, refl, refl, refl, refl, refl);
   source = refl;
   over = refl;
   queue = refl;
@@ -180,6 +188,7 @@ module _ {W S P : Type 0} (left : S → List (ℕ × P)) (told : Option Told)
             room ∙ (u.scope.0 ∙ sym d.0),
             (let z = u.scope.1 in let y = d.1 in omega arith),
           );
+          zero = ap (λ (z : Scope W). z.zero) e.scope ∙ (u.zero ∙ sym d.6);
           queue = let z = u.queue in let y = d.2 in let x = e.queue in omega arith;
           wants = let z = u.wants in let y = d.2 in let x = e.wants in omega arith;
           short = let z = u.short in omega arith;
@@ -223,12 +232,10 @@ module _ {W S P : Type 0} (left : S → List (ℕ × P)) (told : Option Told)
         ∙ ap (λ (z : List (ℕ × P)). entries_of s.scope.relation z) list in
         record {
           few = let z = g.few in let y = e.given in omega arith;
-          readable = subst
-              (λ (z : List (Entry P)). IfSome (reader_of told) (λ r. n.given ≤ read_count r z))
-              (sym entries)
-              (subst (λ (z : ℕ). IfSome (reader_of told) (λ r. z
-              ≤ read_count r (entries_of s.scope.relation (left s.source_was.value))))
-              (sym e.given) g.readable);
+          readable = reaches-then told s.scope.zero n.scope.zero s.given n.given
+              (entries_of s.scope.relation (left s.source_was.value))
+              (entries_of n.scope.relation (left n.source_was.value))
+              (ap (λ (z : Scope W). z.zero) f.scope) e.given entries g.readable;
           blocks = ap (λ (z : List (Asked P)). map asked_of z ++ left n.source) e.queue
               ∙ (ap (λ (z : List (ℕ × P)). map asked_of s.desk.now.queue.items ++ z) same-left
               ∙ (g.blocks

@@ -1,5 +1,5 @@
 -- What a stream answers, in the words of synchronous reads.
-use Rattle.std.specs.Prelude.{◌≡◌, ℕ, List, map, ⊤}
+use Rattle.std.specs.Prelude.{◌≡◌, ℕ, Bool, true, false, List, map, ⊤}
 use Rattle.page_check.specs.SynchronousAnswer.{Entry, Ending as SaidEnding}
 use Rattle.page_check.specs.SynchronousAnswer.{End as SaidEnd, Invalid as SaidInvalid}
 use Rattle.page_check.specs.SynchronousAnswer.{PastEnd as SaidPastEnd, Unread as SaidUnread}
@@ -50,16 +50,18 @@ module _ {P : Type 0} where
   abbrev pub MayBeUnread : Standing → Known → Entry P → Type 0
   MayBeUnread was now e = (io : Reading) × IsFailedRead was now e.relation e.block io
 
-  -- the page that was given for the block
-  abbrev pub page_for : ℕ → ℕ → P → List ℕ → Said P
-  page_for relation block info page = SaidPage (record {
+  -- the page that was given for the block, and whether it was zeroed
+  abbrev pub page_for : ℕ → ℕ → P → List ℕ → Bool → Said P
+  page_for relation block info page zeroed = SaidPage (record {
     entry = entry_of relation (block, info);
     page = page;
+    zeroed = zeroed;
   })
 
   -- the answer, in the words of synchronous reads
   abbrev pub said : ℕ → Next P → Said P
-  said relation (next.Page page block info) = page_for relation block info.now page.now
+  said relation (next.Page page block info) = page_for relation block info.now page.now false
+  said relation (next.Zeroed page block info) = page_for relation block info.now page.now true
   said relation next.End = SaidStop SaidEnd
   said relation (next.Invalid block) = SaidStop (SaidInvalid block)
   said relation (next.Unread block) = SaidStop (SaidUnread block)
@@ -70,10 +72,15 @@ module _ {P : Type 0} where
   pages_in (SaidPage given) = 1
   pages_in (SaidStop end) = 0
 
-  -- what the stream's last step says, where it shows this page
-  abbrev pub said_by : ℕ → Step P → List ℕ → Said P
+  -- this holds where the answer gives a page that was zeroed
+  abbrev pub IfZeroed : Said P → Type 0 → Type 0
+  IfZeroed (SaidPage given) holds = given.zeroed ≡ true → holds
+  IfZeroed (SaidStop end) holds = ⊤
+
+  -- what the stream's last step says, where it shows this page, zeroed or not
+  abbrev pub said_by : ℕ → Step P → List ℕ × Bool → Said P
   said_by relation step.Start page = SaidStop SaidEnd
-  said_by relation (step.Page block info) page = page_for relation block info page
+  said_by relation (step.Page block info) page = page_for relation block info page.0 page.1
   said_by relation (step.Stop end) page = SaidStop (said_of end)
 
   -- the stream has answered by an ending already, and this is what holds of it

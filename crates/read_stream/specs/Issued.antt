@@ -51,7 +51,7 @@ module _ {W : Type 0} (c : Scope W) where
 
   -- the record is aimed at some blocks of the relation, with a stream's callbacks
   pub record IsAimed (r : Reading) : Type 0 where
-    pub ids : r.ids ≡ stream_ids
+    pub ids : r.ids ≡ stream_ids c.zero
     pub relation : r.relation ≡ c.relation
     pub room : length r.pages ≡ c.combine
 

@@ -2,7 +2,7 @@
 use Rattle.circular_buffer.specs.Buffer.{buffer}
 use Rattle.std.specs.Prelude.{◌≡◌, ℕ, ◌+◌, ◌-◌, ◌^◌, ◌<◌, ◌≤◌, ◌++◌, List, [], ◌∷◌, length, map}
 use Rattle.std.specs.Prelude.{drop}
-use Rattle.std.specs.Prelude.{true, Option, Some, None, IfSome, ⊤}
+use Rattle.std.specs.Prelude.{Bool, true, false, Option, Some, None, IfSome, ⊤}
 use Rattle.std.specs.List.{range_with_len, flat_map}
 use Rattle.page_check.specs.Told.{Told}
 use Rattle.page_check.specs.SynchronousAnswer.{Entry, read_count, reader_of}
@@ -10,7 +10,7 @@ use Rattle.page_check.specs.IsAnswer.{Next as Said, Stop as SaidStop, IsNext}
 use Rattle.aio_word.specs.declared.Known.{Known}
 use Rattle.aio_word.specs.Stands.{IsIn}
 use Rattle.aio_handle.specs.Shown.{Standing, IsSame}
-use Rattle.aio_callback.specs.Reading.{Reading, page_in}
+use Rattle.aio_callback.specs.Reading.{Reading, page_in, zeroed_in}
 use Rattle.aio_callback.specs.Good.{IsGood}
 use Rattle.buf_pool.specs.Found.{pinned_page}
 use Rattle.buf_pool.specs.declared.pin.Pin.{Pin}
@@ -51,6 +51,7 @@ pub record IsFree {W P : Type 0} (d : Desk W P) : Type 0 where
 abbrev pub IsSameDesk : {W P : Type 0} → Desk W P → Desk W P → Type 0
 IsSameDesk d e = (e.combine ≡ d.combine) × (e.ios ≡ d.ios) × (e.limit ≡ d.limit)
     × (e.full ≡ d.full) × (e.batched ≡ d.batched) × (e.segment ≡ d.segment)
+    × (e.zero ≡ d.zero)
 
 -- a started run is one, and the reference of a join is in range
 abbrev pub IsWant : ℕ → ℕ → Want → Type 0
@@ -102,11 +103,17 @@ page_at (Some pin) io block = pinned_page pin
 page_at None (Some io) block = page_in io (block - io.first)
 page_at None None block = []
 
--- the page that a step shows
-abbrev pub shown_by : {W P : Type 0} → Option (Pin W) → Option Reading → Step P → List ℕ
-shown_by pin io (step.Page block info) = page_at pin io block
-shown_by pin io step.Start = []
-shown_by pin io (step.Stop end) = []
+-- whether the page of the block was zeroed in the record: one of the pool never is
+abbrev pub zeroed_at : {W : Type 0} → Option (Pin W) → Option Reading → ℕ → Bool
+zeroed_at (Some pin) io block = false
+zeroed_at None (Some io) block = zeroed_in io (block - io.first)
+zeroed_at None None block = false
+
+-- the page that a step shows, and whether it was zeroed
+abbrev pub shown_by : {W P : Type 0} → Option (Pin W) → Option Reading → Step P → List ℕ × Bool
+shown_by pin io (step.Page block info) = (page_at pin io block, zeroed_at pin io block)
+shown_by pin io step.Start = ([], false)
+shown_by pin io (step.Stop end) = ([], false)
 
 -- the block's page lies under the pin, or the record was to read the block
 abbrev pub IsAtHand : {W : Type 0} → Option Told → ℕ → Option (Pin W) → Option Reading → ℕ → Type 0
@@ -115,7 +122,7 @@ IsAtHand told relation (Some pin) (Some io) block = ⊥
 IsAtHand told relation None (Some io) block = Has io block
 IsAtHand told relation None None block = ⊥
 
--- and where it is the record, its page of the block is good
+-- and where it is the record, its page of the block may be given
 pub record IsShown {W : Type 0} (told : Option Told) (relation : ℕ) (pin : Option (Pin W))
     (io : Option Reading) (block : ℕ) : Type 0 where
   pub at_hand : IsAtHand told relation pin io block
@@ -166,7 +173,7 @@ IfUnread (ending.Unread block) holds = holds block
 IfUnread (ending.PastEnd block) holds = ⊤
 
 module _ {W S P : Type 0} where
-  abbrev pub shown : ReadStream W S P → List ℕ
+  abbrev pub shown : ReadStream W S P → List ℕ × Bool
   shown s = shown_by s.pin s.current s.step
 
 module _ {W S P : Type 0} (left : S → List (ℕ × P)) (told : Option Told)
@@ -184,6 +191,7 @@ module _ {W S P : Type 0} (left : S → List (ℕ × P)) (told : Option Told)
     pub settings : AreSettings s.desk.now.combine s.desk.now.ios s.desk.now.limit
         s.desk.now.segment
     pub scope : (s.scope.combine ≡ s.desk.now.combine) × (s.scope.total ≡ s.desk.now.ios + 1)
+    pub zero : s.scope.zero ≡ s.desk.now.zero
     pub queue : s.desk.now.limit ≤ s.desk.now.queue.capacity
     pub wants : s.desk.now.limit ≤ s.desk.now.wants.capacity
     pub short : length (list_of s) ≤ s.scope.most
@@ -198,7 +206,8 @@ module _ {W S P : Type 0} (left : S → List (ℕ × P)) (told : Option Told)
   pub record IsGoing (hand behind : List ℕ) (paid : ℕ) (p : Known) (s : ReadStream W S P)
       : Type 0 where
     pub few : s.given ≤ length (list_of s)
-    pub readable : IfSome (reader_of told) (λ f. s.given ≤ read_count f (asked_for s))
+    pub readable : IfSome (reader_of s.scope.zero told)
+        (λ f. s.given ≤ read_count f (asked_for s))
     pub blocks : map asked_of s.desk.now.queue.items ++ left s.source ≡ drop s.given (list_of s)
     pub over : s.over ≡ true → left s.source ≡ []
     pub front : map block_of s.desk.now.queue.items
@@ -225,7 +234,7 @@ module _ {W S P : Type 0} (left : S → List (ℕ × P)) (told : Option Told)
     pub made : made_in s.desk.now.reads ≤ length (list_of s)
     pub going : IfGoing s.step (IsGoing (rest_of s.current s.step) [] 0 p s)
     pub lent : IsLent told s.scope.relation s.pin s.current s.step
-    pub stopped : IfStopped s.step (λ e. IsNext (reader_of told)
+    pub stopped : IfStopped s.step (λ e. IsNext (reader_of s.scope.zero told)
         (MayBeUnread s.scope.was.value p) (asked_for s) s.given (SaidStop (said_of e)))
     pub kept : IfStopped s.step (λ e. IfUnread e (λ b. IfSome s.current
         (IsFailedRead s.scope.was.value p s.scope.relation b)))
@@ -243,6 +252,7 @@ module _ {W S P : Type 0} (left : S → List (ℕ × P)) (told : Option Told)
     pub actor_was : new.scope.was.value ≡ old.scope.was.value
     pub actor_is : new.actor_is.value ≡ actor
     pub relation : new.scope.relation ≡ old.scope.relation
+    pub zero : new.scope.zero ≡ old.scope.zero
     pub given : new.given ≡ old.given + pages_in answer
     pub found : answer ≡ said_by new.scope.relation new.step (shown new)
     pub is_open : IsOpen new

@@ -1,10 +1,11 @@
 -- What a record that was taken in has for one of its blocks.
-use Rattle.std.specs.Prelude.{◌≡◌, ℕ, ◌-◌, ◌<◌, ◌≤◌, Option, IfSome}
+use Rattle.std.specs.Prelude.{◌≡◌, ℕ, ◌-◌, ◌<◌, ◌≤◌, true, false, Option, IfSome}
 use Rattle.page_check.specs.Told.{Told}
 use Rattle.page_check.specs.SynchronousAnswer.{Damaged, Absent, found_at}
 use Rattle.aio_word.specs.declared.Class.TheVariants.{Failed}
+use Rattle.aio_callback.specs.Cases.{stream_ids}
 use Rattle.aio_callback.specs.Chain.{good_of}
-use Rattle.aio_callback.specs.Reading.{Reading}
+use Rattle.aio_callback.specs.Reading.{Reading, zeroed_in}
 use Rattle.read_stream.specs.declared.answer.Ending.TheVariants as ending
 use Rattle.read_stream.specs.declared.parts.Part.{Part}
 use Rattle.read_stream.specs.declared.parts.Part.TheVariants as part
@@ -13,12 +14,15 @@ use Rattle.read_stream.specs.declared.parts.Part.TheVariants as part
 abbrev pub Has : Reading → ℕ → Type 0
 Has io block = (io.first ≤ block) × (block - io.first < io.count)
 
+-- a page was zeroed, and is not what stops the stream, only where damaged pages are zeroed
 abbrev pub IsPart : Option Told → Reading → ℕ → Part → Type 0
-IsPart told io block part.Page = block - io.first < good_of io.ids io.result
+IsPart told io block part.Page = (block - io.first < good_of io.ids io.result)
+    × (zeroed_in io (block - io.first) ≡ true → io.ids ≡ stream_ids true)
 IsPart told io block part.Rest = io.first < block
 IsPart told io block (part.Stop ending.End) = ⊥
 IsPart told io block (part.Stop (ending.Invalid b)) =
-    (b ≡ block) × IfSome told (λ t. found_at t io.relation block ≡ Damaged)
+    (b ≡ block) × (io.ids ≡ stream_ids false)
+    × IfSome told (λ t. found_at t io.relation block ≡ Damaged)
 IsPart told io block (part.Stop (ending.Unread b)) =
     (b ≡ block) × (io.first ≡ block) × (io.label.ended ≡ Failed)
 IsPart told io block (part.Stop (ending.PastEnd b)) =

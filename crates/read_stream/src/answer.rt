@@ -7,6 +7,8 @@ use page_check::Page;
 pub enum Next<'s, P> {
     /// The page of the block, and the data that the source gave with it.
     Page(&'s Page, u32, &'s P),
+    /// The same of a page that is not valid and was set to zeros.
+    Zeroed(&'s Page, u32, &'s P),
     /// The source has no further block.
     End,
     /// The page of this block is not valid.

@@ -32,6 +32,8 @@ pub struct Settings {
     pub batch: bool,
     /// The segment size in blocks (`RELSEG_SIZE`), at least 1: no read crosses a multiple of it.
     pub segment: u32,
+    /// Whether damaged pages are given as zeros (`zero_damaged_pages`).
+    pub zero: bool,
 }
 
 /// The memory of one stream after the other: records, the queue and the batch.
@@ -43,6 +45,7 @@ pub struct Desk<W: World, P: Copy> {
     pub(crate) full: bool,
     pub(crate) batched: bool,
     pub(crate) segment: u32,
+    pub(crate) zero: bool,
     // The blocks that were taken from the source and not given.
     pub(crate) queue: HeapCircularBuffer<Asked<P>>,
     // How they are to be had, but for those at hand and those of the pending run.
@@ -60,7 +63,7 @@ impl<W: World, P: Copy> Desk<W, P> {
         ensures settings { IfOk result (λ d. (d.combine ≡ settings.now.combine)
             × (d.ios ≡ settings.now.ios) × (d.limit ≡ settings.now.limit)
             × (d.full ≡ settings.now.full) × (d.batched ≡ settings.now.batch)
-            × (d.segment ≡ settings.now.segment)) }
+            × (d.segment ≡ settings.now.segment) × (d.zero ≡ settings.now.zero)) }
     {
         Ok(Desk {
             combine: settings.combine,
@@ -69,6 +72,7 @@ impl<W: World, P: Copy> Desk<W, P> {
             full: settings.full,
             batched: settings.batch,
             segment: settings.segment,
+            zero: settings.zero,
             queue: HeapCircularBuffer::with_capacity(alloc, settings.limit as usize)?,
             wants: HeapCircularBuffer::with_capacity(alloc, settings.limit as usize)?,
             reads: Reads::make(alloc, settings.ios + 1, settings.combine)?,

@@ -29,8 +29,18 @@ use std::sync::Wait;
 /// How many staged I/Os a batch has room for.
 const MOST_STAGED: usize = 32;
 
-/// The callbacks of a stream's reads. They run from the last to the first.
-const IDS: [CallbackId; 3] = [CallbackId::Count, CallbackId::Buffer, CallbackId::File];
+/// The callbacks of a stream's reads, with damaged pages zeroed or not. They run from the last to
+/// the first.
+fn callbacks(zero: bool) -> [CallbackId; 3]
+    ensures { result ≡ stream_ids zero }
+{
+    let check = if zero {
+        CallbackId::ZeroBuffer
+    } else {
+        CallbackId::Buffer
+    };
+    [CallbackId::Count, check, CallbackId::File]
+}
 
 /// Tells the pool that the blocks of the run are read by the I/O of the reference. A block that it
 /// does not take is read all the same.
@@ -54,13 +64,13 @@ fn begin_blocks<W: World, T: Wait>(
 }
 
 /// The record, aimed at the run.
-fn aimed(mut io: ReadIo, relation: u32, run: Run) -> ReadIo
+fn aimed(mut io: ReadIo, relation: u32, run: Run, zero: bool) -> ReadIo
     requires some { 1 ≤ run.count }
     requires room { run.count ≤ length io.pages }
     requires top { run.first + run.count ≤ 2 ^ 32 }
-    ensures { result ≡ aimed_at relation run.first run.count stream_ids io }
+    ensures { result ≡ aimed_at relation run.first run.count (stream_ids zero) io }
 {
-    match io.aim(relation, run.first, run.count, &IDS) {
+    match io.aim(relation, run.first, run.count, &callbacks(zero)) {
         Ok(()) => io,
         Err(_) => unreachable!(),
     }
@@ -210,7 +220,7 @@ impl<W: World> Reads<W> {
     {
         self.credit -= 1;
         let token = self.acquire(rt, scope, table, actor, method, runner);
-        let io = aimed(io, scope.relation, run);
+        let io = aimed(io, scope.relation, run, scope.zero);
         let token = table.define(actor, token, io);
         begin_blocks(rt, pool, scope.relation, run, token.reference());
         table.stage(actor, token)

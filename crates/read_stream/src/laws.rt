@@ -4,7 +4,7 @@ ghost use Rattle.page_check.specs.Told.{Told};
 ghost use Rattle.page_check.specs.SynchronousAnswer.{read_count, reader_of};
 ghost use Rattle.page_check.specs.IsAnswer.{IsNext, Stop as SaidStop};
 ghost use Rattle.aio_word.specs.declared.Known.{Known};
-ghost use Rattle.aio_callback.specs.Reading.{Reading, page_in};
+ghost use Rattle.aio_callback.specs.Reading.{Reading, page_in, zeroed_in};
 ghost use Rattle.read_stream.specs.declared.answer.Ending.{Ending};
 ghost use Rattle.read_stream.specs.declared.parts.Part.TheVariants.{Page, Stop};
 ghost use Rattle.read_stream.specs.declared.scope.Scope.{Scope};
@@ -19,16 +19,18 @@ use page_check::World;
 pub(crate) fn parts_are_answers<W: World, P: Copy>()
     ensures page { (c : Scope W) (told : Option Told) (relations : ℕ) (list : List (ℕ × P))
         (k b : ℕ) (info : P) (rest : List (ℕ × P)) → drop k list ≡ (b, info) ∷ rest
-        → IfSome (reader_of told) (λ f. k ≤ read_count f (entries_of c.relation list)) → (p : Known)
-        (io : Reading) → IsTakenIn c told relations p io → Has io b → IsPart told io b Page
-        → IsNext (reader_of told) (MayBeUnread c.was.value p) (entries_of c.relation list) k
-        (page_for c.relation b info (page_in io (b - io.first)))
-        × IfSome (reader_of told) (λ f. k + 1 ≤ read_count f (entries_of c.relation list)) }
+        → IfSome (reader_of c.zero told) (λ f. k ≤ read_count f (entries_of c.relation list))
+        → (p : Known) (io : Reading) → IsTakenIn c told relations p io → Has io b
+        → IsPart told io b Page
+        → IsNext (reader_of c.zero told) (MayBeUnread c.was.value p) (entries_of c.relation list) k
+        (page_for c.relation b info (page_in io (b - io.first)) (zeroed_in io (b - io.first)))
+        × IfSome (reader_of c.zero told)
+        (λ f. k + 1 ≤ read_count f (entries_of c.relation list)) }
     ensures stop { (c : Scope W) (told : Option Told) (relations : ℕ) (list : List (ℕ × P))
         (k b : ℕ) (info : P) (rest : List (ℕ × P)) → drop k list ≡ (b, info) ∷ rest
-        → IfSome (reader_of told) (λ f. k ≤ read_count f (entries_of c.relation list)) → (p : Known)
-        (io : Reading) → IsTakenIn c told relations p io → Has io b → (end : Ending)
+        → IfSome (reader_of c.zero told) (λ f. k ≤ read_count f (entries_of c.relation list))
+        → (p : Known) (io : Reading) → IsTakenIn c told relations p io → Has io b → (end : Ending)
         → IsPart told io b (Stop end)
-        → IsNext (reader_of told) (MayBeUnread c.was.value p) (entries_of c.relation list) k
+        → IsNext (reader_of c.zero told) (MayBeUnread c.was.value p) (entries_of c.relation list) k
         (SaidStop (said_of end)) }
 {}

@@ -1,5 +1,5 @@
 //! What a record that was taken in has for one of its blocks.
-ghost use Rattle.std.specs.Prelude.{◌≡◌, ◌≢◌, ◌<◌, ◌-◌};
+ghost use Rattle.std.specs.Prelude.{◌≡◌, ◌≢◌, ◌<◌, ◌-◌, Bool};
 ghost use Rattle.aio_word.specs.declared.Class.TheVariants.{Unended};
 ghost use Rattle.aio_callback.specs.Cases.{stream_ids};
 ghost use Rattle.aio_callback.specs.Reading.{Fits};
@@ -13,7 +13,7 @@ use page_check::World;
 /// What a record has for a block.
 #[derive(Clone, Copy)]
 pub enum Part {
-    /// Its page, which is good.
+    /// Its page, or zeros in its place.
     Page,
     /// Nothing: the read ended before it.
     Rest,
@@ -25,11 +25,11 @@ pub enum Part {
 pub(crate) fn part_of<W: World>(io: &ReadIo, block: u32) -> Part
     requires fits { Fits W.told W.relations io.now }
     requires ended { io.now.label.ended ≢ Unended }
-    requires ids { io.now.ids ≡ stream_ids }
+    requires ids { (zero : Bool) × (io.now.ids ≡ stream_ids zero) }
     requires has { Has io.now block }
     ensures { IsPart W.told io.now block result }
 {
-    laws::stream_records_end_in_five_ways();
+    laws::stream_records_end_in_six_ways();
     let index = block - io.first();
     let good = io.good();
     if index < good {

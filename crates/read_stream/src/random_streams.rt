@@ -2,7 +2,7 @@
 ghost use Rattle.std.specs.Prelude.{◌<◌, ◌≤◌};
 
 use crate::Settings;
-use crate::trials::{Answer, Plan, Shelved, file_of, run};
+use crate::trials::{Answer, Plan, Shelved, file_of, run, zeros};
 use std::alloc::Global;
 use std::process::Abort;
 use std::sync::Wait;
@@ -50,6 +50,7 @@ impl Numbers {
             full: self.flag(),
             batch: self.flag(),
             segment: self.segment(),
+            zero: self.flag(),
         }
     }
 
@@ -90,11 +91,12 @@ impl Numbers {
     }
 }
 
-/// What a reader answers that reads one block after the other.
+/// What a reader answers that reads one block after the other, with a bad page zeroed or not.
 fn slow(
     alloc: Global,
     blocks: u32,
     bad: Option<u32>,
+    zero: bool,
     list: &[(u32, u32)],
     calls: u32,
 ) -> Result<Vec<Answer>, Fail> {
@@ -104,14 +106,16 @@ fn slow(
         if stop.is_none() {
             if *block >= blocks {
                 stop = Some(Answer::PastEnd(*block));
-            } else if bad == Some(*block) {
-                stop = Some(Answer::Invalid(*block));
-            } else {
+            } else if bad != Some(*block) {
                 all.push(Answer::Page {
                     block: *block,
                     info: *info,
                     shown: *block,
                 })?;
+            } else if zero {
+                all.push(zeros(*block, *info))?;
+            } else {
+                stop = Some(Answer::Invalid(*block));
             }
         }
     }
@@ -175,7 +179,8 @@ fn compare<R: Abort + AllocGlobal + Wait>(rt: &R, seed: u64) -> Result<u32, Fail
         let limit = blocks + numbers.below(2);
         let list = numbers.list(alloc, 24, limit)?;
         let calls = list.len().min(100) as u32 + 2;
-        let expected = slow(alloc, blocks, bad, list.as_slice(), calls)?;
+        let settings = numbers.settings();
+        let expected = slow(alloc, blocks, bad, settings.zero, list.as_slice(), calls)?;
         let shelved = Shelved {
             files: file_of(alloc, blocks, bad)?,
             fail_reads: numbers.fault(alloc)?,
@@ -186,7 +191,7 @@ fn compare<R: Abort + AllocGlobal + Wait>(rt: &R, seed: u64) -> Result<u32, Fail
         let plan = Plan {
             handles: 1 + numbers.below(4),
             frames: 16,
-            settings: numbers.settings(),
+            settings,
             calls,
             other: numbers.below(8) == 0,
         };

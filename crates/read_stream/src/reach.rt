@@ -506,7 +506,8 @@ impl<'d, 'p, W: World, S: BlockSource<P> + Drop, P: Copy> ReadStream<'d, 'p, W, 
     fn part(&self, block: u32) -> Part
         requires some { self.now.current ≢ None }
         requires fits { IfSome self.now.current (λ io. Fits W.told W.relations io
-            × (io.label.ended ≢ Unended) × (io.ids ≡ stream_ids) × Has io block) }
+            × (io.label.ended ≢ Unended) × (io.ids ≡ stream_ids self.now.scope.zero)
+            × Has io block) }
         ensures { IfSome self.now.current (λ io. IsPart W.told io block result) }
     {
         match &self.current {
@@ -519,7 +520,8 @@ impl<'d, 'p, W: World, S: BlockSource<P> + Drop, P: Copy> ReadStream<'d, 'p, W, 
     fn part_of_rest(&self, block: u32) -> Option<Ending>
         requires some { self.now.current ≢ None }
         requires fits { IfSome self.now.current (λ io. Fits W.told W.relations io
-            × (io.label.ended ≢ Unended) × (io.ids ≡ stream_ids) × Has io block) }
+            × (io.label.ended ≢ Unended) × (io.ids ≡ stream_ids self.now.scope.zero)
+            × Has io block) }
         requires first { IfSome self.now.current (λ io. io.first ≡ block) }
         ensures page { IfNone result
             (IfSome self.now.current (λ io. IsPart W.told io block Page)) }

@@ -46,7 +46,7 @@ impl<'d, 'p, W: World, S: BlockSource<P> + Drop, P: Copy> ReadStream<'d, 'p, W, 
         ensures went { Went actor.old.known actor.new.known (E.reads runner.old)
             (E.reads runner.new) (E.faults runner.old) (E.faults runner.new) }
         ensures stands_on { M.stands_on method.new ≡ M.stands_on method.old }
-        ensures answer { IsNext (reader_of W.told)
+        ensures answer { IsNext (reader_of self.old.scope.zero W.told)
             (MayBeUnread self.old.scope.was.value actor.new.known)
             (entries_of self.old.scope.relation (S.left self.old.source_was.value)) self.old.given
             (said_by self.new.scope.relation self.new.step (shown self.new)) }
@@ -178,7 +178,7 @@ impl<'d, 'p, W: World, S: BlockSource<P> + Drop, P: Copy> ReadStream<'d, 'p, W, 
         ensures stands_on { M.stands_on method.new ≡ M.stands_on method.old }
         ensures between { IsBetween S.left W.told W.relations W.handles actor.new.known self.new }
         ensures keeps { Keeps self.old self.new }
-        ensures answer { IsNext (reader_of W.told)
+        ensures answer { IsNext (reader_of self.old.scope.zero W.told)
             (MayBeUnread self.old.scope.was.value actor.new.known)
             (entries_of self.old.scope.relation (S.left self.old.source_was.value)) self.old.given
             (said_by self.new.scope.relation self.new.step (shown self.new)) }

@@ -7,10 +7,10 @@ ghost use Rattle.aio_handle.specs.Closing.{IsAtRest};
 ghost use Rattle.aio_handle.specs.Free.{IsRoom};
 ghost use Rattle.aio_handle.specs.Shown.{IsOf, IsSame};
 ghost use Rattle.read_stream.specs.Answering.{entries_of, MayBeUnread, said, said_of, said_by};
-ghost use Rattle.read_stream.specs.Answering.{IfStopped};
+ghost use Rattle.read_stream.specs.Answering.{IfStopped, IfZeroed};
 ghost use Rattle.read_stream.specs.Open.{IsFree, IsSameDesk, IsOpen, Follows, shown};
-ghost use Rattle.read_stream.specs.Open.{IsShown, page_at};
-ghost use Rattle.std.specs.Prelude.{◌≢◌, IfSome};
+ghost use Rattle.read_stream.specs.Open.{IsShown, page_at, zeroed_at};
+ghost use Rattle.std.specs.Prelude.{◌≢◌, IfSome, true};
 ghost use Rattle.aio_word.specs.declared.Class.TheVariants.{Unended};
 ghost use Rattle.read_stream.specs.declared.answer.Step.TheVariants.{Start, Stop};
 ghost use Rattle.read_stream.specs.Went.{Went, local_marks};
@@ -74,6 +74,7 @@ impl<'d, 'p, W: World, S: BlockSource<P> + Drop, P: Copy> ReadStream<'d, 'p, W, 
         ensures source { result.source_was.value ≡ source }
         ensures actor { (result.scope.was.value ≡ actor.now) × (result.actor_is.value ≡ actor.now) }
         ensures relation { result.scope.relation ≡ relation }
+        ensures zero { result.scope.zero ≡ desk.old.zero }
         ensures none { result.given ≡ 0 }
         ensures going { result.step ≡ Start }
     {
@@ -83,6 +84,7 @@ impl<'d, 'p, W: World, S: BlockSource<P> + Drop, P: Copy> ReadStream<'d, 'p, W, 
             combine: desk.combine,
             total: desk.ios + 1,
             batched: desk.batched,
+            zero: desk.zero,
             most: actor.room(),
             was: Snapshot::of(actor),
         };
@@ -123,10 +125,12 @@ impl<'d, 'p, W: World, S: BlockSource<P> + Drop, P: Copy> ReadStream<'d, 'p, W, 
         ensures went { Went actor.old.known actor.new.known (E.reads runner.old)
             (E.reads runner.new) (E.faults runner.old) (E.faults runner.new) }
         ensures stands_on { M.stands_on method.new ≡ M.stands_on method.old }
-        ensures answer { IsNext (reader_of W.told)
+        ensures answer { IsNext (reader_of self.old.scope.zero W.told)
             (MayBeUnread self.old.scope.was.value actor.new.known)
             (entries_of self.old.scope.relation (S.left self.old.source_was.value)) self.old.given
             (said self.old.scope.relation result) }
+        ensures zeroed { IfZeroed (said self.old.scope.relation result)
+            (self.old.scope.zero ≡ true) }
         ensures again { IfStopped self.old.step
             (λ e. said self.old.scope.relation result ≡ SaidStop (said_of e)) }
         ensures* after { sem 𝓛 (Rests
@@ -143,10 +147,15 @@ impl<'d, 'p, W: World, S: BlockSource<P> + Drop, P: Copy> ReadStream<'d, 'p, W, 
     // The last answer, lent.
     fn answer(&self) -> Next<'_, P>
         requires is_open { IsOpen S.left W.told W.relations W.handles self.now }
-        ensures { said self.now.scope.relation result
+        ensures answer { said self.now.scope.relation result
             ≡ said_by self.now.scope.relation self.now.step (shown self.now) }
+        ensures zeroed { IfZeroed (said self.now.scope.relation result)
+            (self.now.scope.zero ≡ true) }
     {
         match &self.step {
+            Step::Page(block, per_buffer_data) if self.is_zeroed(*block) => {
+                Next::Zeroed(self.page(*block), *block, per_buffer_data)
+            }
             Step::Page(block, per_buffer_data) => {
                 Next::Page(self.page(*block), *block, per_buffer_data)
             }
@@ -168,6 +177,19 @@ impl<'d, 'p, W: World, S: BlockSource<P> + Drop, P: Copy> ReadStream<'d, 'p, W, 
             (Some(pin), _) => pin.page(),
             (None, Some(io)) => io.page(block - io.first()),
             (None, None) => unreachable!(),
+        }
+    }
+
+    // Whether the page of the block that the last step found was zeroed.
+    fn is_zeroed(&self, block: u32) -> bool
+        requires shown { IsShown W.told self.now.scope.relation self.now.pin self.now.current
+            block }
+        requires record { IfSome self.now.current (λ io. io.label.ended ≢ Unended) }
+        ensures { result ≡ zeroed_at self.now.pin self.now.current block }
+    {
+        match (&self.pin, &self.current) {
+            (None, Some(io)) => io.zeroed(block - io.first()),
+            _ => false,
         }
     }
 

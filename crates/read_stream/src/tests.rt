@@ -2,7 +2,9 @@
 ghost use Rattle.std.specs.Prelude.{◌+◌, ◌^◌, ◌≤◌};
 
 use crate::Settings;
-use crate::trials::{Answer, Plan, Shelved, USUAL, blocks, file_of, page, run, usual, whole};
+use crate::trials::{
+    Answer, Plan, Shelved, USUAL, blocks, file_of, page, run, usual, whole, zeros,
+};
 use std::alloc::Global;
 use std::test::Fail;
 
@@ -73,6 +75,74 @@ fn full_look_ahead_stops_at_a_bad_page(rt: HostRuntime) -> Result<(), Fail> {
         wanted(alloc, 10, 2, Answer::Invalid(12), 2)?.as_slice()
     );
     assert_eq!(&rt; ran.log.as_slice(), [(10u32, 4u32)].as_slice());
+    Ok(())
+}
+
+#[test]
+fn damaged_pages_are_given_as_zeros(rt: HostRuntime) -> Result<(), Fail> {
+    let alloc = rt.alloc();
+    let settings = Settings {
+        full: true,
+        zero: true,
+        ..USUAL
+    };
+    let shelved = Shelved {
+        first: blocks(alloc, 0, 5)?,
+        ..whole(alloc, file_of(alloc, 5, Some(2))?)
+    };
+    let ran = run(&rt, shelved, &usual(settings, 6), blocks(alloc, 0, 5)?)?;
+    let all = [
+        page(0),
+        page(1),
+        zeros(2, 20),
+        page(3),
+        page(4),
+        Answer::End,
+    ];
+    assert_eq!(&rt; ran.all.as_slice(), all.as_slice());
+    assert_eq!(&rt; ran.log.as_slice(), [(0u32, 5u32), (2, 1)].as_slice());
+    let settings = Settings {
+        zero: false,
+        ..settings
+    };
+    let files = file_of(alloc, 5, Some(2))?;
+    let ran = run(
+        &rt,
+        whole(alloc, files),
+        &usual(settings, 4),
+        blocks(alloc, 0, 5)?,
+    )?;
+    assert_eq!(&rt;
+        ran.all.as_slice(),
+        wanted(alloc, 0, 2, Answer::Invalid(2), 2)?.as_slice()
+    );
+    Ok(())
+}
+
+#[test]
+fn short_reads_with_a_damaged_page_are_taken_up(rt: HostRuntime) -> Result<(), Fail> {
+    let alloc = rt.alloc();
+    let settings = Settings {
+        full: true,
+        zero: true,
+        ..USUAL
+    };
+    let shorts = vec![in alloc; (0u32, vec![in alloc; 3u32]?)]?;
+    let shelved = Shelved {
+        shorts,
+        ..whole(alloc, file_of(alloc, 5, Some(1))?)
+    };
+    let ran = run(&rt, shelved, &usual(settings, 6), blocks(alloc, 0, 5)?)?;
+    let all = [
+        page(0),
+        zeros(1, 10),
+        page(2),
+        page(3),
+        page(4),
+        Answer::End,
+    ];
+    assert_eq!(&rt; ran.all.as_slice(), all.as_slice());
+    assert_eq!(&rt; ran.log.as_slice(), [(0u32, 5u32), (3, 2)].as_slice());
     Ok(())
 }
 
@@ -408,6 +478,7 @@ fn batch_of_more_than_thirty_two(rt: HostRuntime) -> Result<(), Fail> {
         full: false,
         batch: true,
         segment: 131072,
+        zero: false,
     };
     let plan = Plan {
         handles: 64,

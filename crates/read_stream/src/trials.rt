@@ -11,17 +11,19 @@ use aio_handle::{Actor, Execute, Table};
 use block_source::Listed;
 use buf_pool::{Pool, Tag};
 use method_sync::{Runner, SyncMethod};
-use page_check::World;
+use page_check::{Verdict, World};
 use std::alloc::{AllocError, Global};
 use std::marker::Brand;
 use std::process::Abort;
 use std::sync::Wait;
 use std::test::Fail;
 
-/// An answer, with the page's block number that the file holds in place of `pd_prune_xid`.
+/// An answer, with the page's block number that the file holds in place of `pd_prune_xid`, or
+/// whether a zeroed page is zeros.
 #[derive(Clone, Copy, Debug, PartialEq, Eq)]
 pub(crate) enum Answer {
     Page { block: u32, info: u32, shown: u32 },
+    Zeroed { block: u32, info: u32, zeros: bool },
     End,
     Invalid(u32),
     Unread(u32),
@@ -39,12 +41,26 @@ pub(crate) fn page(block: u32) -> Answer
     }
 }
 
+/// Zeros in place of the page of the block.
+pub(crate) fn zeros(block: u32, info: u32) -> Answer {
+    Answer::Zeroed {
+        block,
+        info,
+        zeros: true,
+    }
+}
+
 fn answer_of(next: Next<'_, u32>) -> Answer {
     match next {
         Next::Page(page, block, info) => Answer::Page {
             block,
             info: *info,
             shown: page_check::header(page).prune_xid,
+        },
+        Next::Zeroed(page, block, info) => Answer::Zeroed {
+            block,
+            info: *info,
+            zeros: matches!(page_check::check(page), Verdict::Zero),
         },
         Next::End => Answer::End,
         Next::Invalid(block) => Answer::Invalid(block),
@@ -95,6 +111,7 @@ pub(crate) const USUAL: Settings = Settings {
     full: false,
     batch: false,
     segment: 131072,
+    zero: false,
 };
 
 pub(crate) fn usual(settings: Settings, calls: u32) -> Plan {

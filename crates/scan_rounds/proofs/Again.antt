@@ -11,7 +11,7 @@ use Rattle.aio_handle.specs.Shown.{Named}
 use Rattle.method_worker.specs.Shown.{Queue, IsSeatOf, Seating}
 use Rattle.scan_rounds.specs.Hands.{Meter, IsBackend, IsWorker, GoesOn, MayServe}
 use Rattle.scan_rounds.specs.Progress.{AreWaiting}
-use Rattle.scan_rounds.specs.Rounds.{AllGoOn, AllWorked, hand_of, hand_in}
+use Rattle.scan_rounds.specs.Rounds.{AllGoOn, AllWorked, AreZeroing, hand_of, hand_in}
 use Rattle.scan_rounds.specs.Scans.{IsScan, HasPaid, HavePaid, hands_of, opened_by}
 use Rattle.scan_rounds.specs.declared.hand.Hand.{Hand}
 use Rattle.scan_rounds.specs.declared.backend.Backend.{Backend}
@@ -147,10 +147,12 @@ module _ {W D : Type 0} (m : Meter D) (told : Option Told) (relations : ℕ) whe
       (record { room = s'.room; unread = s'.unread })
       → AllWorked m told relations s'.common.table s'.common.queue ws s'.workers.items
       → AllGoOn m told relations s'.common.table (map hand_of bs) (map hand_of s'.backends.items)
+      → AreZeroing s'.zero s'.backends.items
       → length s'.backends.items ≡ length bs → length s'.jobs.items ≡ length s.jobs.items
       → s'.opened ≡ s.opened → s'.actors ≡ s.actors → s'.disks ≡ s.disks
       → IsScan m told relations s'
-  scan_again s s' bs ws is table begun served waiting worked goes many jobs opened actors disks =
+  scan_again s s' bs ws is table begun served waiting worked goes zeroing many jobs opened actors
+      disks =
       record {
         backends_are = (let c = ap (λ (n : Named). n.config.backends) table in
             let b = ap length begun in omega (arith, is.backends_are));
@@ -161,6 +163,7 @@ module _ {W D : Type 0} (m : Meter D) (told : Option Told) (relations : ℕ) whe
         workers_stand = λ i d lt. (worked.each i d (omega (arith, worked.as_many))).is;
         paid = paid_all;
         idle = waiting.idle;
+        zeroing = zeroing;
         room = waiting.room;
         few_unread = waiting.few_unread;
         jobs_are = (let j = is.jobs_are in let b = ap length begun in omega arith);

@@ -2,9 +2,9 @@
 use Rattle.std.proofs.Common.{◌≡◌, ℕ, zero, suc, ◌+◌, ◌-◌, ◌^◌, ◌<◌, ◌≤◌, List, [], ◌∷◌, ◌++◌}
 use Rattle.std.proofs.Common.{length, map, take, sum_by}
 use Rattle.std.proofs.Common.{min, max, refl, sym, ap, ◌∙◌, subst, arith, append-nil, append_assoc}
-use Rattle.std.specs.Prelude.{Option, Some, IfSome, slice_index_or, slice_set, ⊤}
+use Rattle.std.specs.Prelude.{Bool, Option, Some, IfSome, slice_index_or, slice_set, ⊤}
 use Rattle.std.proofs.lemmas.List.Sums.{sum_by-cons}
-use Rattle.page_check.specs.SynchronousAnswer.{Entry, Reader, reader_of}
+use Rattle.page_check.specs.SynchronousAnswer.{Entry, reader_of}
 use Rattle.std.specs.List.{All}
 use Rattle.std.proofs.lemmas.List.{length-map}
 use Rattle.std.proofs.Math.Nat.{min-le_left, min-le_right, min-eq_left, min-eq_right, max-eq_left}
@@ -25,10 +25,11 @@ use Rattle.scan_rounds.specs.Progress.{AreWaiting, HasGone}
 use Rattle.scan_rounds.specs.Jobs.{IsFresh, IsListed, AreAnswered, blocks_among, entries_in}
 use Rattle.scan_rounds.specs.Jobs.{said_end}
 use Rattle.scan_rounds.specs.Rounds.{AllGoOn, AllRan, AreListed, AreIdle, HaveRoom, IsLeastRoom}
-use Rattle.scan_rounds.specs.Rounds.{hand_of}
+use Rattle.scan_rounds.specs.Rounds.{AreZeroing, hand_of}
 use Rattle.scan_rounds.specs.Rounds.{results_of, taken_by}
 use Rattle.read_stream.specs.Went.{local_marks}
 use Rattle.read_stream.specs.Open.{IsFree}
+use Rattle.read_stream.specs.declared.desk.Desk.{Desk}
 use Rattle.scan_rounds.specs.declared.job.Job.{Job}
 use Rattle.scan_rounds.proofs.Showing.{job_wider}
 use Rattle.scan_rounds.specs.declared.hand.Hand.{Hand}
@@ -211,22 +212,45 @@ some_blocks relations zero js fresh some there = absurd (omega arith)
 some_blocks relations (suc n) [] fresh some there = absurd (omega arith)
 
 -- whatever may be unread
-anyway : (found : Option Reader) (may : Entry (Unit {0}) → Type 0) (j k : Job)
-    → IsListed found may j k → IsListed found (λ _. ⊤) j k
-anyway found may j k is = record {
+anyway : (on : Bool) (told : Option Told) (may : Entry (Unit {0}) → Type 0) (j k : Job)
+    → IsListed on told may j k → IsListed on told (λ _. ⊤) j k
+anyway on told may j k is = record {
   same = is.same;
-  answer = job_wider found may (λ _. ⊤) (entries_in j) k.text.items k.tally (said_end k.ending)
-      (λ e may. tt) is.answer;
+  answer = job_wider (reader_of on told) may (λ _. ⊤) (entries_in j) k.text.items
+      k.warnings.items k.tally (said_end k.ending) (λ e may. tt) is.answer;
+  quiet = is.quiet;
 }
 
-pub answered_by : {W D : Type 0} (told : Option Told) (bs cs : List (Backend W D))
+pub answered_by : {W D : Type 0} (on : Bool) (told : Option Told) (bs cs : List (Backend W D))
     (js ks : List Job)
-    → 1 ≤ length bs → AreListed told bs cs js ks → AreAnswered (reader_of told) js ks
-answered_by told (b ∷ bs) cs js ks some is = record {
+    → 1 ≤ length bs → AreListed on told bs cs js ks → AreAnswered on told js ks
+answered_by on told (b ∷ bs) cs js ks some is = record {
   as_many = is.jobs_are;
-  each = λ i j lt. anyway (reader_of told) _ _ _ (is.each i b j lt);
+  each = λ i j lt. anyway on told _ _ _ (is.each i b j lt);
 }
-answered_by told [] cs js ks some is = absurd (omega arith)
+answered_by on told [] cs js ks some is = absurd (omega arith)
+
+-- by what the agenda says of damaged pages, before and after it put them
+pub answered_as : (on on' : Bool) (told : Option Told) (js ks : List Job) → on' ≡ on
+    → AreAnswered on told js ks → AreAnswered on' told js ks
+answered_as on on' told js ks same is =
+    subst (λ (b : Bool). AreAnswered b told js ks) (sym same) is
+
+-- a first backend with the same desk
+module _ {W D : Type 0} where
+  first_zeroing : (on : Bool) (a c : Backend W D) (bs : List (Backend W D))
+      → c.desk.zero ≡ a.desk.zero → AreZeroing on (a ∷ bs) → AreZeroing on (c ∷ bs)
+  first_zeroing on a c bs same all zero d lt = same ∙ all 0 d (omega arith)
+  first_zeroing on a c bs same all (suc i) d lt = all (suc i) d lt
+
+  pub zeroing_closed : (bs : List (Backend W D)) (b c : Backend W D)
+      → b ≡ slice_index_or bs 0 b → c.desk ≡ b.desk → (on : Bool) → AreZeroing on bs
+      → AreZeroing on (slice_set bs 0 c)
+  zeroing_closed [] b c is desk on all = all
+  zeroing_closed (a ∷ bs) b c is desk on all =
+      let was : b ≡ a = is in
+      first_zeroing on a c bs (ap (λ (x : Desk W (Unit {0})). x.zero) desk
+      ∙ ap (λ (x : Backend W D). x.desk.zero) was) all
 
 -- the job of a backend, and its seat, are no part of what it has counted
 same_waiting : {W D : Type 0} (m : Meter D) (told : Option Told) (relations : ℕ) (t : Named)
@@ -303,10 +327,11 @@ module _ {W D : Type 0} (m : Meter D) (told : Option Told) (relations : ℕ) (t 
     lived = rw hand ran.lived;
     taken = rw hand ran.taken;
     idle = λ none. job ∙ ran.idle none;
-    listed = λ some. subst (λ (h : Hand W D). IsListed (reader_of told)
+    listed = λ some. subst (λ (h : Hand W D). IsListed b.desk.zero told
         (MayBeUnread b.hand.actor h.actor.known) b.job d.job) (sym hand)
-        (subst (λ (j : Job). IsListed (reader_of told)
+        (subst (λ (j : Job). IsListed b.desk.zero told
         (MayBeUnread b.hand.actor c.hand.actor.known) b.job j) (sym job) (ran.listed some));
+    zero = ap (λ (x : Desk W (Unit {0})). x.zero) desk ∙ ran.zero;
   }
 
   first_ran : (bs cs : List (Backend W D)) (c d : Backend W D)

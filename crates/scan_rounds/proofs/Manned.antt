@@ -311,6 +311,7 @@ module _ {W D : Type 0} where
     pub jobs_are : length s.jobs.items ≡ settings.backends
     pub room : s.room ≡ 2 ^ 58 - 1 - start
     pub unread : s.unread ≡ 0
+    pub zero : s.zero ≡ settings.zero
     pub actors_fit : (s.actors.items ≡ [])
         × (settings.backends + workers_in settings ≤ vec_capacity s.actors)
     pub disks_fit : (s.disks.items ≡ [])
@@ -395,6 +396,7 @@ module _ {W D : Type 0} where
                 (into_iter_items r.seats) made.workers.seats all_seats.1);
             paid = paid_of_new t (opened_by s) bs ws all_fresh m told relations disks_as_many;
             idle = made.backends.idle;
+            zeroing = λ k b lt. (all_desks k b lt).streams.zero ∙ sym made.zero;
             room = subst P same rooms;
             few_unread = omega (arith, none);
             jobs_are = omega (arith, jobs, few);
@@ -422,4 +424,5 @@ module _ {W D : Type 0} where
               all_fresh;
           room = made.room;
           unread = made.unread;
+          zero = made.zero;
         }

@@ -1,6 +1,6 @@
 -- A scan after one round.
 use Rattle.std.proofs.Common.{◌≡◌, ℕ, ◌+◌, ◌≤◌, List, length, map, ap, subst}
-use Rattle.std.proofs.Common.{arith}
+use Rattle.std.proofs.Common.{arith, sym}
 use Rattle.std.specs.Prelude.{Option}
 use Rattle.std.specs.List.{All}
 use Rattle.page_check.specs.Told.{Told}
@@ -11,7 +11,7 @@ use Rattle.scan_rounds.specs.Hands.{Meter, MayRun}
 use Rattle.scan_rounds.specs.Jobs.{IsFresh, blocks_among, unread_among}
 use Rattle.scan_rounds.specs.Progress.{AreWaiting}
 use Rattle.scan_rounds.specs.Rounds.{Swapped, AllRan, AllGoOn, AreListed, IsLeastRoom, hand_of}
-use Rattle.scan_rounds.specs.Rounds.{taken_by}
+use Rattle.scan_rounds.specs.Rounds.{AreZeroing, taken_by}
 use Rattle.scan_rounds.specs.Scans.{IsScan}
 use Rattle.scan_rounds.specs.declared.backend.Backend.{Backend}
 use Rattle.scan_rounds.specs.declared.job.Job.{Job}
@@ -20,7 +20,7 @@ use Rattle.scan_rounds.proofs.Again.{waiting_in}
 use Rattle.scan_rounds.proofs.Rooms.{least_falls}
 use Rattle.scan_rounds.proofs.Rounding.{all_may, backends_after, idle_after, listed_after}
 use Rattle.scan_rounds.proofs.Rounding.{goes_on_after, taken_after, unread_after, same_length}
-use Rattle.scan_rounds.proofs.Rounding.{goes_after, lived_after, raised_within}
+use Rattle.scan_rounds.proofs.Rounding.{goes_after, lived_after, raised_within, zeroing_after}
 
 module _ {W D : Type 0} (m : Meter D) (told : Option Told) (relations : ℕ) (s : Scan W D)
     (t : Named) (q : Queue) (bs cs : List (Backend W D)) (js ks : List Job)
@@ -31,6 +31,10 @@ module _ {W D : Type 0} (m : Meter D) (told : Option Told) (relations : ℕ) (s 
     (swapped : Swapped bs cs js ks) where
   waiting : AreWaiting m told relations t q bs (record { room = s.room; unread = s.unread })
   waiting = waiting_in m told relations s t q bs is table line words begun
+
+  zeroing_before : AreZeroing s.zero bs
+  zeroing_before =
+      subst (λ (xs : List (Backend W D)). AreZeroing s.zero xs) (sym begun) is.zeroing
 
   within : length js ≤ length bs
   within = let b = ap length begun in omega (arith, few)
@@ -43,7 +47,8 @@ module _ {W D : Type 0} (m : Meter D) (told : Option Told) (relations : ℕ) (s 
     pub now : AreWaiting m told relations t q fs (record { room = room; unread = unread })
     pub go_on : AllGoOn m told relations t (map hand_of bs) (map hand_of fs)
     pub many : length fs ≡ length bs
-    pub listed : AreListed told s.backends.items fs js ls
+    pub listed : AreListed s.zero told s.backends.items fs js ls
+    pub zeroing : AreZeroing s.zero fs
     pub fallen : s.room ≤ room + 64
     pub taken : taken_by fs ≤ taken_by s.backends.items + blocks_among js
 
@@ -73,9 +78,11 @@ module _ {W D : Type 0} (m : Meter D) (told : Option Told) (relations : ℕ) (s 
         go_on = goes_on_after m told relations t q bs cs js ks s.room w.backends w.idle fresh within
             enough w.room.have swapped es fs ls ran again;
         many = many;
-        listed = subst (λ (xs : List (Backend W D)). AreListed told xs fs js ls) begun
+        listed = subst (λ (xs : List (Backend W D)). AreListed s.zero told xs fs js ls) begun
             (listed_after m told relations t q bs cs js ks s.room w.backends w.idle fresh within
-            enough w.room.have swapped es fs ls ran again);
+            enough w.room.have swapped es fs ls ran again s.zero zeroing_before);
+        zeroing = zeroing_after m told relations t q bs cs js ks s.room w.backends w.idle fresh
+            within enough w.room.have swapped es fs ls ran again s.zero zeroing_before;
         fallen = least_falls bs fs s.room room many (λ i d lt. (goes i d lt).same)
             (λ i d lt. (w.backends i d lt).backend)
             (lived_after m told relations t q bs cs js ks s.room w.backends w.idle fresh within

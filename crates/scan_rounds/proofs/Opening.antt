@@ -52,7 +52,8 @@ one_at_most (Some s) = omega arith
 
 pub desk_for : {W : Type 0} (s : ScanSettings) (r : Settings) (d : Desk W (Unit {0})) → IsFree d
     → (d.combine ≡ r.combine) × (d.ios ≡ r.ios) × (d.limit ≡ r.limit) × (d.full ≡ r.full)
-    × (d.batched ≡ r.batch) × (d.segment ≡ r.segment) → AreStreamsOf s r → IsDeskFor s d
+    × (d.batched ≡ r.batch) × (d.segment ≡ r.segment) × (d.zero ≡ r.zero) → AreStreamsOf s r
+    → IsDeskFor s d
 desk_for s r d free same streams = record {
   free = free;
   streams = record {
@@ -63,6 +64,7 @@ desk_for s r d free same streams = record {
     full = same.3 ∙ streams.full;
     batch = same.4 ∙ streams.batch;
     segment = same.5 ∙ streams.segment;
+    zero = same.6 ∙ streams.zero;
   };
 }
 

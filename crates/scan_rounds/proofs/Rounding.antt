@@ -11,7 +11,6 @@ use Rattle.std.proofs.Math.Nat.{min-le_left, max-le}
 use mathlib.Core.Logic.{dite}
 use native.Mathlib.Decide.{dec_le}
 use Rattle.page_check.specs.Told.{Told}
-use Rattle.page_check.specs.SynchronousAnswer.{reader_of}
 use Rattle.aio_disk.specs.Counts.{raised_by}
 use Rattle.aio_word.specs.Events.{lives}
 use Rattle.aio_word.specs.Tokens.{failed_results}
@@ -22,7 +21,7 @@ use Rattle.read_stream.specs.Went.{local_marks}
 use Rattle.scan_rounds.specs.Hands.{Meter, IsBackend, IsReady, Ran, GoesOn, HasRoom, MayRun}
 use Rattle.scan_rounds.specs.Jobs.{IsFresh, IsListed, is_unread, unread_among, blocks_among}
 use Rattle.scan_rounds.specs.Rounds.{Swapped, AreIdle, HaveRoom, AreListed, AllRan, AllGoOn}
-use Rattle.scan_rounds.specs.Rounds.{hand_of, results_of, taken_by}
+use Rattle.scan_rounds.specs.Rounds.{AreZeroing, hand_of, results_of, taken_by}
 use Rattle.scan_rounds.specs.declared.hand.Hand.{Hand}
 use Rattle.scan_rounds.specs.declared.backend.Backend.{Backend}
 use Rattle.scan_rounds.specs.declared.job.Job.{Job}
@@ -114,7 +113,8 @@ module _ {W D : Type 0} (m : Meter D) (told : Option Told) (relations : ℕ) (t 
     pub lived : (h : ℕ) → lives h f.hand.actor.known.marks ≤ lives h b.hand.actor.known.marks + 64
     pub taken : local_marks f.hand.actor.known.marks
         ≤ local_marks b.hand.actor.known.marks + j.count
-    pub listed : IsListed (reader_of told) (MayBeUnread b.hand.actor f.hand.actor.known) j l
+    pub listed : IsListed b.desk.zero told (MayBeUnread b.hand.actor f.hand.actor.known) j l
+    pub zero : f.desk.zero ≡ b.desk.zero
 
   -- a backend that had none
   pub record Rested (b f : Backend W D) : Type 0 where
@@ -123,6 +123,7 @@ module _ {W D : Type 0} (m : Meter D) (told : Option Told) (relations : ℕ) (t 
     pub goes : GoesOn m told relations t b.hand f.hand
     pub lived : (h : ℕ) → lives h f.hand.actor.known.marks ≤ lives h b.hand.actor.known.marks + 64
     pub taken : local_marks f.hand.actor.known.marks ≤ local_marks b.hand.actor.known.marks
+    pub zero : f.desk.zero ≡ b.desk.zero
 
   -- whatever its job is
   with_any : (b : Backend W D) (j : Job) → IsBackend m told relations t q b
@@ -139,6 +140,7 @@ module _ {W D : Type 0} (m : Meter D) (told : Option Told) (relations : ℕ) (t 
         lived = ran.lived;
         taken = ran.taken;
         listed = ran.listed some;
+        zero = ran.zero;
       }
 
   rested_one : (b e : Backend W D) → b.job.count ≡ 0 → Ran m told relations t q b e → Rested b e
@@ -149,6 +151,7 @@ module _ {W D : Type 0} (m : Meter D) (told : Option Told) (relations : ℕ) (t 
         goes = ran.goes;
         lived = ran.lived;
         taken = (let few = ran.taken in omega arith);
+        zero = ran.zero;
       }
 
   ready_one : (room : ℕ) (b : Backend W D) (j : Job) → 64 ≤ room → HasRoom room b.hand.actor
@@ -245,11 +248,25 @@ module _ {W D : Type 0} (m : Meter D) (told : Option Told) (relations : ℕ) (t 
           (λ behind. (rested i d behind inside).goes)
           (λ front. (did i d (slice_index_or bs i d).job (omega arith)).goes)
 
-      pub listed_after : AreListed told bs fs js ls
-      listed_after = record {
+      pub listed_after : (on : Bool) → AreZeroing on bs → AreListed on told bs fs js ls
+      listed_after on zeroing = record {
         jobs_are = again.jobs_are ∙ swapped.jobs_are;
-        each = λ i d j lt. (did i d j lt).listed;
+        each = λ i d j lt.
+            subst (λ (b : Bool). IsListed b told (MayBeUnread (slice_index_or bs i d).hand.actor
+            (slice_index_or fs i d).hand.actor.known) (slice_index_or js i j)
+            (slice_index_or ls i j)) (zeroing i d (omega arith)) (did i d j lt).listed;
       }
+
+      pub zeroing_after : (on : Bool) → AreZeroing on bs → AreZeroing on fs
+      zeroing_after on zeroing i d lt =
+          let inside : i < length bs = omega (arith, same_length) in
+          kept_at inside ∙ zeroing i d inside
+        where
+          kept_at : i < length bs
+              → (slice_index_or fs i d).desk.zero ≡ (slice_index_or bs i d).desk.zero
+          kept_at inside = dite (dec_le (length js) i)
+              (λ behind. (rested i d behind inside).zero)
+              (λ front. (did i d (slice_index_or bs i d).job (omega arith)).zero)
 
       pub goes_on_after : AllGoOn m told relations t (map hand_of bs) (map hand_of fs)
       goes_on_after = record {
@@ -295,5 +312,5 @@ module _ {W D : Type 0} (m : Meter D) (told : Option Told) (relations : ℕ) (t 
                   → failed_results (slice_index_or bs i d).hand.actor.known.marks + cond u 1 0
                   ≤ failed_results (slice_index_or fs i d).hand.actor.known.marks
               unread_or true is = let one = did i d j lt in
-                  unread_counted (reader_of told) _ _ _ _ one.listed is
+                  unread_counted _ told _ _ _ _ one.listed is
               unread_or false is = let same = kept i d (omega arith) in omega arith

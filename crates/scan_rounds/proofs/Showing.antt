@@ -3,6 +3,7 @@ use Rattle.std.proofs.Common.{◌≡◌, ℕ, zero, suc, ◌+◌, ◌<◌, Bool,
 use Rattle.std.proofs.Common.{◌∷◌, ◌++◌, length, map, take, refl, sym, ap, ◌∙◌, subst, arith}
 use Rattle.std.proofs.Common.{◌≤◌, ◌^◌, append-nil, get_or, length-append}
 use Rattle.std.specs.Prelude.{Option, Some, None, slice_get, if◌then◌else◌, nat_le, ⊤}
+use Rattle.std.specs.Prelude.{Result, Ok, Err, OnOk, OnErr}
 use Rattle.std.specs.List.{All, range_with_len}
 use Rattle.std.proofs.lemmas.Option.{slice_get_within}
 use Rattle.std.proofs.lemmas.List.{length-map}
@@ -11,13 +12,16 @@ use Rattle.page_check.specs.Told.{Told, blocks_of, page_of}
 use Rattle.page_check.specs.declared.verdict.Verdict.{Verdict}
 use Rattle.page_check.specs.declared.verdict.Verdict.TheVariants.{Zero, Sane, Bad}
 use Rattle.page_check.specs.Verdict.{verdict_of, IsValid}
-use Rattle.page_check.specs.SynchronousAnswer.{Entry, Given, Absent, found_at, Reader}
+use Rattle.page_check.specs.SynchronousAnswer.{Entry, Given, Found, Absent, Damaged, Zeroed}
+use Rattle.page_check.specs.SynchronousAnswer.{found_at, zeroed_if_damaged, zeroing, Reader}
+use Rattle.page_check.specs.SynchronousAnswer.{Page as FoundPage}
 use Rattle.page_check.specs.SynchronousAnswer.{found_by, is_page, page_in, reader_of, pages_of}
 use Rattle.page_check.specs.SynchronousAnswer.{can_read, given_for, Ending as SaidEnding, End}
 use Rattle.page_check.specs.SynchronousAnswer.{Invalid, PastEnd, Unread}
 use Rattle.page_check.specs.IsAnswer.{Next as Said, Page, Stop, IsAnswer, IsNext}
 use Rattle.page_check.specs.IsAnswer.{AreFirst, OneEnding, IsEnding}
 use Rattle.page_check.proofs.SynchronousReads.{read_count-cons, pages_of-none, pages_of-stop}
+use Rattle.page_check.proofs.ValidPages.{zero_page_valid}
 use Rattle.page_check.proofs.AnswersInOrder.{answered_none, answered_next}
 use Rattle.page_check.proofs.Places.{count-within, pages_of-length}
 use Rattle.aio_word.specs.declared.Known.{Known}
@@ -26,17 +30,20 @@ use Rattle.block_source.specs.Left.{consecutive, bare}
 use Rattle.heap_scan.specs.Listing.{listing}
 use Rattle.heap_scan.specs.Job.{IsJobAnswer, job_entries, block_entry, endings_of}
 use Rattle.heap_scan.specs.PageText.{page_text_of}
-use Rattle.heap_scan.proofs.Jobs.{listing-append}
+use Rattle.heap_scan.specs.Warnings.{warning_for, warnings_of}
+use Rattle.heap_scan.proofs.Jobs.{listing-append, warnings-append}
 use Rattle.heap_scan.proofs.Summing.{sums_fit, sums_of-none, sums_of-push}
 use Rattle.heap_scan.specs.Sums.{FitSums, no_sums, sums_of, tallied}
 use Rattle.heap_scan.specs.declared.sums.PageSums.{PageSums}
 use Rattle.read_stream.specs.Answering.{entries_of, entry_of, MayBeUnread, said, pages_in}
+use Rattle.read_stream.specs.Answering.{IfZeroed}
 use Rattle.read_stream.specs.Went.{Went}
 use Rattle.read_stream.specs.declared.answer.Next.{Next as StreamNext}
 use Rattle.read_stream.proofs.Going.{since_later}
 use Rattle.scan_rounds.specs.Jobs.{said_end, ending_for}
-use Rattle.scan_rounds.specs.Showing.{IfPage, Shows}
+use Rattle.scan_rounds.specs.Showing.{IfPage, Shown, Shows, shown}
 use Rattle.scan_rounds.specs.declared.job.Ending.{Ending}
+use Rattle.scan_rounds.specs.declared.job.Ending.TheVariants as ending
 
 abbrev pub E : Type 0
 E = Entry (Unit {0})
@@ -54,6 +61,14 @@ one_listing g = sym (append-nil (page_text_of g.entry.relation g.entry.block g.p
 no_listing : listing (let none : List G = [] in none) ≡ []
 unfolding listing
 no_listing = refl
+
+one_warning : (g : G) → warning_for g ≡ warnings_of (g ∷ [])
+unfolding warnings_of
+one_warning g = sym (append-nil (warning_for g))
+
+no_warnings : warnings_of (let none : List G = [] in none) ≡ []
+unfolding warnings_of
+no_warnings = refl
 
 front_get : (front rest : List G) (k : ℕ) (d : G) → k < length front
     → slice_get (front ++ rest) k ≡ Some (get_or front k d)
@@ -77,6 +92,21 @@ found_at-valid told relation block is =
     found-valid (nat_le (blocks_of told relation) block) (verdict_of (page_of told relation block))
     (page_of told relation block) refl is
 
+-- and so are zeros in place of a damaged one
+zeroed-valid : (x : Found) → (is_page x ≡ true → IsValid (page_in x))
+    → is_page (zeroed_if_damaged x) ≡ true → IsValid (page_in (zeroed_if_damaged x))
+zeroed-valid (FoundPage bytes) valid is = valid refl
+zeroed-valid Zeroed valid is = zero_page_valid
+zeroed-valid Damaged valid is = zero_page_valid
+zeroed-valid Absent valid is = absurd (cc)
+
+zeroing-valid : (on : Bool) (told : Told) (relation block : ℕ)
+    → is_page (zeroing on (found_at told) relation block) ≡ true
+    → IsValid (page_in (zeroing on (found_at told) relation block))
+zeroing-valid true told relation block is =
+    zeroed-valid (found_at told relation block) (found_at-valid told relation block) is
+zeroing-valid false told relation block is = found_at-valid told relation block is
+
 given_at_none : (g : G) (k : ℕ) → slice_get (let none : List G = [] in none) k
     ≡ Some g
     → ⊥
@@ -87,10 +117,8 @@ pages_of-more : (f : Reader) (e : E) (es : List E) → can_read f e ≡ true
 pages_of-more f e es can =
     ap (λ (n : ℕ). map (given_for f) (take n (e ∷ es))) (read_count-cons f e es can)
 
-module _ (told : Told) where
-  abbrev f : Reader
-  f = found_at told
-
+module _ (f : Reader) (valid : (relation block : ℕ) → is_page (f relation block) ≡ true
+    → IsValid (page_in (f relation block))) where
   abbrev AreValid : List E → Type 0
   AreValid es = (k : ℕ) (g : G) → slice_get (pages_of f es) k ≡ Some g → IsValid g.page
 
@@ -104,7 +132,7 @@ module _ (told : Told) where
       ap (λ (l : List G). slice_get l 0) (sym (pages_of-more f e es can)) ∙ is in
       let same : given_for f e ≡ g = cc in
       let P : G → Type 0 = λ h. IsValid h.page in
-      subst P same (found_at-valid told e.relation e.block can)
+      subst P same (valid e.relation e.block can)
   valid_first e es true can rest (suc k) g is =
       rest k g (ap (λ (l : List G). slice_get l (suc k)) (sym (pages_of-more f e es can))
       ∙ is)
@@ -115,11 +143,12 @@ module _ (told : Told) where
   pages_valid (e ∷ es) = valid_first e es (can_read f e) refl (pages_valid es)
 
 -- a page that is answered next is valid
-pub next_valid : (told : Option Told) (may : E → Type 0) (entries : List E) (k : ℕ)
-    (next : Said (Unit {0})) → IsNext (reader_of told) may entries k next → IfPage next IsValid
-next_valid told may entries k (Stop end) is = tt
-next_valid None may entries k (Page g) is = is.0
-next_valid (Some t) may entries k (Page g) is = pages_valid t entries k g is
+pub next_valid : (on : Bool) (told : Option Told) (may : E → Type 0) (entries : List E) (k : ℕ)
+    (next : Said (Unit {0})) → IsNext (reader_of on told) may entries k next → IfPage next IsValid
+next_valid on told may entries k (Stop end) is = tt
+next_valid on None may entries k (Page g) is = is.0.valid
+next_valid on (Some t) may entries k (Page g) is =
+    pages_valid (zeroing on (found_at t)) (zeroing-valid on t) entries k g is
 
 -- and is that of an entry
 within_pages : (f : Reader) (entries : List E) (k : ℕ) (g : G)
@@ -133,22 +162,24 @@ pub page_within : (found : Option Reader) (may : E → Type 0) (entries : List E
 page_within None may entries k g is = slice_get_within entries k g.entry is.1
 page_within (Some f) may entries k g is = within_pages f entries k g is
 
--- text and sums are those of this many pages, which are the first answers
-pub record SoFar (found : Option Reader) (entries : List E) (given : ℕ) (text : List ℕ)
-    (sums : PageSums) : Type 0 where
+-- text, warnings and sums are those of this many pages, which are the first answers
+pub record SoFar (found : Option Reader) (entries : List E) (given : ℕ) (now : Shown)
+    : Type 0 where
   pub pages : List G
   pub count : length pages ≡ given
-  pub text_is : text ≡ listing pages
-  pub sums_are : sums ≡ sums_of pages
+  pub text_is : now.text ≡ listing pages
+  pub warnings_are : now.warnings ≡ warnings_of pages
+  pub sums_are : now.sums ≡ sums_of pages
   pub answers : IsAnswer found (λ _. ⊤) entries (record { pages = pages; endings = [] })
 
-pub nothing_yet : (found : Option Reader) (entries : List E) (given : ℕ) (text : List ℕ)
-    (sums : PageSums) → given ≡ 0 → text ≡ [] → sums ≡ no_sums
-    → SoFar found entries given text sums
-nothing_yet found entries given text sums none empty uncounted = record {
+pub nothing_yet : (found : Option Reader) (entries : List E) (given : ℕ) (text warnings : List ℕ)
+    (sums : PageSums) → given ≡ 0 → text ≡ [] → warnings ≡ [] → sums ≡ no_sums
+    → SoFar found entries given (shown text warnings sums)
+nothing_yet found entries given text warnings sums none empty quiet uncounted = record {
   pages = [];
   count = sym none;
   text_is = empty ∙ sym no_listing;
+  warnings_are = quiet ∙ sym no_warnings;
   sums_are = uncounted ∙ sym (sums_of-none (Unit {0}));
   answers = answered_none found (λ _. ⊤) entries;
 }
@@ -165,11 +196,10 @@ pages_anyway : (found : Option Reader) (may : E → Type 0) (entries : List E) (
 pages_anyway found may entries pages a = record { first = a.first; endings = tt }
 
 module _ (found : Option Reader) (may : E → Type 0) (entries : List E) (given : ℕ)
-    (next : Said (Unit {0})) (before after : List ℕ) (sums more : PageSums)
-    (result : Option Ending) where
-  shown_on : (said : Said (Unit {0})) → SoFar found entries given before sums
-      → IsNext found may entries given said → Shows said before after sums more None
-      → SoFar found entries (given + pages_in said) after more
+    (next : Said (Unit {0})) (before after : Shown) (result : Option Ending) where
+  shown_on : (said : Said (Unit {0})) → SoFar found entries given before
+      → IsNext found may entries given said → Shows said before after None
+      → SoFar found entries (given + pages_in said) after
   shown_on (Stop end) so_far is shows = absurd (cc)
   shown_on (Page g) so_far is shows =
       let P : ℕ → Type 0 = λ n. IsNext found may entries n (Page g) in
@@ -182,33 +212,37 @@ module _ (found : Option Reader) (may : E → Type 0) (entries : List E) (given 
             so_far.text_is
             ∙ ap (λ (l : List ℕ). listing so_far.pages ++ l) (one_listing g)
             ∙ sym (listing-append so_far.pages (g ∷ []));
-        sums_are = shows.1 ∙ ap (λ (s : PageSums). tallied s g.page) so_far.sums_are
+        warnings_are = shows.1
+            ∙ ap (λ (l : List ℕ). l ++ warning_for g) so_far.warnings_are
+            ∙ ap (λ (l : List ℕ). warnings_of so_far.pages ++ l) (one_warning g)
+            ∙ sym (warnings-append so_far.pages (g ∷ []));
+        sums_are = shows.2 ∙ ap (λ (s : PageSums). tallied s g.page) so_far.sums_are
             ∙ sym (sums_of-push so_far.pages g);
         answers =
             answered_next found (λ _. ⊤) entries so_far.pages (Page g) so_far.answers here;
       }
 
   within_on : (said : Said (Unit {0})) → IsNext found may entries given said
-      → Shows said before after sums more None → (pages_in said ≡ 1) × (given < length entries)
+      → Shows said before after None → (pages_in said ≡ 1) × (given < length entries)
   within_on (Stop end) is shows = absurd (cc)
   within_on (Page g) is shows = (refl, page_within found may entries given g is)
 
   -- the answer was shown, and the job goes on
-  pub shown_more : (given' : ℕ) → SoFar found entries given before sums
-      → IsNext found may entries given next → Shows next before after sums more result
+  pub shown_more : (given' : ℕ) → SoFar found entries given before
+      → IsNext found may entries given next → Shows next before after result
       → result ≡ None → given' ≡ given + pages_in next
-      → SoFar found entries given' after more
+      → SoFar found entries given' after
   shown_more given' so_far is shows none count =
-      subst (λ (n : ℕ). SoFar found entries n after more) (sym count)
+      subst (λ (n : ℕ). SoFar found entries n after) (sym count)
       (shown_on next so_far is
-      (subst (λ (x : Option Ending). Shows next before after sums more x) none shows))
+      (subst (λ (x : Option Ending). Shows next before after x) none shows))
 
   pub nearer : (given' : ℕ) → IsNext found may entries given next
-      → Shows next before after sums more result → result ≡ None → given' ≡ given + pages_in next
+      → Shows next before after result → result ≡ None → given' ≡ given + pages_in next
       → (given' ≡ given + 1) × (given < length entries)
   nearer given' is shows none count =
       let one = within_on next is
-      (subst (λ (x : Option Ending). Shows next before after sums more x) none shows) in
+      (subst (λ (x : Option Ending). Shows next before after x) none shows) in
       (count ∙ ap (λ (n : ℕ). given + n) one.0, one.1)
 
   end_said : (end : SaidEnding) → said_end (ending_for end) ≡ Some end
@@ -217,94 +251,148 @@ module _ (found : Option Reader) (may : E → Type 0) (entries : List E) (given 
   end_said (PastEnd b) = refl
   end_said (Unread b) = refl
 
-  ended : (end : SaidEnding) → SoFar found entries given before sums
+  ended : (end : SaidEnding) → SoFar found entries given before
       → IsNext found may entries given (Stop end)
-      → IsJobAnswer found may entries before sums (said_end (ending_for end))
+      → IsJobAnswer found may entries before.text before.warnings before.sums
+      (said_end (ending_for end))
   ended end so_far is =
       let P : ℕ → Type 0 = λ n. IsNext found may entries n (Stop end) in
-      let Q : Option SaidEnding → Type 0 = λ e. IsJobAnswer found may entries before sums e in
+      let Q : Option SaidEnding → Type 0 =
+      λ e. IsJobAnswer found may entries before.text before.warnings before.sums e in
       subst Q (sym (end_said end)) (record {
         pages = so_far.pages;
         text_is = so_far.text_is;
+        warnings_are = so_far.warnings_are;
         sums_are = so_far.sums_are;
         answers = answered_next found may entries so_far.pages (Stop end)
             (pages_anyway found may entries so_far.pages so_far.answers)
             (subst P (sym so_far.count) is);
       })
 
-  cut : SoFar found entries given before sums → IsJobAnswer found may entries before sums None
+  cut : SoFar found entries given before
+      → IsJobAnswer found may entries before.text before.warnings before.sums None
   cut so_far = record {
     pages = so_far.pages;
     text_is = so_far.text_is;
+    warnings_are = so_far.warnings_are;
     sums_are = so_far.sums_are;
     answers = pages_anyway found may entries so_far.pages so_far.answers;
   }
 
-  last_of : (said : Said (Unit {0})) (e : Ending) → SoFar found entries given before sums
-      → IsNext found may entries given said → Shows said before after sums more (Some e)
-      → IsJobAnswer found may entries after more (said_end e)
+  last_of : (said : Said (Unit {0})) (e : Ending) → SoFar found entries given before
+      → IsNext found may entries given said → Shows said before after (Some e)
+      → IsJobAnswer found may entries after.text after.warnings after.sums (said_end e)
   last_of (Page g) e so_far is shows =
-      subst (λ (x : Ending). IsJobAnswer found may entries after more (said_end x)) (sym shows.0)
-      (subst (λ (s : PageSums). IsJobAnswer found may entries after s None) (sym shows.2)
-      (subst (λ (l : List ℕ). IsJobAnswer found may entries l sums None) (sym shows.1)
-      (cut so_far)))
+      subst (λ (x : Ending). IsJobAnswer found may entries after.text after.warnings after.sums
+      (said_end x)) (sym shows.0)
+      (subst (λ (s : Shown). IsJobAnswer found may entries s.text s.warnings s.sums None)
+      (sym shows.1) (cut so_far))
   last_of (Stop end) e so_far is shows =
       let same : ending_for end ≡ e = cc in
-      subst (λ (x : Ending). IsJobAnswer found may entries after more (said_end x)) same
-      (subst (λ (s : PageSums). IsJobAnswer found may entries after s (said_end (ending_for end)))
-      (sym shows.2)
-      (subst (λ (l : List ℕ). IsJobAnswer found may entries l sums (said_end (ending_for end)))
-      (sym shows.1) (ended end so_far is)))
+      subst (λ (x : Ending). IsJobAnswer found may entries after.text after.warnings after.sums
+      (said_end x)) same
+      (subst (λ (s : Shown). IsJobAnswer found may entries s.text s.warnings s.sums
+      (said_end (ending_for end))) (sym shows.1) (ended end so_far is))
 
   -- the last answer was shown
-  pub shown_end : (e : Ending) → SoFar found entries given before sums
-      → IsNext found may entries given next → Shows next before after sums more result
-      → result ≡ Some e → IsJobAnswer found may entries after more (said_end e)
+  pub shown_end : (e : Ending) → SoFar found entries given before
+      → IsNext found may entries given next → Shows next before after result → result ≡ Some e
+      → IsJobAnswer found may entries after.text after.warnings after.sums (said_end e)
   shown_end e so_far is shows some = last_of next e so_far is
-      (subst (λ (x : Option Ending). Shows next before after sums more x) some shows)
+      (subst (λ (x : Option Ending). Shows next before after x) some shows)
+
+-- a page that was not zeroed has no warning
+unwarned : (g : G) → g.zeroed ≡ false → warning_for g ≡ []
+unwarned g none = rw none refl
+
+not_zeroed : (on b : Bool) → (b ≡ true → on ≡ true) → on ≡ false → b ≡ false
+not_zeroed on false told off = refl
+not_zeroed on true told off = (let is = told refl in absurd (cc))
+
+-- where no page is given as zeros, there is still no warning
+pub still_quiet : (on : Bool) (next : Said (Unit {0})) (before after : Shown)
+    (result : Option Ending) → IfZeroed next (on ≡ true) → Shows next before after result
+    → (on ≡ false → before.warnings ≡ []) → on ≡ false → after.warnings ≡ []
+still_quiet on (Page g) before after None zeroed shows quiet off =
+    let none = unwarned g (not_zeroed on g.zeroed zeroed off) in
+    let was = quiet off in
+    let now = shows.1 in
+    now ∙ rw (none, was) refl
+still_quiet on (Page g) before after (Some e) zeroed shows quiet off =
+    ap (λ (s : Shown). s.warnings) shows.1 ∙ quiet off
+still_quiet on (Stop end) before after None zeroed shows quiet off =
+    ap (λ (s : Shown). s.warnings) shows.1 ∙ quiet off
+still_quiet on (Stop end) before after (Some e) zeroed shows quiet off =
+    ap (λ (s : Shown). s.warnings) shows.1 ∙ quiet off
+
+-- a page that was read was appended and counted, or there was no memory
+pub page_shown : {T F : Type 0} (r : Result T F) (g : G) (text text' warnings : List ℕ)
+    (sums sums' : PageSums) (result : Option Ending) → g.zeroed ≡ false
+    → OnOk r ((text' ≡ text ++ page_text_of g.entry.relation g.entry.block g.page)
+    × (sums' ≡ tallied sums g.page))
+    → OnErr r ((text' ≡ text) × (sums' ≡ sums))
+    → OnOk r (result ≡ None) → OnErr r (result ≡ Some ending.NoMemory)
+    → Shows (Page g) (shown text warnings sums) (shown text' warnings sums') result
+page_shown (Ok x) g text text' warnings sums sums' result read ok err none some =
+    subst (λ (e : Option Ending). Shows (Page g) (shown text warnings sums)
+    (shown text' warnings sums') e) (sym none)
+    (ok.0, sym (ap (λ (l : List ℕ). warnings ++ l) (unwarned g read) ∙ append-nil warnings), ok.1)
+page_shown (Err x) g text text' warnings sums sums' result read ok err none some =
+    subst (λ (e : Option Ending). Shows (Page g) (shown text warnings sums)
+    (shown text' warnings sums') e) (sym some)
+    (refl, rw (err.0, err.1) refl)
 
 -- pages that are answers are valid
-first_valid : (told : Option Told) (entries : List E) (pages : List G)
-    → AreFirst (reader_of told) entries pages → All (λ g. IsValid g.page) pages
-first_valid None entries pages first = first.0
-first_valid (Some t) entries pages first =
+first_valid : (on : Bool) (told : Option Told) (entries : List E) (pages : List G)
+    → AreFirst (reader_of on told) entries pages → All (λ g. IsValid g.page) pages
+first_valid on None entries pages first = λ k d below. (first.0 k d below).valid
+first_valid on (Some t) entries pages first =
     λ k d below.
     (let among = front_get pages first.0 k d below in
-    pages_valid t entries k (get_or pages k d)
+    pages_valid (zeroing on (found_at t)) (zeroing-valid on t) entries k (get_or pages k d)
     (ap (λ (l : List G). slice_get l k) first.1 ∙ among))
 
 -- up to 64 pages and their line pointers can be counted
-pub next_fits : (told : Option Told) (may : E → Type 0) (entries : List E) (given : ℕ)
-    (next : Said (Unit {0})) (text : List ℕ) (sums : PageSums) → length entries ≤ 64
-    → SoFar (reader_of told) entries given text sums
-    → IsNext (reader_of told) may entries given next
-    → IfPage next (λ page. FitSums (tallied sums page))
-next_fits told may entries given (Stop end) text sums few so_far is = tt
-next_fits told may entries given (Page g) text sums few so_far is =
-    let found = reader_of told in
+pub next_fits : (on : Bool) (told : Option Told) (may : E → Type 0) (entries : List E) (given : ℕ)
+    (next : Said (Unit {0})) (now : Shown) → length entries ≤ 64
+    → SoFar (reader_of on told) entries given now
+    → IsNext (reader_of on told) may entries given next
+    → IfPage next (λ page. FitSums (tallied now.sums page))
+next_fits on told may entries given (Stop end) now few so_far is = tt
+next_fits on told may entries given (Page g) now few so_far is =
+    let found = reader_of on told in
     let P : ℕ → Type 0 = λ n. IsNext found may entries n (Page g) in
     let here = page_anyway found may entries (length so_far.pages) g
     (subst P (sym so_far.count) is) in
     let answers = answered_next found (λ _. ⊤) entries so_far.pages (Page g) so_far.answers here in
-    let valid = first_valid told entries (so_far.pages ++ g ∷ []) answers.first in
+    let valid = first_valid on told entries (so_far.pages ++ g ∷ []) answers.first in
     let within = page_within found may entries given g is in
     let many : length (so_far.pages ++ g ∷ []) < 2 ^ 32 =
     omega (arith, length-append so_far.pages (g ∷ []), so_far.count) in
-    let same : sums_of (so_far.pages ++ g ∷ []) ≡ tallied sums g.page =
+    let same : sums_of (so_far.pages ++ g ∷ []) ≡ tallied now.sums g.page =
     sums_of-push so_far.pages g
     ∙ ap (λ (s : PageSums). tallied s g.page) (sym so_far.sums_are) in
     subst (λ (s : PageSums). FitSums s) same
     (sums_fit (so_far.pages ++ g ∷ []) valid many)
 
 -- an answer of the stream, where the stream is about these blocks
-pub at_place : (found : Option Reader) (p p' : Standing) (q : Known) (r r' : ℕ) (l l' : Blocks)
-    (k : ℕ) (a : StreamNext (Unit {0})) → p' ≡ p → r' ≡ r → l' ≡ l
-    → IsNext found (MayBeUnread p' q) (entries_of r' l') k (said r' a)
-    → IsNext found (MayBeUnread p q) (entries_of r l) k (said r a)
-at_place found p p' q r r' l l' k a ep er el is =
+pub at_place : (on on' : Bool) (told : Option Told) (p p' : Standing) (q : Known) (r r' : ℕ)
+    (l l' : Blocks) (k : ℕ) (a : StreamNext (Unit {0})) → p' ≡ p → r' ≡ r → l' ≡ l → on' ≡ on
+    → IsNext (reader_of on' told) (MayBeUnread p' q) (entries_of r' l') k (said r' a)
+    → IsNext (reader_of on told) (MayBeUnread p q) (entries_of r l) k (said r a)
+at_place on on' told p p' q r r' l l' k a ep er el eo is' =
+    let found = reader_of on told in
+    let is = subst (λ (b : Bool). IsNext (reader_of b told) (MayBeUnread p' q) (entries_of r' l') k
+    (said r' a)) eo is' in
     subst (λ (x : Standing). IsNext found (MayBeUnread x q) (entries_of r l) k (said r a)) ep
     (subst (λ (x : ℕ). IsNext found (MayBeUnread p' q) (entries_of x l) k (said x a)) er
     (subst (λ (x : Blocks). IsNext found (MayBeUnread p' q) (entries_of r' x) k (said r' a)) el is))
+
+pub zeroed_at_place : (on on' : Bool) (r r' : ℕ) (a : StreamNext (Unit {0})) → r' ≡ r → on' ≡ on
+    → IfZeroed (said r' a) (on' ≡ true) → IfZeroed (said r a) (on ≡ true)
+zeroed_at_place on on' r r' a er eo is =
+    subst (λ (b : Bool). IfZeroed (said r a) (b ≡ true)) eo
+    (subst (λ (x : ℕ). IfZeroed (said x a) (on' ≡ true)) er is)
 
 mapped : (r : ℕ) (blocks : List ℕ)
     → map (entry_of r) (map bare blocks) ≡ map (block_entry r) blocks
@@ -362,12 +450,14 @@ endings_wider found may may' entries k (end ∷ more) wider is =
     (ending_wider found may may' entries k end wider is.0, is.1)
 
 -- an entry that may be unread may be so later
-pub job_wider : (found : Option Reader) (may may' : E → Type 0) (entries : List E) (text : List ℕ)
-    (sums : PageSums) (end : Option SaidEnding) → ((e : E) → may e → may' e)
-    → IsJobAnswer found may entries text sums end → IsJobAnswer found may' entries text sums end
-job_wider found may may' entries text sums end wider j = record {
+pub job_wider : (found : Option Reader) (may may' : E → Type 0) (entries : List E)
+    (text warnings : List ℕ) (sums : PageSums) (end : Option SaidEnding)
+    → ((e : E) → may e → may' e) → IsJobAnswer found may entries text warnings sums end
+    → IsJobAnswer found may' entries text warnings sums end
+job_wider found may may' entries text warnings sums end wider j = record {
   pages = j.pages;
   text_is = j.text_is;
+  warnings_are = j.warnings_are;
   sums_are = j.sums_are;
   answers = record {
     first = j.answers.first;
@@ -379,15 +469,23 @@ job_wider found may may' entries text sums end wider j = record {
 -- the answer of the stream is that of the job, also once the stream was closed
 pub job_moved : (found : Option Reader) (p p' : Standing) (q z : Known)
     (reads reads' faults faults' : ℕ) (relation first count : ℕ) (blocks : Blocks)
-    (text : List ℕ) (sums : PageSums) (end : Option SaidEnding) → p' ≡ p
+    (text warnings : List ℕ) (sums : PageSums) (end : Option SaidEnding) → p' ≡ p
     → blocks ≡ consecutive first count → Went q z reads reads' faults faults'
-    → IsJobAnswer found (MayBeUnread p' q) (entries_of relation blocks) text sums end
-    → IsJobAnswer found (MayBeUnread p z) (job_entries relation first count) text sums end
-job_moved found p p' q z reads reads' faults faults' relation first count blocks text sums end same
-    list w a =
-    subst (λ (es : List E). IsJobAnswer found (MayBeUnread p z) es text sums end)
+    → IsJobAnswer found (MayBeUnread p' q) (entries_of relation blocks) text warnings sums end
+    → IsJobAnswer found (MayBeUnread p z) (job_entries relation first count) text warnings sums end
+job_moved found p p' q z reads reads' faults faults' relation first count blocks text warnings sums
+    end same list w a =
+    subst (λ (es : List E). IsJobAnswer found (MayBeUnread p z) es text warnings sums end)
     (ap (entries_of relation) list ∙ range_entries relation first count)
-    (job_wider found (MayBeUnread p q) (MayBeUnread p z) (entries_of relation blocks) text sums end
-    (may_later p q z reads reads' faults faults' w)
+    (job_wider found (MayBeUnread p q) (MayBeUnread p z) (entries_of relation blocks) text warnings
+    sums end (may_later p q z reads reads' faults faults' w)
     (subst (λ (x : Standing). IsJobAnswer found (MayBeUnread x q) (entries_of relation blocks) text
-    sums end) same a))
+    warnings sums end) same a))
+
+-- by what the stream's desk says of damaged pages
+pub job_zeroing : (on on' : Bool) (told : Option Told) (may : E → Type 0) (entries : List E)
+    (text warnings : List ℕ) (sums : PageSums) (end : Option SaidEnding) → on' ≡ on
+    → IsJobAnswer (reader_of on' told) may entries text warnings sums end
+    → IsJobAnswer (reader_of on told) may entries text warnings sums end
+job_zeroing on on' told may entries text warnings sums end same a =
+    subst (λ (b : Bool). IsJobAnswer (reader_of b told) may entries text warnings sums end) same a

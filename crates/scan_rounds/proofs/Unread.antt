@@ -1,9 +1,10 @@
 -- A job that ended in Unread has left the result of a failed I/O in its actor's list.
-use Rattle.std.proofs.Common.{◌≡◌, ℕ, ◌+◌, ◌≤◌, true, List, ◌++◌}
+use Rattle.std.proofs.Common.{◌≡◌, ℕ, ◌+◌, ◌≤◌, Bool, true, List, ◌++◌}
 use Rattle.std.proofs.Common.{cond, ap, arith}
 use Rattle.std.proofs.lemmas.List.Sums.{sum_by-append}
 use Rattle.std.specs.Prelude.{Option}
-use Rattle.page_check.specs.SynchronousAnswer.{Entry, Reader, Unread}
+use Rattle.page_check.specs.Told.{Told}
+use Rattle.page_check.specs.SynchronousAnswer.{Entry, Reader, Unread, reader_of}
 use Rattle.page_check.specs.IsAnswer.{IsEnding}
 use Rattle.aio_word.specs.declared.Class.TheVariants.{Failed}
 use Rattle.aio_word.specs.declared.Kind.TheVariants as kind
@@ -49,21 +50,21 @@ cause_of : (found : Option Reader) (may : E → Type 0) (entries : List E) (k : 
     → IsEnding found may entries k (Unread b) → (x : E) × may x
 cause_of found may entries k b is = (is.next, is.cause)
 
-unread_at : (found : Option Reader) (was : Standing) (q : Known) (j : Job) (text : List ℕ)
-    (sums : PageSums) (e : Ending)
-    → IsJobAnswer found (MayBeUnread was q) (entries_in j) text sums (said_end e)
+unread_at : (found : Option Reader) (was : Standing) (q : Known) (j : Job)
+    (text warnings : List ℕ) (sums : PageSums) (e : Ending)
+    → IsJobAnswer found (MayBeUnread was q) (entries_in j) text warnings sums (said_end e)
     → is_unread e ≡ true → failed_results was.known.marks + 1 ≤ failed_results q.marks
-unread_at found was q j text sums (ending.Unread b) a is =
+unread_at found was q j text warnings sums (ending.Unread b) a is =
     let (x, may) = cause_of found (MayBeUnread was q) (entries_in j) _ b a.answers.endings.0 in
     may_counted was q x may
-unread_at found was q j text sums ending.Pages a is = absurd (cc)
-unread_at found was q j text sums (ending.Invalid b) a is = absurd (cc)
-unread_at found was q j text sums (ending.PastEnd b) a is = absurd (cc)
-unread_at found was q j text sums ending.NoMemory a is = absurd (cc)
+unread_at found was q j text warnings sums ending.Pages a is = absurd (cc)
+unread_at found was q j text warnings sums (ending.Invalid b) a is = absurd (cc)
+unread_at found was q j text warnings sums (ending.PastEnd b) a is = absurd (cc)
+unread_at found was q j text warnings sums ending.NoMemory a is = absurd (cc)
 
 -- a job that ended in Unread left one failed result more
-pub unread_counted : (found : Option Reader) (was : Standing) (q : Known) (j k : Job)
-    → IsListed found (MayBeUnread was q) j k → is_unread k.ending ≡ true
+pub unread_counted : (on : Bool) (told : Option Told) (was : Standing) (q : Known) (j k : Job)
+    → IsListed on told (MayBeUnread was q) j k → is_unread k.ending ≡ true
     → failed_results was.known.marks + 1 ≤ failed_results q.marks
-unread_counted found was q j k l is =
-    unread_at found was q j k.text.items k.tally k.ending l.answer is
+unread_counted on told was q j k l is =
+    unread_at (reader_of on told) was q j k.text.items k.warnings.items k.tally k.ending l.answer is

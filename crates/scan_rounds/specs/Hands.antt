@@ -1,7 +1,6 @@
 -- An actor with its disk, between its calls, and what a round makes of it.
 use Rattle.std.specs.Prelude.{◌≡◌, ◌≢◌, ℕ, ◌+◌, ◌<◌, ◌≤◌, ◌++◌, List, Option, Some, IfSome}
 use Rattle.page_check.specs.Told.{Told}
-use Rattle.page_check.specs.SynchronousAnswer.{reader_of}
 use Rattle.aio_word.specs.declared.Mark.{Mark}
 use Rattle.aio_word.specs.Events.{lives}
 use Rattle.aio_handle.specs.Closing.{IsAtRest}
@@ -76,7 +75,8 @@ module _ {W D : Type 0} (m : Meter D) (told : Option Told) (relations : ℕ) (t 
           ≤ local_marks b.hand.actor.known.marks + b.job.count
       pub idle : b.job.count ≡ 0 → c.job ≡ b.job
       pub listed : b.job.count ≢ 0
-          → IsListed (reader_of told) (MayBeUnread b.hand.actor c.hand.actor.known) b.job c.job
+          → IsListed b.desk.zero told (MayBeUnread b.hand.actor c.hand.actor.known) b.job c.job
+      pub zero : c.desk.zero ≡ b.desk.zero
 
     pub record IsWorker (w : Worker W D) : Type 0 where
       pub hand : IsHand w.hand

@@ -1,7 +1,8 @@
 -- What a job asks for, and what has become of it.
 use Rattle.std.specs.Prelude.{◌≡◌, ℕ, ◌+◌, ◌^◌, ◌<◌, ◌≤◌, List, [], length, count_by, sum_by}
 use Rattle.std.specs.Prelude.{Option, Some, None, Bool, true, false, slice_index_or, ⊤}
-use Rattle.page_check.specs.SynchronousAnswer.{Entry, Reader, Ending as SaidEnding, End}
+use Rattle.page_check.specs.Told.{Told}
+use Rattle.page_check.specs.SynchronousAnswer.{Entry, reader_of, Ending as SaidEnding, End}
 use Rattle.page_check.specs.SynchronousAnswer.{Invalid as SaidInvalid, PastEnd as SaidPastEnd}
 use Rattle.page_check.specs.SynchronousAnswer.{Unread as SaidUnread}
 use Rattle.heap_scan.specs.Job.{IsJobAnswer, job_entries}
@@ -46,6 +47,7 @@ pub record IsFresh (relations : ℕ) (j : Job) : Type 0 where
   pub few : (1 ≤ j.count) × (j.count ≤ 64)
   pub within : j.first + j.count ≤ 2 ^ 32
   pub no_text : j.text.items ≡ []
+  pub no_warnings : j.warnings.items ≡ []
   pub no_tally : j.tally ≡ no_sums
   pub no_ending : j.ending ≡ ending.Pages
 
@@ -53,14 +55,17 @@ pub record IsFresh (relations : ℕ) (j : Job) : Type 0 where
 abbrev pub entries_in : Job → List (Entry (Unit {0}))
 entries_in j = job_entries j.relation j.first j.count
 
--- what has become of a job: the same blocks, with text, sums and ending of their answers
-pub record IsListed (found : Option Reader) (may : Entry (Unit {0}) → Type 0) (j k : Job)
-    : Type 0 where
+-- what has become of a job: the same blocks, with text, warnings, sums and ending of their answers,
+-- where damaged pages are given as zeros or not; where they are not, there is no warning
+pub record IsListed (zero : Bool) (told : Option Told) (may : Entry (Unit {0}) → Type 0)
+    (j k : Job) : Type 0 where
   pub same : (k.relation ≡ j.relation) × (k.first ≡ j.first) × (k.count ≡ j.count)
-  pub answer : IsJobAnswer found may (entries_in j) k.text.items k.tally (said_end k.ending)
+  pub answer : IsJobAnswer (reader_of zero told) may (entries_in j) k.text.items k.warnings.items
+      k.tally (said_end k.ending)
+  pub quiet : zero ≡ false → k.warnings.items ≡ []
 
 -- what has become of jobs that were put, whichever block may be unread
-pub record AreAnswered (found : Option Reader) (asked answered : List Job) : Type 0 where
+pub record AreAnswered (zero : Bool) (told : Option Told) (asked answered : List Job) : Type 0 where
   pub as_many : length answered ≡ length asked
   pub each : (i : ℕ) (j : Job) → i < length asked
-      → IsListed found (λ _. ⊤) (slice_index_or asked i j) (slice_index_or answered i j)
+      → IsListed zero told (λ _. ⊤) (slice_index_or asked i j) (slice_index_or answered i j)

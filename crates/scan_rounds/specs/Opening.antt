@@ -62,6 +62,7 @@ pub record AreStreamsOf (s : ScanSettings) (r : Settings) : Type 0 where
   pub full : r.full ≡ s.full
   pub batch : r.batch ≡ s.batch
   pub segment : r.segment ≡ s.segment
+  pub zero : r.zero ≡ s.zero
 
 -- whether there are workers by a method
 abbrev pub has_workers : MethodKind → Bool
@@ -78,6 +79,7 @@ reads_by d =
       full = d.full;
       batch = d.batched;
       segment = d.segment;
+      zero = d.zero;
     }
 
 -- a desk for the streams of a scan
@@ -147,3 +149,4 @@ pub record IsOpened {W D : Type 0} (m : Meter D) (told : Option Told) (relations
   -- up to the last generation
   pub room : s.room ≡ 2 ^ 58 - 1 - start
   pub unread : s.unread ≡ 0
+  pub zero : s.zero ≡ settings.zero

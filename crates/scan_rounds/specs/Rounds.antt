@@ -1,8 +1,7 @@
 -- What a round does to all backends, to all workers and to the jobs.
-use Rattle.std.specs.Prelude.{◌≡◌, ℕ, ◌<◌, ◌≤◌, List, length, slice_index_or, sum_by, Option}
+use Rattle.std.specs.Prelude.{◌≡◌, ℕ, ◌<◌, ◌≤◌, Bool, List, length, slice_index_or, sum_by, Option}
 use Rattle.std.specs.List.{All}
 use Rattle.page_check.specs.Told.{Told}
-use Rattle.page_check.specs.SynchronousAnswer.{reader_of}
 use Rattle.aio_handle.specs.Shown.{Named}
 use Rattle.method_worker.specs.Shown.{Queue}
 use Rattle.read_stream.specs.Answering.{MayBeUnread}
@@ -45,12 +44,16 @@ module _ {W D : Type 0} where
     pub have : HaveRoom room bs
     pub greatest : (n : ℕ) → HaveRoom n bs → n ≤ room
 
+  -- the streams of each backend give damaged pages as zeros, or none does
+  abbrev pub AreZeroing : Bool → List (Backend W D) → Type 0
+  AreZeroing zero bs = All (λ (b : Backend W D). b.desk.zero ≡ zero) bs
+
   -- each job was listed, by the backend at its place
-  pub record AreListed (told : Option Told) (bs cs : List (Backend W D)) (js ks : List Job)
-      : Type 0 where
+  pub record AreListed (zero : Bool) (told : Option Told) (bs cs : List (Backend W D))
+      (js ks : List Job) : Type 0 where
     pub jobs_are : length ks ≡ length js
     pub each : (i : ℕ) (d : Backend W D) (j : Job) → i < length js
-        → IsListed (reader_of told) (MayBeUnread (slice_index_or bs i d).hand.actor
+        → IsListed zero told (MayBeUnread (slice_index_or bs i d).hand.actor
         (slice_index_or cs i d).hand.actor.known) (slice_index_or js i j) (slice_index_or ks i j)
 
   -- how many results of failed I/Os the backends have taken

@@ -1,5 +1,6 @@
 -- What showing an answer of a stream leaves.
 use Rattle.std.specs.Prelude.{◌≡◌, ℕ, List, ◌++◌, Option, Some, None, ⊤}
+use Rattle.heap_scan.specs.Warnings.{warning_for}
 use Rattle.page_check.specs.IsAnswer.{Next as Said, Page, Stop}
 use Rattle.heap_scan.specs.PageText.{page_text_of}
 use Rattle.heap_scan.specs.Sums.{tallied}
@@ -13,13 +14,22 @@ abbrev pub IfPage : Said (Unit {0}) → (List ℕ → Type 0) → Type 0
 IfPage (Page given) holds = holds given.page
 IfPage (Stop end) holds = ⊤
 
--- a page's text behind the text before it, and the page in the sums, unless there is no memory; or
--- the ending, with text and sums as they were
-abbrev pub Shows : Said (Unit {0}) → List ℕ → List ℕ → PageSums → PageSums → Option Ending → Type 0
-Shows (Page given) before after sums more None =
-    (after ≡ before ++ page_text_of given.entry.relation given.entry.block given.page)
-    × (more ≡ tallied sums given.page)
-Shows (Page given) before after sums more (Some e) =
-    (e ≡ ending.NoMemory) × (after ≡ before) × (more ≡ sums)
-Shows (Stop end) before after sums more result =
-    (result ≡ Some (ending_for end)) × (after ≡ before) × (more ≡ sums)
+-- the text, the warnings and the sums of the pages so far
+pub record Shown : Type 0 where
+  pub text : List ℕ
+  pub warnings : List ℕ
+  pub sums : PageSums
+
+abbrev pub shown : List ℕ → List ℕ → PageSums → Shown
+shown text warnings sums = record { text = text; warnings = warnings; sums = sums }
+
+-- a page's text and its warning, if it was zeroed, behind those before it, and the page in the
+-- sums, unless there is no memory; or the ending, with all as it was
+abbrev pub Shows : Said (Unit {0}) → Shown → Shown → Option Ending → Type 0
+Shows (Page given) before after None =
+    (after.text ≡ before.text
+    ++ page_text_of given.entry.relation given.entry.block given.page)
+    × (after.warnings ≡ before.warnings ++ warning_for given)
+    × (after.sums ≡ tallied before.sums given.page)
+Shows (Page given) before after (Some e) = (e ≡ ending.NoMemory) × (after ≡ before)
+Shows (Stop end) before after result = (result ≡ Some (ending_for end)) × (after ≡ before)

@@ -1,6 +1,5 @@
 //! An actor with its disk.
 ghost use Rattle.std.specs.Prelude.{◌≡◌, ◌<◌, ◌≤◌, ◌+◌, ℕ};
-ghost use Rattle.page_check.specs.SynchronousAnswer.{reader_of};
 ghost use Rattle.aio_word.specs.Events.{lives};
 ghost use Rattle.method_worker.specs.Shown.{IsSeatOf};
 ghost use Rattle.read_stream.specs.Answering.{MayBeUnread};
@@ -56,8 +55,8 @@ impl<W: World, D: Disk> Hand<W, D> {
             ≤ lives h self.old.actor.known.marks + 64 }
         ensures taken { local_marks self.new.actor.known.marks
             ≤ local_marks self.old.actor.known.marks + job.old.count }
-        ensures desk { IsFree desk.new }
-        ensures job { IsListed (reader_of W.told)
+        ensures desk { IsFree desk.new × (desk.new.zero ≡ desk.old.zero) }
+        ensures job { IsListed desk.old.zero W.told
             (MayBeUnread self.old.actor self.new.actor.known) job.old job.new }
     {
         let Some(disk) = self.disk.take() else {

@@ -16,11 +16,11 @@ pub enum Ending {
     Unread(u32),
     /// The relation has no such block; the pages before it were listed.
     PastEnd(u32),
-    /// There was no memory for a page's text; the pages before it were listed.
+    /// There was no memory for a page's text or its warning; the pages before it were listed.
     NoMemory,
 }
 
-/// Some blocks of a relation, with the text of their pages and the sums over them.
+/// Some blocks of a relation, with the text of their pages, the warnings and the sums over them.
 #[derive(Drop)]
 pub struct Job {
     pub relation: u32,
@@ -29,6 +29,8 @@ pub struct Job {
     pub count: u32,
     /// The text of the pages, in their order.
     pub text: Vec<u8>,
+    /// The warnings of those of them that were invalid and are given as zeros, in the same order.
+    pub warnings: Vec<u8>,
     /// The sums over the pages of the text.
     pub tally: PageSums,
     pub ending: Ending,
@@ -39,6 +41,7 @@ impl Job {
     pub fn new(alloc: Global) -> Job
         ensures count { result.count ≡ 0 }
         ensures text { result.text.items ≡ [] }
+        ensures warnings { result.warnings.items ≡ [] }
         ensures tally { result.tally ≡ no_sums }
         ensures ending { result.ending ≡ Ending.Pages }
     {
@@ -47,16 +50,19 @@ impl Job {
             first: 0,
             count: 0,
             text: Vec::new(alloc),
+            warnings: Vec::new(alloc),
             tally: PageSums::default(),
             ending: Ending::Pages,
         }
     }
 
-    /// Asks for these blocks. The text is empty then, and keeps its memory; the sums are 0.
+    /// Asks for these blocks. Text and warnings are empty then, and keep their memory; the sums are
+    /// 0.
     pub fn ask(&mut self, relation: u32, first: u32, count: u32)
         ensures blocks { (self.new.relation ≡ relation) × (self.new.first ≡ first)
             × (self.new.count ≡ count) }
         ensures text { self.new.text.items ≡ [] }
+        ensures warnings { self.new.warnings.items ≡ [] }
         ensures tally { self.new.tally ≡ no_sums }
         ensures ending { self.new.ending ≡ Ending.Pages }
     {
@@ -64,6 +70,7 @@ impl Job {
         self.first = first;
         self.count = count;
         self.text.clear();
+        self.warnings.clear();
         self.tally = PageSums::default();
         self.ending = Ending::Pages;
     }

@@ -57,6 +57,7 @@ fn stream_settings(settings: &ScanSettings) -> Settings
         full: settings.full,
         batch: settings.batch,
         segment: settings.segment,
+        zero: settings.zero,
     }
 }
 

@@ -160,6 +160,7 @@ fn man<W: World, D: Disk>(
         jobs: memory.jobs,
         room: LAST_GENERATION - start,
         unread: 0,
+        zero: settings.zero,
         opened,
         actors: lists.actors,
         disks: lists.disks,
@@ -187,6 +188,7 @@ impl<W: World, D: Disk> Scan<W, D> {
         ensures taken { IfOk result (λ s. taken_by s.backends.items ≡ 0) }
         ensures room { IfOk result (λ s. s.room ≡ 2 ^ 58 - 1) }
         ensures unread { IfOk result (λ s. s.unread ≡ 0) }
+        ensures zero { IfOk result (λ s. s.zero ≡ settings.now.zero) }
         ensures back { IfErr result (λ d. d ≡ disks) }
     {
         Scan::open_at(alloc, settings, disks, 0)
@@ -217,6 +219,7 @@ impl<W: World, D: Disk> Scan<W, D> {
         ensures taken { IfOk result (λ s. taken_by s.backends.items ≡ 0) }
         ensures room { IfOk result (λ s. s.room ≡ 2 ^ 58 - 1 - start) }
         ensures unread { IfOk result (λ s. s.unread ≡ 0) }
+        ensures zero { IfOk result (λ s. s.zero ≡ settings.now.zero) }
         ensures back { IfErr result (λ d. d ≡ disks) }
     {
         match Memory::open(alloc, settings, start) {

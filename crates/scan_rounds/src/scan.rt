@@ -26,6 +26,8 @@ pub struct Scan<W: World, D: Disk> {
     pub(crate) room: u64,
     // How many jobs have ended in Unread.
     pub(crate) unread: u64,
+    // Whether damaged pages are given as zeros.
+    pub(crate) zero: bool,
     // The disks as they were when the scan was opened, those of the backends first.
     pub(crate) opened: Snapshot<Vec<D>>,
     // Empty, with room for all actors and all disks.

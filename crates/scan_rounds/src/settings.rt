@@ -31,4 +31,6 @@ pub struct ScanSettings {
     pub full: bool,
     /// The segment size in blocks (`RELSEG_SIZE`), at least 1: no read crosses a multiple of it.
     pub segment: u32,
+    /// Whether damaged pages are given as zeros, with a warning (`zero_damaged_pages`).
+    pub zero: bool,
 }

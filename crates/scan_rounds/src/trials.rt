@@ -34,6 +34,7 @@ pub(crate) const USUAL: ScanSettings = ScanSettings {
     batch: false,
     full: false,
     segment: 131072,
+    zero: false,
 };
 
 /// Some blocks of relation 0: the first, and how many.
@@ -50,6 +51,7 @@ pub(crate) enum Parts {
 #[derive(Drop)]
 pub(crate) struct Shown {
     pub text: Vec<u8>,
+    pub warnings: Vec<u8>,
     pub tally: PageSums,
     pub ending: Ending,
 }
@@ -81,6 +83,7 @@ fn is_in_range(settings: &ScanSettings) -> bool
         batch: _,
         full: _,
         segment,
+        zero: _,
     } = *settings;
     let actors = 1 <= workers && workers <= 32 && 1 <= backends && backends <= 16;
     let reads = 1 <= combine && combine <= 128 && 1 <= concurrency && concurrency <= 256;
@@ -206,12 +209,14 @@ fn list_round<W: World + Send + Sync, D: Disk, R: Threads + Wait + Sync>(
     for job in jobs {
         let Job {
             text,
+            warnings,
             tally,
             ending,
             ..
         } = job;
         all.push(Shown {
             text,
+            warnings,
             tally,
             ending,
         })?;

@@ -9,9 +9,10 @@ use std::test::Fail;
 use std::thread::Threads;
 
 /// The first block of a read, how many blocks were asked for, and how many came.
-type Read = (u32, u32, Option<u32>);
+pub(crate) type Read = (u32, u32, Option<u32>);
 
-fn reads_of(alloc: Global, run: &Ended) -> Result<Vec<Read>, Fail> {
+/// The reads of a run, in their order.
+pub(crate) fn reads_of(alloc: Global, run: &Ended) -> Result<Vec<Read>, Fail> {
     let mut reads = Vec::new(alloc);
     for entry in run.shelf.log() {
         reads.push((entry.first, entry.asked, entry.answered))?;

@@ -57,15 +57,17 @@ struct Asked {
     from: Option<u32>,
     to: Option<u32>,
     files: Vec<usize>,
+    /// Whether damaged pages are listed as zeros.
+    zero: bool,
 }
 
-// The listing, the line and the status for two files `a` and `b`.
+// The listing, what is said on the error stream and the status for two files `a` and `b`.
 fn slow_run(
     alloc: Global,
     asked: &Asked,
     contents: &[Vec<u8>],
 ) -> Result<(String, String, u8), Fail> {
-    let mut text = String::new(alloc);
+    let (mut text, mut said) = (String::new(alloc), String::new(alloc));
     let first_named = asked.files.as_slice().first().copied().unwrap_or(0);
     for file in asked.files.as_slice() {
         let relation = if *file == first_named { 0usize } else { 1 };
@@ -75,20 +77,23 @@ fn slow_run(
         let after = asked.to.map_or(blocks, |last| last.saturating_add(1));
         for block in asked.from.unwrap_or(0)..after {
             if block >= blocks {
-                return Ok((text, format!(in alloc; "no page {relation} {block}\n")?, 6));
+                writeln!(said, "no page {relation} {block}")?;
+                return Ok((text, said, 6));
             }
             let page = bytes.get(8192 * block as usize..).unwrap_or(&[]);
             let page = page.get(..8192).unwrap_or(&[]);
-            if !list_page(&mut text, relation, block, page)? {
-                return Ok((
-                    text,
-                    format!(in alloc; "invalid page {relation} {block}\n")?,
-                    1,
-                ));
+            if list_page(&mut text, relation, block, page)? {
+                continue;
             }
+            if !asked.zero {
+                writeln!(said, "invalid page {relation} {block}")?;
+                return Ok((text, said, 1));
+            }
+            writeln!(text, "page {relation} {block} new")?;
+            writeln!(said, "zeroed page {relation} {block}")?;
         }
     }
-    Ok((text, String::new(alloc), 0))
+    Ok((text, said, 0))
 }
 
 // A number below `limit`, and the next state.
@@ -124,7 +129,7 @@ fn random_block(state: &mut u64) -> Option<u32> {
     }
 }
 
-fn random_asked(alloc: Global, state: &mut u64) -> Result<Asked, AllocError> {
+fn random_asked(alloc: Global, state: &mut u64, zero: bool) -> Result<Asked, AllocError> {
     let mut files = Vec::new(alloc);
     for _ in 0..1 + pick(state, 3) {
         files.push(if pick(state, 2) == 0 { 0usize } else { 1 })?;
@@ -133,6 +138,7 @@ fn random_asked(alloc: Global, state: &mut u64) -> Result<Asked, AllocError> {
         from: random_block(state),
         to: random_block(state),
         files,
+        zero,
     })
 }
 
@@ -145,22 +151,26 @@ fn line_of(alloc: Global, asked: &Asked, settings: &str) -> Result<String, Fail>
     if let Some(block) = asked.to {
         write!(line, " --to={block}")?;
     }
+    if asked.zero {
+        line.push_str(" --zero-damaged")?;
+    }
     for file in asked.files.as_slice() {
         line.push_str(if *file == 0 { " a" } else { " b" })?;
     }
     Ok(line)
 }
 
-// Compares 2,000 random requests under random settings with the plain slow lister.
-fn check_requests<R: Abort + AllocGlobal + Threads + Wait + Sync>(
+/// Compares 2,000 random requests under random settings with the plain slow lister.
+pub(crate) fn check_requests<R: Abort + AllocGlobal + Threads + Wait + Sync>(
     rt: &R,
     mut state: u64,
+    zero: bool,
 ) -> Result<(), Fail> {
     let alloc = rt.alloc();
     for request in 0..2000 {
         let a = random_file(alloc, &mut state)?;
         let b = random_file(alloc, &mut state)?;
-        let asked = random_asked(alloc, &mut state)?;
+        let asked = random_asked(alloc, &mut state, zero)?;
         let settings = random_settings(alloc, &mut state)?;
         let contents = vec![in alloc; a.clone()?, b.clone()?]?;
         let (text, wanted, status) = slow_run(alloc, &asked, contents.as_slice())?;
@@ -187,25 +197,25 @@ fn check_requests<R: Abort + AllocGlobal + Threads + Wait + Sync>(
 
 #[test]
 fn random_requests_of_the_first_seed(rt: HostRuntime) -> Result<(), Fail> {
-    check_requests(&rt, 20261126)
+    check_requests(&rt, 20261126, false)
 }
 
 #[test]
 fn random_requests_of_the_second_seed(rt: HostRuntime) -> Result<(), Fail> {
-    check_requests(&rt, 20261127)
+    check_requests(&rt, 20261127, false)
 }
 
 #[test]
 fn random_requests_of_the_third_seed(rt: HostRuntime) -> Result<(), Fail> {
-    check_requests(&rt, 20261128)
+    check_requests(&rt, 20261128, false)
 }
 
 #[test]
 fn random_requests_of_the_fourth_seed(rt: HostRuntime) -> Result<(), Fail> {
-    check_requests(&rt, 20261129)
+    check_requests(&rt, 20261129, false)
 }
 
 #[test]
 fn random_requests_of_the_fifth_seed(rt: HostRuntime) -> Result<(), Fail> {
-    check_requests(&rt, 20261130)
+    check_requests(&rt, 20261130, false)
 }

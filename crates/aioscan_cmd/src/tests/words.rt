@@ -16,6 +16,7 @@ const DEFAULTS: ScanSettings = ScanSettings {
     batch: false,
     full: false,
     segment: 131072,
+    zero: false,
 };
 
 // The words with a space behind each.
@@ -51,6 +52,7 @@ fn commands(rt: HostRuntime) -> Result<(), Fail> {
         batch: true,
         full: false,
         segment: 131072,
+        zero: false,
     };
     // Each with the settings, the first block and how many of a file of 10 blocks, and the files.
     let rows = [
@@ -60,6 +62,16 @@ fn commands(rt: HostRuntime) -> Result<(), Fail> {
             "--combine=128 e",
             ScanSettings {
                 combine: 128,
+                ..DEFAULTS
+            },
+            (0, 10),
+            "e ",
+        ),
+        (
+            "--zero-damaged",
+            "e --zero-damaged",
+            ScanSettings {
+                zero: true,
                 ..DEFAULTS
             },
             (0, 10),

@@ -22,7 +22,7 @@ const OPTIONS: [&str; 10] = [
 ];
 
 // The flags.
-const FLAGS: [&str; 3] = ["batch", "full", "stats"];
+const FLAGS: [&str; 4] = ["batch", "full", "stats", "zero-damaged"];
 
 fn option<'a>(alloc: Global, name: &'a str) -> Arg<'a>
     ensures rule { rule_of result ≡ option_rule name.entry.now }

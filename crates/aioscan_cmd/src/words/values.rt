@@ -131,6 +131,7 @@ pub(crate) fn settings(matches: &ArgMatches<'_>) -> Option<ScanSettings>
         batch: flag(matches, "batch"),
         full: flag(matches, "full"),
         segment: SEGMENT_SIZE,
+        zero: flag(matches, "zero-damaged"),
     })
 }
 

@@ -1,44 +1,48 @@
 use Rattle.std.proofs.Common.{arith, refl}
-use Rattle.aioscan_cmd.specs.declared.report.Outcome.TheVariants.{Done}
 use Rattle.aioscan_cmd.proofs.Causing.{written_then}
-use Rattle.aioscan_cmd.proofs.Jobs.{next_listed, next_stopped, all_listed, among_all, none_listed}
+use Rattle.aioscan_cmd.proofs.Jobs.{next_done, next_stopped, all_listed, among_all, none_listed}
+use Rattle.aioscan_cmd.proofs.Telling.{warns_also, warns_none, warns_then}
 use Rattle.aioscan_cmd.proofs.Totals.{gave_more, gave_every}
 use Rattle.aioscan_cmd.proofs.lister.write_jobs.Goals as goal
 
 pub loop-job-init : goal.loop-job-init
 loop-job-init g c = record {
-  lists = none_listed _ _;
+  lists = warns_none _ _ _ _ _ refl (none_listed _ _);
   gave = λ i d below. absurd (omega arith);
   later = omega arith;
 }
 
 pub loop-job-preserved : goal.loop-job-preserved
 loop-job-preserved g c =
-    let writes = c.write_job.ensures.writes.later in record {
-      lists = next_listed c.args.jobs.now c.loop-job.job-index c.job-item.result _ _ _
-          c.loop-job-test.true c.job-item.is Done c.loop-job.invariant.lists
-          c.in-Done.ensures.lists;
+    let writes = c.write_job-outcome.ensures.writes.later in record {
+      lists = warns_then _ _ _ _ _ _
+          (λ v w first second. next_done c.args.jobs.now c.loop-job.job-index c.job-item.result
+          _ _ _ c.loop-job-test.true c.job-item.is c.write_job-outcome.result.0 v w c.in-Done.is
+          first second) c.loop-job.invariant.lists c.write_job-outcome.ensures.lists;
       gave = gave_more c.args.jobs.now c.loop-job.job-index c.job-item.result c.job-item.result
           c.loop-job-test.true c.job-item.is c.loop-job.invariant.gave
-          (c.in-Done.ensures.gave refl);
+          (c.write_job-outcome.ensures.gave c.in-Done.is);
       later = omega (arith, c.loop-job.invariant.later);
     }
 
 pub returns-in_default : goal.returns-in_default
 returns-in_default g c = record {
-  lists = next_stopped c.args.jobs.now c.loop-job.job-index c.job-item.result _ _ _
-      c.loop-job-test.true c.job-item.is c.write_job.result c.in_default.not-Done
-      c.loop-job.invariant.lists c.write_job.ensures.lists;
-  writes = written_then _ _ _ _ c.loop-job.invariant.later c.write_job.ensures.writes;
+  lists = warns_then _ _ _ _ _ _
+      (λ v w first second. next_stopped c.args.jobs.now c.loop-job.job-index c.job-item.result
+      _ _ _ c.loop-job-test.true c.job-item.is c.write_job-outcome.result.0 v w
+      c.in_default.not-Done first second)
+      c.loop-job.invariant.lists c.write_job-outcome.ensures.lists;
+  writes = written_then _ _ _ _ c.loop-job.invariant.later c.write_job-outcome.ensures.writes;
   unread = among_all c.args.jobs.now c.loop-job.job-index _ c.job-item.result c.job-item.result
-      c.loop-job-test.true c.job-item.is c.write_job.ensures.unread;
+      c.loop-job-test.true c.job-item.is c.write_job-outcome.ensures.unread;
   gave = λ is. absurd (c.in_default.not-Done is);
 }
 
 pub returns-clause-lists : goal.returns-clause-lists
 returns-clause-lists g c =
-    all_listed c.args.jobs.now c.loop-job.job-index _ _ c.loop-job-test.false
-    c.loop-job.invariant.lists
+    warns_also _ _ _ _
+    (λ w listed. all_listed c.args.jobs.now c.loop-job.job-index _ _ w c.loop-job-test.false
+    listed) c.loop-job.invariant.lists
 
 pub returns-clause-gave : goal.returns-clause-gave
 returns-clause-gave g c = λ _.

@@ -1,4 +1,4 @@
-use Rattle.std.proofs.Common.{◌≡◌, ◌∙◌, ap, arith, subst, inl, inr}
+use Rattle.std.proofs.Common.{◌≡◌, ◌∙◌, ap, arith, refl, subst, inl, inr}
 use Rattle.std.specs.Prelude.{Some}
 use Rattle.heap_scan.specs.declared.sums.PageSums.{PageSums}
 use Rattle.aio_disk.specs.Counts.{Rose}
@@ -8,38 +8,60 @@ use Rattle.aioscan_cmd.specs.Generated.{summary_of}
 use Rattle.aioscan_cmd.specs.Reading.{GrewBy}
 use Rattle.aioscan_cmd.specs.declared.report.Outcome.TheVariants.{NoMemory}
 use Rattle.aioscan_cmd.proofs.MadeRuns.{all_listed, listed_sums_made, made_contents}
-use Rattle.aioscan_cmd.proofs.MadeRuns.{made_there, one_relation, ran_made}
+use Rattle.aioscan_cmd.proofs.MadeRuns.{made_there, none_to_warn, one_relation, ran_made}
 use Rattle.aioscan_cmd.proofs.MadeRuns.{ran_made_without_memory}
+use Rattle.aioscan_cmd.proofs.Telling.{warns_none}
 use Rattle.aioscan_cmd.proofs.made.list_made.Goals as goal
+
+pub returns-in_default-clause-ran : goal.returns-in_default-clause-ran
+returns-in_default-clause-ran g c =
+    warns_none _ _ _ _ _ c.without_reads.ensures.line
+    (λ k. ran_made_without_memory _ c.args.pages _ k _ _ c.without_reads.ensures.outcome refl)
 
 pub returns-then-is_done-clause-ran : goal.returns-then-is_done-clause-ran
 returns-then-is_done-clause-ran g c =
     let made = c.requires.made in
-    let told = ap (λ (files : Files). told_of (Some files) (relations_of c.args.command.now))
-    c.in-Ok.ensures ∙ made_contents c.args.pages c.args.command.now made in
-    let sums = listed_sums_made c.args.pages c.args.command.now made _ _ _ told
-    (c.is_done.ensures.done c.if-is_done.true) c.list_files-end.ensures.sums in
+    let command = c.args.command.now in
+    let told = ap (λ (files : Files). told_of (Some files) (relations_of command))
+    c.in-Ok.ensures ∙ made_contents c.args.pages command made in
+    let done = c.is_done.ensures.done c.if-is_done.true in
+    let sums = listed_sums_made c.args.pages command made _ _ _ told done
+    c.list_files-end.ensures.sums in
     let b = g.O.Sink.written c.args.out.now in
     let a = g.O.Sink.written c.write_summary.new.out in
     let P : PageSums → Type 0 = λ s. GrewBy c.write_summary.result b a (summary_of s) in
-    λ k. ran_made c.args.pages made.3 b a k c.write_summary.result c.write_summary.ensures.ends
-    (subst P sums c.write_summary.ensures.grew)
+    let ran = c.list_files-end.ensures.ran in
+    let none = none_to_warn c.args.pages command made _ _ _ _ c.list_files-end.result.outcome _
+    told (one_relation c.args.pages command made) ran.are (inl done) in record {
+      warnings = ran.warnings;
+      tells = ran.tells;
+      are = λ k. ran_made command.settings.zero c.args.pages made.3 b a k
+          c.write_summary.result ran.warnings c.write_summary.ensures.ends none
+          (subst P sums c.write_summary.ensures.grew);
+    }
 
 pub returns-clause-ran : goal.returns-clause-ran
 returns-clause-ran g c =
     let made = c.requires.made in
-    let told = ap (λ (files : Files). told_of (Some files) (relations_of c.args.command.now))
-    c.in-Ok.ensures ∙ made_contents c.args.pages c.args.command.now made in
+    let command = c.args.command.now in
+    let told = ap (λ (files : Files). told_of (Some files) (relations_of command))
+    c.in-Ok.ensures ∙ made_contents c.args.pages command made in
     let still : ¬ Rose 0 0 = λ rose. absurd (omega (arith, rose)) in
-    let there = ap (λ (files : Files). are_there files.named (relations_of c.args.command.now))
-    c.in-Ok.ensures ∙ made_there c.args.pages c.args.command.now made in
-    let ended = all_listed c.args.pages c.args.command.now made _ _ _ _
-    c.list_files-end.result.outcome _ _ _ _ told
-    (one_relation c.args.pages c.args.command.now made) c.list_files-end.ensures.ran
-    c.list_files-end.ensures.causes c.list_files-end.ensures.words
+    let there = ap (λ (files : Files). are_there files.named (relations_of command))
+    c.in-Ok.ensures ∙ made_there c.args.pages command made in
+    let one = one_relation c.args.pages command made in
+    let ran = c.list_files-end.ensures.ran in
+    let ended = all_listed c.args.pages command made _ _ _ _ c.list_files-end.result.outcome _
+    told one ran.are _ _ _ _ c.list_files-end.ensures.causes c.list_files-end.ensures.words
     (c.list_files-end.ensures.sure there) still still still in
+    let none = none_to_warn c.args.pages command made _ _ _ _ c.list_files-end.result.outcome _
+    told one ran.are ended in
     let memory : c.list_files-end.result.outcome ≡ NoMemory = elim ended [
       | inl done ↦ absurd (c.is_done.ensures.other c.if-is_done.false done)
-      | inr none ↦ none
-    ] in
-    λ k. ran_made_without_memory c.args.pages (g.O.Sink.written c.args.out.now) k _ memory
+      | inr no_memory ↦ no_memory
+    ] in record {
+      warnings = ran.warnings;
+      tells = ran.tells;
+      are = λ k. ran_made_without_memory command.settings.zero c.args.pages
+          (g.O.Sink.written c.args.out.now) k _ ran.warnings memory none;
+    }

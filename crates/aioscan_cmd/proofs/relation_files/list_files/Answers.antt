@@ -1,34 +1,38 @@
-use Rattle.std.proofs.Common.{◌∙◌, ap, length, refl}
+use Rattle.std.proofs.Common.{◌∙◌, [], ap, length, refl}
 use Rattle.aio_disk.specs.Shelf.{told_of}
 use Rattle.aioscan_cmd.specs.Command.{relations_of}
 use Rattle.aioscan_cmd.proofs.EndOfRun.{ran_without_memory, ran_unopened, ran_same}
 use Rattle.aioscan_cmd.proofs.EndOfRun.{no_sums_told, sums_same}
+use Rattle.aioscan_cmd.proofs.Telling.{warns_also, warns_none}
 use Rattle.aioscan_cmd.proofs.relation_files.list_files.Goals as goal
 
 pub returns-in_default-clause-ran : goal.returns-in_default-clause-ran
 returns-in_default-clause-ran g c =
-    ran_without_memory _ _ _ _ _ _ _ c.without_reads.ensures.outcome refl
+    warns_none _ _ _ _ _ c.without_reads.ensures.line
+    (ran_without_memory _ _ _ _ _ _ _ c.without_reads.ensures.outcome refl)
 
 pub returns-in-Err-Device-clause-ran : goal.returns-in-Err-Device-clause-ran
 returns-in-Err-Device-clause-ran g c =
-    ran_unopened _ _ _ _ _ _ _ _ c.without_reads-in-Err-Device.ensures.outcome refl
-    c.open.ensures.reads
+    warns_none _ _ _ _ _ c.without_reads-in-Err-Device.ensures.line
+    (ran_unopened _ _ _ _ _ _ _ _ [] c.without_reads-in-Err-Device.ensures.outcome refl refl
+    c.open.ensures.reads)
 
 pub returns-in-Err-Memory-clause-ran : goal.returns-in-Err-Memory-clause-ran
 returns-in-Err-Memory-clause-ran g c =
-    ran_without_memory _ _ _ _ _ _ _ c.without_reads-in-Err-Memory.ensures.outcome
-    c.open.ensures.reads
+    warns_none _ _ _ _ _ c.without_reads-in-Err-Memory.ensures.line
+    (ran_without_memory _ _ _ _ _ _ _ c.without_reads-in-Err-Memory.ensures.outcome
+    c.open.ensures.reads)
 
 pub returns-clause-ran : goal.returns-clause-ran
 returns-clause-ran g c =
     let names = c.names.ensures.names ∙ c.in-Ok.ensures in
-    ran_same
+    warns_also _ _ _ _ (λ w ran. ran_same
     (told_of (g.S.Shelf.told c.args.shelf.now) (relations_of c.args.command.now))
     (g.S.Disk.Disk.told c.in-Ok-open.disk) _ _ c.args.command.now
-    (g.O.Sink.written c.args.out.now) _ _ _ _
+    (g.O.Sink.written c.args.out.now) _ _ _ _ w
     (c.in-Ok-open.ensures.contents
     ∙ ap (told_of (g.S.Shelf.told c.args.shelf.now)) names) (ap length c.in-Ok.ensures)
-    c.open.ensures.reads c.scan_disk.ensures.ran
+    c.open.ensures.reads ran) c.scan_disk.ensures.ran
 
 pub returns-in_default-clause-sums : goal.returns-in_default-clause-sums
 returns-in_default-clause-sums g c =

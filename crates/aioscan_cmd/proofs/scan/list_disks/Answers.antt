@@ -1,7 +1,7 @@
 use Rattle.std.proofs.Common.{◌∙◌, ap, arith, sum_by}
-use Rattle.page_check.specs.SynchronousAnswer.{reader_of}
 use Rattle.aioscan_cmd.proofs.EndOfScan.{no_reads, some_fault, nothing_counted, nothing_listed}
 use Rattle.aioscan_cmd.proofs.EndOfScan.{none_by_workers}
+use Rattle.aioscan_cmd.proofs.Telling.{warns_none}
 use Rattle.aioscan_cmd.proofs.scan.list_disks.Goals as goal
 
 pub returns-clause-unread : goal.returns-clause-unread
@@ -40,7 +40,8 @@ returns-clause-counted g c =
 
 pub returns-in-Err-clause-lists : goal.returns-in-Err-clause-lists
 returns-in-Err-clause-lists g c =
-    nothing_listed (reader_of g.W.World.told) c.args.asked _ _ c.without_reads.ensures.outcome
+    warns_none _ _ _ _ _ c.without_reads.ensures.line
+    (nothing_listed _ g.W.World.told c.args.asked _ _ c.without_reads.ensures.outcome)
 
 pub returns-in-Err-clause-counted : goal.returns-in-Err-clause-counted
 returns-in-Err-clause-counted g c =

@@ -1,36 +1,61 @@
-use Rattle.std.proofs.Common.{rules, refl, subst}
+use Rattle.std.proofs.Common.{◌∙◌, Bool, rules, refl, sym, ap, subst}
 use Rattle.page_check.specs.SynchronousAnswer.{reader_of}
+use Rattle.scan_rounds.specs.declared.settings.ScanSettings.{ScanSettings}
 use Rattle.aioscan_cmd.specs.Cutting.{requests_for}
+use Rattle.aioscan_cmd.specs.ErrorLine.{Tells, error_stream}
 use Rattle.aioscan_cmd.specs.Reading.{Lists, HasWritten}
+use Rattle.aioscan_cmd.specs.Sums.{HasSums}
+use Rattle.aioscan_cmd.specs.declared.report.Line.TheVariants.{Whole}
 use Rattle.aioscan_cmd.proofs.Rounds.{all_listed, all_written, all_summed}
 use Rattle.aioscan_cmd.proofs.Totals.{zero_sums}
 use Rattle.aioscan_cmd.proofs.scan.list_rounds.Goals as goal
 
 pub returns-clause-lists : goal.returns-clause-lists
 returns-clause-lists g c =
+    let t = c.run-lister.result in
+    let before = error_stream Whole (g.E.Sink.written c.args.err.now)
+    (g.E.Sink.faults c.args.err.now) in
+    let listed = all_listed g.W.World.told g.O.Sink.written g.O.Sink.faults g.E.Sink.written
+    g.E.Sink.faults (requests_for c.args.asked) _ t refl c.of-blocks.ensures.all
+    (zero_sums c.default.result c.default.ensures) c.run-lister.ensures.follows
+    c.run-lister.ensures.over in
+    let zero_is = ap (λ (s : ScanSettings). s.zero) c.settings.ensures.settings in
+    let Z : Bool → Type 0 = λ z.
+    Lists z g.W.World.told (requests_for c.args.asked) (g.O.Sink.written c.args.out.now)
+    (g.O.Sink.written t.out.now) t.outcome listed.warnings in
     let P : g.row.O.Denot → Type 0 = λ o.
-    Lists (reader_of g.W.World.told) (requests_for c.args.asked) (g.O.Sink.written c.args.out.now)
-    (g.O.Sink.written o) c.run-lister.result.outcome in
-    subst P (search rules)
-    (all_listed (reader_of g.W.World.told) g.O.Sink.written g.O.Sink.faults
-    (requests_for c.args.asked) _ c.run-lister.result refl c.of-blocks.ensures.all
-    (zero_sums c.default.result c.default.ensures)
-    c.run-lister.ensures.follows c.run-lister.ensures.over)
+    Lists c.args.asked.command.now.settings.zero g.W.World.told (requests_for c.args.asked)
+    (g.O.Sink.written c.args.out.now) (g.O.Sink.written o) t.outcome listed.warnings in
+    let Q : g.row.E.Denot → Type 0 = λ e.
+    Tells listed.warnings before
+    (error_stream t.line (g.E.Sink.written e) (g.E.Sink.faults e)) in
+    let loan = c.run-lister.ensures.follows.0 in
+    let err_loan = c.run-lister.ensures.follows.1 in record {
+      warnings = listed.warnings;
+      tells = subst Q (sym (c.err-1.given.1 (sym err_loan) ∙ c.give_back-2.ensures)) listed.tells;
+      are = subst P (sym (c.out-1.given.1 (sym loan) ∙ c.give_back.ensures))
+          (subst Z zero_is listed.are);
+    }
 
 pub returns-clause-writes : goal.returns-clause-writes
 returns-clause-writes g c =
     let P : g.row.O.Denot → Type 0 = λ o.
     HasWritten (g.O.Sink.faults c.args.out.now) (g.O.Sink.faults o)
     c.run-lister.result.outcome in
-    subst P (search rules)
-    (all_written (reader_of g.W.World.told) g.O.Sink.written g.O.Sink.faults
-    (requests_for c.args.asked) _ c.run-lister.result refl c.of-blocks.ensures.all
-    (zero_sums c.default.result c.default.ensures)
+    let loan = c.run-lister.ensures.follows.0 in
+    subst P (search (rules, loan, c.out-1.given.1))
+    (all_written g.W.World.told g.O.Sink.written g.O.Sink.faults g.E.Sink.written
+    g.E.Sink.faults (requests_for c.args.asked) _ c.run-lister.result refl
+    c.of-blocks.ensures.all (zero_sums c.default.result c.default.ensures)
     c.run-lister.ensures.follows)
 
 pub returns-clause-sums : goal.returns-clause-sums
-returns-clause-sums g c =
-    all_summed (reader_of g.W.World.told) g.O.Sink.written g.O.Sink.faults
-    (requests_for c.args.asked) _ c.run-lister.result refl c.of-blocks.ensures.all
-    (zero_sums c.default.result c.default.ensures) c.run-lister.ensures.follows
-    c.run-lister.ensures.over
+returns-clause-sums g c = λ done.
+    (let zero_is = ap (λ (s : ScanSettings). s.zero) c.settings.ensures.settings in
+    let Z : Bool → Type 0 = λ z.
+    HasSums (reader_of z g.W.World.told) (requests_for c.args.asked) c.run-lister.result.sums in
+    subst Z zero_is
+    (all_summed g.W.World.told g.O.Sink.written g.O.Sink.faults g.E.Sink.written
+    g.E.Sink.faults (requests_for c.args.asked) _ c.run-lister.result refl
+    c.of-blocks.ensures.all (zero_sums c.default.result c.default.ensures)
+    c.run-lister.ensures.follows c.run-lister.ensures.over done))

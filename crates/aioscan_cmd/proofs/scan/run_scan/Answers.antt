@@ -2,47 +2,50 @@ use Rattle.std.proofs.Common.{arith, refl, ap, sym, length}
 use Rattle.aioscan_cmd.proofs.EndOfRun.{ran_without_memory, no_sums_told, listed_sums}
 use Rattle.aioscan_cmd.proofs.EndOfScan.{ended_ran, ended_counted, ended_in_order}
 use Rattle.aioscan_cmd.proofs.EndOfScan.{ended_by_causes, ended_not_usage}
+use Rattle.aioscan_cmd.proofs.Telling.{warns_also, warns_none}
 use Rattle.aioscan_cmd.proofs.scan.run_scan.Goals as goal
 
 pub returns-in_default-clause-ran : goal.returns-in_default-clause-ran
 returns-in_default-clause-ran g c =
-    ran_without_memory _ _ _ _ _ _ _ c.without_reads.ensures.outcome
-    (omega (arith, c.take_back.ensures.reads, c.requires.unread.1))
+    warns_none _ _ _ _ _ c.without_reads.ensures.line
+    (ran_without_memory _ _ _ _ _ _ _ c.without_reads.ensures.outcome
+    (omega (arith, c.take_back.ensures.reads, c.requires.unread.1)))
 
 pub returns-clause-ran : goal.returns-clause-ran
 returns-clause-ran g c =
     let e = c.open_and_list-disks.ensures in
     let back = c.take_all_back.ensures in
-    ended_ran c.args.asked _ _ _ _ _ _ _ _ e.scanned _ back.open_faults _ back.length_faults
-    back.faults back.reads _ _ _ e.counted refl g.W.World.told (g.S.Disk.Disk.told c.args.first) _
-    refl (sym c.requires.told.0) (ap length c.requires.asked.relations_are) c.requires.lengths
+    warns_also _ _ _ _ (λ w scanned. ended_ran c.args.asked _ _ _ _ _ _ _ _ w scanned _
+    back.open_faults _ back.length_faults back.faults back.reads _ _ _ e.counted refl
+    (g.S.Disk.Disk.told c.args.first) _ (sym c.requires.told.0)
+    (ap length c.requires.asked.relations_are) c.requires.lengths) e.scanned
 
 pub returns-clause-counted : goal.returns-clause-counted
 returns-clause-counted g c =
     let e = c.open_and_list-disks.ensures in
     let back = c.take_all_back.ensures in
-    ended_counted c.args.asked _ _ _ _ _ _ _ _ e.scanned _ back.open_faults _ back.length_faults
-    back.faults back.reads _ _ _ e.counted refl
+    ended_counted c.args.asked _ _ _ _ _ _ _ _ _ e.scanned.are _ back.open_faults _
+    back.length_faults back.faults back.reads _ _ _ e.counted refl
 
 pub returns-clause-causes : goal.returns-clause-causes
 returns-clause-causes g c =
     let e = c.open_and_list-disks.ensures in
     let back = c.take_all_back.ensures in
-    ended_by_causes c.args.asked _ _ _ _ _ _ _ _ e.scanned _ back.open_faults _
+    ended_by_causes c.args.asked _ _ _ _ _ _ _ _ _ e.scanned.are _ back.open_faults _
     back.length_faults back.faults back.reads _ _ e.writes
 
 pub returns-clause-order : goal.returns-clause-order
 returns-clause-order g c =
     let e = c.open_and_list-disks.ensures in
     let back = c.take_all_back.ensures in
-    ended_in_order c.args.asked _ _ _ _ _ _ _ _ e.scanned _ back.open_faults _
+    ended_in_order c.args.asked _ _ _ _ _ _ _ _ _ e.scanned.are _ back.open_faults _
     back.length_faults back.faults back.reads
 
 pub returns-clause-words : goal.returns-clause-words
 returns-clause-words g c =
     let e = c.open_and_list-disks.ensures in
     let back = c.take_all_back.ensures in
-    ended_not_usage c.args.asked _ _ _ _ _ _ _ _ e.scanned _ back.open_faults _
+    ended_not_usage c.args.asked _ _ _ _ _ _ _ _ _ e.scanned.are _ back.open_faults _
     back.length_faults back.faults back.reads
 
 pub returns-in_default-clause-sums : goal.returns-in_default-clause-sums

@@ -1,6 +1,7 @@
 use Rattle.std.proofs.Common.{ℕ, arith, subst}
 use Rattle.aioscan_cmd.specs.Lengths.{HasNoLengths}
 use Rattle.aioscan_cmd.proofs.EndOfRun.{ran_refused, refused_sums}
+use Rattle.aioscan_cmd.proofs.Telling.{warns_none}
 use Rattle.aioscan_cmd.proofs.scan.scan_disk.Goals as goal
 
 pub returns-in-Err-clause-ran : goal.returns-in-Err-clause-ran
@@ -8,14 +9,15 @@ returns-in-Err-clause-ran g c =
     let P : ℕ → Type 0 =
     λ n. HasNoLengths (g.S.Disk.Disk.told c.args.disk) (g.S.Disk.Disk.segment c.args.disk) n
     c.in-Err.outcome in
-    ran_refused _ _ _ _ _ _ _ _ _ c.without_reads.ensures.outcome
+    warns_none _ _ _ _ _ c.without_reads.ensures.line
+    (ran_refused _ _ _ _ _ _ _ _ _ c.without_reads.ensures.outcome
     (omega (
       arith,
       c.take_back.ensures.reads,
       c.take_lengths.ensures.reads,
       c.requires.unread.2,
     ))
-    (subst P c.count.ensures.count c.in-Err.ensures.lengths)
+    (subst P c.count.ensures.count c.in-Err.ensures.lengths))
 
 pub returns-in-Err-clause-sums : goal.returns-in-Err-clause-sums
 returns-in-Err-clause-sums g c =

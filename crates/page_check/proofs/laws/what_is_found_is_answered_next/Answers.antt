@@ -3,7 +3,7 @@ use Rattle.page_check.proofs.laws.what_is_found_is_answered_next.Goals as goal
 
 pub returns-clause-page : goal.returns-clause-page
 returns-clause-page g c =
-    λ found es k e page here. next-page g.M.MayBeUnread.may es k e here found page
+    λ found es k e shown here. next-page g.M.MayBeUnread.may es k e here found shown
 
 pub returns-clause-invalid : goal.returns-clause-invalid
 returns-clause-invalid g c =

@@ -1,35 +1,51 @@
-use Rattle.std.proofs.Common.{◌≡◌, arith, refl, sym, ◌∙◌, ap}
+use Rattle.std.proofs.Common.{◌≡◌, ◌-◌, arith, refl, sym, ◌∙◌, ap}
 use Rattle.aio_result.specs.declared.AioResult.{AioResult}
 use Rattle.aio_callback.specs.Reading.{Reading}
-use Rattle.read_stream.proofs.PartCases.{part_rest, part_invalid, part_unread, part_past}
+use Rattle.aio_callback.specs.Cases.{stream_ids}
+use Rattle.read_stream.proofs.PartCases.{ids_zero, part_rest, part_invalid, part_unread, part_past}
 use Rattle.read_stream.proofs.parts.part_of.Goals as goal
+
+pub returns-then-index-good : goal.returns-then-index-good
+returns-then-index-good g c =
+    let io : Reading = c.args.io.now in
+    let law = c.stream_records_end_in_six_ways.ensures in
+    let (zero, ids) = c.requires.ids in
+    let good = c.good-good.ensures.value in
+    let first = c.first.ensures in
+    let below = c.if-index-good.true in (
+      omega arith,
+      ids_zero zero io (c.args.block - io.first) ids
+          (λ off. law.not_zeroed g.W.World.told g.W.World.relations io c.requires.fits
+          c.requires.ended off (c.args.block - io.first)),
+    )
 
 pub returns-then-result-eq2 : goal.returns-then-result-eq2
 returns-then-result-eq2 g c =
     let io : Reading = c.args.io.now in
-    let law = c.stream_records_end_in_five_ways.ensures in
-    let case = law.case g.W.World.told g.W.World.relations io c.requires.fits c.requires.ended
-    c.requires.ids in
-    let given = law.given io c.requires.ids in
+    let law = c.stream_records_end_in_six_ways.ensures in
+    let (zero, ids) = c.requires.ids in
+    let case = law.case g.W.World.told g.W.World.relations io zero c.requires.fits
+    c.requires.ended ids in
+    let given = law.given io zero ids in
     let good = c.good-good.ensures.value in
     let first = c.first.ensures in
     let is : c.result-result.result ≡ io.result = c.result-result.ensures in
     let id : c.result-result.result.id ≡ io.result.id = ap (λ (z : AioResult). z.id) is in
     let two = c.if-result-eq2.true in
     let below = c.if-index-good.false in
-    let above = c.if-index-good-2.false in (
-      refl,
-      part_invalid g.W.World.told io c.args.block c.requires.has case (omega arith)
-          (ap (λ (z : AioResult). z.status) (sym is) ∙ c.in-Error.is) (omega arith),
-    )
+    let above = c.if-index-good-2.false in
+    let both = part_invalid zero g.W.World.told io c.args.block c.requires.has case (omega arith)
+    (ap (λ (z : AioResult). z.status) (sym is) ∙ c.in-Error.is) (omega arith) in
+    (refl, ids ∙ ap stream_ids both.0, both.1)
 
 pub returns-then-result-eq1 : goal.returns-then-result-eq1
 returns-then-result-eq1 g c =
     let io : Reading = c.args.io.now in
-    let law = c.stream_records_end_in_five_ways.ensures in
-    let case = law.case g.W.World.told g.W.World.relations io c.requires.fits c.requires.ended
-    c.requires.ids in
-    let given = law.given io c.requires.ids in
+    let law = c.stream_records_end_in_six_ways.ensures in
+    let (zero, ids) = c.requires.ids in
+    let case = law.case g.W.World.told g.W.World.relations io zero c.requires.fits
+    c.requires.ended ids in
+    let given = law.given io zero ids in
     let good = c.good-good.ensures.value in
     let first = c.first.ensures in
     let is : c.result-result.result ≡ io.result = c.result-result.ensures in
@@ -39,7 +55,7 @@ returns-then-result-eq1 g c =
     let one = c.if-result-eq1.true in
     let below = c.if-index-good.false in
     let above = c.if-index-good-2.false in
-    let both = part_unread g.W.World.told io c.args.block c.requires.has case (omega arith)
+    let both = part_unread zero g.W.World.told io c.args.block c.requires.has case (omega arith)
     (ap (λ (z : AioResult). z.status) (sym is) ∙ c.in-Error.is) (λ e. two (id ∙ e))
     (omega arith) in
     (refl, both.0, both.1)
@@ -47,10 +63,11 @@ returns-then-result-eq1 g c =
 pub returns-else-result-eq1 : goal.returns-else-result-eq1
 returns-else-result-eq1 g c =
     let io : Reading = c.args.io.now in
-    let law = c.stream_records_end_in_five_ways.ensures in
-    let case = law.case g.W.World.told g.W.World.relations io c.requires.fits c.requires.ended
-    c.requires.ids in
-    let given = law.given io c.requires.ids in
+    let law = c.stream_records_end_in_six_ways.ensures in
+    let (zero, ids) = c.requires.ids in
+    let case = law.case g.W.World.told g.W.World.relations io zero c.requires.fits
+    c.requires.ended ids in
+    let given = law.given io zero ids in
     let good = c.good-good.ensures.value in
     let first = c.first.ensures in
     let is : c.result-result.result ≡ io.result = c.result-result.ensures in
@@ -61,7 +78,7 @@ returns-else-result-eq1 g c =
     let below = c.if-index-good.false in
     let above = c.if-index-good-2.false in (
       refl,
-      part_past g.W.World.told io c.args.block c.requires.has case (omega arith)
+      part_past zero g.W.World.told io c.args.block c.requires.has case (omega arith)
           (ap (λ (z : AioResult). z.status) (sym is) ∙ c.in-Error.is) (λ e. two (id ∙ e))
           (λ e. one (er ∙ e)),
     )
@@ -69,13 +86,14 @@ returns-else-result-eq1 g c =
 pub returns-in_default : goal.returns-in_default
 returns-in_default g c =
     let io : Reading = c.args.io.now in
-    let law = c.stream_records_end_in_five_ways.ensures in
-    let case = law.case g.W.World.told g.W.World.relations io c.requires.fits c.requires.ended
-    c.requires.ids in
-    let given = law.given io c.requires.ids in
+    let law = c.stream_records_end_in_six_ways.ensures in
+    let (zero, ids) = c.requires.ids in
+    let case = law.case g.W.World.told g.W.World.relations io zero c.requires.fits
+    c.requires.ended ids in
+    let given = law.given io zero ids in
     let good = c.good-good.ensures.value in
     let first = c.first.ensures in
     let is : c.result-result.result ≡ io.result = c.result-result.ensures in
     let below = c.if-index-good.false in
-    part_rest g.W.World.told io c.args.block c.requires.has case (omega arith)
+    part_rest zero g.W.World.told io c.args.block c.requires.has case (omega arith)
     (λ e. c.in_default.not-Error (ap (λ (z : AioResult). z.status) is ∙ e))

@@ -1,5 +1,5 @@
 use Rattle.std.proofs.lemmas.List.{get_or_default}
-use Rattle.scan_rounds.proofs.Going.{first_closed}
+use Rattle.scan_rounds.proofs.Going.{first_closed, zeroing_closed}
 use Rattle.scan_rounds.proofs.course.close_queue.Goals as goal
 
 pub returns-clause-waiting : goal.returns-clause-waiting
@@ -8,3 +8,8 @@ returns-clause-waiting g c =
     (first_closed _ _ _ _ _ c.args.backends.now _ c.close.new.self c.args.counts
     c.requires.waiting (get_or_default _ 0 _ _ c.requires.waiting.some) r.0 r.1 r.2
     c.close.ensures.seat).0
+
+pub returns-clause-zeroing : goal.returns-clause-zeroing
+returns-clause-zeroing g c on all =
+    zeroing_closed c.args.backends.now _ c.close.new.self
+    (get_or_default _ 0 _ _ c.requires.waiting.some) c.close.ensures.rest.1 on all

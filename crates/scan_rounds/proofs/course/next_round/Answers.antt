@@ -1,8 +1,8 @@
-use Rattle.std.proofs.Common.{rules, sym, ap, subst, arith, List}
+use Rattle.std.proofs.Common.{rules, sym, ap, ◌∙◌, subst, arith, List}
 use Rattle.std.specs.List.{All}
 use Rattle.scan_rounds.specs.Jobs.{IsFresh, AreAnswered, blocks_among}
 use Rattle.scan_rounds.specs.declared.job.Job.{Job}
-use Rattle.scan_rounds.proofs.Going.{gone_nowhere, answered_by, some_blocks}
+use Rattle.scan_rounds.proofs.Going.{gone_nowhere, answered_as, answered_by, some_blocks}
 use Rattle.scan_rounds.proofs.course.next_round.Goals as goal
 
 pub returns-then-count-eq0-clause-gone : goal.returns-then-count-eq0-clause-gone
@@ -45,9 +45,17 @@ returns-clause-gone g c =
 pub returns-clause-follows : goal.returns-clause-follows
 returns-clause-follows g c =
     c.end.ensures.follows _ _ c.put-count.ensures.puts
-    (subst (λ (js : List Job). AreAnswered _ js c.one_round.new.jobs)
-    c.split_at_mut-front.ensures.front (answered_by _ _ _ _ _ c.requires.waiting.some
-    c.one_round.ensures.listed))
+    (answered_as _ _ _ _ _ c.put-count.ensures.zero
+    (subst (λ (js : List Job). AreAnswered (g.A.Agenda.zero c.args.agenda.now) g.W.World.told js
+    c.one_round.new.jobs)
+    c.split_at_mut-front.ensures.front (answered_by _ _ _ _ _ _ c.requires.waiting.some
+    (c.one_round.ensures.listed _ c.requires.zeroing))))
+
+pub returns-clause-zeroing : goal.returns-clause-zeroing
+returns-clause-zeroing g c = (
+  c.one_round.ensures.zeroing _ c.requires.zeroing,
+  c.end.ensures.zero ∙ c.put-count.ensures.zero,
+)
 
 pub returns-clause-nearer : goal.returns-clause-nearer
 returns-clause-nearer g c on =

@@ -2,9 +2,11 @@ use Rattle.std.proofs.Common.{rules, sym, ap, ◌∙◌, subst, arith}
 use Rattle.aio_handle.specs.Shown.{Standing}
 use Rattle.aio_word.specs.Events.{lives}
 use Rattle.read_stream.specs.Open.{IsFree}
+use Rattle.read_stream.specs.declared.desk.Desk.{Desk}
 use Rattle.read_stream.specs.Went.{local_marks}
 use Rattle.read_stream.proofs.Going.{went_then}
 use Rattle.scan_rounds.proofs.Showing.{source_length, source_counted, job_moved}
+use Rattle.scan_rounds.proofs.Showing.{job_zeroing}
 use Rattle.scan_rounds.proofs.list.list.Goals as goal
 
 pub open-stream-requires-clause-room : goal.open-stream-requires-clause-room
@@ -28,8 +30,12 @@ pub returns-clause-desk : goal.returns-clause-desk
 returns-clause-desk g c =
     let name = c.close-desk.ensures.desk.0
     ∙ (c.show_all-job.ensures.desk ∙ c.open-stream.ensures.desk) in
-    subst (λ d. IsFree d) (sym (c.desk-1.given.1 (sym name) ∙ c.give_back.ensures))
-    c.close-desk.ensures.desk.1
+    let same = c.desk-1.given.1 (sym name) ∙ c.give_back.ensures in (
+      subst (λ d. IsFree d) (sym same) c.close-desk.ensures.desk.1,
+      ap (λ (d : Desk _ (Unit {0})). d.zero) same ∙ c.close-desk.ensures.desk.2.6
+          ∙ (sym c.show_all-job.ensures.is_open.between.steady.zero
+          ∙ (c.show_all-job.ensures.zero ∙ c.open-stream.ensures.zero)),
+    )
 
 pub returns-clause-lived : goal.returns-clause-lived
 returns-clause-lived g c h =
@@ -45,10 +51,12 @@ returns-clause-lived g c h =
 pub returns-clause-job : goal.returns-clause-job
 returns-clause-job g c = record {
   same = search rules;
-  answer = job_moved _ _ _ _ _ _ _ _ _ _ _ _ _ _ _ _ c.open-stream.ensures.actor.0
+  answer = job_zeroing _ _ _ _ _ _ _ _ _ c.open-stream.ensures.zero
+      (job_moved _ _ _ _ _ _ _ _ _ _ _ _ _ _ _ _ _ c.open-stream.ensures.actor.0
       (source_counted _ _ _ _ (c.open-stream.ensures.source ∙ c.new-source.ensures)
       (omega arith)) c.close-desk.ensures.went
-      c.show_all-job.ensures.answer;
+      c.show_all-job.ensures.answer);
+  quiet = λ off. c.show_all-job.ensures.quiet (c.open-stream.ensures.zero ∙ off);
 }
 
 pub returns-clause-taken : goal.returns-clause-taken

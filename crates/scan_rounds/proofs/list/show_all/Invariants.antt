@@ -1,9 +1,10 @@
-use Rattle.std.proofs.Common.{◌≡◌, ◌-◌, length}
+use Rattle.std.proofs.Common.{◌≡◌, ◌-◌, false, [], length}
 use Rattle.page_check.specs.SynchronousAnswer.{reader_of}
 use Rattle.aio_handle.specs.Shown.{IsOf, IsSame}
 use Rattle.read_stream.specs.Answering.{entries_of}
 use Rattle.read_stream.specs.Open.{IsOpen}
 use Rattle.read_stream.specs.Went.{Went}
+use Rattle.scan_rounds.specs.Showing.{shown}
 use Rattle.scan_rounds.proofs.Showing.{SoFar}
 use Rattle.scan_rounds.proofs.list.show_all.Given as goal
 
@@ -22,10 +23,12 @@ invariant-loop-ending g l = record {
   is_open : IsOpen (λ r. r) g.W.World.told g.W.World.relations g.W.World.handles l.stream;
   was : (l.stream.scope.was.value ≡ l.fn.stream.scope.was.value)
       × (l.stream.source_was.value ≡ l.fn.stream.source_was.value);
+  zero : l.stream.scope.zero ≡ l.fn.stream.scope.zero;
   desk : l.stream.desk.ghost_name ≡ l.fn.stream.desk.ghost_name;
-  so_far : SoFar (reader_of g.W.World.told)
-      (entries_of l.relation l.fn.stream.source_was.value) l.stream.given l.text.items
-      l.sums;
+  so_far : SoFar (reader_of l.fn.stream.scope.zero g.W.World.told)
+      (entries_of l.relation l.fn.stream.source_was.value) l.stream.given
+      (shown l.text.items l.warnings.items l.sums);
+  quiet : l.fn.stream.scope.zero ≡ false → l.warnings.items ≡ [];
 }
 
 abbrev pub decreases-loop-ending : goal.decreases-loop-ending

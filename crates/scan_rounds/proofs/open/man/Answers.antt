@@ -50,6 +50,7 @@ returns g c =
       jobs = c.args.memory.jobs;
       room = 2 ^ 58 - 1 - c.args.start;
       unread = 0;
+      zero = c.args.settings.now.zero;
       opened = c.of-opened.result;
       actors = c.args.memory.lists.actors;
       disks = c.args.memory.lists.disks;
@@ -73,6 +74,7 @@ returns g c =
       jobs_are = memory.jobs_are;
       room = refl;
       unread = refl;
+      zero = refl;
       actors_fit = memory.lists.actors_fit;
       disks_fit = memory.lists.disks_fit;
     }

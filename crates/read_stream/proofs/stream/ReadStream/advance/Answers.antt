@@ -94,6 +94,7 @@ returns-clause-follows g c =
       actor_was = was;
       actor_is = is;
       relation = ap (λ (z : Scope g.row.W.Denot). z.relation) keeps.scope;
+      zero = ap (λ (z : Scope g.row.W.Denot). z.zero) keeps.scope;
       given = omega arith;
       found = refl;
       is_open = record {

@@ -32,6 +32,7 @@ returns-clause-is_open g c =
     let ios : e.ios ≡ d.ios = ap (λ (z : Desk W P). z.ios) is in
     let limit : e.limit ≡ d.limit = ap (λ (z : Desk W P). z.limit) is in
     let segment : e.segment ≡ d.segment = ap (λ (z : Desk W P). z.segment) is in
+    let zeroes : e.zero ≡ d.zero = ap (λ (z : Desk W P). z.zero) is in
     let reads : e.reads ≡ begun d.reads = ap (λ (z : Desk W P). z.reads) is in
     let items : e.queue.items ≡ [] =
     ap (λ (z : Desk W P). z.queue.items) is ∙ c.requires.desk.queue in
@@ -62,6 +63,7 @@ returns-clause-is_open g c =
       combine = d.combine;
       total = d.ios + 1;
       batched = d.batched;
+      zero = d.zero;
       most = c.room.result;
       was = c.of.result;
     } in
@@ -103,6 +105,7 @@ returns-clause-is_open g c =
           place = c.requires.relation;
           settings = rw (combine, ios, limit, segment) c.requires.desk.settings;
           scope = (sym combine, ap (λ (z : ℕ). z + 1) (sym ios));
+          zero = sym zeroes;
           queue = let l = c.requires.desk.most_blocks in omega arith;
           wants = let l = c.requires.desk.most_wants in omega arith;
           short = omega arith;
@@ -117,7 +120,7 @@ returns-clause-is_open g c =
         made = omega arith;
         going = record {
           few = omega arith;
-          readable = none-given (reader_of g.W.World.told) _;
+          readable = none-given (reader_of d.zero g.W.World.told) _;
           blocks = ap
               (λ (z : List (Asked P)). map asked_of z ++ g.S.BlockSource.left c.args.source) items
               ∙ sym (ap (λ z. g.S.BlockSource.left z) src);

@@ -27,7 +27,7 @@ returns-clause-scan g c =
     e.ran c.exchange-idle.ensures (search rules) c.count_unread.ensures in
     scan_again _ _ _ c.args.self.now _ _ _ c.requires.scan r.table (search rules) (search rules)
     d.now
-    e.worked d.go_on d.many refl refl refl refl
+    e.worked d.go_on d.zeroing d.many refl refl refl refl
 
 pub returns-clause-same : goal.returns-clause-same
 returns-clause-same g c =
@@ -40,6 +40,7 @@ returns-clause-same g c =
       config = ap (λ (t : Named). t.config) r.table;
       as_many = d.many ∙ (search rules);
       opened = refl;
+      zero = refl;
     }
 
 pub returns-clause-listed : goal.returns-clause-listed
