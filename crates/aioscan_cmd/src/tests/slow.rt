@@ -160,6 +160,39 @@ fn line_of(alloc: Global, asked: &Asked, settings: &str) -> Result<String, Fail>
     Ok(line)
 }
 
+// Runs a request over the files `a` and `b`, and compares what it shows with what the plain slow
+// lister gives.
+fn compare<R: Abort + AllocGlobal + Threads + Wait + Sync>(
+    rt: &R,
+    request: u32,
+    asked: &Asked,
+    settings: &str,
+    a: Vec<u8>,
+    b: Vec<u8>,
+) -> Result<(), Fail> {
+    let alloc = rt.alloc();
+    let contents = vec![in alloc; a.clone()?, b.clone()?]?;
+    let (text, wanted, status) = slow_run(alloc, asked, contents.as_slice())?;
+    let line = line_of(alloc, asked, settings)?;
+    let files = vec![in alloc;
+        (String::from_str(alloc, "a")?, a),
+        (String::from_str(alloc, "b")?, b),
+    ]?;
+    let done = run(rt, files, STEADY, line.as_str(), (&[], &[]))?;
+    assert_eq!(rt;
+        done.out.bytes(),
+        text.as_str().as_bytes(),
+        "request {request}: {line}"
+    );
+    assert_eq!(rt;
+        done.err.bytes(),
+        wanted.as_str().as_bytes(),
+        "request {request}: {line}"
+    );
+    assert_eq!(rt; done.report.status, status, "request {request}: {line}");
+    Ok(())
+}
+
 /// Compares 2,000 random requests under random settings with the plain slow lister.
 pub(crate) fn check_requests<R: Abort + AllocGlobal + Threads + Wait + Sync>(
     rt: &R,
@@ -172,25 +205,36 @@ pub(crate) fn check_requests<R: Abort + AllocGlobal + Threads + Wait + Sync>(
         let b = random_file(alloc, &mut state)?;
         let asked = random_asked(alloc, &mut state, zero)?;
         let settings = random_settings(alloc, &mut state)?;
-        let contents = vec![in alloc; a.clone()?, b.clone()?]?;
-        let (text, wanted, status) = slow_run(alloc, &asked, contents.as_slice())?;
-        let line = line_of(alloc, &asked, settings.as_str())?;
-        let files = vec![in alloc;
-            (String::from_str(alloc, "a")?, a),
-            (String::from_str(alloc, "b")?, b),
-        ]?;
-        let done = run(rt, files, STEADY, line.as_str(), (&[], &[]))?;
-        assert_eq!(rt;
-            done.out.bytes(),
-            text.as_str().as_bytes(),
-            "request {request}: {line}"
-        );
-        assert_eq!(rt;
-            done.err.bytes(),
-            wanted.as_str().as_bytes(),
-            "request {request}: {line}"
-        );
-        assert_eq!(rt; done.report.status, status, "request {request}: {line}");
+        compare(rt, request, &asked, settings.as_str(), a, b)?;
+    }
+    Ok(())
+}
+
+// A random file with one more damaged page.
+fn damaged_file(alloc: Global, state: &mut u64) -> Result<Vec<u8>, AllocError> {
+    let mut file = random_file(alloc, state)?;
+    file.extend_from_slice(file_of(alloc, &[DAMAGED])?.as_slice())?;
+    file.extend_from_slice(random_file(alloc, state)?.as_slice())?;
+    Ok(file)
+}
+
+/// Compares 500 random damaged files, by both methods, with the plain slow lister.
+pub(crate) fn check_damaged_files<R: Abort + AllocGlobal + Threads + Wait + Sync>(
+    rt: &R,
+    mut state: u64,
+) -> Result<(), Fail> {
+    let alloc = rt.alloc();
+    let asked = Asked {
+        from: None,
+        to: None,
+        files: vec![in alloc; 0usize]?,
+        zero: true,
+    };
+    for file in 0..500 {
+        let bytes = damaged_file(alloc, &mut state)?;
+        let again = bytes.clone()?;
+        compare(rt, file, &asked, "--method sync", bytes, Vec::new(alloc))?;
+        compare(rt, file, &asked, "--method worker", again, Vec::new(alloc))?;
     }
     Ok(())
 }

@@ -3,7 +3,7 @@ use super::outside::{
     DAMAGED, EMPTY, Ended, Parts, STEADY, ZEROS, empty_file, empty_lines, file_of, run, run_over,
 };
 use super::reads::{Read, reads_of};
-use super::slow::check_requests;
+use super::slow::{check_damaged_files, check_requests};
 use crate::Line;
 use std::alloc::Global;
 use std::process::Abort;
@@ -117,4 +117,9 @@ fn an_error_stream_that_fails_at_the_first_warning(rt: HostRuntime) -> Result<()
 #[test]
 fn random_requests_with_zeros(rt: HostRuntime) -> Result<(), Fail> {
     check_requests(&rt, 20261201, true)
+}
+
+#[test]
+fn random_damaged_files_by_both_methods(rt: HostRuntime) -> Result<(), Fail> {
+    check_damaged_files(&rt, 20261202)
 }
