@@ -1,7 +1,14 @@
-use Rattle.std.proofs.Common.{rules, ◌≡◌, [], ◌∷◌, length, ap, ◌∙◌}
+use Rattle.std.proofs.Common.{rules, ◌≡◌, [], ◌∷◌, length, ap, ◌∙◌, Some, Ok, Err, Result}
+use Rattle.std.specs.Result.{IfOk, result_ok}
 use Rattle.aio_word.specs.declared.WaitRef.{WaitRef}
-use Rattle.aio_callback.specs.Reading.{Reading, aim_in}
+use Rattle.aio_callback.specs.Reading.{Reading, aim_in, aimed_at}
 use Rattle.method_sync.proofs.tests.read_four.Goals as goal
+
+-- what holds of each value holds where there is one
+at_value : {T E : Type 0} (r : Result T E) (x : T) (Q : Type 0)
+    → Some x ≡ result_ok r → IfOk r (λ _. Q) → Q
+at_value (Ok y) x Q some holds = holds
+at_value (Err e) x Q none holds = cc
 
 pub returns-clause-room : goal.returns-clause-room
 returns-clause-room g c =
@@ -16,5 +23,7 @@ returns-clause-room g c =
     ∙ (ap (λ (z : WaitRef × Reading). aim_in z.1) (same ∙ c.stage-token.ensures.token.0)
     ∙ c.define-token.ensures.token.1) in
     let back : length c.reclaim.result.pages ≡ length taken.pages = search rules in
-    let room : length aimed.pages ≡ length c.args.io.pages = search rules in
+    let made = at_value _ _ _ c.in_ok-ok.ensures.value c.aim.ensures.ok in
+    let room : length aimed.pages ≡ length c.args.io.pages =
+    ap (λ (r : Reading). length r.pages) made.1 in
     back ∙ ((c.an_aim_names_the_read.ensures taken aimed aim).room ∙ room)
