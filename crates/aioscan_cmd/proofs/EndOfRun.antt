@@ -4,12 +4,11 @@ use Rattle.std.proofs.Common.{subst, true, false, sym, ◌∙◌, inr}
 use Rattle.std.specs.Prelude.{Option, Some, None, IfSome, slice_index, nat_lt, cond}
 use Rattle.std.proofs.lemmas.Bool.Decides.{nat_tests}
 use Rattle.page_check.specs.Told.{Told, blocks_of}
-use Rattle.page_check.specs.SynchronousAnswer.{found_at, reader_of, zeroing}
 use Rattle.heap_scan.specs.declared.sums.PageSums.{PageSums}
 use Rattle.aio_disk.specs.Counts.{raised_by}
 use Rattle.aio_disk.specs.Shelf.{Files, told_of}
 use Rattle.aio_handle.specs.Executing.{last_count}
-use Rattle.aioscan_cmd.specs.Command.{Command, relations_of}
+use Rattle.aioscan_cmd.specs.Command.{Command, manner_by, relations_of}
 use Rattle.aioscan_cmd.specs.RequestList.{Request, requests_of}
 use Rattle.aioscan_cmd.specs.Sums.{HasSums, HasSumsTold}
 use Rattle.aioscan_cmd.specs.Outcomes.{is_refused}
@@ -54,7 +53,7 @@ ran_out_of_memory told relations command s = record {
   answered = λ _. 0;
   segment = 0;
   in_order = tt;
-  lists = λ is. lists_nothing command.settings.zero told _ s.written;
+  lists = λ is. lists_nothing (manner_by command.settings) told _ s.written;
   few_reads = λ _. omega arith;
   untouched = λ is. (refl, refl);
 }
@@ -146,7 +145,8 @@ pub ran_listed : (told now : Option Told) (segment relations : ℕ) (command : C
     (lengths : List ℕ) (output after : Option (List ℕ)) (read : ℕ) (o : Outcome) (w : List ℕ)
     → now ≡ told
     → relations ≡ length (relations_of command) → HasLengths told segment relations lengths
-    → Lists command.settings.zero now (requests_of (slice_index lengths) command) output after o w
+    → Lists (manner_by command.settings) now (requests_of (slice_index lengths) command) output
+    after o w
     → (read < last_count → read ≤ length (requests_of (slice_index lengths) command))
     → Ran told relations command (seen output 0) (seen after read) o w
 ran_listed told now segment relations command lengths output after read o w same all has lists few =
@@ -155,7 +155,7 @@ ran_listed told now segment relations command lengths output after read o w same
       segment = segment;
       in_order = fits_where_listed _ _ relations o lists.begun
           (lengths_fit told segment relations lengths has);
-      lists = λ is. lists_same command.settings.zero told _ _ output after o w requests
+      lists = λ is. lists_same (manner_by command.settings) told _ _ output after o w requests
           (rw (← same) lists);
       few_reads = λ below. omega (arith, few below, ap length requests);
       untouched = λ is. absurd (refused_not o lists.begun is);
@@ -254,7 +254,7 @@ pub warned_of_none : (run : SynchronousRun) (b a : Option (List ℕ)) (w text : 
 warned_of_none run b a w text none grew = let some = GrewByPrefix-some b a text grew in record {
   k = 0;
   among = omega arith;
-  reached = (some.0, reached_none b a some.0 some.1);
+  reached = (some.0, reached_none run.text_of b a some.0 some.1);
   are = none ∙ sym no_warnings;
 }
 
@@ -308,17 +308,15 @@ refused_sums told command o refusal sums segment relations is has =
 pub listed_sums : (told now : Option Told) (segment relations : ℕ) (command : Command)
     (lengths : List ℕ) (o : Outcome) (sums : PageSums) → now ≡ told
     → relations ≡ length (relations_of command) → HasLengths told segment relations lengths
-    → (o ≡ Done → HasSums (reader_of command.settings.zero now)
+    → (o ≡ Done → HasSums (manner_by command.settings) now
     (requests_of (slice_index lengths) command) sums)
     → HasSumsTold told command o sums
 listed_sums None now segment relations command lengths o sums same all has listed = tt
 listed_sums (Some t) now segment relations command lengths o sums same all has listed = λ done.
     (let requests = same_requests (Some t) segment relations command lengths all has in
     let P : Option Told → Type 0 =
-    λ n. HasSums (reader_of command.settings.zero n) (requests_of (slice_index lengths) command)
-    sums in
-    let Q : List Request → Type 0 =
-    λ l. HasSums (Some (zeroing command.settings.zero (found_at t))) l sums in
+    λ n. HasSums (manner_by command.settings) n (requests_of (slice_index lengths) command) sums in
+    let Q : List Request → Type 0 = λ l. HasSums (manner_by command.settings) (Some t) l sums in
     subst Q requests (subst P same (listed done)))
 
 pub sums_same : (told now : Option Told) (command : Command) (o : Outcome) (sums : PageSums)

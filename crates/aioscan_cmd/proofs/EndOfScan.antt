@@ -1,7 +1,7 @@
 -- What a scan has counted at its end, and what its disks add to a shelf.
 use Rattle.std.proofs.Common.{◌≡◌, ◌≢◌, ◌≤◌, ◌<◌, ◌+◌, ◌⊎◌, ◌∷◌, [], ℕ, List, length, sum_by, refl}
 use Rattle.std.proofs.Common.{sym, ap, ◌∙◌, subst, arith, inl, inr, ⊎_elim, true, false}
-use Rattle.std.specs.Prelude.{Bool, Option, Some, None, IfSome}
+use Rattle.std.specs.Prelude.{Option, Some, None, IfSome}
 use Rattle.std.specs.List.{All}
 use Rattle.std.proofs.lemmas.Bool.{cases_lt}
 use Rattle.std.proofs.lemmas.List.Elements.{All-weaker, All-head, All-tail}
@@ -9,11 +9,12 @@ use Rattle.std.proofs.lemmas.List.Sums.{get_or-le-sum_by, sum_by-cons}
 use Rattle.page_check.specs.Told.{Told}
 use Rattle.aio_disk.specs.Counts.{RisesBy, Rose, ShelfCounts, raised_by}
 use Rattle.aio_handle.specs.Executing.{last_count}
+use Rattle.scan_rounds.specs.Manners.{Manner}
 use Rattle.scan_rounds.specs.Opening.{workers_by, workers_in}
 use Rattle.scan_rounds.specs.declared.settings.MethodKind.{MethodKind}
 use Rattle.scan_rounds.specs.declared.settings.MethodKind.TheVariants as method
 use Rattle.scan_rounds.specs.declared.settings.ScanSettings.{ScanSettings}
-use Rattle.aioscan_cmd.specs.Command.{Command, relations_of}
+use Rattle.aioscan_cmd.specs.Command.{Command, manner_by, relations_of}
 use Rattle.aioscan_cmd.specs.Cutting.{requests_for}
 use Rattle.aioscan_cmd.specs.Disks.{IsUnread}
 use Rattle.aioscan_cmd.specs.Lengths.{HasLengths}
@@ -207,21 +208,24 @@ module _ (asked : Asked) (told : Option Told) (written now_written : Option (Lis
           (is_refusal o)
 
 -- the numbers of a scan that was finished
-no_workers_by : (s : ScanSettings) → s.method ≡ method.Sync → workers_in s ≡ 0
-no_workers_by s is = ap (λ (m : MethodKind). workers_by m s.workers) is
+no_workers_by : (kind : MethodKind) (workers : ℕ) → kind ≢ method.Worker
+    → workers_by kind workers ≡ 0
+no_workers_by method.Sync workers none = refl
+no_workers_by method.Worker workers none = absurd (none refl)
+no_workers_by method.Ring workers none = refl
 
 pub none_by_workers : (s t : ScanSettings) (runners by_runners by_workers : ℕ) → s ≡ t
     → runners ≡ workers_in s → (runners ≡ 0 → by_runners ≡ 0) → by_workers ≡ by_runners
-    → t.method ≡ method.Sync → by_workers ≡ 0
-none_by_workers s t runners by_runners by_workers same are none is sync =
-    is ∙ none (are ∙ ap workers_in same ∙ no_workers_by t sync)
+    → t.method ≢ method.Worker → by_workers ≡ 0
+none_by_workers s t runners by_runners by_workers same are none is kind =
+    is ∙ none (are ∙ ap workers_in same ∙ no_workers_by t.method t.workers kind)
 
 -- there was no memory for a scan
-pub nothing_listed : (zero : Bool) (told : Option Told) (asked : Asked) (s : Option (List ℕ))
-    (o : Outcome) → o ≡ NoMemory → Lists zero told (requests_for asked) s s o []
-nothing_listed zero told asked s o is =
-    let P : Outcome → Type 0 = λ x. Lists zero told (requests_for asked) s s x [] in
-    subst P (sym is) (lists_nothing zero told (requests_for asked) s)
+pub nothing_listed : (m : Manner) (told : Option Told) (asked : Asked) (s : Option (List ℕ))
+    (o : Outcome) → o ≡ NoMemory → Lists m told (requests_for asked) s s o []
+nothing_listed m told asked s o is =
+    let P : Outcome → Type 0 = λ x. Lists m told (requests_for asked) s s x [] in
+    subst P (sym is) (lists_nothing m told (requests_for asked) s)
 
 -- or for a disk
 pub scanned_nothing : (asked : Asked) (told : Option Told) (s : Option (List ℕ))
@@ -233,7 +237,7 @@ pub scanned_nothing : (asked : Asked) (told : Option Told) (s : Option (List ℕ
 scanned_nothing asked told s before now faults reads o is opens others = record {
   opens = opens;
   others = others;
-  lists = λ _. nothing_listed (asked.command.now).settings.zero told asked s o is;
+  lists = λ _. nothing_listed (manner_by (asked.command.now).settings) told asked s o is;
   cannot_open = λ refused. absurd (cc);
   unread = λ r b unread. absurd (cc);
 }
@@ -256,7 +260,7 @@ scan_refused asked told s before now faults reads o is opens others rose no_faul
     }
 
 no_workers_in : (command : Option Command) (n : Numbers) → n.by_workers ≡ 0
-    → IfSome command (λ c. c.settings.method ≡ method.Sync → n.by_workers ≡ 0)
+    → IfSome command (λ c. c.settings.method ≢ method.Worker → n.by_workers ≡ 0)
 no_workers_in None n none = tt
 no_workers_in (Some c) n none = λ _. none
 

@@ -1,7 +1,7 @@
 -- Jobs whose texts are written one after the other.
 use Rattle.std.proofs.Common.{◌≡◌, ◌≢◌, ℕ, zero, suc, ◌+◌, ◌<◌, ◌≤◌, List, [], ◌∷◌, ◌++◌, map, take}
 use Rattle.std.proofs.Common.{drop, length, get_or, refl, sym, ap, ◌∙◌, subst, arith}
-use Rattle.std.proofs.Common.{append-nil, length-append, Bool, true, false}
+use Rattle.std.proofs.Common.{append-nil, length-append, false}
 use Rattle.std.specs.Prelude.{Option, Some, None, slice_get, ⊤, cond}
 use Rattle.std.specs.List.{range_with_len}
 use Rattle.std.proofs.lemmas.Grind.{flat_map-append}
@@ -20,13 +20,15 @@ use Rattle.heap_scan.specs.Job.{IsJobAnswer, block_entry}
 use Rattle.heap_scan.specs.Listing.{listing}
 use Rattle.heap_scan.specs.Warnings.{warnings_of}
 use Rattle.heap_scan.specs.declared.sums.PageSums.{PageSums}
+use Rattle.heap_tuple.specs.Listing.{text_with}
+use Rattle.scan_rounds.specs.Manners.{Manner}
 use Rattle.scan_rounds.specs.Jobs.{IsListed, AreAnswered, entries_in, said_end, unread_among}
 use Rattle.scan_rounds.specs.Jobs.{blocks_among, is_unread}
 use Rattle.scan_rounds.specs.declared.job.Ending.{Ending as JobEnding}
 use Rattle.scan_rounds.specs.declared.job.Ending.TheVariants as ending
 use Rattle.scan_rounds.specs.declared.job.Job.{Job}
 use Rattle.aio_disk.specs.Sink.{Grew, GrewByPrefix}
-use Rattle.aioscan_cmd.specs.RequestList.{Request, block_range, request}
+use Rattle.aioscan_cmd.specs.RequestList.{Page, Request, block_range, request}
 use Rattle.aioscan_cmd.specs.Outcomes.{ending_of, is_refused, stopped_at}
 use Rattle.aioscan_cmd.specs.Reading.{GrewBy, Lists, HasWritten}
 use Rattle.aioscan_cmd.specs.Listing.{requests_in, unread_count, outcome_for, IsListedBy}
@@ -36,7 +38,7 @@ use Rattle.aioscan_cmd.specs.declared.report.Outcome.TheVariants.{Done}
 use Rattle.aioscan_cmd.specs.declared.report.Outcome.TheVariants.{CannotWrite}
 use Rattle.aioscan_cmd.specs.declared.report.Outcome.TheVariants.{NoMemory}
 use Rattle.aioscan_cmd.proofs.Cutting.{block_range_length}
-use Rattle.aioscan_cmd.proofs.Growing.{Grew-same, Grew-stays, GrewByPrefix-some, GrewByPrefix-whole}
+use Rattle.aioscan_cmd.proofs.Growing.{Grew-same, GrewByPrefix-some, GrewByPrefix-whole}
 use Rattle.aioscan_cmd.proofs.Lists.{lists_append, lists_more, lists_same, lists_none}
 use Rattle.aioscan_cmd.proofs.Lists.{no_warnings, reached_none}
 
@@ -98,17 +100,22 @@ module _ (r first count : ℕ) where
       entry_of_range r first count k b stop.0
       (ap (slice_get blocks) ends.0 ∙ sym (stop_of-length f blocks) ∙ stop.1) stop.2
 
-  module _ (zero : Bool) (told : Option Told) (text warnings : List ℕ) (sums : PageSums)
+  module _ (m : Manner) (told : Option Told) (text warnings : List ℕ) (sums : PageSums)
       (b a : Option (List ℕ)) where
     abbrev Answer : Option Ending → Type 0
-    Answer end = IsJobAnswer (reader_of zero told) (λ _. ⊤) blocks text warnings sums end
+    Answer end =
+        IsJobAnswer (text_with m.tuples) (reader_of m.zero told) (λ _. ⊤) blocks text warnings sums
+        end
+
+    abbrev texts : List Page → List ℕ
+    texts pages = listing (text_with m.tuples) pages
 
     -- the job's text was written whole, and its warnings behind it
     listed_whole : (o : Outcome) → is_refused o ≡ false → (answer : Answer (ending_of o))
         → ((e : Request) → stopped_at o ≡ Some e
         → slice_get blocks (length answer.pages) ≡ Some e)
-        → GrewBy o b a text → Grew b a text → (zero ≡ false → warnings ≡ [])
-        → Lists zero told blocks b a o warnings
+        → GrewBy o b a text → Grew b a text → (m.zero ≡ false → warnings ≡ [])
+        → Lists m told blocks b a o warnings
     listed_whole o begun answer here grew all quiet =
         let n = length answer.pages in
         let every = take_all n answer.pages (omega arith) in record {
@@ -125,24 +132,24 @@ module _ (r first count : ℕ) where
           reached = (
             [],
             Grew-same b a text _
-                (answer.text_is ∙ ap listing (sym every)
-                ∙ sym (append-nil (listing (take n answer.pages)))) all,
+                (answer.text_is ∙ ap texts (sym every)
+                ∙ sym (append-nil (texts (take n answer.pages)))) all,
           );
           warned = answer.warnings_are ∙ ap warnings_of (sym every);
           quiet = quiet;
         }
 
     text_listed : (end : JobEnding) → Answer (said_end end) → Grew b a text
-        → (zero ≡ false → warnings ≡ []) → Lists zero told blocks b a (outcome_for r end) warnings
+        → (m.zero ≡ false → warnings ≡ []) → Lists m told blocks b a (outcome_for r end) warnings
     text_listed ending.Pages answer grew quiet =
         listed_whole (outcome_for r ending.Pages) refl answer (λ e is. absurd (cc)) grew grew quiet
     text_listed (ending.Invalid n) answer grew quiet =
         listed_whole (outcome_for r (ending.Invalid n)) refl answer
-        (λ e is. (invalid_here (reader_of zero told) (length answer.pages) n
+        (λ e is. (invalid_here (reader_of m.zero told) (length answer.pages) n
         answer.answers.endings.0 ∙ is)) grew grew quiet
     text_listed (ending.PastEnd n) answer grew quiet =
         listed_whole (outcome_for r (ending.PastEnd n)) refl answer
-        (λ e is. (missing_here (reader_of zero told) (length answer.pages) n
+        (λ e is. (missing_here (reader_of m.zero told) (length answer.pages) n
         answer.answers.endings.0 ∙ is)) grew grew quiet
     text_listed (ending.Unread n) answer grew quiet =
         listed_whole (outcome_for r (ending.Unread n)) refl answer
@@ -164,7 +171,7 @@ module _ (r first count : ℕ) where
     }
 
     unwritten : (end : JobEnding) → Answer (said_end end) → GrewByPrefix b a text
-        → Lists zero told blocks b a CannotWrite []
+        → Lists m told blocks b a CannotWrite []
     unwritten end answer grew = let some = GrewByPrefix-some b a text grew in record {
       begun = refl;
       text = text;
@@ -176,13 +183,13 @@ module _ (r first count : ℕ) where
       whole = 0;
       among = omega arith;
       all = λ is. absurd (cc);
-      reached = (some.0, reached_none b a some.0 some.1);
+      reached = (some.0, reached_none (text_with m.tuples) b a some.0 some.1);
       warned = sym no_warnings;
       quiet = λ _. refl;
     }
 
     unwritten_for_memory : (end : JobEnding) → Answer (said_end end) → GrewByPrefix b a text
-        → Lists zero told blocks b a NoMemory []
+        → Lists m told blocks b a NoMemory []
     unwritten_for_memory end answer grew = let some = GrewByPrefix-some b a text grew in record {
       begun = refl;
       text = text;
@@ -194,7 +201,7 @@ module _ (r first count : ℕ) where
       whole = 0;
       among = omega arith;
       all = λ is. absurd (cc);
-      reached = (some.0, reached_none b a some.0 some.1);
+      reached = (some.0, reached_none (text_with m.tuples) b a some.0 some.1);
       warned = sym no_warnings;
       quiet = λ _. refl;
     }
@@ -202,23 +209,23 @@ module _ (r first count : ℕ) where
 module _ (job : Job) (b a : Option (List ℕ)) where
   pub job_written : (o : Outcome) → o ≡ outcome_for job.relation job.ending
       → Grew b a job.text.items → IsListedBy job b a o job.warnings.items
-  job_written o is grew = λ zeroes told asked listed.
+  job_written o is grew = λ m told asked listed.
       (let w = job.warnings.items in
-      let Q : Outcome → Type 0 = λ x. Lists zeroes told (entries_in asked) b a x w in
-      let R : ℕ → Type 0 = λ r. Lists zeroes told (entries_in asked) b a
+      let Q : Outcome → Type 0 = λ x. Lists m told (entries_in asked) b a x w in
+      let R : ℕ → Type 0 = λ r. Lists m told (entries_in asked) b a
       (outcome_for r job.ending) w in
       subst Q (sym is) (subst R (sym listed.same.0)
-      (text_listed asked.relation asked.first asked.count zeroes told job.text.items w job.tally b a
+      (text_listed asked.relation asked.first asked.count m told job.text.items w job.tally b a
       job.ending listed.answer grew listed.quiet)))
 
   pub job_unwritten : GrewByPrefix b a job.text.items → IsListedBy job b a CannotWrite []
-  job_unwritten grew = λ zeroes told asked listed.
-      unwritten asked.relation asked.first asked.count zeroes told job.text.items job.warnings.items
+  job_unwritten grew = λ m told asked listed.
+      unwritten asked.relation asked.first asked.count m told job.text.items job.warnings.items
       job.tally b a job.ending listed.answer grew
 
   pub job_out_of_memory : GrewByPrefix b a job.text.items → IsListedBy job b a NoMemory []
-  job_out_of_memory grew = λ zeroes told asked listed.
-      unwritten_for_memory asked.relation asked.first asked.count zeroes told job.text.items
+  job_out_of_memory grew = λ m told asked listed.
+      unwritten_for_memory asked.relation asked.first asked.count m told job.text.items
       job.warnings.items job.tally b a job.ending listed.answer grew
 
 ended_unread : (r : ℕ) (end : JobEnding)
@@ -272,51 +279,51 @@ requests_one_more jobs job =
 -- the texts of the first k jobs were written
 abbrev pub FirstListed : List Job → ℕ → Option (List ℕ) → Option (List ℕ) → List ℕ → Type 0
 FirstListed jobs k b a w =
-    (zeroes : Bool) (told : Option Told) (asked : List Job) → AreAnswered zeroes told asked jobs
-    → Lists zeroes told (requests_in (take k asked)) b a Done w
+    (m : Manner) (told : Option Told) (asked : List Job) → AreAnswered m told asked jobs
+    → Lists m told (requests_in (take k asked)) b a Done w
 
-module _ (jobs : List Job) (k : ℕ) (job : Job) (b m a : Option (List ℕ)) (inside : k < length jobs)
-    (is : job ≡ get_or jobs k job) where
+module _ (jobs : List Job) (k : ℕ) (job : Job) (b between a : Option (List ℕ))
+    (inside : k < length jobs) (is : job ≡ get_or jobs k job) where
   -- and then that of the next, up to its end or not
-  pub next_listed : (o : Outcome) (v w : List ℕ) → FirstListed jobs k b m v
-      → IsListedBy job m a o w
-      → (zeroes : Bool) (told : Option Told) (asked : List Job) → AreAnswered zeroes told asked jobs
-      → Lists zeroes told (requests_in (take (k + 1) asked)) b a o (v ++ w)
-  next_listed o v w before here zeroes told asked all =
+  pub next_listed : (o : Outcome) (v w : List ℕ) → FirstListed jobs k b between v
+      → IsListedBy job between a o w
+      → (m : Manner) (told : Option Told) (asked : List Job) → AreAnswered m told asked jobs
+      → Lists m told (requests_in (take (k + 1) asked)) b a o (v ++ w)
+  next_listed o v w before here m told asked all =
       let below : k < length asked = omega (arith, all.as_many) in
       let one = all.each k job below in
       let this = get_or asked k job in
-      let P : Job → Type 0 = λ j. IsListed zeroes told (λ _. ⊤) this j in
+      let P : Job → Type 0 = λ j. IsListed m told (λ _. ⊤) this j in
       let more : requests_in (take (k + 1) asked) ≡ requests_in (take k asked) ++ entries_in this =
       ap requests_in (take_more asked k job below) ∙ requests_one_more (take k asked) this in
-      lists_same zeroes told _ _ b a o (v ++ w) (sym more)
-      (lists_append zeroes told (requests_in (take k asked)) (entries_in this) b m a o v w
-      (before zeroes told asked all) (here zeroes told this (subst P (sym is) one)))
+      lists_same m told _ _ b a o (v ++ w) (sym more)
+      (lists_append m told (requests_in (take k asked)) (entries_in this) b between a o v w
+      (before m told asked all) (here m told this (subst P (sym is) one)))
 
-  pub next_done : (o : Outcome) (v w : List ℕ) → o ≡ Done → FirstListed jobs k b m v
-      → IsListedBy job m a o w → FirstListed jobs (k + 1) b a (v ++ w)
-  next_done o v w done before here = λ zeroes told asked all.
+  pub next_done : (o : Outcome) (v w : List ℕ) → o ≡ Done → FirstListed jobs k b between v
+      → IsListedBy job between a o w → FirstListed jobs (k + 1) b a (v ++ w)
+  next_done o v w done before here = λ m told asked all.
       (let P : Outcome → Type 0 =
-      λ x. Lists zeroes told (requests_in (take (k + 1) asked)) b a x (v ++ w) in
-      subst P done (next_listed o v w before here zeroes told asked all))
+      λ x. Lists m told (requests_in (take (k + 1) asked)) b a x (v ++ w) in
+      subst P done (next_listed o v w before here m told asked all))
 
-  pub next_stopped : (o : Outcome) (v w : List ℕ) → o ≢ Done → FirstListed jobs k b m v
-      → IsListedBy job m a o w → AreListedBy jobs b a o (v ++ w)
-  next_stopped o v w stops before here = λ zeroes told asked all.
+  pub next_stopped : (o : Outcome) (v w : List ℕ) → o ≢ Done → FirstListed jobs k b between v
+      → IsListedBy job between a o w → AreListedBy jobs b a o (v ++ w)
+  next_stopped o v w stops before here = λ m told asked all.
       (let parts : requests_in asked
       ≡ requests_in (take (k + 1) asked) ++ requests_in (drop (k + 1) asked) =
       ap requests_in (sym (take-append-drop (k + 1) asked))
       ∙ flat_map-append entries_in (take (k + 1) asked) (drop (k + 1) asked) in
-      lists_same zeroes told _ _ b a o (v ++ w) (sym parts)
-      (lists_more zeroes told (requests_in (take (k + 1) asked)) (requests_in (drop (k + 1) asked))
-      b a o (v ++ w) stops (next_listed o v w before here zeroes told asked all)))
+      lists_same m told _ _ b a o (v ++ w) (sym parts)
+      (lists_more m told (requests_in (take (k + 1) asked)) (requests_in (drop (k + 1) asked))
+      b a o (v ++ w) stops (next_listed o v w before here m told asked all)))
 
 pub all_listed : (jobs : List Job) (k : ℕ) (b a : Option (List ℕ)) (w : List ℕ)
     → length jobs ≤ k → FirstListed jobs k b a w → AreListedBy jobs b a Done w
-all_listed jobs k b a w all listed = λ zeroes told asked answered.
-    lists_same zeroes told _ _ b a Done w
+all_listed jobs k b a w all listed = λ m told asked answered.
+    lists_same m told _ _ b a Done w
     (ap requests_in (take_all k asked (omega (arith, answered.as_many))))
-    (listed zeroes told asked answered)
+    (listed m told asked answered)
 
 -- a job ends in no fault of a write
 not_write : (r : ℕ) (end : JobEnding) → outcome_for r end ≢ CannotWrite
@@ -334,4 +341,4 @@ stopped_by_job job o before now is later = record {
 }
 
 pub none_listed : (jobs : List Job) (s : Option (List ℕ)) → FirstListed jobs 0 s s []
-none_listed jobs s = λ zeroes told asked all. lists_none zeroes told s
+none_listed jobs s = λ m told asked all. lists_none m told s

@@ -1,5 +1,5 @@
 -- Lists of blocks that were listed one after the other.
-use Rattle.std.proofs.Common.{◌≡◌, ◌≢◌, ◌+◌, ℕ, Bool, List, [], ◌++◌, length, take, refl, sym, ap}
+use Rattle.std.proofs.Common.{◌≡◌, ◌≢◌, ◌+◌, ℕ, List, [], ◌++◌, length, take, refl, sym, ap}
 use Rattle.std.proofs.Common.{◌∙◌, subst, arith, append_assoc, length-append}
 use Rattle.std.specs.Prelude.{Option, Some, None, slice_get, ⊤}
 use Rattle.std.proofs.Math.Seq.{take-append-add}
@@ -10,11 +10,13 @@ use Rattle.page_check.proofs.AnswersInOrder.{answered_none, slice_get_front, sli
 use Rattle.page_check.proofs.AnswersOfLists.{length_whole}
 use Rattle.page_check.proofs.AnswersOfBlocks.{answered_no_block}
 use Rattle.heap_scan.specs.Job.{IsJobAnswer}
-use Rattle.heap_scan.specs.Listing.{listing}
+use Rattle.heap_scan.specs.Listing.{TextOf, listing}
 use Rattle.heap_scan.specs.Sums.{joined, no_sums, sums_of}
 use Rattle.heap_scan.specs.Warnings.{warnings_of}
 use Rattle.heap_scan.proofs.Jobs.{job_append, job_more, listing-append, warnings-append, IsEarly}
 use Rattle.heap_scan.proofs.Summing.{sums_of-none}
+use Rattle.heap_tuple.specs.Listing.{text_with}
+use Rattle.scan_rounds.specs.Manners.{Manner}
 use Rattle.aio_disk.specs.Sink.{Grew}
 use Rattle.aioscan_cmd.specs.RequestList.{Request, Page}
 use Rattle.aioscan_cmd.specs.Outcomes.{ending_of}
@@ -26,9 +28,9 @@ use Rattle.aioscan_cmd.specs.declared.report.Outcome.TheVariants.{NoMemory, Miss
 use Rattle.aioscan_cmd.proofs.Growing.{Grew-nothing, Grew-append, Grew-same, GrewByPrefix-nothing}
 use Rattle.aioscan_cmd.proofs.Growing.{GrewByPrefix-append}
 
-pub no_listing : listing (let none : List Page = [] in none) ≡ []
+pub no_listing : (text_of : TextOf) → listing text_of (let none : List Page = [] in none) ≡ []
 unfolding listing
-no_listing = refl
+no_listing text_of = refl
 
 no_pages_sums : sums_of (let none : List Page = [] in none) ≡ no_sums
 no_pages_sums = sums_of-none (Unit {0})
@@ -38,38 +40,38 @@ unfolding warnings_of
 no_warnings = refl
 
 -- no blocks have no pages
-pub no_answer : (found : Option Reader) → IsJobAnswer found (λ (e : Request). ⊤) [] [] [] no_sums
-    (Some End)
-no_answer found = record {
+pub no_answer : (text_of : TextOf) (found : Option Reader)
+    → IsJobAnswer text_of found (λ (e : Request). ⊤) [] [] [] no_sums (Some End)
+no_answer text_of found = record {
   pages = [];
-  text_is = sym no_listing;
+  text_is = sym (no_listing text_of);
   warnings_are = sym no_warnings;
   sums_are = sym no_pages_sums;
   answers = answered_no_block found (λ _. ⊤);
 }
 
 -- no page was listed, and then any text was written
-pub reached_none : (b a : Option (List ℕ)) (more : List ℕ) → Grew b a more
-    → Grew b a (listing (let none : List Page = [] in none) ++ more)
-reached_none b a more grew =
-    Grew-same b a more _ (ap (λ (l : List ℕ). l ++ more) (sym no_listing)) grew
+pub reached_none : (text_of : TextOf) (b a : Option (List ℕ)) (more : List ℕ) → Grew b a more
+    → Grew b a (listing text_of (let none : List Page = [] in none) ++ more)
+reached_none text_of b a more grew =
+    Grew-same b a more _ (ap (λ (l : List ℕ). l ++ more) (sym (no_listing text_of))) grew
 
 -- no blocks
-pub lists_none : (zero : Bool) (told : Option Told) (s : Option (List ℕ))
-    → Lists zero told [] s s Done []
+pub lists_none : (m : Manner) (told : Option Told) (s : Option (List ℕ))
+    → Lists m told [] s s Done []
 unfolding no_answer
-lists_none zero told s = record {
+lists_none m told s = record {
   begun = refl;
   text = [];
   all_warnings = [];
   sums = no_sums;
-  answer = no_answer (reader_of zero told);
+  answer = no_answer (text_with m.tuples) (reader_of m.zero told);
   here = λ e is. absurd (cc);
   grew = Grew-nothing s;
   whole = 0;
   among = omega arith;
   all = λ _. refl;
-  reached = ([], reached_none s s [] (Grew-nothing s));
+  reached = ([], reached_none (text_with m.tuples) s s [] (Grew-nothing s));
   warned = sym no_warnings;
   quiet = λ _. refl;
 }
@@ -88,21 +90,23 @@ GrewBy-append (NoLength r) b m a xs ys first second = Grew-append b m a xs ys fi
 GrewBy-append (TooLong r) b m a xs ys first second = Grew-append b m a xs ys first second
 
 -- the warnings of pages that were all listed whole
-module _ (zero : Bool) (told : Option Told) (requests : List Request) (b a : Option (List ℕ))
-    (o : Outcome) (w : List ℕ) (lists : Lists zero told requests b a o w) where
+module _ (m : Manner) (told : Option Told) (requests : List Request) (b a : Option (List ℕ))
+    (o : Outcome) (w : List ℕ) (lists : Lists m told requests b a o w) where
   pub all_warned : lists.whole ≡ length lists.answer.pages → w ≡ warnings_of lists.answer.pages
   all_warned all =
       lists.warned ∙ ap (λ (k : ℕ). warnings_of (take k lists.answer.pages)) all
       ∙ ap warnings_of (take_all (length lists.answer.pages) lists.answer.pages (omega arith))
 
 -- some blocks to their end, and then some more
-pub lists_append : (zero : Bool) (told : Option Told) (xs ys : List Request)
-    (b m a : Option (List ℕ)) (o : Outcome) (v w : List ℕ)
-    → Lists zero told xs b m Done v → Lists zero told ys m a o w
-    → Lists zero told (xs ++ ys) b a o (v ++ w)
+pub lists_append : (m : Manner) (told : Option Told) (xs ys : List Request)
+    (b between a : Option (List ℕ)) (o : Outcome) (v w : List ℕ)
+    → Lists m told xs b between Done v → Lists m told ys between a o w
+    → Lists m told (xs ++ ys) b a o (v ++ w)
 unfolding job_append
-lists_append zero told xs ys b m a o v w front back =
-    let found = reader_of zero told in
+lists_append m told xs ys b between a o v w front back =
+    let text_of = text_with m.tuples in
+    let found = reader_of m.zero told in
+    let texts : List Page → List ℕ = listing text_of in
     let ps = front.answer.pages in
     let qs = back.answer.pages in
     let n = length ps in
@@ -117,28 +121,28 @@ lists_append zero told xs ys b m a o v w front back =
       all_warnings = front.all_warnings ++ back.all_warnings;
       sums = joined front.sums back.sums;
       answer =
-          job_append found (λ _. ⊤) xs ys front.text back.text front.all_warnings
+          job_append text_of found (λ _. ⊤) xs ys front.text back.text front.all_warnings
           back.all_warnings front.sums back.sums (ending_of o) front.answer back.answer;
       here = λ e is. (
           ap (slice_get (xs ++ ys)) (size ∙ ap (λ (i : ℕ). i + length qs) all)
           ∙ slice_get_back xs ys (length qs) ∙ back.here e is);
       grew =
-          GrewBy-append o b m a front.text back.text front.grew back.grew;
+          GrewBy-append o b between a front.text back.text front.grew back.grew;
       whole = n + back.whole;
       among = omega (arith, size);
       all = λ is. (let every = back.all is in omega (arith, size));
       reached = (
         more,
         Grew-same b a _ _
-            (ap (λ (l : List ℕ). l ++ (listing (take back.whole qs) ++ more)) front.answer.text_is
-            ∙ sym (append_assoc (listing ps) (listing (take back.whole qs)) more)
+            (ap (λ (l : List ℕ). l ++ (texts (take back.whole qs) ++ more)) front.answer.text_is
+            ∙ sym (append_assoc (texts ps) (texts (take back.whole qs)) more)
             ∙ ap (λ (l : List ℕ). l ++ more)
-            (sym (listing-append ps (take back.whole qs)) ∙ ap listing (sym taken)))
-            (Grew-append b m a front.text (listing (take back.whole qs) ++ more) front.grew
+            (sym (listing-append text_of ps (take back.whole qs)) ∙ ap texts (sym taken)))
+            (Grew-append b between a front.text (texts (take back.whole qs) ++ more) front.grew
             back.reached.1),
       );
       warned =
-          ap (λ (l : List ℕ). l ++ w) (all_warned zero told xs b m Done v front (front.all refl))
+          ap (λ (l : List ℕ). l ++ w) (all_warned m told xs b between Done v front (front.all refl))
           ∙ ap (λ (l : List ℕ). warnings_of ps ++ l) back.warned
           ∙ sym (warnings-append ps (take back.whole qs)) ∙ ap warnings_of (sym taken);
       quiet = λ off. (
@@ -164,18 +168,18 @@ early (NoLength r) stops = none_early
 early (TooLong r) stops = none_early
 
 -- listing stopped, whatever is asked for behind
-pub lists_more : (zero : Bool) (told : Option Told) (xs ys : List Request)
+pub lists_more : (m : Manner) (told : Option Told) (xs ys : List Request)
     (b a : Option (List ℕ)) (o : Outcome) (w : List ℕ)
-    → o ≢ Done → Lists zero told xs b a o w → Lists zero told (xs ++ ys) b a o w
+    → o ≢ Done → Lists m told xs b a o w → Lists m told (xs ++ ys) b a o w
 unfolding job_more
-lists_more zero told xs ys b a o w stops front = record {
+lists_more m told xs ys b a o w stops front = record {
   begun = front.begun;
   text = front.text;
   all_warnings = front.all_warnings;
   sums = front.sums;
   answer =
-      job_more (reader_of zero told) (λ _. ⊤) xs ys front.text front.all_warnings front.sums
-      (ending_of o) (early o stops) front.answer;
+      job_more (text_with m.tuples) (reader_of m.zero told) (λ _. ⊤) xs ys front.text
+      front.all_warnings front.sums (ending_of o) (early o stops) front.answer;
   here = λ e is. slice_get_front xs ys (length front.answer.pages) e (front.here e is);
   grew = front.grew;
   whole = front.whole;
@@ -186,33 +190,33 @@ lists_more zero told xs ys b a o w stops front = record {
   quiet = front.quiet;
 }
 
-pub lists_same : (zero : Bool) (told : Option Told) (xs ys : List Request)
+pub lists_same : (m : Manner) (told : Option Told) (xs ys : List Request)
     (b a : Option (List ℕ)) (o : Outcome) (w : List ℕ)
-    → xs ≡ ys → Lists zero told xs b a o w → Lists zero told ys b a o w
-lists_same zero told xs ys b a o w same lists =
-    let P : List Request → Type 0 = λ l. Lists zero told l b a o w in subst P same lists
+    → xs ≡ ys → Lists m told xs b a o w → Lists m told ys b a o w
+lists_same m told xs ys b a o w same lists =
+    let P : List Request → Type 0 = λ l. Lists m told l b a o w in subst P same lists
 
 -- there was no memory before a page was given
-pub lists_nothing : (zero : Bool) (told : Option Told) (xs : List Request) (s : Option (List ℕ))
-    → Lists zero told xs s s NoMemory []
-lists_nothing zero told xs s = record {
+pub lists_nothing : (m : Manner) (told : Option Told) (xs : List Request) (s : Option (List ℕ))
+    → Lists m told xs s s NoMemory []
+lists_nothing m told xs s = record {
   begun = refl;
   text = [];
   all_warnings = [];
   sums = no_sums;
   answer = record {
     pages = [];
-    text_is = sym no_listing;
+    text_is = sym (no_listing (text_with m.tuples));
     warnings_are = sym no_warnings;
     sums_are = sym no_pages_sums;
-    answers = answered_none (reader_of zero told) (λ _. ⊤) xs;
+    answers = answered_none (reader_of m.zero told) (λ _. ⊤) xs;
   };
   here = λ e is. absurd (cc);
   grew = GrewByPrefix-nothing s s [] refl;
   whole = 0;
   among = omega arith;
   all = λ is. absurd (cc);
-  reached = ([], reached_none s s [] (Grew-nothing s));
+  reached = ([], reached_none (text_with m.tuples) s s [] (Grew-nothing s));
   warned = sym no_warnings;
   quiet = λ _. refl;
 }

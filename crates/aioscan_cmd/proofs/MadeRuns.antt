@@ -20,9 +20,11 @@ use Rattle.heap_scan.specs.Sums.{FitSums, sums_of}
 use Rattle.heap_scan.specs.Warnings.{warnings_of}
 use Rattle.heap_scan.specs.declared.sums.PageSums.{PageSums}
 use Rattle.heap_scan.proofs.Summing.{sums_fit}
+use Rattle.scan_rounds.specs.Manners.{manner}
 use Rattle.aio_disk.specs.Counts.{Rose, ShelfCounts}
 use Rattle.aio_disk.specs.Shelf.{are_there, told_of}
-use Rattle.aioscan_cmd.specs.Command.{Command, IsMade, distinct, length_limit, relations_of}
+use Rattle.aioscan_cmd.specs.Command.{Command, IsMade, distinct, length_limit, manner_by}
+use Rattle.aioscan_cmd.specs.Command.{relations_of}
 use Rattle.aioscan_cmd.specs.Generated.{made_page, made_files, made_told, summary_of}
 use Rattle.aioscan_cmd.specs.Causes.{HasCauses}
 use Rattle.aioscan_cmd.specs.Reading.{Seen, GrewBy, HasWritten, seen}
@@ -119,10 +121,11 @@ module _ (z : Bool) (n : ℕ) (few : n ≤ 4096) where
       let P : List Page → Type 0 = λ l. FitSums (sums_of l) in
       subst P (sym (pages_from 0 n (omega arith))) fit_givens
 
-  -- the sums of a run that listed all blocks
-  pub made_sums : (sums : PageSums) → HasSums (Some f) requests sums
+  -- the sums of a run that listed all blocks, with their tuples or without
+  pub made_sums : (tuples : Bool) (sums : PageSums)
+      → HasSums (manner z tuples) (Some (made_told n)) requests sums
       → sums ≡ sums_of (pages_of f requests)
-  made_sums sums has =
+  made_sums tuples sums has =
       let end = has.answer.answers.endings.0 in
       let all = all_given f requests has.answer.pages has.answer.answers.first end.0 in
       let total : has.total ≡ sums_of (pages_of f requests) =
@@ -368,6 +371,6 @@ module _ (n : ℕ) (c : Command) (is : IsMade n c) where
   listed_sums_made told o sums told_is done has =
       let P : Option Told → Type 0 = λ t. HasSumsTold t c o sums in
       let Q : List Request → Type 0 =
-      λ l. HasSums (Some (zeroing c.settings.zero (found_at (made_told n)))) l sums in
-      made_sums c.settings.zero n is.3 sums
+      λ l. HasSums (manner_by c.settings) (Some (made_told n)) l sums in
+      made_sums c.settings.zero n is.3 c.settings.tuples sums
       (subst Q made_requests (subst P told_is has done))

@@ -1,15 +1,15 @@
 -- Rounds that have listed what was asked for.
 use Rattle.std.proofs.Common.{◌≡◌, ◌≢◌, ℕ, List, [], ◌++◌, refl, sym, ap, ◌∙◌, subst, arith}
 use Rattle.std.proofs.Common.{append_assoc, append-nil, inl, inr, ◌⊎◌, ⊎_elim}
-use Rattle.std.specs.Prelude.{Bool, Option}
+use Rattle.std.specs.Prelude.{Option}
 use Rattle.page_check.specs.Told.{Told}
-use Rattle.page_check.specs.SynchronousAnswer.{reader_of}
+use Rattle.scan_rounds.specs.Manners.{Manner}
 use Rattle.scan_rounds.specs.Jobs.{AreAnswered}
 use Rattle.scan_rounds.specs.declared.job.Job.{Job}
 use Rattle.aioscan_cmd.specs.RequestList.{Request}
 use Rattle.aioscan_cmd.specs.Reading.{Lists, HasWritten}
 use Rattle.aioscan_cmd.specs.Listing.{requests_in, AreListedBy, IsOver, Puts, HasListed, Follows}
-use Rattle.aioscan_cmd.specs.Listing.{errors_of}
+use Rattle.aioscan_cmd.specs.Listing.{errors_of, manner_in}
 use Rattle.aioscan_cmd.specs.ErrorLine.{ErrorStream, Warns, error_stream}
 use Rattle.aioscan_cmd.specs.declared.report.Line.{Line}
 use Rattle.aioscan_cmd.specs.declared.lister.Lister.{Lister}
@@ -25,11 +25,11 @@ use Rattle.aioscan_cmd.proofs.Causing.{written_then}
 use Rattle.aioscan_cmd.proofs.Lists.{lists_none, lists_append, lists_more}
 use Rattle.aioscan_cmd.proofs.Telling.{warns_also, warns_none, warns_then}
 
-no_blocks_listed : (zero : Bool) (told : Option Told) (s : Option (List ℕ)) (o : Outcome)
-    → o ≡ Done → Lists zero told [] s s o []
-no_blocks_listed zero told s o done =
-    let P : Outcome → Type 0 = λ x. Lists zero told [] s s x [] in
-    subst P (sym done) (lists_none zero told s)
+no_blocks_listed : (m : Manner) (told : Option Told) (s : Option (List ℕ)) (o : Outcome)
+    → o ≡ Done → Lists m told [] s s o []
+no_blocks_listed m told s o done =
+    let P : Outcome → Type 0 = λ x. Lists m told [] s s x [] in
+    subst P (sym done) (lists_none m told s)
 
 is_done : (o : Outcome) → (o ≡ Done) ⊎ (o ≢ Done)
 is_done Done = inl refl
@@ -54,9 +54,10 @@ module _ {W O E : Type 0} (told : Option Told) (written : O → Option (List ℕ
   abbrev Goes : Lister W O E → Lister W O E → Type 0
   Goes s t = Follows told written faults err_written err_faults s t
 
-  abbrev Listed : Bool → List Request → Option (List ℕ) → ℕ → ErrorStream → Lister W O E → Type 0
-  Listed zero all before faults_before errors l =
-      HasListed told written faults err_written err_faults zero all before faults_before errors l
+  abbrev Listed : Manner → List Request → Option (List ℕ) → ℕ → ErrorStream → Lister W O E
+      → Type 0
+  Listed m all before faults_before errors l =
+      HasListed told written faults err_written err_faults m all before faults_before errors l
 
   abbrev errors : Lister W O E → ErrorStream
   errors l = errors_of told written faults err_written err_faults l
@@ -71,31 +72,31 @@ module _ {W O E : Type 0} (told : Option Told) (written : O → Option (List ℕ
 
   -- the jobs that were put have been written
   pub round_written : (was old new : Lister W O E) (asked jobs : List Job) → Puts was asked old
-      → AreAnswered old.zero told asked jobs → old.outcome ≡ Done → new.blocks ≡ old.blocks
-      → new.zero ≡ old.zero → new.out.ghost_name ≡ old.out.ghost_name
+      → AreAnswered (manner_in old) told asked jobs → old.outcome ≡ Done → new.blocks ≡ old.blocks
+      → manner_in new ≡ manner_in old → new.out.ghost_name ≡ old.out.ghost_name
       → new.err.ghost_name ≡ old.err.ghost_name
       → Warns (AreListedBy jobs (written old.out.now) (written new.out.now) new.outcome)
       (errors old) (errors new)
       → HasWritten (faults old.out.now) (faults new.out.now) new.outcome
       → (new.outcome ≡ Done → GaveAll jobs)
       → new.sums ≡ kept_sums (joined old.sums (total_of jobs)) → Goes was new
-  round_written was old new asked jobs puts answered done same zero_same loan err_loan lists writes
-      gave sums = (
+  round_written was old new asked jobs puts answered done same manner_same loan err_loan lists
+      writes gave sums = (
         loan ∙ puts.loans.0,
         err_loan ∙ puts.loans.1,
-        λ zero all before faults_before errors_before so_far.
+        λ m all before faults_before errors_before so_far.
             (let was_done : was.outcome ≡ Done = sym puts.outcome ∙ done in
-            let zero_is : old.zero ≡ zero = puts.zero ∙ so_far.zero_is in
-            let A : Bool → Type 0 = λ z. AreAnswered z told asked jobs in
-            let here = subst A zero_is answered in
+            let manner_is : manner_in old ≡ m = puts.manner_kept ∙ so_far.manner_is in
+            let A : Manner → Type 0 = λ x. AreAnswered x told asked jobs in
+            let here = subst A manner_is answered in
             let P : Outcome → Type 0 =
-            λ x. Warns (Lists zero told so_far.asked before (written was.out.now) x) errors_before
+            λ x. Warns (Lists m told so_far.asked before (written was.out.now) x) errors_before
             (errors was) in
             let Q : O → Type 0 =
-            λ o. Warns (Lists zero told so_far.asked before (written o) Done) errors_before
+            λ o. Warns (Lists m told so_far.asked before (written o) Done) errors_before
             (errors was) in
             let T : ErrorStream → Type 0 =
-            λ e. Warns (Lists zero told so_far.asked before (written old.out.now) Done)
+            λ e. Warns (Lists m told so_far.asked before (written old.out.now) Done)
             errors_before e in
             let V : O → Type 0 = λ o. HasWritten faults_before (faults o) was.outcome in
             let first = subst T (same_errors was asked old puts)
@@ -107,14 +108,14 @@ module _ {W O E : Type 0} (told : Option Told) (written : O → Option (List ℕ
                   ∙ ap (λ (l : List Request). so_far.asked ++ l) (so_far.left was_done ∙ puts.cut)
                   ∙ sym (append_assoc so_far.asked (requests_in asked) old.blocks);
               left = λ _. sym same;
-              zero_is = zero_same ∙ zero_is;
+              manner_is = manner_same ∙ manner_is;
               lists = warns_then _ _ _ _ _ _
-                  (λ v w before_it now_it. lists_append zero told so_far.asked (requests_in asked)
+                  (λ v w before_it now_it. lists_append m told so_far.asked (requests_in asked)
                   before (written old.out.now) (written new.out.now) new.outcome v w before_it
-                  (now_it zero told asked here)) first lists;
+                  (now_it m told asked here)) first lists;
               sums = λ all_given.
-                  (let S : PageSums → Type 0 = λ s. HasSums (reader_of zero told) so_far.asked s in
-                  round_summed zero told so_far.asked asked jobs old.sums new.sums
+                  (let S : PageSums → Type 0 = λ s. HasSums m told so_far.asked s in
+                  round_summed m told so_far.asked asked jobs old.sums new.sums
                   (subst S (sym puts.sums) (so_far.sums was_done)) here (gave all_given) sums);
               writes = written_then _ _ _ _ was_written.later writes;
             }),
@@ -126,15 +127,15 @@ module _ {W O E : Type 0} (told : Option Told) (written : O → Option (List ℕ
   round_passed was old asked puts over = (
     puts.loans.0,
     puts.loans.1,
-    λ zero all before faults_before errors_before so_far.
+    λ m all before faults_before errors_before so_far.
         (let P : Outcome → Type 0 =
-        λ x. Warns (Lists zero told so_far.asked before (written was.out.now) x) errors_before
+        λ x. Warns (Lists m told so_far.asked before (written was.out.now) x) errors_before
         (errors was) in
         let Q : O → Type 0 =
-        λ o. Warns (Lists zero told so_far.asked before (written o) old.outcome) errors_before
+        λ o. Warns (Lists m told so_far.asked before (written o) old.outcome) errors_before
         (errors was) in
         let T : ErrorStream → Type 0 =
-        λ e. Warns (Lists zero told so_far.asked before (written old.out.now) old.outcome)
+        λ e. Warns (Lists m told so_far.asked before (written old.out.now) old.outcome)
         errors_before e in
         let U : Outcome → Type 0 = λ x. HasWritten faults_before (faults was.out.now) x in
         let V : O → Type 0 = λ o. HasWritten faults_before (faults o) old.outcome in record {
@@ -142,7 +143,7 @@ module _ {W O E : Type 0} (told : Option Told) (written : O → Option (List ℕ
           rest = so_far.rest;
           cut = so_far.cut;
           left = λ done. absurd (over done);
-          zero_is = puts.zero ∙ so_far.zero_is;
+          manner_is = puts.manner_kept ∙ so_far.manner_is;
           lists = subst T (same_errors was asked old puts)
               (subst Q (sym puts.out) (subst P (sym puts.outcome) so_far.lists));
           sums = λ done. absurd (over done);
@@ -153,33 +154,33 @@ module _ {W O E : Type 0} (told : Option Told) (written : O → Option (List ℕ
   -- from the first round to the last
   ended : (all : List Request) (s t : Lister W O E) → s.outcome ≡ Done → s.blocks ≡ all
       → s.sums ≡ no_sums → Goes s t
-      → Listed s.zero all (written s.out.now) (faults s.out.now) (errors s) t
+      → Listed (manner_in s) all (written s.out.now) (faults s.out.now) (errors s) t
   ended all s t done same none goes =
-      goes.2 s.zero all (written s.out.now) (faults s.out.now) (errors s) (record {
+      goes.2 (manner_in s) all (written s.out.now) (faults s.out.now) (errors s) (record {
         asked = [];
         rest = all;
         cut = refl;
         left = λ _. sym same;
-        zero_is = refl;
+        manner_is = refl;
         lists = warns_none _ s.line s.line _ _ refl
-            (no_blocks_listed s.zero told (written s.out.now) s.outcome done);
-        sums = λ _. none_summed s.zero told s.sums none;
+            (no_blocks_listed (manner_in s) told (written s.out.now) s.outcome done);
+        sums = λ _. none_summed (manner_in s) told s.sums none;
         writes = nothing_written (faults s.out.now) s.outcome done;
       })
 
   pub all_listed : (all : List Request) (s t : Lister W O E) → s.outcome ≡ Done
       → s.blocks ≡ all → s.sums ≡ no_sums → Goes s t → IsOver t
-      → Warns (Lists s.zero told all (written s.out.now) (written t.out.now) t.outcome)
+      → Warns (Lists (manner_in s) told all (written s.out.now) (written t.out.now) t.outcome)
       (errors s) (errors t)
   all_listed all s t done same no_sum goes over =
       let at = ended all s t done same no_sum goes in
       let P : List Request → Type 0 =
-      λ l. Warns (Lists s.zero told l (written s.out.now) (written t.out.now) t.outcome)
+      λ l. Warns (Lists (manner_in s) told l (written s.out.now) (written t.out.now) t.outcome)
       (errors s) (errors t) in
       let more : t.outcome ≢ Done → P all =
       λ stops. subst P (sym at.cut)
-      (warns_also _ _ _ _ (λ w listed. lists_more s.zero told at.asked at.rest _ _ t.outcome w
-      stops listed) at.lists) in
+      (warns_also _ _ _ _ (λ w listed. lists_more (manner_in s) told at.asked at.rest _ _ t.outcome
+      w stops listed) at.lists) in
       ⊎_elim more
       (λ none. ⊎_elim
       (λ is. (let whole : all ≡ at.asked =
@@ -195,10 +196,10 @@ module _ {W O E : Type 0} (told : Option Told) (written : O → Option (List ℕ
 
   pub all_summed : (all : List Request) (s t : Lister W O E) → s.outcome ≡ Done
       → s.blocks ≡ all → s.sums ≡ no_sums → Goes s t → IsOver t → t.outcome ≡ Done
-      → HasSums (reader_of s.zero told) all t.sums
+      → HasSums (manner_in s) told all t.sums
   all_summed all s t done same no_sum goes over is =
       let at = ended all s t done same no_sum goes in
-      let P : List Request → Type 0 = λ l. HasSums (reader_of s.zero told) l t.sums in
+      let P : List Request → Type 0 = λ l. HasSums (manner_in s) told l t.sums in
       ⊎_elim (λ stops. absurd (stops is))
       (λ none. (let whole : all ≡ at.asked =
       at.cut ∙ ap (λ (l : List Request). at.asked ++ l) (at.left is ∙ none)

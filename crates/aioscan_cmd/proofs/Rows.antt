@@ -26,6 +26,7 @@ any_settings = record {
   full = false;
   segment = 131072;
   zero = false;
+  tuples = false;
 }
 
 abbrev command_with : Option ℕ → Option ℕ → List (List ℕ) → Command

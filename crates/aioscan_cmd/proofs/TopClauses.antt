@@ -1,6 +1,6 @@
 -- What the top call promises over a shelf that tells, from how the run ended.
 use Rattle.std.proofs.Common.{◌≡◌, ◌≢◌, ℕ, ◌<◌, ◌≤◌, List, ◌++◌, length, take, refl, sym, ap}
-use Rattle.std.proofs.Common.{◌∙◌, [], arith, inl, inr, length-append, subst, true}
+use Rattle.std.proofs.Common.{◌∙◌, arith, inl, inr, length-append, subst, true}
 use Rattle.std.specs.Prelude.{Bool, Option, Some, None, IfSome, slice_get}
 use Rattle.std.proofs.Math.Seq.{take-append_seam}
 use Rattle.std.proofs.lemmas.Bool.{cases_lt}
@@ -12,13 +12,15 @@ use Rattle.page_check.specs.SynchronousAnswer.{End, PastEnd, Invalid as EndsInva
 use Rattle.page_check.specs.SynchronousAnswer.{found_at, found_for, pages_of, stop_of, ending_in}
 use Rattle.page_check.specs.SynchronousAnswer.{ending_at}
 use Rattle.page_check.proofs.AnswersOfLists.{all_given, stop_of-length}
-use Rattle.heap_scan.specs.Listing.{listing}
+use Rattle.heap_scan.specs.Listing.{TextOf, listing}
 use Rattle.heap_scan.specs.Warnings.{warnings_of}
 use Rattle.heap_scan.proofs.Jobs.{listing-append}
+use Rattle.heap_tuple.specs.Listing.{text_with}
+use Rattle.scan_rounds.specs.Manners.{Manner}
 use Rattle.aio_disk.specs.Counts.{ShelfCounts}
 use Rattle.aio_disk.specs.Shelf.{Files, told_of}
 use Rattle.aio_disk.specs.Sink.{Grew, GrewByPrefix}
-use Rattle.aioscan_cmd.specs.Command.{Command, relations_of}
+use Rattle.aioscan_cmd.specs.Command.{Command, manner_by, relations_of}
 use Rattle.aioscan_cmd.specs.RequestList.{Request, Page, request, requests_of}
 use Rattle.aioscan_cmd.specs.Outcomes.{is_refused}
 use Rattle.aioscan_cmd.specs.Reading.{Seen, Lists}
@@ -58,19 +60,22 @@ missing_by Damaged r b is = absurd (cc)
 missing_by Absent r b is = refl
 
 -- a run over contents that are told: its pages are the first of synchronous reads
-module _ (zero : Bool) (t : Told) (requests : List Request) (b a : Seen) (o : Outcome)
-    (w : List ℕ) (lists : Lists zero (Some t) requests b.written a.written o w) where
+module _ (m : Manner) (t : Told) (requests : List Request) (b a : Seen) (o : Outcome)
+    (w : List ℕ) (lists : Lists m (Some t) requests b.written a.written o w) where
   abbrev f : Reader
-  f = zeroing zero (found_at t)
+  f = zeroing m.zero (found_at t)
+
+  abbrev texts : List Page → List ℕ
+  texts pages = listing (text_with m.tuples) pages
 
   abbrev all_pages : List Page
   all_pages = pages_of f requests
 
   -- all of them
-  text_all : length lists.answer.pages ≡ length all_pages → lists.text ≡ listing all_pages
+  text_all : length lists.answer.pages ≡ length all_pages → lists.text ≡ texts all_pages
   text_all all =
       lists.answer.text_is
-      ∙ ap listing (sym (all_given f requests lists.answer.pages lists.answer.answers.first all))
+      ∙ ap texts (sym (all_given f requests lists.answer.pages lists.answer.answers.first all))
 
   -- and reading stops behind them
   stop_here : (e : Request) → slice_get requests (length lists.answer.pages) ≡ Some e
@@ -79,23 +84,23 @@ module _ (zero : Bool) (t : Told) (requests : List Request) (b a : Seen) (o : Ou
       stop_of-length f requests ∙ ap (slice_get requests) (sym all) ∙ here
 
   text_begins : GrewByPrefix b.written a.written lists.text
-      → GrewByPrefix b.written a.written (listing all_pages)
+      → GrewByPrefix b.written a.written (texts all_pages)
   text_begins grew =
       let rest = lists.answer.answers.first.0 in
-      let same : lists.text ++ listing rest ≡ listing all_pages =
-      ap (λ (l : List ℕ). l ++ listing rest) lists.answer.text_is
-      ∙ sym (listing-append lists.answer.pages rest)
-      ∙ ap listing (sym lists.answer.answers.first.1) in
+      let same : lists.text ++ texts rest ≡ texts all_pages =
+      ap (λ (l : List ℕ). l ++ texts rest) lists.answer.text_is
+      ∙ sym (listing-append (text_with m.tuples) lists.answer.pages rest)
+      ∙ ap texts (sym lists.answer.answers.first.1) in
       GrewByPrefix-same b.written a.written _ _ same
-      (GrewByPrefix-more b.written a.written lists.text (listing rest) grew)
+      (GrewByPrefix-more b.written a.written lists.text (texts rest) grew)
 
   first_pages : lists.answer.pages ≡ take (length lists.answer.pages) all_pages
   first_pages =
       sym (ap (take (length lists.answer.pages)) lists.answer.answers.first.1
       ∙ take-append_seam lists.answer.pages lists.answer.answers.first.0)
 
-  text_first : lists.text ≡ listing (take (length lists.answer.pages) all_pages)
-  text_first = lists.answer.text_is ∙ ap listing first_pages
+  text_first : lists.text ≡ texts (take (length lists.answer.pages) all_pages)
+  text_first = lists.answer.text_is ∙ ap texts first_pages
 
   among : length lists.answer.pages ≤ length all_pages
   among =
@@ -109,31 +114,34 @@ module _ (zero : Bool) (t : Told) (requests : List Request) (b a : Seen) (o : Ou
   cut_at : (r k : ℕ) → slice_get requests (length lists.answer.pages) ≡ Some (request r k)
       → Grew b.written a.written lists.text
       → (run : SynchronousRun) → run.requests ≡ requests → run.pages ≡ all_pages
-      → IsCutAt run b.written a.written r k
-  cut_at r k here grew run requests_are pages_are =
+      → run.text_of ≡ text_with m.tuples → IsCutAt run b.written a.written r k
+  cut_at r k here grew run requests_are pages_are text_is =
       let P : List Request → Type 0 =
       λ l. slice_get l (length lists.answer.pages) ≡ Some (request r k) in
       let Q : List Page → Type 0 = λ l. length lists.answer.pages ≤ length l in
       let R : List Page → Type 0 = λ l. Grew b.written a.written
-      (listing (take (length lists.answer.pages) l)) in record {
+      (texts (take (length lists.answer.pages) l)) in
+      let T : TextOf → Type 0 = λ text_of. Grew b.written a.written
+      (listing text_of (take (length lists.answer.pages) run.pages)) in record {
         k = length lists.answer.pages;
         here = subst P (sym requests_are) here;
         among = subst Q (sym pages_are) among;
-        grew = subst R (sym pages_are) (Grew-same b.written a.written _ _ text_first grew);
+        grew = subst T (sym text_is)
+            (subst R (sym pages_are) (Grew-same b.written a.written _ _ text_first grew));
       }
 
   -- all of them were listed whole
   warned_all : lists.whole ≡ length lists.answer.pages
       → length lists.answer.pages ≡ length all_pages → w ≡ warnings_of all_pages
   warned_all whole all =
-      all_warned zero (Some t) requests b.written a.written o w lists whole
+      all_warned m (Some t) requests b.written a.written o w lists whole
       ∙ ap warnings_of
       (sym (all_given f requests lists.answer.pages lists.answer.answers.first all))
 
   warned_first : lists.whole ≡ length lists.answer.pages
       → w ≡ warnings_of (take (length lists.answer.pages) all_pages)
   warned_first whole =
-      all_warned zero (Some t) requests b.written a.written o w lists whole
+      all_warned m (Some t) requests b.written a.written o w lists whole
       ∙ ap warnings_of first_pages
 
   -- the first of them were listed whole
@@ -143,17 +151,22 @@ module _ (zero : Bool) (t : Told) (requests : List Request) (b a : Seen) (o : Ou
       ∙ take-append-le lists.whole lists.answer.pages lists.answer.answers.first.0 lists.among)
 
   warned_up_to : (run : SynchronousRun) → run.pages ≡ all_pages
-      → IsWarnedUpTo run b.written a.written w
-  warned_up_to run pages_are =
+      → run.text_of ≡ text_with m.tuples → IsWarnedUpTo run b.written a.written w
+  warned_up_to run pages_are text_is =
       let few = among in
       let within = lists.among in
       let Q : List Page → Type 0 = λ l. lists.whole ≤ length l in
-      let R : List Page → Type 0 = λ l. Grew b.written a.written (listing l ++ lists.reached.0) in
+      let R : List Page → Type 0 = λ l. Grew b.written a.written (texts l ++ lists.reached.0) in
+      let T : TextOf → Type 0 = λ text_of. Grew b.written a.written
+      (listing text_of (take lists.whole run.pages) ++ lists.reached.0) in
       let here : take lists.whole lists.answer.pages ≡ take lists.whole run.pages =
       whole_pages ∙ ap (take lists.whole) (sym pages_are) in record {
         k = lists.whole;
         among = subst Q (sym pages_are) (omega arith);
-        reached = (lists.reached.0, subst R here lists.reached.1);
+        reached = (
+          lists.reached.0,
+          subst T (sym text_is) (subst R here lists.reached.1),
+        );
         are = lists.warned ∙ ap warnings_of here;
       }
 
@@ -161,11 +174,11 @@ untouched_same : (b a : Seen) → a ≡ b → a.written ≡ b.written
 untouched_same b a same = ap (λ (s : Seen). s.written) same
 
 module _ (t : Told) (n : ℕ) (c : Command) (b a : Seen) where
-  abbrev zero : Bool
-  zero = c.settings.zero
+  abbrev m : Manner
+  m = manner_by c.settings
 
   abbrev found : Reader
-  found = zeroing zero (found_at t)
+  found = zeroing m.zero (found_at t)
 
   abbrev blocks : List Request
   blocks = requests_of (blocks_of t) c
@@ -179,39 +192,39 @@ module _ (t : Told) (n : ℕ) (c : Command) (b a : Seen) where
       let lists = ran.lists refl in
       let end = lists.answer.answers.endings.0 in (
         done_at found (stop_of found blocks) end.1,
-        Grew-same b.written a.written _ _ (text_all zero t blocks b a Done w lists end.0)
+        Grew-same b.written a.written _ _ (text_all m t blocks b a Done w lists end.0)
             lists.grew,
       )
   writes (Invalid r k) w ran =
       let lists = ran.lists refl in
       let end = lists.answer.answers.endings.0 in
-      let stop = stop_here zero t blocks b a (Invalid r k) w lists (request r k)
+      let stop = stop_here m t blocks b a (Invalid r k) w lists (request r k)
       (lists.here (request r k) refl) end.0 in (
         ap (outcome_at found) stop
             ∙ invalid_by (found r k) r k (sym (ap (ending_at found) stop) ∙ end.1),
         Grew-same b.written a.written _ _
-            (text_all zero t blocks b a (Invalid r k) w lists end.0) lists.grew,
+            (text_all m t blocks b a (Invalid r k) w lists end.0) lists.grew,
       )
   writes (Missing r k) w ran =
       let lists = ran.lists refl in
       let end = lists.answer.answers.endings.0 in
-      let stop = stop_here zero t blocks b a (Missing r k) w lists (request r k)
+      let stop = stop_here m t blocks b a (Missing r k) w lists (request r k)
       (lists.here (request r k) refl) end.0 in (
         ap (outcome_at found) stop
             ∙ missing_by (found r k) r k (sym (ap (ending_at found) stop) ∙ end.1),
         Grew-same b.written a.written _ _
-            (text_all zero t blocks b a (Missing r k) w lists end.0) lists.grew,
+            (text_all m t blocks b a (Missing r k) w lists end.0) lists.grew,
       )
   writes (Unread r k) w ran =
       let lists = ran.lists refl in
-      cut_at zero t blocks b a (Unread r k) w lists r k (lists.here (request r k) refl) lists.grew
-      run refl refl
+      cut_at m t blocks b a (Unread r k) w lists r k (lists.here (request r k) refl) lists.grew
+      run refl refl refl
   writes CannotWrite w ran =
       let lists = ran.lists refl in
-      text_begins zero t blocks b a CannotWrite w lists lists.grew
+      text_begins m t blocks b a CannotWrite w lists lists.grew
   writes NoMemory w ran =
       let lists = ran.lists refl in
-      text_begins zero t blocks b a NoMemory w lists lists.grew
+      text_begins m t blocks b a NoMemory w lists lists.grew
   writes Usage w ran = untouched_same b a (ran.untouched refl).0
   writes CannotOpen w ran = untouched_same b a (ran.untouched refl).0
   writes (NoLength r) w ran = untouched_same b a (ran.untouched refl).0
@@ -223,26 +236,26 @@ module _ (t : Told) (n : ℕ) (c : Command) (b a : Seen) where
   unfolding cut_at
   warned Done w ran =
       let lists = ran.lists refl in
-      warned_all zero t blocks b a Done w lists (lists.all refl)
+      warned_all m t blocks b a Done w lists (lists.all refl)
       lists.answer.answers.endings.0.0
   warned (Invalid r k) w ran =
       let lists = ran.lists refl in
-      warned_all zero t blocks b a (Invalid r k) w lists (lists.all refl)
+      warned_all m t blocks b a (Invalid r k) w lists (lists.all refl)
       lists.answer.answers.endings.0.0
   warned (Missing r k) w ran =
       let lists = ran.lists refl in
-      warned_all zero t blocks b a (Missing r k) w lists (lists.all refl)
+      warned_all m t blocks b a (Missing r k) w lists (lists.all refl)
       lists.answer.answers.endings.0.0
   warned (Unread r k) w ran =
       let lists = ran.lists refl in (
-        cut_at zero t blocks b a (Unread r k) w lists r k (lists.here (request r k) refl)
-            lists.grew run refl refl,
-        warned_first zero t blocks b a (Unread r k) w lists (lists.all refl),
+        cut_at m t blocks b a (Unread r k) w lists r k (lists.here (request r k) refl)
+            lists.grew run refl refl refl,
+        warned_first m t blocks b a (Unread r k) w lists (lists.all refl),
       )
   warned CannotWrite w ran =
-      warned_up_to zero t blocks b a CannotWrite w (ran.lists refl) run refl
+      warned_up_to m t blocks b a CannotWrite w (ran.lists refl) run refl refl
   warned NoMemory w ran =
-      warned_up_to zero t blocks b a NoMemory w (ran.lists refl) run refl
+      warned_up_to m t blocks b a NoMemory w (ran.lists refl) run refl refl
   warned Usage w ran = (ran.untouched refl).1
   warned CannotOpen w ran = (ran.untouched refl).1
   warned (NoLength r) w ran = (ran.untouched refl).1

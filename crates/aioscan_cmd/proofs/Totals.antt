@@ -1,7 +1,7 @@
 -- Sums that are added up over jobs and rounds.
 use Rattle.std.proofs.Common.{◌≡◌, ℕ, suc, ◌+◌, ◌<◌, ◌≤◌, List, [], ◌∷◌, ◌++◌, length}
 use Rattle.std.proofs.Common.{refl, sym, ap, ◌∙◌, subst, arith, sum_by, take, get_or}
-use Rattle.std.specs.Prelude.{Bool, Option, Some, ⊤}
+use Rattle.std.specs.Prelude.{Option, Some, ⊤}
 use Rattle.std.proofs.lemmas.List.{take_more, take_all}
 use Rattle.std.proofs.lemmas.List.Elements.{All-push}
 use Rattle.std.proofs.lemmas.List.Concat.{flat_map-cons}
@@ -9,9 +9,12 @@ use Rattle.std.proofs.lemmas.List.Sums.{sum_by-cons, sum_by_push}
 use Rattle.page_check.specs.Told.{Told}
 use Rattle.page_check.specs.SynchronousAnswer.{End, Reader, reader_of}
 use Rattle.heap_scan.specs.Job.{IsJobAnswer}
+use Rattle.heap_scan.specs.Listing.{TextOf}
 use Rattle.heap_scan.specs.Sums.{joined, no_sums}
 use Rattle.heap_scan.specs.declared.sums.PageSums.{PageSums}
 use Rattle.heap_scan.proofs.Jobs.{job_append}
+use Rattle.heap_tuple.specs.Listing.{text_with}
+use Rattle.scan_rounds.specs.Manners.{Manner}
 use Rattle.scan_rounds.specs.Jobs.{IsListed, AreAnswered, entries_in, said_end}
 use Rattle.scan_rounds.specs.declared.job.Ending.{Ending as JobEnding}
 use Rattle.scan_rounds.specs.declared.job.Ending.TheVariants as ending
@@ -75,23 +78,26 @@ kept_next f jobs k n before now d job inside is was added =
     ∙ sum_by_push f (take k jobs) (get_or jobs k d) in
     let here : f job ≡ f (get_or jobs k d) = ap f is in omega (arith, more, here, was, added)
 
-module _ (zero : Bool) (told : Option Told) where
+module _ (m : Manner) (told : Option Told) where
+  abbrev text_of : TextOf
+  text_of = text_with m.tuples
+
   abbrev found : Option Reader
-  found = reader_of zero told
+  found = reader_of m.zero told
 
   abbrev Answer : List Request → PageSums → Type 0
   Answer requests sums =
       (text : List ℕ) × ((warnings : List ℕ)
-      × IsJobAnswer found (λ _. ⊤) requests text warnings sums (Some End))
+      × IsJobAnswer text_of found (λ _. ⊤) requests text warnings sums (Some End))
 
-  one_more : (j job : Job) (asked jobs : List Job) → IsListed zero told (λ _. ⊤) j job
+  one_more : (j job : Job) (asked jobs : List Job) → IsListed m told (λ _. ⊤) j job
       → job.ending ≡ ending.Pages → Answer (requests_in asked) (total_of jobs)
       → Answer (requests_in (j ∷ asked)) (total_of (job ∷ jobs))
   unfolding job_append
   one_more j job asked jobs listed is rest =
       let P : JobEnding → Type 0 =
-      λ e. IsJobAnswer found (λ _. ⊤) (entries_in j) job.text.items job.warnings.items job.tally
-      (said_end e) in
+      λ e. IsJobAnswer text_of found (λ _. ⊤) (entries_in j) job.text.items job.warnings.items
+      job.tally (said_end e) in
       let Q : List Request → Type 0 = λ l. Answer l (total_of (job ∷ jobs)) in
       let R : PageSums → Type 0 = λ s. Answer (entries_in j ++ requests_in asked) s in
       let total : joined job.tally (total_of jobs) ≡ total_of (job ∷ jobs) =
@@ -103,21 +109,21 @@ module _ (zero : Bool) (told : Option Told) where
         job.text.items ++ rest.0,
         (
           job.warnings.items ++ rest.1.0,
-          job_append found (λ _. ⊤) (entries_in j) (requests_in asked) job.text.items rest.0
-              job.warnings.items rest.1.0 job.tally (total_of jobs) (Some End)
+          job_append text_of found (λ _. ⊤) (entries_in j) (requests_in asked) job.text.items
+              rest.0 job.warnings.items rest.1.0 job.tally (total_of jobs) (Some End)
               (subst P is listed.answer) rest.1.1,
         ),
       ))
 
   -- jobs that gave all their pages have the sums of these
-  pub answered_all : (asked jobs : List Job) → AreAnswered zero told asked jobs → GaveAll jobs
+  pub answered_all : (asked jobs : List Job) → AreAnswered m told asked jobs → GaveAll jobs
       → Answer (requests_in asked) (total_of jobs)
-  answered_all [] [] all gave = ([], ([], no_answer found))
+  answered_all [] [] all gave = ([], ([], no_answer text_of found))
   answered_all [] (job ∷ jobs) all gave = absurd (omega (arith, all.as_many))
   answered_all (j ∷ asked) [] all gave = absurd (omega (arith, all.as_many))
   answered_all (j ∷ asked) (job ∷ jobs) all gave =
       let many = all.as_many in
-      let rest : AreAnswered zero told asked jobs = record {
+      let rest : AreAnswered m told asked jobs = record {
         as_many = omega arith;
         each = λ i d below. all.each (suc i) d (omega arith);
       } in
@@ -125,12 +131,12 @@ module _ (zero : Bool) (told : Option Told) where
       (answered_all asked jobs rest (λ i d below. gave (suc i) d (omega arith)))
 
   -- no pages
-  pub none_summed : (sums : PageSums) → sums ≡ no_sums → HasSums found [] sums
+  pub none_summed : (sums : PageSums) → sums ≡ no_sums → HasSums m told [] sums
   none_summed sums none = record {
     text = [];
     warnings = [];
     total = no_sums;
-    answer = no_answer found;
+    answer = no_answer text_of found;
     sums_are = none;
   }
 
@@ -139,9 +145,9 @@ module _ (zero : Bool) (told : Option Told) where
 
   -- and those of a round
   pub round_summed : (before : List Request) (asked jobs : List Job) (was now : PageSums)
-      → HasSums found before was → AreAnswered zero told asked jobs → GaveAll jobs
+      → HasSums m told before was → AreAnswered m told asked jobs → GaveAll jobs
       → now ≡ kept_sums (joined was (total_of jobs))
-      → HasSums found (before ++ requests_in asked) now
+      → HasSums m told (before ++ requests_in asked) now
   unfolding job_append
   round_summed before asked jobs was now so_far all gave is =
       let here = answered_all asked jobs all gave in
@@ -149,7 +155,7 @@ module _ (zero : Bool) (told : Option Told) where
         text = so_far.text ++ here.0;
         warnings = so_far.warnings ++ here.1.0;
         total = joined so_far.total total;
-        answer = job_append found (λ _. ⊤) before (requests_in asked) so_far.text here.0
+        answer = job_append text_of found (λ _. ⊤) before (requests_in asked) so_far.text here.0
             so_far.warnings here.1.0 so_far.total total (Some End) so_far.answer here.1.1;
         sums_are = is ∙ same_sums _ _
             (kept_more was.pages total.pages so_far.total.pages

@@ -2,6 +2,7 @@
 use Rattle.std.specs.Prelude.{◌≡◌, ◌≢◌, ◌⊎◌, ℕ, ◌<◌, ◌≤◌, List, [], Option, true}
 use Rattle.page_check.specs.Told.{Told}
 use Rattle.aio_disk.specs.Counts.{Rose, ShelfCounts}
+use Rattle.aioscan_cmd.specs.Command.{manner_by}
 use Rattle.aioscan_cmd.specs.Cutting.{requests_for}
 use Rattle.aioscan_cmd.specs.Outcomes.{is_refused}
 use Rattle.aioscan_cmd.specs.Reading.{Lists}
@@ -37,7 +38,7 @@ pub record HasScanned (asked : Asked) (told : Option Told)
   pub opens : before.open_faults ≤ now.open_faults
   pub others : (now.length_faults ≡ before.length_faults) × (now.faults ≡ before.faults)
       × (now.reads ≡ before.reads)
-  pub lists : outcome ≢ CannotOpen → Lists (asked.command.now).settings.zero told
+  pub lists : outcome ≢ CannotOpen → Lists (manner_by (asked.command.now).settings) told
       (requests_for asked) written now_written outcome warnings
   pub cannot_open : outcome ≡ CannotOpen → Rose before.open_faults now.open_faults
       × (now_written ≡ written) × (faults ≡ 0) × (reads ≡ 0) × (warnings ≡ [])

@@ -5,6 +5,7 @@ use Rattle.aioscan_cmd.specs.Generated.{made_name}
 use Rattle.std.specs.List.{filter, position_or_len}
 use Rattle.std.specs.Option.{option_map_or}
 use Rattle.std.specs.Str.{bytes_eq}
+use Rattle.scan_rounds.specs.Manners.{Manner, manner}
 use Rattle.scan_rounds.specs.declared.settings.ScanSettings.{ScanSettings}
 
 -- the first and the last block, where they are given, the names of files, and how many pages are
@@ -17,6 +18,10 @@ pub record Command : Type 0 where
   pub made : Option ℕ
   pub settings : ScanSettings
   pub stats : Bool
+
+-- the manner in which pages are listed by these settings
+abbrev pub manner_by : ScanSettings → Manner
+manner_by settings = manner settings.zero settings.tuples
 
 -- the numbers of blocks that `--from` and `--to` may give end below this: 16 segments of the
 -- greatest size

@@ -40,7 +40,8 @@ option_names =
 
 -- the flags
 abbrev pub flag_names : List Text
-flag_names = codes "batch" ∷ codes "full" ∷ codes "stats" ∷ codes "zero-damaged" ∷ []
+flag_names =
+    codes "batch" ∷ codes "full" ∷ codes "stats" ∷ codes "zero-damaged" ∷ codes "tuples" ∷ []
 
 -- the command
 unfoldable pub the_command : App

@@ -13,4 +13,5 @@ pub mod Cutting
 pub mod Sums
 pub mod Listing
 pub mod Disks
+pub mod Scanning
 pub mod Totals

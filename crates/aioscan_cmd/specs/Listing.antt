@@ -1,9 +1,8 @@
 -- What the rounds of a run have listed.
-use Rattle.std.specs.Prelude.{◌≡◌, ◌≢◌, ◌⊎◌, ℕ, ◌++◌, Bool, List, [], Option}
-use Rattle.std.specs.Prelude.{⊤}
+use Rattle.std.specs.Prelude.{◌≡◌, ◌≢◌, ◌⊎◌, ℕ, ◌++◌, List, [], Option, ⊤}
 use Rattle.std.specs.List.{flat_map}
 use Rattle.page_check.specs.Told.{Told}
-use Rattle.page_check.specs.SynchronousAnswer.{reader_of}
+use Rattle.scan_rounds.specs.Manners.{Manner, manner}
 use Rattle.scan_rounds.specs.Jobs.{IsListed, AreAnswered, entries_in}
 use Rattle.scan_rounds.specs.declared.job.Ending.{Ending as JobEnding}
 use Rattle.scan_rounds.specs.declared.job.Ending.TheVariants as ending
@@ -46,19 +45,23 @@ unread_count (TooLong r) = 0
 -- the text of a job was written: the blocks that it was asked for were listed, with these warnings
 abbrev pub IsListedBy : Job → Option (List ℕ) → Option (List ℕ) → Outcome → List ℕ → Type 0
 IsListedBy job before now outcome warnings =
-    (zero : Bool) (told : Option Told) (asked : Job) → IsListed zero told (λ _. ⊤) asked job
-    → Lists zero told (entries_in asked) before now outcome warnings
+    (m : Manner) (told : Option Told) (asked : Job) → IsListed m told (λ _. ⊤) asked job
+    → Lists m told (entries_in asked) before now outcome warnings
 
 -- and the texts of some jobs
 abbrev pub AreListedBy : List Job → Option (List ℕ) → Option (List ℕ) → Outcome → List ℕ → Type 0
 AreListedBy jobs before now outcome warnings =
-    (zero : Bool) (told : Option Told) (asked : List Job) → AreAnswered zero told asked jobs
-    → Lists zero told (requests_in asked) before now outcome warnings
+    (m : Manner) (told : Option Told) (asked : List Job) → AreAnswered m told asked jobs
+    → Lists m told (requests_in asked) before now outcome warnings
 
 module _ {W O E : Type 0} where
   -- something has ended the run, or no block is left
   abbrev pub IsOver : Lister W O E → Type 0
   IsOver l = (l.outcome ≢ Done) ⊎ (l.blocks ≡ [])
+
+  -- the manner in which it takes pages to be listed
+  abbrev pub manner_in : Lister W O E → Manner
+  manner_in l = manner l.zero l.tuples
 
   -- these jobs were cut off, where nothing has ended the run; nothing was written
   pub record Puts (s : Lister W O E) (asked : List Job) (t : Lister W O E) : Type 0 where
@@ -66,7 +69,7 @@ module _ {W O E : Type 0} where
     pub out : t.out.now ≡ s.out.now
     pub err : t.err.now ≡ s.err.now
     pub line : t.line ≡ s.line
-    pub zero : t.zero ≡ s.zero
+    pub manner_kept : manner_in t ≡ manner_in s
     pub outcome : t.outcome ≡ s.outcome
     pub sums : t.sums ≡ s.sums
     pub cut : s.blocks ≡ requests_in asked ++ t.blocks
@@ -77,16 +80,16 @@ module _ {W O E : Type 0} where
     errors_of l = error_stream l.line (err_written l.err.now) (err_faults l.err.now)
 
     -- of these blocks the first were listed: all that are not left, where nothing has ended the run
-    pub record HasListed (zero : Bool) (all : List Request) (before : Option (List ℕ))
+    pub record HasListed (m : Manner) (all : List Request) (before : Option (List ℕ))
         (faults_before : ℕ) (errors : ErrorStream) (l : Lister W O E) : Type 0 where
       pub asked : List Request
       pub rest : List Request
       pub cut : all ≡ asked ++ rest
       pub left : l.outcome ≡ Done → rest ≡ l.blocks
-      pub zero_is : l.zero ≡ zero
-      pub lists : Warns (Lists zero told asked before (written l.out.now) l.outcome) errors
+      pub manner_is : manner_in l ≡ m
+      pub lists : Warns (Lists m told asked before (written l.out.now) l.outcome) errors
           (errors_of l)
-      pub sums : l.outcome ≡ Done → HasSums (reader_of zero told) asked l.sums
+      pub sums : l.outcome ≡ Done → HasSums m told asked l.sums
       pub writes : HasWritten faults_before (faults l.out.now) l.outcome
 
     -- some rounds have led from one state to the other: whatever was listed by the first, with
@@ -94,6 +97,6 @@ module _ {W O E : Type 0} where
     abbrev pub Follows : Lister W O E → Lister W O E → Type 0
     Follows s t =
         (t.out.ghost_name ≡ s.out.ghost_name) × (t.err.ghost_name ≡ s.err.ghost_name)
-        × ((zero : Bool) (all : List Request) (before : Option (List ℕ)) (faults_before : ℕ)
-        (errors : ErrorStream) → HasListed zero all before faults_before errors s
-        → HasListed zero all before faults_before errors t)
+        × ((m : Manner) (all : List Request) (before : Option (List ℕ)) (faults_before : ℕ)
+        (errors : ErrorStream) → HasListed m all before faults_before errors s
+        → HasListed m all before faults_before errors t)

@@ -1,5 +1,5 @@
 -- What a run has listed of a list of blocks, whether or not the contents are told.
-use Rattle.std.specs.Prelude.{◌≡◌, ◌≤◌, ◌++◌, ℕ, Bool, List, [], length, take, Option, slice_get}
+use Rattle.std.specs.Prelude.{◌≡◌, ◌≤◌, ◌++◌, ℕ, List, [], length, take, Option, slice_get}
 use Rattle.std.specs.Prelude.{Some, ⊤, false}
 use Rattle.page_check.specs.SynchronousAnswer.{reader_of}
 use Rattle.page_check.specs.Told.{Told}
@@ -7,6 +7,8 @@ use Rattle.heap_scan.specs.Job.{IsJobAnswer}
 use Rattle.heap_scan.specs.Listing.{listing}
 use Rattle.heap_scan.specs.Warnings.{warnings_of}
 use Rattle.heap_scan.specs.declared.sums.PageSums.{PageSums}
+use Rattle.heap_tuple.specs.Listing.{text_with}
+use Rattle.scan_rounds.specs.Manners.{Manner}
 use Rattle.aio_disk.specs.Counts.{Rose}
 use Rattle.aio_disk.specs.Sink.{Grew, GrewByPrefix}
 use Rattle.aioscan_cmd.specs.RequestList.{Request}
@@ -37,16 +39,16 @@ GrewBy CannotOpen before after text = Grew before after text
 GrewBy (NoLength r) before after text = Grew before after text
 GrewBy (TooLong r) before after text = Grew before after text
 
--- pages that answer these blocks, with this outcome, were listed; these are the warnings of those
--- whose text was written whole
-pub record Lists (zero : Bool) (told : Option Told) (requests : List Request)
+-- pages that answer these blocks, with this outcome, were listed in this manner; these are the
+-- warnings of those whose text was written whole
+pub record Lists (m : Manner) (told : Option Told) (requests : List Request)
     (before now : Option (List ℕ)) (outcome : Outcome) (warnings : List ℕ) : Type 0 where
   pub begun : is_refused outcome ≡ false
   pub text : List ℕ
   pub all_warnings : List ℕ
   pub sums : PageSums
-  pub answer : IsJobAnswer (reader_of zero told) (λ _. ⊤) requests text all_warnings sums
-      (ending_of outcome)
+  pub answer : IsJobAnswer (text_with m.tuples) (reader_of m.zero told) (λ _. ⊤) requests text
+      all_warnings sums (ending_of outcome)
   pub here : (e : Request) → stopped_at outcome ≡ Some e
       → slice_get requests (length answer.pages) ≡ Some e
   pub grew : GrewBy outcome before now text
@@ -55,9 +57,10 @@ pub record Lists (zero : Bool) (told : Option Told) (requests : List Request)
   pub whole : ℕ
   pub among : whole ≤ length answer.pages
   pub all : is_cut outcome ≡ false → whole ≡ length answer.pages
-  pub reached : (more : List ℕ) × Grew before now (listing (take whole answer.pages) ++ more)
+  pub reached : (more : List ℕ)
+      × Grew before now (listing (text_with m.tuples) (take whole answer.pages) ++ more)
   pub warned : warnings ≡ warnings_of (take whole answer.pages)
-  pub quiet : zero ≡ false → warnings ≡ []
+  pub quiet : m.zero ≡ false → warnings ≡ []
 
 -- what a run's writes have counted: no fault was forgotten, and one is named only where it rose
 pub record HasWritten (faults_before faults_now : ℕ) (outcome : Outcome) : Type 0 where

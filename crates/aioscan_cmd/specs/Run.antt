@@ -5,13 +5,14 @@ use Rattle.page_check.specs.Told.{Told, blocks_of}
 use Rattle.page_check.specs.SynchronousAnswer.{Found, Page as FoundPage, Zeroed, Damaged, Absent}
 use Rattle.page_check.specs.SynchronousAnswer.{found_for, zeroing}
 use Rattle.page_check.specs.SynchronousAnswer.{Reader, found_at, pages_of, stop_of}
-use Rattle.heap_scan.specs.Listing.{listing}
+use Rattle.heap_scan.specs.Listing.{TextOf, listing}
 use Rattle.heap_scan.specs.Sums.{sums_of}
 use Rattle.heap_scan.specs.Warnings.{warnings_of}
+use Rattle.heap_tuple.specs.Listing.{text_with}
 use Rattle.aio_disk.specs.Shelf.{AllThereIfTold, Files, told_of}
 use Rattle.aio_disk.specs.Sink.{Grew, GrewByPrefix}
 use Rattle.aio_handle.specs.Executing.{last_count}
-use Rattle.aioscan_cmd.specs.Command.{Command, length_limit, relations_of}
+use Rattle.aioscan_cmd.specs.Command.{Command, length_limit, manner_by, relations_of}
 use Rattle.aioscan_cmd.specs.Generated.{made_told, summary_of}
 use Rattle.aioscan_cmd.specs.RequestList.{Request, Page, block_range, request, requests_of}
 use Rattle.aioscan_cmd.specs.Outcomes.{is_refused}
@@ -33,7 +34,8 @@ outcome_at found None = Done
 outcome_at found (Some e) = outcome_by (found_for found e) e.relation e.block
 
 -- over contents that are told: how many relations there are, how many blocks each has and may have,
--- the blocks that are asked for, their pages, how that ends, and what is written
+-- the blocks that are asked for, their pages, how that ends, by what text each page is listed, and
+-- what is written
 pub record SynchronousRun : Type 0 where
   pub relations : ℕ
   pub lengths : ℕ → ℕ
@@ -41,20 +43,23 @@ pub record SynchronousRun : Type 0 where
   pub requests : List Request
   pub pages : List Page
   pub outcome : Outcome
+  pub text_of : TextOf
   pub text : List ℕ
 
 abbrev pub run_of : Told → Command → SynchronousRun
 run_of told command =
     let found = zeroing command.settings.zero (found_at told) in
     let requests = requests_of (blocks_of told) command in
-    let pages = pages_of found requests in record {
+    let pages = pages_of found requests in
+    let text_of = text_with command.settings.tuples in record {
       relations = length (relations_of command);
       lengths = blocks_of told;
       limit = length_limit told.segment;
       requests = requests;
       pages = pages;
       outcome = outcome_at found (stop_of found requests);
-      text = listing pages;
+      text_of = text_of;
+      text = listing text_of pages;
     }
 
 -- over so many generated pages: all blocks of their relation, and the line of the sums of the pages
@@ -69,6 +74,7 @@ made_run zero n =
       requests = requests;
       pages = pages;
       outcome = outcome_at found (stop_of found requests);
+      text_of = text_with false;
       text = summary_of (sums_of pages);
     }
 
@@ -95,7 +101,7 @@ pub record IsCutAt (run : SynchronousRun) (before after : Option (List ℕ)) (r 
   pub k : ℕ
   pub here : slice_get run.requests k ≡ Some (request r b)
   pub among : k ≤ length run.pages
-  pub grew : Grew before after (listing (take k run.pages))
+  pub grew : Grew before after (listing run.text_of (take k run.pages))
 
 -- what a run with this outcome has written
 abbrev pub Writes : SynchronousRun → Option (List ℕ) → Option (List ℕ) → Outcome → Type 0
@@ -117,7 +123,8 @@ pub record IsWarnedUpTo (run : SynchronousRun) (before after : Option (List ℕ)
     (warnings : List ℕ) : Type 0 where
   pub k : ℕ
   pub among : k ≤ length run.pages
-  pub reached : (more : List ℕ) × Grew before after (listing (take k run.pages) ++ more)
+  pub reached : (more : List ℕ)
+      × Grew before after (listing run.text_of (take k run.pages) ++ more)
   pub are : warnings ≡ warnings_of (take k run.pages)
 
 -- what a run with this outcome has warned of: of the pages that it has listed
@@ -172,8 +179,9 @@ pub record Ran (told : Option Told) (relations : ℕ) (command : Command) (befor
   pub in_order : FitsInOrder (limit_known told segment) (lengths_known told answered) relations
       outcome
   pub lists : is_refused outcome ≡ false
-      → Lists command.settings.zero told (requests_of (lengths_known told answered) command)
-      before.written now.written outcome warnings
+      → Lists (manner_by command.settings) told
+      (requests_of (lengths_known told answered) command) before.written now.written outcome
+      warnings
   -- as far as the count goes, there were no more reads than blocks that were asked for
   pub few_reads : now.reads < last_count
       → now.reads ≤ before.reads + length (requests_of (lengths_known told answered) command)

@@ -1,13 +1,15 @@
 -- The sums over the pages of a run, as its jobs have added them up.
 use Rattle.std.specs.Prelude.{◌≡◌, ℕ, ◌-◌, ◌^◌, List, sum_by, min, Option, Some, IfSome, ⊤}
 use Rattle.std.specs.List.{All}
-use Rattle.page_check.specs.SynchronousAnswer.{End, Reader, found_at, zeroing}
+use Rattle.page_check.specs.SynchronousAnswer.{End, reader_of}
 use Rattle.page_check.specs.Told.{Told, blocks_of}
 use Rattle.heap_scan.specs.Job.{IsJobAnswer}
 use Rattle.heap_scan.specs.declared.sums.PageSums.{PageSums}
+use Rattle.heap_tuple.specs.Listing.{text_with}
+use Rattle.scan_rounds.specs.Manners.{Manner}
 use Rattle.scan_rounds.specs.declared.job.Ending.TheVariants as ending
 use Rattle.scan_rounds.specs.declared.job.Job.{Job}
-use Rattle.aioscan_cmd.specs.Command.{Command}
+use Rattle.aioscan_cmd.specs.Command.{Command, manner_by}
 use Rattle.aioscan_cmd.specs.RequestList.{Request, requests_of}
 use Rattle.aioscan_cmd.specs.declared.report.Outcome.{Outcome}
 use Rattle.aioscan_cmd.specs.declared.report.Outcome.TheVariants.{Done}
@@ -35,18 +37,18 @@ total_of jobs = record {
 abbrev pub GaveAll : List Job → Type 0
 GaveAll jobs = All (λ (j : Job). j.ending ≡ ending.Pages) jobs
 
--- these are the sums of the pages that answer the blocks, to their end
-pub record HasSums (found : Option Reader) (requests : List Request) (sums : PageSums)
+-- these are the sums of the pages that answer the blocks, listed in this manner to their end
+pub record HasSums (m : Manner) (told : Option Told) (requests : List Request) (sums : PageSums)
     : Type 0 where
   pub text : List ℕ
   pub warnings : List ℕ
   pub total : PageSums
-  pub answer : IsJobAnswer found (λ _. ⊤) requests text warnings total (Some End)
+  pub answer : IsJobAnswer (text_with m.tuples) (reader_of m.zero told) (λ _. ⊤) requests text
+      warnings total (Some End)
   pub sums_are : sums ≡ kept_sums total
 
 -- of the blocks that a command asks for, where all were listed and the contents are told
 abbrev pub HasSumsTold : Option Told → Command → Outcome → PageSums → Type 0
 HasSumsTold told command outcome sums =
     IfSome told (λ t. outcome ≡ Done
-    → HasSums (Some (zeroing command.settings.zero (found_at t)))
-    (requests_of (blocks_of t) command) sums)
+    → HasSums (manner_by command.settings) (Some t) (requests_of (blocks_of t) command) sums)

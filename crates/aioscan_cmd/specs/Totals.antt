@@ -1,5 +1,5 @@
 -- How many I/Os a run made through handles, and who executed them.
-use Rattle.std.specs.Prelude.{◌≡◌, ℕ, ◌+◌, ◌<◌, ◌≤◌, List, length, sum_by, Option, Some, None}
+use Rattle.std.specs.Prelude.{◌≡◌, ◌≢◌, ℕ, ◌+◌, ◌<◌, ◌≤◌, List, length, sum_by, Option, Some, None}
 use Rattle.std.specs.Prelude.{IfSome, true}
 use Rattle.std.specs.List.{All}
 use Rattle.aio_disk.specs.Counts.{ShelfCounts}
@@ -38,7 +38,8 @@ pub record AreCounted (made : Option ℕ) (command : Option Command) (before now
   -- each was executed once, by a worker or by a backend
   pub sum : numbers.incarnations ≡ numbers.by_workers + numbers.by_backends
   pub reads : AreReads made before now numbers.incarnations
-  pub no_workers : IfSome command (λ c. c.settings.method ≡ method.Sync → numbers.by_workers ≡ 0)
+  pub no_workers : IfSome command
+      (λ c. c.settings.method ≢ method.Worker → numbers.by_workers ≡ 0)
   pub none : is_refused outcome ≡ true
       → (numbers.incarnations ≡ 0) × (numbers.by_workers ≡ 0) × (numbers.by_backends ≡ 0)
 
@@ -50,4 +51,4 @@ pub record AreOfScan {D : Type 0} (asked : Asked) (reads : D → ℕ) (disks : L
   pub reads_are : All (λ d. reads d < last_count) disks
       → numbers.incarnations ≡ sum_by reads disks
   pub few : numbers.incarnations ≤ length (requests_for asked)
-  pub no_workers : (asked.command.now).settings.method ≡ method.Sync → numbers.by_workers ≡ 0
+  pub no_workers : (asked.command.now).settings.method ≢ method.Worker → numbers.by_workers ≡ 0

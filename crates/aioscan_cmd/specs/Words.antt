@@ -1,6 +1,6 @@
 -- The words of a command: what they ask for, or that they are no command.
-use Rattle.std.specs.Prelude.{◌≡◌, ℕ, List, [], ◌∷◌, Option, Some, None, Bool, false, ◌&&◌, length}
-use Rattle.std.specs.Prelude.{nat_le, if◌then◌else◌, unwrap_or, codes}
+use Rattle.std.specs.Prelude.{◌≡◌, ℕ, List, [], ◌∷◌, Option, Some, None, Bool, true, false, ◌&&◌}
+use Rattle.std.specs.Prelude.{length, nat_le, if◌then◌else◌, unwrap_or, codes}
 use Rattle.std.specs.List.{list_all}
 use Rattle.std.specs.Option.{option_map}
 use Rattle.std.specs.Str.{bytes_eq}
@@ -43,7 +43,8 @@ abbrev pub method_of : Option Text → Option MethodKind
 method_of None = Some method.Worker
 method_of (Some word) =
     if bytes_eq word (codes "sync") then Some method.Sync
-    else if bytes_eq word (codes "worker") then Some method.Worker else None
+    else if bytes_eq word (codes "worker") then Some method.Worker
+    else if bytes_eq word (codes "ring") then Some method.Ring else None
 
 -- a flag that is given has the value `true`
 abbrev pub is_set : Option Text → Bool
@@ -80,8 +81,9 @@ NamesSource (Some n) rows = Unit {0}
 
 -- the settings, where each option that they come from has a right value
 abbrev pub settings_with : Option MethodKind → Option ℕ → Option ℕ → Option ℕ → Option ℕ → Option ℕ
-    → Option ℕ → Bool → Bool → Bool → Option ScanSettings
-settings_with (Some m) (Some w) (Some n) (Some c) (Some o) (Some h) (Some b) batch full zero =
+    → Option ℕ → Bool → Bool → Bool → Bool → Option ScanSettings
+settings_with (Some m) (Some w) (Some n) (Some c) (Some o) (Some h) (Some b) batch full zero
+    tuples =
     Some (record {
       method = m;
       workers = w;
@@ -94,8 +96,9 @@ settings_with (Some m) (Some w) (Some n) (Some c) (Some o) (Some h) (Some b) bat
       full = full;
       segment = 131072;
       zero = zero;
+      tuples = tuples;
     })
-settings_with _ _ _ _ _ _ _ _ _ _ = None
+settings_with _ _ _ _ _ _ _ _ _ _ _ = None
 
 -- what is listed: files, or generated pages
 pub record Source : Type 0 where
@@ -109,19 +112,20 @@ named from to None = None
 named from to (Some files) =
     Some (record { from = from; to = to; files = files; made = None })
 
--- either FILE words or `--make`, and `--make` with neither `--from` nor `--to`
-abbrev pub source_of : Option ℕ → Option ℕ → Option ℕ → Option (List Text) → Option Source
-source_of from to None words = named from to (files_of words)
-source_of None None (Some n) None =
+-- either FILE words or `--make`, and `--make` with none of `--from`, `--to` and `--tuples`
+abbrev pub source_of : Option ℕ → Option ℕ → Bool → Option ℕ → Option (List Text) → Option Source
+source_of from to tuples None words = named from to (files_of words)
+source_of None None false (Some n) None =
     Some (record { from = None; to = None; files = made_name ∷ []; made = Some n })
-source_of (Some from) to (Some n) words = None
-source_of None (Some to) (Some n) words = None
-source_of None None (Some n) (Some words) = None
+source_of (Some from) to tuples (Some n) words = None
+source_of None (Some to) tuples (Some n) words = None
+source_of None None true (Some n) words = None
+source_of None None false (Some n) (Some words) = None
 
-abbrev pub source_with : Option (Option ℕ) → Option (Option ℕ) → Option (Option ℕ)
+abbrev pub source_with : Option (Option ℕ) → Option (Option ℕ) → Bool → Option (Option ℕ)
     → Option (List Text) → Option Source
-source_with (Some from) (Some to) (Some made) words = source_of from to made words
-source_with _ _ _ _ = None
+source_with (Some from) (Some to) tuples (Some made) words = source_of from to tuples made words
+source_with _ _ _ _ _ = None
 
 abbrev pub command_with : Option Source → Option ScanSettings → Bool → Option Command
 command_with (Some source) (Some settings) stats =
@@ -152,12 +156,14 @@ module _ (rows : List Row) where
       (is_set (text_of (codes "batch")))
       (is_set (text_of (codes "full")))
       (is_set (text_of (codes "zero-damaged")))
+      (is_set (text_of (codes "tuples")))
 
   abbrev pub command_in : Option Command
   command_in = command_with
       (source_with
       (number_if_given 0 2097151 (text_of (codes "from")))
       (number_if_given 0 2097151 (text_of (codes "to")))
+      (is_set (text_of (codes "tuples")))
       (number_if_given 1 4096 (text_of (codes "make")))
       (all_of (codes "FILE") rows))
       settings_in

@@ -7,6 +7,7 @@
 //! that does not tell, less is known, and the contract says how much.
 #![tactic(auto)]
 
+mod any_scan;
 mod cutter;
 mod disks;
 mod error_line;

@@ -30,6 +30,8 @@ pub(crate) struct Lister<'a, 'e, 'w, W: World, O: Sink, E: Sink> {
     pub(crate) line: Line,
     /// Whether damaged pages are listed as zeros.
     pub(crate) zero: bool,
+    /// Whether the headers of tuples are listed too.
+    pub(crate) tuples: bool,
     /// `Done` as long as nothing has ended the run.
     pub(crate) outcome: Outcome,
     /// The sums over the pages of the jobs that were done.
@@ -151,7 +153,7 @@ fn goes_on(outcome: Outcome) -> bool
 impl<'a, 'e, 'w, W: World, O: Sink, E: Sink> Agenda<W> for Lister<'a, 'e, 'w, W, O, E> {
     ghost use Rattle.std.specs.Prelude.{length};
     ghost use Rattle.std.proofs.Common.{refl, ◌∙◌};
-    ghost use Rattle.aioscan_cmd.specs.Listing.{unread_count, IsOver, Puts, Follows};
+    ghost use Rattle.aioscan_cmd.specs.Listing.{unread_count, manner_in, IsOver, Puts, Follows};
 
     ghost left = { λ l. length l.blocks };
 
@@ -161,7 +163,7 @@ impl<'a, 'e, 'w, W: World, O: Sink, E: Sink> Agenda<W> for Lister<'a, 'e, 'w, W,
 
     ghost follows = { Follows W.told O.written O.faults E.written E.faults };
 
-    ghost zero = { λ l. l.zero };
+    ghost manner = { manner_in };
 
     ghost is_over = { IsOver };
 
@@ -185,12 +187,12 @@ impl<'a, 'e, 'w, W: World, O: Sink, E: Sink> Agenda<W> for Lister<'a, 'e, 'w, W,
         }
     }
 
-    ghost follows_itself = { λ a. (refl, refl, λ zero all before faults errors was. was) };
+    ghost follows_itself = { λ a. (refl, refl, λ m all before faults errors was. was) };
 
     ghost follows_on = { λ a b c first second. (
       second.0 ∙ first.0,
       second.1 ∙ first.1,
-      λ zero all before faults errors was.
-          second.2 zero all before faults errors (first.2 zero all before faults errors was),
+      λ m all before faults errors was.
+          second.2 m all before faults errors (first.2 m all before faults errors was),
     ) };
 }

@@ -100,6 +100,7 @@ fn run<S: Shelf, O: Sink, E: Sink, R: Threads + Wait + Sync>(
 /// next is taken. Then a disk is opened for each other backend, and for each I/O worker. Jobs of at
 /// most 64 blocks of one file are done in rounds, one by each backend; after a round the text of
 /// each job goes to `out` by one write, in their order, up to the first that ended in a fault. With
+/// `--tuples` the text of a page has the headers of its tuples and its update chains too. With
 /// `--zero-damaged` an invalid page is listed as a page of zeros, and once the text of its job was
 /// written whole, the job's warnings go to `err` by one write: a line for each such page. At the
 /// end a line on `err` names what ended the run, where that is not the end of the list. With

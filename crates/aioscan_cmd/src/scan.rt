@@ -2,23 +2,24 @@
 ghost use Rattle.std.specs.Prelude.{◌≡◌, ◌≢◌, ◌<◌, ◌≤◌, ◌+◌, ◌*◌, ◌^◌, ℕ, length, sum_by};
 ghost use Rattle.std.specs.Prelude.{None, Some, true, vec_len, vec_capacity};
 ghost use Rattle.std.specs.List.{All};
-ghost use Rattle.page_check.specs.SynchronousAnswer.{reader_of};
 ghost use Rattle.aio_disk.specs.Shelf.{told_of};
 ghost use Rattle.scan_rounds.specs.Hands.{meter};
 ghost use Rattle.scan_rounds.specs.Opening.{AreSettings};
 ghost use Rattle.scan_rounds.specs.Rounds.{taken_by};
-ghost use Rattle.scan_rounds.specs.Scans.{IsScan, IsSameScan};
-ghost use Rattle.aioscan_cmd.specs.Command.{relations_of};
+ghost use Rattle.scan_rounds.specs.Scans.{IsScan, IsSameScan, manner_in};
+ghost use Rattle.aioscan_cmd.specs.Command.{manner_by, relations_of};
 ghost use Rattle.aioscan_cmd.specs.Cutting.{IsAsked, requests_for, settings_for};
 ghost use Rattle.aioscan_cmd.specs.Disks.{IsUnread, disks_of};
 ghost use Rattle.aioscan_cmd.specs.Lengths.{HasLengths};
 ghost use Rattle.aioscan_cmd.specs.Reading.{Lists, HasWritten, seen};
 ghost use Rattle.aioscan_cmd.specs.Run.{Ran};
+ghost use Rattle.aioscan_cmd.specs.Scanning.{scan_in};
 ghost use Rattle.aioscan_cmd.specs.Causes.{HasScanned, HasCauses, CallsInOrder};
 ghost use Rattle.aioscan_cmd.specs.ErrorLine.{Warns, error_stream};
 ghost use Rattle.aioscan_cmd.specs.Sums.{HasSums, HasSumsTold};
 ghost use Rattle.aioscan_cmd.specs.Totals.{AreCounted, AreOfScan};
 
+use crate::any_scan::AnyScan;
 use crate::cutter::{Asked, Cutter};
 use crate::disks::{open_others, take_all_back};
 use crate::lengths::take_lengths;
@@ -30,7 +31,7 @@ use crate::{Line, Outcome};
 use aio_disk::{Disk, OpenFault, Shelf, Sink};
 use heap_scan::PageSums;
 use page_check::World;
-use scan_rounds::{MethodKind, Scan, ScanSettings};
+use scan_rounds::{MethodKind, ScanSettings};
 use std::alloc::Global;
 use std::marker::Brand;
 use std::sync::Wait;
@@ -46,39 +47,41 @@ fn give_back<O: Sink>(out: &mut O)
 // Lists by rounds what is asked for.
 fn list_rounds<W: World + Send + Sync, D: Disk, O: Sink, E: Sink, R: Threads + Wait + Sync>(
     rt: &R,
-    scan: &mut Scan<W, D>,
+    scan: &mut AnyScan<W, D>,
     asked: Asked<'_, '_>,
     out: &mut O,
     err: &mut E,
 ) -> (Outcome, Line, PageSums)
     requires scan { IsScan (meter D.told D.relations D.reads D.faults) W.told W.relations
-        scan.old }
-    requires room { 2 ^ 37 ≤ scan.old.room }
+        (scan_in scan.old) }
+    requires room { 2 ^ 37 ≤ (scan_in scan.old).room }
     requires asked { IsAsked asked }
-    requires zero { scan.old.zero ≡ (settings_for asked).zero }
+    requires manner { manner_in (scan_in scan.old) ≡ manner_by (settings_for asked) }
     requires world { W.relations ≡ length asked.relations.now }
     ensures scan { IsScan (meter D.told D.relations D.reads D.faults) W.told W.relations
-        scan.new }
-    ensures same { IsSameScan scan.old scan.new }
-    ensures lists { Warns (Lists (settings_for asked.entry).zero W.told (requests_for asked.entry)
-        (O.written out.old) (O.written out.new) result.0)
+        (scan_in scan.new) }
+    ensures same { IsSameScan (scan_in scan.old) (scan_in scan.new) }
+    ensures lists { Warns (Lists (manner_by (settings_for asked.entry)) W.told
+        (requests_for asked.entry) (O.written out.old) (O.written out.new) result.0)
         (error_stream Line.Whole (E.written err.old) (E.faults err.old))
         (error_stream result.1 (E.written err.new) (E.faults err.new)) }
     ensures writes { HasWritten (O.faults out.old) (O.faults out.new) result.0 }
     ensures sums { result.0 ≡ Outcome.Done
-        → HasSums (reader_of (settings_for asked.entry).zero W.told) (requests_for asked.entry)
+        → HasSums (manner_by (settings_for asked.entry)) W.told (requests_for asked.entry)
         result.2 }
-    ensures taken { taken_by scan.new.backends.items
-        ≤ taken_by scan.old.backends.items + length (requests_for asked.entry) }
-    ensures unread { (r b : ℕ) → result.0 ≡ Outcome.Unread r b → 0 < scan.new.unread }
+    ensures taken { taken_by (scan_in scan.new).backends.items
+        ≤ taken_by (scan_in scan.old).backends.items + length (requests_for asked.entry) }
+    ensures unread { (r b : ℕ) → result.0 ≡ Outcome.Unread r b → 0 < (scan_in scan.new).unread }
 {
     let blocks = Cutter::<W>::of(asked);
+    let settings = asked.command.settings();
     let lister = Lister {
         blocks,
         out,
         err,
         line: Line::Whole,
-        zero: asked.command.settings().zero,
+        zero: settings.zero,
+        tuples: settings.tuples,
         outcome: Outcome::Done,
         sums: PageSums::default(),
     };
@@ -112,8 +115,8 @@ fn list_disks<W: World + Send + Sync, D: Disk, O: Sink, E: Sink, R: Threads + Wa
         W.relations asked.segment) disks.items }
     requires handles { (settings_for asked).backends * (settings_for asked).handles
         ≡ W.handles }
-    ensures lists { Warns (Lists (settings_for asked.entry).zero W.told (requests_for asked.entry)
-        (O.written out.old) (O.written out.new) result.1.outcome)
+    ensures lists { Warns (Lists (manner_by (settings_for asked.entry)) W.told
+        (requests_for asked.entry) (O.written out.old) (O.written out.new) result.1.outcome)
         (error_stream Line.Whole (E.written err.old) (E.faults err.old))
         (error_stream result.1.line (E.written err.new) (E.faults err.new)) }
     ensures writes { HasWritten (O.faults out.old) (O.faults out.new) result.1.outcome }
@@ -121,11 +124,11 @@ fn list_disks<W: World + Send + Sync, D: Disk, O: Sink, E: Sink, R: Threads + Wa
         → 0 < sum_by D.faults result.0.items }
     ensures counted { AreOfScan asked.entry D.reads result.0.items result.1.numbers }
     ensures sums { result.1.outcome ≡ Outcome.Done
-        → HasSums (reader_of (settings_for asked.entry).zero W.told) (requests_for asked.entry)
+        → HasSums (manner_by (settings_for asked.entry)) W.told (requests_for asked.entry)
         result.1.sums }
 {
     let settings = asked.settings();
-    let mut scan = match Scan::<W, D>::open(alloc, &settings, disks) {
+    let mut scan = match AnyScan::<W, D>::open(alloc, &settings, disks) {
         Ok(scan) => scan,
         Err(disks) => return (disks, RunEnd::without_reads(Outcome::NoMemory)),
     };
@@ -153,6 +156,7 @@ fn disk_count(settings: &ScanSettings) -> usize
     let workers = match settings.method {
         MethodKind::Sync => 0,
         MethodKind::Worker => settings.workers,
+        MethodKind::Ring => 0,
     };
     settings.backends as usize + workers as usize
 }
@@ -186,7 +190,7 @@ fn open_and_list<W: World + Send + Sync, S: Shelf, O: Sink, E: Sink, R: Threads 
     ensures writes { HasWritten (O.faults out.old) (O.faults out.new) result.1.outcome }
     ensures counted { AreOfScan asked.entry S.Disk.reads result.0.items result.1.numbers }
     ensures sums { result.1.outcome ≡ Outcome.Done
-        → HasSums (reader_of (settings_for asked.entry).zero W.told) (requests_for asked.entry)
+        → HasSums (manner_by (settings_for asked.entry)) W.told (requests_for asked.entry)
         result.1.sums }
     ensures sure { S.surely_opens shelf.old asked.entry.relations.now ≡ true
         → result.1.outcome ≢ Outcome.CannotOpen }

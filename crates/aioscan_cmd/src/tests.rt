@@ -8,6 +8,7 @@ mod rows;
 mod segments;
 mod settings;
 mod slow;
+mod tuples;
 mod untold;
 mod words;
 mod zero_damaged;

@@ -73,9 +73,11 @@ fn is_source(
     matches: &ArgMatches<'_>,
     from: Option<u32>,
     to: Option<u32>,
+    tuples: bool,
     made: Option<u32>,
 ) -> bool
-    ensures source { source_of from to made (all_of (codes "FILE") (rows_of (found_of matches.now)))
+    ensures source { source_of from to tuples made
+        (all_of (codes "FILE") (rows_of (found_of matches.now)))
         ≡ (if result then Some (record {
           from = from;
           to = to;
@@ -87,7 +89,7 @@ fn is_source(
 {
     match made {
         None => values::names_files(matches),
-        Some(_) => from.is_none() && to.is_none() && !values::has_files(matches),
+        Some(_) => from.is_none() && to.is_none() && !tuples && !values::has_files(matches),
     }
 }
 
@@ -99,7 +101,8 @@ impl<'a> Command<'a> {
         let from = values::number_given(&matches, "from", 0, LAST_BLOCK)?;
         let to = values::number_given(&matches, "to", 0, LAST_BLOCK)?;
         let made = values::number_given(&matches, "make", 1, MOST_MADE)?;
-        if !is_source(&matches, from, to, made) {
+        let tuples = values::flag(&matches, "tuples");
+        if !is_source(&matches, from, to, tuples, made) {
             return None;
         }
         let settings = values::settings(&matches)?;

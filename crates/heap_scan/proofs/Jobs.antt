@@ -5,8 +5,7 @@ use Rattle.std.specs.List.{All}
 use Rattle.std.proofs.lemmas.Grind.{flat_map-append}
 use Rattle.page_check.specs.SynchronousAnswer.{Entry, Given, Ending, End, Reader}
 use Rattle.page_check.proofs.AnswersOfLists.{answered_append, answered_more}
-use Rattle.heap_scan.specs.PageText.{page_text_of}
-use Rattle.heap_scan.specs.Listing.{listing}
+use Rattle.heap_scan.specs.Listing.{TextOf, listing, text_for}
 use Rattle.heap_scan.specs.Warnings.{warning_for, warnings_of}
 use Rattle.heap_scan.specs.Job.{endings_of, IsJobAnswer}
 use Rattle.heap_scan.specs.Sums.{joined}
@@ -18,10 +17,10 @@ abbrev pub IsEarly : Option Ending → Type 0
 IsEarly end = All (λ e. e ≢ End) (endings_of end)
 
 module _ {P : Type 0} where
-  pub listing-append : (xs ys : List (Given P)) → listing (xs ++ ys) ≡ listing xs ++ listing ys
+  pub listing-append : (text_of : TextOf) (xs ys : List (Given P))
+      → listing text_of (xs ++ ys) ≡ listing text_of xs ++ listing text_of ys
   unfolding listing
-  listing-append xs ys =
-      flat_map-append (λ (g : Given P). page_text_of g.entry.relation g.entry.block g.page) xs ys
+  listing-append text_of xs ys = flat_map-append (text_for text_of) xs ys
 
   pub warnings-append : (xs ys : List (Given P))
       → warnings_of (xs ++ ys) ≡ warnings_of xs ++ warnings_of ys
@@ -29,16 +28,17 @@ module _ {P : Type 0} where
   warnings-append xs ys = flat_map-append warning_for xs ys
 
   -- a job that was listed to its end, and then another
-  unfoldable pub job_append : (found : Option Reader) (may : Entry P → Type 0)
-      (xs ys : List (Entry P)) (front back early late : List ℕ) (some more : PageSums)
-      (end : Option Ending)
-      → IsJobAnswer found may xs front early some (Some End)
-      → IsJobAnswer found may ys back late more end
-      → IsJobAnswer found may (xs ++ ys) (front ++ back) (early ++ late) (joined some more) end
-  job_append found may xs ys front back early late some more end first second = record {
+  unfoldable pub job_append : (text_of : TextOf) (found : Option Reader)
+      (may : Entry P → Type 0) (xs ys : List (Entry P)) (front back early late : List ℕ)
+      (some more : PageSums) (end : Option Ending)
+      → IsJobAnswer text_of found may xs front early some (Some End)
+      → IsJobAnswer text_of found may ys back late more end
+      → IsJobAnswer text_of found may (xs ++ ys) (front ++ back) (early ++ late)
+      (joined some more) end
+  job_append text_of found may xs ys front back early late some more end first second = record {
     pages = first.pages ++ second.pages;
     text_is = (let one = first.text_is in let two = second.text_is in
-        rw (one, two) (sym (listing-append first.pages second.pages)));
+        rw (one, two) (sym (listing-append text_of first.pages second.pages)));
     warnings_are = (let one = first.warnings_are in let two = second.warnings_are in
         rw (one, two) (sym (warnings-append first.pages second.pages)));
     sums_are = (let one = first.sums_are in let two = second.sums_are in
@@ -49,11 +49,11 @@ module _ {P : Type 0} where
   }
 
   -- a job that did not reach the end of its blocks is one of more
-  unfoldable pub job_more : (found : Option Reader) (may : Entry P → Type 0)
+  unfoldable pub job_more : (text_of : TextOf) (found : Option Reader) (may : Entry P → Type 0)
       (xs ys : List (Entry P)) (text warnings : List ℕ) (sums : PageSums) (end : Option Ending)
-      → IsEarly end → IsJobAnswer found may xs text warnings sums end
-      → IsJobAnswer found may (xs ++ ys) text warnings sums end
-  job_more found may xs ys text warnings sums end early job = record {
+      → IsEarly end → IsJobAnswer text_of found may xs text warnings sums end
+      → IsJobAnswer text_of found may (xs ++ ys) text warnings sums end
+  job_more text_of found may xs ys text warnings sums end early job = record {
     pages = job.pages;
     text_is = job.text_is;
     warnings_are = job.warnings_are;

@@ -4,7 +4,7 @@ use Rattle.std.specs.Prelude.{◌≡◌, ℕ, List, [], ◌∷◌, map, Option, 
 use Rattle.std.specs.List.{range_with_len}
 use Rattle.page_check.specs.SynchronousAnswer.{Entry, Given, Ending, Reader}
 use Rattle.page_check.specs.IsAnswer.{IsAnswer}
-use Rattle.heap_scan.specs.Listing.{listing}
+use Rattle.heap_scan.specs.Listing.{TextOf, listing}
 use Rattle.heap_scan.specs.Warnings.{warnings_of}
 use Rattle.heap_scan.specs.Sums.{sums_of}
 use Rattle.heap_scan.specs.declared.sums.PageSums.{PageSums}
@@ -22,12 +22,13 @@ abbrev pub endings_of : Option Ending → List Ending
 endings_of None = []
 endings_of (Some end) = end ∷ []
 
--- text, warnings and sums are those of pages that, with this ending, answer the blocks
-pub record IsJobAnswer {P : Type 0} (found : Option Reader) (may : Entry P → Type 0)
-    (entries : List (Entry P)) (text warnings : List ℕ) (sums : PageSums) (end : Option Ending)
-    : Type 0 where
+-- text, warnings and sums are those of pages that, with this ending, answer the blocks; each page
+-- has the text that is given for it
+pub record IsJobAnswer {P : Type 0} (text_of : TextOf) (found : Option Reader)
+    (may : Entry P → Type 0) (entries : List (Entry P)) (text warnings : List ℕ) (sums : PageSums)
+    (end : Option Ending) : Type 0 where
   pub pages : List (Given P)
-  pub text_is : text ≡ listing pages
+  pub text_is : text ≡ listing text_of pages
   pub warnings_are : warnings ≡ warnings_of pages
   pub sums_are : sums ≡ sums_of pages
   pub answers : IsAnswer found may entries (record { pages = pages; endings = endings_of end })

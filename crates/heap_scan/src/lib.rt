@@ -1,10 +1,11 @@
 //! The text that lists a page: a line for the page and one for each of its line pointers.
 //!
 //! `page_text` appends exactly the definition `page_text_of`, which is stated over the list of line
-//! pointers and decimal numbers, and two laws of that text stand beside it. `Listing` is the text
-//! of many pages. `warning_text` appends the line that warns of a page given as zeros,
-//! `warnings_of` are those of many pages. `tally` adds a page to sums over pages, the definition
-//! `tallied`. What writes the pieces of a line is public, for texts that say more of a page.
+//! pointers and decimal numbers, and two laws of that text stand beside it. `listing` is the text
+//! of many pages, by this or another text of a page. `warning_text` appends the line that warns of
+//! a page given as zeros, `warnings_of` are those of many pages. `tally` adds a page to sums over
+//! pages, the definition `tallied`. What writes the pieces of a line is public, for texts that say
+//! more of a page.
 #![tactic(auto)]
 
 pub mod backward;

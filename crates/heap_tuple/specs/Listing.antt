@@ -1,8 +1,9 @@
--- The listing of pages that were given, with their tuples: their texts, in order.
-use Rattle.std.specs.Prelude.{ℕ, List}
-use Rattle.std.specs.List.{flat_map}
-use Rattle.page_check.specs.SynchronousAnswer.{Given}
+-- The text of a page in a listing: with its tuples, or without.
+use Rattle.std.specs.Prelude.{Bool, true, false}
+use Rattle.heap_scan.specs.Listing.{TextOf}
+use Rattle.heap_scan.specs.PageText.{page_text_of}
 use Rattle.heap_tuple.specs.TuplesText.{tuples_text_of}
 
-unfoldable pub tuples_listing : {P : Type 0} → List (Given P) → List ℕ
-tuples_listing pages = flat_map (λ g. tuples_text_of g.entry.relation g.entry.block g.page) pages
+abbrev pub text_with : Bool → TextOf
+text_with true = tuples_text_of
+text_with false = page_text_of

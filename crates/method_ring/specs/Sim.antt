@@ -5,6 +5,15 @@ use Rattle.aio_word.specs.Stands.{IsIn}
 use Rattle.method_ring.specs.declared.ring.Entry.{Entry}
 use Rattle.method_ring.specs.Pending.{entry}
 
+-- a ring without its disk
+pub record Idle : Type 0 where
+  pub order : List ℕ
+  -- which number of the order comes next
+  pub turn : ℕ
+
+abbrev pub from_start : List ℕ → Idle
+from_start order = record { order = order; turn = 0 }
+
 pub record Sim (D : Type 0) : Type 0 where
   pub disk : D
   pub order : List ℕ

@@ -35,4 +35,4 @@ mod tests;
 pub use ring::{Entry, Ring};
 pub use room::RingRoom;
 pub use runner::RingRunner;
-pub use sim_ring::SimRing;
+pub use sim_ring::{IdleRing, SimRing};

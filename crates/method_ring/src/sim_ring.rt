@@ -4,13 +4,14 @@ ghost use Rattle.std.specs.Prelude.{Some, None, IfOk, IfErr, IfSome, IfNone};
 ghost use Rattle.aio_disk.specs.Counts.{HasCause, raised_by};
 ghost use Rattle.aio_disk.specs.Disk.{AnswersPages};
 ghost use Rattle.method_ring.specs.Pending.{entry, user_in, entry_of, without_entry, IsFilledBy};
-ghost use Rattle.method_ring.specs.Sim.{opened, place_in, turn_after, picked_from, with_pick};
+ghost use Rattle.method_ring.specs.Sim.{from_start, opened, place_in, turn_after, picked_from};
+ghost use Rattle.method_ring.specs.Sim.{with_pick};
 
 use crate::listed::{Numbered, take_out};
 use crate::ring::{Entry, Ring};
 use aio_disk::{DeviceFault, Disk};
 use page_check::Page;
-use std::alloc::Global;
+use std::alloc::{AllocError, Global};
 use std::marker::Model;
 
 /// How many reads a ring has room for.
@@ -21,6 +22,60 @@ impl Numbered for Entry {
 
     fn user(&self) -> u32 {
         self.user
+    }
+}
+
+/// A ring without its disk, in which nothing is pending: its order, how far it has come in it, and
+/// all the memory that the ring ever takes.
+#[derive(Drop)]
+pub struct IdleRing {
+    order: Vec<u32>,
+    // Which number of the order comes next.
+    turn: usize,
+    entries: Vec<Entry>,
+}
+
+impl Model for IdleRing {
+    ghost use Rattle.std.specs.Prelude.{◌≡◌, ◌≤◌, ◌<◌, [], length, vec_capacity};
+    ghost use Rattle.method_ring.specs.Sim.{Idle};
+
+    ghost Value = { Idle };
+
+    ghost view = { λ s. record { order = s.order.items; turn = s.turn } };
+
+    ghost invariant = { λ s. (s.entries.items ≡ []) × (8 ≤ vec_capacity s.entries)
+        × (0 < length s.order.items → s.turn < length s.order.items) };
+}
+
+impl IdleRing {
+    /// A ring that begins with the first number of its order.
+    pub fn open(alloc: Global, order: Vec<u32>) -> Result<IdleRing, AllocError>
+        ensures { IfOk result (λ r. r ≡ from_start order.items) }
+    {
+        Ok(IdleRing {
+            order,
+            turn: 0,
+            entries: Vec::with_capacity(alloc, ROOM)?,
+        })
+    }
+
+    /// The ring over this disk.
+    pub fn over<D: Disk>(self, disk: D) -> SimRing<D>
+        ensures { result ≡ record {
+          disk = disk;
+          order = self.order;
+          turn = self.turn;
+          pending = [];
+          picked = None;
+        } }
+    {
+        SimRing {
+            disk,
+            order: self.order,
+            turn: self.turn,
+            entries: self.entries,
+            picked: None,
+        }
     }
 }
 
@@ -63,14 +118,8 @@ impl<D: Disk> SimRing<D> {
         ensures ok { IfOk result (λ r. r ≡ opened disk order.items) }
         ensures err { IfErr result (λ d. d ≡ disk) }
     {
-        match Vec::with_capacity(alloc, ROOM) {
-            Ok(entries) => Ok(SimRing {
-                disk,
-                order,
-                turn: 0,
-                entries,
-                picked: None,
-            }),
+        match IdleRing::open(alloc, order) {
+            Ok(idle) => Ok(idle.over(disk)),
             Err(_) => Err(disk),
         }
     }
@@ -81,6 +130,20 @@ impl<D: Disk> SimRing<D> {
         ensures { result ≡ self.disk }
     {
         self.disk
+    }
+
+    /// The disk, and the ring without it. Nothing is pending.
+    pub fn into_parts(self) -> (D, IdleRing)
+        requires { self.pending ≡ [] }
+        ensures disk { result.0 ≡ self.disk }
+        ensures idle { result.1 ≡ record { order = self.order; turn = self.turn } }
+    {
+        let idle = IdleRing {
+            order: self.order,
+            turn: self.turn,
+            entries: self.entries,
+        };
+        (self.disk, idle)
     }
 }
 

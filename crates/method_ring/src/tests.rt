@@ -4,6 +4,8 @@ ghost use Rattle.aio_word.specs.Stands.{IsIn};
 ghost use Rattle.method_ring.specs.declared.ring.Entry.{Entry};
 ghost use Rattle.method_ring.specs.Trials.{AreReadInto};
 
+mod random_rings;
+
 use crate::{Ring, SimRing};
 use aio_disk::{Disk, MemShelf, SteadyDisk, SteadyShelf};
 use page_check::Page;
@@ -64,24 +66,36 @@ fn disk_back<D: Disk>(mut ring: SimRing<D>) -> Option<D> {
     }
 }
 
-/// Reads blocks 0, 1 and 2 under these numbers through a ring of this order: the numbers as they
-/// are picked, and the disk, once nothing is pending.
-fn three_picks<D: Disk>(
+/// Submits so many reads of one block each: number `i` reads block `i`.
+fn submit_all<G: Ring>(ring: &mut G, count: u32)
+    requires few { count ≤ 8 }
+    requires none { G.pending ring.old ≡ [] }
+    requires relation { 0 < G.relations ring.old }
+    ensures { AreReadInto 1 (G.pending ring.new) }
+{
+    for number in 0..count {
+        ring.submit(number, 0, number, 1);
+    }
+}
+
+/// Reads so many blocks, each under its own number, through a ring of this order: the numbers as
+/// they are picked, and the disk, once nothing is pending.
+fn picks<D: Disk>(
     alloc: Global,
     disk: D,
     order: Vec<u32>,
+    count: u32,
 ) -> Result<Option<(Vec<u32>, D)>, AllocError>
-    requires { 0 < D.relations disk }
+    requires few { count ≤ 8 }
+    requires relation { 0 < D.relations disk }
 {
     let Ok(mut ring) = SimRing::open(alloc, disk, order) else {
         return Ok(None);
     };
-    ring.submit(0, 0, 0, 1);
-    ring.submit(1, 0, 1, 1);
-    ring.submit(2, 0, 2, 1);
+    submit_all(&mut ring, count);
     let mut page = [Page::zeroed(alloc)?];
     let mut picked = Vec::new(alloc);
-    for _ in 0..3u32 {
+    for _ in 0..count {
         let Some(user) = complete_next(&mut ring, &mut page) else {
             return Ok(None);
         };
@@ -93,34 +107,50 @@ fn three_picks<D: Disk>(
     }
 }
 
+/// The numbers that a ring of this order picks of so many reads, and the blocks that the disk has
+/// read, each in their order. None unless each read is picked and filled, and nothing is pending
+/// then.
+pub(crate) fn picks_and_reads<R: Abort + AllocGlobal>(
+    rt: &R,
+    order: Vec<u32>,
+    count: u32,
+) -> Result<Option<(Vec<u32>, Vec<u32>)>, Fail>
+    requires { count ≤ 8 }
+{
+    let alloc = rt.alloc();
+    let mut shelf = shelf_of(rt, 8)?;
+    let disk = disk_of(rt, &mut shelf)?;
+    let Some((picked, disk)) = picks(alloc, disk, order, count)? else {
+        return Ok(None);
+    };
+    shelf.take_back(disk);
+    Ok(Some((picked, blocks_read(alloc, &shelf)?)))
+}
+
 /// Whether a ring of this order picks and fills these three, and has then nothing pending.
-fn picks_and_reads<R: Abort + AllocGlobal>(
+fn picks_three<R: Abort + AllocGlobal>(
     rt: &R,
     order: [u32; 3],
     wanted: [u32; 3],
 ) -> Result<(), Fail> {
-    let alloc = rt.alloc();
-    let mut shelf = shelf_of(rt, 3)?;
-    let disk = disk_of(rt, &mut shelf)?;
-    let order = Vec::from_array(alloc, order)?;
-    let (picked, disk) = three_picks(alloc, disk, order)?.ok_or("three picks, and then none")?;
-    shelf.take_back(disk);
+    let order = Vec::from_array(rt.alloc(), order)?;
+    let (picked, read) = picks_and_reads(rt, order, 3)?.ok_or("three picks, and then none")?;
     assert_eq!(rt; picked.as_slice(), wanted.as_slice());
-    assert_eq!(rt; blocks_read(alloc, &shelf)?.as_slice(), wanted.as_slice());
+    assert_eq!(rt; read.as_slice(), wanted.as_slice());
     Ok(())
 }
 
 #[test]
 fn order_2_0_0_picks_2_0_1_and_then_none(rt: HostRuntime) -> Result<(), Fail> {
-    picks_and_reads(&rt, [2, 0, 0], [2, 0, 1])
+    picks_three(&rt, [2, 0, 0], [2, 0, 1])
 }
 
 #[test]
 fn each_order_of_three_reads_is_picked(rt: HostRuntime) -> Result<(), Fail> {
-    picks_and_reads(&rt, [0, 0, 0], [0, 1, 2])?;
-    picks_and_reads(&rt, [0, 1, 0], [0, 2, 1])?;
-    picks_and_reads(&rt, [1, 0, 0], [1, 0, 2])?;
-    picks_and_reads(&rt, [1, 1, 0], [1, 2, 0])?;
-    picks_and_reads(&rt, [2, 0, 0], [2, 0, 1])?;
-    picks_and_reads(&rt, [2, 1, 0], [2, 1, 0])
+    picks_three(&rt, [0, 0, 0], [0, 1, 2])?;
+    picks_three(&rt, [0, 1, 0], [0, 2, 1])?;
+    picks_three(&rt, [1, 0, 0], [1, 0, 2])?;
+    picks_three(&rt, [1, 1, 0], [1, 2, 0])?;
+    picks_three(&rt, [2, 0, 0], [2, 0, 1])?;
+    picks_three(&rt, [2, 1, 0], [2, 1, 0])
 }

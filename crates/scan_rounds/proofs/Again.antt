@@ -11,10 +11,12 @@ use Rattle.aio_handle.specs.Shown.{Named}
 use Rattle.method_worker.specs.Shown.{Queue, IsSeatOf, Seating}
 use Rattle.scan_rounds.specs.Hands.{Meter, IsBackend, IsWorker, GoesOn, MayServe}
 use Rattle.scan_rounds.specs.Progress.{AreWaiting}
-use Rattle.scan_rounds.specs.Rounds.{AllGoOn, AllWorked, AreZeroing, hand_of, hand_in}
-use Rattle.scan_rounds.specs.Scans.{IsScan, HasPaid, HavePaid, hands_of, opened_by}
+use Rattle.scan_rounds.specs.Rings.{IsRingOf}
+use Rattle.scan_rounds.specs.Rounds.{AllGoOn, AllListIn, AllWorked, hand_of, hand_in}
+use Rattle.scan_rounds.specs.Scans.{IsScan, HasPaid, HavePaid, hands_of, manner_in, opened_by}
 use Rattle.scan_rounds.specs.declared.hand.Hand.{Hand}
 use Rattle.scan_rounds.specs.declared.backend.Backend.{Backend}
+use Rattle.scan_rounds.specs.declared.ring.RingDesk.{RingDesk}
 use Rattle.scan_rounds.specs.declared.worker.Worker.{Worker}
 use Rattle.scan_rounds.specs.declared.scan.Scan.{Scan}
 use Rattle.scan_rounds.proofs.Allowed.{may_serve}
@@ -25,6 +27,11 @@ seat_again : (q r : Queue) (s : Option Seating) → r.line ≡ q.line → r.word
 seat_again q r None line words is = is
 seat_again q r (Some s) line words is = (is.0 ∙ sym line, is.1 ∙ sym words)
 
+ring_again : {W : Type 0} (q r : Queue) (o : Option (RingDesk W)) → r.line ≡ q.line
+    → r.words ≡ q.words → IfSome o (IsRingOf q) → IfSome o (IsRingOf r)
+ring_again q r None line words is = is
+ring_again q r (Some o) line words is = ((is.0.0 ∙ sym line, is.0.1 ∙ sym words), is.1)
+
 module _ {W D : Type 0} (m : Meter D) (told : Option Told) (relations : ℕ) (t : Named)
     (q r : Queue) (line : r.line ≡ q.line) (words : r.words ≡ q.words) where
   backend_again : (b : Backend W D) → IsBackend m told relations t q b
@@ -34,6 +41,7 @@ module _ {W D : Type 0} (m : Meter D) (told : Option Told) (relations : ℕ) (t 
     backend = is.backend;
     desk = is.desk;
     seat = seat_again q r b.seat line words is.seat;
+    ring = ring_again q r b.ring line words is.ring;
   }
 
   worker_again : (w : Worker W D) → IsWorker m told relations t q w
@@ -147,11 +155,11 @@ module _ {W D : Type 0} (m : Meter D) (told : Option Told) (relations : ℕ) whe
       (record { room = s'.room; unread = s'.unread })
       → AllWorked m told relations s'.common.table s'.common.queue ws s'.workers.items
       → AllGoOn m told relations s'.common.table (map hand_of bs) (map hand_of s'.backends.items)
-      → AreZeroing s'.zero s'.backends.items
+      → AllListIn (manner_in s') s'.backends.items
       → length s'.backends.items ≡ length bs → length s'.jobs.items ≡ length s.jobs.items
       → s'.opened ≡ s.opened → s'.actors ≡ s.actors → s'.disks ≡ s.disks
       → IsScan m told relations s'
-  scan_again s s' bs ws is table begun served waiting worked goes zeroing many jobs opened actors
+  scan_again s s' bs ws is table begun served waiting worked goes all many jobs opened actors
       disks =
       record {
         backends_are = (let c = ap (λ (n : Named). n.config.backends) table in
@@ -163,7 +171,7 @@ module _ {W D : Type 0} (m : Meter D) (told : Option Told) (relations : ℕ) whe
         workers_stand = λ i d lt. (worked.each i d (omega (arith, worked.as_many))).is;
         paid = paid_all;
         idle = waiting.idle;
-        zeroing = zeroing;
+        all_list_in = all;
         room = waiting.room;
         few_unread = waiting.few_unread;
         jobs_are = (let j = is.jobs_are in let b = ap length begun in omega arith);

@@ -12,6 +12,7 @@ use Rattle.std.proofs.Math.Nat.{max-eq_right}
 use mathlib.Core.Logic.{dite}
 use native.Mathlib.Decide.{dec_le}
 use Rattle.page_check.specs.Told.{Told}
+use Rattle.heap_tuple.specs.Listing.{text_with}
 use Rattle.aio_disk.specs.Counts.{raised_by}
 use Rattle.aio_word.specs.declared.Mark.{Mark}
 use Rattle.aio_word.proofs.Frames.{io-more, failed-more}
@@ -19,13 +20,15 @@ use Rattle.aio_handle.specs.Executing.{Pays}
 use Rattle.aio_handle.specs.Shown.{Named}
 use Rattle.aio_word.specs.Tokens.{failed_results}
 use Rattle.method_worker.specs.Shown.{Queue, IsSeatOf}
-use Rattle.scan_rounds.specs.Hands.{Meter, IsBackend, IsHand, GoesOn, HasRoom, Ran}
+use Rattle.scan_rounds.specs.Hands.{Meter, IsBackend, IsHand, GoesOn, HasRoom, Ran, manner_of}
 use Rattle.read_stream.specs.Answering.{MayBeUnread}
 use Rattle.scan_rounds.specs.Progress.{AreWaiting, HasGone}
 use Rattle.scan_rounds.specs.Jobs.{IsFresh, IsListed, AreAnswered, blocks_among, entries_in}
 use Rattle.scan_rounds.specs.Jobs.{said_end}
+use Rattle.scan_rounds.specs.Rings.{IsRingOf}
+use Rattle.scan_rounds.specs.Manners.{Manner, manner}
 use Rattle.scan_rounds.specs.Rounds.{AllGoOn, AllRan, AreListed, AreIdle, HaveRoom, IsLeastRoom}
-use Rattle.scan_rounds.specs.Rounds.{AreZeroing, hand_of}
+use Rattle.scan_rounds.specs.Rounds.{AllListIn, hand_of}
 use Rattle.scan_rounds.specs.Rounds.{results_of, taken_by}
 use Rattle.read_stream.specs.Went.{local_marks}
 use Rattle.read_stream.specs.Open.{IsFree}
@@ -212,57 +215,64 @@ some_blocks relations zero js fresh some there = absurd (omega arith)
 some_blocks relations (suc n) [] fresh some there = absurd (omega arith)
 
 -- whatever may be unread
-anyway : (on : Bool) (told : Option Told) (may : Entry (Unit {0}) → Type 0) (j k : Job)
-    → IsListed on told may j k → IsListed on told (λ _. ⊤) j k
-anyway on told may j k is = record {
+anyway : (how : Manner) (told : Option Told) (may : Entry (Unit {0}) → Type 0) (j k : Job)
+    → IsListed how told may j k → IsListed how told (λ _. ⊤) j k
+anyway how told may j k is = record {
   same = is.same;
-  answer = job_wider (reader_of on told) may (λ _. ⊤) (entries_in j) k.text.items
-      k.warnings.items k.tally (said_end k.ending) (λ e may. tt) is.answer;
+  answer = job_wider (text_with how.tuples) (reader_of how.zero told) may (λ _. ⊤) (entries_in j)
+      k.text.items k.warnings.items k.tally (said_end k.ending) (λ e may. tt) is.answer;
   quiet = is.quiet;
 }
 
-pub answered_by : {W D : Type 0} (on : Bool) (told : Option Told) (bs cs : List (Backend W D))
+pub answered_by : {W D : Type 0} (how : Manner) (told : Option Told) (bs cs : List (Backend W D))
     (js ks : List Job)
-    → 1 ≤ length bs → AreListed on told bs cs js ks → AreAnswered on told js ks
-answered_by on told (b ∷ bs) cs js ks some is = record {
+    → 1 ≤ length bs → AreListed how told bs cs js ks → AreAnswered how told js ks
+answered_by how told (b ∷ bs) cs js ks some is = record {
   as_many = is.jobs_are;
-  each = λ i j lt. anyway on told _ _ _ (is.each i b j lt);
+  each = λ i j lt. anyway how told _ _ _ (is.each i b j lt);
 }
-answered_by on told [] cs js ks some is = absurd (omega arith)
+answered_by how told [] cs js ks some is = absurd (omega arith)
 
--- by what the agenda says of damaged pages, before and after it put them
-pub answered_as : (on on' : Bool) (told : Option Told) (js ks : List Job) → on' ≡ on
-    → AreAnswered on told js ks → AreAnswered on' told js ks
-answered_as on on' told js ks same is =
-    subst (λ (b : Bool). AreAnswered b told js ks) (sym same) is
+-- by the agenda's manner before and after it put them
+pub answered_as : (how how' : Manner) (told : Option Told) (js ks : List Job) → how' ≡ how
+    → AreAnswered how told js ks → AreAnswered how' told js ks
+answered_as how how' told js ks same is =
+    subst (λ (n : Manner). AreAnswered n told js ks) (sym same) is
 
--- a first backend with the same desk
+-- a backend with the same desk lists in the same manner
 module _ {W D : Type 0} where
-  first_zeroing : (on : Bool) (a c : Backend W D) (bs : List (Backend W D))
-      → c.desk.zero ≡ a.desk.zero → AreZeroing on (a ∷ bs) → AreZeroing on (c ∷ bs)
-  first_zeroing on a c bs same all zero d lt = same ∙ all 0 d (omega arith)
-  first_zeroing on a c bs same all (suc i) d lt = all (suc i) d lt
+  same_manner : (b c : Backend W D) → c.desk ≡ b.desk → c.tuples ≡ b.tuples
+      → manner_of c ≡ manner_of b
+  same_manner b c desk tuples =
+      ap (λ (x : Desk W (Unit {0})). manner x.zero c.tuples) desk
+      ∙ ap (λ (x : Bool). manner b.desk.zero x) tuples
 
-  pub zeroing_closed : (bs : List (Backend W D)) (b c : Backend W D)
-      → b ≡ slice_index_or bs 0 b → c.desk ≡ b.desk → (on : Bool) → AreZeroing on bs
-      → AreZeroing on (slice_set bs 0 c)
-  zeroing_closed [] b c is desk on all = all
-  zeroing_closed (a ∷ bs) b c is desk on all =
+  first_lists : (how : Manner) (a c : Backend W D) (bs : List (Backend W D))
+      → manner_of c ≡ manner_of a → AllListIn how (a ∷ bs) → AllListIn how (c ∷ bs)
+  first_lists how a c bs same all zero d lt = same ∙ all 0 d (omega arith)
+  first_lists how a c bs same all (suc i) d lt = all (suc i) d lt
+
+  pub manner_closed : (bs : List (Backend W D)) (b c : Backend W D)
+      → b ≡ slice_index_or bs 0 b → c.desk ≡ b.desk → c.tuples ≡ b.tuples → (how : Manner)
+      → AllListIn how bs → AllListIn how (slice_set bs 0 c)
+  manner_closed [] b c is desk tuples how all = all
+  manner_closed (a ∷ bs) b c is desk tuples how all =
       let was : b ≡ a = is in
-      first_zeroing on a c bs (ap (λ (x : Desk W (Unit {0})). x.zero) desk
-      ∙ ap (λ (x : Backend W D). x.desk.zero) was) all
+      first_lists how a c bs (same_manner b c desk tuples
+      ∙ ap (λ (x : Backend W D). manner_of x) was) all
 
 -- the job of a backend, and its seat, are no part of what it has counted
 same_waiting : {W D : Type 0} (m : Meter D) (told : Option Told) (relations : ℕ) (t : Named)
-    (q : Queue) (b c : Backend W D) → c.hand ≡ b.hand → c.desk ≡ b.desk
+    (q : Queue) (b c : Backend W D) → c.hand ≡ b.hand → c.desk ≡ b.desk → c.ring ≡ b.ring
     → IfSome c.seat (IsSeatOf q) → IsBackend m told relations t q b
     → IsBackend m told relations t q c
-same_waiting m told relations t q b c hand desk seat is = record {
+same_waiting m told relations t q b c hand desk ring seat is = record {
   hand = subst (λ (h : Hand _ _). IsHand m told relations t h) (sym hand) is.hand;
   backend = subst (λ (h : Hand _ _). h.actor.known.number < h.actor.known.config.backends)
       (sym hand) is.backend;
   desk = subst (λ d. IsFree d) (sym desk) is.desk;
   seat = seat;
+  ring = subst (λ r. IfSome r (IsRingOf q)) (sym ring) is.ring;
 }
 
 module _ {W D : Type 0} (m : Meter D) (told : Option Told) (relations : ℕ) (t : Named)
@@ -294,17 +304,18 @@ module _ {W D : Type 0} (m : Meter D) (told : Option Told) (relations : ℕ) (t 
   -- the first of them has closed the queue
   pub first_closed : (bs : List (Backend W D)) (b c : Backend W D) (counts : Counts)
       → AreWaiting m told relations t q bs counts → b ≡ slice_index_or bs 0 b → c.hand ≡ b.hand
-      → c.desk ≡ b.desk → c.job ≡ b.job → IfSome c.seat (IsSeatOf q)
+      → c.desk ≡ b.desk → c.job ≡ b.job → c.ring ≡ b.ring → IfSome c.seat (IsSeatOf q)
       → AreWaiting m told relations t q (slice_set bs 0 c) counts
       × (map hand_of (slice_set bs 0 c) ≡ map hand_of bs)
-  first_closed [] b c counts w is hand desk job seat = absurd (omega (arith, w.some))
-  first_closed (a ∷ bs) b c counts w is hand desk job seat =
+  first_closed [] b c counts w is hand desk job ring seat = absurd (omega (arith, w.some))
+  first_closed (a ∷ bs) b c counts w is hand desk job ring seat =
       let was : b ≡ a = is in
       let same : c.hand ≡ a.hand = hand ∙ ap (λ (x : Backend W D). x.hand) was in
       let none : c.job.count ≡ 0 = ap (λ (j : Job). j.count)
       (job ∙ ap (λ (x : Backend W D). x.job) was) ∙ w.idle 0 a (omega arith) in
       let stands = same_waiting m told relations t q a c same
-      (desk ∙ ap (λ (x : Backend W D). x.desk) was) seat (w.backends 0 a (omega arith)) in
+      (desk ∙ ap (λ (x : Backend W D). x.desk) was) (ring ∙ ap (λ (x : Backend W D). x.ring) was)
+      seat (w.backends 0 a (omega arith)) in
       let f : Backend W D → ℕ = λ x. failed_results x.hand.actor.known.marks in
       let results : results_of (c ∷ bs) ≡ results_of (a ∷ bs) = sum_by-cons f c bs
       ∙ (ap (λ (h : Hand W D). failed_results h.actor.known.marks + sum_by f bs) same
@@ -320,38 +331,44 @@ module _ {W D : Type 0} (m : Meter D) (told : Option Told) (relations : ℕ) (t 
       )
 
   ran_closed : (b c d : Backend W D) → d.hand ≡ c.hand → d.desk ≡ c.desk → d.job ≡ c.job
-      → IfSome d.seat (IsSeatOf q) → Ran m told relations t q b c → Ran m told relations t q b d
-  ran_closed b c d hand desk job seat ran = record {
-    is = same_waiting m told relations t q c d hand desk seat ran.is;
+      → d.tuples ≡ c.tuples → d.ring ≡ c.ring → IfSome d.seat (IsSeatOf q)
+      → Ran m told relations t q b c → Ran m told relations t q b d
+  ran_closed b c d hand desk job tuples ring seat ran = record {
+    is = same_waiting m told relations t q c d hand desk ring seat ran.is;
     goes = subst (λ (h : Hand W D). GoesOn m told relations t b.hand h) (sym hand) ran.goes;
     lived = rw hand ran.lived;
     taken = rw hand ran.taken;
     idle = λ none. job ∙ ran.idle none;
-    listed = λ some. subst (λ (h : Hand W D). IsListed b.desk.zero told
+    listed = λ some. subst (λ (h : Hand W D). IsListed (manner_of b) told
         (MayBeUnread b.hand.actor h.actor.known) b.job d.job) (sym hand)
-        (subst (λ (j : Job). IsListed b.desk.zero told
+        (subst (λ (j : Job). IsListed (manner_of b) told
         (MayBeUnread b.hand.actor c.hand.actor.known) b.job j) (sym job) (ran.listed some));
-    zero = ap (λ (x : Desk W (Unit {0})). x.zero) desk ∙ ran.zero;
+    manner_kept = same_manner c d desk tuples ∙ ran.manner_kept;
   }
 
   first_ran : (bs cs : List (Backend W D)) (c d : Backend W D)
       → AllRan m told relations t q bs (c ∷ cs) → d.hand ≡ c.hand → d.desk ≡ c.desk
-      → d.job ≡ c.job → IfSome d.seat (IsSeatOf q) → (i : ℕ) (e : Backend W D) → i < length bs
+      → d.job ≡ c.job → d.tuples ≡ c.tuples → d.ring ≡ c.ring → IfSome d.seat (IsSeatOf q)
+      → (i : ℕ) (e : Backend W D) → i < length bs
       → Ran m told relations t q (slice_index_or bs i e) (slice_index_or (d ∷ cs) i e)
-  first_ran bs cs c d all hand desk job seat zero e lt =
-      ran_closed _ c d hand desk job seat (all.each 0 e lt)
-  first_ran bs cs c d all hand desk job seat (suc i) e lt = all.each (suc i) e lt
+  first_ran bs cs c d all hand desk job tuples ring seat zero e lt =
+      ran_closed _ c d hand desk job tuples ring seat (all.each 0 e lt)
+  first_ran bs cs c d all hand desk job tuples ring seat (suc i) e lt = all.each (suc i) e lt
 
   -- and the first has closed the queue
   pub all_closed : (bs cs : List (Backend W D)) (c d : Backend W D)
       → AllRan m told relations t q bs cs → 1 ≤ length bs → c ≡ slice_index_or cs 0 c
-      → d.hand ≡ c.hand → d.desk ≡ c.desk → d.job ≡ c.job → IfSome d.seat (IsSeatOf q)
+      → d.hand ≡ c.hand → d.desk ≡ c.desk → d.job ≡ c.job → d.tuples ≡ c.tuples
+      → d.ring ≡ c.ring → IfSome d.seat (IsSeatOf q)
       → AllRan m told relations t q bs (slice_set cs 0 d)
-  all_closed bs [] c d all some is hand desk job seat = absurd (omega (arith, all.as_many))
-  all_closed bs (x ∷ cs) c d all some is hand desk job seat =
+  all_closed bs [] c d all some is hand desk job tuples ring seat =
+      absurd (omega (arith, all.as_many))
+  all_closed bs (x ∷ cs) c d all some is hand desk job tuples ring seat =
       let was : c ≡ x = is in record {
         as_many = all.as_many;
         each = first_ran bs cs x d all (hand ∙ ap (λ (y : Backend W D). y.hand) was)
             (desk ∙ ap (λ (y : Backend W D). y.desk) was)
-            (job ∙ ap (λ (y : Backend W D). y.job) was) seat;
+            (job ∙ ap (λ (y : Backend W D). y.job) was)
+            (tuples ∙ ap (λ (y : Backend W D). y.tuples) was)
+            (ring ∙ ap (λ (y : Backend W D). y.ring) was) seat;
       }

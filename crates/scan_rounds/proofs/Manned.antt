@@ -3,7 +3,7 @@ use Rattle.std.proofs.Common.{◌≡◌, ℕ, ◌+◌, ◌-◌, ◌*◌, ◌^◌
 use Rattle.std.proofs.Common.{map, refl, sym, ap, ◌∙◌, subst, arith, append_assoc}
 use Rattle.std.proofs.Common.{length-append, zero}
 use Rattle.std.specs.Prelude.{Option, Some, None, IfSome, option_to_list, slice_index_or}
-use Rattle.std.specs.Prelude.{vec_capacity, false, is_some}
+use Rattle.std.specs.Prelude.{Bool, vec_capacity, is_some}
 use Rattle.std.specs.List.{All, flat_map}
 use Rattle.std.specs.Vec.Iter.{into_iter_items}
 use Rattle.std.proofs.Math.Nat.{mul-lt-mul_of_pos_right, mul-div_cancel}
@@ -21,22 +21,26 @@ use Rattle.method_worker.specs.Shown.{Queue, Seating, IsSeatOf}
 use Rattle.read_stream.specs.Open.{IsFree}
 use Rattle.read_stream.specs.Went.{local_marks}
 use Rattle.scan_rounds.specs.Hands.{Meter, HasRoom, IsHand, IsBackend, IsWorker}
+use Rattle.scan_rounds.specs.Manners.{manner}
 use Rattle.scan_rounds.specs.Opening.{AreSettings, GivesHands, GivesBackends, GivesWorkers}
-use Rattle.scan_rounds.specs.Opening.{IsDeskFor, IsOpened, config_of, has_workers, workers_by}
+use Rattle.scan_rounds.specs.Opening.{IsDeskFor, IsOpened, config_of, has_rings, has_seats}
+use Rattle.scan_rounds.specs.Opening.{rings_by, rings_in, seats_by, seats_in, workers_by}
 use Rattle.scan_rounds.specs.Opening.{workers_in}
+use Rattle.scan_rounds.specs.Rings.{IsRingOf}
 use Rattle.scan_rounds.specs.Rounds.{IsLeastRoom, hand_of, hand_in, taken_by}
 use Rattle.scan_rounds.specs.Scans.{HavePaid, IsScan, actor_of, disk_of, hands_of}
-use Rattle.scan_rounds.specs.Scans.{opened_by}
+use Rattle.scan_rounds.specs.Scans.{manner_in, opened_by}
 use Rattle.scan_rounds.specs.declared.backend.Backend.{Backend}
 use Rattle.scan_rounds.specs.declared.hand.Hand.{Hand}
 use Rattle.scan_rounds.specs.declared.open.Parts.{Parts}
+use Rattle.scan_rounds.specs.declared.ring.RingDesk.{RingDesk}
 use Rattle.scan_rounds.specs.declared.scan.Scan.{Scan}
 use Rattle.scan_rounds.specs.declared.settings.MethodKind.{MethodKind}
 use Rattle.scan_rounds.specs.declared.settings.MethodKind.TheVariants as method
 use Rattle.scan_rounds.specs.declared.settings.ScanSettings.{ScanSettings}
 use Rattle.scan_rounds.specs.declared.worker.Worker.{Worker}
-use Rattle.scan_rounds.proofs.Opening.{desk_in, seats_in, seat_in, actors_left}
-use Rattle.scan_rounds.proofs.Opening.{disks_left, hands_more, seats_least}
+use Rattle.scan_rounds.proofs.Opening.{had_by, all_took, none_took}
+use Rattle.scan_rounds.proofs.Opening.{desk_in, seat_in, actors_left, disks_left, hands_more}
 
 -- an element of the front
 front : {A B : Type 0} (f : A → B) (us : List A) (all rest : List B) (k : ℕ) (d : A) (e : B)
@@ -55,6 +59,9 @@ front_all P f us all rest is each k d lt =
     let both = ap length is ∙ length-append (map f us) rest in
     let within : k < length all = omega (arith, lt, many, both) in
     subst P (front f us all rest k d (f d) is lt) (each k (f d) within)
+
+same_manner : {a b c d : Bool} → a ≡ b → c ≡ d → manner a c ≡ manner b d
+same_manner same also = rw (same, also) refl
 
 one_there : {A : Type 0} (l : List A) (k : ℕ) → k < length l → A
 one_there [] k lt = absurd (omega (arith, lt))
@@ -97,10 +104,21 @@ pays_nothing reads faults = record {
   fault_each = λ below. omega arith;
 }
 
-seat_first : (P : Seating → Type 0) (o : Option Seating) (l : List Seating)
+some_one : {B : Type 0} (P : B → Type 0) (o : Option B) (l : List B)
     → All P (option_to_list o ++ l) → IfSome o P × All P l
-seat_first P None l each = (tt, each)
-seat_first P (Some s) l each = (All-head P s l each, All-tail P s l each)
+some_one P None l each = (tt, each)
+some_one P (Some b) l each = (All-head P b l each, All-tail P b l each)
+
+-- what the front has, and what is behind
+pub each_had : {A B : Type 0} (f : A → Option B) (P : B → Type 0) (us : List A) (rest : List B)
+    → All P (had_by f us ++ rest) → All (λ u. IfSome (f u) P) us × All P rest
+each_had f P [] rest each = (All-nil (λ u. IfSome (f u) P), each)
+each_had {A} {B} f P (u ∷ us) rest each =
+    let regrouped = append_assoc (option_to_list (f u)) (had_by f us) rest in
+    let first = some_one P (f u) (had_by f us ++ rest)
+    (subst (λ (l : List B). All P l) regrouped each) in
+    let more = each_had f P us rest first.1 in
+    (All-cons (λ x. IfSome (f x) P) u us first.0 more.0, more.1)
 
 module _ {W D : Type 0} where
   -- the hands have new actors, in the order of their numbers, and these disks
@@ -152,18 +170,6 @@ module _ {W D : Type 0} where
       let both = length-append (map hand_of bs) (map hand_in ws) in
       let backends = length-map bs hand_of in
       let workers = length-map ws hand_in in omega (arith, both, backends, workers)
-
-  -- the seats of backends, and those behind
-  pub seats_all : (P : Seating → Type 0) (bs : List (Backend W D)) (rest : List Seating)
-      → All P (flat_map seats_in bs ++ rest)
-      → All (λ (b : Backend W D). IfSome b.seat P) bs × All P rest
-  seats_all P [] rest each = (All-nil (λ (b : Backend W D). IfSome b.seat P), each)
-  seats_all P (b ∷ bs) rest each =
-      let regrouped = append_assoc (option_to_list b.seat) (flat_map seats_in bs) rest in
-      let first = seat_first P b.seat (flat_map seats_in bs ++ rest)
-      (subst (λ (l : List Seating). All P l) regrouped each) in
-      let more = seats_all P bs rest first.1 in
-      (All-cons (λ (b : Backend W D). IfSome b.seat P) b bs first.0 more.0, more.1)
 
   module _ (t : Named) (ds : List D) (bs : List (Backend W D)) (ws : List (Worker W D))
       (new : AreFresh t ds (map hand_of bs ++ map hand_in ws)) where
@@ -233,8 +239,9 @@ module _ {W D : Type 0} where
         pub backends_of_new : (q : Queue) → length bs ≤ t.config.backends
             → All (λ (b : Backend W D). IsFree b.desk) bs
             → All (λ (b : Backend W D). IfSome b.seat (IsSeatOf q)) bs
+            → All (λ (b : Backend W D). IfSome b.ring (IsRingOf q)) bs
             → All (IsBackend m told relations t q) bs
-        backends_of_new q few desks seats k b lt =
+        backends_of_new q few desks seats rings k b lt =
             let within : k < length all = let many = many_hands bs ws in omega (arith, lt, many) in
             let is = backend_actor k b lt in
             let P : Standing → Type 0 = λ x. x.known.number < x.known.config.backends in record {
@@ -243,6 +250,7 @@ module _ {W D : Type 0} where
               backend = subst P (sym is) (omega (arith, lt, few));
               desk = desks k b lt;
               seat = seats k b lt;
+              ring = rings k b lt;
             }
 
         pub workers_of_new : (q : Queue) → t.config.backends ≤ length bs
@@ -262,36 +270,35 @@ module _ {W D : Type 0} where
 
 -- the seats that the backends leave
 pub enough_seats : (kind : MethodKind) (all backends workers left : ℕ)
-    → all ≡ workers_by kind (backends + workers) → all ≤ backends + left
+    → all ≡ seats_by kind backends workers → all ≤ backends + left
     → workers_by kind workers ≤ left
 enough_seats method.Sync all backends workers left is le = omega arith
 enough_seats method.Worker all backends workers left is le = omega (arith, is, le)
+enough_seats method.Ring all backends workers left is le = omega arith
 
 module _ {W D : Type 0} where
-  none_first : (b : Backend W D) (o : Option Seating) (rest : List Seating) → b.seat ≡ o
-      → length (option_to_list o ++ rest) ≡ 0 → is_some b.seat ≡ false
-  none_first b None rest is none = ap (λ (x : Option Seating). is_some x) is
-  none_first b (Some s) rest is none = absurd (omega (arith, none))
-
-  none_seated : (bs : List (Backend W D)) → length (flat_map seats_in bs) ≡ 0
-      → All (λ (b : Backend W D). is_some b.seat ≡ false) bs
-  none_seated [] none = All-nil (λ (b : Backend W D). is_some b.seat ≡ false)
-  none_seated (b ∷ bs) none =
-      let both = length-append (option_to_list b.seat) (flat_map seats_in bs) in
-      All-cons (λ (x : Backend W D). is_some x.seat ≡ false) b bs
-      (none_first b b.seat (flat_map seats_in bs) refl none)
-      (none_seated bs (omega (arith, both, none)))
-
   -- each backend has a seat, or none has
-  seated_by : (kind : MethodKind) (backends workers : ℕ) (p q : Parts W D)
-      (bs : List (Backend W D)) → GivesBackends p q bs → length bs ≡ backends
-      → length (into_iter_items p.seats) ≡ workers_by kind (backends + workers) → 1 ≤ workers
-      → All (λ (b : Backend W D). is_some b.seat ≡ has_workers kind) bs
-  seated_by method.Sync backends workers p q bs g many seats some =
-      let both = ap length g.seats ∙ length-append (flat_map seats_in bs) _ in
-      none_seated bs (omega (arith, both, seats))
-  seated_by method.Worker backends workers p q bs g many seats some =
-      let least = seats_least p q bs g in g.seated (omega (arith, least, many, seats, some))
+  seated_by : (kind : MethodKind) (workers : ℕ) (tuples : Bool) (p q : Parts W D)
+      (bs : List (Backend W D)) → GivesBackends tuples p q bs
+      → length (into_iter_items p.seats) ≡ seats_by kind (length bs) workers
+      → All (λ (b : Backend W D). is_some b.seat ≡ has_seats kind) bs
+  seated_by method.Sync workers tuples p q bs g seats =
+      none_took (λ (b : Backend W D). b.seat) bs _ _ g.seats g.seats_left seats
+  seated_by method.Worker workers tuples p q bs g seats =
+      all_took (λ (b : Backend W D). b.seat) bs _ _ g.seats g.seats_left (omega (arith, seats))
+  seated_by method.Ring workers tuples p q bs g seats =
+      all_took (λ (b : Backend W D). b.seat) bs _ _ g.seats g.seats_left (omega (arith, seats))
+
+  -- and a ring, or none has
+  ringed_by : (kind : MethodKind) (tuples : Bool) (p q : Parts W D) (bs : List (Backend W D))
+      → GivesBackends tuples p q bs → length (into_iter_items p.rings) ≡ rings_by kind (length bs)
+      → All (λ (b : Backend W D). is_some b.ring ≡ has_rings kind) bs
+  ringed_by method.Sync tuples p q bs g rings =
+      none_took (λ (b : Backend W D). b.ring) bs _ _ g.rings g.rings_left rings
+  ringed_by method.Worker tuples p q bs g rings =
+      none_took (λ (b : Backend W D). b.ring) bs _ _ g.rings g.rings_left rings
+  ringed_by method.Ring tuples p q bs g rings =
+      all_took (λ (b : Backend W D). b.ring) bs _ _ g.rings g.rings_left (omega (arith, rings))
 
   -- the scan was made of these parts, the backends first
   pub record IsMadeOf (settings : ScanSettings) (start : ℕ) (s : Scan W D) (p q r : Parts W D)
@@ -300,18 +307,19 @@ module _ {W D : Type 0} where
     pub actors : AreNew s.common.table 0 (into_iter_items p.actors)
     pub seats : All (IsSeatOf s.common.queue) (into_iter_items p.seats)
     pub desks : All (IsDeskFor settings) (into_iter_items p.desks)
-    pub seats_are : length (into_iter_items p.seats)
-        ≡ workers_by settings.method (settings.backends + settings.workers)
+    pub seats_are : length (into_iter_items p.seats) ≡ seats_in settings
+    pub rings : All (IsRingOf s.common.queue) (into_iter_items p.rings)
+    pub rings_are : length (into_iter_items p.rings) ≡ rings_in settings
     pub opened : opened_by s ≡ into_iter_items p.disks
     pub disks_are : length (into_iter_items p.disks) ≡ settings.backends + workers_in settings
-    pub backends : GivesBackends p q s.backends.items
+    pub backends : GivesBackends settings.tuples p q s.backends.items
     pub backends_are : length s.backends.items ≡ settings.backends
     pub workers : GivesWorkers q r s.workers.items
     pub workers_are : length s.workers.items ≡ workers_in settings
     pub jobs_are : length s.jobs.items ≡ settings.backends
     pub room : s.room ≡ 2 ^ 58 - 1 - start
     pub unread : s.unread ≡ 0
-    pub zero : s.zero ≡ settings.zero
+    pub manner_is : manner_in s ≡ manner settings.zero settings.tuples
     pub actors_fit : (s.actors.items ≡ [])
         × (settings.backends + workers_in settings ≤ vec_capacity s.actors)
     pub disks_fit : (s.disks.items ≡ [])
@@ -351,17 +359,33 @@ module _ {W D : Type 0} where
         × All (IsSeatOf s.common.queue) (into_iter_items q.seats)
     all_seats =
         let P : List Seating → Type 0 = λ l. All (IsSeatOf s.common.queue) l in
-        seats_all (IsSeatOf s.common.queue) s.backends.items (into_iter_items q.seats)
-        (subst P made.backends.seats made.seats)
+        each_had (λ (b : Backend W D). b.seat) (IsSeatOf s.common.queue) s.backends.items
+        (into_iter_items q.seats) (subst P made.backends.seats made.seats)
+
+    all_rings : All (λ (b : Backend W D). IfSome b.ring (IsRingOf s.common.queue)) s.backends.items
+    all_rings =
+        let P : List (RingDesk W) → Type 0 = λ l. All (IsRingOf s.common.queue) l in
+        (each_had (λ (b : Backend W D). b.ring) (IsRingOf s.common.queue) s.backends.items
+        (into_iter_items q.rings) (subst P made.backends.rings made.rings)).0
 
     all_desks : All (λ (b : Backend W D). IsDeskFor settings b.desk) s.backends.items
     all_desks = front_all (IsDeskFor settings) desk_in s.backends.items (into_iter_items p.desks)
         (into_iter_items q.desks) made.backends.desks made.desks
 
-    all_seated : All (λ (b : Backend W D). is_some b.seat ≡ has_workers settings.method)
+    all_seated : All (λ (b : Backend W D). is_some b.seat ≡ has_seats settings.method)
         s.backends.items
-    all_seated = seated_by settings.method settings.backends settings.workers p q s.backends.items
-        made.backends made.backends_are made.seats_are ranges.workers_in_range.0
+    all_seated =
+        let many = made.backends_are in
+        seated_by settings.method settings.workers settings.tuples p q s.backends.items
+        made.backends
+        (made.seats_are ∙ ap (λ n. seats_by settings.method n settings.workers) (sym many))
+
+    all_ringed : All (λ (b : Backend W D). is_some b.ring ≡ has_rings settings.method)
+        s.backends.items
+    all_ringed =
+        let many = made.backends_are in
+        ringed_by settings.method settings.tuples p q s.backends.items made.backends
+        (made.rings_are ∙ ap (λ n. rings_by settings.method n) (sym many))
 
     module _ (m : Meter D) (told : Option Told) (relations : ℕ)
         (tell : All (λ d. (m.tells d ≡ told) × (m.has d ≡ relations)) (opened_by s)) where
@@ -389,14 +413,15 @@ module _ {W D : Type 0} where
             some = omega (arith, few, range);
             backends_stand = backends_of_new t (opened_by s) bs ws all_fresh m told relations tell
                 s.common.queue (omega (arith, backends))
-                (λ k b lt. (all_desks k b lt).free) all_seats.0;
+                (λ k b lt. (all_desks k b lt).free) all_seats.0 all_rings;
             workers_stand = workers_of_new t (opened_by s) bs ws all_fresh m told relations tell
                 s.common.queue (omega (arith, backends))
                 (front_all (IsSeatOf s.common.queue) seat_in ws (into_iter_items q.seats)
                 (into_iter_items r.seats) made.workers.seats all_seats.1);
             paid = paid_of_new t (opened_by s) bs ws all_fresh m told relations disks_as_many;
             idle = made.backends.idle;
-            zeroing = λ k b lt. (all_desks k b lt).streams.zero ∙ sym made.zero;
+            all_list_in = λ k b lt. same_manner (all_desks k b lt).streams.zero
+                (made.backends.all_tuples k b lt) ∙ sym made.manner_is;
             room = subst P same rooms;
             few_unread = omega (arith, none);
             jobs_are = omega (arith, jobs, few);
@@ -418,11 +443,12 @@ module _ {W D : Type 0} where
           set_up = λ k b lt. record {
             streams = (all_desks k b lt).streams;
             seat = all_seated k b lt;
+            ring = all_ringed k b lt;
           };
           opened = same;
           taken = none_taken s.common.table (opened_by s) s.backends.items s.workers.items
               all_fresh;
           room = made.room;
           unread = made.unread;
-          zero = made.zero;
+          manner_is = made.manner_is;
         }

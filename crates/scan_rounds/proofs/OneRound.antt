@@ -11,8 +11,8 @@ use Rattle.scan_rounds.specs.Hands.{Meter, MayRun}
 use Rattle.scan_rounds.specs.Jobs.{IsFresh, blocks_among, unread_among}
 use Rattle.scan_rounds.specs.Progress.{AreWaiting}
 use Rattle.scan_rounds.specs.Rounds.{Swapped, AllRan, AllGoOn, AreListed, IsLeastRoom, hand_of}
-use Rattle.scan_rounds.specs.Rounds.{AreZeroing, taken_by}
-use Rattle.scan_rounds.specs.Scans.{IsScan}
+use Rattle.scan_rounds.specs.Rounds.{AllListIn, taken_by}
+use Rattle.scan_rounds.specs.Scans.{IsScan, manner_in}
 use Rattle.scan_rounds.specs.declared.backend.Backend.{Backend}
 use Rattle.scan_rounds.specs.declared.job.Job.{Job}
 use Rattle.scan_rounds.specs.declared.scan.Scan.{Scan}
@@ -20,7 +20,7 @@ use Rattle.scan_rounds.proofs.Again.{waiting_in}
 use Rattle.scan_rounds.proofs.Rooms.{least_falls}
 use Rattle.scan_rounds.proofs.Rounding.{all_may, backends_after, idle_after, listed_after}
 use Rattle.scan_rounds.proofs.Rounding.{goes_on_after, taken_after, unread_after, same_length}
-use Rattle.scan_rounds.proofs.Rounding.{goes_after, lived_after, raised_within, zeroing_after}
+use Rattle.scan_rounds.proofs.Rounding.{goes_after, lived_after, raised_within, manner_after}
 
 module _ {W D : Type 0} (m : Meter D) (told : Option Told) (relations : ℕ) (s : Scan W D)
     (t : Named) (q : Queue) (bs cs : List (Backend W D)) (js ks : List Job)
@@ -32,9 +32,9 @@ module _ {W D : Type 0} (m : Meter D) (told : Option Told) (relations : ℕ) (s 
   waiting : AreWaiting m told relations t q bs (record { room = s.room; unread = s.unread })
   waiting = waiting_in m told relations s t q bs is table line words begun
 
-  zeroing_before : AreZeroing s.zero bs
-  zeroing_before =
-      subst (λ (xs : List (Backend W D)). AreZeroing s.zero xs) (sym begun) is.zeroing
+  manner_before : AllListIn (manner_in s) bs
+  manner_before =
+      subst (λ (xs : List (Backend W D)). AllListIn (manner_in s) xs) (sym begun) is.all_list_in
 
   within : length js ≤ length bs
   within = let b = ap length begun in omega (arith, few)
@@ -47,8 +47,8 @@ module _ {W D : Type 0} (m : Meter D) (told : Option Told) (relations : ℕ) (s 
     pub now : AreWaiting m told relations t q fs (record { room = room; unread = unread })
     pub go_on : AllGoOn m told relations t (map hand_of bs) (map hand_of fs)
     pub many : length fs ≡ length bs
-    pub listed : AreListed s.zero told s.backends.items fs js ls
-    pub zeroing : AreZeroing s.zero fs
+    pub listed : AreListed (manner_in s) told s.backends.items fs js ls
+    pub all_list_in : AllListIn (manner_in s) fs
     pub fallen : s.room ≤ room + 64
     pub taken : taken_by fs ≤ taken_by s.backends.items + blocks_among js
 
@@ -78,11 +78,11 @@ module _ {W D : Type 0} (m : Meter D) (told : Option Told) (relations : ℕ) (s 
         go_on = goes_on_after m told relations t q bs cs js ks s.room w.backends w.idle fresh within
             enough w.room.have swapped es fs ls ran again;
         many = many;
-        listed = subst (λ (xs : List (Backend W D)). AreListed s.zero told xs fs js ls) begun
+        listed = subst (λ (xs : List (Backend W D)). AreListed (manner_in s) told xs fs js ls) begun
             (listed_after m told relations t q bs cs js ks s.room w.backends w.idle fresh within
-            enough w.room.have swapped es fs ls ran again s.zero zeroing_before);
-        zeroing = zeroing_after m told relations t q bs cs js ks s.room w.backends w.idle fresh
-            within enough w.room.have swapped es fs ls ran again s.zero zeroing_before;
+            enough w.room.have swapped es fs ls ran again (manner_in s) manner_before);
+        all_list_in = manner_after m told relations t q bs cs js ks s.room w.backends w.idle fresh
+            within enough w.room.have swapped es fs ls ran again (manner_in s) manner_before;
         fallen = least_falls bs fs s.room room many (λ i d lt. (goes i d lt).same)
             (λ i d lt. (w.backends i d lt).backend)
             (lived_after m told relations t q bs cs js ks s.room w.backends w.idle fresh within

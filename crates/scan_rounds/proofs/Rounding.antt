@@ -19,9 +19,11 @@ use Rattle.method_worker.specs.Shown.{Queue}
 use Rattle.read_stream.specs.Answering.{MayBeUnread}
 use Rattle.read_stream.specs.Went.{local_marks}
 use Rattle.scan_rounds.specs.Hands.{Meter, IsBackend, IsReady, Ran, GoesOn, HasRoom, MayRun}
+use Rattle.scan_rounds.specs.Hands.{manner_of}
+use Rattle.scan_rounds.specs.Manners.{Manner}
 use Rattle.scan_rounds.specs.Jobs.{IsFresh, IsListed, is_unread, unread_among, blocks_among}
 use Rattle.scan_rounds.specs.Rounds.{Swapped, AreIdle, HaveRoom, AreListed, AllRan, AllGoOn}
-use Rattle.scan_rounds.specs.Rounds.{AreZeroing, hand_of, results_of, taken_by}
+use Rattle.scan_rounds.specs.Rounds.{AllListIn, hand_of, results_of, taken_by}
 use Rattle.scan_rounds.specs.declared.hand.Hand.{Hand}
 use Rattle.scan_rounds.specs.declared.backend.Backend.{Backend}
 use Rattle.scan_rounds.specs.declared.job.Job.{Job}
@@ -113,8 +115,8 @@ module _ {W D : Type 0} (m : Meter D) (told : Option Told) (relations : ℕ) (t 
     pub lived : (h : ℕ) → lives h f.hand.actor.known.marks ≤ lives h b.hand.actor.known.marks + 64
     pub taken : local_marks f.hand.actor.known.marks
         ≤ local_marks b.hand.actor.known.marks + j.count
-    pub listed : IsListed b.desk.zero told (MayBeUnread b.hand.actor f.hand.actor.known) j l
-    pub zero : f.desk.zero ≡ b.desk.zero
+    pub listed : IsListed (manner_of b) told (MayBeUnread b.hand.actor f.hand.actor.known) j l
+    pub manner_kept : manner_of f ≡ manner_of b
 
   -- a backend that had none
   pub record Rested (b f : Backend W D) : Type 0 where
@@ -123,12 +125,18 @@ module _ {W D : Type 0} (m : Meter D) (told : Option Told) (relations : ℕ) (t 
     pub goes : GoesOn m told relations t b.hand f.hand
     pub lived : (h : ℕ) → lives h f.hand.actor.known.marks ≤ lives h b.hand.actor.known.marks + 64
     pub taken : local_marks f.hand.actor.known.marks ≤ local_marks b.hand.actor.known.marks
-    pub zero : f.desk.zero ≡ b.desk.zero
+    pub manner_kept : manner_of f ≡ manner_of b
 
   -- whatever its job is
   with_any : (b : Backend W D) (j : Job) → IsBackend m told relations t q b
       → IsBackend m told relations t q (with_job b j)
-  with_any b j is = record { hand = is.hand; backend = is.backend; desk = is.desk; seat = is.seat }
+  with_any b j is = record {
+    hand = is.hand;
+    backend = is.backend;
+    desk = is.desk;
+    seat = is.seat;
+    ring = is.ring;
+  }
 
   did_one : (b e : Backend W D) (j k : Job) → IsFresh relations j → k.count ≡ 0
       → Ran m told relations t q (with_job b j) e → Did b j (with_job e k) e.job
@@ -140,7 +148,7 @@ module _ {W D : Type 0} (m : Meter D) (told : Option Told) (relations : ℕ) (t 
         lived = ran.lived;
         taken = ran.taken;
         listed = ran.listed some;
-        zero = ran.zero;
+        manner_kept = ran.manner_kept;
       }
 
   rested_one : (b e : Backend W D) → b.job.count ≡ 0 → Ran m told relations t q b e → Rested b e
@@ -151,7 +159,7 @@ module _ {W D : Type 0} (m : Meter D) (told : Option Told) (relations : ℕ) (t 
         goes = ran.goes;
         lived = ran.lived;
         taken = (let few = ran.taken in omega arith);
-        zero = ran.zero;
+        manner_kept = ran.manner_kept;
       }
 
   ready_one : (room : ℕ) (b : Backend W D) (j : Job) → 64 ≤ room → HasRoom room b.hand.actor
@@ -248,25 +256,25 @@ module _ {W D : Type 0} (m : Meter D) (told : Option Told) (relations : ℕ) (t 
           (λ behind. (rested i d behind inside).goes)
           (λ front. (did i d (slice_index_or bs i d).job (omega arith)).goes)
 
-      pub listed_after : (on : Bool) → AreZeroing on bs → AreListed on told bs fs js ls
-      listed_after on zeroing = record {
+      pub listed_after : (how : Manner) → AllListIn how bs → AreListed how told bs fs js ls
+      listed_after how all = record {
         jobs_are = again.jobs_are ∙ swapped.jobs_are;
         each = λ i d j lt.
-            subst (λ (b : Bool). IsListed b told (MayBeUnread (slice_index_or bs i d).hand.actor
+            subst (λ (n : Manner). IsListed n told (MayBeUnread (slice_index_or bs i d).hand.actor
             (slice_index_or fs i d).hand.actor.known) (slice_index_or js i j)
-            (slice_index_or ls i j)) (zeroing i d (omega arith)) (did i d j lt).listed;
+            (slice_index_or ls i j)) (all i d (omega arith)) (did i d j lt).listed;
       }
 
-      pub zeroing_after : (on : Bool) → AreZeroing on bs → AreZeroing on fs
-      zeroing_after on zeroing i d lt =
+      pub manner_after : (how : Manner) → AllListIn how bs → AllListIn how fs
+      manner_after how all i d lt =
           let inside : i < length bs = omega (arith, same_length) in
-          kept_at inside ∙ zeroing i d inside
+          kept_at inside ∙ all i d inside
         where
           kept_at : i < length bs
-              → (slice_index_or fs i d).desk.zero ≡ (slice_index_or bs i d).desk.zero
+              → manner_of (slice_index_or fs i d) ≡ manner_of (slice_index_or bs i d)
           kept_at inside = dite (dec_le (length js) i)
-              (λ behind. (rested i d behind inside).zero)
-              (λ front. (did i d (slice_index_or bs i d).job (omega arith)).zero)
+              (λ behind. (rested i d behind inside).manner_kept)
+              (λ front. (did i d (slice_index_or bs i d).job (omega arith)).manner_kept)
 
       pub goes_on_after : AllGoOn m told relations t (map hand_of bs) (map hand_of fs)
       goes_on_after = record {

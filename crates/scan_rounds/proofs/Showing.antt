@@ -27,9 +27,8 @@ use Rattle.page_check.proofs.Places.{count-within, pages_of-length}
 use Rattle.aio_word.specs.declared.Known.{Known}
 use Rattle.aio_handle.specs.Shown.{Standing}
 use Rattle.block_source.specs.Left.{consecutive, bare}
-use Rattle.heap_scan.specs.Listing.{listing}
+use Rattle.heap_scan.specs.Listing.{TextOf, listing, text_for}
 use Rattle.heap_scan.specs.Job.{IsJobAnswer, job_entries, block_entry, endings_of}
-use Rattle.heap_scan.specs.PageText.{page_text_of}
 use Rattle.heap_scan.specs.Warnings.{warning_for, warnings_of}
 use Rattle.heap_scan.proofs.Jobs.{listing-append, warnings-append}
 use Rattle.heap_scan.proofs.Summing.{sums_fit, sums_of-none, sums_of-push}
@@ -54,13 +53,13 @@ G = Given (Unit {0})
 abbrev pub Blocks : Type 0
 Blocks = List (ℕ × Unit {0})
 
-one_listing : (g : G) → page_text_of g.entry.relation g.entry.block g.page ≡ listing (g ∷ [])
+one_listing : (text_of : TextOf) (g : G) → text_for text_of g ≡ listing text_of (g ∷ [])
 unfolding listing
-one_listing g = sym (append-nil (page_text_of g.entry.relation g.entry.block g.page))
+one_listing text_of g = sym (append-nil (text_for text_of g))
 
-no_listing : listing (let none : List G = [] in none) ≡ []
+no_listing : (text_of : TextOf) → listing text_of (let none : List G = [] in none) ≡ []
 unfolding listing
-no_listing = refl
+no_listing text_of = refl
 
 one_warning : (g : G) → warning_for g ≡ warnings_of (g ∷ [])
 unfolding warnings_of
@@ -163,22 +162,22 @@ page_within None may entries k g is = slice_get_within entries k g.entry is.1
 page_within (Some f) may entries k g is = within_pages f entries k g is
 
 -- text, warnings and sums are those of this many pages, which are the first answers
-pub record SoFar (found : Option Reader) (entries : List E) (given : ℕ) (now : Shown)
-    : Type 0 where
+pub record SoFar (text_of : TextOf) (found : Option Reader) (entries : List E) (given : ℕ)
+    (now : Shown) : Type 0 where
   pub pages : List G
   pub count : length pages ≡ given
-  pub text_is : now.text ≡ listing pages
+  pub text_is : now.text ≡ listing text_of pages
   pub warnings_are : now.warnings ≡ warnings_of pages
   pub sums_are : now.sums ≡ sums_of pages
   pub answers : IsAnswer found (λ _. ⊤) entries (record { pages = pages; endings = [] })
 
-pub nothing_yet : (found : Option Reader) (entries : List E) (given : ℕ) (text warnings : List ℕ)
-    (sums : PageSums) → given ≡ 0 → text ≡ [] → warnings ≡ [] → sums ≡ no_sums
-    → SoFar found entries given (shown text warnings sums)
-nothing_yet found entries given text warnings sums none empty quiet uncounted = record {
+pub nothing_yet : (text_of : TextOf) (found : Option Reader) (entries : List E) (given : ℕ)
+    (text warnings : List ℕ) (sums : PageSums) → given ≡ 0 → text ≡ [] → warnings ≡ []
+    → sums ≡ no_sums → SoFar text_of found entries given (shown text warnings sums)
+nothing_yet text_of found entries given text warnings sums none empty quiet uncounted = record {
   pages = [];
   count = sym none;
-  text_is = empty ∙ sym no_listing;
+  text_is = empty ∙ sym (no_listing text_of);
   warnings_are = quiet ∙ sym no_warnings;
   sums_are = uncounted ∙ sym (sums_of-none (Unit {0}));
   answers = answered_none found (λ _. ⊤) entries;
@@ -195,11 +194,11 @@ pages_anyway : (found : Option Reader) (may : E → Type 0) (entries : List E) (
     → IsAnswer found may entries (record { pages = pages; endings = [] })
 pages_anyway found may entries pages a = record { first = a.first; endings = tt }
 
-module _ (found : Option Reader) (may : E → Type 0) (entries : List E) (given : ℕ)
-    (next : Said (Unit {0})) (before after : Shown) (result : Option Ending) where
-  shown_on : (said : Said (Unit {0})) → SoFar found entries given before
-      → IsNext found may entries given said → Shows said before after None
-      → SoFar found entries (given + pages_in said) after
+module _ (text_of : TextOf) (found : Option Reader) (may : E → Type 0) (entries : List E)
+    (given : ℕ) (next : Said (Unit {0})) (before after : Shown) (result : Option Ending) where
+  shown_on : (said : Said (Unit {0})) → SoFar text_of found entries given before
+      → IsNext found may entries given said → Shows text_of said before after None
+      → SoFar text_of found entries (given + pages_in said) after
   shown_on (Stop end) so_far is shows = absurd (cc)
   shown_on (Page g) so_far is shows =
       let P : ℕ → Type 0 = λ n. IsNext found may entries n (Page g) in
@@ -208,10 +207,9 @@ module _ (found : Option Reader) (may : E → Type 0) (entries : List E) (given 
         pages = so_far.pages ++ g ∷ [];
         count = omega (arith, length-append so_far.pages (g ∷ []), so_far.count);
         text_is = shows.0
-            ∙ ap (λ (l : List ℕ). l ++ page_text_of g.entry.relation g.entry.block g.page)
-            so_far.text_is
-            ∙ ap (λ (l : List ℕ). listing so_far.pages ++ l) (one_listing g)
-            ∙ sym (listing-append so_far.pages (g ∷ []));
+            ∙ ap (λ (l : List ℕ). l ++ text_for text_of g) so_far.text_is
+            ∙ ap (λ (l : List ℕ). listing text_of so_far.pages ++ l) (one_listing text_of g)
+            ∙ sym (listing-append text_of so_far.pages (g ∷ []));
         warnings_are = shows.1
             ∙ ap (λ (l : List ℕ). l ++ warning_for g) so_far.warnings_are
             ∙ ap (λ (l : List ℕ). warnings_of so_far.pages ++ l) (one_warning g)
@@ -223,26 +221,26 @@ module _ (found : Option Reader) (may : E → Type 0) (entries : List E) (given 
       }
 
   within_on : (said : Said (Unit {0})) → IsNext found may entries given said
-      → Shows said before after None → (pages_in said ≡ 1) × (given < length entries)
+      → Shows text_of said before after None → (pages_in said ≡ 1) × (given < length entries)
   within_on (Stop end) is shows = absurd (cc)
   within_on (Page g) is shows = (refl, page_within found may entries given g is)
 
   -- the answer was shown, and the job goes on
-  pub shown_more : (given' : ℕ) → SoFar found entries given before
-      → IsNext found may entries given next → Shows next before after result
+  pub shown_more : (given' : ℕ) → SoFar text_of found entries given before
+      → IsNext found may entries given next → Shows text_of next before after result
       → result ≡ None → given' ≡ given + pages_in next
-      → SoFar found entries given' after
+      → SoFar text_of found entries given' after
   shown_more given' so_far is shows none count =
-      subst (λ (n : ℕ). SoFar found entries n after) (sym count)
+      subst (λ (n : ℕ). SoFar text_of found entries n after) (sym count)
       (shown_on next so_far is
-      (subst (λ (x : Option Ending). Shows next before after x) none shows))
+      (subst (λ (x : Option Ending). Shows text_of next before after x) none shows))
 
   pub nearer : (given' : ℕ) → IsNext found may entries given next
-      → Shows next before after result → result ≡ None → given' ≡ given + pages_in next
+      → Shows text_of next before after result → result ≡ None → given' ≡ given + pages_in next
       → (given' ≡ given + 1) × (given < length entries)
   nearer given' is shows none count =
       let one = within_on next is
-      (subst (λ (x : Option Ending). Shows next before after x) none shows) in
+      (subst (λ (x : Option Ending). Shows text_of next before after x) none shows) in
       (count ∙ ap (λ (n : ℕ). given + n) one.0, one.1)
 
   end_said : (end : SaidEnding) → said_end (ending_for end) ≡ Some end
@@ -251,14 +249,14 @@ module _ (found : Option Reader) (may : E → Type 0) (entries : List E) (given 
   end_said (PastEnd b) = refl
   end_said (Unread b) = refl
 
-  ended : (end : SaidEnding) → SoFar found entries given before
+  ended : (end : SaidEnding) → SoFar text_of found entries given before
       → IsNext found may entries given (Stop end)
-      → IsJobAnswer found may entries before.text before.warnings before.sums
+      → IsJobAnswer text_of found may entries before.text before.warnings before.sums
       (said_end (ending_for end))
   ended end so_far is =
       let P : ℕ → Type 0 = λ n. IsNext found may entries n (Stop end) in
       let Q : Option SaidEnding → Type 0 =
-      λ e. IsJobAnswer found may entries before.text before.warnings before.sums e in
+      λ e. IsJobAnswer text_of found may entries before.text before.warnings before.sums e in
       subst Q (sym (end_said end)) (record {
         pages = so_far.pages;
         text_is = so_far.text_is;
@@ -269,8 +267,8 @@ module _ (found : Option Reader) (may : E → Type 0) (entries : List E) (given 
             (subst P (sym so_far.count) is);
       })
 
-  cut : SoFar found entries given before
-      → IsJobAnswer found may entries before.text before.warnings before.sums None
+  cut : SoFar text_of found entries given before
+      → IsJobAnswer text_of found may entries before.text before.warnings before.sums None
   cut so_far = record {
     pages = so_far.pages;
     text_is = so_far.text_is;
@@ -279,27 +277,27 @@ module _ (found : Option Reader) (may : E → Type 0) (entries : List E) (given 
     answers = pages_anyway found may entries so_far.pages so_far.answers;
   }
 
-  last_of : (said : Said (Unit {0})) (e : Ending) → SoFar found entries given before
-      → IsNext found may entries given said → Shows said before after (Some e)
-      → IsJobAnswer found may entries after.text after.warnings after.sums (said_end e)
+  last_of : (said : Said (Unit {0})) (e : Ending) → SoFar text_of found entries given before
+      → IsNext found may entries given said → Shows text_of said before after (Some e)
+      → IsJobAnswer text_of found may entries after.text after.warnings after.sums (said_end e)
   last_of (Page g) e so_far is shows =
-      subst (λ (x : Ending). IsJobAnswer found may entries after.text after.warnings after.sums
+      subst (λ (x : Ending). IsJobAnswer text_of found may entries after.text after.warnings after.sums
       (said_end x)) (sym shows.0)
-      (subst (λ (s : Shown). IsJobAnswer found may entries s.text s.warnings s.sums None)
+      (subst (λ (s : Shown). IsJobAnswer text_of found may entries s.text s.warnings s.sums None)
       (sym shows.1) (cut so_far))
   last_of (Stop end) e so_far is shows =
       let same : ending_for end ≡ e = cc in
-      subst (λ (x : Ending). IsJobAnswer found may entries after.text after.warnings after.sums
+      subst (λ (x : Ending). IsJobAnswer text_of found may entries after.text after.warnings after.sums
       (said_end x)) same
-      (subst (λ (s : Shown). IsJobAnswer found may entries s.text s.warnings s.sums
+      (subst (λ (s : Shown). IsJobAnswer text_of found may entries s.text s.warnings s.sums
       (said_end (ending_for end))) (sym shows.1) (ended end so_far is))
 
   -- the last answer was shown
-  pub shown_end : (e : Ending) → SoFar found entries given before
-      → IsNext found may entries given next → Shows next before after result → result ≡ Some e
-      → IsJobAnswer found may entries after.text after.warnings after.sums (said_end e)
+  pub shown_end : (e : Ending) → SoFar text_of found entries given before
+      → IsNext found may entries given next → Shows text_of next before after result → result ≡ Some e
+      → IsJobAnswer text_of found may entries after.text after.warnings after.sums (said_end e)
   shown_end e so_far is shows some = last_of next e so_far is
-      (subst (λ (x : Option Ending). Shows next before after x) some shows)
+      (subst (λ (x : Option Ending). Shows text_of next before after x) some shows)
 
 -- a page that was not zeroed has no warning
 unwarned : (g : G) → g.zeroed ≡ false → warning_for g ≡ []
@@ -310,35 +308,35 @@ not_zeroed on false told off = refl
 not_zeroed on true told off = (let is = told refl in absurd (cc))
 
 -- where no page is given as zeros, there is still no warning
-pub still_quiet : (on : Bool) (next : Said (Unit {0})) (before after : Shown)
-    (result : Option Ending) → IfZeroed next (on ≡ true) → Shows next before after result
+pub still_quiet : (text_of : TextOf) (on : Bool) (next : Said (Unit {0})) (before after : Shown)
+    (result : Option Ending) → IfZeroed next (on ≡ true) → Shows text_of next before after result
     → (on ≡ false → before.warnings ≡ []) → on ≡ false → after.warnings ≡ []
-still_quiet on (Page g) before after None zeroed shows quiet off =
+still_quiet text_of on (Page g) before after None zeroed shows quiet off =
     let none = unwarned g (not_zeroed on g.zeroed zeroed off) in
     let was = quiet off in
     let now = shows.1 in
     now ∙ rw (none, was) refl
-still_quiet on (Page g) before after (Some e) zeroed shows quiet off =
+still_quiet text_of on (Page g) before after (Some e) zeroed shows quiet off =
     ap (λ (s : Shown). s.warnings) shows.1 ∙ quiet off
-still_quiet on (Stop end) before after None zeroed shows quiet off =
+still_quiet text_of on (Stop end) before after None zeroed shows quiet off =
     ap (λ (s : Shown). s.warnings) shows.1 ∙ quiet off
-still_quiet on (Stop end) before after (Some e) zeroed shows quiet off =
+still_quiet text_of on (Stop end) before after (Some e) zeroed shows quiet off =
     ap (λ (s : Shown). s.warnings) shows.1 ∙ quiet off
 
 -- a page that was read was appended and counted, or there was no memory
-pub page_shown : {T F : Type 0} (r : Result T F) (g : G) (text text' warnings : List ℕ)
+pub page_shown : {T F : Type 0} (text_of : TextOf) (r : Result T F) (g : G) (text text' warnings : List ℕ)
     (sums sums' : PageSums) (result : Option Ending) → g.zeroed ≡ false
-    → OnOk r ((text' ≡ text ++ page_text_of g.entry.relation g.entry.block g.page)
+    → OnOk r ((text' ≡ text ++ text_for text_of g)
     × (sums' ≡ tallied sums g.page))
     → OnErr r ((text' ≡ text) × (sums' ≡ sums))
     → OnOk r (result ≡ None) → OnErr r (result ≡ Some ending.NoMemory)
-    → Shows (Page g) (shown text warnings sums) (shown text' warnings sums') result
-page_shown (Ok x) g text text' warnings sums sums' result read ok err none some =
-    subst (λ (e : Option Ending). Shows (Page g) (shown text warnings sums)
+    → Shows text_of (Page g) (shown text warnings sums) (shown text' warnings sums') result
+page_shown text_of (Ok x) g text text' warnings sums sums' result read ok err none some =
+    subst (λ (e : Option Ending). Shows text_of (Page g) (shown text warnings sums)
     (shown text' warnings sums') e) (sym none)
     (ok.0, sym (ap (λ (l : List ℕ). warnings ++ l) (unwarned g read) ∙ append-nil warnings), ok.1)
-page_shown (Err x) g text text' warnings sums sums' result read ok err none some =
-    subst (λ (e : Option Ending). Shows (Page g) (shown text warnings sums)
+page_shown text_of (Err x) g text text' warnings sums sums' result read ok err none some =
+    subst (λ (e : Option Ending). Shows text_of (Page g) (shown text warnings sums)
     (shown text' warnings sums') e) (sym some)
     (refl, rw (err.0, err.1) refl)
 
@@ -353,13 +351,13 @@ first_valid on (Some t) entries pages first =
     (ap (λ (l : List G). slice_get l k) first.1 ∙ among))
 
 -- up to 64 pages and their line pointers can be counted
-pub next_fits : (on : Bool) (told : Option Told) (may : E → Type 0) (entries : List E) (given : ℕ)
+pub next_fits : (text_of : TextOf) (on : Bool) (told : Option Told) (may : E → Type 0) (entries : List E) (given : ℕ)
     (next : Said (Unit {0})) (now : Shown) → length entries ≤ 64
-    → SoFar (reader_of on told) entries given now
+    → SoFar text_of (reader_of on told) entries given now
     → IsNext (reader_of on told) may entries given next
     → IfPage next (λ page. FitSums (tallied now.sums page))
-next_fits on told may entries given (Stop end) now few so_far is = tt
-next_fits on told may entries given (Page g) now few so_far is =
+next_fits text_of on told may entries given (Stop end) now few so_far is = tt
+next_fits text_of on told may entries given (Page g) now few so_far is =
     let found = reader_of on told in
     let P : ℕ → Type 0 = λ n. IsNext found may entries n (Page g) in
     let here = page_anyway found may entries (length so_far.pages) g
@@ -450,11 +448,11 @@ endings_wider found may may' entries k (end ∷ more) wider is =
     (ending_wider found may may' entries k end wider is.0, is.1)
 
 -- an entry that may be unread may be so later
-pub job_wider : (found : Option Reader) (may may' : E → Type 0) (entries : List E)
+pub job_wider : (text_of : TextOf) (found : Option Reader) (may may' : E → Type 0) (entries : List E)
     (text warnings : List ℕ) (sums : PageSums) (end : Option SaidEnding)
-    → ((e : E) → may e → may' e) → IsJobAnswer found may entries text warnings sums end
-    → IsJobAnswer found may' entries text warnings sums end
-job_wider found may may' entries text warnings sums end wider j = record {
+    → ((e : E) → may e → may' e) → IsJobAnswer text_of found may entries text warnings sums end
+    → IsJobAnswer text_of found may' entries text warnings sums end
+job_wider text_of found may may' entries text warnings sums end wider j = record {
   pages = j.pages;
   text_is = j.text_is;
   warnings_are = j.warnings_are;
@@ -467,25 +465,25 @@ job_wider found may may' entries text warnings sums end wider j = record {
 }
 
 -- the answer of the stream is that of the job, also once the stream was closed
-pub job_moved : (found : Option Reader) (p p' : Standing) (q z : Known)
+pub job_moved : (text_of : TextOf) (found : Option Reader) (p p' : Standing) (q z : Known)
     (reads reads' faults faults' : ℕ) (relation first count : ℕ) (blocks : Blocks)
     (text warnings : List ℕ) (sums : PageSums) (end : Option SaidEnding) → p' ≡ p
     → blocks ≡ consecutive first count → Went q z reads reads' faults faults'
-    → IsJobAnswer found (MayBeUnread p' q) (entries_of relation blocks) text warnings sums end
-    → IsJobAnswer found (MayBeUnread p z) (job_entries relation first count) text warnings sums end
-job_moved found p p' q z reads reads' faults faults' relation first count blocks text warnings sums
+    → IsJobAnswer text_of found (MayBeUnread p' q) (entries_of relation blocks) text warnings sums end
+    → IsJobAnswer text_of found (MayBeUnread p z) (job_entries relation first count) text warnings sums end
+job_moved text_of found p p' q z reads reads' faults faults' relation first count blocks text warnings sums
     end same list w a =
-    subst (λ (es : List E). IsJobAnswer found (MayBeUnread p z) es text warnings sums end)
+    subst (λ (es : List E). IsJobAnswer text_of found (MayBeUnread p z) es text warnings sums end)
     (ap (entries_of relation) list ∙ range_entries relation first count)
-    (job_wider found (MayBeUnread p q) (MayBeUnread p z) (entries_of relation blocks) text warnings
+    (job_wider text_of found (MayBeUnread p q) (MayBeUnread p z) (entries_of relation blocks) text warnings
     sums end (may_later p q z reads reads' faults faults' w)
-    (subst (λ (x : Standing). IsJobAnswer found (MayBeUnread x q) (entries_of relation blocks) text
+    (subst (λ (x : Standing). IsJobAnswer text_of found (MayBeUnread x q) (entries_of relation blocks) text
     warnings sums end) same a))
 
 -- by what the stream's desk says of damaged pages
-pub job_zeroing : (on on' : Bool) (told : Option Told) (may : E → Type 0) (entries : List E)
+pub job_zeroing : (text_of : TextOf) (on on' : Bool) (told : Option Told) (may : E → Type 0) (entries : List E)
     (text warnings : List ℕ) (sums : PageSums) (end : Option SaidEnding) → on' ≡ on
-    → IsJobAnswer (reader_of on' told) may entries text warnings sums end
-    → IsJobAnswer (reader_of on told) may entries text warnings sums end
-job_zeroing on on' told may entries text warnings sums end same a =
-    subst (λ (b : Bool). IsJobAnswer (reader_of b told) may entries text warnings sums end) same a
+    → IsJobAnswer text_of (reader_of on' told) may entries text warnings sums end
+    → IsJobAnswer text_of (reader_of on told) may entries text warnings sums end
+job_zeroing text_of on on' told may entries text warnings sums end same a =
+    subst (λ (b : Bool). IsJobAnswer text_of (reader_of b told) may entries text warnings sums end) same a

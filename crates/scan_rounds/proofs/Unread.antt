@@ -1,5 +1,5 @@
 -- A job that ended in Unread has left the result of a failed I/O in its actor's list.
-use Rattle.std.proofs.Common.{◌≡◌, ℕ, ◌+◌, ◌≤◌, Bool, true, List, ◌++◌}
+use Rattle.std.proofs.Common.{◌≡◌, ℕ, ◌+◌, ◌≤◌, true, List, ◌++◌}
 use Rattle.std.proofs.Common.{cond, ap, arith}
 use Rattle.std.proofs.lemmas.List.Sums.{sum_by-append}
 use Rattle.std.specs.Prelude.{Option}
@@ -16,9 +16,12 @@ use Rattle.aio_word.specs.Stands.{IsIn}
 use Rattle.aio_word.specs.Tokens.{failed_results, is_failed_result}
 use Rattle.aio_word.proofs.Parts.{sum-in}
 use Rattle.aio_handle.specs.Shown.{Standing}
+use Rattle.heap_scan.specs.Listing.{TextOf}
 use Rattle.heap_scan.specs.Job.{IsJobAnswer}
 use Rattle.heap_scan.specs.declared.sums.PageSums.{PageSums}
+use Rattle.heap_tuple.specs.Listing.{text_with}
 use Rattle.read_stream.specs.Answering.{MayBeUnread}
+use Rattle.scan_rounds.specs.Manners.{Manner}
 use Rattle.scan_rounds.specs.Jobs.{IsListed, is_unread, said_end, entries_in}
 use Rattle.scan_rounds.specs.declared.job.Job.{Job}
 use Rattle.scan_rounds.specs.declared.job.Ending.{Ending}
@@ -50,21 +53,22 @@ cause_of : (found : Option Reader) (may : E → Type 0) (entries : List E) (k : 
     → IsEnding found may entries k (Unread b) → (x : E) × may x
 cause_of found may entries k b is = (is.next, is.cause)
 
-unread_at : (found : Option Reader) (was : Standing) (q : Known) (j : Job)
+unread_at : (text_of : TextOf) (found : Option Reader) (was : Standing) (q : Known) (j : Job)
     (text warnings : List ℕ) (sums : PageSums) (e : Ending)
-    → IsJobAnswer found (MayBeUnread was q) (entries_in j) text warnings sums (said_end e)
+    → IsJobAnswer text_of found (MayBeUnread was q) (entries_in j) text warnings sums (said_end e)
     → is_unread e ≡ true → failed_results was.known.marks + 1 ≤ failed_results q.marks
-unread_at found was q j text warnings sums (ending.Unread b) a is =
+unread_at text_of found was q j text warnings sums (ending.Unread b) a is =
     let (x, may) = cause_of found (MayBeUnread was q) (entries_in j) _ b a.answers.endings.0 in
     may_counted was q x may
-unread_at found was q j text warnings sums ending.Pages a is = absurd (cc)
-unread_at found was q j text warnings sums (ending.Invalid b) a is = absurd (cc)
-unread_at found was q j text warnings sums (ending.PastEnd b) a is = absurd (cc)
-unread_at found was q j text warnings sums ending.NoMemory a is = absurd (cc)
+unread_at text_of found was q j text warnings sums ending.Pages a is = absurd (cc)
+unread_at text_of found was q j text warnings sums (ending.Invalid b) a is = absurd (cc)
+unread_at text_of found was q j text warnings sums (ending.PastEnd b) a is = absurd (cc)
+unread_at text_of found was q j text warnings sums ending.NoMemory a is = absurd (cc)
 
 -- a job that ended in Unread left one failed result more
-pub unread_counted : (on : Bool) (told : Option Told) (was : Standing) (q : Known) (j k : Job)
-    → IsListed on told (MayBeUnread was q) j k → is_unread k.ending ≡ true
+pub unread_counted : (how : Manner) (told : Option Told) (was : Standing) (q : Known) (j k : Job)
+    → IsListed how told (MayBeUnread was q) j k → is_unread k.ending ≡ true
     → failed_results was.known.marks + 1 ≤ failed_results q.marks
-unread_counted on told was q j k l is =
-    unread_at (reader_of on told) was q j k.text.items k.warnings.items k.tally k.ending l.answer is
+unread_counted how told was q j k l is =
+    unread_at (text_with how.tuples) (reader_of how.zero told) was q j k.text.items
+    k.warnings.items k.tally k.ending l.answer is

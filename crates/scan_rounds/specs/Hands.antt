@@ -1,5 +1,5 @@
 -- An actor with its disk, between its calls, and what a round makes of it.
-use Rattle.std.specs.Prelude.{◌≡◌, ◌≢◌, ℕ, ◌+◌, ◌<◌, ◌≤◌, ◌++◌, List, Option, Some, IfSome}
+use Rattle.std.specs.Prelude.{◌≡◌, ◌≢◌, ℕ, ◌+◌, ◌<◌, ◌≤◌, ◌++◌, Bool, List, Option, Some, IfSome}
 use Rattle.page_check.specs.Told.{Told}
 use Rattle.aio_word.specs.declared.Mark.{Mark}
 use Rattle.aio_word.specs.Events.{lives}
@@ -10,10 +10,14 @@ use Rattle.aio_handle.specs.Shown.{Named, Standing, IsOf, IsSame}
 use Rattle.read_stream.specs.Answering.{MayBeUnread}
 use Rattle.read_stream.specs.Open.{IsFree}
 use Rattle.read_stream.specs.Went.{local_marks}
+use Rattle.read_stream.specs.declared.desk.Desk.{Desk}
 use Rattle.method_worker.specs.Shown.{Queue, IsSeatOf}
+use Rattle.scan_rounds.specs.Manners.{Manner, manner}
 use Rattle.scan_rounds.specs.Jobs.{IsFresh, IsListed}
+use Rattle.scan_rounds.specs.Rings.{IsRingOf}
 use Rattle.scan_rounds.specs.declared.hand.Hand.{Hand}
 use Rattle.scan_rounds.specs.declared.backend.Backend.{Backend}
+use Rattle.scan_rounds.specs.declared.job.Job.{Job}
 use Rattle.scan_rounds.specs.declared.worker.Worker.{Worker}
 
 -- the meanings of a disk
@@ -30,6 +34,10 @@ meter tells has reads faults =
 -- each of its handles can have so many lives more, at least
 abbrev pub HasRoom : ℕ → Standing → Type 0
 HasRoom least a = (room : ℕ) × IsRoom a.known.config a.known room × (least ≤ room)
+
+-- the manner in which a backend lists
+abbrev pub manner_of : {W D : Type 0} → Backend W D → Manner
+manner_of b = manner b.desk.zero b.tuples
 
 module _ {W D : Type 0} (m : Meter D) (told : Option Told) (relations : ℕ) (t : Named) where
   -- the actor is of the table and has nothing out, and its disk tells the world
@@ -52,12 +60,31 @@ module _ {W D : Type 0} (m : Meter D) (told : Option Told) (relations : ℕ) (t 
     pub has : k.disk ≡ Some after
     pub pays : Pays (m.reads before) (m.reads after) (m.faults before) (m.faults after) more
 
+  -- the actor may list the job's blocks at this desk
+  pub record MayList (h : Hand W D) (d : Desk W (Unit {0})) (j : Job) : Type 0 where
+    pub hand : IsHand h
+    pub backend : h.actor.known.number < h.actor.known.config.backends
+    pub room : HasRoom 64 h.actor
+    pub desk : IsFree d
+    pub fresh : IsFresh relations j
+
+  -- it has listed them, with their tuples or without
+  pub record HasListed (tuples : Bool) (h k : Hand W D) (d e : Desk W (Unit {0})) (j l : Job)
+      : Type 0 where
+    pub hand : IsHand k
+    pub goes : GoesOn h k
+    pub lived : (n : ℕ) → lives n k.actor.known.marks ≤ lives n h.actor.known.marks + 64
+    pub taken : local_marks k.actor.known.marks ≤ local_marks h.actor.known.marks + j.count
+    pub desk : IsFree e × (e.zero ≡ d.zero)
+    pub listed : IsListed (manner d.zero tuples) told (MayBeUnread h.actor k.actor.known) j l
+
   module _ (q : Queue) where
     pub record IsBackend (b : Backend W D) : Type 0 where
       pub hand : IsHand b.hand
       pub backend : b.hand.actor.known.number < b.hand.actor.known.config.backends
       pub desk : IsFree b.desk
       pub seat : IfSome b.seat (IsSeatOf q)
+      pub ring : IfSome b.ring (IsRingOf q)
 
     -- it may do its job, if it has one
     pub record IsReady (b : Backend W D) : Type 0 where
@@ -75,8 +102,8 @@ module _ {W D : Type 0} (m : Meter D) (told : Option Told) (relations : ℕ) (t 
           ≤ local_marks b.hand.actor.known.marks + b.job.count
       pub idle : b.job.count ≡ 0 → c.job ≡ b.job
       pub listed : b.job.count ≢ 0
-          → IsListed b.desk.zero told (MayBeUnread b.hand.actor c.hand.actor.known) b.job c.job
-      pub zero : c.desk.zero ≡ b.desk.zero
+          → IsListed (manner_of b) told (MayBeUnread b.hand.actor c.hand.actor.known) b.job c.job
+      pub manner_kept : manner_of c ≡ manner_of b
 
     pub record IsWorker (w : Worker W D) : Type 0 where
       pub hand : IsHand w.hand

@@ -7,6 +7,8 @@ use Rattle.page_check.specs.SynchronousAnswer.{Invalid as SaidInvalid, PastEnd a
 use Rattle.page_check.specs.SynchronousAnswer.{Unread as SaidUnread}
 use Rattle.heap_scan.specs.Job.{IsJobAnswer, job_entries}
 use Rattle.heap_scan.specs.Sums.{no_sums}
+use Rattle.heap_tuple.specs.Listing.{text_with}
+use Rattle.scan_rounds.specs.Manners.{Manner}
 use Rattle.scan_rounds.specs.declared.job.Ending.{Ending}
 use Rattle.scan_rounds.specs.declared.job.Ending.TheVariants as ending
 use Rattle.scan_rounds.specs.declared.job.Job.{Job}
@@ -55,17 +57,17 @@ pub record IsFresh (relations : ℕ) (j : Job) : Type 0 where
 abbrev pub entries_in : Job → List (Entry (Unit {0}))
 entries_in j = job_entries j.relation j.first j.count
 
--- what has become of a job: the same blocks, with text, warnings, sums and ending of their answers,
--- where damaged pages are given as zeros or not; where they are not, there is no warning
-pub record IsListed (zero : Bool) (told : Option Told) (may : Entry (Unit {0}) → Type 0)
+-- what has become of a job that is listed in this manner: the same blocks, with text, warnings, sums
+-- and ending of their answers; where damaged pages are not given as zeros, there is no warning
+pub record IsListed (m : Manner) (told : Option Told) (may : Entry (Unit {0}) → Type 0)
     (j k : Job) : Type 0 where
   pub same : (k.relation ≡ j.relation) × (k.first ≡ j.first) × (k.count ≡ j.count)
-  pub answer : IsJobAnswer (reader_of zero told) may (entries_in j) k.text.items k.warnings.items
-      k.tally (said_end k.ending)
-  pub quiet : zero ≡ false → k.warnings.items ≡ []
+  pub answer : IsJobAnswer (text_with m.tuples) (reader_of m.zero told) may (entries_in j)
+      k.text.items k.warnings.items k.tally (said_end k.ending)
+  pub quiet : m.zero ≡ false → k.warnings.items ≡ []
 
 -- what has become of jobs that were put, whichever block may be unread
-pub record AreAnswered (zero : Bool) (told : Option Told) (asked answered : List Job) : Type 0 where
+pub record AreAnswered (m : Manner) (told : Option Told) (asked answered : List Job) : Type 0 where
   pub as_many : length answered ≡ length asked
   pub each : (i : ℕ) (j : Job) → i < length asked
-      → IsListed zero told (λ _. ⊤) (slice_index_or asked i j) (slice_index_or answered i j)
+      → IsListed m told (λ _. ⊤) (slice_index_or asked i j) (slice_index_or answered i j)

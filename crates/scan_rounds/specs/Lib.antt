@@ -1,5 +1,7 @@
+pub mod Manners
 pub mod Jobs
 pub mod Showing
+pub mod Rings
 pub mod Hands
 pub mod Rounds
 pub mod Progress

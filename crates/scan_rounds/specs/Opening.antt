@@ -1,7 +1,7 @@
 -- The settings of a scan, and what they make.
 use Rattle.std.specs.Prelude.{◌≡◌, ℕ, ◌≤◌, ◌+◌, ◌*◌, ◌/◌, ◌++◌, List, [], length, map, min, max}
 use Rattle.std.specs.Prelude.{◌-◌, ◌^◌, Option, Some, vec_capacity, option_to_list}
-use Rattle.std.specs.Prelude.{◌<◌, Bool, true, false}
+use Rattle.std.specs.Prelude.{Bool, true, false}
 use Rattle.std.specs.Option.{is_some}
 use Rattle.std.specs.List.{All, flat_map}
 use Rattle.std.specs.Vec.Iter.{into_iter_items}
@@ -12,9 +12,11 @@ use Rattle.method_worker.specs.Shown.{IsSeatOf}
 use Rattle.read_stream.specs.Open.{IsFree}
 use Rattle.read_stream.specs.declared.desk.Desk.{Desk}
 use Rattle.read_stream.specs.declared.desk.Settings.{Settings}
+use Rattle.scan_rounds.specs.Manners.{manner}
 use Rattle.scan_rounds.specs.Hands.{Meter}
+use Rattle.scan_rounds.specs.Rings.{IsRingOf}
 use Rattle.scan_rounds.specs.Rounds.{AreIdle, hand_of, hand_in, taken_by}
-use Rattle.scan_rounds.specs.Scans.{IsScan, actor_of, disk_of, opened_by}
+use Rattle.scan_rounds.specs.Scans.{IsScan, actor_of, disk_of, manner_in, opened_by}
 use Rattle.scan_rounds.specs.declared.backend.Backend.{Backend}
 use Rattle.scan_rounds.specs.declared.hand.Hand.{Hand}
 use Rattle.scan_rounds.specs.declared.memory.Lists.{Lists}
@@ -30,9 +32,28 @@ use Rattle.scan_rounds.specs.declared.worker.Worker.{Worker}
 abbrev pub workers_by : MethodKind → ℕ → ℕ
 workers_by method.Sync workers = 0
 workers_by method.Worker workers = workers
+workers_by method.Ring workers = 0
 
 abbrev pub workers_in : ScanSettings → ℕ
 workers_in s = workers_by s.method s.workers
+
+-- how many seats of the queue backends and workers have by a method
+abbrev pub seats_by : MethodKind → ℕ → ℕ → ℕ
+seats_by method.Sync backends workers = 0
+seats_by method.Worker backends workers = backends + workers
+seats_by method.Ring backends workers = backends
+
+abbrev pub seats_in : ScanSettings → ℕ
+seats_in s = seats_by s.method s.backends s.workers
+
+-- how many rings there are by a method
+abbrev pub rings_by : MethodKind → ℕ → ℕ
+rings_by method.Sync backends = 0
+rings_by method.Worker backends = 0
+rings_by method.Ring backends = backends
+
+abbrev pub rings_in : ScanSettings → ℕ
+rings_in s = rings_by s.method s.backends
 
 -- the settings are in their ranges
 pub record AreSettings (s : ScanSettings) : Type 0 where
@@ -64,10 +85,17 @@ pub record AreStreamsOf (s : ScanSettings) (r : Settings) : Type 0 where
   pub segment : r.segment ≡ s.segment
   pub zero : r.zero ≡ s.zero
 
--- whether there are workers by a method
-abbrev pub has_workers : MethodKind → Bool
-has_workers method.Sync = false
-has_workers method.Worker = true
+-- whether backends have seats of the queue by a method
+abbrev pub has_seats : MethodKind → Bool
+has_seats method.Sync = false
+has_seats method.Worker = true
+has_seats method.Ring = true
+
+-- whether they have rings
+abbrev pub has_rings : MethodKind → Bool
+has_rings method.Sync = false
+has_rings method.Worker = false
+has_rings method.Ring = true
 
 -- how the streams of a desk read
 abbrev pub reads_by : {W : Type 0} → Desk W (Unit {0}) → Settings
@@ -87,10 +115,11 @@ pub record IsDeskFor {W : Type 0} (s : ScanSettings) (d : Desk W (Unit {0})) : T
   pub free : IsFree d
   pub streams : AreStreamsOf s (reads_by d)
 
--- its streams read as the settings say, and it has a seat where there are workers
+-- its streams read as the settings say, and it has a seat and a ring where the method wants them
 pub record IsSetUp {W D : Type 0} (s : ScanSettings) (b : Backend W D) : Type 0 where
   pub streams : AreStreamsOf s (reads_by b.desk)
-  pub seat : is_some b.seat ≡ has_workers s.method
+  pub seat : is_some b.seat ≡ has_seats s.method
+  pub ring : is_some b.ring ≡ has_rings s.method
 
 module _ {W D : Type 0} where
   -- empty lists, with room for this many
@@ -105,8 +134,10 @@ module _ {W D : Type 0} where
     pub config : m.common.table.config ≡ config_of s start
     pub actors_are : length m.actors.items ≡ s.backends + workers_in s
     pub actors : AreNew m.common.table 0 m.actors.items
-    pub seats_are : length m.seats.items ≡ workers_by s.method (s.backends + s.workers)
+    pub seats_are : length m.seats.items ≡ seats_in s
     pub seats : All (IsSeatOf m.common.queue) m.seats.items
+    pub rings_are : length m.rings.items ≡ rings_in s
+    pub rings : All (IsRingOf m.common.queue) m.rings.items
     pub desks_are : length m.desks.items ≡ s.backends
     pub desks : All (IsDeskFor s) m.desks.items
     pub jobs_are : length m.jobs.items ≡ s.backends
@@ -120,16 +151,22 @@ module _ {W D : Type 0} where
         ≡ map disk_of hs ++ map Some (into_iter_items left.disks)
 
   -- the first parts are those of the backends, which have no job, and these are left
-  pub record GivesBackends (p left : Parts W D) (bs : List (Backend W D)) : Type 0 where
+  pub record GivesBackends (tuples : Bool) (p left : Parts W D) (bs : List (Backend W D))
+      : Type 0 where
     pub hands : GivesHands p left (map hand_of bs)
     pub desks : into_iter_items p.desks
         ≡ map (λ (b : Backend W D). b.desk) bs ++ into_iter_items left.desks
     pub seats : into_iter_items p.seats
         ≡ flat_map (λ (b : Backend W D). option_to_list b.seat) bs ++ into_iter_items left.seats
+    pub rings : into_iter_items p.rings
+        ≡ flat_map (λ (b : Backend W D). option_to_list b.ring) bs ++ into_iter_items left.rings
     pub idle : AreIdle bs
-    -- each has a seat, if any is left
-    pub seated : 0 < length (into_iter_items left.seats)
-        → All (λ (b : Backend W D). is_some b.seat ≡ true) bs
+    pub all_tuples : All (λ (b : Backend W D). b.tuples ≡ tuples) bs
+    -- each takes a seat and a ring, as long as there are some
+    pub seats_left : length (into_iter_items left.seats)
+        ≡ length (into_iter_items p.seats) - length bs
+    pub rings_left : length (into_iter_items left.rings)
+        ≡ length (into_iter_items p.rings) - length bs
 
   -- the first parts are those of the workers, and these are left
   pub record GivesWorkers (p left : Parts W D) (ws : List (Worker W D)) : Type 0 where
@@ -149,4 +186,4 @@ pub record IsOpened {W D : Type 0} (m : Meter D) (told : Option Told) (relations
   -- up to the last generation
   pub room : s.room ≡ 2 ^ 58 - 1 - start
   pub unread : s.unread ≡ 0
-  pub zero : s.zero ≡ settings.zero
+  pub manner_is : manner_in s ≡ manner settings.zero settings.tuples

@@ -1,13 +1,14 @@
 -- What a round does to all backends, to all workers and to the jobs.
-use Rattle.std.specs.Prelude.{◌≡◌, ℕ, ◌<◌, ◌≤◌, Bool, List, length, slice_index_or, sum_by, Option}
+use Rattle.std.specs.Prelude.{◌≡◌, ℕ, ◌<◌, ◌≤◌, List, length, slice_index_or, sum_by, Option}
 use Rattle.std.specs.List.{All}
 use Rattle.page_check.specs.Told.{Told}
 use Rattle.aio_handle.specs.Shown.{Named}
 use Rattle.method_worker.specs.Shown.{Queue}
 use Rattle.read_stream.specs.Answering.{MayBeUnread}
 use Rattle.aio_word.specs.Tokens.{failed_results}
-use Rattle.scan_rounds.specs.Hands.{Meter, Ran, Worked, HasRoom, GoesOn}
+use Rattle.scan_rounds.specs.Hands.{Meter, Ran, Worked, HasRoom, GoesOn, manner_of}
 use Rattle.read_stream.specs.Went.{local_marks}
+use Rattle.scan_rounds.specs.Manners.{Manner}
 use Rattle.scan_rounds.specs.Jobs.{IsListed}
 use Rattle.scan_rounds.specs.declared.hand.Hand.{Hand}
 use Rattle.scan_rounds.specs.declared.backend.Backend.{Backend}
@@ -44,16 +45,16 @@ module _ {W D : Type 0} where
     pub have : HaveRoom room bs
     pub greatest : (n : ℕ) → HaveRoom n bs → n ≤ room
 
-  -- the streams of each backend give damaged pages as zeros, or none does
-  abbrev pub AreZeroing : Bool → List (Backend W D) → Type 0
-  AreZeroing zero bs = All (λ (b : Backend W D). b.desk.zero ≡ zero) bs
+  -- each backend lists in this manner
+  abbrev pub AllListIn : Manner → List (Backend W D) → Type 0
+  AllListIn m bs = All (λ (b : Backend W D). manner_of b ≡ m) bs
 
   -- each job was listed, by the backend at its place
-  pub record AreListed (zero : Bool) (told : Option Told) (bs cs : List (Backend W D))
+  pub record AreListed (m : Manner) (told : Option Told) (bs cs : List (Backend W D))
       (js ks : List Job) : Type 0 where
     pub jobs_are : length ks ≡ length js
     pub each : (i : ℕ) (d : Backend W D) (j : Job) → i < length js
-        → IsListed zero told (MayBeUnread (slice_index_or bs i d).hand.actor
+        → IsListed m told (MayBeUnread (slice_index_or bs i d).hand.actor
         (slice_index_or cs i d).hand.actor.known) (slice_index_or js i j) (slice_index_or ks i j)
 
   -- how many results of failed I/Os the backends have taken

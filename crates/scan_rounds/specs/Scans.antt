@@ -11,8 +11,9 @@ use Rattle.aio_handle.specs.Closing.{AreTotals, Tally}
 use Rattle.aio_handle.specs.Executing.{Pays, last_count}
 use Rattle.aio_handle.specs.Shown.{Standing, known_in}
 use Rattle.method_worker.specs.Shown.{Queue}
+use Rattle.scan_rounds.specs.Manners.{Manner, manner}
 use Rattle.scan_rounds.specs.Hands.{Meter, IsBackend, IsWorker}
-use Rattle.scan_rounds.specs.Rounds.{AreIdle, AreZeroing, IsLeastRoom, results_of, hand_of, hand_in}
+use Rattle.scan_rounds.specs.Rounds.{AreIdle, AllListIn, IsLeastRoom, results_of, hand_of, hand_in}
 use Rattle.scan_rounds.specs.declared.backend.Backend.{Backend}
 use Rattle.scan_rounds.specs.declared.hand.Hand.{Hand}
 use Rattle.scan_rounds.specs.declared.scan.Scan.{Scan}
@@ -21,6 +22,10 @@ module _ {W D : Type 0} where
   -- all actors, the backends first, with their disks
   abbrev pub hands_of : Scan W D → List (Hand W D)
   hands_of s = map hand_of s.backends.items ++ map hand_in s.workers.items
+
+  -- the manner in which its backends list
+  abbrev pub manner_in : Scan W D → Manner
+  manner_in s = manner s.zero s.tuples
 
   -- the disks, as they were when the scan was opened
   abbrev pub opened_by : Scan W D → List D
@@ -65,7 +70,7 @@ module _ {W D : Type 0} (m : Meter D) (told : Option Told) (relations : ℕ) whe
         s.workers.items
     pub paid : HavePaid (opened_by s) (hands_of s)
     pub idle : AreIdle s.backends.items
-    pub zeroing : AreZeroing s.zero s.backends.items
+    pub all_list_in : AllListIn (manner_in s) s.backends.items
     pub room : IsLeastRoom s.backends.items s.room
     -- each job that ended in Unread has left the result of a failed I/O
     pub few_unread : s.unread ≤ results_of s.backends.items
@@ -110,7 +115,7 @@ pub record IsSameScan {W D : Type 0} (s s' : Scan W D) : Type 0 where
   pub config : s'.common.table.config ≡ s.common.table.config
   pub as_many : length s'.backends.items ≡ length s.backends.items
   pub opened : opened_by s' ≡ opened_by s
-  pub zero : s'.zero ≡ s.zero
+  pub manner_kept : manner_in s' ≡ manner_in s
 
 -- where each backend has a seat, the queue was opened again, under the next number
 abbrev pub IsOpenedAgain : {W D : Type 0} → List (Backend W D) → Queue → Queue → Type 0

@@ -2,7 +2,7 @@
 use Rattle.std.specs.Prelude.{◌≡◌, ℕ, List, ◌++◌, Option, Some, None, ⊤}
 use Rattle.heap_scan.specs.Warnings.{warning_for}
 use Rattle.page_check.specs.IsAnswer.{Next as Said, Page, Stop}
-use Rattle.heap_scan.specs.PageText.{page_text_of}
+use Rattle.heap_scan.specs.Listing.{TextOf, text_for}
 use Rattle.heap_scan.specs.Sums.{tallied}
 use Rattle.heap_scan.specs.declared.sums.PageSums.{PageSums}
 use Rattle.scan_rounds.specs.Jobs.{ending_for}
@@ -25,11 +25,10 @@ shown text warnings sums = record { text = text; warnings = warnings; sums = sum
 
 -- a page's text and its warning, if it was zeroed, behind those before it, and the page in the
 -- sums, unless there is no memory; or the ending, with all as it was
-abbrev pub Shows : Said (Unit {0}) → Shown → Shown → Option Ending → Type 0
-Shows (Page given) before after None =
-    (after.text ≡ before.text
-    ++ page_text_of given.entry.relation given.entry.block given.page)
+abbrev pub Shows : TextOf → Said (Unit {0}) → Shown → Shown → Option Ending → Type 0
+Shows text_of (Page given) before after None =
+    (after.text ≡ before.text ++ text_for text_of given)
     × (after.warnings ≡ before.warnings ++ warning_for given)
     × (after.sums ≡ tallied before.sums given.page)
-Shows (Page given) before after (Some e) = (e ≡ ending.NoMemory) × (after ≡ before)
-Shows (Stop end) before after result = (result ≡ Some (ending_for end)) × (after ≡ before)
+Shows text_of (Page given) before after (Some e) = (e ≡ ending.NoMemory) × (after ≡ before)
+Shows text_of (Stop end) before after result = (result ≡ Some (ending_for end)) × (after ≡ before)

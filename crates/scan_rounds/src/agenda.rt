@@ -1,6 +1,7 @@
 //! What a run of several rounds lists, and what becomes of it.
-ghost use Rattle.std.specs.Prelude.{◌≡◌, ◌≤◌, ◌<◌, ◌+◌, ℕ, Bool, List, length, take, false};
+ghost use Rattle.std.specs.Prelude.{◌≡◌, ◌≤◌, ◌<◌, ◌+◌, ℕ, List, length, take, false};
 ghost use Rattle.std.specs.List.{All};
+ghost use Rattle.scan_rounds.specs.Manners.{Manner};
 ghost use Rattle.scan_rounds.specs.Jobs.{IsFresh, AreAnswered, blocks_among, unread_among};
 ghost use Rattle.scan_rounds.specs.declared.job.Job.{Job};
 
@@ -21,8 +22,8 @@ pub trait Agenda<W: World>: Drop {
     /// Some rounds have led from the first state to the second.
     ghost follows: { Self → Self → Type 0 };
 
-    /// Whether it takes damaged pages as zeros.
-    ghost zero: { Self → Bool };
+    /// In which manner it takes blocks to be listed.
+    ghost manner: { Self → Manner };
 
     /// It wants no further round.
     ghost is_over: { Self → Type 0 };
@@ -34,7 +35,7 @@ pub trait Agenda<W: World>: Drop {
         ensures fresh { All (IsFresh W.relations) (take result jobs.new) }
         ensures left { left self.new + blocks_among (take result jobs.new) ≤ left self.old }
         ensures unread { unread self.new ≡ unread self.old }
-        ensures zero { zero self.new ≡ zero self.old }
+        ensures manner { manner self.new ≡ manner self.old }
         ensures puts { puts self.old (take result jobs.new) self.new }
         ensures none { result ≡ 0 → follows self.old self.new × is_over self.new };
 
@@ -42,9 +43,9 @@ pub trait Agenda<W: World>: Drop {
     /// be another round.
     fn end(&mut self, jobs: &[Job]) -> bool
         ensures follows { (was : Self) (asked : List Job) → puts was asked self.old
-            → AreAnswered (zero self.old) W.told asked jobs.now → follows was self.new }
+            → AreAnswered (manner self.old) W.told asked jobs.now → follows was self.new }
         ensures left { left self.new ≤ left self.old }
-        ensures zero { zero self.new ≡ zero self.old }
+        ensures manner { manner self.new ≡ manner self.old }
         ensures unread { unread self.new ≤ unread self.old + unread_among jobs.now }
         ensures over { result ≡ false → is_over self.new };
 

@@ -6,6 +6,7 @@ ghost use Rattle.scan_rounds.specs.Hands.{IsReady, Ran, meter};
 use crate::common::Common;
 use crate::hand::Hand;
 use crate::job::Job;
+use crate::ring::RingDesk;
 use aio_disk::Disk;
 use method_sync::SyncMethod;
 use method_worker::{QueueSeat, WorkerMethod};
@@ -13,14 +14,18 @@ use page_check::World;
 use read_stream::Desk;
 use std::sync::Wait;
 
-/// A backend. One that has no seat of the queue executes its I/Os itself.
+/// A backend. One that has no seat of the queue executes its I/Os at once.
 #[derive(Drop)]
 pub(crate) struct Backend<W: World, D: Disk> {
     pub(crate) hand: Hand<W, D>,
     pub(crate) desk: Desk<W, ()>,
     pub(crate) seat: Option<QueueSeat>,
+    /// None where it executes I/Os one by one, and while a runner has it.
+    pub(crate) ring: Option<RingDesk<W>>,
     /// It asks for no blocks where the backend has nothing to do.
     pub(crate) job: Job,
+    /// Whether the headers of tuples are listed too.
+    pub(crate) tuples: bool,
 }
 
 impl<W: World, D: Disk> Backend<W, D> {
@@ -38,7 +43,9 @@ impl<W: World, D: Disk> Backend<W, D> {
             hand,
             desk,
             seat,
+            ring,
             job,
+            tuples,
         } = self;
         match seat.take() {
             Some(own) => {
@@ -46,10 +53,10 @@ impl<W: World, D: Disk> Backend<W, D> {
                     queue: &common.queue,
                     seat: own,
                 };
-                hand.list(rt, &common.table, &common.pool, desk, &mut method, job);
+                hand.list(rt, common, desk, ring, &mut method, job, *tuples);
                 *seat = Some(method.seat);
             }
-            None => hand.list(rt, &common.table, &common.pool, desk, &mut SyncMethod, job),
+            None => hand.list(rt, common, desk, ring, &mut SyncMethod, job, *tuples),
         }
     }
 
@@ -58,7 +65,8 @@ impl<W: World, D: Disk> Backend<W, D> {
         requires seat { IfSome self.old.seat (IsSeatOf common.now.queue) }
         ensures seat { IfSome self.new.seat (IsSeatOf common.now.queue) }
         ensures rest { (self.new.hand ≡ self.old.hand) × (self.new.desk ≡ self.old.desk)
-            × (self.new.job ≡ self.old.job) }
+            × (self.new.job ≡ self.old.job) × (self.new.tuples ≡ self.old.tuples)
+            × (self.new.ring ≡ self.old.ring) }
     {
         if let Some(seat) = &mut self.seat {
             common.queue.close(rt, seat);

@@ -1,9 +1,9 @@
 //! The rounds of an agenda, one after the other.
-ghost use Rattle.std.specs.Prelude.{◌≡◌, ◌≤◌, ◌<◌, ◌+◌, ◌*◌, ◌-◌, ℕ, Bool, length, map, false};
-ghost use Rattle.std.specs.Prelude.{true};
+ghost use Rattle.std.specs.Prelude.{◌≡◌, ◌≤◌, ◌<◌, ◌+◌, ◌*◌, ◌-◌, ℕ, length, map, false, true};
 ghost use Rattle.scan_rounds.specs.Hands.{meter};
+ghost use Rattle.scan_rounds.specs.Manners.{Manner};
 ghost use Rattle.scan_rounds.specs.Progress.{AreWaiting, HasGone};
-ghost use Rattle.scan_rounds.specs.Rounds.{AreZeroing, hand_of};
+ghost use Rattle.scan_rounds.specs.Rounds.{AllListIn, hand_of};
 
 use crate::agenda::Agenda;
 use crate::backend::Backend;
@@ -28,13 +28,13 @@ fn next_round<W: World + Send + Sync, D: Disk, R: Threads + Wait + Sync, A: Agen
         common.now.table common.now.queue backends.old counts.old }
     requires jobs { length jobs.old ≡ length backends.old }
     requires room { 64 * A.left agenda.old ≤ counts.old.room }
-    requires zeroing { AreZeroing (A.zero agenda.old) backends.old }
+    requires manner { AllListIn (A.manner agenda.old) backends.old }
     ensures waiting { AreWaiting (meter D.told D.relations D.reads D.faults) W.told W.relations
         common.now.table common.now.queue backends.new counts.new }
     ensures jobs { length jobs.new ≡ length jobs.old }
     ensures fewer { A.left agenda.new ≤ A.left agenda.old }
-    ensures zeroing { AreZeroing (A.zero agenda.old) backends.new
-        × (A.zero agenda.new ≡ A.zero agenda.old) }
+    ensures manner { AllListIn (A.manner agenda.old) backends.new
+        × (A.manner agenda.new ≡ A.manner agenda.old) }
     ensures gone { HasGone (meter D.told D.relations D.reads D.faults) W.told W.relations
         common.now.table backends.old backends.new counts.old counts.new
         (A.left agenda.old - A.left agenda.new) (A.unread agenda.new - A.unread agenda.old) }
@@ -64,13 +64,13 @@ fn all_rounds<W: World + Send + Sync, D: Disk, R: Threads + Wait + Sync, A: Agen
         common.now.table common.now.queue backends.old counts.old }
     requires jobs { length jobs.old ≡ length backends.old }
     requires room { 64 * A.left agenda.old ≤ counts.old.room }
-    requires zeroing { AreZeroing (A.zero agenda.old) backends.old }
+    requires manner { AllListIn (A.manner agenda.old) backends.old }
     ensures waiting { AreWaiting (meter D.told D.relations D.reads D.faults) W.told W.relations
         common.now.table common.now.queue backends.new counts.new }
     ensures jobs { length jobs.new ≡ length jobs.old }
     ensures fewer { A.left agenda.new ≤ A.left agenda.old }
-    ensures zeroing { AreZeroing (A.zero agenda.old) backends.new
-        × (A.zero agenda.new ≡ A.zero agenda.old) }
+    ensures manner { AllListIn (A.manner agenda.old) backends.new
+        × (A.manner agenda.new ≡ A.manner agenda.old) }
     ensures gone { HasGone (meter D.told D.relations D.reads D.faults) W.told W.relations
         common.now.table backends.old backends.new counts.old counts.new
         (A.left agenda.old - A.left agenda.new) (A.unread agenda.new - A.unread agenda.old) }
@@ -96,7 +96,7 @@ fn close_queue<W: World, D: Disk, R: Wait>(
     ensures waiting { AreWaiting (meter D.told D.relations D.reads D.faults) W.told W.relations
         common.now.table common.now.queue backends.new counts }
     ensures hands { map hand_of backends.new ≡ map hand_of backends.old }
-    ensures zeroing { (zero : Bool) → AreZeroing zero backends.old → AreZeroing zero backends.new }
+    ensures manner { (m : Manner) → AllListIn m backends.old → AllListIn m backends.new }
 {
     backends[0].close(rt, common);
 }
@@ -114,14 +114,14 @@ fn run_and_close<W: World + Send + Sync, D: Disk, R: Threads + Wait + Sync, A: A
         common.now.table common.now.queue backends.old counts.old }
     requires jobs { length jobs.old ≡ length backends.old }
     requires room { 64 * A.left agenda.old ≤ counts.old.room }
-    requires zeroing { AreZeroing (A.zero agenda.old) backends.old }
+    requires manner { AllListIn (A.manner agenda.old) backends.old }
     ensures waiting { AreWaiting (meter D.told D.relations D.reads D.faults) W.told W.relations
         common.now.table common.now.queue backends.new counts.new }
     ensures many { (length backends.new ≡ length backends.old)
         × (length jobs.new ≡ length jobs.old) }
     ensures fewer { A.left agenda.new ≤ A.left agenda.old }
-    ensures zeroing { AreZeroing (A.zero agenda.old) backends.new
-        × (A.zero agenda.new ≡ A.zero agenda.old) }
+    ensures manner { AllListIn (A.manner agenda.old) backends.new
+        × (A.manner agenda.new ≡ A.manner agenda.old) }
     ensures gone { HasGone (meter D.told D.relations D.reads D.faults) W.told W.relations
         common.now.table backends.old backends.new counts.old counts.new
         (A.left agenda.old - A.left agenda.new) (A.unread agenda.new - A.unread agenda.old) }
@@ -151,14 +151,14 @@ pub(crate) fn run_course<W: World + Send + Sync, D: Disk, R: Threads + Wait + Sy
         common.now.table common.now.queue course.backends.items course.counts }
     requires jobs { length course.jobs.items ≡ length course.backends.items }
     requires room { 64 * A.left course.agenda ≤ course.counts.room }
-    requires zeroing { AreZeroing (A.zero course.agenda) course.backends.items }
+    requires manner { AllListIn (A.manner course.agenda) course.backends.items }
     ensures waiting { AreWaiting (meter D.told D.relations D.reads D.faults) W.told W.relations
         common.now.table common.now.queue result.backends.items result.counts }
     ensures many { (length result.backends.items ≡ length course.backends.items)
         × (length result.jobs.items ≡ length course.jobs.items) }
     ensures fewer { A.left result.agenda ≤ A.left course.agenda }
-    ensures zeroing { AreZeroing (A.zero course.agenda) result.backends.items
-        × (A.zero result.agenda ≡ A.zero course.agenda) }
+    ensures manner { AllListIn (A.manner course.agenda) result.backends.items
+        × (A.manner result.agenda ≡ A.manner course.agenda) }
     ensures gone { HasGone (meter D.told D.relations D.reads D.faults) W.told W.relations
         common.now.table course.backends.items result.backends.items course.counts
         result.counts (A.left course.agenda - A.left result.agenda)

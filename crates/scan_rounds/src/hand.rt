@@ -1,24 +1,25 @@
 //! An actor with its disk.
-ghost use Rattle.std.specs.Prelude.{◌≡◌, ◌<◌, ◌≤◌, ◌+◌, ℕ};
-ghost use Rattle.aio_word.specs.Events.{lives};
+ghost use Rattle.std.specs.Prelude.{◌≡◌, IfSome, Some};
 ghost use Rattle.method_worker.specs.Shown.{IsSeatOf};
-ghost use Rattle.read_stream.specs.Answering.{MayBeUnread};
-ghost use Rattle.read_stream.specs.Open.{IsFree};
-ghost use Rattle.read_stream.specs.Went.{local_marks};
-ghost use Rattle.scan_rounds.specs.Hands.{GoesOn, HasRoom, IsHand, meter};
-ghost use Rattle.scan_rounds.specs.Jobs.{IsFresh, IsListed};
+ghost use Rattle.scan_rounds.specs.Hands.{GoesOn, HasListed, IsHand, MayList, meter};
+ghost use Rattle.scan_rounds.specs.Rings.{IsRingOf};
 
+use crate::common::Common;
 use crate::job::Job;
+use crate::lent::{LentRunner, Line};
 use crate::list::list;
+use crate::ring::RingDesk;
 use aio_batch::Method;
 use aio_callback::ReadIo;
 use aio_disk::Disk;
 use aio_handle::{Actor, Table};
 use buf_pool::Pool;
+use method_ring::RingRunner;
 use method_sync::Runner;
 use method_worker::{QueueSeat, SubmitQueue, work};
 use page_check::World;
 use read_stream::Desk;
+use std::marker::{Brand, PhantomData};
 use std::sync::Wait;
 
 /// An actor with its disk.
@@ -30,50 +31,117 @@ pub(crate) struct Hand<W: World, D: Disk> {
 }
 
 impl<W: World, D: Disk> Hand<W, D> {
-    /// Lists the blocks of a job.
-    pub(crate) fn list<M: Method<ReadIo, W>, T: Wait>(
+    // Lists the blocks of a job, and executes each I/O by itself.
+    fn list_one_by_one<M: Method<ReadIo, W>, T: Wait>(
         &mut self,
         rt: &T,
-        table: &Table<ReadIo, W>,
-        pool: &Pool<W>,
+        common: &Common<W>,
         desk: &mut Desk<W, ()>,
         method: &mut M,
         job: &mut Job,
+        tuples: bool,
     )
-        requires hand { IsHand (meter D.told D.relations D.reads D.faults) W.told W.relations
-            table.now self.old }
-        requires backend { self.old.actor.known.number < self.old.actor.known.config.backends }
-        requires room { HasRoom 64 self.old.actor }
-        requires desk { IsFree desk.old }
-        requires job { IsFresh W.relations job.old }
-        ensures hand { IsHand (meter D.told D.relations D.reads D.faults) W.told W.relations
-            table.now self.new }
-        ensures goes { GoesOn (meter D.told D.relations D.reads D.faults) W.told W.relations
-            table.now self.old self.new }
+        requires may { MayList (meter D.told D.relations D.reads D.faults) W.told W.relations
+            common.now.table self.old desk.old job.old }
+        ensures listed { HasListed (meter D.told D.relations D.reads D.faults) W.told W.relations
+            common.now.table tuples self.old self.new desk.old desk.new job.old job.new }
         ensures stands_on { M.stands_on method.new ≡ M.stands_on method.old }
-        ensures lived { (h : ℕ) → lives h self.new.actor.known.marks
-            ≤ lives h self.old.actor.known.marks + 64 }
-        ensures taken { local_marks self.new.actor.known.marks
-            ≤ local_marks self.old.actor.known.marks + job.old.count }
-        ensures desk { IsFree desk.new × (desk.new.zero ≡ desk.old.zero) }
-        ensures job { IsListed desk.old.zero W.told
-            (MayBeUnread self.old.actor self.new.actor.known) job.old job.new }
     {
         let Some(disk) = self.disk.take() else {
             unreachable!()
         };
-        let mut runner = Runner { disk, places: pool };
+        let mut runner = Runner {
+            disk,
+            places: &common.pool,
+        };
         list(
             rt,
-            table,
-            pool,
+            &common.table,
+            &common.pool,
             &mut self.actor,
             desk,
             method,
             &mut runner,
             job,
+            tuples,
         );
         self.disk = Some(runner.disk);
+    }
+
+    // Lists the blocks of a job, and executes I/Os by a ring over the disk.
+    fn list_by_ring<L: Line, M: Method<ReadIo, W>, T: Wait>(
+        &mut self,
+        rt: &T,
+        common: &Common<W>,
+        desk: &mut Desk<W, ()>,
+        ring: RingDesk<W>,
+        method: &mut M,
+        job: &mut Job,
+        tuples: bool,
+    ) -> RingDesk<W>
+        requires may { MayList (meter D.told D.relations D.reads D.faults) W.told W.relations
+            common.now.table self.old desk.old job.old }
+        requires ring { IsRingOf common.now.queue ring }
+        requires line { L.queue ≡ Some common.now.queue }
+        ensures listed { HasListed (meter D.told D.relations D.reads D.faults) W.told W.relations
+            common.now.table tuples self.old self.new desk.old desk.new job.old job.new }
+        ensures ring { IsRingOf common.now.queue result }
+        ensures stands_on { M.stands_on method.new ≡ M.stands_on method.old }
+    {
+        let Some(disk) = self.disk.take() else {
+            unreachable!()
+        };
+        let RingDesk { idle, room, seat } = ring;
+        let ring = idle.over(disk);
+        let mut lent: LentRunner<'_, L, W, D> = LentRunner {
+            runner: RingRunner::new(ring, &common.pool, &common.queue, seat, room),
+            line: PhantomData,
+        };
+        list(
+            rt,
+            &common.table,
+            &common.pool,
+            &mut self.actor,
+            desk,
+            method,
+            &mut lent,
+            job,
+            tuples,
+        );
+        let (ring, seat, room) = lent.runner.into_parts();
+        let (disk, idle) = ring.into_parts();
+        self.disk = Some(disk);
+        RingDesk { idle, room, seat }
+    }
+
+    /// Lists the blocks of a job, by the ring where there is one.
+    pub(crate) fn list<M: Method<ReadIo, W>, T: Wait>(
+        &mut self,
+        rt: &T,
+        common: &Common<W>,
+        desk: &mut Desk<W, ()>,
+        ring: &mut Option<RingDesk<W>>,
+        method: &mut M,
+        job: &mut Job,
+        tuples: bool,
+    )
+        requires may { MayList (meter D.told D.relations D.reads D.faults) W.told W.relations
+            common.now.table self.old desk.old job.old }
+        requires ring { IfSome ring.old (IsRingOf common.now.queue) }
+        ensures listed { HasListed (meter D.told D.relations D.reads D.faults) W.told W.relations
+            common.now.table tuples self.old self.new desk.old desk.new job.old job.new }
+        ensures ring { IfSome ring.new (IsRingOf common.now.queue) }
+        ensures stands_on { M.stands_on method.new ≡ M.stands_on method.old }
+    {
+        match ring.take() {
+            Some(own) => {
+                let own = self.list_by_ring::<Brand, M, T>(
+                    rt, common, desk, own, method, job, tuples,
+                );
+                *ring = Some(own);
+            }
+            None => self.list_one_by_one(rt, common, desk, method, job, tuples),
+        }
     }
 
     /// Executes what the queue hands out, until it is closed and empty.

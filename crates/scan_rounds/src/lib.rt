@@ -3,20 +3,25 @@
 //!
 //! A [`Scan`] is opened over a disk for each backend and each worker. Its [`Scan::round`] takes up
 //! to one [`Job`] for each backend: each reads its blocks through a read stream, appends the text
-//! of their pages and counts them. With `MethodKind::Sync` each backend executes its own I/Os; with
-//! `MethodKind::Worker` the workers do, and a backend executes what no worker has claimed when it
-//! would wait for it. [`Scan::run`] makes all rounds of an [`Agenda`], with workers that live from
-//! the first to the last. [`Scan::finish`] closes the table, and gives the disks back.
+//! of their pages, with their tuples where the settings say so, and counts them. With
+//! `MethodKind::Sync` each backend executes its own I/Os; with `MethodKind::Worker` the workers do,
+//! and a backend executes what no worker has claimed when it would wait for it. [`Scan::run`] makes
+//! all rounds of an [`Agenda`], with workers that live from the first to the last. [`Scan::finish`]
+//! closes the table, and gives the disks back.
+//!
+//! With `MethodKind::Ring` it is a [`RingScan`], with the same calls and no workers: a backend that
+//! would wait executes its own I/O by a ring, together with what it takes from the queue.
 //!
 //! # What the contracts mean
 //!
 //! In whatever way backends and workers interleave, after a round each job's text, sums and ending
-//! are those of answers to its blocks (`IsJobAnswer` of heap_scan): where the contents are told,
-//! those of the pages that one thread's synchronous reads give, up to the first page that is
-//! invalid, missing or unread. A job ends in Unread only where a read of its backend's own stream
-//! has failed, whose mark stands in that actor's list; want of memory leaves the text and the sums
-//! of the first pages. At the end each I/O was one read of the disk of the actor that executed it,
-//! each failed one a fault of it, and no more jobs ended in Unread than the disks counted faults.
+//! are those of answers to its blocks (`IsJobAnswer` of heap_scan), by the text of a page that the
+//! settings choose (`text_with` of heap_tuple): where the contents are told, those of the pages
+//! that one thread's synchronous reads give, up to the first page that is invalid, missing or
+//! unread. A job ends in Unread only where a read of its backend's own stream has failed, whose
+//! mark stands in that actor's list; want of memory leaves the text and the sums of the first
+//! pages. At the end each I/O was one read of the disk of the actor that executed it, each failed
+//! one a fault of it, and no more jobs ended in Unread than the disks counted faults.
 #![tactic(auto)]
 
 mod agenda;
@@ -28,9 +33,18 @@ mod finish;
 mod gate;
 mod hand;
 mod job;
+mod lent;
 mod list;
+#[cfg(test)]
+mod manners;
 mod memory;
 mod open;
+mod ring;
+mod ring_scan;
+#[cfg(test)]
+mod ring_stream;
+#[cfg(test)]
+mod ring_tests;
 mod round;
 mod rounds;
 mod run;
@@ -44,5 +58,6 @@ mod worker;
 
 pub use agenda::Agenda;
 pub use job::{Ending, Job};
+pub use ring_scan::RingScan;
 pub use scan::Scan;
 pub use settings::{MethodKind, ScanSettings};

@@ -8,13 +8,14 @@ ghost use Rattle.aio_handle.specs.Closing.{IsAtRest};
 ghost use Rattle.aio_handle.specs.Free.{IsRoom};
 ghost use Rattle.aio_handle.specs.Shown.{IsOf, IsSame};
 ghost use Rattle.heap_scan.specs.Job.{IsJobAnswer};
-ghost use Rattle.heap_scan.specs.PageText.{page_text_of};
 ghost use Rattle.heap_scan.specs.Sums.{FitSums, no_sums, tallied};
 ghost use Rattle.heap_scan.specs.Warnings.{warning_line};
+ghost use Rattle.heap_tuple.specs.Listing.{text_with};
 ghost use Rattle.read_stream.specs.Answering.{MayBeUnread, entries_of, said};
 ghost use Rattle.read_stream.specs.Open.{IsFree, IsOpen};
 ghost use Rattle.read_stream.specs.Went.{Went, local_marks};
 ghost use Rattle.scan_rounds.specs.Jobs.{IsFresh, IsListed, said_end};
+ghost use Rattle.scan_rounds.specs.Manners.{manner};
 ghost use Rattle.scan_rounds.specs.Showing.{IfPage, Shows, shown};
 
 use crate::job::{Ending, Job};
@@ -24,13 +25,35 @@ use aio_handle::{Actor, Execute, Table};
 use block_source::Range;
 use buf_pool::Pool;
 use heap_scan::{PageSums, page_text, tally, warning_text};
+use heap_tuple::tuples_text;
 use page_check::{Page, World};
 use read_stream::{Desk, Next, ReadStream};
 use std::alloc::AllocError;
 use std::sync::Wait;
 
+// Appends the text of a page, with its tuples or without.
+fn put_text(
+    tuples: bool,
+    relation: u32,
+    block: u32,
+    page: &Page,
+    text: &mut Vec<u8>,
+) -> Result<(), AllocError>
+    requires valid { IsValid page.now }
+    ensures ok { OnOk result
+        (text.new.items ≡ text.old.items ++ text_with tuples relation block page.now) }
+    ensures err { OnErr result (text.new.items ≡ text.old.items) }
+{
+    if tuples {
+        tuples_text(relation, block, page, text)
+    } else {
+        page_text(relation, block, page, text)
+    }
+}
+
 // Appends a page that was given, and counts it.
 fn show_page(
+    tuples: bool,
     relation: u32,
     block: u32,
     page: &Page,
@@ -40,17 +63,18 @@ fn show_page(
     requires valid { IsValid page.now }
     requires fit { FitSums (tallied sums.old page.now) }
     ensures ok { OnOk result
-        ((text.new.items ≡ text.old.items ++ page_text_of relation block page.now)
+        ((text.new.items ≡ text.old.items ++ text_with tuples relation block page.now)
         × (sums.new ≡ tallied sums.old page.now)) }
     ensures err { OnErr result ((text.new.items ≡ text.old.items) × (sums.new ≡ sums.old)) }
 {
-    page_text(relation, block, page, text)?;
+    put_text(tuples, relation, block, page, text)?;
     tally(page, sums);
     Ok(())
 }
 
 // Appends a page that was given as zeros, and its warning, and counts it.
 fn show_zeroed(
+    tuples: bool,
     relation: u32,
     block: u32,
     page: &Page,
@@ -61,7 +85,7 @@ fn show_zeroed(
     requires valid { IsValid page.now }
     requires fit { FitSums (tallied sums.old page.now) }
     ensures ok { OnOk result
-        ((text.new.items ≡ text.old.items ++ page_text_of relation block page.now)
+        ((text.new.items ≡ text.old.items ++ text_with tuples relation block page.now)
         × (warnings.new.items ≡ warnings.old.items ++ warning_line relation block)
         × (sums.new ≡ tallied sums.old page.now)) }
     ensures err { OnErr result ((text.new.items ≡ text.old.items)
@@ -69,7 +93,7 @@ fn show_zeroed(
 {
     let before = warnings.len();
     warning_text(relation, block, warnings)?;
-    match show_page(relation, block, page, text, sums) {
+    match show_page(tuples, relation, block, page, text, sums) {
         Ok(()) => Ok(()),
         Err(error) => {
             warnings.truncate(before);
@@ -92,6 +116,7 @@ fn ending_by(shown: Result<(), AllocError>) -> Option<Ending>
 // Appends the page that was answered, and its warning where it was zeroed, and counts it. Some
 // where the job has ended.
 fn show(
+    tuples: bool,
     relation: u32,
     answer: Next<'_, ()>,
     text: &mut Vec<u8>,
@@ -100,14 +125,17 @@ fn show(
 ) -> Option<Ending>
     requires valid { IfPage (said relation answer) IsValid }
     requires fit { IfPage (said relation answer) (λ page. FitSums (tallied sums.old page)) }
-    ensures { Shows (said relation answer.entry)
+    ensures { Shows (text_with tuples) (said relation answer.entry)
         (shown text.old.items warnings.old.items sums.old)
         (shown text.new.items warnings.new.items sums.new) result }
 {
     match answer {
-        Next::Page(page, block, _) => ending_by(show_page(relation, block, page, text, sums)),
+        Next::Page(page, block, _) => {
+            ending_by(show_page(tuples, relation, block, page, text, sums))
+        }
         Next::Zeroed(page, block, _) => {
-            ending_by(show_zeroed(relation, block, page, text, warnings, sums))
+            let shown = show_zeroed(tuples, relation, block, page, text, warnings, sums);
+            ending_by(shown)
         }
         Next::End => Some(Ending::Pages),
         Next::Invalid(block) => Some(Ending::Invalid(block)),
@@ -124,6 +152,7 @@ fn show_all<W: World, M: Method<ReadIo, W>, E: Execute<ReadIo, W>, T: Wait>(
     method: &mut M,
     runner: &mut E,
     stream: &mut ReadStream<'_, '_, W, Range, ()>,
+    tuples: bool,
     relation: u32,
     text: &mut Vec<u8>,
     warnings: &mut Vec<u8>,
@@ -144,7 +173,7 @@ fn show_all<W: World, M: Method<ReadIo, W>, E: Execute<ReadIo, W>, T: Wait>(
     ensures stands_on { M.stands_on method.new ≡ M.stands_on method.old }
     ensures went { Went actor.old.known actor.new.known (E.reads runner.old) (E.reads runner.new)
         (E.faults runner.old) (E.faults runner.new) }
-    ensures answer { IsJobAnswer (reader_of stream.old.scope.zero W.told)
+    ensures answer { IsJobAnswer (text_with tuples) (reader_of stream.old.scope.zero W.told)
         (MayBeUnread stream.old.scope.was.value actor.new.known)
         (entries_of relation stream.old.source_was.value) text.new.items warnings.new.items
         sums.new (said_end result) }
@@ -158,7 +187,7 @@ fn show_all<W: World, M: Method<ReadIo, W>, E: Execute<ReadIo, W>, T: Wait>(
 {
     loop {
         let answer = stream.next(rt, table, actor, method, runner);
-        if let Some(ending) = show(relation, answer, text, warnings, sums) {
+        if let Some(ending) = show(tuples, relation, answer, text, warnings, sums) {
             return ending;
         }
     }
@@ -181,6 +210,7 @@ pub(crate) fn list<W: World, M: Method<ReadIo, W>, E: Execute<ReadIo, W>, T: Wai
     method: &mut M,
     runner: &mut E,
     job: &mut Job,
+    tuples: bool,
 )
     requires table { IsOf table.now actor.old }
     requires backend { actor.old.known.number < actor.old.known.config.backends }
@@ -199,8 +229,8 @@ pub(crate) fn list<W: World, M: Method<ReadIo, W>, E: Execute<ReadIo, W>, T: Wai
     ensures taken { local_marks actor.new.known.marks
         ≤ local_marks actor.old.known.marks + job.old.count }
     ensures desk { IsFree desk.new × (desk.new.zero ≡ desk.old.zero) }
-    ensures job { IsListed desk.old.zero W.told (MayBeUnread actor.old actor.new.known) job.old
-        job.new }
+    ensures job { IsListed (manner desk.old.zero tuples) W.told
+        (MayBeUnread actor.old actor.new.known) job.old job.new }
 {
     let source = Range::new(job.first, job.count);
     let mut stream = ReadStream::open(desk, pool, actor, job.relation, source);
@@ -211,6 +241,7 @@ pub(crate) fn list<W: World, M: Method<ReadIo, W>, E: Execute<ReadIo, W>, T: Wai
         method,
         runner,
         &mut stream,
+        tuples,
         job.relation,
         &mut job.text,
         &mut job.warnings,

@@ -1,14 +1,16 @@
 //! All memory of a scan.
-ghost use Rattle.std.specs.Prelude.{◌≡◌, ◌≤◌, ◌<◌, ◌+◌, ◌*◌, ◌^◌, length, IfOk};
+ghost use Rattle.std.specs.Prelude.{◌≡◌, ◌≤◌, ◌<◌, ◌+◌, ◌*◌, ◌^◌, length, IfOk, OnOk};
 ghost use Rattle.std.specs.List.{All};
 ghost use Rattle.aio_handle.specs.Shown.{AreNew};
-ghost use Rattle.method_worker.specs.Shown.{IsSeatOf};
+ghost use Rattle.method_worker.specs.Shown.{Queue, IsSeatOf};
 ghost use Rattle.scan_rounds.specs.Opening.{AreSettings, AreStreamsOf, HasLists, IsDeskFor};
-ghost use Rattle.scan_rounds.specs.Opening.{IsMemory, config_of, workers_by, workers_in};
+ghost use Rattle.scan_rounds.specs.Opening.{IsMemory, config_of, rings_in, seats_in, workers_in};
+ghost use Rattle.scan_rounds.specs.Rings.{IsRingOf};
 
 use crate::backend::Backend;
 use crate::common::Common;
 use crate::job::Job;
+use crate::ring::RingDesk;
 use crate::settings::{MethodKind, ScanSettings};
 use crate::worker::Worker;
 use aio_callback::ReadIo;
@@ -36,8 +38,10 @@ pub(crate) struct Memory<W: World, D: Disk> {
     pub(crate) common: Common<W>,
     // Those of the backends, and then those of the workers.
     pub(crate) actors: Vec<Actor<ReadIo, W>>,
-    // None where there are no workers.
+    // None with `MethodKind::Sync`.
     pub(crate) seats: Vec<QueueSeat>,
+    // One for each backend with `MethodKind::Ring`.
+    pub(crate) rings: Vec<RingDesk<W>>,
     pub(crate) desks: Vec<Desk<W, ()>>,
     pub(crate) jobs: Vec<Job>,
     pub(crate) lists: Lists<W, D>,
@@ -61,13 +65,37 @@ fn stream_settings(settings: &ScanSettings) -> Settings
     }
 }
 
-// As many as there are with workers, and none without.
-pub(crate) fn by_method(method: MethodKind, count: u32) -> u32
-    ensures { result ≡ workers_by method count }
+// How many workers there are.
+pub(crate) fn worker_count(settings: &ScanSettings) -> u32
+    ensures { result ≡ workers_in settings.now }
 {
-    match method {
+    match settings.method {
         MethodKind::Sync => 0,
-        MethodKind::Worker => count,
+        MethodKind::Worker => settings.workers,
+        MethodKind::Ring => 0,
+    }
+}
+
+// How many seats of the queue backends and workers have.
+fn seat_count(settings: &ScanSettings) -> u32
+    requires { AreSettings settings.now }
+    ensures { result ≡ seats_in settings.now }
+{
+    match settings.method {
+        MethodKind::Sync => 0,
+        MethodKind::Worker => settings.backends + settings.workers,
+        MethodKind::Ring => settings.backends,
+    }
+}
+
+// How many rings there are. Each has a seat of its own.
+fn ring_count(settings: &ScanSettings) -> u32
+    ensures { result ≡ rings_in settings.now }
+{
+    match settings.method {
+        MethodKind::Sync => 0,
+        MethodKind::Worker => 0,
+        MethodKind::Ring => settings.backends,
     }
 }
 
@@ -102,6 +130,30 @@ fn open_desks<W: World>(
     Ok(desks)
 }
 
+// So many rings, which take their seats from the end of the list.
+fn open_rings<W: World>(
+    alloc: Global,
+    count: u32,
+    seats: &mut Vec<QueueSeat>,
+) -> Result<Vec<RingDesk<W>>, AllocError>
+    requires { count ≤ length seats.old.items }
+    ensures count { IfOk result (λ r. length r.items ≡ count) }
+    ensures left { OnOk result (length seats.new.items + count ≡ length seats.old.items) }
+    ensures seats { (q : Queue) → All (IsSeatOf q) seats.old.items
+        → All (IsSeatOf q) seats.new.items }
+    ensures rings { (q : Queue) → All (IsSeatOf q) seats.old.items
+        → IfOk result (λ r. All (IsRingOf q) r.items) }
+{
+    let mut rings = Vec::with_capacity(alloc, count as usize)?;
+    for _ in 0..count {
+        let Some(seat) = seats.pop() else {
+            unreachable!()
+        };
+        rings.push_reserved(RingDesk::open(alloc, seat)?);
+    }
+    Ok(rings)
+}
+
 // So many jobs that ask for nothing.
 fn open_jobs(alloc: Global, count: u32) -> Result<Vec<Job>, AllocError>
     ensures { IfOk result (λ j. length j.items ≡ count) }
@@ -113,7 +165,7 @@ fn open_jobs(alloc: Global, count: u32) -> Result<Vec<Job>, AllocError>
     Ok(jobs)
 }
 
-// The table with its actors, the pool, and the queue with its seats.
+// The table with its actors, the pool, and the queue with all its seats.
 fn open_common<W: World>(
     alloc: Global,
     settings: &ScanSettings,
@@ -126,11 +178,10 @@ fn open_common<W: World>(
     ensures actors { IfOk result (λ c. AreNew c.0.table 0 c.1.items
         × (length c.1.items ≡ settings.now.backends + workers_in settings.now)) }
     ensures seats { IfOk result (λ c. All (IsSeatOf c.0.queue) c.2.items
-        × (length c.2.items
-        ≡ workers_by settings.now.method (settings.now.backends + settings.now.workers))) }
+        × (length c.2.items ≡ seats_in settings.now + rings_in settings.now)) }
 {
-    let workers = by_method(settings.method, settings.workers);
-    let seats = by_method(settings.method, settings.backends + settings.workers);
+    let workers = worker_count(settings);
+    let seats = seat_count(settings) + ring_count(settings);
     let (table, actors) = Table::open(alloc, settings.backends, settings.handles, workers, start)?;
     let (queue, seats) = open_queue(alloc, seats)?;
     let pool = Pool::open(alloc, settings.buffers)?;
@@ -164,15 +215,16 @@ impl<W: World, D: Disk> Memory<W, D> {
         requires start { start < 2 ^ 58 }
         ensures { IfOk result (IsMemory settings.now start) }
     {
-        let (common, actors, seats) = open_common(alloc, settings, start)?;
-        let workers = by_method(settings.method, settings.workers);
+        let (common, actors, mut seats) = open_common(alloc, settings, start)?;
+        let rings = open_rings(alloc, ring_count(settings), &mut seats)?;
         Ok(Memory {
             common,
             actors,
             seats,
+            rings,
             desks: open_desks(alloc, settings)?,
             jobs: open_jobs(alloc, settings.backends)?,
-            lists: Lists::open(alloc, settings.backends, workers)?,
+            lists: Lists::open(alloc, settings.backends, worker_count(settings))?,
         })
     }
 }

@@ -1,20 +1,22 @@
 //! Opens a scan.
-ghost use Rattle.std.specs.Prelude.{◌≡◌, ◌≤◌, ◌<◌, ◌+◌, ◌*◌, ◌-◌, ◌^◌, ◌∷◌, [], length};
+ghost use Rattle.std.specs.Prelude.{◌≡◌, ◌≢◌, ◌≤◌, ◌<◌, ◌+◌, ◌*◌, ◌-◌, ◌^◌, ◌∷◌, [], length};
 ghost use Rattle.std.specs.Prelude.{IfErr, IfOk, vec_capacity};
 ghost use Rattle.std.specs.List.{All};
 ghost use Rattle.std.specs.Vec.Iter.{into_iter_items};
 ghost use Rattle.scan_rounds.specs.Hands.{meter};
+ghost use Rattle.scan_rounds.specs.Manners.{manner};
 ghost use Rattle.scan_rounds.specs.Opening.{AreSettings, GivesBackends, GivesHands, GivesWorkers};
 ghost use Rattle.scan_rounds.specs.Opening.{IsMemory, IsOpened, IsSetUp, workers_in};
 ghost use Rattle.scan_rounds.specs.Rounds.{taken_by};
-ghost use Rattle.scan_rounds.specs.Scans.{IsScan, opened_by};
+ghost use Rattle.scan_rounds.specs.Scans.{IsScan, manner_in, opened_by};
 
 use crate::backend::Backend;
 use crate::hand::Hand;
 use crate::job::Job;
-use crate::memory::{Memory, by_method};
+use crate::memory::{Memory, worker_count};
+use crate::ring::RingDesk;
 use crate::scan::Scan;
-use crate::settings::ScanSettings;
+use crate::settings::{MethodKind, ScanSettings};
 use crate::worker::Worker;
 use aio_callback::ReadIo;
 use aio_disk::Disk;
@@ -35,6 +37,7 @@ struct Parts<W: World, D: Disk> {
     actors: IntoIter<Actor<ReadIo, W>, Global>,
     disks: IntoIter<D, Global>,
     seats: IntoIter<QueueSeat, Global>,
+    rings: IntoIter<RingDesk<W>, Global>,
     desks: IntoIter<Desk<W, ()>, Global>,
 }
 
@@ -44,7 +47,7 @@ impl<W: World, D: Disk> Parts<W, D> {
         requires actor { 1 ≤ length (into_iter_items self.old.actors) }
         requires disk { 1 ≤ length (into_iter_items self.old.disks) }
         ensures hands { GivesHands self.old self.new (result ∷ []) }
-        ensures seats { self.new.seats ≡ self.old.seats }
+        ensures seats { (self.new.seats ≡ self.old.seats) × (self.new.rings ≡ self.old.rings) }
         ensures desks { self.new.desks ≡ self.old.desks }
     {
         let Some(actor) = self.actors.next() else {
@@ -56,12 +59,12 @@ impl<W: World, D: Disk> Parts<W, D> {
         }
     }
 
-    // The next backend. It has a seat if there is one.
-    fn backend(&mut self, alloc: Global) -> Backend<W, D>
+    // The next backend. It has a seat if there is one, and a ring if there is one.
+    fn backend(&mut self, alloc: Global, tuples: bool) -> Backend<W, D>
         requires actor { 1 ≤ length (into_iter_items self.old.actors) }
         requires disk { 1 ≤ length (into_iter_items self.old.disks) }
         requires desk { 1 ≤ length (into_iter_items self.old.desks) }
-        ensures { GivesBackends self.old self.new (result ∷ []) }
+        ensures { GivesBackends tuples self.old self.new (result ∷ []) }
     {
         let hand = self.hand();
         let Some(desk) = self.desks.next() else {
@@ -71,7 +74,9 @@ impl<W: World, D: Disk> Parts<W, D> {
             hand,
             desk,
             seat: self.seats.next(),
+            ring: self.rings.next(),
             job: Job::new(alloc),
+            tuples,
         }
     }
 
@@ -94,17 +99,18 @@ impl<W: World, D: Disk> Parts<W, D> {
         &mut self,
         alloc: Global,
         count: u32,
+        tuples: bool,
         mut backends: Vec<Backend<W, D>>,
     ) -> Vec<Backend<W, D>>
         requires actors { count ≤ length (into_iter_items self.old.actors) }
         requires disks { count ≤ length (into_iter_items self.old.disks) }
         requires desks { count ≤ length (into_iter_items self.old.desks) }
         requires empty { (backends.items ≡ []) × (count ≤ vec_capacity backends) }
-        ensures made { GivesBackends self.old self.new result.items }
+        ensures made { GivesBackends tuples self.old self.new result.items }
         ensures count { length result.items ≡ count }
     {
         for _ in 0..count {
-            backends.push_reserved(self.backend(alloc));
+            backends.push_reserved(self.backend(alloc, tuples));
         }
         backends
     }
@@ -147,11 +153,11 @@ fn man<W: World, D: Disk>(
         actors: memory.actors.into_iter(),
         disks: disks.into_iter(),
         seats: memory.seats.into_iter(),
+        rings: memory.rings.into_iter(),
         desks: memory.desks.into_iter(),
     };
-    let backends = parts.backends(alloc, settings.backends, lists.backends);
-    let count = by_method(settings.method, settings.workers);
-    let workers = parts.workers(count, lists.workers);
+    let backends = parts.backends(alloc, settings.backends, settings.tuples, lists.backends);
+    let workers = parts.workers(worker_count(settings), lists.workers);
     Scan {
         alloc,
         common: memory.common,
@@ -161,18 +167,42 @@ fn man<W: World, D: Disk>(
         room: LAST_GENERATION - start,
         unread: 0,
         zero: settings.zero,
+        tuples: settings.tuples,
         opened,
         actors: lists.actors,
         disks: lists.disks,
     }
 }
 
+/// A scan by any method, with the generations of the table's handles from `start` on.
+pub(crate) fn open_scan<W: World, D: Disk>(
+    alloc: Global,
+    settings: &ScanSettings,
+    disks: Vec<D>,
+    start: u64,
+) -> Result<Scan<W, D>, Vec<D>>
+    requires settings { AreSettings settings.now }
+    requires disks { length disks.items ≡ settings.now.backends + workers_in settings.now }
+    requires tell { All (λ d. (D.told d ≡ W.told) × (D.relations d ≡ W.relations)) disks.items }
+    requires handles { settings.now.backends * settings.now.handles ≡ W.handles }
+    requires start { start < 2 ^ 58 }
+    ensures opened { IfOk result (IsOpened (meter D.told D.relations D.reads D.faults) W.told
+        W.relations settings.now start disks.items) }
+    ensures back { IfErr result (λ d. d ≡ disks) }
+{
+    match Memory::open(alloc, settings, start) {
+        Ok(memory) => Ok(man(alloc, settings, memory, disks, start)),
+        Err(_) => Err(disks),
+    }
+}
+
 impl<W: World, D: Disk> Scan<W, D> {
-    /// A scan with these settings, over a disk for each backend and then for each worker. It takes
-    /// all memory that the scan ever takes, but for the texts of jobs; where there is none, the
-    /// disks come back as they are.
+    /// A scan with these settings, which are not `MethodKind::Ring`, over a disk for each backend
+    /// and then for each worker. It takes all memory that the scan ever takes, but for the texts of
+    /// jobs; where there is none, the disks come back as they are.
     pub fn open(alloc: Global, settings: &ScanSettings, disks: Vec<D>) -> Result<Scan<W, D>, Vec<D>>
         requires settings { AreSettings settings.now }
+        requires method { settings.now.method ≢ MethodKind.Ring }
         requires disks { length disks.items ≡ settings.now.backends + workers_in settings.now }
         requires tell { All (λ d. (D.told d ≡ W.told) × (D.relations d ≡ W.relations)) disks.items }
         requires segments { All (λ d. D.segment d ≡ settings.now.segment) disks.items }
@@ -188,7 +218,8 @@ impl<W: World, D: Disk> Scan<W, D> {
         ensures taken { IfOk result (λ s. taken_by s.backends.items ≡ 0) }
         ensures room { IfOk result (λ s. s.room ≡ 2 ^ 58 - 1) }
         ensures unread { IfOk result (λ s. s.unread ≡ 0) }
-        ensures zero { IfOk result (λ s. s.zero ≡ settings.now.zero) }
+        ensures manner { IfOk result
+            (λ s. manner_in s ≡ manner settings.now.zero settings.now.tuples) }
         ensures back { IfErr result (λ d. d ≡ disks) }
     {
         Scan::open_at(alloc, settings, disks, 0)
@@ -203,6 +234,7 @@ impl<W: World, D: Disk> Scan<W, D> {
         start: u64,
     ) -> Result<Scan<W, D>, Vec<D>>
         requires settings { AreSettings settings.now }
+        requires method { settings.now.method ≢ MethodKind.Ring }
         requires disks { length disks.items ≡ settings.now.backends + workers_in settings.now }
         requires tell { All (λ d. (D.told d ≡ W.told) × (D.relations d ≡ W.relations)) disks.items }
         requires segments { All (λ d. D.segment d ≡ settings.now.segment) disks.items }
@@ -219,12 +251,10 @@ impl<W: World, D: Disk> Scan<W, D> {
         ensures taken { IfOk result (λ s. taken_by s.backends.items ≡ 0) }
         ensures room { IfOk result (λ s. s.room ≡ 2 ^ 58 - 1 - start) }
         ensures unread { IfOk result (λ s. s.unread ≡ 0) }
-        ensures zero { IfOk result (λ s. s.zero ≡ settings.now.zero) }
+        ensures manner { IfOk result
+            (λ s. manner_in s ≡ manner settings.now.zero settings.now.tuples) }
         ensures back { IfErr result (λ d. d ≡ disks) }
     {
-        match Memory::open(alloc, settings, start) {
-            Ok(memory) => Ok(man(alloc, settings, memory, disks, start)),
-            Err(_) => Err(disks),
-        }
+        open_scan(alloc, settings, disks, start)
     }
 }

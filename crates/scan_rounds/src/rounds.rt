@@ -1,10 +1,11 @@
 //! One round, and all rounds of a run.
-ghost use Rattle.std.specs.Prelude.{◌≡◌, ◌≤◌, ◌<◌, ◌+◌, ◌*◌, ℕ, Bool, length, map, slice_index_or};
+ghost use Rattle.std.specs.Prelude.{◌≡◌, ◌≤◌, ◌<◌, ◌+◌, ◌*◌, ℕ, length, map, slice_index_or};
 ghost use Rattle.std.specs.List.{All};
 ghost use Rattle.aio_disk.specs.Counts.{raised_by};
 ghost use Rattle.scan_rounds.specs.Hands.{IsBackend, meter};
 ghost use Rattle.scan_rounds.specs.Jobs.{IsFresh, blocks_among, unread_among};
-ghost use Rattle.scan_rounds.specs.Rounds.{AllGoOn, AreIdle, AreListed, AreZeroing, IsLeastRoom};
+ghost use Rattle.scan_rounds.specs.Manners.{Manner};
+ghost use Rattle.scan_rounds.specs.Rounds.{AllGoOn, AllListIn, AreIdle, AreListed, IsLeastRoom};
 ghost use Rattle.scan_rounds.specs.Rounds.{Swapped};
 ghost use Rattle.scan_rounds.specs.Rounds.{hand_of, results_of, taken_by};
 
@@ -81,9 +82,9 @@ pub(crate) fn one_round<W: World + Send + Sync, D: Disk, R: Threads + Wait + Syn
     ensures idle { AreIdle backends.new }
     ensures go_on { AllGoOn (meter D.told D.relations D.reads D.faults) W.told W.relations
         common.now.table (map hand_of backends.old) (map hand_of backends.new) }
-    ensures listed { (zero : Bool) → AreZeroing zero backends.old
-        → AreListed zero W.told backends.old backends.new jobs.old jobs.new }
-    ensures zeroing { (zero : Bool) → AreZeroing zero backends.old → AreZeroing zero backends.new }
+    ensures listed { (m : Manner) → AllListIn m backends.old
+        → AreListed m W.told backends.old backends.new jobs.old jobs.new }
+    ensures manner { (m : Manner) → AllListIn m backends.old → AllListIn m backends.new }
     ensures room { IsLeastRoom backends.new result.room × (counts.room ≤ result.room + 64) }
     ensures unread { result.unread ≡ raised_by (unread_among jobs.new) counts.unread }
     ensures taken { taken_by backends.new ≤ taken_by backends.old + blocks_among jobs.old }

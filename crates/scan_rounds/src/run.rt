@@ -7,9 +7,9 @@ ghost use Rattle.method_worker.specs.Shown.{IsSeatOf};
 ghost use Rattle.scan_rounds.specs.Hands.{MayRun, MayServe, meter};
 ghost use Rattle.scan_rounds.specs.Jobs.{IsFresh, blocks_among, unread_among};
 ghost use Rattle.scan_rounds.specs.Progress.{AreWaiting, HasGone};
-ghost use Rattle.scan_rounds.specs.Rounds.{AllRan, AllWorked, AreListed, AreZeroing, Swapped};
+ghost use Rattle.scan_rounds.specs.Rounds.{AllListIn, AllRan, AllWorked, AreListed, Swapped};
 ghost use Rattle.scan_rounds.specs.Rounds.{taken_by};
-ghost use Rattle.scan_rounds.specs.Scans.{IsOpenedAgain, IsScan, IsSameScan};
+ghost use Rattle.scan_rounds.specs.Scans.{IsOpenedAgain, IsScan, IsSameScan, manner_in};
 
 use crate::agenda::Agenda;
 use crate::backend::Backend;
@@ -55,7 +55,7 @@ fn run_beside<W: World + Send + Sync, D: Disk, R: Threads + Wait + Sync, A: Agen
         common.now.table common.now.queue course.backends.items course.counts }
     requires jobs { length course.jobs.items ≡ length course.backends.items }
     requires room { 64 * A.left course.agenda ≤ course.counts.room }
-    requires zeroing { AreZeroing (A.zero course.agenda) course.backends.items }
+    requires manner { AllListIn (A.manner course.agenda) course.backends.items }
     ensures worked { AllWorked (meter D.told D.relations D.reads D.faults) W.told W.relations
         common.now.table common.now.queue workers.items result.0.items }
     ensures waiting { AreWaiting (meter D.told D.relations D.reads D.faults) W.told W.relations
@@ -63,8 +63,8 @@ fn run_beside<W: World + Send + Sync, D: Disk, R: Threads + Wait + Sync, A: Agen
     ensures many { (length result.1.backends.items ≡ length course.backends.items)
         × (length result.1.jobs.items ≡ length course.jobs.items) }
     ensures fewer { A.left result.1.agenda ≤ A.left course.agenda }
-    ensures zeroing { AreZeroing (A.zero course.agenda) result.1.backends.items
-        × (A.zero result.1.agenda ≡ A.zero course.agenda) }
+    ensures manner { AllListIn (A.manner course.agenda) result.1.backends.items
+        × (A.manner result.1.agenda ≡ A.manner course.agenda) }
     ensures gone { HasGone (meter D.told D.relations D.reads D.faults) W.told W.relations
         common.now.table course.backends.items result.1.backends.items course.counts
         result.1.counts (A.left course.agenda - A.left result.1.agenda)
@@ -85,7 +85,7 @@ fn run_beside<W: World + Send + Sync, D: Disk, R: Threads + Wait + Sync, A: Agen
                 common.now.table common.now.queue course.backends.items course.counts
                 × (length course.jobs.items ≡ length course.backends.items)
                 × (64 * A.left course.agenda ≤ course.counts.room)
-                × AreZeroing (A.zero course.agenda) course.backends.items × IsSync R.row }
+                × AllListIn (A.manner course.agenda) course.backends.items × IsSync R.row }
             ensures { AreWaiting (meter D.told D.relations D.reads D.faults) W.told W.relations
                 common.entry.now.table common.entry.now.queue result.backends.items result.counts
                 × (length result.backends.items ≡ length course.backends.items)
@@ -95,8 +95,8 @@ fn run_beside<W: World + Send + Sync, D: Disk, R: Threads + Wait + Sync, A: Agen
                 common.entry.now.table course.backends.items result.backends.items course.counts
                 result.counts (A.left course.agenda - A.left result.agenda)
                 (A.unread result.agenda - A.unread course.agenda)
-                × AreZeroing (A.zero course.agenda) result.backends.items
-                × (A.zero result.agenda ≡ A.zero course.agenda)
+                × AllListIn (A.manner course.agenda) result.backends.items
+                × (A.manner result.agenda ≡ A.manner course.agenda)
                 × A.follows course.agenda result.agenda × A.is_over result.agenda }
         { run_course(rt, common, course) },
     )
@@ -217,7 +217,7 @@ impl<W: World + Send + Sync, D: Disk> Scan<W, D> {
         ensures same { IsSameScan self.old self.new }
         ensures reopened { IsOpenedAgain self.old.backends.items self.old.common.queue
             self.new.common.queue }
-        ensures listed { AreListed self.old.zero W.told self.old.backends.items
+        ensures listed { AreListed (manner_in self.old) W.told self.old.backends.items
             self.new.backends.items jobs.old jobs.new }
         ensures room { self.old.room ≤ self.new.room + 64 }
         ensures unread { self.new.unread ≡ raised_by (unread_among jobs.new) self.old.unread }
@@ -251,7 +251,7 @@ impl<W: World + Send + Sync, D: Disk> Scan<W, D> {
         requires scan { IsScan (meter D.told D.relations D.reads D.faults) W.told W.relations
             self.old }
         requires room { 64 * A.left agenda ≤ self.old.room }
-        requires zero { A.zero agenda ≡ self.old.zero }
+        requires manner { A.manner agenda ≡ manner_in self.old }
         ensures scan { IsScan (meter D.told D.relations D.reads D.faults) W.told W.relations
             self.new }
         ensures same { IsSameScan self.old self.new }
@@ -259,7 +259,7 @@ impl<W: World + Send + Sync, D: Disk> Scan<W, D> {
             self.new.common.queue }
         ensures follows { A.follows agenda result }
         ensures over { A.is_over result }
-        ensures zero { A.zero result ≡ A.zero agenda }
+        ensures manner { A.manner result ≡ A.manner agenda }
         ensures room { self.old.room + 64 * A.left result ≤ self.new.room + 64 * A.left agenda }
         ensures unread { (more : ℕ) × (self.new.unread ≡ raised_by more self.old.unread)
             × (A.unread result ≤ A.unread agenda + more) }

@@ -28,6 +28,8 @@ pub struct Scan<W: World, D: Disk> {
     pub(crate) unread: u64,
     // Whether damaged pages are given as zeros.
     pub(crate) zero: bool,
+    // Whether the headers of tuples are listed too.
+    pub(crate) tuples: bool,
     // The disks as they were when the scan was opened, those of the backends first.
     pub(crate) opened: Snapshot<Vec<D>>,
     // Empty, with room for all actors and all disks.

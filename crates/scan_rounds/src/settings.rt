@@ -7,6 +7,8 @@ pub enum MethodKind {
     Sync,
     /// The workers.
     Worker,
+    /// Each backend by a ring of its own, in groups: its own and those of the other backends.
+    Ring,
 }
 
 /// How a scan reads.
@@ -33,4 +35,6 @@ pub struct ScanSettings {
     pub segment: u32,
     /// Whether damaged pages are given as zeros, with a warning (`zero_damaged_pages`).
     pub zero: bool,
+    /// Whether the headers of heap tuples and the update chains are listed too.
+    pub tuples: bool,
 }

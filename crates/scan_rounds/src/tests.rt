@@ -81,8 +81,8 @@ fn rounds_of(alloc: Global, blocks: u32, each: usize) -> Result<Vec<Vec<Blocks>>
     Ok(rounds)
 }
 
-// Lists so many pages in rounds of one job a backend, and compares all text with their lines.
-fn check_listing<R: Abort + AllocGlobal + Threads + Wait + Sync>(
+/// Lists so many pages in rounds of one job a backend, and compares all text with their lines.
+pub(crate) fn check_listing<R: Abort + AllocGlobal + Threads + Wait + Sync>(
     rt: &R,
     settings: &ScanSettings,
     blocks: u32,
@@ -153,57 +153,13 @@ fn the_same_text_under_each_setting(rt: HostRuntime) -> Result<(), Fail> {
 #[test]
 fn jobs_end_at_their_first_fault(rt: HostRuntime) -> Result<(), Fail> {
     let alloc = rt.alloc();
-    for method in [MethodKind::Sync, MethodKind::Worker] {
+    for method in [MethodKind::Sync, MethodKind::Worker, MethodKind::Ring] {
         let settings = ScanSettings { method, ..USUAL };
         let rounds = one_round(alloc, &[(10, 4), (13, 64)])?;
         let mut shelf = shelf_of(&rt, file_of(alloc, 15, Some(12))?, Vec::new(alloc))?;
         let outcome = scan_over(&rt, &settings, &mut shelf, rounds.as_slice())?;
         check_job(&rt, &outcome, 0, 10, 2, Ending::Invalid(12))?;
         check_job(&rt, &outcome, 1, 13, 2, Ending::PastEnd(15))?;
-    }
-    Ok(())
-}
-
-// Compares what became of a job of the blocks 10 to 13, of which 12 is bad.
-fn check_zeroed<R: Abort + AllocGlobal>(
-    rt: &R,
-    outcome: &Outcome,
-    place: usize,
-) -> Result<(), Fail> {
-    let alloc = rt.alloc();
-    let job = outcome.jobs.get(place).ok_or("a job is missing")?;
-    let mut wanted = lines(alloc, 10, 2)?;
-    wanted.extend_from_slice(b"page 0 12 new\n")?;
-    wanted.extend_from_slice(lines(alloc, 13, 1)?.as_slice())?;
-    assert_eq!(rt; job.text.as_slice(), wanted.as_slice());
-    assert_eq!(rt; job.warnings.as_slice(), b"zeroed page 0 12\n".as_slice());
-    assert_eq!(rt; job.ending, Ending::Pages);
-    Ok(())
-}
-
-// The pool never holds a page that was zeroed: it is read again for the second job.
-#[test]
-fn damaged_pages_are_zeroed_with_warnings(rt: HostRuntime) -> Result<(), Fail> {
-    let alloc = rt.alloc();
-    for method in [MethodKind::Sync, MethodKind::Worker] {
-        let first = vec![in alloc; (10u32, 4u32)]?;
-        let second = vec![in alloc; (10u32, 4u32)]?;
-        let rounds = vec![in alloc; first, second]?;
-        let settings = ScanSettings {
-            method,
-            zero: true,
-            ..USUAL
-        };
-        let mut shelf = shelf_of(&rt, file_of(alloc, 14, Some(12))?, Vec::new(alloc))?;
-        let outcome = scan_over(&rt, &settings, &mut shelf, rounds.as_slice())?;
-        check_zeroed(&rt, &outcome, 0)?;
-        check_zeroed(&rt, &outcome, 1)?;
-        let settings = ScanSettings { method, ..USUAL };
-        let mut shelf = shelf_of(&rt, file_of(alloc, 14, Some(12))?, Vec::new(alloc))?;
-        let outcome = scan_over(&rt, &settings, &mut shelf, rounds.as_slice())?;
-        check_job(&rt, &outcome, 0, 10, 2, Ending::Invalid(12))?;
-        let job = outcome.jobs.get(0).ok_or("a job is missing")?;
-        assert!(&rt; job.warnings.is_empty());
     }
     Ok(())
 }

@@ -10,7 +10,7 @@ ghost use Rattle.scan_rounds.specs.Scans.{IsScan};
 
 use crate::rounds::{count_unread, least_room};
 use crate::run::{exchange, reopen_queue, run_once, serve_all};
-use crate::{Ending, Job, MethodKind, Scan, ScanSettings};
+use crate::{Ending, Job, MethodKind, RingScan, Scan, ScanSettings};
 use aio_disk::{Disk, MemShelf, Script, Shelf};
 use heap_scan::PageSums;
 use page_check::World;
@@ -35,6 +35,7 @@ pub(crate) const USUAL: ScanSettings = ScanSettings {
     full: false,
     segment: 131072,
     zero: false,
+    tuples: false,
 };
 
 /// Some blocks of relation 0: the first, and how many.
@@ -84,6 +85,7 @@ fn is_in_range(settings: &ScanSettings) -> bool
         full: _,
         segment,
         zero: _,
+        tuples: _,
     } = *settings;
     let actors = 1 <= workers && workers <= 32 && 1 <= backends && backends <= 16;
     let reads = 1 <= combine && combine <= 128 && 1 <= concurrency && concurrency <= 256;
@@ -99,6 +101,7 @@ fn disk_count(settings: &ScanSettings) -> usize
     let workers = match settings.method {
         MethodKind::Sync => 0,
         MethodKind::Worker => settings.workers,
+        MethodKind::Ring => 0,
     };
     (settings.backends + workers) as usize
 }
@@ -243,14 +246,15 @@ fn list_rounds<W: World + Send + Sync, D: Disk, R: Threads + Wait + Sync>(
     Ok(())
 }
 
-// A scan, with the generations of its handles from `start` on where that is given.
-fn open_scan<W: World, D: Disk>(
+// A scan without rings, with the generations of its handles from `start` on where that is given.
+fn open_plain<W: World, D: Disk>(
     alloc: Global,
     settings: &ScanSettings,
     disks: Vec<D>,
     start: Option<u64>,
 ) -> Result<Scan<W, D>, Fail>
     requires settings { AreSettings settings.now }
+    requires method { settings.now.method ≢ MethodKind.Ring }
     requires disks { length disks.items ≡ settings.now.backends + workers_in settings.now }
     requires tell { All (λ d. (D.told d ≡ W.told) × (D.relations d ≡ W.relations)) disks.items }
     requires segments { All (λ d. D.segment d ≡ settings.now.segment) disks.items }
@@ -266,6 +270,56 @@ fn open_scan<W: World, D: Disk>(
     match opened {
         Ok(scan) => Ok(scan),
         Err(_) => Err(Fail::from("no memory for a scan")),
+    }
+}
+
+// The scan of a [`RingScan`] that is opened so.
+fn open_ringed<W: World, D: Disk>(
+    alloc: Global,
+    settings: &ScanSettings,
+    disks: Vec<D>,
+    start: Option<u64>,
+) -> Result<Scan<W, D>, Fail>
+    requires settings { AreSettings settings.now }
+    requires method { settings.now.method ≡ MethodKind.Ring }
+    requires disks { length disks.items ≡ settings.now.backends }
+    requires tell { All (λ d. (D.told d ≡ W.told) × (D.relations d ≡ W.relations)) disks.items }
+    requires segments { All (λ d. D.segment d ≡ settings.now.segment) disks.items }
+    requires handles { settings.now.backends * settings.now.handles ≡ W.handles }
+    requires start { IfSome start (λ s. s < 2 ^ 58) }
+    ensures { IfOk result (λ s. IsScan (meter D.told D.relations D.reads D.faults) W.told
+        W.relations s) }
+{
+    let opened = match start {
+        Some(start) => RingScan::open_at(alloc, settings, disks, start),
+        None => RingScan::open(alloc, settings, disks),
+    };
+    match opened {
+        Ok(rings) => Ok(rings.scan),
+        Err(_) => Err(Fail::from("no memory for a scan")),
+    }
+}
+
+// A scan by the method of its settings.
+fn open_scan<W: World, D: Disk>(
+    alloc: Global,
+    settings: &ScanSettings,
+    disks: Vec<D>,
+    start: Option<u64>,
+) -> Result<Scan<W, D>, Fail>
+    requires settings { AreSettings settings.now }
+    requires disks { length disks.items ≡ settings.now.backends + workers_in settings.now }
+    requires tell { All (λ d. (D.told d ≡ W.told) × (D.relations d ≡ W.relations)) disks.items }
+    requires segments { All (λ d. D.segment d ≡ settings.now.segment) disks.items }
+    requires handles { settings.now.backends * settings.now.handles ≡ W.handles }
+    requires start { IfSome start (λ s. s < 2 ^ 58) }
+    ensures { IfOk result (λ s. IsScan (meter D.told D.relations D.reads D.faults) W.told
+        W.relations s) }
+{
+    match settings.method {
+        MethodKind::Sync => open_plain(alloc, settings, disks, start),
+        MethodKind::Worker => open_plain(alloc, settings, disks, start),
+        MethodKind::Ring => open_ringed(alloc, settings, disks, start),
     }
 }
 
@@ -416,6 +470,9 @@ pub(crate) fn file_of(
     Ok(vec![in alloc; (String::from_str(alloc, "f")?, bytes)]?)
 }
 
+/// So many reads are logged.
+const LOG_ROOM: usize = 64;
+
 /// A shelf of that file whose reads fail so: (disk, read).
 pub(crate) fn shelf_of<R: Abort + AllocGlobal>(
     rt: &R,
@@ -431,7 +488,7 @@ pub(crate) fn shelf_of<R: Abort + AllocGlobal>(
     };
     assert!(rt; aio_disk::have_distinct_names(files.as_slice()));
     assert!(rt; script.has_positive_shorts());
-    Ok(MemShelf::make(alloc, files, script, 0)?)
+    Ok(MemShelf::make(alloc, files, script, LOG_ROOM)?)
 }
 
 /// The lines of so many empty pages of relation 0.

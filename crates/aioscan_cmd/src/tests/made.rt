@@ -22,6 +22,7 @@ fn sums_of_generated_pages(rt: HostRuntime) -> Result<(), Fail> {
         ("--make 10", "pages 10 new 1 items 19\n"),
         ("--make 4096", "pages 4096 new 585 items 7020\n"),
         ("--make=10 --method sync", "pages 10 new 1 items 19\n"),
+        ("--make 10 --method ring", "pages 10 new 1 items 19\n"),
         (
             "--make 10 --backends 5 --workers 1",
             "pages 10 new 1 items 19\n",

@@ -42,7 +42,7 @@ fn expect_reads<R: Abort + AllocGlobal + Threads + Wait + Sync>(
 
 #[test]
 fn reads_of_one_backend(rt: HostRuntime) -> Result<(), Fail> {
-    let rows: [(&str, usize, &[u32], &str, &[Read]); 8] = [
+    let rows: [(&str, usize, &[u32], &str, &[Read]); 9] = [
         (
             "runs grow with the distance",
             8,
@@ -90,6 +90,18 @@ fn reads_of_one_backend(rt: HostRuntime) -> Result<(), Fail> {
             16,
             &[1, 2, 4, 9],
             "--method sync --backends 1 --full --stats f",
+            &[
+                (0, 16, Some(1)),
+                (1, 15, Some(2)),
+                (3, 13, Some(4)),
+                (7, 9, Some(9)),
+            ],
+        ),
+        (
+            "the same by a ring, which has one read at a time",
+            16,
+            &[1, 2, 4, 9],
+            "--method ring --backends 1 --full --stats f",
             &[
                 (0, 16, Some(1)),
                 (1, 15, Some(2)),
@@ -150,14 +162,22 @@ fn an_invalid_page_behind_one_read(rt: HostRuntime) -> Result<(), Fail> {
     let flagged: Parts<'_> = &[(10, &[8, 0, 24, 0, 0, 32, 0, 32, 4, 32])];
     let mut file = empty_file(alloc, 12)?;
     file.extend_from_slice(file_of(alloc, &[flagged, EMPTY])?.as_slice())?;
-    let line = "--method sync --backends 1 --full --from 10 --to 13 f";
-    let done = run_over(&rt, file, STEADY, line)?;
     let text = empty_lines(alloc, 10, 12)?;
-    assert_eq!(rt; done.out.bytes(), text.as_str().as_bytes());
-    assert_eq!(rt; done.err.bytes(), "invalid page 0 12\n".as_bytes());
-    assert_eq!(rt; done.report.status, 1);
     let wanted: &[Read] = &[(10, 4, Some(4))];
-    assert_eq!(&rt; reads_of(alloc, &done)?.as_slice(), wanted);
+    for line in [
+        "--method sync --backends 1 --full --from 10 --to 13 f",
+        "--method ring --backends 1 --full --from 10 --to 13 f",
+    ] {
+        let done = run_over(&rt, file.clone()?, STEADY, line)?;
+        assert_eq!(rt; done.out.bytes(), text.as_str().as_bytes(), "{line}");
+        assert_eq!(rt;
+            done.err.bytes(),
+            "invalid page 0 12\n".as_bytes(),
+            "{line}"
+        );
+        assert_eq!(rt; done.report.status, 1, "{line}");
+        assert_eq!(rt; reads_of(alloc, &done)?.as_slice(), wanted, "{line}");
+    }
     Ok(())
 }
 
@@ -168,16 +188,20 @@ fn a_third_read_that_fails(rt: HostRuntime) -> Result<(), Fail> {
         reads: &[(0, 3)],
         ..STEADY
     };
-    let line = "--method sync --backends 1 --combine 1 --handles 1 --stats f";
-    let done = run_over(&rt, empty_file(alloc, 5)?, faults, line)?;
     let text = empty_lines(alloc, 0, 2)?;
     let lines = "unread page 0 2\nincarnations 3 workers 0 backends 3\n";
-    assert_eq!(rt; done.out.bytes(), text.as_str().as_bytes());
-    assert_eq!(rt; done.err.bytes(), lines.as_bytes());
-    assert_eq!(rt; done.report.status, 3);
-    assert_eq!(rt; done.report.incarnations, 3);
-    assert_eq!(rt; done.report.by_workers, 0);
-    assert_eq!(rt; done.report.by_backends, 3);
+    for line in [
+        "--method sync --backends 1 --combine 1 --handles 1 --stats f",
+        "--method ring --backends 1 --combine 1 --handles 1 --stats f",
+    ] {
+        let done = run_over(&rt, empty_file(alloc, 5)?, faults, line)?;
+        assert_eq!(rt; done.out.bytes(), text.as_str().as_bytes(), "{line}");
+        assert_eq!(rt; done.err.bytes(), lines.as_bytes(), "{line}");
+        assert_eq!(rt; done.report.status, 3, "{line}");
+        assert_eq!(rt; done.report.incarnations, 3, "{line}");
+        assert_eq!(rt; done.report.by_workers, 0, "{line}");
+        assert_eq!(rt; done.report.by_backends, 3, "{line}");
+    }
     Ok(())
 }
 
@@ -229,7 +253,12 @@ fn pages_of_a_server_with_checksums(rt: HostRuntime) -> Result<(), Fail> {
     for block in 0..200 {
         push_server_page(alloc, &mut file, &mut text, block)?;
     }
-    for line in ["--stats f", "--method sync --backends 1 --stats f"] {
+    let most = u128::MAX;
+    for (line, by_workers) in [
+        ("--stats f", most),
+        ("--method sync --backends 1 --stats f", 0),
+        ("--method ring --stats f", 0),
+    ] {
         let done = run_over(&rt, file.clone()?, STEADY, line)?;
         let (workers, backends) = (done.report.by_workers, done.report.by_backends);
         let totals = format!(in alloc; "incarnations 28 workers {workers} backends {backends}\n")?;
@@ -237,6 +266,7 @@ fn pages_of_a_server_with_checksums(rt: HostRuntime) -> Result<(), Fail> {
         assert_eq!(rt; done.report.status, 0, "{line}");
         assert_eq!(rt; done.err.bytes(), totals.as_str().as_bytes(), "{line}");
         assert_eq!(rt; workers.saturating_add(backends), 28, "{line}");
+        assert!(rt; workers <= by_workers, "{line}");
     }
     Ok(())
 }

@@ -366,6 +366,7 @@ fn words_that_are_no_command(rt: HostRuntime) -> Result<(), Fail> {
         "--combine 129 f",
         "--backends 17 f",
         "--make 10 f",
+        "--tuples --make 10",
         "--full",
         "--from +1 f",
         "--from 2097152 f",

@@ -23,7 +23,7 @@ fn push_value(
 /// The words of some settings.
 pub(crate) fn random_settings(alloc: Global, state: &mut u64) -> Result<String, Fail> {
     let mut line = String::new(alloc);
-    push_value(&mut line, state, "method", ["sync", "sync", "worker"])?;
+    push_value(&mut line, state, "method", ["sync", "ring", "worker"])?;
     push_value(&mut line, state, "workers", ["1", "2", "4"])?;
     push_value(&mut line, state, "backends", ["1", "3", "4"])?;
     push_value(&mut line, state, "combine", ["1", "2", "5"])?;

@@ -17,6 +17,7 @@ const DEFAULTS: ScanSettings = ScanSettings {
     full: false,
     segment: 131072,
     zero: false,
+    tuples: false,
 };
 
 // The words with a space behind each.
@@ -53,6 +54,7 @@ fn commands(rt: HostRuntime) -> Result<(), Fail> {
         full: false,
         segment: 131072,
         zero: false,
+        tuples: false,
     };
     // Each with the settings, the first block and how many of a file of 10 blocks, and the files.
     let rows = [
@@ -72,6 +74,16 @@ fn commands(rt: HostRuntime) -> Result<(), Fail> {
             "e --zero-damaged",
             ScanSettings {
                 zero: true,
+                ..DEFAULTS
+            },
+            (0, 10),
+            "e ",
+        ),
+        (
+            "--tuples",
+            "--tuples e",
+            ScanSettings {
+                tuples: true,
                 ..DEFAULTS
             },
             (0, 10),
@@ -107,6 +119,16 @@ fn commands(rt: HostRuntime) -> Result<(), Fail> {
             "--method worker",
             "--method=worker f",
             DEFAULTS,
+            (0, 10),
+            "f ",
+        ),
+        (
+            "--method ring",
+            "--method ring f",
+            ScanSettings {
+                method: MethodKind::Ring,
+                ..DEFAULTS
+            },
             (0, 10),
             "f ",
         ),
@@ -191,6 +213,7 @@ fn refused_words(rt: HostRuntime) -> Result<(), Fail> {
         "--combine 129 f",
         "--method other f",
         "--method Sync f",
+        "--method rings f",
         "--method= f",
         "--comb 1 f",
         "--make 10 f",
@@ -199,9 +222,13 @@ fn refused_words(rt: HostRuntime) -> Result<(), Fail> {
         "--make 10 --from 1",
         "--make 10 --to 1",
         "--make 10 --make 10",
+        "--make 10 --tuples",
         "--stats",
         "--stats --stats f",
         "--stats=true f",
+        "--tuples",
+        "--tuples --tuples f",
+        "--tuples=true f",
         "--unknown f",
         "-f",
         "--help",

@@ -22,7 +22,7 @@ const OPTIONS: [&str; 10] = [
 ];
 
 // The flags.
-const FLAGS: [&str; 4] = ["batch", "full", "stats", "zero-damaged"];
+const FLAGS: [&str; 5] = ["batch", "full", "stats", "zero-damaged", "tuples"];
 
 fn option<'a>(alloc: Global, name: &'a str) -> Arg<'a>
     ensures rule { rule_of result ≡ option_rule name.entry.now }

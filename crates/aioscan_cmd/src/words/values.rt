@@ -101,6 +101,7 @@ fn method(matches: &ArgMatches<'_>, name: &str) -> Option<MethodKind>
     match text_of(matches, name) {
         None | Some("worker") => Some(MethodKind::Worker),
         Some("sync") => Some(MethodKind::Sync),
+        Some("ring") => Some(MethodKind::Ring),
         Some(_) => None,
     }
 }
@@ -132,6 +133,7 @@ pub(crate) fn settings(matches: &ArgMatches<'_>) -> Option<ScanSettings>
         full: flag(matches, "full"),
         segment: SEGMENT_SIZE,
         zero: flag(matches, "zero-damaged"),
+        tuples: flag(matches, "tuples"),
     })
 }
 

@@ -13,7 +13,7 @@ pub returns-clause-counted : goal.returns-clause-counted
 returns-clause-counted g c =
     let f = c.finish-totals.ensures.finished in
     let same = c.list_rounds-outcome.ensures.same in
-    let none = ap (sum_by g.D.Disk.reads) (same.opened ∙ c.in-Ok.ensures.opened)
+    let none = ap (sum_by g.D.Disk.reads) (same.opened ∙ c.in-Ok.ensures.new.opened)
     ∙ no_reads g.D.Disk.told g.D.Disk.relations g.D.Disk.segment g.D.Disk.faults g.D.Disk.reads
     g.W.World.told g.W.World.relations c.args.asked.segment c.args.disks.items c.requires.unread in
     record {
@@ -31,10 +31,10 @@ returns-clause-counted g c =
         f.each_taken,
         c.incarnations.ensures,
         c.list_rounds-outcome.ensures.taken,
-        c.in-Ok.ensures.taken,
+        c.in-Ok.ensures.new.taken,
       );
       no_workers = none_by_workers _ _ _ _ _ c.settings-settings.ensures.settings
-          (ap (λ config. config.runners) same.config ∙ c.in-Ok.ensures.numbers.1)
+          (ap (λ config. config.runners) same.config ∙ c.in-Ok.ensures.new.runners)
           f.no_workers c.by_runners.ensures;
     }
 

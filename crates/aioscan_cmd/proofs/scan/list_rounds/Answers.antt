@@ -1,6 +1,6 @@
-use Rattle.std.proofs.Common.{◌∙◌, Bool, rules, refl, sym, ap, subst}
-use Rattle.page_check.specs.SynchronousAnswer.{reader_of}
-use Rattle.scan_rounds.specs.declared.settings.ScanSettings.{ScanSettings}
+use Rattle.std.proofs.Common.{◌∙◌, rules, refl, sym, ap, subst}
+use Rattle.scan_rounds.specs.Manners.{Manner}
+use Rattle.aioscan_cmd.specs.Command.{manner_by}
 use Rattle.aioscan_cmd.specs.Cutting.{requests_for}
 use Rattle.aioscan_cmd.specs.ErrorLine.{Tells, error_stream}
 use Rattle.aioscan_cmd.specs.Reading.{Lists, HasWritten}
@@ -19,13 +19,14 @@ returns-clause-lists g c =
     g.E.Sink.faults (requests_for c.args.asked) _ t refl c.of-blocks.ensures.all
     (zero_sums c.default.result c.default.ensures) c.run-lister.ensures.follows
     c.run-lister.ensures.over in
-    let zero_is = ap (λ (s : ScanSettings). s.zero) c.settings.ensures.settings in
-    let Z : Bool → Type 0 = λ z.
-    Lists z g.W.World.told (requests_for c.args.asked) (g.O.Sink.written c.args.out.now)
+    let manner_is = ap manner_by c.settings-settings.ensures.settings in
+    let Z : Manner → Type 0 = λ m.
+    Lists m g.W.World.told (requests_for c.args.asked) (g.O.Sink.written c.args.out.now)
     (g.O.Sink.written t.out.now) t.outcome listed.warnings in
     let P : g.row.O.Denot → Type 0 = λ o.
-    Lists c.args.asked.command.now.settings.zero g.W.World.told (requests_for c.args.asked)
-    (g.O.Sink.written c.args.out.now) (g.O.Sink.written o) t.outcome listed.warnings in
+    Lists (manner_by (c.args.asked.command.now).settings) g.W.World.told
+    (requests_for c.args.asked) (g.O.Sink.written c.args.out.now) (g.O.Sink.written o) t.outcome
+    listed.warnings in
     let Q : g.row.E.Denot → Type 0 = λ e.
     Tells listed.warnings before
     (error_stream t.line (g.E.Sink.written e) (g.E.Sink.faults e)) in
@@ -34,7 +35,7 @@ returns-clause-lists g c =
       warnings = listed.warnings;
       tells = subst Q (sym (c.err-1.given.1 (sym err_loan) ∙ c.give_back-2.ensures)) listed.tells;
       are = subst P (sym (c.out-1.given.1 (sym loan) ∙ c.give_back.ensures))
-          (subst Z zero_is listed.are);
+          (subst Z manner_is listed.are);
     }
 
 pub returns-clause-writes : goal.returns-clause-writes
@@ -51,10 +52,10 @@ returns-clause-writes g c =
 
 pub returns-clause-sums : goal.returns-clause-sums
 returns-clause-sums g c = λ done.
-    (let zero_is = ap (λ (s : ScanSettings). s.zero) c.settings.ensures.settings in
-    let Z : Bool → Type 0 = λ z.
-    HasSums (reader_of z g.W.World.told) (requests_for c.args.asked) c.run-lister.result.sums in
-    subst Z zero_is
+    (let manner_is = ap manner_by c.settings-settings.ensures.settings in
+    let Z : Manner → Type 0 = λ m.
+    HasSums m g.W.World.told (requests_for c.args.asked) c.run-lister.result.sums in
+    subst Z manner_is
     (all_summed g.W.World.told g.O.Sink.written g.O.Sink.faults g.E.Sink.written
     g.E.Sink.faults (requests_for c.args.asked) _ c.run-lister.result refl
     c.of-blocks.ensures.all (zero_sums c.default.result c.default.ensures)

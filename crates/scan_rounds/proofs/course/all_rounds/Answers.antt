@@ -1,5 +1,6 @@
-use Rattle.std.proofs.Common.{refl, sym, subst, arith, ◌∙◌, Bool}
-use Rattle.scan_rounds.specs.Rounds.{AreZeroing}
+use Rattle.std.proofs.Common.{refl, sym, subst, arith, ◌∙◌}
+use Rattle.scan_rounds.specs.Manners.{Manner}
+use Rattle.scan_rounds.specs.Rounds.{AllListIn}
 use Rattle.scan_rounds.proofs.Going.{gone_nowhere, gone_then, as_many_hands}
 use Rattle.scan_rounds.proofs.course.all_rounds.Goals as goal
 
@@ -11,8 +12,8 @@ loop-init g c = record {
   fewer = omega arith;
   room = c.requires.room;
   gone = gone_nowhere _ _ _ _ _ _ _ _ _ c.requires.waiting (omega arith);
-  zeroing = c.requires.zeroing;
-  zero = refl;
+  all_list_in = c.requires.manner;
+  manner = refl;
   follows = g.met.A.Agenda.follows_itself c.args.agenda.now;
 }
 
@@ -27,8 +28,9 @@ loop-preserved g c =
       room = (let a = e.gone.room in let b = i.room in let f = e.fewer in omega arith);
       gone = gone_then _ _ _ _ _ _ _ _ _ _ _ _ _ _ _ _ i.gone e.gone
           (let a = e.fewer in let b = i.fewer in omega arith) (omega arith);
-      zeroing = subst (λ (b : Bool). AreZeroing b c.next_round.new.backends) i.zero e.zeroing.0;
-      zero = e.zeroing.1 ∙ i.zero;
+      all_list_in = subst (λ (n : Manner). AllListIn n c.next_round.new.backends) i.manner
+          e.manner.0;
+      manner = e.manner.1 ∙ i.manner;
       follows = g.met.A.Agenda.follows_on _ _ _ i.follows e.follows;
     }
 
@@ -39,15 +41,15 @@ returns-then-not-next_round-clause-gone g c =
     gone_then _ _ _ _ _ _ _ _ _ _ _ _ _ _ _ _ i.gone e.gone
     (let a = e.fewer in let b = i.fewer in omega arith) (omega arith)
 
-pub next_round-requires-clause-zeroing : goal.next_round-requires-clause-zeroing
-next_round-requires-clause-zeroing g c κs within =
+pub next_round-requires-clause-manner : goal.next_round-requires-clause-manner
+next_round-requires-clause-manner g c κs within =
     let i = c.loop.invariant in
-    subst (λ (b : Bool). AreZeroing b c.loop.backends) (sym i.zero) i.zeroing
+    subst (λ (n : Manner). AllListIn n c.loop.backends) (sym i.manner) i.all_list_in
 
-pub returns-then-not-next_round-clause-zeroing : goal.returns-then-not-next_round-clause-zeroing
-returns-then-not-next_round-clause-zeroing g c =
+pub returns-then-not-next_round-clause-manner : goal.returns-then-not-next_round-clause-manner
+returns-then-not-next_round-clause-manner g c =
     let i = c.loop.invariant in
     let e = c.next_round.ensures in (
-      subst (λ (b : Bool). AreZeroing b c.next_round.new.backends) i.zero e.zeroing.0,
-      e.zeroing.1 ∙ i.zero,
+      subst (λ (n : Manner). AllListIn n c.next_round.new.backends) i.manner e.manner.0,
+      e.manner.1 ∙ i.manner,
     )

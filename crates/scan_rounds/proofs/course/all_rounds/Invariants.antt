@@ -1,7 +1,7 @@
 use Rattle.std.proofs.Common.{◌≡◌, ◌≤◌, ◌*◌, ◌-◌, length}
 use Rattle.scan_rounds.specs.Hands.{meter}
 use Rattle.scan_rounds.specs.Progress.{AreWaiting, HasGone}
-use Rattle.scan_rounds.specs.Rounds.{AreZeroing}
+use Rattle.scan_rounds.specs.Rounds.{AllListIn}
 use Rattle.scan_rounds.proofs.course.all_rounds.Given as goal
 
 abbrev pub invariant-loop : goal.invariant-loop
@@ -16,8 +16,8 @@ invariant-loop g l = record {
       g.W.World.told g.W.World.relations l.common.table l.fn.backends l.backends l.fn.counts
       l.counts (g.A.Agenda.left l.fn.agenda - g.A.Agenda.left l.agenda)
       (g.A.Agenda.unread l.agenda - g.A.Agenda.unread l.fn.agenda);
-  zeroing : AreZeroing (g.A.Agenda.zero l.fn.agenda) l.backends;
-  zero : g.A.Agenda.zero l.agenda ≡ g.A.Agenda.zero l.fn.agenda;
+  all_list_in : AllListIn (g.A.Agenda.manner l.fn.agenda) l.backends;
+  manner : g.A.Agenda.manner l.agenda ≡ g.A.Agenda.manner l.fn.agenda;
   follows : g.A.Agenda.follows l.fn.agenda l.agenda;
 }
 

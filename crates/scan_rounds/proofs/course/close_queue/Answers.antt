@@ -1,5 +1,5 @@
 use Rattle.std.proofs.lemmas.List.{get_or_default}
-use Rattle.scan_rounds.proofs.Going.{first_closed, zeroing_closed}
+use Rattle.scan_rounds.proofs.Going.{first_closed, manner_closed}
 use Rattle.scan_rounds.proofs.course.close_queue.Goals as goal
 
 pub returns-clause-waiting : goal.returns-clause-waiting
@@ -7,9 +7,10 @@ returns-clause-waiting g c =
     let r = c.close.ensures.rest in
     (first_closed _ _ _ _ _ c.args.backends.now _ c.close.new.self c.args.counts
     c.requires.waiting (get_or_default _ 0 _ _ c.requires.waiting.some) r.0 r.1 r.2
-    c.close.ensures.seat).0
+    r.4 c.close.ensures.seat).0
 
-pub returns-clause-zeroing : goal.returns-clause-zeroing
-returns-clause-zeroing g c on all =
-    zeroing_closed c.args.backends.now _ c.close.new.self
-    (get_or_default _ 0 _ _ c.requires.waiting.some) c.close.ensures.rest.1 on all
+pub returns-clause-manner : goal.returns-clause-manner
+returns-clause-manner g c how all =
+    let r = c.close.ensures.rest in
+    manner_closed c.args.backends.now _ c.close.new.self
+    (get_or_default _ 0 _ _ c.requires.waiting.some) r.1 r.3 how all

@@ -45,16 +45,16 @@ returns-clause-gone g c =
 pub returns-clause-follows : goal.returns-clause-follows
 returns-clause-follows g c =
     c.end.ensures.follows _ _ c.put-count.ensures.puts
-    (answered_as _ _ _ _ _ c.put-count.ensures.zero
-    (subst (λ (js : List Job). AreAnswered (g.A.Agenda.zero c.args.agenda.now) g.W.World.told js
+    (answered_as _ _ _ _ _ c.put-count.ensures.manner
+    (subst (λ (js : List Job). AreAnswered (g.A.Agenda.manner c.args.agenda.now) g.W.World.told js
     c.one_round.new.jobs)
     c.split_at_mut-front.ensures.front (answered_by _ _ _ _ _ _ c.requires.waiting.some
-    (c.one_round.ensures.listed _ c.requires.zeroing))))
+    (c.one_round.ensures.listed _ c.requires.manner))))
 
-pub returns-clause-zeroing : goal.returns-clause-zeroing
-returns-clause-zeroing g c = (
-  c.one_round.ensures.zeroing _ c.requires.zeroing,
-  c.end.ensures.zero ∙ c.put-count.ensures.zero,
+pub returns-clause-manner : goal.returns-clause-manner
+returns-clause-manner g c = (
+  c.one_round.ensures.manner _ c.requires.manner,
+  c.end.ensures.manner ∙ c.put-count.ensures.manner,
 )
 
 pub returns-clause-nearer : goal.returns-clause-nearer

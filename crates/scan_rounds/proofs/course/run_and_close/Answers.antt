@@ -6,10 +6,10 @@ pub returns-clause-gone : goal.returns-clause-gone
 returns-clause-gone g c =
     gone_as _ _ _ _ _ _ _ _ _ _ _ _ refl c.close_queue.ensures.hands c.all_rounds.ensures.gone
 
-pub returns-clause-zeroing : goal.returns-clause-zeroing
-returns-clause-zeroing g c =
+pub returns-clause-manner : goal.returns-clause-manner
+returns-clause-manner g c =
     let e = c.all_rounds.ensures in
-    (c.close_queue.ensures.zeroing _ e.zeroing.0, e.zeroing.1)
+    (c.close_queue.ensures.manner _ e.manner.0, e.manner.1)
 
 pub returns-clause-many : goal.returns-clause-many
 returns-clause-many g c = (

@@ -51,8 +51,8 @@ returns-clause-lived g c h =
 pub returns-clause-job : goal.returns-clause-job
 returns-clause-job g c = record {
   same = search rules;
-  answer = job_zeroing _ _ _ _ _ _ _ _ _ c.open-stream.ensures.zero
-      (job_moved _ _ _ _ _ _ _ _ _ _ _ _ _ _ _ _ _ c.open-stream.ensures.actor.0
+  answer = job_zeroing _ _ _ _ _ _ _ _ _ _ c.open-stream.ensures.zero
+      (job_moved _ _ _ _ _ _ _ _ _ _ _ _ _ _ _ _ _ _ c.open-stream.ensures.actor.0
       (source_counted _ _ _ _ (c.open-stream.ensures.source ∙ c.new-source.ensures)
       (omega arith)) c.close-desk.ensures.went
       c.show_all-job.ensures.answer);

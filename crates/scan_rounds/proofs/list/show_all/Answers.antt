@@ -19,7 +19,7 @@ loop-ending-init g c = record {
   was = (refl, refl);
   zero = refl;
   desk = refl;
-  so_far = nothing_yet _ _ _ _ _ _ c.requires.none c.requires.text c.requires.warnings
+  so_far = nothing_yet _ _ _ _ _ _ _ c.requires.none c.requires.text c.requires.warnings
       c.requires.sums;
   quiet = λ off. c.requires.warnings;
 }
@@ -40,7 +40,7 @@ show-requires-clause-fit g c =
     let blocks = c.args.stream.now.source_was.value in
     let many = length-map blocks (entry_of c.args.relation) in
     let few = c.requires.few in
-    next_fits c.args.stream.now.scope.zero g.W.World.told
+    next_fits _ c.args.stream.now.scope.zero g.W.World.told
     (MayBeUnread c.args.stream.now.scope.was.value c.next-answer.new.actor.known)
     (entries_of c.args.relation blocks) c.loop-ending.stream.given
     (said c.args.relation c.next-answer.result) _ (omega (arith, many, few)) i.so_far
@@ -64,13 +64,13 @@ loop-ending-preserved g c =
       was = (f.actor_was ∙ i.was.0, f.source ∙ i.was.1);
       zero = f.zero ∙ i.zero;
       desk = f.desk ∙ i.desk;
-      so_far = shown_more _ _ _ _ _ _ _ _ _ i.so_far
+      so_far = shown_more _ _ _ _ _ _ _ _ _ _ i.so_far
           (at_place _ _ _ _ _ _ _ _ _ _ _ _ i.was.0 i.place i.was.1 i.zero
           c.next-answer.ensures.answer)
           c.show.ensures c.in_default.is
           (f.given ∙ ap (λ (r : ℕ). c.loop-ending.stream.given
           + pages_in (said r c.next-answer.result)) i.place);
-      quiet = still_quiet c.args.stream.now.scope.zero (said c.args.relation c.next-answer.result)
+      quiet = still_quiet _ c.args.stream.now.scope.zero (said c.args.relation c.next-answer.result)
           _ _ _ (zeroed_at_place _ _ _ _ c.next-answer.result i.place i.zero
           c.next-answer.ensures.zeroed) c.show.ensures i.quiet;
     }
@@ -79,7 +79,7 @@ pub loop-ending-smaller : goal.loop-ending-smaller
 loop-ending-smaller g c =
     let f = c.next-answer.follows.holds-at-none in
     let i = c.loop-ending.invariant in
-    let near = nearer _ _ _ _ _ _ _ _ _
+    let near = nearer _ _ _ _ _ _ _ _ _ _
     (at_place _ _ _ _ _ _ _ _ _ _ _ _ i.was.0 i.place i.was.1 i.zero
     c.next-answer.ensures.answer)
     c.show.ensures c.in_default.is
@@ -94,7 +94,7 @@ returns-in-Some-clause-went g c =
 pub returns-in-Some-clause-answer : goal.returns-in-Some-clause-answer
 returns-in-Some-clause-answer g c =
     let i = c.loop-ending.invariant in
-    shown_end _ _ _ _ _ _ _ _ _ i.so_far
+    shown_end _ _ _ _ _ _ _ _ _ _ i.so_far
     (at_place _ _ _ _ _ _ _ _ _ _ _ _ i.was.0 i.place i.was.1 i.zero
     c.next-answer.ensures.answer)
     c.show.ensures c.in-Some.is
@@ -102,6 +102,6 @@ returns-in-Some-clause-answer g c =
 pub returns-in-Some-clause-quiet : goal.returns-in-Some-clause-quiet
 returns-in-Some-clause-quiet g c off =
     let i = c.loop-ending.invariant in
-    still_quiet c.args.stream.now.scope.zero (said c.args.relation c.next-answer.result) _ _ _
+    still_quiet _ c.args.stream.now.scope.zero (said c.args.relation c.next-answer.result) _ _ _
     (zeroed_at_place _ _ _ _ c.next-answer.result i.place i.zero c.next-answer.ensures.zeroed)
     c.show.ensures i.quiet off

@@ -1,6 +1,7 @@
 use Rattle.std.proofs.Common.{◌≡◌, ◌-◌, false, [], length}
 use Rattle.page_check.specs.SynchronousAnswer.{reader_of}
 use Rattle.aio_handle.specs.Shown.{IsOf, IsSame}
+use Rattle.heap_tuple.specs.Listing.{text_with}
 use Rattle.read_stream.specs.Answering.{entries_of}
 use Rattle.read_stream.specs.Open.{IsOpen}
 use Rattle.read_stream.specs.Went.{Went}
@@ -25,7 +26,7 @@ invariant-loop-ending g l = record {
       × (l.stream.source_was.value ≡ l.fn.stream.source_was.value);
   zero : l.stream.scope.zero ≡ l.fn.stream.scope.zero;
   desk : l.stream.desk.ghost_name ≡ l.fn.stream.desk.ghost_name;
-  so_far : SoFar (reader_of l.fn.stream.scope.zero g.W.World.told)
+  so_far : SoFar (text_with l.tuples) (reader_of l.fn.stream.scope.zero g.W.World.told)
       (entries_of l.relation l.fn.stream.source_was.value) l.stream.given
       (shown l.text.items l.warnings.items l.sums);
   quiet : l.fn.stream.scope.zero ≡ false → l.warnings.items ≡ [];

@@ -3,6 +3,7 @@ use Rattle.std.specs.List.{All}
 use Rattle.std.specs.Vec.Iter.{into_iter_items}
 use Rattle.aio_handle.specs.Shown.{AreNew, Standing}
 use Rattle.method_worker.specs.Shown.{IsSeatOf, Seating}
+use Rattle.scan_rounds.specs.Rings.{IsRingOf}
 use Rattle.scan_rounds.specs.Opening.{IsDeskFor}
 use Rattle.scan_rounds.specs.declared.scan.Scan.{Scan}
 use Rattle.scan_rounds.proofs.Opening.{left_of_backends, seats_least}
@@ -11,26 +12,26 @@ use Rattle.scan_rounds.proofs.open.man.Goals as goal
 
 pub workers-workers-requires-clause-actors : goal.workers-workers-requires-clause-actors
 workers-workers-requires-clause-actors g c κs within =
-    let left = left_of_backends _ _ _ c.backends-backends.ensures.made in
+    let left = left_of_backends _ _ _ _ c.backends-backends.ensures.made in
     let all = ap length c.into_iter.ensures.rest ∙ c.requires.memory.actors_are in
     let bs = c.backends-backends.ensures.count in
-    let ws = c.by_method-count.ensures in omega (arith, left.0, all, bs, ws)
+    let ws = c.worker_count.ensures in omega (arith, left.0, all, bs, ws)
 
 pub workers-workers-requires-clause-disks : goal.workers-workers-requires-clause-disks
 workers-workers-requires-clause-disks g c κs within =
-    let left = left_of_backends _ _ _ c.backends-backends.ensures.made in
+    let left = left_of_backends _ _ _ _ c.backends-backends.ensures.made in
     let all = ap length c.into_iter-2.ensures.rest ∙ c.requires.disks in
     let bs = c.backends-backends.ensures.count in
-    let ws = c.by_method-count.ensures in omega (arith, left.1, all, bs, ws)
+    let ws = c.worker_count.ensures in omega (arith, left.1, all, bs, ws)
 
 pub workers-workers-requires-clause-seats : goal.workers-workers-requires-clause-seats
 workers-workers-requires-clause-seats g c κs within =
     let most = length (into_iter_items c.into_iter-3.result) in
     let left = length (into_iter_items c.backends-backends.new.self.seats) in
-    let least = seats_least _ _ _ c.backends-backends.ensures.made in
+    let least = seats_least _ _ _ _ c.backends-backends.ensures.made in
     let all = ap length c.into_iter-3.ensures.rest ∙ c.requires.memory.seats_are in
     let bs = c.backends-backends.ensures.count in
-    let ws = c.by_method-count.ensures in
+    let ws = c.worker_count.ensures in
     let few : most ≤ c.args.settings.now.backends + left = omega (arith, least, bs) in
     let enough = enough_seats c.args.settings.now.method most c.args.settings.now.backends
     c.args.settings.now.workers left all few in
@@ -51,6 +52,7 @@ returns g c =
       room = 2 ^ 58 - 1 - c.args.start;
       unread = 0;
       zero = c.args.settings.now.zero;
+      tuples = c.args.settings.now.tuples;
       opened = c.of-opened.result;
       actors = c.args.memory.lists.actors;
       disks = c.args.memory.lists.disks;
@@ -62,19 +64,22 @@ returns g c =
           (sym c.into_iter.ensures.rest) memory.actors;
       seats = subst (λ (l : List Seating). All (IsSeatOf c.args.memory.common.queue) l)
           (sym c.into_iter-3.ensures.rest) memory.seats;
-      desks = subst (λ l. All (IsDeskFor c.args.settings.now) l) (sym c.into_iter-4.ensures.rest)
+      desks = subst (λ l. All (IsDeskFor c.args.settings.now) l) (sym c.into_iter-5.ensures.rest)
           memory.desks;
       seats_are = ap length c.into_iter-3.ensures.rest ∙ memory.seats_are;
+      rings = subst (λ l. All (IsRingOf c.args.memory.common.queue) l)
+          (sym c.into_iter-4.ensures.rest) memory.rings;
+      rings_are = ap length c.into_iter-4.ensures.rest ∙ memory.rings_are;
       opened = opened ∙ sym disks;
       disks_are = ap length disks ∙ c.requires.disks;
       backends = c.backends-backends.ensures.made;
       backends_are = c.backends-backends.ensures.count;
       workers = c.workers-workers.ensures.made;
-      workers_are = c.workers-workers.ensures.count ∙ c.by_method-count.ensures;
+      workers_are = c.workers-workers.ensures.count ∙ c.worker_count.ensures;
       jobs_are = memory.jobs_are;
       room = refl;
       unread = refl;
-      zero = refl;
+      manner_is = refl;
       actors_fit = memory.lists.actors_fit;
       disks_fit = memory.lists.disks_fit;
     }

@@ -1,7 +1,7 @@
 use Rattle.scan_rounds.proofs.Rooms.{least_falls}
 use Rattle.scan_rounds.proofs.Rounding.{all_may, backends_after, idle_after, listed_after}
 use Rattle.scan_rounds.proofs.Rounding.{goes_on_after, taken_after, unread_after, same_length}
-use Rattle.scan_rounds.proofs.Rounding.{goes_after, lived_after, raised_within, zeroing_after}
+use Rattle.scan_rounds.proofs.Rounding.{goes_after, lived_after, raised_within, manner_after}
 use Rattle.scan_rounds.proofs.rounds.one_round.Goals as goal
 
 pub run_backends-requires-clause-may : goal.run_backends-requires-clause-may
@@ -65,8 +65,8 @@ returns-clause-results g c =
     let count = c.count_unread.ensures in
     raised_within _ _ _ _ _ count c.requires.unread more
 
-pub returns-clause-zeroing : goal.returns-clause-zeroing
-returns-clause-zeroing g c =
-    zeroing_after _ _ _ _ _ _ _ _ _ _ c.requires.backends c.requires.idle c.requires.fresh
+pub returns-clause-manner : goal.returns-clause-manner
+returns-clause-manner g c =
+    manner_after _ _ _ _ _ _ _ _ _ _ c.requires.backends c.requires.idle c.requires.fresh
     c.requires.few.1 c.requires.room.1 c.requires.room.0.have c.swap_jobs.ensures _ _ _
     c.run_backends.ensures.ran c.swap_jobs-2.ensures

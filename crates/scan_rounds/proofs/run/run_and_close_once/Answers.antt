@@ -12,5 +12,5 @@ returns g c =
     record {
       ran = all_closed _ _ _ _ _ c.args.backends.now c.run_backends.new.backends _
           c.close.new.self ran c.requires.some (get_or_default _ 0 _ _ some) r.0 r.1 r.2
-          c.close.ensures.seat;
+          r.3 r.4 c.close.ensures.seat;
     }

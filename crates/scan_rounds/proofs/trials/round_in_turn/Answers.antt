@@ -37,5 +37,5 @@ returns g c =
     record {
       scan = scan_again _ _ _ c.args.scan.now _ _ _ c.requires.scan r.table (search rules)
           (search rules) d.now
-          c.serve_all-own_workers.ensures.worked d.go_on d.zeroing d.many refl refl refl refl;
+          c.serve_all-own_workers.ensures.worked d.go_on d.all_list_in d.many refl refl refl refl;
     }

@@ -18,5 +18,5 @@ returns-then-self-eq0 g c = record {
   taken = omega arith;
   idle = λ none. refl;
   listed = λ some. absurd (some (search rules));
-  zero = refl;
+  manner_kept = refl;
 }

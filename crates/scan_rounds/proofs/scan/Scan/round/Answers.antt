@@ -1,5 +1,6 @@
-use Rattle.std.proofs.Common.{rules, ◌∙◌, refl, ap}
+use Rattle.std.proofs.Common.{rules, ◌∙◌, refl, ap, subst}
 use Rattle.aio_handle.specs.Shown.{Named}
+use Rattle.scan_rounds.specs.Scans.{IsOpenedAgain}
 use Rattle.scan_rounds.proofs.Again.{serving_in, scan_again}
 use Rattle.scan_rounds.proofs.OneRound.{round_may, round_done}
 use Rattle.scan_rounds.proofs.scan.Scan.round.Goals as goal
@@ -27,7 +28,7 @@ returns-clause-scan g c =
     e.ran c.exchange-idle.ensures (search rules) c.count_unread.ensures in
     scan_again _ _ _ c.args.self.now _ _ _ c.requires.scan r.table (search rules) (search rules)
     d.now
-    e.worked d.go_on d.zeroing d.many refl refl refl refl
+    e.worked d.go_on d.all_list_in d.many refl refl refl refl
 
 pub returns-clause-same : goal.returns-clause-same
 returns-clause-same g c =
@@ -40,8 +41,14 @@ returns-clause-same g c =
       config = ap (λ (t : Named). t.config) r.table;
       as_many = d.many ∙ (search rules);
       opened = refl;
-      zero = refl;
+      manner_kept = refl;
     }
+
+pub returns-clause-reopened : goal.returns-clause-reopened
+returns-clause-reopened g c =
+    subst (λ own. IsOpenedAgain own.items c.args.self.now.common.queue
+    c.reopen_queue-waiting.new.common.queue)
+    c.replace-own_backends.ensures.value c.reopen_queue-waiting.ensures.reopened
 
 pub returns-clause-listed : goal.returns-clause-listed
 returns-clause-listed g c =

@@ -1,6 +1,7 @@
-use Rattle.std.proofs.Common.{◌≡◌, rules, refl, sym, subst, Bool}
-use Rattle.scan_rounds.specs.Rounds.{AreZeroing}
-use Rattle.scan_rounds.specs.Scans.{IsOpenedAgain}
+use Rattle.std.proofs.Common.{◌≡◌, rules, refl, sym, subst}
+use Rattle.scan_rounds.specs.Manners.{Manner}
+use Rattle.scan_rounds.specs.Rounds.{AllListIn}
+use Rattle.scan_rounds.specs.Scans.{IsOpenedAgain, manner_in}
 use Rattle.scan_rounds.proofs.Again.{waiting_in, serving_in, scan_again}
 use Rattle.scan_rounds.proofs.scan.Scan.run.Goals as goal
 
@@ -22,8 +23,8 @@ returns-clause-scan g c =
     let e = c.run_beside-own_workers.ensures in
     scan_again _ _ _ c.args.self.now _ _ _ c.requires.scan c.reopen_queue.ensures.table
     (search rules) (search rules) e.waiting e.worked e.gone.go_on
-    (subst (λ (b : Bool). AreZeroing b c.run_beside-own_workers.result.1.backends.items)
-    c.requires.zero e.zeroing.0) e.many.0 (search rules) refl refl refl
+    (subst (λ (n : Manner). AllListIn n c.run_beside-own_workers.result.1.backends.items)
+    c.requires.manner e.manner.0) e.many.0 (search rules) refl refl refl
 
 pub returns-clause-reopened : goal.returns-clause-reopened
 returns-clause-reopened g c =
@@ -31,9 +32,9 @@ returns-clause-reopened g c =
     c.reopen_queue.new.common.queue)
     c.replace-own_backends.ensures.value c.reopen_queue.ensures.reopened
 
-pub run_beside-own_workers-requires-clause-zeroing :
-    goal.run_beside-own_workers-requires-clause-zeroing
-run_beside-own_workers-requires-clause-zeroing g c κs within =
+pub run_beside-own_workers-requires-clause-manner :
+    goal.run_beside-own_workers-requires-clause-manner
+run_beside-own_workers-requires-clause-manner g c κs within =
     let same : c.reopen_queue.result.items ≡ c.args.self.now.backends.items = search rules in
-    subst (λ (b : Bool). AreZeroing b c.reopen_queue.result.items) (sym c.requires.zero)
-    (subst (λ bs. AreZeroing c.args.self.now.zero bs) (sym same) c.requires.scan.zeroing)
+    subst (λ (n : Manner). AllListIn n c.reopen_queue.result.items) (sym c.requires.manner)
+    (subst (λ bs. AllListIn (manner_in c.args.self.now) bs) (sym same) c.requires.scan.all_list_in)

@@ -1,6 +1,6 @@
 use Rattle.std.proofs.Common.{◌≡◌, length}
 use Rattle.method_ring.specs.Trials.{AreReadInto}
-use Rattle.method_ring.proofs.tests.three_picks.Given as goal
+use Rattle.method_ring.proofs.tests.picks.Given as goal
 
 abbrev pub invariant-loop : goal.invariant-loop
 invariant-loop g l = record {

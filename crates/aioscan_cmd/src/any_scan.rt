@@ -1,0 +1,136 @@
+//! A scan by any method.
+ghost use Rattle.std.specs.Prelude.{◌≡◌, ◌≢◌, ◌≤◌, ◌+◌, ◌*◌, ℕ, length, IfErr, IfOk};
+ghost use Rattle.std.specs.List.{All};
+ghost use Rattle.aio_disk.specs.Counts.{raised_by};
+ghost use Rattle.scan_rounds.specs.Hands.{meter};
+ghost use Rattle.scan_rounds.specs.Opening.{AreSettings, workers_in};
+ghost use Rattle.scan_rounds.specs.Rounds.{taken_by};
+ghost use Rattle.scan_rounds.specs.Scans.{IsFinished, IsScan, IsSameScan};
+ghost use Rattle.scan_rounds.specs.Scans.{hands_of, lists_of, manner_in, opened_by};
+ghost use Rattle.aioscan_cmd.specs.Scanning.{IsNewScan, scan_in};
+
+use aio_disk::Disk;
+use aio_handle::Totals;
+use page_check::World;
+use scan_rounds::{Agenda, MethodKind, RingScan, Scan, ScanSettings};
+use std::alloc::Global;
+use std::sync::Wait;
+use std::thread::Threads;
+
+/// A scan by any method.
+#[derive(Drop)]
+pub(crate) enum AnyScan<W: World, D: Disk> {
+    /// By the sync method, or by workers.
+    Plain(Scan<W, D>),
+    /// By rings.
+    Rings(RingScan<W, D>),
+}
+
+// A scan by the sync method or by workers.
+fn open_plain<W: World, D: Disk>(
+    alloc: Global,
+    settings: &ScanSettings,
+    disks: Vec<D>,
+) -> Result<AnyScan<W, D>, Vec<D>>
+    requires settings { AreSettings settings.now }
+    requires method { settings.now.method ≢ MethodKind.Ring }
+    requires disks { length disks.items ≡ settings.now.backends + workers_in settings.now }
+    requires tell { All (λ d. (D.told d ≡ W.told) × (D.relations d ≡ W.relations)) disks.items }
+    requires segments { All (λ d. D.segment d ≡ settings.now.segment) disks.items }
+    requires handles { settings.now.backends * settings.now.handles ≡ W.handles }
+    ensures new { IfOk result (λ s. IsNewScan (meter D.told D.relations D.reads D.faults) W.told
+        W.relations settings.now disks.items (scan_in s)) }
+    ensures back { IfErr result (λ d. d ≡ disks) }
+{
+    match Scan::open(alloc, settings, disks) {
+        Ok(scan) => Ok(AnyScan::Plain(scan)),
+        Err(disks) => Err(disks),
+    }
+}
+
+// A scan by rings.
+fn open_rings<W: World, D: Disk>(
+    alloc: Global,
+    settings: &ScanSettings,
+    disks: Vec<D>,
+) -> Result<AnyScan<W, D>, Vec<D>>
+    requires settings { AreSettings settings.now }
+    requires method { settings.now.method ≡ MethodKind.Ring }
+    requires disks { length disks.items ≡ settings.now.backends + workers_in settings.now }
+    requires tell { All (λ d. (D.told d ≡ W.told) × (D.relations d ≡ W.relations)) disks.items }
+    requires segments { All (λ d. D.segment d ≡ settings.now.segment) disks.items }
+    requires handles { settings.now.backends * settings.now.handles ≡ W.handles }
+    ensures new { IfOk result (λ s. IsNewScan (meter D.told D.relations D.reads D.faults) W.told
+        W.relations settings.now disks.items (scan_in s)) }
+    ensures back { IfErr result (λ d. d ≡ disks) }
+{
+    match RingScan::open(alloc, settings, disks) {
+        Ok(scan) => Ok(AnyScan::Rings(scan)),
+        Err(disks) => Err(disks),
+    }
+}
+
+impl<W: World, D: Disk> AnyScan<W, D> {
+    /// A scan with these settings, over a disk for each backend and each worker. Where there is no
+    /// memory the disks come back.
+    pub(crate) fn open(
+        alloc: Global,
+        settings: &ScanSettings,
+        disks: Vec<D>,
+    ) -> Result<AnyScan<W, D>, Vec<D>>
+        requires settings { AreSettings settings.now }
+        requires disks { length disks.items ≡ settings.now.backends + workers_in settings.now }
+        requires tell { All (λ d. (D.told d ≡ W.told) × (D.relations d ≡ W.relations)) disks.items }
+        requires segments { All (λ d. D.segment d ≡ settings.now.segment) disks.items }
+        requires handles { settings.now.backends * settings.now.handles ≡ W.handles }
+        ensures new { IfOk result (λ s. IsNewScan (meter D.told D.relations D.reads D.faults)
+            W.told W.relations settings.now disks.items (scan_in s)) }
+        ensures back { IfErr result (λ d. d ≡ disks) }
+    {
+        match settings.method {
+            MethodKind::Sync => open_plain(alloc, settings, disks),
+            MethodKind::Worker => open_plain(alloc, settings, disks),
+            MethodKind::Ring => open_rings(alloc, settings, disks),
+        }
+    }
+
+    /// Closes the table. The disks come back.
+    pub(crate) fn finish(self) -> (Totals, Vec<D>)
+        requires scan { IsScan (meter D.told D.relations D.reads D.faults) W.told W.relations
+            (scan_in self) }
+        ensures finished { IsFinished (meter D.told D.relations D.reads D.faults) W.told W.relations
+            (scan_in self).common.table.config (scan_in self).unread
+            (taken_by (scan_in self).backends.items) (opened_by (scan_in self)) result.1.items
+            (lists_of (hands_of (scan_in self))) result.0 }
+    {
+        match self {
+            AnyScan::Plain(scan) => scan.finish(),
+            AnyScan::Rings(scan) => scan.finish(),
+        }
+    }
+}
+
+impl<W: World + Send + Sync, D: Disk> AnyScan<W, D> {
+    /// All rounds of an agenda, until it is over. It may wait.
+    pub(crate) fn run<R: Threads + Wait + Sync, A: Agenda<W>>(&mut self, rt: &R, agenda: A) -> A
+        requires scan { IsScan (meter D.told D.relations D.reads D.faults) W.told W.relations
+            (scan_in self.old) }
+        requires room { 64 * A.left agenda ≤ (scan_in self.old).room }
+        requires manner { A.manner agenda ≡ manner_in (scan_in self.old) }
+        ensures scan { IsScan (meter D.told D.relations D.reads D.faults) W.told W.relations
+            (scan_in self.new) }
+        ensures same { IsSameScan (scan_in self.old) (scan_in self.new) }
+        ensures follows { A.follows agenda result }
+        ensures over { A.is_over result }
+        ensures unread { (more : ℕ) × ((scan_in self.new).unread
+            ≡ raised_by more (scan_in self.old).unread)
+            × (A.unread result ≤ A.unread agenda + more) }
+        ensures taken { taken_by (scan_in self.new).backends.items + A.left result
+            ≤ taken_by (scan_in self.old).backends.items + A.left agenda }
+    {
+        match self {
+            AnyScan::Plain(scan) => scan.run(rt, agenda),
+            AnyScan::Rings(scan) => scan.run(rt, agenda),
+        }
+    }
+}

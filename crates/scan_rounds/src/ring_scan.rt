@@ -1,0 +1,184 @@
+//! A scan whose backends execute I/Os by rings.
+ghost use Rattle.std.specs.Prelude.{◌≡◌, ◌≤◌, ◌<◌, ◌+◌, ◌*◌, ◌-◌, ◌^◌, ℕ, length, map};
+ghost use Rattle.std.specs.Prelude.{Some, IfErr, IfOk};
+ghost use Rattle.std.specs.List.{All};
+ghost use Rattle.aio_disk.specs.Counts.{raised_by};
+ghost use Rattle.scan_rounds.specs.Hands.{meter};
+ghost use Rattle.scan_rounds.specs.Jobs.{IsFresh, blocks_among, unread_among};
+ghost use Rattle.scan_rounds.specs.Manners.{manner};
+ghost use Rattle.scan_rounds.specs.Opening.{AreSettings, IsSetUp};
+ghost use Rattle.scan_rounds.specs.Rounds.{AreListed, taken_by};
+ghost use Rattle.scan_rounds.specs.Scans.{IsFinished, IsOpenedAgain, IsScan, IsSameScan};
+ghost use Rattle.scan_rounds.specs.Scans.{disk_of, hands_of, lists_of, manner_in, opened_by};
+
+use crate::agenda::Agenda;
+use crate::job::Job;
+use crate::open::open_scan;
+use crate::scan::Scan;
+use crate::settings::{MethodKind, ScanSettings};
+use aio_disk::Disk;
+use aio_handle::Totals;
+use page_check::World;
+use std::alloc::Global;
+use std::marker::Model;
+use std::sync::Wait;
+use std::thread::Threads;
+
+/// A scan without workers, each of whose backends executes I/Os by a ring over its disk: its own
+/// and those that others have pushed, in groups. Contracts see the scan.
+#[derive(Drop)]
+pub struct RingScan<W: World, D: Disk> {
+    pub(crate) scan: Scan<W, D>,
+}
+
+impl<W: World, D: Disk> Model for RingScan<W, D> {
+    ghost use Rattle.scan_rounds.specs.declared.scan.Scan.{Scan};
+
+    ghost Value = { Scan W D };
+
+    ghost view = { λ r. r.scan };
+}
+
+impl<W: World, D: Disk> RingScan<W, D> {
+    /// A scan with these settings, which are `MethodKind::Ring`, over a disk for each backend. It
+    /// takes all memory that the scan ever takes, but for the texts of jobs; where there is none,
+    /// the disks come back as they are.
+    pub fn open(
+        alloc: Global,
+        settings: &ScanSettings,
+        disks: Vec<D>,
+    ) -> Result<RingScan<W, D>, Vec<D>>
+        requires settings { AreSettings settings.now }
+        requires method { settings.now.method ≡ MethodKind.Ring }
+        requires disks { length disks.items ≡ settings.now.backends }
+        requires tell { All (λ d. (D.told d ≡ W.told) × (D.relations d ≡ W.relations)) disks.items }
+        requires segments { All (λ d. D.segment d ≡ settings.now.segment) disks.items }
+        requires handles { settings.now.backends * settings.now.handles ≡ W.handles }
+        ensures scan { IfOk result (λ s. IsScan (meter D.told D.relations D.reads D.faults) W.told
+            W.relations s) }
+        ensures numbers { IfOk result
+            (λ s. (s.common.table.config.backends ≡ settings.now.backends)
+            × (s.common.table.config.runners ≡ 0)
+            × (s.common.table.config.start ≡ 0)) }
+        ensures set_up { IfOk result (λ s. All (IsSetUp settings.now) s.backends.items) }
+        ensures opened { IfOk result (λ s. opened_by s ≡ disks.items) }
+        ensures taken { IfOk result (λ s. taken_by s.backends.items ≡ 0) }
+        ensures room { IfOk result (λ s. s.room ≡ 2 ^ 58 - 1) }
+        ensures unread { IfOk result (λ s. s.unread ≡ 0) }
+        ensures manner { IfOk result
+            (λ s. manner_in s ≡ manner settings.now.zero settings.now.tuples) }
+        ensures back { IfErr result (λ d. d ≡ disks) }
+    {
+        RingScan::open_at(alloc, settings, disks, 0)
+    }
+
+    /// The same, with the generations of the table's handles from `start` on, as in
+    /// [`Scan::open_at`].
+    pub fn open_at(
+        alloc: Global,
+        settings: &ScanSettings,
+        disks: Vec<D>,
+        start: u64,
+    ) -> Result<RingScan<W, D>, Vec<D>>
+        requires settings { AreSettings settings.now }
+        requires method { settings.now.method ≡ MethodKind.Ring }
+        requires disks { length disks.items ≡ settings.now.backends }
+        requires tell { All (λ d. (D.told d ≡ W.told) × (D.relations d ≡ W.relations)) disks.items }
+        requires segments { All (λ d. D.segment d ≡ settings.now.segment) disks.items }
+        requires handles { settings.now.backends * settings.now.handles ≡ W.handles }
+        requires start { start < 2 ^ 58 }
+        ensures scan { IfOk result (λ s. IsScan (meter D.told D.relations D.reads D.faults) W.told
+            W.relations s) }
+        ensures numbers { IfOk result
+            (λ s. (s.common.table.config.backends ≡ settings.now.backends)
+            × (s.common.table.config.runners ≡ 0)
+            × (s.common.table.config.start ≡ start)) }
+        ensures set_up { IfOk result (λ s. All (IsSetUp settings.now) s.backends.items) }
+        ensures opened { IfOk result (λ s. opened_by s ≡ disks.items) }
+        ensures taken { IfOk result (λ s. taken_by s.backends.items ≡ 0) }
+        ensures room { IfOk result (λ s. s.room ≡ 2 ^ 58 - 1 - start) }
+        ensures unread { IfOk result (λ s. s.unread ≡ 0) }
+        ensures manner { IfOk result
+            (λ s. manner_in s ≡ manner settings.now.zero settings.now.tuples) }
+        ensures back { IfErr result (λ d. d ≡ disks) }
+    {
+        match open_scan(alloc, settings, disks, start) {
+            Ok(scan) => Ok(RingScan { scan }),
+            Err(disks) => Err(disks),
+        }
+    }
+
+    /// The least room of its backends: how many more lives each of their handles can have.
+    pub fn room(&self) -> u64
+        ensures { result ≡ self.now.room }
+    {
+        self.scan.room()
+    }
+
+    /// How many jobs of its rounds so far have ended in Unread. It stays at its last value.
+    pub fn unread(&self) -> u64
+        ensures { result ≡ self.now.unread }
+    {
+        self.scan.unread()
+    }
+
+    /// Closes the table. The disks come back in the order in which they were handed in. It takes
+    /// no memory.
+    pub fn finish(self) -> (Totals, Vec<D>)
+        requires scan { IsScan (meter D.told D.relations D.reads D.faults) W.told W.relations self }
+        ensures finished { IsFinished (meter D.told D.relations D.reads D.faults) W.told W.relations
+            self.common.table.config self.unread (taken_by self.backends.items) (opened_by self)
+            result.1.items (lists_of (hands_of self)) result.0 }
+        ensures disks { map Some result.1.items ≡ map disk_of (hands_of self) }
+    {
+        self.scan.finish()
+    }
+}
+
+impl<W: World + Send + Sync, D: Disk> RingScan<W, D> {
+    /// One round: job `i` is listed by backend `i`. It may wait.
+    pub fn round<R: Threads + Wait + Sync>(&mut self, rt: &R, jobs: &mut [Job])
+        requires scan { IsScan (meter D.told D.relations D.reads D.faults) W.told W.relations
+            self.old }
+        requires few { (1 ≤ length jobs.old) × (length jobs.old ≤ length self.old.backends.items) }
+        requires fresh { All (IsFresh W.relations) jobs.old }
+        requires room { 64 ≤ self.old.room }
+        ensures scan { IsScan (meter D.told D.relations D.reads D.faults) W.told W.relations
+            self.new }
+        ensures same { IsSameScan self.old self.new }
+        ensures reopened { IsOpenedAgain self.old.backends.items self.old.common.queue
+            self.new.common.queue }
+        ensures listed { AreListed (manner_in self.old) W.told self.old.backends.items
+            self.new.backends.items jobs.old jobs.new }
+        ensures room { self.old.room ≤ self.new.room + 64 }
+        ensures unread { self.new.unread ≡ raised_by (unread_among jobs.new) self.old.unread }
+        ensures taken { taken_by self.new.backends.items
+            ≤ taken_by self.old.backends.items + blocks_among jobs.old }
+    {
+        self.scan.round(rt, jobs);
+    }
+
+    /// All rounds of an agenda, until it is over. The first backend runs in the caller's thread.
+    /// It may wait.
+    pub fn run<R: Threads + Wait + Sync, A: Agenda<W>>(&mut self, rt: &R, agenda: A) -> A
+        requires scan { IsScan (meter D.told D.relations D.reads D.faults) W.told W.relations
+            self.old }
+        requires room { 64 * A.left agenda ≤ self.old.room }
+        requires manner { A.manner agenda ≡ manner_in self.old }
+        ensures scan { IsScan (meter D.told D.relations D.reads D.faults) W.told W.relations
+            self.new }
+        ensures same { IsSameScan self.old self.new }
+        ensures reopened { IsOpenedAgain self.old.backends.items self.old.common.queue
+            self.new.common.queue }
+        ensures follows { A.follows agenda result }
+        ensures over { A.is_over result }
+        ensures manner { A.manner result ≡ A.manner agenda }
+        ensures room { self.old.room + 64 * A.left result ≤ self.new.room + 64 * A.left agenda }
+        ensures unread { (more : ℕ) × (self.new.unread ≡ raised_by more self.old.unread)
+            × (A.unread result ≤ A.unread agenda + more) }
+        ensures taken { taken_by self.new.backends.items + A.left result
+            ≤ taken_by self.old.backends.items + A.left agenda }
+    {
+        self.scan.run(rt, agenda)
+    }
+}
