@@ -6,7 +6,8 @@ use Rattle.aio_word.specs.declared.Config.{Config}
 use Rattle.aio_word.specs.declared.State.TheVariants.{HandedOut}
 use Rattle.aio_word.specs.declared.Word.{Word}
 use Rattle.aio_word.specs.Events.{owner, has_out_from}
-use Rattle.aio_word.proofs.Machines.{get-at, none-out, all-free}
+use Rattle.aio_word.proofs.Moves.{get-at}
+use Rattle.aio_word.proofs.NoneOut.{none-out, all-free}
 use Rattle.aio_word.proofs.Same.{at-get}
 
 by-bool : (b : Bool) → (b ≡ false → ⊥) → b ≡ true

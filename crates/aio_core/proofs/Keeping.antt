@@ -17,7 +17,8 @@ use Rattle.aio_word.specs.declared.Step.TheVariants as step
 use Rattle.aio_word.specs.declared.Word.{Word}
 use Rattle.aio_word.specs.Words.{IsLawful, place_of}
 use Rattle.aio_word.specs.Events.{Machine, after, leaves, noted, has_claimed, order, times, stepped}
-use Rattle.aio_word.proofs.Machines.{Moved, inverts, machine-keeps, get-at}
+use Rattle.aio_word.proofs.Moves.{Moved, inverts, get-at}
+use Rattle.aio_word.proofs.Machines.{machine-keeps}
 use Rattle.aio_word.proofs.Rows.{Begun, Marked, Quiet, marked-row, quiet-row}
 use Rattle.aio_word.proofs.Same.{get-set, get-else}
 use Rattle.aio_word.proofs.Steps.{mark, place-small, times-push}
@@ -248,11 +249,18 @@ makes c words lists lists' claimers claimers' e w next k here is noted-is claime
     (sym noted-is) in
     (step, subst (λ (z : List ℕ). IsKept c m' z) (sym claimers-are) (kept c m e m' claimers k step))
 
--- the word that was read is that of its handle, and lawful
+-- the word that was read is that of its handle
 pub word-at : (words : List Word) (h : ℕ) (w : Word) → h < length words → w ≡ get_or words h w
     → slice_get words h ≡ Some w
 word-at words h w lt e = slice_get_read words (length words) h w refl lt e
 
-pub lawful-at : (c : Config) (m : Machine) (claimers : List ℕ) (h : ℕ) (w : Word)
+lawful-at : (c : Config) (m : Machine) (claimers : List ℕ) (h : ℕ) (w : Word)
     → IsKept c m claimers → slice_get m.words h ≡ Some w → IsLawful w
 lawful-at c m claimers h w k at = (k.stands.stands.each_handle h w (get-at m.words h w at)).lawful
+
+-- and it is lawful
+pub lawful-read : (c : Config) (words : List Word) (lists : List (List Mark)) (claimers : List ℕ)
+    (h : ℕ) (w : Word) → IsKept c record { words = words; lists = lists } claimers
+    → h < length words → w ≡ get_or words h w → IsLawful w
+lawful-read c words lists claimers h w k lt e =
+    lawful-at c record { words = words; lists = lists } claimers h w k (word-at words h w lt e)

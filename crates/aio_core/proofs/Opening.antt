@@ -5,7 +5,7 @@ use Rattle.aio_word.specs.declared.Mark.{Mark}
 use Rattle.aio_word.specs.declared.Word.{Word}
 use Rattle.aio_word.specs.Words.{place_of}
 use Rattle.aio_word.specs.Events.{Machine, handles, actors, first_word, first_machine}
-use Rattle.aio_word.proofs.Machines.{get-at}
+use Rattle.aio_word.proofs.Moves.{get-at}
 use Rattle.aio_word.proofs.Reaching.{first-stands, at-replicate}
 use Rattle.aio_word.specs.Stands.{MachineStands}
 use mathlib.Core.Option.{some}

@@ -18,7 +18,8 @@ use Rattle.aio_word.specs.Words.{place_of}
 use Rattle.aio_word.specs.Events.{Machine, after, may, is_free, has_claimed, owner, times, ref}
 use Rattle.aio_word.specs.Stands.{IsIn, known_by, numbered_from}
 use Rattle.aio_word.proofs.Lives.{mark-once}
-use Rattle.aio_word.proofs.Machines.{placed, get-at}
+use Rattle.aio_word.proofs.Placed.{placed}
+use Rattle.aio_word.proofs.Moves.{get-at}
 use Rattle.aio_word.proofs.Owners.{sole}
 use Rattle.aio_word.proofs.Parts.{in-here}
 use Rattle.aio_word.proofs.Rows.{Begun, marked-row}

@@ -7,8 +7,8 @@ use Rattle.aio_word.specs.declared.Event.{Event}
 use Rattle.aio_word.specs.declared.Mark.{Mark}
 use Rattle.aio_word.specs.declared.Word.{Word}
 use Rattle.aio_word.specs.Events.{Machine, after, leaves, replaced, on_word, stepped}
-use Rattle.aio_word.proofs.Machines.{when-true}
-use Rattle.aio_word.proofs.Rows.{both}
+use Rattle.aio_word.proofs.Moves.{when-true}
+use Rattle.aio_word.proofs.Conditions.{both}
 use Rattle.aio_core.specs.Allowed.{permits, permits_with, next_word_of, noted_in}
 
 module _ (c : Config) (m : Machine) (e : Event) (w : Word) where

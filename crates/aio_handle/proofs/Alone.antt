@@ -19,7 +19,7 @@ use Rattle.aio_word.proofs.Steps.{mark, counted-in}
 use Rattle.aio_word.proofs.Noted.{noted-list}
 use Rattle.aio_word.specs.Stands.{IsIn, one_if, seen_of, AtMoment}
 use Rattle.aio_word.specs.Tokens.{Keeps}
-use Rattle.aio_word.proofs.Machines.{get-at}
+use Rattle.aio_word.proofs.Moves.{get-at}
 use Rattle.aio_word.proofs.Owners.{order-small, counting, is-that}
 use Rattle.aio_handle.specs.Made.{Made, LivedAlone}
 use Rattle.aio_handle.specs.LifeWords.{completed, taken}

@@ -1,13 +1,19 @@
 -- Small steps of the calls' answers.
-use Rattle.std.proofs.Common.{◌≡◌, ◌≢◌, ℕ, ◌<◌, sym, ap, subst, refl, arith}
+use Rattle.std.proofs.Common.{◌≡◌, ◌≢◌, ℕ, ◌<◌, sym, ap, ◌∙◌, subst, refl, arith, Option, []}
 use Rattle.std.proofs.Common.{List, Bool, IsTrue, true, false, not, ◌+◌, ◌*◌, ◌≤◌, ◌↔◌}
 use mathlib.Core.Logic.{dite}
+use mathlib.Core.Option.{none}
+use Rattle.atomic_table.specs.Table.{Me, step}
 use native.Mathlib.Decide.{ℕ_discrete}
 use Rattle.aio_word.specs.declared.WaitRef.{WaitRef}
 use Rattle.aio_word.specs.declared.Known.{Known}
 use Rattle.aio_word.specs.declared.Word.{Word}
 use Rattle.aio_word.specs.declared.State.TheVariants.{Idle}
+use Rattle.aio_word.specs.declared.Class.{Class}
 use Rattle.aio_word.specs.declared.Step.{Step as Event}
+use Rattle.aio_word.specs.declared.Step.TheVariants as event
+use Rattle.aio_word.specs.Events.{ref}
+use Rattle.aio_word.proofs.Packing.{packed-injective}
 use Rattle.aio_word.specs.Words.{last_generation}
 use Rattle.aio_word.specs.declared.State.{State}
 use Rattle.aio_word.specs.declared.State.TheVariants.{CompletedShared}
@@ -16,7 +22,11 @@ use Rattle.aio_word.specs.Stands.{IsIn, seen_of}
 use Rattle.aio_word.specs.Tokens.{IsInFlight}
 use Rattle.aio_word.proofs.Reaching.{shared-stands}
 use Rattle.aio_handle.specs.Made.{Made, Looked, Checked, IsCompleted}
-use Rattle.aio_handle.specs.LifeWords.{completed}
+use Rattle.aio_handle.specs.declared.record.Label.{Label}
+use Rattle.aio_handle.specs.LifeWords.{completed, taken}
+use Rattle.aio_handle.specs.Seats.{known_of}
+use Rattle.aio_handle.specs.Steps.{Loads}
+use Rattle.aio_handle.proofs.Calling.{looks-saw}
 use Rattle.aio_handle.proofs.Finding.{word-is}
 use Rattle.aio_handle.proofs.Tokening.{begun-of}
 
@@ -77,3 +87,33 @@ packed-completed w g l d = ap packed (is-completed w g l d)
 pub note-looked : (h : ℕ) (w : Word) (p q : Known) (x : WaitRef × List ℕ) → Looked h w p q
     → IsIn x p.aims → IsIn x q.aims
 note-looked h w p q x m i = subst (λ (z : Known). IsIn x z.aims) (sym m.is) i
+
+-- what a load tells whoever waits for an I/O in flight, where the word w was found
+pub flight-loaded : {R : Type 0} (slots n : ℕ) (t : WaitRef) (m m' : Me (Option R) (List Known))
+    (w : Word) → Loads (step slots t.handle 0 0 none) m n m' → packed w ≡ n
+    → IsInFlight (known_of m.0) t
+    → Looked t.handle w (known_of m.0) (known_of m'.0) × IsInFlight (known_of m'.0) t
+    × (IsCompleted w t.generation → 8 * t.generation + 6 ≤ seen_of (known_of m'.0) t.handle)
+flight-loaded slots n t m m' w load is flight =
+    let (v, found, seen) = looks-saw slots t.handle 0 0 n m m' load in
+    let look : Looked t.handle w (known_of m.0) (known_of m'.0) =
+    subst (λ (z : Word). Looked t.handle z (known_of m.0) (known_of m'.0))
+    (packed-injective v w (found ∙ sym is)) seen in (
+      look,
+      flight-looked t.handle w (known_of m.0) (known_of m'.0) t look flight,
+      (λ d. seen-completed t.handle w (known_of m.0) (known_of m'.0) t.generation look d),
+    )
+
+-- what a call tells that found the result of an I/O in flight and took it: its actor knew p before
+-- the load, mid after it, and q after the event Local
+pub record Took {R : Type 0} (label : R → Label) (aim_in : R → List ℕ) (Fits : R → Type 0)
+    (t : WaitRef) (w : Word) (io : R) (p mid q : Known) : Type 0 where
+  pub looked : Looked t.handle w p mid
+  pub done : IsCompleted w t.generation
+  pub class : Class
+  pub made : Made event.Local t.handle (completed class t.generation) (taken class t.generation) []
+      mid q
+  pub labelled : label io ≡
+      record { handle = t.handle; generation = t.generation; ended = class; settled = false }
+  pub aimed : (a : List ℕ) → IsIn (ref t.handle t.generation, a) mid.aims → aim_in io ≡ a
+  pub fits : Fits io

@@ -1,37 +1,35 @@
 -- A new table meets the rule: each handle is Idle at the first generation, and nobody knows more.
-use Rattle.std.proofs.Common.{◌≡◌, ◌≢◌, ℕ, zero, suc, ◌+◌, ◌-◌, ◌*◌, ◌^◌, ◌<◌, ◌≤◌, ◌==◌, Bool}
-use Rattle.std.proofs.Common.{true, false, List, [], ◌∷◌, ◌++◌, map, length, get_or, replicate}
-use Rattle.std.proofs.Common.{sum_by, le_refl, refl, sym, ap, ◌∙◌, subst, ⊎_elim, arith}
-use Rattle.std.proofs.Common.{length-append, append-nil, Option, Some, None, slice_get}
-use Rattle.std.proofs.lemmas.List.Sums.{sum_by-cons}
+use Rattle.std.proofs.Common.{◌≡◌, ℕ, zero, suc, ◌+◌, ◌*◌, ◌^◌, ◌<◌, ◌≤◌, ◌==◌, false, List, []}
+use Rattle.std.proofs.Common.{◌∷◌, ◌++◌, map, length, get_or, replicate, sum_by, le_refl, refl, sym}
+use Rattle.std.proofs.Common.{ap, ◌∙◌, subst, arith, length-append, append-nil, Option, Some, None}
+use Rattle.std.proofs.Common.{slice_get}
 use Rattle.std.proofs.lemmas.Bool.Decides.{nat_tests}
 use mathlib.Core.Logic.{dite}
 use native.Mathlib.Decide.{ℕ_discrete}
 use mathlib.Core.Option.{some, none, some-injective, some-ne-none}
 use mathlib.Core.Option as maybe
 use lib.ListN.{get_elem?, length-replicate}
-use Rattle.atomic_table.specs.Table.{Me, opening}
+use Rattle.atomic_table.specs.Table.{opening}
 use Rattle.aio_word.specs.declared.Config.{Config}
 use Rattle.aio_word.specs.declared.Class.TheVariants.{Unended}
 use Rattle.aio_word.specs.declared.State.TheVariants.{Idle, HandedOut}
 use Rattle.aio_word.specs.declared.Word.{Word}
 use Rattle.aio_word.specs.declared.Known.{Known}
-use Rattle.aio_word.specs.Words.{packed}
+use Rattle.aio_word.specs.Words.{packed, last_generation}
 use Rattle.aio_word.specs.Events.{start, first_machine, handles, actors, times, word_in, ref, lives}
-use Rattle.aio_word.specs.declared.WaitRef.{WaitRef}
-use Rattle.aio_word.specs.Stands.{IsIn, one_if, total, seen_of, ListStands, IsMachine}
+use Rattle.aio_word.specs.Stands.{IsIn, one_if, seen_of, ListStands, IsMachine}
 use Rattle.aio_word.specs.Ranked.{is_due, HandleRanked, Ranked}
 use Rattle.aio_handle.specs.declared.record.Label.{Label}
-use Rattle.aio_handle.specs.Shown.{Named, Standing, AreNew}
-use Rattle.aio_handle.specs.Seats.{behind_of}
-use Rattle.aio_word.specs.Words.{last_generation}
+use Rattle.aio_handle.specs.Shown.{Named, Standing, AreNew, IsConfig}
 use Rattle.std.proofs.Math.Nat.{mul-lt-mul_of_pos_left}
-use Rattle.aio_handle.specs.Shown.{IsConfig}
 use Rattle.aio_handle.specs.declared.own.OwnHandle.{OwnHandle}
 use Rattle.aio_handle.specs.Own.{own_at, blank}
 use Rattle.aio_handle.specs.Remembered.{handle_at, Owns}
 use Rattle.aio_handle.specs.Ruled.{newcomer, newcomers, opened, KnownStands, HandleRuled, IsActor}
 use Rattle.aio_handle.specs.Ruled.{Ruled}
+use Rattle.aio_handle.proofs.Newcomers.{new-in, none-new, numbered, present-new, length-new}
+use Rattle.aio_handle.proofs.Newcomers.{list-new}
+use Rattle.aio_handle.proofs.Where.{none-some}
 
 abbrev first : Config → Word
 first c = word_in Idle false Unended c.start
@@ -46,14 +44,6 @@ get-replicate zero i x = omega arith
 get-replicate (suc n) zero x = le_refl x
 get-replicate (suc n) (suc i) x = get-replicate n i x
 
-get-inside : (n i x : ℕ) → i < n → get_or (replicate n x) i 0 ≡ x
-get-inside zero i x h = absurd (omega arith)
-get-inside (suc n) zero x h = refl
-get-inside (suc n) (suc i) x h = get-inside n i x (omega arith)
-
-none-some : (a : WaitRef) → None ≡ Some a → ⊥
-none-some a e = cc
-
 at-inside : {A : Type 0} (n i : ℕ) (x : A) → i < n → slice_get (replicate n x) i ≡ Some x
 at-inside zero i x h = absurd (omega arith)
 at-inside (suc n) zero x h = refl
@@ -64,96 +54,13 @@ map-replicate : {A B : Type 0} (f : A → B) (n : ℕ) (x : A)
 map-replicate f zero x = refl
 map-replicate f (suc n) x = ap (λ (z : List _). f x ∷ z) (map-replicate f n x)
 
-at-below : {A : Type 0} (l : List A) (i : ℕ) (a : A) → get_elem? l i ≡ some a → i < length l
-at-below [] i a e = absurd (some-ne-none a (sym e))
-at-below (x ∷ xs) zero a e = omega arith
-at-below (x ∷ xs) (suc i) a e = let s = at-below xs i a e in omega arith
-
--- an actor at the start
-pub record IsNew (c : Config) (a k : ℕ) (q : Known) : Type 0 where
-  pub number : ℕ
-  pub low : a ≤ number
-  pub high : number < a + k
-  pub is : newcomer c number ≡ q
-
-new-in : (c : Config) (a k : ℕ) (q : Known) → IsIn q (newcomers c a k) → IsNew c a k q
-new-in c a zero q i = absurd i
-new-in c a (suc k) q i = ⊎_elim
-    (λ e. record { number = a; low = le_refl a; high = omega arith; is = e })
-    (λ t. let r = new-in c (a + 1) k q t in let lo = r.low in let hi = r.high in
-    record { number = r.number; low = omega arith; high = omega arith; is = r.is }) i
-
-none-new : (c : Config) (h n a k : ℕ) → total h n (newcomers c a k) ≡ 0
-none-new c h n a zero = refl
-none-new c h n a (suc k) =
-    let rest : total h n (newcomers c (a + 1) k) ≡ 0 = none-new c h n (a + 1) k in
-    let f : Known → ℕ = λ p. times h n p.marks in
-    let here : f (newcomer c a) ≡ 0 = refl in
-    let cons : sum_by f (newcomer c a ∷ newcomers c (a + 1) k) ≡ f (newcomer c a) + sum_by f
-    (newcomers c (a + 1) k) = sum_by-cons f (newcomer c a) (newcomers c (a + 1) k) in
-    let goal : sum_by f (newcomer c a ∷ newcomers c (a + 1) k) ≡ 0 = omega arith in goal
-
-one-if-no : (a b : ℕ) → a ≢ b → one_if (a == b) ≡ 0
-one-if-no a b h = grind (arith, nat_tests)
-
-one-if-le : (b : Bool) → one_if b ≤ 1
-one-if-le true = omega arith
-one-if-le false = omega arith
-
-number-above : (c : Config) (n a k : ℕ) → n < a
-    → sum_by (λ (p : Known). one_if (p.number == n)) (newcomers c a k) ≡ 0
-number-above c n a zero lt = refl
-number-above c n a (suc k) lt =
-    let f : Known → ℕ = λ p. one_if (p.number == n) in
-    let here : f (newcomer c a) ≡ 0 = one-if-no a n (λ e. omega arith) in
-    let rest : sum_by f (newcomers c (a + 1) k) ≡ 0 = number-above c n (a + 1) k (omega arith) in
-    let all = sum_by-cons f (newcomer c a) (newcomers c (a + 1) k) in omega arith
-
-numbered : (c : Config) (n a k : ℕ)
-    → sum_by (λ (p : Known). one_if (p.number == n)) (newcomers c a k) ≤ 1
-numbered c n a zero = omega arith
-numbered c n a (suc k) =
-    let f : Known → ℕ = λ p. one_if (p.number == n) in
-    let all : sum_by f (newcomer c a ∷ newcomers c (a + 1) k) ≡ f (newcomer c a) + sum_by f
-    (newcomers c (a + 1) k) = sum_by-cons f (newcomer c a) (newcomers c (a + 1) k) in
-    let le : f (newcomer c a) ≤ 1 = one-if-le (a == n) in
-    dite (ℕ_discrete a n)
-    (λ e. let none' : sum_by f (newcomers c (a + 1) k) ≡ 0 = number-above c n (a + 1) k
-    (omega arith) in omega arith)
-    (λ ne. let no : f (newcomer c a) ≡ 0 = one-if-no a n ne in
-    let rest : sum_by f (newcomers c (a + 1) k) ≤ 1 = numbered c n (a + 1) k in omega arith)
-
-one-if-yes : (n : ℕ) → one_if (n == n) ≡ 1
-one-if-yes n = grind (arith, nat_tests)
-
-present-new : (c : Config) (n a k : ℕ) → a ≤ n → n < a + k
-    → 0 < sum_by (λ (p : Known). one_if (p.number == n)) (newcomers c a k)
-present-new c n a zero lo hi = absurd (omega arith)
-present-new c n a (suc k) lo hi =
-    let f : Known → ℕ = λ p. one_if (p.number == n) in
-    let all : sum_by f (newcomer c a ∷ newcomers c (a + 1) k) ≡ f (newcomer c a) + sum_by f
-    (newcomers c (a + 1) k) = sum_by-cons f (newcomer c a) (newcomers c (a + 1) k) in
-    dite (ℕ_discrete a n)
-    (λ e. let one : f (newcomer c a) ≡ 1 = subst (λ (z : ℕ). one_if (z == n) ≡ 1) (sym e)
-    (one-if-yes n) in omega arith)
-    (λ ne. let r : 0 < sum_by f (newcomers c (a + 1) k) = present-new c n (a + 1) k (omega arith)
-    (omega arith) in omega arith)
+at-replicated : {A : Type 0} (n k : ℕ) (x d : A) → k < n → get_or (replicate n x) k d ≡ x
+at-replicated zero k x d lt = absurd (omega arith)
+at-replicated (suc n) zero x d lt = refl
+at-replicated (suc n) (suc k) x d lt = at-replicated n k x d (omega arith)
 
 not-due : (s n : ℕ) → one_if (is_due s (8 * s + 0) n) ≡ 0
 not-due s n = grind (arith, nat_tests)
-
-length-new : (c : Config) (a k : ℕ) → length (newcomers c a k) ≡ k
-length-new c a zero = refl
-length-new c a (suc k) = ap suc (length-new c (a + 1) k)
-
-list-new : (c : Config) (n : ℕ) → ListStands c (newcomer c n)
-list-new c n =
-    record {
-      in_range = λ m i. absurd i;
-      owned = λ m i. absurd i;
-      ordered =
-          λ i j d lt below. absurd (omega arith);
-    }
 
 module _ {R : Type 0} (label : R → Label) (aim_in : R → List ℕ) (Fits : R → Type 0) (c : Config)
     (small : c.start < 2 ^ 58) where
@@ -246,10 +153,6 @@ module _ {R : Type 0} (label : R → Label) (aim_in : R → List ℕ) (Fits : R 
         };
   }
 
-pub next-new : (c : Config) (n k : ℕ) → n < k
-    → newcomers c n (k - n) ≡ newcomer c n ∷ newcomers c (n + 1) (k - (n + 1))
-next-new c n k lt = ap (newcomers c n) (let e : k - n ≡ suc (k - (n + 1)) = omega arith in e)
-
 pub push-old : {A : Type 0} (xs : List A) (x d : A) (i : ℕ) → i < length xs
     → get_or (xs ++ x ∷ []) i d ≡ get_or xs i d
 push-old [] x d i h = absurd (omega arith)
@@ -272,21 +175,6 @@ new-push t n xs x len old is i d lt = dite (ℕ_discrete i (length xs))
     (let g : n ≡ 0 + length xs = omega arith in g))))
     (λ ne. let below : i < length xs = omega (arith, length-append xs (x ∷ [])) in
     push-old xs x d i below ∙ old i d below)
-
-pub next-view : {S : Type 0} (c : Config) (n k : ℕ) (me : Me S (List Known)) → n < k
-    → me ≡ (newcomers c n (k - n), []) → me ≡ (newcomer c n ∷ newcomers c (n + 1) (k - (n + 1)), [])
-next-view c n k me lt e = e ∙ ap (λ (v : List Known). (v, [])) (next-new c n k lt)
-
-pub after-deal : {S : Type 0} (c : Config) (n k : ℕ) (me me' : Me S (List Known)) → n < k
-    → me ≡ (newcomers c n (k - n), []) → me' ≡ (behind_of me.0, [])
-    → me' ≡ (newcomers c (n + 1) (k - (n + 1)), [])
-after-deal c n k me me' lt e is = is ∙ ap (λ (v : Me _ (List Known)). (behind_of v.0, []))
-    (next-view c n k me lt e)
-
-at-replicated : {A : Type 0} (n k : ℕ) (x d : A) → k < n → get_or (replicate n x) k d ≡ x
-at-replicated zero k x d lt = absurd (omega arith)
-at-replicated (suc n) zero x d lt = refl
-at-replicated (suc n) (suc k) x d lt = at-replicated n k x d (omega arith)
 
 -- what an actor remembers of its handles at the start
 pub new-owns : (c : Config) (n count : ℕ) (own : List OwnHandle)

@@ -11,11 +11,12 @@ use Rattle.aio_word.specs.declared.Known.{Known}
 use Rattle.aio_handle.specs.declared.record.Label.{Label}
 use Rattle.aio_handle.specs.declared.own.OwnHandle.{OwnHandle}
 use Rattle.aio_handle.specs.LifeWords.{completed, taken}
-use Rattle.aio_handle.specs.Seats.{known_of}
+use Rattle.aio_handle.specs.Seats.{IsSeated, known_of}
 use Rattle.aio_handle.specs.Steps.{Returns, Claims, Gets, Loads}
 use Rattle.aio_handle.specs.Remembered.{Remembers}
-use Rattle.aio_handle.proofs.Remembering.{IsPlain, remembers-plain}
-use Rattle.aio_handle.proofs.Remembering.{remembers-looked, remembers-claimed}
+use Rattle.aio_handle.proofs.Calling.{looks-seated}
+use Rattle.aio_handle.proofs.PlainEvents.{IsPlain}
+use Rattle.aio_handle.proofs.Remembering.{remembers-plain, remembers-looked, remembers-claimed}
 
 module _ (c : Config) (own : List OwnHandle) (turn claims : ℕ) (b : Bool) where
   -- over a step from what one seat knows to what it knows then
@@ -36,11 +37,22 @@ module _ (c : Config) (own : List OwnHandle) (turn claims : ℕ) (b : Bool) wher
       (ap (λ (z : Me S (List Known)). z.0) then)
       (remembers-plain c own turn claims b e h (from g) (to g) aim p q md pl)
 
-  pub recalls-loaded : {S : Type 0} (slots h n : ℕ) (m m' : Me S (List Known))
+  recalls-loaded : {S : Type 0} (slots h n : ℕ) (m m' : Me S (List Known))
       → Loads (step slots h 0 0 none) m n m' → Remembers c own turn b claims (known_of m.0)
       → Remembers c own turn b claims (known_of m'.0)
   recalls-loaded {S} slots h n m m' (p, q, mine, then, (w, found, lk)) = across claims m m' p q mine
       (ap (λ (z : Me S (List Known)). z.0) then) (remembers-looked c own turn claims b h w p q lk)
+
+  -- and the seat stays the actor's
+  pub loaded : {R X : Type 0} (slots h n number : ℕ) (m m' : Me (Option R) (List Known))
+      → IsSeated c number m × X × Remembers c own turn b claims (known_of m.0)
+      → Loads (step slots h 0 0 none) m n m'
+      → IsSeated c number m' × X × Remembers c own turn b claims (known_of m'.0)
+  loaded slots h n number m m' (seat, x, r) l = (
+    looks-seated slots h 0 0 n m m' c number seat l,
+    x,
+    recalls-loaded slots h n m m' l r,
+  )
 
   module _ {R : Type 0} (label : R → Label) (aim_in : R → List ℕ) (Fits : R → Type 0) (slots h : ℕ)
       (m m' : Me (Option R) (List Known)) where

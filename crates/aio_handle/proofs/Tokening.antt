@@ -23,7 +23,7 @@ use Rattle.aio_word.specs.Tokens.{IsClaimed, IsExecuted, Keeps}
 use Rattle.aio_word.proofs.Parts.{in-right}
 use Rattle.aio_word.proofs.Steps.{mark, times-push}
 use Rattle.aio_word.proofs.Rows.{Begun, marked-row}
-use Rattle.aio_word.proofs.Machines.{get-at}
+use Rattle.aio_word.proofs.Moves.{get-at}
 use Rattle.aio_word.proofs.Noted.{no-mark}
 use Rattle.aio_word.proofs.Frames.{keeps-mark}
 use Rattle.aio_handle.specs.Changes.{changed, looked}

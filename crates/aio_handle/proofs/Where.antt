@@ -13,6 +13,7 @@ use Rattle.aio_word.specs.declared.State.TheVariants.{CompletedShared, Completed
 use Rattle.aio_word.specs.declared.Kind.TheVariants as kind
 use Rattle.aio_word.specs.declared.Word.{Word}
 use Rattle.aio_word.specs.declared.Known.{Known}
+use Rattle.aio_word.specs.declared.WaitRef.{WaitRef}
 use Rattle.aio_word.specs.Words.{ClaimFits, ClassFits, place_in, place_of, rank_of}
 use Rattle.aio_word.specs.Events.{owner, times, ref, lives}
 use Rattle.aio_word.specs.Stands.{IsIn, seen_of}
@@ -20,7 +21,7 @@ use Rattle.aio_word.specs.Tokens.{IsDefined, IsStaged, IsInFlight, IsLocal, IsCl
 use Rattle.aio_word.proofs.Parts.{in-here}
 use Rattle.aio_word.proofs.Steps.{mark, place-small, stood, counted-in}
 use Rattle.aio_word.proofs.Owners.{owner-at, owner-below, claimer-at, claimer-below, own-mark}
-use Rattle.aio_word.proofs.Rows.{is-defined, is-staged, is-claimed, is-io, is-completed, is-taken}
+use Rattle.aio_word.proofs.Places.{is-defined, is-staged, is-claimed, is-io, is-completed, is-taken}
 use Rattle.aio_handle.specs.declared.record.Label.{Label}
 use Rattle.aio_handle.specs.Ruled.{Ruled}
 use Rattle.aio_handle.specs.LifeWords.{idle, handed, defined, staged}
@@ -41,6 +42,9 @@ idle-or-out Submitted false e = absurd (omega arith)
 idle-or-out CompletedIo b e = absurd (omega arith)
 idle-or-out CompletedShared b e = absurd (omega arith)
 idle-or-out CompletedLocal b e = absurd (omega arith)
+
+pub some-same : (a b : WaitRef) → Some a ≡ Some b → a ≡ b
+some-same a b e = cc
 
 pub none-some : {A : Type 0} (a : A) → None ≡ Some a → ⊥
 none-some a e = cc

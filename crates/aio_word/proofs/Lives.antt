@@ -16,7 +16,7 @@ use Rattle.aio_word.specs.Events.{handles, order, is_mark, times, ref, a_local, 
 use Rattle.aio_word.specs.Stands.{one_if, total, stands, Stands}
 use Rattle.aio_word.specs.Ranked.{is_due, HandleRanked}
 use Rattle.aio_word.proofs.Owners.{counting, is-that, order-small}
-use Rattle.aio_word.proofs.Machines.{get-at}
+use Rattle.aio_word.proofs.Moves.{get-at}
 use Rattle.aio_word.proofs.Packing.{done-by-rank}
 use Rattle.aio_word.proofs.Plain.{ranked-handle}
 use Rattle.aio_word.proofs.Reaching.{done-shared}

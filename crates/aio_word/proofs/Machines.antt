@@ -1,12 +1,10 @@
 -- The machine's step keeps what its lists say of its words.
-use Rattle.std.proofs.Common.{◌≡◌, ◌≢◌, ℕ, zero, suc, ◌+◌, ◌*◌, ◌<◌, ◌==◌, ◌&&◌, ◌||◌, Bool, true}
-use Rattle.std.proofs.Common.{false, cond, List, [], ◌∷◌, ◌++◌, length, set, refl, sym, ap, ◌∙◌}
-use Rattle.std.proofs.Common.{subst, arith, Option, Some, None, slice_get, length-set, nat_lt}
+use Rattle.std.proofs.Common.{◌≡◌, ◌≢◌, ℕ, ◌+◌, ◌*◌, ◌<◌, Bool, true, List, [], ◌∷◌, ◌++◌, length}
+use Rattle.std.proofs.Common.{set, refl, sym, ap, ◌∙◌, subst, arith, Some, None, length-set, nat_lt}
 use Rattle.std.proofs.lemmas.Bool.Decides.{nat_tests}
 use Rattle.std.proofs.lemmas.Option.{slice_get_within}
 use mathlib.Core.Option.{some}
 use lib.ListN.{get_elem?}
-use mathlib.Core.Option.{some-injective, some-ne-none}
 use Rattle.aio_word.specs.declared.Config.{Config}
 use Rattle.aio_word.specs.declared.State.TheVariants.{HandedOut}
 use Rattle.aio_word.specs.declared.Step.{Step}
@@ -17,130 +15,22 @@ use Rattle.aio_word.specs.declared.Kind.TheVariants as kind
 use Rattle.aio_word.specs.declared.Mark.{Mark}
 use Rattle.aio_word.specs.declared.Word.{Word}
 use Rattle.aio_word.specs.declared.Known.{Known}
-use Rattle.aio_word.specs.Words.{place_of, number_of_state}
+use Rattle.aio_word.specs.Words.{place_of}
 use Rattle.aio_word.specs.Events.{Machine, given, has_out_from, handles, owner, after, leaves, may}
-use Rattle.aio_word.specs.Events.{noted, is_free, replaced, on_word, stepped, times, is}
+use Rattle.aio_word.specs.Events.{noted, is_free, stepped, times, is}
 use Rattle.aio_word.specs.Stands.{IsOwners, known_by, numbered_from, Stands, MachineStands}
 use Rattle.aio_word.specs.Ranked.{HandleRanked, Ranked}
 use Rattle.aio_word.proofs.Parts.{in-here}
 use Rattle.aio_word.proofs.Steps.{mark, mark-stood, advances}
-use Rattle.aio_word.proofs.Rows.{same-state, Begun, Marked, Quiet, both, given-true, not-true}
-use Rattle.aio_word.proofs.Rows.{hand_out, release, define, stage, submit, claim, io, shared, local}
-use Rattle.aio_word.proofs.Rows.{reclaim}
+use Rattle.aio_word.proofs.Conditions.{given-true, not-true}
+use Rattle.aio_word.proofs.Rows.{Begun, Marked, Quiet, hand_out, release, define, stage, submit}
+use Rattle.aio_word.proofs.Rows.{claim, io, shared, local, reclaim}
 use Rattle.aio_word.proofs.Whole.{rests, whole}
 use Rattle.aio_word.proofs.Noted.{notes-of}
 use Rattle.aio_word.proofs.Plain.{plain, ranked}
-
-pub get-at : {A : Type 0} (xs : List A) (i : ℕ) (a : A) → slice_get xs i ≡ Some a
-    → get_elem? xs i ≡ some a
-get-at [] i a e = absurd (cc)
-get-at (x ∷ xs) zero a e = ap some (let h : x ≡ a = cc in h)
-get-at (x ∷ xs) (suc i) a e = get-at xs i a e
-
--- what an allowed event does
-pub record Moved (c : Config) (m : Machine) (e : Event) (m' : Machine) : Type 0 where
-  pub w : Word
-  pub marks : List Mark
-  pub word : slice_get m.words e.handle ≡ Some w
-  pub list : slice_get m.lists e.actor ≡ Some marks
-  pub generation : w.generation ≡ e.generation
-  pub may : may c e.actor marks e.handle e.generation e.step ≡ true
-  pub free : is_free c e.actor m.words e.step ≡ true
-  pub w' : Word
-  pub row : after w e.step ≡ Some w'
-  pub is : m' ≡ record {
-    words = set m.words e.handle w';
-    lists =
-        set m.lists e.actor (noted marks e.handle e.generation (leaves w.class e.step));
-  }
-
-pub same-nat : (a b : ℕ) → (a == b) ≡ true → a ≡ b
-same-nat a b h = grind (arith, nat_tests)
-
-pub when-true : {A : Type 0} (b : Bool) (x : Option A) (y : A) → cond b x None ≡ Some y
-    → (b ≡ true) × (x ≡ Some y)
-when-true true x y e = (refl, e)
-when-true false x y e = absurd (cc)
-
-some-same : {A : Type 0} (x y : A) → Some x ≡ Some y → x ≡ y
-some-same x y e = cc
-
-invert-row : (c : Config) (m : Machine) (e : Event) (m' : Machine) (w : Word) (marks : List Mark)
-    (o : Option Word) → after w e.step ≡ o → slice_get m.words e.handle ≡ Some w
-    → slice_get m.lists e.actor ≡ Some marks
-    → (w.generation == e.generation) ≡ true
-    → may c e.actor marks e.handle e.generation e.step ≡ true
-    → is_free c e.actor m.words e.step ≡ true → replaced m e marks w o ≡ Some m'
-    → Moved c m e m'
-invert-row c m e m' w marks None row ew el g y f h = absurd (cc)
-invert-row c m e m' w marks (Some w') row ew el g y f h =
-    record {
-      w = w;
-      marks = marks;
-      word = ew;
-      list = el;
-      generation =
-          same-nat w.generation e.generation g;
-      may = y;
-      free = f;
-      w' = w';
-      row = row;
-      is =
-          sym (some-same _ m' h);
-    }
-
-invert-found : (c : Config) (m : Machine) (e : Event) (m' : Machine) (ow : Option Word)
-    (ol : Option (List Mark)) → slice_get m.words e.handle ≡ ow → slice_get m.lists e.actor ≡ ol
-    → on_word c m e ow ol ≡ Some m' → Moved c m e m'
-invert-found c m e m' None None ew el h = absurd (cc)
-invert-found c m e m' None (Some marks) ew el h = absurd (cc)
-invert-found c m e m' (Some w) None ew el h = absurd (cc)
-invert-found c m e m' (Some w) (Some marks) ew el h =
-    let t = when-true ((w.generation == e.generation) &&
-    (may c e.actor marks e.handle e.generation e.step && is_free c e.actor m.words e.step))
-    (replaced m e marks w (after w e.step)) m' h in
-    let x = both (w.generation == e.generation)
-    (may c e.actor marks e.handle e.generation e.step && is_free c e.actor m.words e.step) t.0
-    in
-    let y = both (may c e.actor marks e.handle e.generation e.step)
-    (is_free c e.actor m.words e.step) x.1 in
-    invert-row c m e m' w marks (after w e.step) refl ew el x.0 y.0 y.1 t.1
-
-pub inverts : (c : Config) (m : Machine) (e : Event) (m' : Machine) → stepped c m e ≡ Some m'
-    → Moved c m e m'
-inverts c m e m' h = invert-found c m e m' (slice_get m.words e.handle)
-    (slice_get m.lists e.actor) refl refl h
-
--- where an actor's list lies among all
-pub record Placed (c : Config) (n : ℕ) (lists : List (List Mark)) (actor : ℕ)
-    (marks : List Mark) : Type 0 where
-  pub front : List Known
-  pub back : List Known
-  pub now : numbered_from c n lists ≡ front ++ known_by c (n + actor) marks ∷ back
-  pub then : (l : List Mark)
-      → numbered_from c n (set lists actor l) ≡ front ++ known_by c (n + actor) l ∷ back
-
-pub placed : (c : Config) (n : ℕ) (lists : List (List Mark)) (actor : ℕ) (marks : List Mark)
-    → slice_get lists actor ≡ Some marks → Placed c n lists actor marks
-placed c n [] actor marks e = absurd (cc)
-placed c n (x ∷ xs) zero marks e = record {
-  front = [];
-  back = numbered_from c (n + 1) xs;
-  now = (λ k. known_by c (let z : n ≡ n + 0 = omega arith in z k) (let y : x ≡ marks = cc in
-      y k) ∷ numbered_from c (n + 1) xs);
-  then = λ l. (λ k. known_by c (let z : n ≡ n + 0 = omega arith in
-      z k) l ∷ numbered_from c (n + 1) xs);
-}
-placed c n (x ∷ xs) (suc actor) marks e =
-    let r = placed c (n + 1) xs actor marks e in
-    let z : (n + 1) + actor ≡ n + suc actor = omega arith in record {
-      front = known_by c n x ∷ r.front;
-      back = r.back;
-      now = ap (λ (t : List Known). known_by c n x ∷ t) (r.now
-          ∙ ap (λ (i : ℕ). r.front ++ known_by c i marks ∷ r.back) z);
-      then = λ l. ap (λ (t : List Known). known_by c n x ∷ t) (r.then l
-          ∙ ap (λ (i : ℕ). r.front ++ known_by c i l ∷ r.back) z);
-    }
+use Rattle.aio_word.proofs.Moves.{get-at, Moved, same-nat, inverts}
+use Rattle.aio_word.proofs.NoneOut.{none-out}
+use Rattle.aio_word.proofs.Placed.{placed}
 
 -- a step that leaves a mark keeps the whole
 pub marked-keeps : (c : Config) (m m' : Machine) (e : Event) (k : Kind) (s : MachineStands c m)
@@ -205,58 +95,10 @@ in-range : (c : Config) (m : Machine) (e : Event) (m' : Machine) → MachineStan
 in-range c m e m' s t = let x = s.stands.wide in
     let y = slice_get_within m.words e.handle t.w t.word in omega arith
 
-same-number : (a b : ℕ) → a ≡ b → (a == b) ≡ true
-same-number a b e = grind (arith, nat_tests)
-
-first-false : (a b : Bool) → (a || b) ≡ false → a ≡ true → ⊥
-first-false true b e h = absurd (cc)
-first-false false b e h = absurd (cc)
-
-second-false : (a b : Bool) → (a || b) ≡ false → b ≡ false
-second-false true b e = absurd (cc)
-second-false false b e = e
-
-here-false : (a b : Bool) → (a ≡ true → b ≡ true → ⊥) → (a && b) ≡ false
-here-false true true h = absurd (h refl refl)
-here-false true false h = refl
-here-false false b h = refl
-
 claimed-of : (h g g' : ℕ) (ms : List Mark) → g' ≡ g → nat_lt 0 (times h (8 * g + 3) ms) ≡ true
     → 0 < times h (8 * g' + 3) ms
 claimed-of h g g' ms e t = let x : 0 < times h (8 * g + 3) ms = grind (arith, nat_tests) in
     subst (λ (z : ℕ). 0 < times h (8 * z + 3) ms) (sym e) x
-
--- no handle of the actor is out
-pub none-out : (c : Config) (actor n : ℕ) (ws : List Word) → has_out_from c actor n ws ≡ false
-    → (i : ℕ) (w : Word) → get_elem? ws i ≡ some w → owner c (n + i) ≡ actor → w.state ≡ HandedOut
-    → ⊥
-none-out c actor n [] h i w at own out = some-ne-none w (sym at)
-none-out c actor n (v ∷ ws) h zero w at own out =
-    let e : v ≡ w = some-injective v w at in
-    let o : (owner c n == actor) ≡ true =
-    same-number (owner c n) actor (ap (owner c) (let z : n ≡ n + 0 = omega arith in z) ∙ own) in
-    let q : is v HandedOut ≡ true =
-    same-number _ _ (ap number_of_state (ap (λ (z : Word). z.state) e ∙ out)) in
-    let x : ((owner c n == actor) && is v HandedOut) ≡ true = λ k. o k && q k in
-    first-false ((owner c n == actor) && is v HandedOut) (has_out_from c actor (n + 1) ws) h x
-none-out c actor n (v ∷ ws) h (suc i) w at own out =
-    none-out c actor (n + 1) ws
-    (second-false ((owner c n == actor) && is v HandedOut) (has_out_from c actor (n + 1) ws) h) i w
-    at (ap (owner c) (let z : (n + 1) + i ≡ n + suc i = omega arith in z) ∙ own) out
-
--- and so the other way
-pub all-free : (c : Config) (actor n : ℕ) (ws : List Word)
-    → ((i : ℕ) (w : Word) → get_elem? ws i ≡ some w → owner c (n + i) ≡ actor → w.state ≡ HandedOut
-    → ⊥) → has_out_from c actor n ws ≡ false
-all-free c actor n [] h = refl
-all-free c actor n (v ∷ ws) h =
-    let rest : has_out_from c actor (n + 1) ws ≡ false =
-    all-free c actor (n + 1) ws
-    (λ i w at own out. h (suc i) w at
-    (ap (owner c) (let z : n + suc i ≡ (n + 1) + i = omega arith in z) ∙ own) out) in
-    λ k. here-false (owner c n == actor) (is v HandedOut)
-    (λ a b. h zero v refl (ap (owner c) (let z : n + 0 ≡ n = omega arith in z)
-    ∙ same-nat (owner c n) actor a) (same-state v.state HandedOut b)) k || rest k
 
 -- a step that leaves no mark keeps the whole
 quiet-keeps : (c : Config) (m m' : Machine) (e : Event) (s : MachineStands c m) (t : Moved c m e m')

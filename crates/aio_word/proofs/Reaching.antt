@@ -23,7 +23,8 @@ use Rattle.aio_word.specs.Stands.{IsIn, one_if, total, stands, seen_of, known_by
 use Rattle.aio_word.specs.Stands.{HandleStands, ListStands, MachineStands, AtMoment}
 use Rattle.aio_word.specs.Ranked.{is_due, HandleRanked}
 use Rattle.aio_word.proofs.Plain.{plain}
-use Rattle.aio_word.proofs.Machines.{machine-keeps, get-at}
+use Rattle.aio_word.proofs.Machines.{machine-keeps}
+use Rattle.aio_word.proofs.Moves.{get-at}
 use Rattle.aio_word.proofs.Due.{one-if-le, one-if-no}
 
 pub at-replicate : {A : Type 0} (n i : ℕ) (x y : A) → get_elem? (replicate n x) i ≡ some y → x ≡ y

@@ -2,7 +2,7 @@
 ghost use Rattle.std.specs.Prelude.{◌≡◌};
 
 use crate::tests::note::{
-    Note, closed, end_whole, hand_in, last, live, live_on, nobody, submitted,
+    Note, acquired_again, closed, end_whole, hand_in, last, live, live_on, nobody, submitted,
 };
 use crate::{AcquireRefusal, Table, Take};
 use page_check::World;
@@ -19,14 +19,7 @@ fn lived_once<W: World>(
     let Some(mut actor) = last(&table, &mut actors) else {
         return Ok(None);
     };
-    let Ok(token) = table.acquire(&mut actor) else {
-        return Ok(None);
-    };
-    table.release(&mut actor, token);
-    let Ok(token) = table.acquire(&mut actor) else {
-        return Ok(None);
-    };
-    let Err(refusal) = table.acquire(&mut actor) else {
+    let Some((token, refusal)) = acquired_again(&table, &mut actor) else {
         return Ok(None);
     };
     if !live_on(&table, &mut actor, token) {

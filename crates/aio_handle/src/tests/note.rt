@@ -9,7 +9,9 @@ ghost use Rattle.aio_handle.specs.Closing.{IsAtRest, AreOver};
 ghost use Rattle.aio_handle.specs.Trials.{EndedWhole, Begins, IsAmidLives, EndsLife, AreHandedIn};
 ghost use Rattle.aio_handle.specs.Shown.{IsOf, IsSame, AreNew};
 
-use crate::{Actor, Claimed, Execute, HandedOut, InFlight, Label, Record, Table, Take};
+use crate::{
+    AcquireRefusal, Actor, Claimed, Execute, HandedOut, InFlight, Label, Record, Table, Take,
+};
 use aio_word::Class;
 use page_check::World;
 use std::alloc::{AllocError, Global};
@@ -213,6 +215,30 @@ pub(crate) fn live<W: World>(table: &Table<Note, W>, actor: &mut Actor<Note, W>)
         return false;
     };
     live_on(table, actor, token)
+}
+
+/// Acquire, release, acquire, and one more acquire: what is out, and the refusal.
+pub(crate) fn acquired_again<W: World>(
+    table: &Table<Note, W>,
+    actor: &mut Actor<Note, W>,
+) -> Option<(HandedOut<W>, AcquireRefusal)>
+    requires table { IsOf table.now actor.old }
+    requires backend { actor.old.known.number < table.now.config.backends }
+    ensures same { IsSame actor.old actor.new }
+    ensures out { IfSome result (λ t. actor.new.known.out ≡ Some t.0) }
+    ensures marks { IfSome result (λ _. actor.new.known.marks ≡ actor.old.known.marks) }
+{
+    let Ok(token) = table.acquire(actor) else {
+        return None;
+    };
+    table.release(actor, token);
+    let Ok(token) = table.acquire(actor) else {
+        return None;
+    };
+    let Err(refusal) = table.acquire(actor) else {
+        return None;
+    };
+    Some((token, refusal))
 }
 
 /// No actor is handed in yet.

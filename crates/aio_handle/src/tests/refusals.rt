@@ -1,7 +1,7 @@
 //! When a backend gets a handle, and why it gets none.
 ghost use Rattle.std.specs.Prelude.{◌≡◌};
 
-use crate::tests::note::{Note, closed, fresh, hand_in, last, nobody, submitted};
+use crate::tests::note::{Note, acquired_again, closed, fresh, hand_in, last, nobody, submitted};
 use crate::{AcquireRefusal, Table};
 use aio_word::WaitRef;
 use page_check::World;
@@ -17,14 +17,7 @@ fn acquired_twice<W: World>(alloc: Global) -> Result<Option<(AcquireRefusal, Wai
     let Some(mut actor) = last(&table, &mut actors) else {
         return Ok(None);
     };
-    let Ok(token) = table.acquire(&mut actor) else {
-        return Ok(None);
-    };
-    table.release(&mut actor, token);
-    let Ok(token) = table.acquire(&mut actor) else {
-        return Ok(None);
-    };
-    let Err(refusal) = table.acquire(&mut actor) else {
+    let Some((token, refusal)) = acquired_again(&table, &mut actor) else {
         return Ok(None);
     };
     let defined = table.define(&mut actor, token, fresh());

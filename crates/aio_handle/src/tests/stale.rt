@@ -9,6 +9,16 @@ use page_check::World;
 use std::alloc::{AllocError, Global};
 use std::marker::Brand;
 
+/// The reference of the one handle at this generation.
+fn of_generation(generation: u64) -> WaitRef
+    ensures { result ≡ record { handle = 0; generation = generation } }
+{
+    WaitRef {
+        handle: 0,
+        generation,
+    }
+}
+
 /// What the calls answer to references of the generations before, at and after that of an I/O in
 /// flight.
 #[derive(Drop)]
@@ -35,18 +45,9 @@ fn of_three_generations<W: World>(alloc: Global) -> Result<Option<Stale>, AllocE
         return Ok(None);
     };
     let token = submitted(&table, &mut backend, token);
-    let old = WaitRef {
-        handle: 0,
-        generation: 5,
-    };
-    let now = WaitRef {
-        handle: 0,
-        generation: 6,
-    };
-    let later = WaitRef {
-        handle: 0,
-        generation: 7,
-    };
+    let old = of_generation(5);
+    let now = of_generation(6);
+    let later = of_generation(7);
     let checks = [
         table.check(&mut runner, old),
         table.check(&mut runner, now),
@@ -95,18 +96,9 @@ fn of_far_generations<W: World>(alloc: Global) -> Result<Option<Far>, AllocError
     let Some(mut backend) = last(&table, &mut actors) else {
         return Ok(None);
     };
-    let below = WaitRef {
-        handle: 0,
-        generation: 6,
-    };
-    let first = WaitRef {
-        handle: 0,
-        generation: 7,
-    };
-    let far = WaitRef {
-        handle: 0,
-        generation: u64::MAX,
-    };
+    let below = of_generation(6);
+    let first = of_generation(7);
+    let far = of_generation(u64::MAX);
     let checks = [
         table.check(&mut runner, below),
         table.check(&mut runner, first),

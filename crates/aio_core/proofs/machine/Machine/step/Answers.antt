@@ -8,7 +8,7 @@ use Rattle.aio_word.specs.Events.{stepped}
 use Rattle.aio_core.specs.Allowed.{next_word_of, noted_in}
 use Rattle.aio_core.specs.Causes.{packed_if}
 use Rattle.aio_core.specs.Claimers.{IsKept, claimers_after}
-use Rattle.aio_core.proofs.Keeping.{makes, word-at, lawful-at}
+use Rattle.aio_core.proofs.Keeping.{makes, word-at, lawful-read}
 use Rattle.aio_core.proofs.Stepping.{actor-in, made, unmade}
 use Rattle.aio_core.proofs.machine.Machine.step.Goals as goal
 
@@ -25,28 +25,16 @@ whole n xs ys e = ap (λ (k : ℕ). take k (xs ++ drop (length xs) ys)) (sym e)
 pub next_word-requires-clause-lawful : goal.next_word-requires-clause-lawful
 next_word-requires-clause-lawful c =
     let inside = c.self.inside in
-    let lt : c.args.event.handle < length inside.words.items =
-    grind (arith, c.len.ensures, c.if-handle-len.false, inside.words.ok) in
-    lawful-at inside.config record {
-      words = inside.words.items;
-      lists =
-          inside.lists.items;
-    } inside.last_claimers.items c.args.event.handle c.index.result.now
-    c.self.invariant (word-at inside.words.items c.args.event.handle c.index.result.now lt
-    c.index.ensures)
+    lawful-read inside.config inside.words.items inside.lists.items inside.last_claimers.items
+    c.args.event.handle c.index.result.now c.self.invariant
+    (grind (arith, c.len.ensures, c.if-handle-len.false, inside.words.ok)) c.index.ensures
 
 pub pack-requires : goal.pack-requires
 pack-requires c =
     let inside = c.self.inside in
-    let lt : c.args.event.handle < length inside.words.items =
-    grind (arith, c.len.ensures, c.if-handle-len.false, inside.words.ok) in
-    lawful-at inside.config record {
-      words = inside.words.items;
-      lists =
-          inside.lists.items;
-    } inside.last_claimers.items c.args.event.handle c.index.result.now
-    c.self.invariant (word-at inside.words.items c.args.event.handle c.index.result.now lt
-    c.index.ensures)
+    lawful-read inside.config inside.words.items inside.lists.items inside.last_claimers.items
+    c.args.event.handle c.index.result.now c.self.invariant
+    (grind (arith, c.len.ensures, c.if-handle-len.false, inside.words.ok)) c.index.ensures
 
 pub returns-in_default-clause-cause : goal.returns-in_default-clause-cause
 returns-in_default-clause-cause c =

@@ -6,7 +6,7 @@ use Rattle.aio_handle.specs.Shown.{Standing}
 use Rattle.aio_handle.specs.Seats.{known_of}
 use Rattle.aio_handle.specs.Free.{IsFree, HasNoneFree}
 use Rattle.aio_handle.specs.Own.{own_at, IsFreeHandle}
-use Rattle.aio_handle.proofs.Remembering.{tells-free, none-told}
+use Rattle.aio_handle.proofs.FreeHandles.{tells-free, none-told}
 use Rattle.aio_handle.proofs.actor.Actor.free_handle.Goals as goal
 
 pub returns-in_default-clause-none : goal.returns-in_default-clause-none

@@ -4,7 +4,7 @@ use Rattle.aio_handle.specs.Seats.{known_of}
 use Rattle.aio_handle.specs.Shown.{Standing}
 use Rattle.aio_handle.specs.Free.{IsRoom}
 use Rattle.aio_handle.specs.Own.{HasRoom}
-use Rattle.aio_handle.proofs.Remembering.{room-told}
+use Rattle.aio_handle.proofs.FreeHandles.{room-told}
 use Rattle.aio_handle.proofs.actor.Actor.room.Goals as goal
 
 pub returns : goal.returns

@@ -3,7 +3,7 @@ use Rattle.aio_word.specs.declared.WaitRef.{WaitRef}
 use Rattle.aio_handle.specs.Free.{IsFree, HasNoneFree}
 use Rattle.aio_handle.specs.Seats.{known_of}
 use Rattle.aio_handle.specs.Shown.{Standing}
-use Rattle.aio_handle.proofs.Remembering.{none-out}
+use Rattle.aio_handle.proofs.FreeHandles.{none-out}
 use Rattle.aio_handle.proofs.table.Table.acquire.Goals as goal
 
 pub hand_out-requires-clause-free : goal.hand_out-requires-clause-free

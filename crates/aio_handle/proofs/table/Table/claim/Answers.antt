@@ -5,37 +5,24 @@ use Rattle.aio_word.specs.Events.{handles}
 use Rattle.aio_handle.specs.Seats.{known_of}
 use Rattle.aio_handle.specs.LifeWords.{unclaimed, claimed}
 use Rattle.aio_handle.proofs.Answering.{below-last}
-use Rattle.aio_handle.proofs.Working.{loads, claims}
+use Rattle.aio_handle.proofs.ClaimSteps.{loads-at, claims}
 use Rattle.aio_handle.proofs.Tokening.{claimed-token, claim-notes}
-use Rattle.aio_handle.proofs.Calling.{looks-seated, taken-first, lost-seated, won-seated, won-made}
-use Rattle.aio_handle.proofs.Recalling.{recalls-loaded, recalls-lost, recalls-won}
+use Rattle.aio_handle.proofs.Calling.{taken-first, lost-seated, won-seated, won-made}
+use Rattle.aio_handle.proofs.Recalling.{loaded, recalls-lost, recalls-won}
 use Rattle.aio_handle.specs.Remembered.{Remembers}
 use Rattle.aio_handle.proofs.table.Table.claim.Goals as goal
 
 pub load-requires : goal.load-requires
-load-requires g c =
-    let h : ℕ = c.args.reference.handle in
-    let range : h < handles c.self.inside.config = subst (λ (z : ℕ). h < z)
-    (sym c.self.invariant.3) c.requires.range in (
-      (ap (λ x. x.table) c.actor.view_is ∙
-          (c.requires.table.0 ∙ sym (ap (λ x. x.table) c.self.view_is))),
-      subst (λ (z : ℕ). h < z) (sym c.self.invariant.1) range,
-      loads g.R.Record.label g.R.Record.aim
-          (g.R.Record.fits g.W.World.told g.W.World.relations) _ _ _ h _
-          (known_of c.actor.inside.seat.me.0) c.actor.invariant.0.one
-          (subst (λ z. h < handles z) (sym c.self.invariant.0) range),
-    )
+load-requires g c = loads-at g.R.Record.label g.R.Record.aim
+    (g.R.Record.fits g.W.World.told g.W.World.relations) _ c.self.inside.config _ _ _ _
+    c.args.reference.handle _ (known_of c.actor.inside.seat.me.0) c.actor.invariant.0.one
+    c.self.invariant.0 c.self.invariant.1 c.self.invariant.3 c.requires.range
+    (ap (λ x. x.table) c.actor.view_is ∙
+    (c.requires.table.0 ∙ sym (ap (λ x. x.table) c.self.view_is)))
 
 pub invariant_of-actor : goal.invariant_of-actor
-invariant_of-actor g c = (
-  looks-seated c.self.inside.inner.shared.table_id.slots c.args.reference.handle 0 0 _ _ _ _ _
-      c.actor.invariant.0 c.load.ensures.2,
-  c.actor.invariant.1,
-  recalls-loaded c.actor.inside.config c.actor.inside.own.items c.actor.inside.turn
-      c.actor.inside.claims c.actor.inside.is_out c.self.inside.inner.shared.table_id.slots
-      c.args.reference.handle _ c.actor.inside.seat.me c.load.new.seat.me c.load.ensures.2
-      c.actor.invariant.2,
-)
+invariant_of-actor g c = loaded _ _ _ _ _ c.self.inside.inner.shared.table_id.slots
+    c.args.reference.handle _ _ _ _ c.actor.invariant c.load.ensures.2
 
 pub compare_exchange-found-requires : goal.compare_exchange-found-requires
 compare_exchange-found-requires g c =

@@ -7,7 +7,7 @@ use Rattle.aio_word.specs.Tokens.{IsClaimed, IsExecuted}
 use Rattle.aio_handle.specs.Seats.{known_of}
 use Rattle.aio_handle.specs.LifeWords.{claimed, executed}
 use Rattle.aio_handle.proofs.Answering.{inward}
-use Rattle.aio_handle.proofs.Working.{executes}
+use Rattle.aio_handle.proofs.CompletionSteps.{executes}
 use Rattle.aio_handle.proofs.Tokening.{claimed-away, executed-token}
 use Rattle.aio_handle.proofs.Calling.{executes-made, executes-seated}
 use Rattle.aio_handle.specs.Made.{Made}

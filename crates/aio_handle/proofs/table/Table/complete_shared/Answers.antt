@@ -10,7 +10,7 @@ use Rattle.aio_word.specs.Stands.{IsIn}
 use Rattle.aio_word.specs.Tokens.{IsExecuted}
 use Rattle.aio_handle.specs.Seats.{known_of}
 use Rattle.aio_handle.specs.LifeWords.{executed, completed}
-use Rattle.aio_handle.proofs.Working.{shares}
+use Rattle.aio_handle.proofs.CompletionSteps.{shares}
 use Rattle.aio_handle.proofs.Tokening.{executed-away}
 use Rattle.aio_word.proofs.Steps.{mark, counted-in}
 use Rattle.aio_word.specs.declared.Kind.TheVariants as kind

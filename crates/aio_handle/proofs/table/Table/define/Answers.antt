@@ -9,10 +9,11 @@ use Rattle.aio_word.specs.Events.{handles}
 use Rattle.aio_handle.specs.Seats.{known_of}
 use Rattle.aio_handle.specs.LifeWords.{handed, defined}
 use Rattle.aio_handle.proofs.Answering.{inward}
-use Rattle.aio_handle.proofs.Owning.{defines}
+use Rattle.aio_handle.proofs.DefineSteps.{defines}
 use Rattle.aio_handle.proofs.Tokening.{defined-token}
 use Rattle.aio_handle.proofs.Calling.{makes-made, makes-seated}
-use Rattle.aio_handle.proofs.Remembering.{remembers-defined, owner-place}
+use Rattle.aio_handle.proofs.RememberingLives.{remembers-defined}
+use Rattle.aio_handle.proofs.OwnPlaces.{owner-place}
 use Rattle.aio_handle.specs.Remembered.{Remembers}
 use Rattle.aio_handle.proofs.table.Table.define.Goals as goal
 

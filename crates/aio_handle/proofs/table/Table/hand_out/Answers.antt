@@ -5,9 +5,10 @@ use Rattle.aio_word.specs.Events.{handles}
 use Rattle.aio_handle.specs.Seats.{known_of}
 use Rattle.aio_handle.specs.Free.{IsFree}
 use Rattle.aio_word.specs.Events.{owner, lives}
-use Rattle.aio_handle.proofs.Owning.{hands}
+use Rattle.aio_handle.proofs.HandOutSteps.{hands}
 use Rattle.aio_handle.proofs.Calling.{hands-seated}
-use Rattle.aio_handle.proofs.Remembering.{remembers-handed, owner-place}
+use Rattle.aio_handle.proofs.Remembering.{remembers-handed}
+use Rattle.aio_handle.proofs.OwnPlaces.{owner-place}
 use Rattle.aio_word.specs.declared.Step.TheVariants as event
 use Rattle.aio_handle.proofs.Calling.{hands-made}
 use Rattle.aio_handle.proofs.table.Table.hand_out.Goals as goal

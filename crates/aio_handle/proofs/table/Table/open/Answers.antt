@@ -3,7 +3,8 @@ use Rattle.atomic_table.specs.Table.{opening}
 use Rattle.aio_word.specs.declared.Config.{Config}
 use Rattle.aio_handle.specs.Ruled.{Ruled, opened}
 use Rattle.aio_handle.specs.Shown.{Named, Standing, AreNew}
-use Rattle.aio_handle.proofs.Opening.{new-ruled, next-view, after-deal, new-push}
+use Rattle.aio_handle.proofs.Opening.{new-ruled, new-push}
+use Rattle.aio_handle.proofs.Newcomers.{next-view, after-deal}
 use Rattle.aio_handle.proofs.table.Table.open.Goals as goal
 
 pub vacant-requires : goal.vacant-requires

@@ -6,11 +6,12 @@ use Rattle.aio_word.specs.Tokens.{IsLocal}
 use Rattle.aio_handle.specs.Seats.{known_of}
 use Rattle.aio_handle.specs.LifeWords.{idle, taken}
 use Rattle.aio_handle.proofs.Answering.{inward}
-use Rattle.aio_handle.proofs.Owning.{reclaims}
+use Rattle.aio_handle.proofs.ReclaimSteps.{reclaims}
 use Rattle.aio_handle.proofs.Tokening.{local-away}
 use Rattle.aio_handle.proofs.Seating.{brought-none}
 use Rattle.aio_handle.proofs.Calling.{returns-seated}
-use Rattle.aio_handle.proofs.Remembering.{remembers-reclaimed, owner-place}
+use Rattle.aio_handle.proofs.RememberingLives.{remembers-reclaimed}
+use Rattle.aio_handle.proofs.OwnPlaces.{owner-place}
 use Rattle.aio_handle.specs.Remembered.{Remembers}
 use Rattle.aio_handle.proofs.Calling.{returns-made, by-next}
 use Rattle.aio_handle.proofs.table.Table.reclaim.Goals as goal

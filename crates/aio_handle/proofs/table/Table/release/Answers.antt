@@ -10,7 +10,7 @@ use Rattle.aio_word.specs.Events.{handles}
 use Rattle.aio_handle.specs.Seats.{known_of}
 use Rattle.aio_handle.specs.LifeWords.{handed, idle}
 use Rattle.aio_handle.proofs.Answering.{inward}
-use Rattle.aio_handle.proofs.Owning.{releases}
+use Rattle.aio_handle.proofs.DefineSteps.{releases}
 use Rattle.aio_handle.proofs.Seating.{brought-none}
 use Rattle.aio_handle.proofs.Calling.{returns-seated}
 use Rattle.aio_handle.proofs.Remembering.{remembers-released}

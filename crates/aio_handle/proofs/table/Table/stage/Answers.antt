@@ -7,7 +7,7 @@ use Rattle.aio_word.specs.Tokens.{IsDefined}
 use Rattle.aio_handle.specs.Seats.{known_of}
 use Rattle.aio_handle.specs.LifeWords.{defined, staged}
 use Rattle.aio_handle.proofs.Answering.{inward}
-use Rattle.aio_handle.proofs.Owning.{stages}
+use Rattle.aio_handle.proofs.SubmitSteps.{stages}
 use Rattle.aio_handle.proofs.Tokening.{defined-away, staged-token}
 use Rattle.aio_handle.proofs.Calling.{makes-made, makes-seated}
 use Rattle.aio_handle.specs.Made.{Made}

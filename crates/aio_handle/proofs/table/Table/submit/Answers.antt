@@ -9,7 +9,7 @@ use Rattle.aio_word.specs.Tokens.{IsStaged}
 use Rattle.aio_handle.specs.Seats.{known_of}
 use Rattle.aio_handle.specs.LifeWords.{staged, unclaimed}
 use Rattle.aio_handle.proofs.Answering.{inward}
-use Rattle.aio_handle.proofs.Owning.{submits}
+use Rattle.aio_handle.proofs.SubmitSteps.{submits}
 use Rattle.aio_handle.proofs.Tokening.{staged-away, submitted-token, submit-notes}
 use Rattle.aio_handle.proofs.Seating.{brought-first}
 use Rattle.aio_handle.proofs.Calling.{returns-made, returns-seated, by-generation, same-front}

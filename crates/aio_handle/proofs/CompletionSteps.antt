@@ -1,68 +1,41 @@
--- The steps of whoever claims keep the rule, and so does a look.
-use Rattle.std.proofs.Common.{◌≡◌, ◌≢◌, ℕ, ◌+◌, ◌*◌, ◌<◌, ◌==◌, nat_lt}
-use Rattle.std.proofs.Common.{Bool, true, false, not, cond, eqb, List}
-use Rattle.std.proofs.Common.{[], ◌∷◌, get_or, set, refl, sym, ap, ◌∙◌}
-use Rattle.std.proofs.Common.{subst, inl, inr, arith, length-set, Option, Some}
+-- The claimer's steps keep the rule: Io and Shared.
+use Rattle.std.proofs.Common.{◌≡◌, ◌≢◌, ℕ, ◌+◌, ◌*◌, ◌<◌, ◌==◌, nat_lt, true, false, not, List, []}
+use Rattle.std.proofs.Common.{◌∷◌, get_or, set, refl, sym, ap, ◌∙◌, subst, inl, inr, arith}
+use Rattle.std.proofs.Common.{length-set, Option, Some}
 use Rattle.std.proofs.lemmas.Bool.Decides.{nat_tests}
 use mathlib.Core.Option.{some, none}
 use lib.ListN.{get_elem?}
-use prog.Atomic.{either}
-use Rattle.atomic_table.specs.Table.{State, Me, Act, step, rest, keeps as stays}
-use Rattle.atomic_table.specs.Table.{takes, gives, Allows, Valid, stepped, carried_after}
-use Rattle.atomic_table.proofs.Lists.{exchanged, set_here, set_else}
+use Rattle.atomic_table.specs.Table.{State, Me, step, rest, keeps as stays, gives, Allows}
+use Rattle.atomic_table.proofs.Lists.{set_here, set_else}
 use Rattle.aio_word.specs.declared.Config.{Config}
 use Rattle.aio_word.specs.declared.Class.{Class}
 use Rattle.aio_word.specs.declared.Class.TheVariants.{Unended, Whole, Short, Failed}
-use Rattle.aio_word.specs.declared.State.TheVariants.{Submitted}
 use Rattle.aio_word.specs.declared.Step.TheVariants as event
 use Rattle.aio_word.specs.declared.Kind.TheVariants as kind
-use Rattle.aio_word.specs.declared.Word.{Word}
 use Rattle.aio_word.specs.declared.Known.{Known}
-use Rattle.aio_word.specs.Words.{packed, number_of_state, number_of_class}
-use Rattle.aio_word.specs.Events.{handles, actors, times, ref, given, after}
+use Rattle.aio_word.specs.Words.{packed, number_of_class}
+use Rattle.aio_word.specs.Events.{handles, times, ref, given, after}
 use Rattle.aio_word.specs.Stands.{IsIn}
 use Rattle.aio_word.specs.Tokens.{IsClaimed, IsExecuted}
-use Rattle.aio_word.proofs.Packing.{class-bound, state-bound, bit-bound}
-use Rattle.aio_word.proofs.Rows.{same-state, claim, io, shared}
+use Rattle.aio_word.proofs.Rows.{io, shared}
 use Rattle.aio_handle.specs.declared.record.Label.{Label}
-use Rattle.aio_handle.specs.Ruled.{Holds, IsActor, Ruled}
-use Rattle.aio_handle.specs.Changes.{changed, looked}
+use Rattle.aio_handle.specs.Ruled.{IsActor, Ruled}
+use Rattle.aio_handle.specs.Changes.{changed}
 use Rattle.aio_handle.specs.Made.{Made}
-use Rattle.aio_handle.specs.LifeWords.{unclaimed, claimed, executed, completed}
-use Rattle.aio_handle.specs.Steps.{Executes, Shares, Claims, Loads}
+use Rattle.aio_handle.specs.LifeWords.{claimed, executed, completed}
+use Rattle.aio_handle.specs.Steps.{Executes, Shares}
 use Rattle.aio_handle.proofs.Views.{below}
-use Rattle.aio_handle.proofs.Finding.{same-number, word-is, Finds, finds, refined}
-use Rattle.aio_handle.proofs.Finding.{stood-here, ruled-here, knows, actor-here}
-use Rattle.aio_handle.proofs.Keeps.{Does, Goes, lives-same, marked, keeps, made, look-keeps, saw}
+use Rattle.aio_handle.proofs.Finding.{Finds, finds, refined, stood-here, ruled-here, knows}
+use Rattle.aio_handle.proofs.Finding.{actor-here}
 use Rattle.aio_handle.proofs.Where.{claimed-word, has-claimed, executed-word}
-use Rattle.aio_handle.proofs.Owning.{still, gave, gone}
-
-bit-none : (b : Bool) → cond {A = ℕ} b 1 0 ≡ 0 → b ≡ false
-bit-none true e = absurd (omega arith)
-bit-none false e = refl
-
-none-class : (k : Class) → number_of_class k ≡ 0 → k ≡ Unended
-none-class Unended e = refl
-none-class Whole e = absurd (omega arith)
-none-class Short e = absurd (omega arith)
-none-class Failed e = absurd (omega arith)
-
--- the word that packs as an unclaimed one is that
-pub unclaimed-word : (w : Word) (g : ℕ) → packed w ≡ packed (unclaimed g) → w ≡ unclaimed g
-unclaimed-word w g e =
-    let a = state-bound w.state in let b = class-bound w.class in let d = bit-bound w.claimed in
-    let st : number_of_state w.state ≡ 4 = omega arith in let cl : cond {A = ℕ} w.claimed 1 0 ≡ 0 =
-    omega arith in let ge : w.generation ≡ g = omega arith in
-    let kl : number_of_class w.class ≡ 0 = omega arith in
-    word-is w Submitted false Unended g
-    (same-state w.state Submitted (same-number (number_of_state w.state) 4 st))
-    (bit-none w.claimed cl) (none-class w.class kl) ge
+use Rattle.aio_handle.proofs.Effects.{Does, Goes, still}
+use Rattle.aio_handle.proofs.LivesCounted.{lives-same}
+use Rattle.aio_handle.proofs.Marking.{marked}
+use Rattle.aio_handle.proofs.Keeps.{keeps, made}
+use Rattle.aio_handle.proofs.GivingBack.{gave, gone}
 
 some-claim : (n : ℕ) → 0 < n → nat_lt 0 n ≡ true
 some-claim n h = grind (arith, nat_tests)
-
-less : (a b : ℕ) → a < b → nat_lt a b ≡ true
-less a b h = grind (arith, nat_tests)
 
 no-class : (k : Class) → k ≢ Unended → not (number_of_class k == 0) ≡ true
 no-class Unended ne = absurd (ne refl)
@@ -75,60 +48,6 @@ module _ {R : Type 0} (label : R → Label) (aim_in : R → List ℕ) (Fits : R 
     (f0 : Finds label aim_in Fits c s r id h p) (range : h < handles c) (g : ℕ) where
   actor : IsActor c p
   actor = actor-here label aim_in Fits c s r id h p f0
-
-  module _ (free : f0.w ≡ unclaimed g) where
-    abbrev fu : Finds label aim_in Fits c s r id h p
-    fu = refined label aim_in Fits c s r id h p f0 (unclaimed g) free
-
-    pub claim-holds : Holds label aim_in Fits h (unclaimed g)
-        (ruled-here label aim_in Fits c s r id h p fu).aim Unended f0.home
-    claim-holds = (ruled-here label aim_in Fits c s r id h p fu).slot
-
-    abbrev x : R
-    x = claim-holds.0
-
-    claim-goes : Goes c h f0.lying.front f0.lying.back p
-        (changed event.Claim h (unclaimed g) (claimed g) (aim_in x) p) (unclaimed g) (claimed g)
-    claim-goes = let y = stood-here label aim_in Fits c s r id h p fu in
-        marked label aim_in Fits c s r id h p fu range event.Claim (claimed g)
-        (aim_in x) kind.Claimed refl
-        (claim (unclaimed g) (claimed g) record { lawful = y.lawful; last = y.last } refl).2
-        (λ y. absurd y) (λ lo hi. absurd (omega arith))
-
-    claim-does : Does c h r.ws (unclaimed g) (claimed g) event.Claim
-        (ruled-here label aim_in Fits c s r id h p fu).aim (aim_in x) p
-        (changed event.Claim h (unclaimed g) (claimed g) (aim_in x) p)
-    claim-does = let n = knows label aim_in Fits c s r id h p fu in record {
-      row = refl;
-      allowed = less p.number (actors c) actor.number;
-      free = refl;
-      who = inr record { was = λ y. cc; now = λ y. cc; generation = refl; place = omega arith };
-      out = still c h (unclaimed g) (claimed g) (ruled-here label aim_in Fits c s r id h p fu).aim p
-          (changed event.Claim h (unclaimed g) (claimed g) (aim_in x) p) refl (λ y. cc) (λ y. cc) n;
-      out_else = λ u ne. ((λ y. y), (λ y. y));
-      is_out = actor.out;
-      lived = λ o. n.lived o ∙ ap (λ (z : ℕ). c.start + z)
-          (sym (lives-same h h g kind.Claimed p.marks (λ y. omega arith)));
-      aims = inr (refl, refl, (let goal : 8 * g + 2 < 8 * g + 4 = omega arith in goal));
-      same_aim = λ _ _. claim-holds.2.aimed;
-    }
-
-    pub claim-keeps : Ruled label aim_in Fits c
-        record {
-          words = set s.words h (packed (claimed g));
-          homes = set s.homes h none;
-          views =
-              set s.views id (changed event.Claim h (unclaimed g) (claimed g) (aim_in x) p ∷ []);
-        }
-    claim-keeps = keeps label aim_in Fits c s r id h p fu range event.Claim (claimed g) (aim_in x)
-        (aim_in x) claim-goes claim-does (set s.homes h none) none (length-set s.homes h none)
-        (λ i ne. set_else s.homes h i none ne)
-        (set_here s.homes h none (below s.homes h f0.home f0.home_is)) refl (λ y. absurd (cc))
-
-    pub claim-made : Made event.Claim h (unclaimed g) (claimed g) (aim_in x) p
-        (changed event.Claim h (unclaimed g) (claimed g) (aim_in x) p)
-    claim-made = made label aim_in Fits c s r id h p fu range event.Claim (claimed g) (aim_in x)
-        (aim_in x) claim-goes claim-does
 
   module _ (t : IsClaimed p (ref h g)) (class : Class) (ended : class ≢ Unended) where
     abbrev fc : Finds label aim_in Fits c s r id h p
@@ -265,85 +184,6 @@ module _ {R : Type 0} (label : R → Label) (aim_in : R → List ℕ) (Fits : R 
 
 module _ {R : Type 0} (label : R → Label) (aim_in : R → List ℕ) (Fits : R → Type 0)
     (c : Config) where
-  pub loads : (slots id h : ℕ) (me : Me (Option R) (List Known)) (p : Known) → me.0 ≡ p ∷ []
-      → h < handles c
-      → Allows (Ruled label aim_in Fits c) slots id me h (λ n. n) (Loads (step slots h 0 0 none) me)
-  loads slots id h me p mine range s r wide at _ =
-      let seat : get_elem? s.views id ≡ some (p ∷ []) = at ∙ ap some mine in
-      let f = finds label aim_in Fits c s r id h p seat range in
-      let q : Known = looked h f.w p in (
-        q ∷ [],
-        stays,
-        tt,
-        subst (λ (z : ℕ). Ruled label aim_in Fits c
-            record { words = set s.words h z; homes = s.homes; views = set s.views id (q ∷ []) })
-            (sym f.found) (look-keeps label aim_in Fits c s r id h p f range),
-        (p, q, mine, refl, (f.w, sym f.found, saw label aim_in Fits c s r id h p f range)),
-      )
-
-  pub claims : (slots id h g old new : ℕ) (me : Me (Option R) (List Known)) (p : Known)
-      → old ≡ packed (unclaimed g) → new ≡ packed (claimed g) → me.0 ≡ p ∷ [] → h < handles c
-      → Allows (Ruled label aim_in Fits c) slots id me h (λ n. either (eqb n old) new n)
-      (Claims label aim_in Fits (step slots h old new none) me)
-  claims slots id h g old new me p is_old is_new mine range s r wide at _ =
-      let seat : get_elem? s.views id ≡ some (p ∷ []) = at ∙ ap some mine in
-      let f = finds label aim_in Fits c s r id h p seat range in
-      let n : ℕ = get_or s.words h 0 in
-      let st = step {S = Option R} slots h old new none in
-      exchanged n old new
-      (λ (m : ℕ). (v : List Known) × (a : Act (Option R)) × Valid s.homes me.1 a
-      × Ruled label aim_in Fits c (stepped s h m id me.1 v a)
-      × Claims label aim_in Fits st me n (v, carried_after me.1 a))
-      (λ hit.
-      let free : f.w ≡ unclaimed g = unclaimed-word f.w g (sym f.found ∙ (hit ∙ is_old)) in
-      let hold = claim-holds label aim_in Fits c s r id h p f range g free in
-      let q : Known = changed event.Claim h (unclaimed g) (claimed g) (aim_in hold.0) p in (
-        q ∷ [],
-        takes h (Some hold.0),
-        f.home_is ∙ ap some hold.1,
-        subst (λ (z : ℕ). Ruled label aim_in Fits c
-            record {
-              words = set s.words h z;
-              homes = set s.homes h none;
-              views =
-                  set s.views id (q ∷ []);
-            }) (sym is_new)
-            (claim-keeps label aim_in Fits c s r id h p f range g free),
-        (
-          p,
-          q,
-          mine,
-          (λ _. (
-            g,
-            (
-              hold.0,
-              hit ∙ is_old,
-              refl,
-              claim-made label aim_in Fits c s r id h p f range g
-                  free,
-              hold.2.labelled,
-              hold.2.fits,
-            ),
-          )),
-          (λ miss. absurd (miss hit)),
-        ),
-      ))
-      (λ miss. let q : Known = looked h f.w p in (
-        q ∷ [],
-        stays,
-        tt,
-        subst (λ (z : ℕ). Ruled label aim_in Fits c
-            record { words = set s.words h z; homes = s.homes; views = set s.views id (q ∷ []) })
-            (sym f.found) (look-keeps label aim_in Fits c s r id h p f range),
-        (
-          p,
-          q,
-          mine,
-          (λ hit. absurd (miss hit)),
-          (λ _. (refl, (f.w, sym f.found, saw label aim_in Fits c s r id h p f range))),
-        ),
-      ))
-
   pub executes : (slots id h g new : ℕ) (class : Class) (me : Me (Option R) (List Known))
       (p : Known) → new ≡ packed (executed class g) → class ≢ Unended → me.0 ≡ p ∷ []
       → h < handles c → IsClaimed p (ref h g)
