@@ -39,6 +39,38 @@ in-moved x t bs ts i = ⊎_elim (λ l. inr (in-left x bs ts l))
 
 module _ {W : Type 0} (c : Scope W) (told : Option Told) (relations : ℕ) (p : Known) (s : Reads W)
   where
+    -- other records are free, or have ended
+    issued-records : (free ended : Buffer Reading) → c.total ≤ free.capacity
+        → c.total ≤ ended.capacity
+        → records_in (record s { free = free; ended = ended }) ≤ c.total
+        → ((r : Reading) → IsIn r free.items → length r.pages ≡ c.combine)
+        → ((r : Reading) → IsIn r ended.items → IsTakenIn c told relations p r)
+        → Issued c told relations p s
+        → Issued c told relations p (record s { free = free; ended = ended })
+    issued-records free ended most_free most_ended few are_free have_ended i = record {
+      room = record {
+        free = most_free;
+        flights = i.room.flights;
+        ended = most_ended;
+        few = few;
+      };
+      number = i.number;
+      config = i.config;
+      out = i.out;
+      free = are_free;
+      held = i.held;
+      staged = i.staged;
+      flying = i.flying;
+      ended = have_ended;
+      owed = i.owed;
+      most = i.most;
+      small = i.small;
+      room_was = i.room_was;
+      taken = i.taken;
+      lived = i.lived;
+      since = i.since;
+    }
+
     -- the oldest record that has ended is taken out
     pub less-ended : (r : Reading) (rest : List Reading) (queue : Buffer Reading)
         → s.ended.items ≡ r ∷ rest → queue ≡ buffer rest s.ended.capacity
@@ -52,30 +84,10 @@ module _ {W : Type 0} (c : Scope W) (told : Option Told) (relations : ℕ) (p : 
         let parts : length queue.items ≡ length rest = ap (λ (z : List Reading). length z) items in
         let cap : queue.capacity ≡ s.ended.capacity =
         ap (λ (z : Buffer Reading). z.capacity) now in (
-          record {
-            room = record {
-              free = i.room.free;
-              flights = i.room.flights;
-              ended = let f = i.room.ended in omega arith;
-              few = let f = i.room.few in omega arith;
-            };
-            number = i.number;
-            config = i.config;
-            out = i.out;
-            free = i.free;
-            held = i.held;
-            staged = i.staged;
-            flying = i.flying;
-            ended = λ x j. i.ended x (subst (λ (z : List Reading). IsIn x z) (sym is)
-                (inr (subst (λ (z : List Reading). IsIn x z) items j)));
-            owed = i.owed;
-            most = i.most;
-            small = i.small;
-            room_was = i.room_was;
-            taken = i.taken;
-            lived = i.lived;
-            since = i.since;
-          },
+          issued-records s.free queue i.room.free (let f = i.room.ended in omega arith)
+              (let f = i.room.few in omega arith) i.free
+              (λ x j. i.ended x (subst (λ (z : List Reading). IsIn x z) (sym is)
+              (inr (subst (λ (z : List Reading). IsIn x z) items j)))) i,
           i.ended r (subst (λ (z : List Reading). IsIn r z) (sym is) (inl refl)),
           omega arith,
         )
@@ -147,32 +159,12 @@ module _ {W : Type 0} (c : Scope W) (told : Option Told) (relations : ℕ) (p : 
         ap (λ (z : List Reading). length z) items in
         let cap : queue.capacity ≡ s.ended.capacity =
         ap (λ (z : Buffer Reading). z.capacity) now in (
-          record {
-            room = record {
-              free = i.room.free;
-              flights = i.room.flights;
-              ended = let f = i.room.ended in omega arith;
-              few = let f = i.room.few in omega arith;
-            };
-            number = i.number;
-            config = i.config;
-            out = i.out;
-            free = i.free;
-            held = i.held;
-            staged = i.staged;
-            flying = i.flying;
-            ended = subst
-                (λ (z : List Reading). (x : Reading) → IsIn x z → IsTakenIn c told relations p x)
-                (sym items)
-                (each-pushed (λ x. IsTakenIn c told relations p x) s.ended.items r i.ended new);
-            owed = i.owed;
-            most = i.most;
-            small = i.small;
-            room_was = i.room_was;
-            taken = i.taken;
-            lived = i.lived;
-            since = i.since;
-          },
+          issued-records s.free queue i.room.free (let f = i.room.ended in omega arith)
+              (omega arith) i.free
+              (subst
+              (λ (z : List Reading). (x : Reading) → IsIn x z → IsTakenIn c told relations p x)
+              (sym items)
+              (each-pushed (λ x. IsTakenIn c told relations p x) s.ended.items r i.ended new)) i,
           omega arith,
         )
 
@@ -190,32 +182,12 @@ module _ {W : Type 0} (c : Scope W) (told : Option Told) (relations : ℕ) (p : 
         ap (λ (z : List Reading). length z) items in
         let cap : queue.capacity ≡ s.free.capacity =
         ap (λ (z : Buffer Reading). z.capacity) now in (
-          record {
-            room = record {
-              free = let f = i.room.free in omega arith;
-              flights = i.room.flights;
-              ended = i.room.ended;
-              few = let f = i.room.few in omega arith;
-            };
-            number = i.number;
-            config = i.config;
-            out = i.out;
-            free = subst
-                (λ (z : List Reading). (x : Reading) → IsIn x z → length x.pages ≡ c.combine)
-                (sym items)
-                (each-pushed (λ x. length x.pages ≡ c.combine) s.free.items r i.free new);
-            held = i.held;
-            staged = i.staged;
-            flying = i.flying;
-            ended = i.ended;
-            owed = i.owed;
-            most = i.most;
-            small = i.small;
-            room_was = i.room_was;
-            taken = i.taken;
-            lived = i.lived;
-            since = i.since;
-          },
+          issued-records queue s.ended (let f = i.room.free in omega arith) i.room.ended
+              (omega arith)
+              (subst (λ (z : List Reading). (x : Reading) → IsIn x z → length x.pages ≡ c.combine)
+              (sym items)
+              (each-pushed (λ x. length x.pages ≡ c.combine) s.free.items r i.free new))
+              i.ended i,
           omega arith,
         )
 
@@ -233,30 +205,10 @@ module _ {W : Type 0} (c : Scope W) (told : Option Told) (relations : ℕ) (p : 
         let parts : length queue.items ≡ length rest = ap (λ (z : List Reading). length z) items in
         let cap : queue.capacity ≡ s.free.capacity =
         ap (λ (z : Buffer Reading). z.capacity) now in (
-          record {
-            room = record {
-              free = let f = i.room.free in omega arith;
-              flights = i.room.flights;
-              ended = i.room.ended;
-              few = let f = i.room.few in omega arith;
-            };
-            number = i.number;
-            config = i.config;
-            out = i.out;
-            free = λ x j. i.free x (subst (λ (z : List Reading). IsIn x z) (sym is)
-                (inr (subst (λ (z : List Reading). IsIn x z) items j)));
-            held = i.held;
-            staged = i.staged;
-            flying = i.flying;
-            ended = i.ended;
-            owed = i.owed;
-            most = i.most;
-            small = i.small;
-            room_was = i.room_was;
-            taken = i.taken;
-            lived = i.lived;
-            since = i.since;
-          },
+          issued-records queue s.ended (let f = i.room.free in omega arith) i.room.ended
+              (let f = i.room.few in omega arith)
+              (λ x j. i.free x (subst (λ (z : List Reading). IsIn x z) (sym is)
+              (inr (subst (λ (z : List Reading). IsIn x z) items j)))) i.ended i,
           i.free r (subst (λ (z : List Reading). IsIn r z) (sym is) (inl refl)),
           omega arith,
           omega arith,

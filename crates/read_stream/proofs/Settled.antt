@@ -1,6 +1,5 @@
 -- An I/O of a stream that was waited for, taken and reclaimed.
-use Rattle.std.proofs.Common.{◌≡◌, ◌≢◌, ℕ, ◌+◌, ◌*◌, ◌<◌, ◌≤◌, List, [], ◌∷◌, ◌++◌, length}
-use Rattle.std.proofs.Common.{refl}
+use Rattle.std.proofs.Common.{◌≡◌, ◌≢◌, ℕ, ◌+◌, ◌*◌, ◌<◌, ◌≤◌, List, [], ◌∷◌, ◌++◌, length, refl}
 use Rattle.std.proofs.Common.{sym, ap, ◌∙◌, arith, append_assoc, subst, inl, inr, ⊎_elim, false}
 use Rattle.std.specs.Prelude.{Option}
 use Rattle.page_check.specs.Told.{Told}
@@ -16,18 +15,17 @@ use Rattle.aio_word.specs.declared.State.TheVariants.{CompletedShared}
 use Rattle.aio_word.specs.Events.{at, actors, handles, owner, lives, mark_at, order, ref, word_in}
 use Rattle.aio_word.proofs.Owners.{order-small}
 use Rattle.aio_word.specs.Stands.{IsIn, seen_of}
-use Rattle.aio_word.specs.Tokens.{IsStaged, Keeps}
-use Rattle.aio_word.proofs.Frames.{spot, at-more, at-place}
+use Rattle.aio_word.specs.Tokens.{Keeps}
+use Rattle.aio_word.proofs.Frames.{spot, at-more}
 use Rattle.aio_word.proofs.Parts.{in-append, in-left, in-right}
 use Rattle.aio_word.proofs.Steps.{counted-in}
 use Rattle.aio_handle.specs.declared.record.Label.{Label}
 use Rattle.aio_handle.specs.Kept.{IsKept}
 use Rattle.aio_handle.specs.LifeWords.{taken, idle}
 use Rattle.aio_handle.specs.Made.{Made, LivedAlone, generation_of}
-use Rattle.aio_handle.proofs.Kept.{kept-taking-up, kept-looking, kept-elsewhere}
-use Rattle.aio_handle.proofs.Keeps.{lives-push}
+use Rattle.aio_handle.proofs.Kept.{kept-taking-up, kept-looking, kept-elsewhere, kept-then}
+use Rattle.aio_handle.proofs.LivesCounted.{lives-push}
 use Rattle.aio_batch.specs.Held.{Held}
-use Rattle.aio_handle.proofs.Kept.{kept-then}
 use Rattle.aio_batch.proofs.Holding.{held-kept}
 use Rattle.aio_waitref.specs.Waiting.{WaitsAndTakes}
 use Rattle.aio_callback.specs.Reading.{Reading, Fits, ReadsAs, aim_in, settled_of}
@@ -36,30 +34,15 @@ use Rattle.aio_callback.proofs.Aims.{reads-as}
 use Rattle.read_stream.specs.declared.reads.Reads.{Reads}
 use Rattle.read_stream.specs.declared.scope.Scope.{Scope}
 use Rattle.aio_callback.specs.declared.counting.Counts.{Counts}
-use Rattle.read_stream.specs.Issued.{IsNew, IsFlying, IsTakenIn, IssuedBut, Issued, IsFor}
-use Rattle.read_stream.specs.Issued.{HasIdle}
+use Rattle.read_stream.specs.Issued.{IsNew, IsFlying, IsTakenIn, IssuedBut, Issued, IsFor, HasIdle}
 use Rattle.read_stream.specs.Issued.{was_known}
-use Rattle.read_stream.specs.Went.{Went, IsSince, local_marks}
+use Rattle.read_stream.specs.Went.{Went, IsSince}
 use Rattle.read_stream.proofs.Going.{went_then, went_made, went_waiting}
 use Rattle.read_stream.proofs.Idling.{Idles, idles-then, idles-taking-up, idles-looking}
-use Rattle.read_stream.proofs.Idling.{locals-more}
-use Rattle.read_stream.proofs.Submitted.{are-flying-kept, taken-grown}
-use Rattle.std.proofs.lemmas.Bool.Decides.{nat_tests}
-use Rattle.std.specs.Prelude.{◌==◌, ◌&&◌}
-use Rattle.aio_word.specs.Stands.{one_if}
-
-is-one : (h : ℕ) → one_if ((h == h) && (7 == 7)) ≡ 1
-is-one h = grind (arith, nat_tests)
-
-at-most-one : (h i : ℕ) → one_if ((h == i) && (7 == 7)) ≤ 1
-at-most-one h i = grind (arith, nat_tests)
-
-pub staged-of : (p : Known) (ys : List (WaitRef × Reading)) (u : WaitRef × Reading) → Held p ys
-    → IsIn u ys → IsStaged p u.0
-staged-of p [] u h j = absurd j
-staged-of p (y ∷ ys) u h j = ⊎_elim
-    (λ same. subst (λ (z : WaitRef × Reading). IsStaged p z.0) same h.0)
-    (λ rest. staged-of p ys u h.2 rest) j
+use Rattle.read_stream.proofs.TakenIn.{taken-grown}
+use Rattle.read_stream.proofs.Flying.{are-flying-kept}
+use Rattle.read_stream.proofs.Pushed.{staged-of}
+use Rattle.read_stream.proofs.Reclaimed.{is-one, one-life, one-local, own-reclaimed, same-defined}
 
 module _ (p m q : Known) (t : WaitRef) (l : Label) (a b d e : ℕ) (class : Class)
     (w : WaitsAndTakes t p m a b d e l)
@@ -121,46 +104,10 @@ module _ (p m q : Known) (t : WaitRef) (l : Label) (a b d e : ℕ) (class : Clas
         (kept-elsewhere u event.Reclaim t.handle (taken class t.generation)
         (idle (t.generation + 1)) [] m q r ne)))
 
-    -- what was defined, and what is over
-    same-defined : (x : WaitRef) → spot x 0 q.marks ≡ spot x 0 p.marks
-    same-defined x = ap (spot x 0) marks-both
-        ∙ (at-place x t 0 kind.Reclaimed (before.marks ++ local-mark ∷ []) (λ n. omega arith)
-        (omega arith)
-        ∙ (at-place x t 0 (kind.Local w.taken.class) before.marks (λ n. omega arith) (omega arith)
-        ∙ idles.defined x))
-
     more-reclaimed : (x : WaitRef) → spot x 7 p.marks ≤ spot x 7 q.marks
     more-reclaimed x =
         let g : spot x 7 q.marks ≡ spot x 7 (p.marks ++ more) = ap (spot x 7) grown in
         let s = at-more x 7 p.marks more in omega arith
-
-    own-reclaimed : 0 < spot t 7 q.marks
-    own-reclaimed = subst (λ (z : List Mark). 0 < spot t 7 z) (sym marks-q)
-        (counted-in last-mark (m.marks ++ last-mark ∷ [])
-        (in-right last-mark m.marks (last-mark ∷ []) (inl refl)))
-
-    one-local : local_marks q.marks ≡ local_marks p.marks + 1
-    one-local =
-        let g : local_marks q.marks ≡ local_marks
-        ((before.marks ++ local-mark ∷ []) ++ last-mark ∷ []) =
-        ap local_marks marks-both in
-        let s = locals-more (before.marks ++ local-mark ∷ []) (last-mark ∷ []) in
-        let u = locals-more before.marks (local-mark ∷ []) in
-        let i = idles.locals in
-        let none : local_marks (last-mark ∷ []) ≡ 0 = refl in
-        let one : local_marks (local-mark ∷ []) ≡ 1 = refl in omega arith
-
-    one-life : (h : ℕ) → lives h q.marks ≤ lives h p.marks + 1
-    one-life h =
-        let g : lives h q.marks ≡ lives h ((before.marks ++ local-mark ∷ []) ++ last-mark ∷ []) =
-        ap (lives h) marks-both in
-        let s =
-        lives-push h t.handle t.generation kind.Reclaimed (before.marks ++ local-mark ∷ []) in
-        let u = lives-push h t.handle t.generation (kind.Local w.taken.class) before.marks in
-        let i = idles.lived h in
-        let x = at-most-one t.handle h in
-        let none : one_if ((t.handle == h) && false) ≡ 0 = grind (arith, nat_tests) in
-        omega arith
 
     local-in-more : IsIn local-mark more
     unfolding more
@@ -234,9 +181,12 @@ module _ (p m q : Known) (t : WaitRef) (l : Label) (a b d e : ℕ) (class : Clas
             flying = are-flying-kept c p q s.flights.items (λ u j. kept u (apart u j)) i.flying;
             ended = λ x j. taken-grown c told relations p q more x grown (i.ended x j);
             owed = λ x. ⊎_elim
-                (λ over. let f = same-defined x in let g = more-reclaimed x in inl (omega arith))
+                (λ over. let f = same-defined t w.taken.class p.marks before.marks q.marks
+                marks-both idles.defined x in
+                let g = more-reclaimed x in inl (omega arith))
                 (λ j. ⊎_elim
-                (λ same. inl (let f = own-reclaimed in
+                (λ same. inl (let f =
+                own-reclaimed t w.taken.class p.marks before.marks q.marks marks-both in
                 let o = keeps.once t.handle (8 * t.generation + 0) in
                 let own : spot t 0 q.marks ≤ spot t 7 q.marks = omega arith in
                 subst (λ (z : WaitRef). spot z 0 q.marks ≤ spot z 7 q.marks) same own))
@@ -245,8 +195,14 @@ module _ (p m q : Known) (t : WaitRef) (l : Label) (a b d e : ℕ) (class : Clas
             most = let f = i.most in omega arith;
             small = i.small;
             room_was = i.room_was;
-            taken = let f = one-local in let g = i.taken in omega arith;
-            lived = λ h. (let f = one-life h in let g = i.lived h in omega arith);
+            taken =
+                let f = one-local t w.taken.class p.marks before.marks q.marks marks-both
+                idles.locals in
+                let g = i.taken in omega arith;
+            lived = λ h.
+                (let f = one-life t w.taken.class p.marks before.marks q.marks marks-both
+                idles.lived h in
+                let g = i.lived h in omega arith);
             since = (
               i.since.0 ++ more,
               grown ∙ (ap (λ (z : List Mark). z ++ more) i.since.1

@@ -19,7 +19,7 @@ use Rattle.aio_handle.specs.Kept.{IsKept}
 use Rattle.aio_handle.specs.LifeWords.{idle, handed, defined, staged}
 use Rattle.aio_handle.specs.Made.{Made}
 use Rattle.aio_handle.proofs.Kept.{kept-unused, kept-defining, kept-elsewhere}
-use Rattle.aio_handle.proofs.Keeps.{lives-same}
+use Rattle.aio_handle.proofs.LivesCounted.{lives-same}
 use Rattle.aio_handle.proofs.Kept.{kept-then}
 use Rattle.aio_batch.proofs.Holding.{held-kept}
 use Rattle.aio_callback.specs.Reading.{Reading, ReadsAs, aim_in, aimed_at}
@@ -32,8 +32,9 @@ use Rattle.read_stream.specs.Issued.{made_in, IsAimed}
 use Rattle.read_stream.specs.Went.{Went, local_marks}
 use Rattle.read_stream.proofs.Going.{went_then, went_nothing, went_made}
 use Rattle.read_stream.proofs.Idling.{locals-more}
-use Rattle.read_stream.proofs.Submitted.{are-flying-kept, taken-grown, flying-in}
-use Rattle.read_stream.proofs.Settled.{staged-of}
+use Rattle.read_stream.proofs.TakenIn.{taken-grown}
+use Rattle.read_stream.proofs.Flying.{are-flying-kept, flying-in}
+use Rattle.read_stream.proofs.Pushed.{staged-of}
 
 module _ {W : Type 0} (c : Scope W) (told : Option Told) (relations : ℕ) where
   none-yet : (p q : Known) (t : WaitRef) → Keeps (seen_of p) p.marks

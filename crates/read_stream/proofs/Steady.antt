@@ -15,12 +15,14 @@ use Rattle.read_stream.specs.declared.scope.Scope.{Scope}
 use Rattle.read_stream.specs.declared.stream.ReadStream.{ReadStream}
 use Rattle.read_stream.specs.Answering.{entries_of}
 use Rattle.read_stream.specs.Issued.{Issued, AreFor, IsTakenIn, records_in, made_in}
-use Rattle.read_stream.specs.Open.{IsSameDesk, IsSteady, IsGoing, IsWant, Keeps, Moves}
-use Rattle.read_stream.specs.Open.{Stays, asked_of, block_of, blocks_in, runs_in, pending_in}
-use Rattle.read_stream.specs.Open.{count_some}
+use Rattle.read_stream.specs.Desks.{IsSameDesk}
+use Rattle.read_stream.specs.Wanted.{IsWant, asked_of, block_of, blocks_in, runs_in, pending_in}
+use Rattle.read_stream.specs.Hands.{count_some}
+use Rattle.read_stream.specs.Open.{IsSteady, IsGoing}
+use Rattle.read_stream.specs.Changes.{Keeps, Moves, Stays}
 use Rattle.read_stream.specs.Went.{Went}
 use Rattle.read_stream.proofs.Nexts.{reaches-then}
-use Rattle.read_stream.proofs.Submitted.{taken-grown}
+use Rattle.read_stream.proofs.TakenIn.{taken-grown}
 
 -- the same stream over the same desk
 pub record Same {W S P : Type 0} (s n : ReadStream W S P) : Type 0 where

@@ -1,6 +1,5 @@
 -- The state of a stream's I/Os, over the calls of their actor.
-use Rattle.std.proofs.Common.{◌≡◌, ◌≢◌, ℕ, ◌+◌, ◌<◌, ◌≤◌, List, [], ◌∷◌, ◌++◌, length, refl}
-use Rattle.std.proofs.Common.{sym}
+use Rattle.std.proofs.Common.{◌≡◌, ◌≢◌, ℕ, ◌+◌, ◌<◌, ◌≤◌, List, [], ◌∷◌, ◌++◌, length, refl, sym}
 use Rattle.std.proofs.Common.{ap, ◌∙◌, arith, append_assoc, subst, inl, inr, ⊎_elim, length-append}
 use Rattle.std.specs.Prelude.{Option, None}
 use Rattle.page_check.specs.Told.{Told}
@@ -8,7 +7,7 @@ use Rattle.aio_word.specs.declared.Kind.TheVariants as kind
 use Rattle.aio_word.specs.declared.Known.{Known}
 use Rattle.aio_word.specs.declared.Mark.{Mark}
 use Rattle.aio_word.specs.declared.WaitRef.{WaitRef}
-use Rattle.aio_word.specs.Events.{at, mark_at}
+use Rattle.aio_word.specs.Events.{at}
 use Rattle.aio_word.specs.Stands.{IsIn}
 use Rattle.aio_word.specs.Tokens.{IsStaged}
 use Rattle.aio_word.proofs.Parts.{in-append, in-left, in-right}
@@ -20,16 +19,15 @@ use Rattle.aio_batch.specs.Held.{Held}
 use Rattle.aio_batch.specs.Next.{IsNext}
 use Rattle.aio_batch.proofs.Holding.{held-kept, kept-submitting}
 use Rattle.aio_callback.specs.Reading.{Reading, aim_in}
-use Rattle.aio_callback.specs.Finished.{reference_in}
 use Rattle.circular_buffer.specs.Buffer.{buffer}
 use Rattle.read_stream.specs.declared.reads.Reads.{Reads}
 use Rattle.read_stream.specs.declared.scope.Scope.{Scope}
-use Rattle.read_stream.specs.Issued.{IsFor, IsAimed, IsNew, IsFlying, AreFlying, IsTakenIn}
-use Rattle.read_stream.specs.Issued.{Issued, IssuedBut, Lent, references, records_in, made_in}
-use Rattle.read_stream.specs.Issued.{was_known}
-use Rattle.read_stream.specs.Went.{IsSince}
-use Rattle.read_stream.proofs.Lists.{each-pushed}
+use Rattle.read_stream.specs.Issued.{IsFor, IsAimed, IsNew, Issued, IssuedBut, Lent, references}
+use Rattle.read_stream.specs.Issued.{records_in, was_known}
 use Rattle.read_stream.proofs.Idling.{Idles, idles-then, idles-taking-up, idles-submitting}
+use Rattle.read_stream.proofs.TakenIn.{taken-later}
+use Rattle.read_stream.proofs.Flying.{are-flying-kept, flying-in, flying-push}
+use Rattle.read_stream.proofs.Pushed.{issued-put}
 
 pub in-references : (u : WaitRef × Reading) (xs : List (WaitRef × Reading)) → IsIn u xs
     → IsIn u.0 (references xs)
@@ -37,85 +35,11 @@ in-references u [] i = absurd i
 in-references u (x ∷ xs) i =
     ⊎_elim (λ e. inl (ap (λ (z : WaitRef × Reading). z.0) e)) (λ j. inr (in-references u xs j)) i
 
-held-push : (q : Known) (ts : List (WaitRef × Reading)) (t : WaitRef × Reading) → Held q ts
-    → IsStaged q t.0 → ((u : WaitRef × Reading) → IsIn u ts → u.0 ≢ t.0) → Held q (ts ++ t ∷ [])
-held-push q [] t h new apart = (new, (λ u i. absurd i), tt)
-held-push q (x ∷ ts) t h new apart = (
-  h.0,
-  (λ u i. ⊎_elim (λ old. h.1 u old)
-      (λ last. ⊎_elim (λ e. λ same. apart x (inl refl)
-      (sym same ∙ sym (ap (λ (z : WaitRef × Reading). z.0) e)))
-      (λ none. absurd none) last) (in-append u ts (t ∷ []) i)),
-  held-push q ts t h.2 new (λ u i. apart u (inr i)),
-)
-
 pub is-none : {A : Type 0} (xs : List A) → length xs ≤ 0 → xs ≡ []
 is-none [] le = refl
 is-none (x ∷ xs) le = absurd (omega arith)
 
-since-later : (was p q : Known) (m : Mark) (more : List Mark) → q.marks ≡ p.marks ++ more
-    → IsSince was p m → IsSince was q m
-since-later was p q m more grown s = (
-  s.0 ++ more,
-  grown ∙ (ap (λ (z : List Mark). z ++ more) s.1 ∙ append_assoc was.marks s.0 more),
-  in-left m s.0 more s.2,
-)
-
 module _ {W : Type 0} (c : Scope W) where
-  pub taken-grown : (told : Option Told) (relations : ℕ) (p q : Known) (more : List Mark)
-      (r : Reading) → q.marks ≡ p.marks ++ more
-      → IsTakenIn c told relations p r → IsTakenIn c told relations q r
-  taken-grown told relations p q more r grown k = record {
-    fits = k.fits;
-    ended = k.ended;
-    aimed = k.aimed;
-    local = since-later (was_known c) p q (mark_at (reference_in r) (kind.Local r.label.ended))
-        more grown k.local;
-    alone = λ one. since-later (was_known c) p q
-        (mark_at (reference_in r) (kind.Io r.label.ended)) more grown (k.alone one);
-  }
-
-  pub taken-later : (told : Option Told) (relations : ℕ) (p q : Known) (r : Reading) → Idles p q
-      → IsTakenIn c told relations p r → IsTakenIn c told relations q r
-  taken-later told relations p q r i k =
-      taken-grown told relations p q i.more r i.grown k
-
-  flying-kept : (p q : Known) (t : WaitRef) → IsKept t p q → IsFlying c p t → IsFlying c q t
-  flying-kept p q t k f = record {
-    in_flight = k.in_flight f.in_flight;
-    aimed = (f.aimed.0, f.aimed.1, k.aims (aim_in f.aimed.0) f.aimed.2);
-    new = f.new;
-  }
-
-  pub are-flying-kept : (p q : Known) (ts : List WaitRef)
-      → ((t : WaitRef) → IsIn t ts → IsKept t p q)
-      → AreFlying c p ts → AreFlying c q ts
-  are-flying-kept p q [] k f = tt
-  are-flying-kept p q (t ∷ ts) k f = (
-    flying-kept p q t (k t (inl refl)) f.0,
-    f.1,
-    are-flying-kept p q ts (λ u i. k u (inr i)) f.2,
-  )
-
-  pub flying-in : (p : Known) (ts : List WaitRef) (t : WaitRef) → AreFlying c p ts → IsIn t ts
-      → IsFlying c p t
-  flying-in p [] t f i = absurd i
-  flying-in p (u ∷ ts) t f i = ⊎_elim (λ e. subst (λ (z : WaitRef). IsFlying c p z) e f.0)
-      (λ j. flying-in p ts t f.2 j) i
-
-  -- one more, which is none of these
-  flying-push : (q : Known) (ts : List WaitRef) (t : WaitRef) → AreFlying c q ts → IsFlying c q t
-      → ((u : WaitRef) → IsIn u ts → t ≢ u) → AreFlying c q (ts ++ t ∷ [])
-  flying-push q [] t f new apart = (new, (λ u i. absurd i), tt)
-  flying-push q (x ∷ ts) t f new apart = (
-    f.0,
-    (λ u i. ⊎_elim (λ old. f.1 u old)
-        (λ last. ⊎_elim (λ e. λ same. apart x (inl refl) (e ∙ same)) (λ none. absurd none) last)
-        (in-append u ts (t ∷ []) i)),
-    flying-push q ts t f.2 new (λ u i. apart u (inr i)),
-  )
-
-  -- what the actor does beside the tokens of the stream
   pub issued-kept : (loose : List WaitRef) (told : Option Told) (relations : ℕ) (p q : Known)
       (s : Reads W) → Idles p q → q.out ≡ None
       → ((t : WaitRef) → IsIn t (references s.batch ++ s.flights.items) → IsKept t p q)
@@ -130,9 +54,9 @@ module _ {W : Type 0} (c : Scope W) where
         (λ u j. kept u.0 (in-left u.0 (references s.batch) s.flights.items
         (in-references u s.batch j))) k.held;
     staged = k.staged;
-    flying = are-flying-kept p q s.flights.items
+    flying = are-flying-kept c p q s.flights.items
         (λ t j. kept t (in-right t (references s.batch) s.flights.items j)) k.flying;
-    ended = λ r j. taken-later told relations p q r i (k.ended r j);
+    ended = λ r j. taken-later c told relations p q r i (k.ended r j);
     owed = λ t. ⊎_elim
         (λ over. let a = i.defined t in let b = i.reclaimed t in inl (omega arith))
         (λ j. inr j) (k.owed t);
@@ -178,7 +102,7 @@ module _ {W : Type 0} (c : Scope W) where
       let lengths : length s.batch ≡ length after + 1 = omega arith in
       let kept : (u : WaitRef) → IsIn u s.flights.items → IsKept u p q =
       λ u j. kept-submitting aim_in s.batch after t u p q a b d e k.held n
-      (λ st. absurd (let f = (flying-in p s.flights.items u k.flying j).in_flight.since in
+      (λ st. absurd (let f = (flying-in c p s.flights.items u k.flying j).in_flight.since in
       let y = st.until in omega arith)) in
       let was-staged = k.staged n.token
       (subst (λ (z : List (WaitRef × Reading)). IsIn n.token z) (sym n.first) (inl refl)) in
@@ -197,8 +121,8 @@ module _ {W : Type 0} (c : Scope W) where
           held = held;
           staged = λ x j. k.staged x
               (subst (λ (z : List (WaitRef × Reading)). IsIn x z) (sym n.first) (inr j));
-          flying = are-flying-kept p q s.flights.items kept k.flying;
-          ended = λ r j. taken-later told relations p q r i (k.ended r j);
+          flying = are-flying-kept c p q s.flights.items kept k.flying;
+          ended = λ r j. taken-later c told relations p q r i (k.ended r j);
           owed = λ x. ⊎_elim
               (λ over. let y = i.defined x in let z = i.reclaimed x in inl (omega arith))
               (λ j. inr (subst
@@ -223,7 +147,7 @@ module _ {W : Type 0} (c : Scope W) where
           aimed = (n.token.1, was-staged.0, n.aim);
           new = subst (λ (z : WaitRef). IsNew c z) (sym n.reference) was-staged.1;
         };
-        apart = λ u j e'. (let f = (flying-in p s.flights.items u k.flying j).in_flight.since in
+        apart = λ u j e'. (let f = (flying-in c p s.flights.items u k.flying j).in_flight.since in
             let g : 0 < at t kind.Submitted p.marks =
             subst (λ (z : WaitRef). 0 < at z kind.Submitted p.marks) e' f in
             omega arith);
@@ -257,7 +181,7 @@ module _ {W : Type 0} (c : Scope W) where
         free = k.free;
         held = k.held;
         staged = k.staged;
-        flying = flying-push p s.flights.items t k.flying l.flying (λ u j e. l.apart u j (sym e));
+        flying = flying-push c p s.flights.items t k.flying l.flying (λ u j e. l.apart u j (sym e));
         ended = k.ended;
         owed = λ x. ⊎_elim (λ over. inl over)
             (λ j. inr (in-behind x t (references s.batch) s.flights.items j)) (k.owed x);
@@ -285,61 +209,6 @@ module _ {W : Type 0} (c : Scope W) where
       more-flights told relations q (record s { batch = after }) t (omega arith)
       (issued-lent told relations p q s after t a b d e n held k)
 
-  in-pushed : (x t : WaitRef) (r : Reading) (bs : List (WaitRef × Reading)) (fs : List WaitRef)
-      → IsIn x ((t ∷ []) ++ references bs ++ fs) → IsIn x (references (bs ++ (t, r) ∷ []) ++ fs)
-  in-pushed x t r [] fs i = i
-  in-pushed x t r (b ∷ bs) fs i = ⊎_elim
-      (λ e. inr (in-pushed x t r bs fs (inl e)))
-      (λ l. ⊎_elim (λ e. inl e) (λ l'. inr (in-pushed x t r bs fs (inr l'))) l) i
-
-  -- a staged token was pushed
-  pub issued-pushed : (told : Option Told) (relations : ℕ) (p : Known) (s : Reads W)
-      (x : WaitRef × Reading) (after : List (WaitRef × Reading)) → after ≡ s.batch ++ x ∷ []
-      → IsStaged p x.0 → IsAimed c x.1 → IsNew c x.0
-      → ((u : WaitRef × Reading) → IsIn u s.batch → u.0 ≢ x.0)
-      → records_in s < c.total
-      → IssuedBut (x.0 ∷ []) c told relations p s
-      → IssuedBut [] c told relations p (record s { batch = after })
-      × (records_in (record s { batch = after }) ≡ records_in s + 1)
-      × (made_in (record s { batch = after }) ≡ made_in s + 1)
-  issued-pushed told relations p s x after is new aimed fresh apart room k =
-      let more = length-append s.batch (x ∷ []) in
-      let whole : length after ≡ length (s.batch ++ x ∷ []) =
-      ap (λ (z : List (WaitRef × Reading)). length z) is in (
-        record {
-          room = record {
-            free = k.room.free;
-            flights = k.room.flights;
-            ended = k.room.ended;
-            few = let f = k.room.few in omega arith;
-          };
-          number = k.number;
-          config = k.config;
-          out = k.out;
-          free = k.free;
-          held = subst (λ (z : List (WaitRef × Reading)). Held p z) (sym is)
-              (held-push p s.batch x k.held new apart);
-          staged = subst (λ (z : List (WaitRef × Reading)). (u : WaitRef × Reading) → IsIn u z
-              → IsAimed c u.1 × IsNew c u.0) (sym is)
-              (each-pushed (λ u. IsAimed c u.1 × IsNew c u.0) s.batch x k.staged (aimed, fresh));
-          flying = k.flying;
-          ended = k.ended;
-          owed = λ y. ⊎_elim (λ over. inl over)
-              (λ j. inr (subst
-              (λ (z : List (WaitRef × Reading)). IsIn y (references z ++ s.flights.items))
-              (sym is) (in-pushed y x.0 x.1 s.batch s.flights.items j)))
-              (k.owed y);
-          most = let f = k.most in omega arith;
-          small = k.small;
-          room_was = k.room_was;
-          taken = k.taken;
-          lived = k.lived;
-          since = k.since;
-        },
-        omega arith,
-        omega arith,
-      )
-
   -- a batch of one I/O
   pub only-one : (p q : Known) (s s' : Reads W) (x : WaitRef × Reading)
       (after : List (WaitRef × Reading)) (t : WaitRef) (a b d e : ℕ) → length s.batch ≤ 0
@@ -362,8 +231,7 @@ module _ {W : Type 0} (c : Scope W) where
       → Lent c told relations q (record s' { batch = after }) t
   lent-at-once told relations p q s s' x after t a b d e is new aimed fresh apart room k n held =
       issued-lent told relations p q s' after t a b d e n held
-      (subst (λ (z : Reads W). Issued c told relations p z) (sym is)
-      (issued-pushed told relations p s x (s.batch ++ x ∷ []) refl new aimed fresh apart room k).0)
+      (issued-put c told relations p s s' x is new aimed fresh apart room k)
 
   -- and it is to read what its record was aimed at
   pub for-at-once : (p q : Known) (s s' : Reads W) (x : WaitRef × Reading)

@@ -15,7 +15,7 @@ use Rattle.read_plan.specs.Offered.{Offers}
 use Rattle.read_plan.specs.Runs.{blocks_of}
 use Rattle.read_stream.specs.declared.queue.Want.{Want}
 use Rattle.read_stream.specs.declared.queue.Want.TheVariants as want
-use Rattle.read_stream.specs.Open.{IsWant, blocks_by, runs_by, blocks_in, runs_in, pending_in}
+use Rattle.read_stream.specs.Wanted.{IsWant, blocks_by, runs_by, blocks_in, runs_in, pending_in}
 
 pub runs_pushed : (ws : List Want) (w : Want) → runs_in (ws ++ w ∷ []) ≡ runs_in ws ++ runs_by w
 runs_pushed ws w = sym (flat_map_more runs_by [] ws w)

@@ -2,4 +2,8 @@ pub mod Went
 pub mod Issued
 pub mod Answering
 pub mod Parts
+pub mod Desks
+pub mod Wanted
+pub mod Hands
 pub mod Open
+pub mod Changes

@@ -2,9 +2,9 @@
 ghost use Rattle.std.specs.Prelude.{◌≡◌, ◌≤◌, ◌+◌, IfOk, IfSome, length};
 ghost use Rattle.aio_handle.specs.Shown.{IsOf, IsSame};
 ghost use Rattle.read_stream.specs.Issued.{Issued, records_in, made_in};
-ghost use Rattle.read_stream.specs.Open.{IsSameDesk, count_some};
+ghost use Rattle.read_stream.specs.Desks.{IsSameDesk, AreSettings, IsFree};
+ghost use Rattle.read_stream.specs.Hands.{count_some};
 ghost use Rattle.read_stream.specs.Went.{Went};
-ghost use Rattle.read_stream.specs.Open.{AreSettings, IsFree};
 
 use crate::queue::{Asked, Want};
 use crate::reads::Reads;

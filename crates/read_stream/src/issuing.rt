@@ -1,17 +1,15 @@
 //! The calls that start a stream's I/Os.
-ghost use Rattle.std.specs.Prelude.{◌≡◌, ◌≤◌, ◌<◌, ◌+◌, ◌^◌, [], ◌∷◌, ◌++◌, length, IfSome, IfNone};
-ghost use Rattle.std.specs.Prelude.{ℕ, List};
+ghost use Rattle.std.specs.Prelude.{◌≡◌, ◌≤◌, ◌<◌, ◌+◌, ◌^◌, [], ◌∷◌, ◌++◌, length, List};
 ghost use Rattle.aio_word.specs.declared.WaitRef.{WaitRef};
 ghost use Rattle.aio_word.specs.Stands.{IsIn};
 ghost use Rattle.aio_word.specs.Tokens.{IsStaged};
-ghost use Rattle.aio_handle.specs.Free.{HasNoneFree};
 ghost use Rattle.aio_handle.specs.Shown.{IsOf, IsSame};
 ghost use Rattle.aio_callback.specs.Reading.{Reading, aimed_at};
 ghost use Rattle.aio_callback.specs.Cases.{stream_ids};
 ghost use Rattle.read_plan.specs.declared.runs.Run.{Run};
 ghost use Rattle.read_plan.specs.Runs.{IsRun};
-ghost use Rattle.read_stream.specs.Issued.{Issued, IssuedBut, IsAimed, IsNew, IsTakenIn, HandedBy};
-ghost use Rattle.read_stream.specs.Issued.{AreFor, records_in, made_in};
+ghost use Rattle.read_stream.specs.Issued.{Issued, IssuedBut, IsAimed, IsNew, IsTakenIn, AreFor};
+ghost use Rattle.read_stream.specs.Issued.{records_in, made_in};
 ghost use Rattle.read_stream.specs.Went.{Went};
 
 use crate::reads::Reads;
@@ -19,7 +17,7 @@ use crate::ring::push;
 use crate::scope::Scope;
 use aio_batch::Method;
 use aio_callback::{CallbackId, ReadIo};
-use aio_handle::{Actor, Execute, HandedOut, Staged, Table};
+use aio_handle::{Actor, Execute, Staged, Table};
 use aio_word::WaitRef;
 use buf_pool::{Pool, Tag};
 use page_check::World;
@@ -107,73 +105,6 @@ impl<W: World> Reads<W> {
     {
         while let Some(token) = self.batch.submit_next(rt, table, actor, method, runner) {
             push(&mut self.flights, token);
-        }
-    }
-
-    // One of the actor's handles that is free now.
-    fn hand_out(
-        &self,
-        scope: &Scope<W>,
-        table: &Table<ReadIo, W>,
-        actor: &mut Actor<ReadIo, W>,
-    ) -> Option<HandedOut<W>>
-        requires table { IsOf table.now actor.old }
-        requires backend { actor.old.known.number < table.now.config.backends }
-        requires issued { Issued scope.now W.told W.relations actor.old.known self.now }
-        ensures same { IsSame actor.old actor.new }
-        ensures handed { IfSome result (λ t. (reads faults : ℕ) → HandedBy scope.now W.told
-            W.relations actor.old.known actor.new.known reads reads faults faults self.now t) }
-        ensures none { IfNone result ((actor.new ≡ actor.old)
-            × HasNoneFree table.now.config actor.old.known) }
-    {
-        actor.keeps();
-        match table.acquire(actor) {
-            Ok(token) => {
-                actor.keeps();
-                Some(token)
-            }
-            Err(_) => None,
-        }
-    }
-
-    // A handle of the actor. Where none is free, the oldest I/O is taken in, and then one is.
-    fn acquire<M: Method<ReadIo, W>, E: Execute<ReadIo, W>, T: Wait>(
-        &mut self,
-        rt: &T,
-        scope: &Scope<W>,
-        table: &Table<ReadIo, W>,
-        actor: &mut Actor<ReadIo, W>,
-        method: &mut M,
-        runner: &mut E,
-    ) -> HandedOut<W>
-        requires table { IsOf table.now actor.old }
-        requires scope { IsOf table.now scope.now.was.value }
-        requires backend { actor.old.known.number < table.now.config.backends }
-        requires told { (E.told runner.old ≡ W.told) × (E.relations runner.old ≡ W.relations) }
-        requires issued { Issued scope.now W.told W.relations actor.old.known self.old }
-        requires credit { made_in self.old < scope.now.most }
-        ensures same { IsSame actor.old actor.new }
-        ensures told { (E.told runner.new ≡ E.told runner.old)
-            × (E.relations runner.new ≡ E.relations runner.old) }
-        ensures stands_on { M.stands_on method.new ≡ M.stands_on method.old }
-        ensures handed { HandedBy scope.now W.told W.relations actor.old.known actor.new.known
-            (E.reads runner.old) (E.reads runner.new) (E.faults runner.old) (E.faults runner.new)
-            self.new result }
-        ensures all { (records_in self.new ≡ records_in self.old)
-            × (made_in self.new ≡ made_in self.old)
-            × (self.new.free ≡ self.old.free) × (self.new.credit ≡ self.old.credit) }
-        ensures batch { length self.new.batch ≤ length self.old.batch }
-        ensures runs { (runs : List Run) → AreFor scope.now actor.old.known self.old runs
-            → AreFor scope.now actor.new.known self.new runs }
-    {
-        if let Some(token) = self.hand_out(scope, table, actor) {
-            return token;
-        }
-        self.submit(rt, scope, table, actor, method, runner);
-        self.take_in(rt, scope, table, actor, runner);
-        match self.hand_out(scope, table, actor) {
-            Some(token) => token,
-            None => unreachable!(),
         }
     }
 

@@ -1,8 +1,11 @@
 //! Random streams beside a plain slow reader.
-ghost use Rattle.std.specs.Prelude.{◌<◌, ◌≤◌};
+ghost use Rattle.std.specs.Prelude.{◌<◌, ◌≤◌, IfOk};
 
 use crate::Settings;
-use crate::trials::{Answer, Plan, Shelved, file_of, run, zeros};
+use crate::trial_answers::{Answer, zeros};
+use crate::trial_files::{Shelved, file_of};
+use crate::trial_plans::Plan;
+use crate::trials::run;
 use std::alloc::Global;
 use std::process::Abort;
 use std::sync::Wait;
@@ -164,40 +167,67 @@ fn crosses(log: &[(u32, u32)], segment: u32) -> bool
     false
 }
 
+/// A random file, its faults, a list of its blocks and how the list is read.
+#[derive(Drop)]
+struct Drawn {
+    shelved: Shelved,
+    plan: Plan,
+    list: Vec<(u32, u32)>,
+    /// What a slow reader answers.
+    slow: Vec<Answer>,
+}
+
+fn draw(alloc: Global, numbers: &mut Numbers) -> Result<Drawn, Fail>
+    ensures { IfOk result (λ d. 1 ≤ d.plan.settings.segment) }
+{
+    let blocks = 4 + numbers.below(9);
+    let bad = if numbers.below(3) == 0 {
+        Some(numbers.below(blocks))
+    } else {
+        None
+    };
+    let limit = blocks + numbers.below(2);
+    let list = numbers.list(alloc, 24, limit)?;
+    let calls = list.len().min(100) as u32 + 2;
+    let settings = numbers.settings();
+    let slow = slow(alloc, blocks, bad, settings.zero, list.as_slice(), calls)?;
+    let shelved = Shelved {
+        files: file_of(alloc, blocks, bad)?,
+        fail_reads: numbers.fault(alloc)?,
+        shorts: numbers.shorts(alloc)?,
+        first: numbers.list(alloc, 8, blocks)?,
+    };
+    let plan = Plan {
+        handles: 1 + numbers.below(4),
+        frames: 16,
+        settings,
+        calls,
+        other: numbers.below(8) == 0,
+    };
+    Ok(Drawn {
+        shelved,
+        plan,
+        list,
+        slow,
+    })
+}
+
 /// Five hundred random streams, and how many of them a failed read stopped.
 fn compare<R: Abort + AllocGlobal + Wait>(rt: &R, seed: u64) -> Result<u32, Fail> {
     let alloc = rt.alloc();
     let mut numbers = Numbers(seed);
     let mut stopped = 0u32;
     for round in 0..500u32 {
-        let blocks = 4 + numbers.below(9);
-        let bad = if numbers.below(3) == 0 {
-            Some(numbers.below(blocks))
-        } else {
-            None
-        };
-        let limit = blocks + numbers.below(2);
-        let list = numbers.list(alloc, 24, limit)?;
-        let calls = list.len().min(100) as u32 + 2;
-        let settings = numbers.settings();
-        let expected = slow(alloc, blocks, bad, settings.zero, list.as_slice(), calls)?;
-        let shelved = Shelved {
-            files: file_of(alloc, blocks, bad)?,
-            fail_reads: numbers.fault(alloc)?,
-            shorts: numbers.shorts(alloc)?,
-            first: numbers.list(alloc, 8, blocks)?,
-        };
+        let Drawn {
+            shelved,
+            plan,
+            list,
+            slow,
+        } = draw(alloc, &mut numbers)?;
         let may_fail = !shelved.fail_reads.is_empty();
-        let plan = Plan {
-            handles: 1 + numbers.below(4),
-            frames: 16,
-            settings,
-            calls,
-            other: numbers.below(8) == 0,
-        };
         let copy = list.clone()?;
         let ran = run(rt, shelved, &plan, list)?;
-        let (all, slow) = (ran.all.as_slice(), expected.as_slice());
+        let (all, slow) = (ran.all.as_slice(), slow.as_slice());
         assert!(rt;
             agree(all, slow, copy.as_slice(), may_fail),
             "seed {seed}, round {round}"

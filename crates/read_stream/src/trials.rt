@@ -1,128 +1,26 @@
 //! What tests read: streams over disks in memory, with the sync method.
-ghost use Rattle.std.specs.Prelude.{◌≡◌, ◌+◌, ◌*◌, ◌^◌, ◌<◌, ◌≤◌, length, IsTrue};
+ghost use Rattle.std.specs.Prelude.{◌≡◌, ◌*◌, ◌<◌, ◌≤◌, length};
 ghost use Rattle.aio_handle.specs.Closing.{IsAtRest};
 ghost use Rattle.aio_handle.specs.Shown.{IsOf, IsSame};
-ghost use Rattle.read_stream.specs.Open.{AreSettings, IsOpen};
+ghost use Rattle.read_stream.specs.Desks.{AreSettings};
+ghost use Rattle.read_stream.specs.Open.{IsOpen};
 
-use crate::{Desk, Next, ReadStream, Settings};
+use crate::trial_answers::{Answer, answer_of};
+use crate::trial_files::Shelved;
+use crate::trial_plans::{Plan, is_in_range};
+use crate::{Desk, ReadStream, Settings};
 use aio_callback::{CallbackId, ReadIo};
 use aio_disk::{Disk, MemDisk, MemShelf, Script, Shelf};
 use aio_handle::{Actor, Execute, Table};
 use block_source::Listed;
 use buf_pool::{Pool, Tag};
 use method_sync::{Runner, SyncMethod};
-use page_check::{Verdict, World};
+use page_check::World;
 use std::alloc::{AllocError, Global};
 use std::marker::Brand;
 use std::process::Abort;
 use std::sync::Wait;
 use std::test::Fail;
-
-/// An answer, with the page's block number that the file holds in place of `pd_prune_xid`, or
-/// whether a zeroed page is zeros.
-#[derive(Clone, Copy, Debug, PartialEq, Eq)]
-pub(crate) enum Answer {
-    Page { block: u32, info: u32, shown: u32 },
-    Zeroed { block: u32, info: u32, zeros: bool },
-    End,
-    Invalid(u32),
-    Unread(u32),
-    PastEnd(u32),
-}
-
-/// A page of the block with no items, whose data is the block's number times ten.
-pub(crate) fn page(block: u32) -> Answer
-    requires { block < 2 ^ 28 }
-{
-    Answer::Page {
-        block,
-        info: 10 * block,
-        shown: block,
-    }
-}
-
-/// Zeros in place of the page of the block.
-pub(crate) fn zeros(block: u32, info: u32) -> Answer {
-    Answer::Zeroed {
-        block,
-        info,
-        zeros: true,
-    }
-}
-
-fn answer_of(next: Next<'_, u32>) -> Answer {
-    match next {
-        Next::Page(page, block, info) => Answer::Page {
-            block,
-            info: *info,
-            shown: page_check::header(page).prune_xid,
-        },
-        Next::Zeroed(page, block, info) => Answer::Zeroed {
-            block,
-            info: *info,
-            zeros: matches!(page_check::check(page), Verdict::Zero),
-        },
-        Next::End => Answer::End,
-        Next::Invalid(block) => Answer::Invalid(block),
-        Next::Unread(block) => Answer::Unread(block),
-        Next::PastEnd(block) => Answer::PastEnd(block),
-    }
-}
-
-/// How a test reads.
-#[derive(Clone, Copy)]
-pub(crate) struct Plan {
-    pub handles: u32,
-    pub frames: u32,
-    pub settings: Settings,
-    pub calls: u32,
-    /// A read of block 0 that another backend has submitted, and nobody has claimed.
-    pub other: bool,
-}
-
-// Whether a table, a pool and a desk may be opened so.
-fn is_in_range(plan: &Plan) -> bool
-    ensures handles { IsTrue result → (1 ≤ plan.now.handles) × (plan.now.handles ≤ 64) }
-    ensures frames { IsTrue result → (16 ≤ plan.now.frames) × (plan.now.frames ≤ 16384) }
-    ensures combine { IsTrue result → (1 ≤ plan.now.settings.combine)
-        × (plan.now.settings.combine ≤ 128) }
-    ensures ios { IsTrue result → (1 ≤ plan.now.settings.ios) × (plan.now.settings.ios ≤ 64) }
-    ensures limit { IsTrue result → (1 ≤ plan.now.settings.limit)
-        × (plan.now.settings.limit ≤ 16384) }
-    ensures segment { IsTrue result → 1 ≤ plan.now.settings.segment }
-{
-    let Plan {
-        handles,
-        frames,
-        settings,
-        calls: _,
-        other: _,
-    } = *plan;
-    let memory = 1 <= handles && handles <= 64 && 16 <= frames && frames <= 16384;
-    let reads = 1 <= settings.combine && settings.combine <= 128;
-    let ahead = 1 <= settings.limit && settings.limit <= 16384 && 1 <= settings.segment;
-    memory && reads && ahead && 1 <= settings.ios && settings.ios <= 64
-}
-
-pub(crate) const USUAL: Settings = Settings {
-    combine: 16,
-    ios: 16,
-    limit: 64,
-    full: false,
-    batch: false,
-    segment: 131072,
-    zero: false,
-};
-
-pub(crate) fn usual(settings: Settings, calls: u32) -> Plan {
-    Plan {
-        handles: 16,
-        frames: 128,
-        settings,
-        calls,
-        other: false,
-    }
-}
 
 // Takes the answers of so many calls.
 fn take_answers<W: World, E: Execute<ReadIo, W>, T: Wait>(
@@ -294,60 +192,6 @@ fn read_all<W: World, D: Disk, T: Wait>(
     };
     let Runner { disk, places: _ } = runner;
     Ok((all, taken, disk))
-}
-
-/// The header of a page without items: lower 24, upper and special 8192, version 4.
-const EMPTY_PAGE: [u8; 20] = [
-    0, 0, 0, 0, 0, 0, 0, 0, 0, 0, 0, 0, 24, 0, 0, 32, 0, 32, 4, 32,
-];
-
-/// A file `f` of so many empty pages with their block numbers, and a flag that makes one bad.
-pub(crate) fn file_of(
-    alloc: Global,
-    blocks: u32,
-    bad: Option<u32>,
-) -> Result<Vec<(String, Vec<u8>)>, Fail> {
-    let mut bytes = Vec::new(alloc);
-    for block in 0..blocks {
-        let mut header = EMPTY_PAGE;
-        if bad == Some(block) {
-            header[10] = 8;
-        }
-        bytes.extend_from_slice(&header)?;
-        bytes.extend_from_slice(&[(block % 256) as u8, 0, 0, 0])?;
-        bytes.extend_from_slice(&[0; 8168])?;
-    }
-    Ok(vec![in alloc; (String::from_str(alloc, "f")?, bytes)]?)
-}
-
-/// The blocks `first`, `first + 1` and so on.
-pub(crate) fn blocks(alloc: Global, first: u32, count: u32) -> Result<Vec<(u32, u32)>, Fail>
-    requires { first + count ≤ 2 ^ 28 }
-{
-    let mut list = Vec::new(alloc);
-    for block in first..first + count {
-        list.push((block, 10 * block))?;
-    }
-    Ok(list)
-}
-
-/// A file, the faults and short answers of its reads, and what a first stream reads of it.
-#[derive(Drop)]
-pub(crate) struct Shelved {
-    pub files: Vec<(String, Vec<u8>)>,
-    pub fail_reads: Vec<(u32, u64)>,
-    pub shorts: Vec<(u32, Vec<u32>)>,
-    pub first: Vec<(u32, u32)>,
-}
-
-/// The file with no fault, read by no other stream.
-pub(crate) fn whole(alloc: Global, files: Vec<(String, Vec<u8>)>) -> Shelved {
-    Shelved {
-        files,
-        fail_reads: Vec::new(alloc),
-        shorts: Vec::new(alloc),
-        first: Vec::new(alloc),
-    }
 }
 
 #[derive(Drop)]

@@ -1,6 +1,6 @@
 use Rattle.std.proofs.Common.{◌≡◌, [], ◌∷◌, ◌++◌, subst, sym, ap, arith, length, refl}
 use Rattle.std.specs.Prelude.{Some, IfSome}
-use Rattle.read_stream.specs.Open.{count_some}
+use Rattle.read_stream.specs.Hands.{count_some}
 use Rattle.aio_callback.specs.Reading.{Reading}
 use Rattle.circular_buffer.specs.Buffer.{buffer}
 use Rattle.read_stream.specs.declared.reads.Reads.{Reads}

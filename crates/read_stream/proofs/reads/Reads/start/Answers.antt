@@ -1,28 +1,17 @@
-use Rattle.std.proofs.Common.{[], ◌∷◌, ◌++◌, subst, sym, arith, refl}
-use Rattle.aio_word.specs.declared.Known.{Known}
-use Rattle.aio_word.specs.declared.WaitRef.{WaitRef}
-use Rattle.aio_callback.specs.Reading.{Reading}
-use Rattle.read_stream.specs.declared.reads.Reads.{Reads}
-use Rattle.read_stream.specs.Issued.{Issued}
+use Rattle.std.proofs.Common.{[], ◌∷◌, ◌++◌, arith}
 use Rattle.read_stream.proofs.Going.{went_then}
 use Rattle.read_stream.proofs.Flown.{are-for-pushed}
-use Rattle.read_stream.proofs.Submitted.{issued-pushed}
+use Rattle.read_stream.proofs.Pushed.{issued-put}
 use Rattle.read_stream.proofs.reads.Reads.start.Goals as goal
 
 pub submit-requires-clause-issued : goal.submit-requires-clause-issued
 submit-requires-clause-issued g c =
-    let W : Type 0 = g.row.W.Denot in
-    let s : Reads W = c.stage-token.new.self in
-    let x : WaitRef × Reading = c.stage-token.result in
     let token = c.stage-token.ensures.token in
     let all = c.stage-token.ensures.all.0 in
     let room = c.requires.room in
-    let q : Known = c.stage-token.new.actor.known in
-    subst (λ (z : Reads W). Issued c.args.scope.now g.W.World.told g.W.World.relations q z)
-    (sym c.put.ensures)
-    (issued-pushed c.args.scope.now g.W.World.told g.W.World.relations q s x (s.batch ++ x ∷ [])
-    refl token.0 token.1 token.2 c.stage-token.ensures.apart (omega arith)
-    c.stage-token.ensures.issued).0
+    issued-put c.args.scope.now g.W.World.told g.W.World.relations c.stage-token.new.actor.known
+    c.stage-token.new.self c.put.new.self c.stage-token.result c.put.ensures token.0 token.1 token.2
+    c.stage-token.ensures.apart (omega arith) c.stage-token.ensures.issued
 
 pub returns-then-not-scope-clause-went : goal.returns-then-not-scope-clause-went
 returns-then-not-scope-clause-went g c = went_then c.args.actor.now.known
@@ -32,18 +21,12 @@ returns-then-not-scope-clause-went g c = went_then c.args.actor.now.known
 pub returns-else-len-eq-MOST_STAGED-clause-issued :
     goal.returns-else-len-eq-MOST_STAGED-clause-issued
 returns-else-len-eq-MOST_STAGED-clause-issued g c =
-    let W : Type 0 = g.row.W.Denot in
-    let s : Reads W = c.stage-token.new.self in
-    let x : WaitRef × Reading = c.stage-token.result in
     let token = c.stage-token.ensures.token in
     let all = c.stage-token.ensures.all.0 in
     let room = c.requires.room in
-    let q : Known = c.stage-token.new.actor.known in
-    subst (λ (z : Reads W). Issued c.args.scope.now g.W.World.told g.W.World.relations q z)
-    (sym c.put.ensures)
-    (issued-pushed c.args.scope.now g.W.World.told g.W.World.relations q s x (s.batch ++ x ∷ [])
-    refl token.0 token.1 token.2 c.stage-token.ensures.apart (omega arith)
-    c.stage-token.ensures.issued).0
+    issued-put c.args.scope.now g.W.World.told g.W.World.relations c.stage-token.new.actor.known
+    c.stage-token.new.self c.put.new.self c.stage-token.result c.put.ensures token.0 token.1 token.2
+    c.stage-token.ensures.apart (omega arith) c.stage-token.ensures.issued
 
 pub returns-then-not-scope-clause-runs : goal.returns-then-not-scope-clause-runs
 returns-then-not-scope-clause-runs g c = λ runs f. c.submit.ensures.runs (runs ++ c.args.run ∷ [])

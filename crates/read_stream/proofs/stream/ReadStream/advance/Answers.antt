@@ -8,8 +8,9 @@ use Rattle.read_stream.specs.declared.answer.Step.{Step}
 use Rattle.read_stream.specs.declared.scope.Scope.{Scope}
 use Rattle.read_stream.specs.declared.stream.ReadStream.{ReadStream}
 use Rattle.read_stream.specs.Answering.{said_by}
-use Rattle.read_stream.specs.Open.{IsBetween, IsGiving, shown}
-use Rattle.read_stream.proofs.Giving.{between_known, next_kept}
+use Rattle.read_stream.specs.Hands.{IsGiving, shown}
+use Rattle.read_stream.specs.Open.{IsBetween}
+use Rattle.read_stream.proofs.Kept.{between_known, next_kept}
 use Rattle.read_stream.proofs.Going.{went_then}
 use Rattle.read_stream.proofs.Steady.{keeps_then}
 use Rattle.read_stream.proofs.stream.ReadStream.advance.Goals as goal

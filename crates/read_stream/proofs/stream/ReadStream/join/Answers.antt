@@ -5,7 +5,7 @@ use Rattle.buf_pool.specs.declared.descriptor.Tag.{Tag}
 use Rattle.read_stream.specs.declared.stream.ReadStream.{ReadStream}
 use Rattle.read_stream.specs.Open.{Reaches}
 use Rattle.read_stream.proofs.Going.{went_then}
-use Rattle.read_stream.proofs.Serving.{reaches_pinned}
+use Rattle.read_stream.proofs.Hands.{reaches_pinned}
 use Rattle.read_stream.proofs.stream.ReadStream.join.Goals as goal
 
 pub read_block-requires-clause-underway : goal.read_block-requires-clause-underway

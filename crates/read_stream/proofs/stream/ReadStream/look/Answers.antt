@@ -5,7 +5,7 @@ use Rattle.buf_pool.specs.declared.descriptor.Tag.{Tag}
 use Rattle.read_stream.specs.declared.stream.ReadStream.{ReadStream}
 use Rattle.read_stream.specs.Open.{Reaches}
 use Rattle.read_stream.proofs.Going.{went_nothing}
-use Rattle.read_stream.proofs.Serving.{reaches_pinned}
+use Rattle.read_stream.proofs.Hands.{reaches_pinned}
 use Rattle.read_stream.proofs.stream.ReadStream.look.Goals as goal
 
 pub returns-in-Hit-clause-went : goal.returns-in-Hit-clause-went

@@ -6,7 +6,7 @@ use Rattle.read_stream.specs.declared.queue.Asked.{Asked}
 use Rattle.read_stream.specs.declared.scope.Scope.{Scope}
 use Rattle.read_stream.specs.declared.stream.ReadStream.{ReadStream}
 use Rattle.read_stream.proofs.Going.{went_nothing, went_then}
-use Rattle.read_stream.proofs.Looking.{all_idle}
+use Rattle.read_stream.proofs.Credits.{all_idle}
 use Rattle.read_stream.proofs.Steady.{stays_same, stays_then}
 use Rattle.read_stream.proofs.stream.ReadStream.look_ahead.Goals as goal
 

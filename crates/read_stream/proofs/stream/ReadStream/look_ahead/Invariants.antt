@@ -1,6 +1,7 @@
 use Rattle.std.proofs.Common.{◌≡◌, ◌+◌, ◌-◌, ◌<◌, cond}
 use Rattle.aio_handle.specs.Shown.{IsOf, IsSame}
-use Rattle.read_stream.specs.Open.{Underway, Stays}
+use Rattle.read_stream.specs.Open.{Underway}
+use Rattle.read_stream.specs.Changes.{Stays}
 use Rattle.read_stream.specs.Went.{Went}
 use Rattle.read_stream.proofs.stream.ReadStream.look_ahead.Given as goal
 

@@ -1,7 +1,8 @@
 use Rattle.std.proofs.Common.{ℕ, sym, arith, subst}
 use Rattle.read_stream.specs.declared.stream.ReadStream.{ReadStream}
-use Rattle.read_stream.specs.Open.{IsWant, blocks_by}
-use Rattle.read_stream.proofs.Looking.{may_start, underway_put}
+use Rattle.read_stream.specs.Wanted.{IsWant, blocks_by}
+use Rattle.read_stream.proofs.Credits.{may_start}
+use Rattle.read_stream.proofs.Putting.{underway_put}
 use Rattle.read_stream.proofs.stream.ReadStream.look_for.Goals as goal
 
 pub start_pending-requires-clause-underway : goal.start_pending-requires-clause-underway

@@ -5,8 +5,11 @@ use Rattle.read_plan.specs.Runs.{IsRun}
 use Rattle.read_plan.specs.declared.runs.Offer.{Offer}
 use Rattle.read_plan.specs.declared.runs.Run.{Run}
 use Rattle.read_stream.specs.declared.stream.ReadStream.{ReadStream}
-use Rattle.read_stream.specs.Open.{pending_in, rest_of}
-use Rattle.read_stream.proofs.Looking.{may_start, same_plan, underway_plan, underway_started}
+use Rattle.read_stream.specs.Wanted.{pending_in}
+use Rattle.read_stream.specs.Hands.{rest_of}
+use Rattle.read_stream.proofs.Plans.{same_plan, underway_plan}
+use Rattle.read_stream.proofs.Credits.{may_start}
+use Rattle.read_stream.proofs.Starting.{underway_started}
 use Rattle.read_stream.proofs.Wants.{handed_out, none_out, offered}
 use Rattle.read_stream.proofs.stream.ReadStream.offer.Goals as goal
 

@@ -13,8 +13,7 @@ use Rattle.read_stream.specs.declared.scope.Scope.{Scope}
 use Rattle.read_stream.specs.declared.queue.Asked.{Asked}
 use Rattle.read_stream.specs.Issued.{AreFor, Issued}
 use Rattle.read_stream.specs.declared.queue.Want.{Want}
-use Rattle.read_stream.specs.Open.{IsWant, asked_of, block_of, blocks_in, pending_in}
-use Rattle.read_stream.specs.Open.{runs_in}
+use Rattle.read_stream.specs.Wanted.{IsWant, asked_of, block_of, blocks_in, pending_in, runs_in}
 use Rattle.read_stream.proofs.Flown.{are-for-none}
 use Rattle.read_stream.proofs.Lists.{each-none}
 use Rattle.read_stream.proofs.Opening.{opened-issued, none-given, begun}

@@ -2,8 +2,9 @@ use Rattle.std.proofs.Common.{ℕ, List, [], ap, subst}
 use Rattle.std.specs.Prelude.{Option}
 use Rattle.aio_callback.specs.Reading.{Reading}
 use Rattle.read_stream.specs.declared.stream.ReadStream.{ReadStream}
-use Rattle.read_stream.specs.Open.{UnderwayBut, rest_of}
-use Rattle.read_stream.proofs.Serving.{is_none, not_none, reaches_already}
+use Rattle.read_stream.specs.Hands.{rest_of}
+use Rattle.read_stream.specs.Open.{UnderwayBut}
+use Rattle.read_stream.proofs.Hands.{is_none, not_none, reaches_already}
 use Rattle.read_stream.proofs.stream.ReadStream.reach.Goals as goal
 
 pub returns-else-is_none-clause-reaches : goal.returns-else-is_none-clause-reaches

@@ -7,10 +7,12 @@ use Rattle.read_plan.specs.Plans.{Planned}
 use Rattle.read_plan.specs.declared.runs.Run.{Run}
 use Rattle.read_stream.specs.declared.reads.Reads.{Reads}
 use Rattle.read_stream.specs.declared.stream.ReadStream.{ReadStream}
-use Rattle.read_stream.specs.Open.{count_some}
+use Rattle.read_stream.specs.Hands.{count_some}
 use Rattle.read_stream.proofs.Flown.{are-for-later}
 use Rattle.read_stream.proofs.Moving.{first-of, less-free}
-use Rattle.read_stream.proofs.Serving.{may_read, popped, reaches_read, with_reads}
+use Rattle.read_stream.proofs.Fronts.{may_read}
+use Rattle.read_stream.proofs.SameQueues.{popped, with_reads}
+use Rattle.read_stream.proofs.Reaching.{reaches_read}
 use Rattle.read_stream.proofs.stream.ReadStream.read_block.Goals as goal
 
 pub read_run-requires-clause-credit : goal.read_run-requires-clause-credit

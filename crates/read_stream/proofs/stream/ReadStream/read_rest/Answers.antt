@@ -1,14 +1,16 @@
-use Rattle.std.proofs.Common.{◌≡◌, ◌+◌, ◌-◌, ◌<◌, ℕ, [], length, ap, arith, refl, sym}
-use Rattle.std.proofs.Common.{◌∙◌}
-use Rattle.std.proofs.Common.{subst}
-use Rattle.std.specs.Prelude.{Option, Some, IfSome}
+use Rattle.std.proofs.Common.{◌≡◌, ◌+◌, ◌-◌, ℕ, [], length, ap, arith, refl, sym, ◌∙◌, subst}
+use Rattle.std.specs.Prelude.{Option, Some}
 use Rattle.std.specs.List.{range_with_len}
 use Rattle.std.proofs.lemmas.List.FromFn.{length-range_with_len}
 use Rattle.aio_callback.specs.Reading.{Reading}
 use Rattle.read_plan.specs.declared.runs.Run.{Run}
 use Rattle.read_stream.specs.declared.stream.ReadStream.{ReadStream}
-use Rattle.read_stream.specs.Open.{UnderwayBut, count_some, hand_from, paid_at}
-use Rattle.read_stream.proofs.Serving.{hand_record, may_read, reaches_read, taken_out}
+use Rattle.read_stream.specs.Hands.{count_some, hand_from}
+use Rattle.read_stream.specs.Open.{UnderwayBut}
+use Rattle.read_stream.proofs.Fronts.{may_read}
+use Rattle.read_stream.proofs.SameQueues.{taken_out}
+use Rattle.read_stream.proofs.Hands.{behind_first}
+use Rattle.read_stream.proofs.Reaching.{reaches_read}
 use Rattle.read_stream.proofs.stream.ReadStream.read_rest.Goals as goal
 
 pub read_run-requires-clause-credit : goal.read_run-requires-clause-credit
@@ -16,14 +18,8 @@ read_run-requires-clause-credit g c =
     let s : ReadStream g.row.W.Denot g.row.S.Denot g.row.P.Denot = c.args.self.now in
     let io : Reading = c.in-Some.io in
     let is : s.current ≡ Some io = sym c.take.ensures.value ∙ c.in-Some.is in
-    let hand = hand_record g.W.World.told s.scope.relation c.args.block s.pin s.current io
-    c.requires.reaches.at_hand is in
-    let has = hand.1 in
-    let behind : io.first < c.args.block =
-    subst (λ (z : Option Reading). IfSome z (λ x. x.first < c.args.block)) is
-    c.requires.behind in
-    let paid : paid_at s.current c.args.block ≡ 0 =
-    ap (λ (z : Option Reading). paid_at z c.args.block) is ∙ omega arith in
+    let (no_pin, has, behind, paid) = behind_first g.W.World.told s.scope.relation c.args.block
+    s.pin s.current io c.requires.reaches.at_hand is c.requires.behind in
     let many : length (hand_from s.current c.args.block) ≡ io.first + io.count - c.args.block =
     ap (λ (z : Option Reading). length (hand_from z c.args.block)) is
     ∙ length-range_with_len c.args.block (io.first + io.count - c.args.block) in
@@ -38,14 +34,8 @@ returns-clause-reaches g c =
     let s : ReadStream g.row.W.Denot g.row.S.Denot g.row.P.Denot = c.args.self.now in
     let io : Reading = c.in-Some.io in
     let is : s.current ≡ Some io = sym c.take.ensures.value ∙ c.in-Some.is in
-    let hand = hand_record g.W.World.told s.scope.relation c.args.block s.pin s.current io
-    c.requires.reaches.at_hand is in
-    let has = hand.1 in
-    let behind : io.first < c.args.block =
-    subst (λ (z : Option Reading). IfSome z (λ x. x.first < c.args.block)) is
-    c.requires.behind in
-    let paid : paid_at s.current c.args.block ≡ 0 =
-    ap (λ (z : Option Reading). paid_at z c.args.block) is ∙ omega arith in
+    let (no_pin, has, behind, paid) = behind_first g.W.World.told s.scope.relation c.args.block
+    s.pin s.current io c.requires.reaches.at_hand is c.requires.behind in
     let counts = c.count.ensures.value in
     let starts = c.first.ensures in
     let run : Run = record {
@@ -60,7 +50,7 @@ returns-clause-reaches g c =
     reaches_read g.S.BlockSource.left g.W.World.told g.W.World.relations g.W.World.handles
     c.args.actor.now.known c.read_run.new.actor.known s m c.read_run.new.self run c.args.block
     (hand_from s.current c.args.block) (taken_out s c.take.new.self) refl refl refl
-    c.requires.reaches.underway.going.in_use (omega arith) hand.0 c.read_run.ensures.runs
+    c.requires.reaches.underway.going.in_use (omega arith) no_pin c.read_run.ensures.runs
     (subst (λ (z : ℕ). UnderwayBut g.S.BlockSource.left g.W.World.told g.W.World.relations
     g.W.World.handles (hand_from s.current c.args.block) [] z c.args.actor.now.known s) paid
     c.requires.reaches.underway) refl (omega arith)

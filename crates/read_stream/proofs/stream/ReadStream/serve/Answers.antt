@@ -6,10 +6,13 @@ use Rattle.read_stream.specs.declared.queue.Asked.{Asked}
 use Rattle.read_stream.specs.declared.stream.ReadStream.{ReadStream}
 use Rattle.page_check.specs.IsAnswer.{Stop as SaidStop}
 use Rattle.read_stream.specs.Answering.{said_by, said_of}
-use Rattle.read_stream.specs.Open.{block_of, hand_from, paid_at, rest_of, shown}
+use Rattle.read_stream.specs.Wanted.{block_of}
+use Rattle.read_stream.specs.Hands.{hand_from, paid_at, rest_of, shown}
 use Rattle.read_stream.proofs.Counting.{mapped-at}
-use Rattle.read_stream.proofs.Giving.{ended, given_between, given_next, next_kept, no_current}
-use Rattle.read_stream.proofs.Giving.{stopped_by}
+use Rattle.read_stream.proofs.Hands.{no_current}
+use Rattle.read_stream.proofs.Kept.{next_kept}
+use Rattle.read_stream.proofs.Stopping.{ended, stopped_by}
+use Rattle.read_stream.proofs.Giving.{given_between, given_next}
 use Rattle.read_stream.proofs.Moving.{nothing-of}
 use Rattle.read_stream.proofs.stream.ReadStream.serve.Goals as goal
 

@@ -4,8 +4,10 @@ use Rattle.read_plan.specs.Plans.{Planned}
 use Rattle.read_plan.specs.Runs.{IsRun, blocks_of}
 use Rattle.read_plan.specs.declared.runs.Run.{Run}
 use Rattle.read_stream.specs.declared.stream.ReadStream.{ReadStream}
-use Rattle.read_stream.specs.Open.{pending_in}
-use Rattle.read_stream.proofs.Looking.{may_start, same_plan, some_pending, underway_started}
+use Rattle.read_stream.specs.Wanted.{pending_in}
+use Rattle.read_stream.proofs.Plans.{same_plan}
+use Rattle.read_stream.proofs.Credits.{may_start, some_pending}
+use Rattle.read_stream.proofs.Starting.{underway_started}
 use Rattle.read_stream.proofs.stream.ReadStream.start_pending.Goals as goal
 
 pub start-requires-clause-credit : goal.start-requires-clause-credit

@@ -1,5 +1,5 @@
 use Rattle.std.proofs.Common.{◌≡◌, List, length, ap, arith}
-use Rattle.read_stream.proofs.Serving.{underway_reads}
+use Rattle.read_stream.proofs.SameQueues.{underway_reads}
 use Rattle.read_stream.proofs.stream.ReadStream.submit.Goals as goal
 
 pub returns-clause-underway : goal.returns-clause-underway

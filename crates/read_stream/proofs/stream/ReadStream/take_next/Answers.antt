@@ -1,8 +1,9 @@
 use Rattle.std.proofs.Common.{ℕ, List, sym, arith, subst}
 use Rattle.read_stream.specs.declared.queue.Asked.{Asked}
 use Rattle.read_stream.specs.declared.stream.ReadStream.{ReadStream}
-use Rattle.read_stream.specs.Open.{UnderwayBut, rest_of}
-use Rattle.read_stream.proofs.Looking.{underway_asked}
+use Rattle.read_stream.specs.Hands.{rest_of}
+use Rattle.read_stream.specs.Open.{UnderwayBut}
+use Rattle.read_stream.proofs.Asking.{underway_asked}
 use Rattle.read_stream.proofs.stream.ReadStream.take_next.Goals as goal
 
 pub offer-requires-clause-underway : goal.offer-requires-clause-underway

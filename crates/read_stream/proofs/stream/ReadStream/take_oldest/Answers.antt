@@ -6,9 +6,10 @@ use Rattle.read_stream.specs.declared.queue.Want.{Want}
 use Rattle.read_stream.specs.declared.queue.Want.TheVariants as want
 use Rattle.read_stream.specs.declared.stream.ReadStream.{ReadStream}
 use Rattle.read_stream.specs.Issued.{AreFor, IsOneFor}
-use Rattle.read_stream.specs.Open.{runs_in}
+use Rattle.read_stream.specs.Wanted.{runs_in}
 use Rattle.read_stream.proofs.Moving.{first-of}
-use Rattle.read_stream.proofs.Serving.{reaches_run, same_far}
+use Rattle.read_stream.proofs.Plans.{same_far}
+use Rattle.read_stream.proofs.Reaching.{reaches_run}
 use Rattle.read_stream.proofs.stream.ReadStream.take_oldest.Goals as goal
 
 pub unreachable-requires : goal.unreachable-requires

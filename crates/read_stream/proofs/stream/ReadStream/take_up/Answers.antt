@@ -6,7 +6,8 @@ use Rattle.read_stream.specs.declared.queue.Want.TheVariants as want
 use Rattle.read_stream.specs.declared.stream.ReadStream.{ReadStream}
 use Rattle.read_stream.specs.Open.{UnderwayBut}
 use Rattle.read_stream.proofs.Moving.{first-of, nothing-of}
-use Rattle.read_stream.proofs.Serving.{front_want, no_front, underway_skipped}
+use Rattle.read_stream.proofs.Fronts.{front_want, no_front}
+use Rattle.read_stream.proofs.Skipping.{underway_skipped}
 use Rattle.read_stream.proofs.stream.ReadStream.take_up.Goals as goal
 
 pub look-requires-clause-underway : goal.look-requires-clause-underway

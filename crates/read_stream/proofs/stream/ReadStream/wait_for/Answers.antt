@@ -4,12 +4,12 @@ use Rattle.aio_word.specs.declared.Known.{Known}
 use Rattle.read_plan.specs.declared.runs.Run.{Run}
 use Rattle.read_stream.specs.declared.reads.Reads.{Reads}
 use Rattle.read_stream.specs.declared.stream.ReadStream.{ReadStream}
-use Rattle.read_stream.specs.Open.{pending_in}
+use Rattle.read_stream.specs.Wanted.{pending_in}
 use Rattle.read_stream.proofs.Flown.{are-for-later}
 use Rattle.read_stream.proofs.Going.{went_taking_up, went_then}
-use Rattle.read_stream.proofs.Looking.{underway_plan}
-use Rattle.read_stream.proofs.Serving.{same_far, underway_reads}
 use Rattle.read_stream.proofs.Submitted.{issued-taking-up}
+use Rattle.read_stream.proofs.SameQueues.{underway_reads}
+use Rattle.read_stream.proofs.Plans.{underway_plan, same_far}
 use Rattle.read_stream.proofs.stream.ReadStream.wait_for.Goals as goal
 
 pub returns-clause-went : goal.returns-clause-went
