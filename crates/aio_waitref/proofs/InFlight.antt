@@ -9,10 +9,10 @@ use Rattle.aio_word.specs.Words.{rank_of}
 use Rattle.aio_word.specs.Ranked.{Ranked}
 use Rattle.aio_word.specs.Stands.{IsIn, AtMoment}
 use Rattle.aio_word.specs.Tokens.{IsInFlight, IsSeenDone}
-use Rattle.aio_word.proofs.Machines.{get-at}
+use Rattle.aio_word.proofs.Moves.{get-at}
 use Rattle.aio_word.proofs.Owners.{own-mark, owner-below}
 use Rattle.aio_word.proofs.Plain.{ranked}
-use Rattle.aio_word.proofs.Rows.{is-completed}
+use Rattle.aio_word.proofs.Places.{is-completed}
 use Rattle.aio_word.proofs.Steps.{place-small, stood}
 use Rattle.aio_handle.specs.Executing.{TakesUp}
 use Rattle.aio_handle.specs.Made.{Looked, IsCompleted}

@@ -1,0 +1,113 @@
+//! A record that reads nothing, and who executes it and hears of it.
+use crate::Method;
+use aio_handle::{Actor, Claimed, Execute, Label, Record, Table};
+use aio_word::{Class, WaitRef};
+use page_check::World;
+use std::marker::PhantomData;
+use std::sync::Wait;
+
+/// A record that reads nothing.
+#[derive(Drop)]
+pub(super) struct Note {
+    label: Label,
+}
+
+impl Record for Note {
+    ghost use Rattle.std.specs.Prelude.{[]};
+
+    ghost label = { λ r. r.label };
+
+    ghost aim = { λ r. [] };
+
+    ghost fits = { λ told relations r. Unit {0} };
+
+    fn bind(&mut self, handle: u32, generation: u64) {
+        self.label = Label {
+            handle,
+            generation,
+            ended: Class::Unended,
+            settled: false,
+        };
+    }
+
+    fn handle(&self) -> u32 {
+        self.label.handle
+    }
+
+    fn generation(&self) -> u64 {
+        self.label.generation
+    }
+
+    fn ended(&self) -> Class {
+        self.label.ended
+    }
+
+    fn settled(&self) -> bool {
+        self.label.settled
+    }
+}
+
+pub(super) fn fresh() -> Note {
+    Note {
+        label: Label {
+            handle: 0,
+            generation: 0,
+            ended: Class::Unended,
+            settled: false,
+        },
+    }
+}
+
+/// An executor that nobody calls: its call does not return.
+#[derive(Drop)]
+pub(super) struct Sleeper<W: World> {
+    pub(super) of: PhantomData<W>,
+}
+
+impl<W: World> Execute<Note, W> for Sleeper<W> {
+    ghost relations = { λ e. W.relations };
+
+    ghost told = { λ e. W.told };
+
+    ghost faults = { λ e. 0 };
+
+    ghost reads = { λ e. 0 };
+
+    fn run<T: Wait>(
+        &mut self,
+        rt: &T,
+        table: &Table<Note, W>,
+        actor: &mut Actor<Note, W>,
+        claimed: &mut Option<Claimed<Note, W>>,
+    ) {
+        for _ in rt.forever() {}
+    }
+}
+
+/// A method that writes down what it hears, and leaves each I/O as it is.
+#[derive(Drop)]
+pub(super) struct Listener {
+    pub(super) heard: Vec<WaitRef>,
+}
+
+impl<W: World> Method<Note, W> for Listener {
+    ghost use Rattle.std.specs.Prelude.{Some, []};
+
+    ghost heard = { λ m. Some m.heard.items };
+
+    ghost stands_on = { λ _. [] };
+
+    /// Where there is no memory for a reference, it does not return.
+    fn begun<E: Execute<Note, W>, T: Wait>(
+        &mut self,
+        rt: &T,
+        table: &Table<Note, W>,
+        actor: &mut Actor<Note, W>,
+        runner: &mut E,
+        reference: WaitRef,
+    ) {
+        if self.heard.push(reference).is_err() {
+            for _ in rt.forever() {}
+        }
+    }
+}
