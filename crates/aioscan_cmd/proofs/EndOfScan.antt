@@ -9,17 +9,17 @@ use Rattle.std.proofs.lemmas.List.Sums.{get_or-le-sum_by, sum_by-cons}
 use Rattle.page_check.specs.Told.{Told}
 use Rattle.aio_disk.specs.Counts.{RisesBy, Rose, ShelfCounts, raised_by}
 use Rattle.aio_handle.specs.Executing.{last_count}
-use Rattle.scan_rounds.specs.Manners.{Manner}
 use Rattle.scan_rounds.specs.Opening.{workers_by, workers_in}
 use Rattle.scan_rounds.specs.declared.settings.MethodKind.{MethodKind}
 use Rattle.scan_rounds.specs.declared.settings.MethodKind.TheVariants as method
 use Rattle.scan_rounds.specs.declared.settings.ScanSettings.{ScanSettings}
-use Rattle.aioscan_cmd.specs.Command.{Command, manner_by, relations_of}
-use Rattle.aioscan_cmd.specs.Cutting.{requests_for}
+use Rattle.aioscan_cmd.specs.Command.{Command, relations_of}
+use Rattle.aioscan_cmd.specs.Cutting.{request_list_for}
+use Rattle.aioscan_cmd.specs.RequestList.{Request}
 use Rattle.aioscan_cmd.specs.Disks.{IsUnread}
 use Rattle.aioscan_cmd.specs.Lengths.{HasLengths}
 use Rattle.aioscan_cmd.specs.Outcomes.{is_refused}
-use Rattle.aioscan_cmd.specs.Reading.{Lists, HasWritten, seen}
+use Rattle.aioscan_cmd.specs.Reading.{Lists, HasWritten, Way, seen, way_by}
 use Rattle.aioscan_cmd.specs.Run.{Ran}
 use Rattle.aioscan_cmd.specs.Causes.{HasScanned, HasCauses, CallsInOrder}
 use Rattle.aioscan_cmd.specs.Totals.{AreCounted, AreReads, AreOfScan}
@@ -29,7 +29,8 @@ use Rattle.aioscan_cmd.specs.declared.report.Outcome.{Outcome}
 use Rattle.aioscan_cmd.specs.declared.report.Outcome.TheVariants.{Done, Invalid, Usage, CannotOpen}
 use Rattle.aioscan_cmd.specs.declared.report.Outcome.TheVariants.{NoLength, Unread, CannotWrite}
 use Rattle.aioscan_cmd.specs.declared.report.Outcome.TheVariants.{NoMemory, Missing, TooLong}
-use Rattle.aioscan_cmd.proofs.EndOfRun.{ran_listed, ran_on_shelf, ran_unopened}
+use Rattle.aioscan_cmd.proofs.BlocksListed.{ran_listed, ran_on_shelf}
+use Rattle.aioscan_cmd.proofs.NothingListed.{ran_unopened}
 use Rattle.aioscan_cmd.proofs.Lists.{lists_nothing}
 
 none_in : {D : Type 0} (f : D → ℕ) (ds : List D) → All (λ d. f d ≡ 0) ds → sum_by f ds ≡ 0
@@ -86,10 +87,10 @@ some_fault f ds opened unread each some = elim (cases_lt 0 (sum_by f ds)) [
 ]
 
 -- a scan that was not opened has read nothing
-pub nothing_counted : {D : Type 0} (asked : Asked) (reads : D → ℕ) (ds : List D) (n : Numbers)
-    → sum_by reads ds ≡ 0 → n.incarnations ≡ 0 → n.by_workers ≡ 0 → n.by_backends ≡ 0
-    → AreOfScan asked reads ds n
-nothing_counted asked reads ds n none a b c = record {
+pub nothing_counted : {D : Type 0} (asked : Asked) (told : Option Told) (given : ℕ → List ℕ)
+    (reads : D → ℕ) (ds : List D) (n : Numbers) → sum_by reads ds ≡ 0 → n.incarnations ≡ 0
+    → n.by_workers ≡ 0 → n.by_backends ≡ 0 → AreOfScan asked told given reads ds n
+nothing_counted asked told given reads ds n none a b c = record {
   sum = omega (arith, a, b, c);
   reads_are = λ _. a ∙ sym none;
   few = omega (arith, a);
@@ -111,9 +112,10 @@ is_refusal Usage = inr (λ e. cc)
 is_refusal (NoLength r) = inr (λ e. cc)
 is_refusal (TooLong r) = inr (λ e. cc)
 
-module _ (asked : Asked) (told : Option Told) (written now_written : Option (List ℕ))
-    (before opened : ShelfCounts) (faults reads : ℕ) (o : Outcome) (w : List ℕ)
-    (scanned : HasScanned asked told written now_written before opened faults reads o w) where
+module _ (asked : Asked) (given : ℕ → List ℕ) (told : Option Told)
+    (written now_written : Option (List ℕ)) (before opened : ShelfCounts) (faults reads : ℕ)
+    (o : Outcome) (w : List ℕ)
+    (scanned : HasScanned asked given told written now_written before opened faults reads o w) where
   -- a disk could not be opened is the one refusal
   only_refusal : is_refused o ≡ true → o ≡ CannotOpen
   only_refusal is = ⊎_elim (λ e. e)
@@ -166,7 +168,8 @@ module _ (asked : Asked) (told : Option Told) (written now_written : Option (Lis
         let refusal = only_refusal (subst P (sym is) refl) in cc)
 
     module _ {D : Type 0} (each_reads : D → ℕ) (ds : List D) (n : Numbers)
-        (counted : AreOfScan asked each_reads ds n) (sum_is : reads ≡ sum_by each_reads ds) where
+        (counted : AreOfScan asked told given each_reads ds n)
+        (sum_is : reads ≡ sum_by each_reads ds) where
       below_last : reads < last_count → n.incarnations ≡ reads
       below_last below =
           counted.reads_are (each_below each_reads last_count ds (omega (arith, sum_is)))
@@ -188,7 +191,7 @@ module _ (asked : Asked) (told : Option Told) (written now_written : Option (Lis
             ));
       }
 
-      few_read : reads < last_count → reads ≤ length (requests_for asked)
+      few_read : reads < last_count → reads ≤ length (request_list_for asked told given)
       few_read below = omega (arith, below_last below, counted.few)
 
       pub ended_ran : (disk_told : Option Told) (relations : ℕ) → told ≡ disk_told
@@ -204,7 +207,7 @@ module _ (asked : Asked) (told : Option Told) (written now_written : Option (Lis
           (λ not. ran_on_shelf disk_told disk_told relations relations asked.command.now written
           now_written reads before.reads now.reads o w refl refl reads_raised
           (ran_listed disk_told told asked.segment relations asked.command.now asked.lengths.now
-          written now_written reads o w same all has (scanned.lists not) few_read))
+          given written now_written reads o w same all has (scanned.lists not) few_read))
           (is_refusal o)
 
 -- the numbers of a scan that was finished
@@ -221,36 +224,37 @@ none_by_workers s t runners by_runners by_workers same are none is kind =
     is ∙ none (are ∙ ap workers_in same ∙ no_workers_by t.method t.workers kind)
 
 -- there was no memory for a scan
-pub nothing_listed : (m : Manner) (told : Option Told) (asked : Asked) (s : Option (List ℕ))
-    (o : Outcome) → o ≡ NoMemory → Lists m told (requests_for asked) s s o []
-nothing_listed m told asked s o is =
-    let P : Outcome → Type 0 = λ x. Lists m told (requests_for asked) s s x [] in
-    subst P (sym is) (lists_nothing m told (requests_for asked) s)
+pub nothing_listed : (m : Way) (told : Option Told) (requests : List Request)
+    (s : Option (List ℕ)) (o : Outcome) → o ≡ NoMemory → Lists m told requests s s o []
+nothing_listed m told requests s o is =
+    let P : Outcome → Type 0 = λ x. Lists m told requests s s x [] in
+    subst P (sym is) (lists_nothing m told requests s)
 
 -- or for a disk
-pub scanned_nothing : (asked : Asked) (told : Option Told) (s : Option (List ℕ))
-    (before now : ShelfCounts) (faults reads : ℕ) (o : Outcome) → o ≡ NoMemory
+pub scanned_nothing : (asked : Asked) (given : ℕ → List ℕ) (told : Option Told)
+    (s : Option (List ℕ)) (before now : ShelfCounts) (faults reads : ℕ) (o : Outcome) → o ≡ NoMemory
     → before.open_faults ≤ now.open_faults
     → (now.length_faults ≡ before.length_faults) × (now.faults ≡ before.faults)
     × (now.reads ≡ before.reads)
-    → HasScanned asked told s s before now faults reads o []
-scanned_nothing asked told s before now faults reads o is opens others = record {
+    → HasScanned asked given told s s before now faults reads o []
+scanned_nothing asked given told s before now faults reads o is opens others = record {
   opens = opens;
   others = others;
-  lists = λ _. nothing_listed (manner_by (asked.command.now).settings) told asked s o is;
+  lists = λ _. nothing_listed (way_by asked.command.now) told (request_list_for asked told given)
+      s o is;
   cannot_open = λ refused. absurd (cc);
   unread = λ r b unread. absurd (cc);
 }
 
 -- a disk could not be opened
-pub scan_refused : (asked : Asked) (told : Option Told) (s : Option (List ℕ))
+pub scan_refused : (asked : Asked) (given : ℕ → List ℕ) (told : Option Told) (s : Option (List ℕ))
     (before now : ShelfCounts) (faults reads : ℕ) (o : Outcome) → o ≡ CannotOpen
     → before.open_faults ≤ now.open_faults
     → (now.length_faults ≡ before.length_faults) × (now.faults ≡ before.faults)
     × (now.reads ≡ before.reads)
     → Rose before.open_faults now.open_faults → faults ≡ 0 → reads ≡ 0
-    → HasScanned asked told s s before now faults reads o []
-scan_refused asked told s before now faults reads o is opens others rose no_faults no_reads =
+    → HasScanned asked given told s s before now faults reads o []
+scan_refused asked given told s before now faults reads o is opens others rose no_faults no_reads =
     record {
       opens = opens;
       others = others;

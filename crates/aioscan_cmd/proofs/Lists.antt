@@ -15,12 +15,10 @@ use Rattle.heap_scan.specs.Sums.{joined, no_sums, sums_of}
 use Rattle.heap_scan.specs.Warnings.{warnings_of}
 use Rattle.heap_scan.proofs.Jobs.{job_append, job_more, listing-append, warnings-append, IsEarly}
 use Rattle.heap_scan.proofs.Summing.{sums_of-none}
-use Rattle.heap_tuple.specs.Listing.{text_with}
-use Rattle.scan_rounds.specs.Manners.{Manner}
 use Rattle.aio_disk.specs.Sink.{Grew}
 use Rattle.aioscan_cmd.specs.RequestList.{Request, Page}
 use Rattle.aioscan_cmd.specs.Outcomes.{ending_of}
-use Rattle.aioscan_cmd.specs.Reading.{GrewBy, Lists}
+use Rattle.aioscan_cmd.specs.Reading.{GrewBy, Lists, Way}
 use Rattle.aioscan_cmd.specs.declared.report.Outcome.{Outcome}
 use Rattle.aioscan_cmd.specs.declared.report.Outcome.TheVariants.{Done, Invalid, Usage, CannotOpen}
 use Rattle.aioscan_cmd.specs.declared.report.Outcome.TheVariants.{NoLength, Unread, CannotWrite}
@@ -57,7 +55,7 @@ reached_none text_of b a more grew =
     Grew-same b a more _ (ap (λ (l : List ℕ). l ++ more) (sym (no_listing text_of))) grew
 
 -- no blocks
-pub lists_none : (m : Manner) (told : Option Told) (s : Option (List ℕ))
+pub lists_none : (m : Way) (told : Option Told) (s : Option (List ℕ))
     → Lists m told [] s s Done []
 unfolding no_answer
 lists_none m told s = record {
@@ -65,13 +63,13 @@ lists_none m told s = record {
   text = [];
   all_warnings = [];
   sums = no_sums;
-  answer = no_answer (text_with m.tuples) (reader_of m.zero told);
+  answer = no_answer m.text_of (reader_of m.zero told);
   here = λ e is. absurd (cc);
   grew = Grew-nothing s;
   whole = 0;
   among = omega arith;
   all = λ _. refl;
-  reached = ([], reached_none (text_with m.tuples) s s [] (Grew-nothing s));
+  reached = ([], reached_none m.text_of s s [] (Grew-nothing s));
   warned = sym no_warnings;
   quiet = λ _. refl;
 }
@@ -90,7 +88,7 @@ GrewBy-append (NoLength r) b m a xs ys first second = Grew-append b m a xs ys fi
 GrewBy-append (TooLong r) b m a xs ys first second = Grew-append b m a xs ys first second
 
 -- the warnings of pages that were all listed whole
-module _ (m : Manner) (told : Option Told) (requests : List Request) (b a : Option (List ℕ))
+module _ (m : Way) (told : Option Told) (requests : List Request) (b a : Option (List ℕ))
     (o : Outcome) (w : List ℕ) (lists : Lists m told requests b a o w) where
   pub all_warned : lists.whole ≡ length lists.answer.pages → w ≡ warnings_of lists.answer.pages
   all_warned all =
@@ -98,13 +96,13 @@ module _ (m : Manner) (told : Option Told) (requests : List Request) (b a : Opti
       ∙ ap warnings_of (take_all (length lists.answer.pages) lists.answer.pages (omega arith))
 
 -- some blocks to their end, and then some more
-pub lists_append : (m : Manner) (told : Option Told) (xs ys : List Request)
+pub lists_append : (m : Way) (told : Option Told) (xs ys : List Request)
     (b between a : Option (List ℕ)) (o : Outcome) (v w : List ℕ)
     → Lists m told xs b between Done v → Lists m told ys between a o w
     → Lists m told (xs ++ ys) b a o (v ++ w)
 unfolding job_append
 lists_append m told xs ys b between a o v w front back =
-    let text_of = text_with m.tuples in
+    let text_of = m.text_of in
     let found = reader_of m.zero told in
     let texts : List Page → List ℕ = listing text_of in
     let ps = front.answer.pages in
@@ -168,7 +166,7 @@ early (NoLength r) stops = none_early
 early (TooLong r) stops = none_early
 
 -- listing stopped, whatever is asked for behind
-pub lists_more : (m : Manner) (told : Option Told) (xs ys : List Request)
+pub lists_more : (m : Way) (told : Option Told) (xs ys : List Request)
     (b a : Option (List ℕ)) (o : Outcome) (w : List ℕ)
     → o ≢ Done → Lists m told xs b a o w → Lists m told (xs ++ ys) b a o w
 unfolding job_more
@@ -178,7 +176,7 @@ lists_more m told xs ys b a o w stops front = record {
   all_warnings = front.all_warnings;
   sums = front.sums;
   answer =
-      job_more (text_with m.tuples) (reader_of m.zero told) (λ _. ⊤) xs ys front.text
+      job_more m.text_of (reader_of m.zero told) (λ _. ⊤) xs ys front.text
       front.all_warnings front.sums (ending_of o) (early o stops) front.answer;
   here = λ e is. slice_get_front xs ys (length front.answer.pages) e (front.here e is);
   grew = front.grew;
@@ -190,14 +188,14 @@ lists_more m told xs ys b a o w stops front = record {
   quiet = front.quiet;
 }
 
-pub lists_same : (m : Manner) (told : Option Told) (xs ys : List Request)
+pub lists_same : (m : Way) (told : Option Told) (xs ys : List Request)
     (b a : Option (List ℕ)) (o : Outcome) (w : List ℕ)
     → xs ≡ ys → Lists m told xs b a o w → Lists m told ys b a o w
 lists_same m told xs ys b a o w same lists =
     let P : List Request → Type 0 = λ l. Lists m told l b a o w in subst P same lists
 
 -- there was no memory before a page was given
-pub lists_nothing : (m : Manner) (told : Option Told) (xs : List Request) (s : Option (List ℕ))
+pub lists_nothing : (m : Way) (told : Option Told) (xs : List Request) (s : Option (List ℕ))
     → Lists m told xs s s NoMemory []
 lists_nothing m told xs s = record {
   begun = refl;
@@ -206,7 +204,7 @@ lists_nothing m told xs s = record {
   sums = no_sums;
   answer = record {
     pages = [];
-    text_is = sym (no_listing (text_with m.tuples));
+    text_is = sym (no_listing m.text_of);
     warnings_are = sym no_warnings;
     sums_are = sym no_pages_sums;
     answers = answered_none (reader_of m.zero told) (λ _. ⊤) xs;
@@ -216,7 +214,7 @@ lists_nothing m told xs s = record {
   whole = 0;
   among = omega arith;
   all = λ is. absurd (cc);
-  reached = ([], reached_none (text_with m.tuples) s s [] (Grew-nothing s));
+  reached = ([], reached_none m.text_of s s [] (Grew-nothing s));
   warned = sym no_warnings;
   quiet = λ _. refl;
 }

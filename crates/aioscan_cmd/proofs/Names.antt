@@ -3,7 +3,7 @@ use Rattle.std.proofs.Common.{◌≡◌, ℕ, ◌+◌, ◌<◌, ◌≤◌, List,
 use Rattle.std.proofs.Common.{get_or, refl, sym, ap, ◌∙◌, subst, arith, Bool, true, false, ◌||◌}
 use Rattle.std.proofs.Common.{not}
 use Rattle.std.proofs.Common.{cond, append-nil}
-use Rattle.std.specs.Prelude.{Some, None, nat_lt, unwrap_or}
+use Rattle.std.specs.Prelude.{Option, Some, None, nat_lt, unwrap_or}
 use Rattle.std.specs.List.{position}
 use Rattle.std.proofs.lemmas.List.{map-append}
 use Rattle.std.proofs.lemmas.Bool.Decides.{nat_tests}
@@ -12,8 +12,8 @@ use Rattle.std.specs.List.{list_any, filter, position_or_len}
 use Rattle.std.specs.Str.{bytes_eq}
 use Rattle.std.proofs.lemmas.Slice.Eq.{bytes_eq-Decides}
 use Rattle.std.proofs.lemmas.List.Elements.{filter-append}
-use Rattle.std.proofs.lemmas.List.Folds.{list_any_at}
-use Rattle.aioscan_cmd.specs.Command.{distinct}
+use Rattle.std.proofs.lemmas.List.Folds.{list_any-append, list_any_at}
+use Rattle.aioscan_cmd.specs.Command.{MapOption, distinct, relations_with}
 
 -- whether a name is among others
 abbrev pub known : List ℕ → List (List ℕ) → Bool
@@ -133,16 +133,24 @@ place_below : {X : Type 0} (p : X → Bool) (xs : List X) → list_any p xs ≡ 
 place_below p [] some = absurd (cc)
 place_below p (x ∷ xs) some = place_by (p x) p x xs refl (place_below p xs) some
 
--- a name of a list has its place among the distinct ones
-pub place_of_name : (names : List (List ℕ)) (k : ℕ) → k < length names
-    → position_or_len (λ other. bytes_eq other (get_or names k [])) (distinct names)
-    < length (distinct names)
-place_of_name names k below =
+-- the name of a file is among the relations
+known_relation : (x : List ℕ) (names : List (List ℕ)) (map : Option MapOption)
+    → known x names ≡ true → known x (relations_with names map) ≡ true
+known_relation x names None there = known-distinct x names ∙ there
+known_relation x names (Some map) there =
+    list_any-append (λ other. bytes_eq other x) (distinct names) (map.name ∷ [])
+    ∙ ap (λ (b : Bool). b || known x (map.name ∷ [])) (known-distinct x names ∙ there)
+
+-- and has its place there
+pub place_of_name : (names : List (List ℕ)) (map : Option MapOption) (k : ℕ) → k < length names
+    → position_or_len (λ other. bytes_eq other (get_or names k [])) (relations_with names map)
+    < length (relations_with names map)
+place_of_name names map k below =
     let name = get_or names k [] in
     let here : bytes_eq name name ≡ true = (bytes_eq-Decides name name).1 refl in
-    place_below (λ other. bytes_eq other name) (distinct names)
-    (known-distinct name names
-    ∙ list_any_at (λ other. bytes_eq other name) names k [] below here)
+    place_below (λ other. bytes_eq other name) (relations_with names map)
+    (known_relation name names map
+    (list_any_at (λ other. bytes_eq other name) names k [] below here))
 
 -- names as texts of the code
 module _ {X : Type 0} (text : X → List ℕ) where

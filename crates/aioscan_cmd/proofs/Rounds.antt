@@ -5,11 +5,12 @@ use Rattle.std.specs.Prelude.{Option}
 use Rattle.page_check.specs.Told.{Told}
 use Rattle.scan_rounds.specs.Manners.{Manner}
 use Rattle.scan_rounds.specs.Jobs.{AreAnswered}
+use Rattle.scan_rounds.specs.Skipping.{Skips, kept_of}
 use Rattle.scan_rounds.specs.declared.job.Job.{Job}
 use Rattle.aioscan_cmd.specs.RequestList.{Request}
-use Rattle.aioscan_cmd.specs.Reading.{Lists, HasWritten}
+use Rattle.aioscan_cmd.specs.Reading.{Lists, HasWritten, Way, way_of}
 use Rattle.aioscan_cmd.specs.Listing.{requests_in, AreListedBy, IsOver, Puts, HasListed, Follows}
-use Rattle.aioscan_cmd.specs.Listing.{errors_of, manner_in}
+use Rattle.aioscan_cmd.specs.Listing.{errors_of, manner_in, skips_in}
 use Rattle.aioscan_cmd.specs.ErrorLine.{ErrorStream, Warns, error_stream}
 use Rattle.aioscan_cmd.specs.declared.report.Line.{Line}
 use Rattle.aioscan_cmd.specs.declared.lister.Lister.{Lister}
@@ -22,10 +23,11 @@ use Rattle.heap_scan.specs.declared.sums.PageSums.{PageSums}
 use Rattle.aioscan_cmd.specs.Sums.{GaveAll, HasSums, kept_sums, total_of}
 use Rattle.aioscan_cmd.proofs.Totals.{none_summed, round_summed}
 use Rattle.aioscan_cmd.proofs.Causing.{written_then}
+use Rattle.aioscan_cmd.proofs.KeptParts.{kept_cut, none_kept}
 use Rattle.aioscan_cmd.proofs.Lists.{lists_none, lists_append, lists_more}
 use Rattle.aioscan_cmd.proofs.Telling.{warns_also, warns_none, warns_then}
 
-no_blocks_listed : (m : Manner) (told : Option Told) (s : Option (List ℕ)) (o : Outcome)
+no_blocks_listed : (m : Way) (told : Option Told) (s : Option (List ℕ)) (o : Outcome)
     → o ≡ Done → Lists m told [] s s o []
 no_blocks_listed m told s o done =
     let P : Outcome → Type 0 = λ x. Lists m told [] s s x [] in
@@ -54,10 +56,10 @@ module _ {W O E : Type 0} (told : Option Told) (written : O → Option (List ℕ
   abbrev Goes : Lister W O E → Lister W O E → Type 0
   Goes s t = Follows told written faults err_written err_faults s t
 
-  abbrev Listed : Manner → List Request → Option (List ℕ) → ℕ → ErrorStream → Lister W O E
-      → Type 0
-  Listed m all before faults_before errors l =
-      HasListed told written faults err_written err_faults m all before faults_before errors l
+  abbrev Listed : Option Skips → Manner → List Request → Option (List ℕ) → ℕ → ErrorStream
+      → Lister W O E → Type 0
+  Listed skips m all before faults_before errors l =
+      HasListed told written faults err_written err_faults skips m all before faults_before errors l
 
   abbrev errors : Lister W O E → ErrorStream
   errors l = errors_of told written faults err_written err_faults l
@@ -72,50 +74,56 @@ module _ {W O E : Type 0} (told : Option Told) (written : O → Option (List ℕ
 
   -- the jobs that were put have been written
   pub round_written : (was old new : Lister W O E) (asked jobs : List Job) → Puts was asked old
-      → AreAnswered (manner_in old) told asked jobs → old.outcome ≡ Done → new.blocks ≡ old.blocks
-      → manner_in new ≡ manner_in old → new.out.ghost_name ≡ old.out.ghost_name
+      → AreAnswered (skips_in old) (manner_in old) told asked jobs → old.outcome ≡ Done
+      → new.blocks ≡ old.blocks → manner_in new ≡ manner_in old → skips_in new ≡ skips_in old
+      → new.out.ghost_name ≡ old.out.ghost_name
       → new.err.ghost_name ≡ old.err.ghost_name
       → Warns (AreListedBy jobs (written old.out.now) (written new.out.now) new.outcome)
       (errors old) (errors new)
       → HasWritten (faults old.out.now) (faults new.out.now) new.outcome
       → (new.outcome ≡ Done → GaveAll jobs)
       → new.sums ≡ kept_sums (joined old.sums (total_of jobs)) → Goes was new
-  round_written was old new asked jobs puts answered done same manner_same loan err_loan lists
-      writes gave sums = (
+  round_written was old new asked jobs puts answered done same manner_same skips_same loan err_loan
+      lists writes gave sums = (
         loan ∙ puts.loans.0,
         err_loan ∙ puts.loans.1,
-        λ m all before faults_before errors_before so_far.
+        λ skips m all before faults_before errors_before so_far.
             (let was_done : was.outcome ≡ Done = sym puts.outcome ∙ done in
             let manner_is : manner_in old ≡ m = puts.manner_kept ∙ so_far.manner_is in
-            let A : Manner → Type 0 = λ x. AreAnswered x told asked jobs in
-            let here = subst A manner_is answered in
+            let skips_are : skips_in old ≡ skips = puts.skips_kept ∙ so_far.skips_are in
+            let A : Manner → Type 0 = λ x. AreAnswered skips x told asked jobs in
+            let B : Option Skips → Type 0 = λ x. AreAnswered x (manner_in old) told asked jobs in
+            let here = subst A manner_is (subst B skips_are answered) in
             let P : Outcome → Type 0 =
-            λ x. Warns (Lists m told so_far.asked before (written was.out.now) x) errors_before
-            (errors was) in
+            λ x. Warns (Lists (way_of m) told so_far.asked before (written was.out.now) x)
+            errors_before (errors was) in
             let Q : O → Type 0 =
-            λ o. Warns (Lists m told so_far.asked before (written o) Done) errors_before
+            λ o. Warns (Lists (way_of m) told so_far.asked before (written o) Done) errors_before
             (errors was) in
             let T : ErrorStream → Type 0 =
-            λ e. Warns (Lists m told so_far.asked before (written old.out.now) Done)
+            λ e. Warns (Lists (way_of m) told so_far.asked before (written old.out.now) Done)
             errors_before e in
             let V : O → Type 0 = λ o. HasWritten faults_before (faults o) was.outcome in
             let first = subst T (same_errors was asked old puts)
             (subst Q (sym puts.out) (subst P was_done so_far.lists)) in
             let was_written = subst V (sym puts.out) so_far.writes in record {
-              asked = so_far.asked ++ requests_in asked;
-              rest = old.blocks;
+              asked = so_far.asked ++ requests_in skips asked;
+              rest = kept_of skips old.blocks;
               cut = so_far.cut
-                  ∙ ap (λ (l : List Request). so_far.asked ++ l) (so_far.left was_done ∙ puts.cut)
-                  ∙ sym (append_assoc so_far.asked (requests_in asked) old.blocks);
-              left = λ _. sym same;
+                  ∙ ap (λ (l : List Request). so_far.asked ++ l) (so_far.left was_done
+                  ∙ kept_cut skips asked was.blocks old.blocks puts.cut)
+                  ∙ sym (append_assoc so_far.asked (requests_in skips asked)
+                  (kept_of skips old.blocks));
+              left = λ _. ap (kept_of skips) (sym same);
               manner_is = manner_same ∙ manner_is;
+              skips_are = skips_same ∙ skips_are;
               lists = warns_then _ _ _ _ _ _
-                  (λ v w before_it now_it. lists_append m told so_far.asked (requests_in asked)
-                  before (written old.out.now) (written new.out.now) new.outcome v w before_it
-                  (now_it m told asked here)) first lists;
+                  (λ v w before_it now_it. lists_append (way_of m) told so_far.asked
+                  (requests_in skips asked) before (written old.out.now) (written new.out.now)
+                  new.outcome v w before_it (now_it skips m told asked here)) first lists;
               sums = λ all_given.
                   (let S : PageSums → Type 0 = λ s. HasSums m told so_far.asked s in
-                  round_summed m told so_far.asked asked jobs old.sums new.sums
+                  round_summed skips m told so_far.asked asked jobs old.sums new.sums
                   (subst S (sym puts.sums) (so_far.sums was_done)) here (gave all_given) sums);
               writes = written_then _ _ _ _ was_written.later writes;
             }),
@@ -127,15 +135,15 @@ module _ {W O E : Type 0} (told : Option Told) (written : O → Option (List ℕ
   round_passed was old asked puts over = (
     puts.loans.0,
     puts.loans.1,
-    λ m all before faults_before errors_before so_far.
+    λ skips m all before faults_before errors_before so_far.
         (let P : Outcome → Type 0 =
-        λ x. Warns (Lists m told so_far.asked before (written was.out.now) x) errors_before
+        λ x. Warns (Lists (way_of m) told so_far.asked before (written was.out.now) x) errors_before
         (errors was) in
         let Q : O → Type 0 =
-        λ o. Warns (Lists m told so_far.asked before (written o) old.outcome) errors_before
+        λ o. Warns (Lists (way_of m) told so_far.asked before (written o) old.outcome) errors_before
         (errors was) in
         let T : ErrorStream → Type 0 =
-        λ e. Warns (Lists m told so_far.asked before (written old.out.now) old.outcome)
+        λ e. Warns (Lists (way_of m) told so_far.asked before (written old.out.now) old.outcome)
         errors_before e in
         let U : Outcome → Type 0 = λ x. HasWritten faults_before (faults was.out.now) x in
         let V : O → Type 0 = λ o. HasWritten faults_before (faults o) old.outcome in record {
@@ -144,6 +152,7 @@ module _ {W O E : Type 0} (told : Option Told) (written : O → Option (List ℕ
           cut = so_far.cut;
           left = λ done. absurd (over done);
           manner_is = puts.manner_kept ∙ so_far.manner_is;
+          skips_are = puts.skips_kept ∙ so_far.skips_are;
           lists = subst T (same_errors was asked old puts)
               (subst Q (sym puts.out) (subst P (sym puts.outcome) so_far.lists));
           sums = λ done. absurd (over done);
@@ -152,56 +161,60 @@ module _ {W O E : Type 0} (told : Option Told) (written : O → Option (List ℕ
   )
 
   -- from the first round to the last
-  ended : (all : List Request) (s t : Lister W O E) → s.outcome ≡ Done → s.blocks ≡ all
-      → s.sums ≡ no_sums → Goes s t
-      → Listed (manner_in s) all (written s.out.now) (faults s.out.now) (errors s) t
+  ended : (all : List Request) (s t : Lister W O E) → s.outcome ≡ Done
+      → kept_of (skips_in s) s.blocks ≡ all → s.sums ≡ no_sums → Goes s t
+      → Listed (skips_in s) (manner_in s) all (written s.out.now) (faults s.out.now) (errors s) t
   ended all s t done same none goes =
-      goes.2 (manner_in s) all (written s.out.now) (faults s.out.now) (errors s) (record {
+      goes.2 (skips_in s) (manner_in s) all (written s.out.now) (faults s.out.now) (errors s)
+      (record {
         asked = [];
         rest = all;
         cut = refl;
         left = λ _. sym same;
         manner_is = refl;
+        skips_are = refl;
         lists = warns_none _ s.line s.line _ _ refl
-            (no_blocks_listed (manner_in s) told (written s.out.now) s.outcome done);
-        sums = λ _. none_summed (manner_in s) told s.sums none;
+            (no_blocks_listed (way_of (manner_in s)) told (written s.out.now) s.outcome done);
+        sums = λ _. none_summed (skips_in s) (manner_in s) told s.sums none;
         writes = nothing_written (faults s.out.now) s.outcome done;
       })
 
   pub all_listed : (all : List Request) (s t : Lister W O E) → s.outcome ≡ Done
-      → s.blocks ≡ all → s.sums ≡ no_sums → Goes s t → IsOver t
-      → Warns (Lists (manner_in s) told all (written s.out.now) (written t.out.now) t.outcome)
-      (errors s) (errors t)
+      → kept_of (skips_in s) s.blocks ≡ all → s.sums ≡ no_sums → Goes s t → IsOver t
+      → Warns (Lists (way_of (manner_in s)) told all (written s.out.now) (written t.out.now)
+      t.outcome) (errors s) (errors t)
   all_listed all s t done same no_sum goes over =
       let at = ended all s t done same no_sum goes in
       let P : List Request → Type 0 =
-      λ l. Warns (Lists (manner_in s) told l (written s.out.now) (written t.out.now) t.outcome)
-      (errors s) (errors t) in
+      λ l. Warns (Lists (way_of (manner_in s)) told l (written s.out.now) (written t.out.now)
+      t.outcome) (errors s) (errors t) in
       let more : t.outcome ≢ Done → P all =
       λ stops. subst P (sym at.cut)
-      (warns_also _ _ _ _ (λ w listed. lists_more (manner_in s) told at.asked at.rest _ _ t.outcome
-      w stops listed) at.lists) in
+      (warns_also _ _ _ _ (λ w listed. lists_more (way_of (manner_in s)) told at.asked at.rest _ _
+      t.outcome w stops listed) at.lists) in
       ⊎_elim more
       (λ none. ⊎_elim
       (λ is. (let whole : all ≡ at.asked =
-      at.cut ∙ ap (λ (l : List Request). at.asked ++ l) (at.left is ∙ none)
+      at.cut ∙ ap (λ (l : List Request). at.asked ++ l) (at.left is
+      ∙ (ap (kept_of (skips_in s)) none ∙ none_kept (skips_in s)))
       ∙ append-nil at.asked in subst P (sym whole) at.lists))
       more (is_done t.outcome))
       over
 
   pub all_written : (all : List Request) (s t : Lister W O E) → s.outcome ≡ Done
-      → s.blocks ≡ all → s.sums ≡ no_sums → Goes s t
+      → kept_of (skips_in s) s.blocks ≡ all → s.sums ≡ no_sums → Goes s t
       → HasWritten (faults s.out.now) (faults t.out.now) t.outcome
   all_written all s t done same none goes = (ended all s t done same none goes).writes
 
   pub all_summed : (all : List Request) (s t : Lister W O E) → s.outcome ≡ Done
-      → s.blocks ≡ all → s.sums ≡ no_sums → Goes s t → IsOver t → t.outcome ≡ Done
-      → HasSums (manner_in s) told all t.sums
+      → kept_of (skips_in s) s.blocks ≡ all → s.sums ≡ no_sums → Goes s t → IsOver t
+      → t.outcome ≡ Done → HasSums (manner_in s) told all t.sums
   all_summed all s t done same no_sum goes over is =
       let at = ended all s t done same no_sum goes in
       let P : List Request → Type 0 = λ l. HasSums (manner_in s) told l t.sums in
       ⊎_elim (λ stops. absurd (stops is))
       (λ none. (let whole : all ≡ at.asked =
-      at.cut ∙ ap (λ (l : List Request). at.asked ++ l) (at.left is ∙ none)
+      at.cut ∙ ap (λ (l : List Request). at.asked ++ l) (at.left is
+      ∙ (ap (kept_of (skips_in s)) none ∙ none_kept (skips_in s)))
       ∙ append-nil at.asked in subst P (sym whole) (at.sums is)))
       over

@@ -4,6 +4,7 @@ use Rattle.std.specs.Prelude.{Option, Some, None}
 use Rattle.scan_rounds.specs.declared.settings.MethodKind.TheVariants as method
 use Rattle.scan_rounds.specs.declared.settings.ScanSettings.{ScanSettings}
 use Rattle.aioscan_cmd.specs.Command.{Command, relations_of, relation_number}
+use Rattle.vis_map.specs.declared.map.Skip.TheVariants as skip
 use Rattle.aioscan_cmd.specs.RequestList.{request, requests_of}
 
 -- the names `f` and `g`
@@ -36,6 +37,7 @@ command_with first last names =
       to = last;
       files = names;
       made = None;
+      map = None;
       settings = any_settings;
       stats = false;
     }
@@ -44,6 +46,14 @@ command_with first last names =
 g_is_the_second : (relations_of (command_with None None (f ∷ g ∷ f ∷ [])) ≡ f ∷ g ∷ [])
     × (relation_number g (f ∷ g ∷ []) ≡ 1)
 g_is_the_second = (refl, refl)
+
+-- the map of a file is the relation behind it
+map_is_the_second : relations_of
+    (record (command_with None None (f ∷ [])) {
+      map = Some (record { name = g; skip = skip.Visible });
+    })
+    ≡ f ∷ g ∷ []
+map_is_the_second = refl
 
 -- but its blocks are listed again
 f_again : requests_of (λ r. 1) (command_with None None (f ∷ g ∷ f ∷ []))

@@ -15,6 +15,7 @@ use Rattle.heap_scan.specs.declared.sums.PageSums.{PageSums}
 use Rattle.heap_scan.proofs.Jobs.{job_append}
 use Rattle.heap_tuple.specs.Listing.{text_with}
 use Rattle.scan_rounds.specs.Manners.{Manner}
+use Rattle.scan_rounds.specs.Skipping.{Skips}
 use Rattle.scan_rounds.specs.Jobs.{IsListed, AreAnswered, entries_in, said_end}
 use Rattle.scan_rounds.specs.declared.job.Ending.{Ending as JobEnding}
 use Rattle.scan_rounds.specs.declared.job.Ending.TheVariants as ending
@@ -36,7 +37,7 @@ same_sums x y pages zeros items =
     ∙ ap (λ (n : ℕ). sums_with y.pages y.zero n) items
 
 -- what a job gave that ended a run in no fault
-ended_done : (r : ℕ) (end : JobEnding) → outcome_for r end ≡ Done → end ≡ ending.Pages
+pub ended_done : (r : ℕ) (end : JobEnding) → outcome_for r end ≡ Done → end ≡ ending.Pages
 ended_done r ending.Pages is = refl
 ended_done r (ending.Invalid b) is = absurd (cc)
 ended_done r (ending.Unread b) is = absurd (cc)
@@ -78,7 +79,7 @@ kept_next f jobs k n before now d job inside is was added =
     ∙ sum_by_push f (take k jobs) (get_or jobs k d) in
     let here : f job ≡ f (get_or jobs k d) = ap f is in omega (arith, more, here, was, added)
 
-module _ (m : Manner) (told : Option Told) where
+module _ (skips : Option Skips) (m : Manner) (told : Option Told) where
   abbrev text_of : TextOf
   text_of = text_with m.tuples
 
@@ -90,40 +91,40 @@ module _ (m : Manner) (told : Option Told) where
       (text : List ℕ) × ((warnings : List ℕ)
       × IsJobAnswer text_of found (λ _. ⊤) requests text warnings sums (Some End))
 
-  one_more : (j job : Job) (asked jobs : List Job) → IsListed m told (λ _. ⊤) j job
-      → job.ending ≡ ending.Pages → Answer (requests_in asked) (total_of jobs)
-      → Answer (requests_in (j ∷ asked)) (total_of (job ∷ jobs))
+  one_more : (j job : Job) (asked jobs : List Job) → IsListed skips m told (λ _. ⊤) j job
+      → job.ending ≡ ending.Pages → Answer (requests_in skips asked) (total_of jobs)
+      → Answer (requests_in skips (j ∷ asked)) (total_of (job ∷ jobs))
   unfolding job_append
   one_more j job asked jobs listed is rest =
       let P : JobEnding → Type 0 =
-      λ e. IsJobAnswer text_of found (λ _. ⊤) (entries_in j) job.text.items job.warnings.items
+      λ e. IsJobAnswer text_of found (λ _. ⊤) (entries_in skips j) job.text.items job.warnings.items
       job.tally (said_end e) in
       let Q : List Request → Type 0 = λ l. Answer l (total_of (job ∷ jobs)) in
-      let R : PageSums → Type 0 = λ s. Answer (entries_in j ++ requests_in asked) s in
+      let R : PageSums → Type 0 = λ s. Answer (entries_in skips j ++ requests_in skips asked) s in
       let total : joined job.tally (total_of jobs) ≡ total_of (job ∷ jobs) =
       same_sums _ _ (sym (sum_by-cons (λ (k : Job). k.tally.pages) job jobs))
       (sym (sum_by-cons (λ (k : Job). k.tally.zero) job jobs))
       (sym (sum_by-cons (λ (k : Job). k.tally.items) job jobs)) in
-      subst Q (sym (flat_map-cons entries_in j asked))
+      subst Q (sym (flat_map-cons (entries_in skips) j asked))
       (subst R total (
         job.text.items ++ rest.0,
         (
           job.warnings.items ++ rest.1.0,
-          job_append text_of found (λ _. ⊤) (entries_in j) (requests_in asked) job.text.items
-              rest.0 job.warnings.items rest.1.0 job.tally (total_of jobs) (Some End)
+          job_append text_of found (λ _. ⊤) (entries_in skips j) (requests_in skips asked)
+              job.text.items rest.0 job.warnings.items rest.1.0 job.tally (total_of jobs) (Some End)
               (subst P is listed.answer) rest.1.1,
         ),
       ))
 
   -- jobs that gave all their pages have the sums of these
-  pub answered_all : (asked jobs : List Job) → AreAnswered m told asked jobs → GaveAll jobs
-      → Answer (requests_in asked) (total_of jobs)
+  pub answered_all : (asked jobs : List Job) → AreAnswered skips m told asked jobs → GaveAll jobs
+      → Answer (requests_in skips asked) (total_of jobs)
   answered_all [] [] all gave = ([], ([], no_answer text_of found))
   answered_all [] (job ∷ jobs) all gave = absurd (omega (arith, all.as_many))
   answered_all (j ∷ asked) [] all gave = absurd (omega (arith, all.as_many))
   answered_all (j ∷ asked) (job ∷ jobs) all gave =
       let many = all.as_many in
-      let rest : AreAnswered m told asked jobs = record {
+      let rest : AreAnswered skips m told asked jobs = record {
         as_many = omega arith;
         each = λ i d below. all.each (suc i) d (omega arith);
       } in
@@ -145,9 +146,9 @@ module _ (m : Manner) (told : Option Told) where
 
   -- and those of a round
   pub round_summed : (before : List Request) (asked jobs : List Job) (was now : PageSums)
-      → HasSums m told before was → AreAnswered m told asked jobs → GaveAll jobs
+      → HasSums m told before was → AreAnswered skips m told asked jobs → GaveAll jobs
       → now ≡ kept_sums (joined was (total_of jobs))
-      → HasSums m told (before ++ requests_in asked) now
+      → HasSums m told (before ++ requests_in skips asked) now
   unfolding job_append
   round_summed before asked jobs was now so_far all gave is =
       let here = answered_all asked jobs all gave in
@@ -155,8 +156,8 @@ module _ (m : Manner) (told : Option Told) where
         text = so_far.text ++ here.0;
         warnings = so_far.warnings ++ here.1.0;
         total = joined so_far.total total;
-        answer = job_append text_of found (λ _. ⊤) before (requests_in asked) so_far.text here.0
-            so_far.warnings here.1.0 so_far.total total (Some End) so_far.answer here.1.1;
+        answer = job_append text_of found (λ _. ⊤) before (requests_in skips asked) so_far.text
+            here.0 so_far.warnings here.1.0 so_far.total total (Some End) so_far.answer here.1.1;
         sums_are = is ∙ same_sums _ _
             (kept_more was.pages total.pages so_far.total.pages
             (ap (λ (s : PageSums). s.pages) so_far.sums_are))

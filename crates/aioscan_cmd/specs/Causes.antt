@@ -2,10 +2,9 @@
 use Rattle.std.specs.Prelude.{◌≡◌, ◌≢◌, ◌⊎◌, ℕ, ◌<◌, ◌≤◌, List, [], Option, true}
 use Rattle.page_check.specs.Told.{Told}
 use Rattle.aio_disk.specs.Counts.{Rose, ShelfCounts}
-use Rattle.aioscan_cmd.specs.Command.{manner_by}
-use Rattle.aioscan_cmd.specs.Cutting.{requests_for}
+use Rattle.aioscan_cmd.specs.Cutting.{request_list_for}
 use Rattle.aioscan_cmd.specs.Outcomes.{is_refused}
-use Rattle.aioscan_cmd.specs.Reading.{Lists}
+use Rattle.aioscan_cmd.specs.Reading.{Lists, way_by}
 use Rattle.aioscan_cmd.specs.Run.{SynchronousRun, EarlierFit}
 use Rattle.aioscan_cmd.specs.declared.cutter.Asked.{Asked}
 use Rattle.aioscan_cmd.specs.declared.report.Outcome.{Outcome}
@@ -30,16 +29,16 @@ pub record HasCauses (before now : ShelfCounts) (write_faults_before write_fault
   pub unread : (r b : ℕ) → outcome ≡ Unread r b → Rose before.faults now.faults
   pub cannot_write : outcome ≡ CannotWrite → Rose write_faults_before write_faults_now
 
--- how a scan ended whose disks have counted so many faults and reads: a disk that could not be
--- opened is the only refusal
-pub record HasScanned (asked : Asked) (told : Option Told)
+-- how a scan ended whose map has given these pages, and whose disks have counted so many faults and
+-- reads: a disk that could not be opened is the only refusal
+pub record HasScanned (asked : Asked) (given : ℕ → List ℕ) (told : Option Told)
     (written now_written : Option (List ℕ)) (before now : ShelfCounts) (faults reads : ℕ)
     (outcome : Outcome) (warnings : List ℕ) : Type 0 where
   pub opens : before.open_faults ≤ now.open_faults
   pub others : (now.length_faults ≡ before.length_faults) × (now.faults ≡ before.faults)
       × (now.reads ≡ before.reads)
-  pub lists : outcome ≢ CannotOpen → Lists (manner_by (asked.command.now).settings) told
-      (requests_for asked) written now_written outcome warnings
+  pub lists : outcome ≢ CannotOpen → Lists (way_by asked.command.now) told
+      (request_list_for asked told given) written now_written outcome warnings
   pub cannot_open : outcome ≡ CannotOpen → Rose before.open_faults now.open_faults
       × (now_written ≡ written) × (faults ≡ 0) × (reads ≡ 0) × (warnings ≡ [])
   pub unread : (r b : ℕ) → outcome ≡ Unread r b → 0 < faults

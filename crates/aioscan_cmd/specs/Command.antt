@@ -1,21 +1,29 @@
 -- What the words of a command ask for.
 use Rattle.std.specs.Prelude.{ℕ, List, [], ◌∷◌, ◌≡◌, ◌≤◌, Option, Some, None, IfSome, ◌+◌, ◌-◌, ◌<◌}
-use Rattle.std.specs.Prelude.{Bool, not, unwrap_or, ◌*◌}
+use Rattle.std.specs.Prelude.{Bool, false, not, unwrap_or, ◌*◌, ◌++◌}
 use Rattle.aioscan_cmd.specs.Generated.{made_name}
 use Rattle.std.specs.List.{filter, position_or_len}
 use Rattle.std.specs.Option.{option_map_or}
 use Rattle.std.specs.Str.{bytes_eq}
 use Rattle.scan_rounds.specs.Manners.{Manner, manner}
 use Rattle.scan_rounds.specs.declared.settings.ScanSettings.{ScanSettings}
+use Rattle.vis_map.specs.declared.map.Skip.{Skip}
+
+-- the name of a visibility map, and which blocks are left out by it
+pub record MapOption : Type 0 where
+  pub name : List ℕ
+  pub skip : Skip
 
 -- the first and the last block, where they are given, the names of files, and how many pages are
--- generated, where the one file is that of generated pages; how they are read, but for the segment
--- size, which is that of the disks; and whether the totals are told
+-- generated, where the one file is that of generated pages; the map of the one file, where it is
+-- given; how they are read, but for the segment size, which is that of the disks; and whether the
+-- totals are told
 pub record Command : Type 0 where
   pub from : Option ℕ
   pub to : Option ℕ
   pub files : List (List ℕ)
   pub made : Option ℕ
+  pub map : Option MapOption
   pub settings : ScanSettings
   pub stats : Bool
 
@@ -45,7 +53,14 @@ HasNoRange (Some n) from to = (1 ≤ n) × (n ≤ made_limit) × (from ≡ None)
 abbrev pub IsMade : ℕ → Command → Type 0
 IsMade n command =
     (command.files ≡ made_name ∷ []) × (command.from ≡ None) × (command.to ≡ None)
-    × (n ≤ made_limit)
+    × (n ≤ made_limit) × (command.map ≡ None)
+
+-- the map is that of the one file, which has another name, and no pages are generated
+pub record IsMapOf (made : Option ℕ) (files : List (List ℕ)) (map : MapOption) : Type 0 where
+  pub file : List ℕ
+  pub one_file : files ≡ file ∷ []
+  pub other_name : bytes_eq map.name file ≡ false
+  pub none_made : made ≡ None
 
 -- a block number that is given is below the limit
 abbrev pub IsBelow : Option ℕ → ℕ → Type 0
@@ -56,9 +71,14 @@ abbrev pub distinct : List (List ℕ) → List (List ℕ)
 distinct [] = []
 distinct (name ∷ names) = name ∷ filter (λ other. not (bytes_eq other name)) (distinct names)
 
--- the relations: the distinct names of the files
+-- the distinct names of the files, and behind them that of the map, where it is given
+abbrev pub relations_with : List (List ℕ) → Option MapOption → List (List ℕ)
+relations_with files None = distinct files
+relations_with files (Some map) = distinct files ++ map.name ∷ []
+
+-- the relations
 abbrev pub relations_of : Command → List (List ℕ)
-relations_of command = distinct command.files
+relations_of command = relations_with command.files command.map
 
 -- the number of a relation: its place among them
 abbrev pub relation_number : List ℕ → List (List ℕ) → ℕ

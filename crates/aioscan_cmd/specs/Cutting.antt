@@ -1,11 +1,16 @@
 -- What is left of a request list when jobs were cut off from its front.
 use Rattle.std.specs.Prelude.{◌≡◌, ℕ, ◌+◌, ◌-◌, ◌^◌, ◌<◌, ◌≤◌, ◌++◌, List, [], ◌∷◌, drop, length}
-use Rattle.std.specs.Prelude.{slice_index, slice_index_or}
+use Rattle.std.specs.Prelude.{map, slice_index, slice_index_or, Option, Some}
+use Rattle.vis_map.specs.MapRequest.{greatest_of, needed_pages}
+use Rattle.vis_map.specs.declared.map.Skip.{Skip}
 use Rattle.std.specs.List.{flat_map}
+use Rattle.page_check.specs.Told.{Told}
 use Rattle.scan_rounds.specs.declared.settings.ScanSettings.{ScanSettings}
-use Rattle.aioscan_cmd.specs.Command.{number_limit, relations_of, relation_number}
-use Rattle.aioscan_cmd.specs.Command.{first_block, asked_count}
-use Rattle.aioscan_cmd.specs.RequestList.{Request, block_range, requests_of_file, requests_of}
+use Rattle.aioscan_cmd.specs.Command.{IsMapOf, MapOption, number_limit, relations_of}
+use Rattle.aioscan_cmd.specs.Command.{relation_number, first_block, asked_count}
+use Rattle.aioscan_cmd.specs.RequestList.{Request, block_range, request_list, requests_of_file}
+use Rattle.aioscan_cmd.specs.RequestList.{requests_of}
+use Rattle.aioscan_cmd.specs.Reading.{map_pages_known}
 use Rattle.aioscan_cmd.specs.declared.cutter.Asked.{Asked}
 use Rattle.aioscan_cmd.specs.declared.cutter.Cut.{Cut}
 
@@ -24,9 +29,30 @@ pub record IsAsked (a : Asked) : Type 0 where
 abbrev pub IsAskedOf : ℕ → Asked → Type 0
 IsAskedOf count a = IsAsked a × (count ≡ length a.relations.now)
 
--- the blocks that are asked for
+-- the blocks that the FILE words ask for
 abbrev pub requests_for : Asked → List Request
 requests_for a = requests_of (slice_index a.lengths.now) a.command.now
+
+-- all blocks that are asked for, where the map has given these pages
+abbrev pub request_list_for : Asked → Option Told → (ℕ → List ℕ) → List Request
+request_list_for a told given =
+    request_list (slice_index a.lengths.now)
+    (map_pages_known told (a.command.now).settings.zero given) a.command.now
+
+-- the command has a map, which leaves out these blocks
+pub record HasMap (a : Asked) (skip : Skip) : Type 0 where
+  pub map : MapOption
+  pub given : (a.command.now).map ≡ Some map
+  pub skip_is : map.skip ≡ skip
+  pub of : IsMapOf (a.command.now).made (a.command.now).files map
+
+-- the greatest block that the FILE words ask for
+abbrev pub greatest_in : Asked → Option ℕ
+greatest_in a = greatest_of (map (λ (e : Request). e.block) (requests_for a))
+
+-- how many pages of the map are read
+abbrev pub map_pages_of : Asked → ℕ
+map_pages_of a = needed_pages (slice_index a.lengths.now 1) (greatest_in a)
 
 -- the blocks that a FILE word adds
 abbrev pub requests_here : Asked → List ℕ → List Request

@@ -36,7 +36,7 @@ abbrev pub option_names : List Text
 option_names =
     codes "method" ∷ codes "workers" ∷ codes "backends" ∷ codes "combine" ∷ codes "concurrency"
     ∷ codes "handles" ∷ codes "buffers" ∷ codes "from" ∷ codes "to" ∷ codes "make"
-    ∷ []
+    ∷ codes "map" ∷ codes "skip" ∷ []
 
 -- the flags
 abbrev pub flag_names : List Text

@@ -1,22 +1,39 @@
 -- What a run has listed of a list of blocks, whether or not the contents are told.
 use Rattle.std.specs.Prelude.{◌≡◌, ◌≤◌, ◌++◌, ℕ, List, [], length, take, Option, slice_get}
-use Rattle.std.specs.Prelude.{Some, ⊤, false}
-use Rattle.page_check.specs.SynchronousAnswer.{reader_of}
+use Rattle.std.specs.Prelude.{Some, None, Bool, ⊤, false}
+use Rattle.page_check.specs.SynchronousAnswer.{found_at, page_in, reader_of, zeroing}
 use Rattle.page_check.specs.Told.{Told}
 use Rattle.heap_scan.specs.Job.{IsJobAnswer}
-use Rattle.heap_scan.specs.Listing.{listing}
+use Rattle.heap_scan.specs.Listing.{TextOf, listing}
 use Rattle.heap_scan.specs.Warnings.{warnings_of}
 use Rattle.heap_scan.specs.declared.sums.PageSums.{PageSums}
 use Rattle.heap_tuple.specs.Listing.{text_with}
 use Rattle.scan_rounds.specs.Manners.{Manner}
 use Rattle.aio_disk.specs.Counts.{Rose}
 use Rattle.aio_disk.specs.Sink.{Grew, GrewByPrefix}
-use Rattle.aioscan_cmd.specs.RequestList.{Request}
+use Rattle.aioscan_cmd.specs.Command.{Command}
+use Rattle.aioscan_cmd.specs.RequestList.{Request, but_for_map}
 use Rattle.aioscan_cmd.specs.Outcomes.{is_refused, is_cut, stopped_at, ending_of}
 use Rattle.aioscan_cmd.specs.declared.report.Outcome.{Outcome}
 use Rattle.aioscan_cmd.specs.declared.report.Outcome.TheVariants.{Done, Invalid, Usage, CannotOpen}
 use Rattle.aioscan_cmd.specs.declared.report.Outcome.TheVariants.{NoLength, Unread, CannotWrite}
 use Rattle.aioscan_cmd.specs.declared.report.Outcome.TheVariants.{NoMemory, Missing, TooLong}
+
+-- in which way blocks are listed: whether damaged pages are given as zeros, and what text a page
+-- has
+pub record Way : Type 0 where
+  pub zero : Bool
+  pub text_of : TextOf
+
+abbrev pub way_of : Manner → Way
+way_of m = record { zero = m.zero; text_of = text_with m.tuples }
+
+-- that of a command
+abbrev pub way_by : Command → Way
+way_by command = record {
+  zero = command.settings.zero;
+  text_of = but_for_map command.map (text_with command.settings.tuples);
+}
 
 -- what is seen of the outside: the output, where it is told, and how often the disk was read
 pub record Seen : Type 0 where
@@ -39,15 +56,15 @@ GrewBy CannotOpen before after text = Grew before after text
 GrewBy (NoLength r) before after text = Grew before after text
 GrewBy (TooLong r) before after text = Grew before after text
 
--- pages that answer these blocks, with this outcome, were listed in this manner; these are the
+-- pages that answer these blocks, with this outcome, were listed in this way; these are the
 -- warnings of those whose text was written whole
-pub record Lists (m : Manner) (told : Option Told) (requests : List Request)
+pub record Lists (m : Way) (told : Option Told) (requests : List Request)
     (before now : Option (List ℕ)) (outcome : Outcome) (warnings : List ℕ) : Type 0 where
   pub begun : is_refused outcome ≡ false
   pub text : List ℕ
   pub all_warnings : List ℕ
   pub sums : PageSums
-  pub answer : IsJobAnswer (text_with m.tuples) (reader_of m.zero told) (λ _. ⊤) requests text
+  pub answer : IsJobAnswer m.text_of (reader_of m.zero told) (λ _. ⊤) requests text
       all_warnings sums (ending_of outcome)
   pub here : (e : Request) → stopped_at outcome ≡ Some e
       → slice_get requests (length answer.pages) ≡ Some e
@@ -58,7 +75,7 @@ pub record Lists (m : Manner) (told : Option Told) (requests : List Request)
   pub among : whole ≤ length answer.pages
   pub all : is_cut outcome ≡ false → whole ≡ length answer.pages
   pub reached : (more : List ℕ)
-      × Grew before now (listing (text_with m.tuples) (take whole answer.pages) ++ more)
+      × Grew before now (listing m.text_of (take whole answer.pages) ++ more)
   pub warned : warnings ≡ warnings_of (take whole answer.pages)
   pub quiet : m.zero ≡ false → warnings ≡ []
 
@@ -66,3 +83,8 @@ pub record Lists (m : Manner) (told : Option Told) (requests : List Request)
 pub record HasWritten (faults_before faults_now : ℕ) (outcome : Outcome) : Type 0 where
   pub later : faults_before ≤ faults_now
   pub cannot_write : outcome ≡ CannotWrite → Rose faults_before faults_now
+
+-- the pages of the map where contents are told, or else those that were given
+abbrev pub map_pages_known : Option Told → Bool → (ℕ → List ℕ) → ℕ → List ℕ
+map_pages_known (Some told) zero given = λ block. page_in (zeroing zero (found_at told) 1 block)
+map_pages_known None zero given = given

@@ -1,9 +1,11 @@
 -- The blocks that a command asks for, in order.
-use Rattle.std.specs.Prelude.{ℕ, List}
+use Rattle.std.specs.Prelude.{ℕ, List, [], Option, Some, None, ◌==◌, if◌then◌else◌}
 use Rattle.std.specs.List.{flat_map}
 use Rattle.page_check.specs.SynchronousAnswer.{Entry, Given}
 use Rattle.heap_scan.specs.Job.{block_entry, job_entries}
-use Rattle.aioscan_cmd.specs.Command.{Command, relations_of, relation_number}
+use Rattle.heap_scan.specs.Listing.{TextOf}
+use Rattle.vis_map.specs.MapRequest.{map_request}
+use Rattle.aioscan_cmd.specs.Command.{Command, MapOption, relations_of, relation_number}
 use Rattle.aioscan_cmd.specs.Command.{first_block, asked_count}
 
 -- a block of a relation
@@ -30,3 +32,21 @@ requests_of_file lengths command name =
 -- those of all FILE words, by the length of each relation
 unfoldable pub requests_of : (ℕ → ℕ) → Command → List Request
 requests_of lengths command = flat_map (requests_of_file lengths command) command.files
+
+-- the pages of the map, which is relation 1 and gives these, and then the blocks that it does not
+-- mark
+abbrev pub with_map : Option MapOption → (ℕ → ℕ) → (ℕ → List ℕ) → List Request → List Request
+with_map None lengths map_page requests = requests
+with_map (Some map) lengths map_page requests =
+    map_request tt (lengths 1) map_page map.skip requests
+
+-- all blocks that are asked for, by the length of each relation and the pages of the map
+abbrev pub request_list : (ℕ → ℕ) → (ℕ → List ℕ) → Command → List Request
+request_list lengths map_page command =
+    with_map command.map lengths map_page (requests_of lengths command)
+
+-- the listing leaves out the pages of a map
+abbrev pub but_for_map : Option MapOption → TextOf → TextOf
+but_for_map None text_of = text_of
+but_for_map (Some map) text_of =
+    λ relation block page. if relation == 1 then [] else text_of relation block page

@@ -3,7 +3,7 @@ use Rattle.std.specs.Prelude.{◌≡◌, ◌⊎◌, ℕ, ◌+◌, ◌<◌, ◌�
 use Rattle.std.specs.Prelude.{◌++◌, [], Bool, Some, None, IfSome, false, true}
 use Rattle.page_check.specs.Told.{Told, blocks_of}
 use Rattle.page_check.specs.SynchronousAnswer.{Found, Page as FoundPage, Zeroed, Damaged, Absent}
-use Rattle.page_check.specs.SynchronousAnswer.{found_for, zeroing}
+use Rattle.page_check.specs.SynchronousAnswer.{found_for, page_in, zeroing}
 use Rattle.page_check.specs.SynchronousAnswer.{Reader, found_at, pages_of, stop_of}
 use Rattle.heap_scan.specs.Listing.{TextOf, listing}
 use Rattle.heap_scan.specs.Sums.{sums_of}
@@ -12,11 +12,12 @@ use Rattle.heap_tuple.specs.Listing.{text_with}
 use Rattle.aio_disk.specs.Shelf.{AllThereIfTold, Files, told_of}
 use Rattle.aio_disk.specs.Sink.{Grew, GrewByPrefix}
 use Rattle.aio_handle.specs.Executing.{last_count}
-use Rattle.aioscan_cmd.specs.Command.{Command, length_limit, manner_by, relations_of}
+use Rattle.aioscan_cmd.specs.Command.{Command, length_limit, relations_of}
 use Rattle.aioscan_cmd.specs.Generated.{made_told, summary_of}
-use Rattle.aioscan_cmd.specs.RequestList.{Request, Page, block_range, request, requests_of}
+use Rattle.aioscan_cmd.specs.RequestList.{Request, Page, block_range, but_for_map, request}
+use Rattle.aioscan_cmd.specs.RequestList.{request_list}
 use Rattle.aioscan_cmd.specs.Outcomes.{is_refused}
-use Rattle.aioscan_cmd.specs.Reading.{Seen, Lists}
+use Rattle.aioscan_cmd.specs.Reading.{Seen, Lists, map_pages_known, way_by}
 use Rattle.aioscan_cmd.specs.declared.report.Outcome.{Outcome}
 use Rattle.aioscan_cmd.specs.declared.report.Outcome.TheVariants.{Done, Invalid, Usage, CannotOpen}
 use Rattle.aioscan_cmd.specs.declared.report.Outcome.TheVariants.{NoLength, Unread, CannotWrite}
@@ -49,9 +50,9 @@ pub record SynchronousRun : Type 0 where
 abbrev pub run_of : Told → Command → SynchronousRun
 run_of told command =
     let found = zeroing command.settings.zero (found_at told) in
-    let requests = requests_of (blocks_of told) command in
+    let requests = request_list (blocks_of told) (λ block. page_in (found 1 block)) command in
     let pages = pages_of found requests in
-    let text_of = text_with command.settings.tuples in record {
+    let text_of = but_for_map command.map (text_with command.settings.tuples) in record {
       relations = length (relations_of command);
       lengths = blocks_of told;
       limit = length_limit told.segment;
@@ -175,16 +176,19 @@ limit_known None segment = length_limit segment
 pub record Ran (told : Option Told) (relations : ℕ) (command : Command) (before now : Seen)
     (outcome : Outcome) (warnings : List ℕ) : Type 0 where
   pub answered : ℕ → ℕ
+  pub map_page : ℕ → List ℕ
   pub segment : ℕ
   pub in_order : FitsInOrder (limit_known told segment) (lengths_known told answered) relations
       outcome
   pub lists : is_refused outcome ≡ false
-      → Lists (manner_by command.settings) told
-      (requests_of (lengths_known told answered) command) before.written now.written outcome
-      warnings
+      → Lists (way_by command) told
+      (request_list (lengths_known told answered)
+      (map_pages_known told command.settings.zero map_page) command) before.written now.written
+      outcome warnings
   -- as far as the count goes, there were no more reads than blocks that were asked for
   pub few_reads : now.reads < last_count
-      → now.reads ≤ before.reads + length (requests_of (lengths_known told answered) command)
+      → now.reads ≤ before.reads + length (request_list (lengths_known told answered)
+      (map_pages_known told command.settings.zero map_page) command)
   pub untouched : is_refused outcome ≡ true → (now ≡ before) × (warnings ≡ [])
 
 -- how a run over generated pages may end

@@ -1,5 +1,5 @@
 -- The sums over the pages of a run, as its jobs have added them up.
-use Rattle.std.specs.Prelude.{◌≡◌, ℕ, ◌-◌, ◌^◌, List, sum_by, min, Option, Some, IfSome, ⊤}
+use Rattle.std.specs.Prelude.{◌≡◌, ℕ, ◌-◌, ◌^◌, List, sum_by, min, Option, Some, None, IfSome, ⊤}
 use Rattle.std.specs.List.{All}
 use Rattle.page_check.specs.SynchronousAnswer.{End, reader_of}
 use Rattle.page_check.specs.Told.{Told, blocks_of}
@@ -47,8 +47,9 @@ pub record HasSums (m : Manner) (told : Option Told) (requests : List Request) (
       warnings total (Some End)
   pub sums_are : sums ≡ kept_sums total
 
--- of the blocks that a command asks for, where all were listed and the contents are told
+-- of the blocks that a command without a map asks for, where all were listed and the contents are
+-- told
 abbrev pub HasSumsTold : Option Told → Command → Outcome → PageSums → Type 0
 HasSumsTold told command outcome sums =
-    IfSome told (λ t. outcome ≡ Done
+    IfSome told (λ t. outcome ≡ Done → command.map ≡ None
     → HasSums (manner_by command.settings) (Some t) (requests_of (blocks_of t) command) sums)

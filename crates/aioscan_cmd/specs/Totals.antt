@@ -2,11 +2,12 @@
 use Rattle.std.specs.Prelude.{◌≡◌, ◌≢◌, ℕ, ◌+◌, ◌<◌, ◌≤◌, List, length, sum_by, Option, Some, None}
 use Rattle.std.specs.Prelude.{IfSome, true}
 use Rattle.std.specs.List.{All}
+use Rattle.page_check.specs.Told.{Told}
 use Rattle.aio_disk.specs.Counts.{ShelfCounts}
 use Rattle.aio_handle.specs.Executing.{last_count}
 use Rattle.scan_rounds.specs.declared.settings.MethodKind.TheVariants as method
 use Rattle.aioscan_cmd.specs.Command.{Command}
-use Rattle.aioscan_cmd.specs.Cutting.{requests_for}
+use Rattle.aioscan_cmd.specs.Cutting.{request_list_for}
 use Rattle.aioscan_cmd.specs.Outcomes.{is_refused}
 use Rattle.aioscan_cmd.specs.declared.cutter.Asked.{Asked}
 use Rattle.aioscan_cmd.specs.declared.report.Outcome.{Outcome}
@@ -43,12 +44,12 @@ pub record AreCounted (made : Option ℕ) (command : Option Command) (before now
   pub none : is_refused outcome ≡ true
       → (numbers.incarnations ≡ 0) × (numbers.by_workers ≡ 0) × (numbers.by_backends ≡ 0)
 
--- the numbers of a scan over disks that were not read before, which have counted so many reads by
--- now
-pub record AreOfScan {D : Type 0} (asked : Asked) (reads : D → ℕ) (disks : List D)
-    (numbers : Numbers) : Type 0 where
+-- the numbers of a scan whose map has given these pages, over disks that were not read before,
+-- which have counted so many reads by now
+pub record AreOfScan {D : Type 0} (asked : Asked) (told : Option Told) (given : ℕ → List ℕ)
+    (reads : D → ℕ) (disks : List D) (numbers : Numbers) : Type 0 where
   pub sum : numbers.incarnations ≡ numbers.by_workers + numbers.by_backends
   pub reads_are : All (λ d. reads d < last_count) disks
       → numbers.incarnations ≡ sum_by reads disks
-  pub few : numbers.incarnations ≤ length (requests_for asked)
+  pub few : numbers.incarnations ≤ length (request_list_for asked told given)
   pub no_workers : (asked.command.now).settings.method ≢ method.Worker → numbers.by_workers ≡ 0

@@ -1,6 +1,6 @@
 -- The words of a command: what they ask for, or that they are no command.
 use Rattle.std.specs.Prelude.{◌≡◌, ℕ, List, [], ◌∷◌, Option, Some, None, Bool, true, false, ◌&&◌}
-use Rattle.std.specs.Prelude.{length, nat_le, if◌then◌else◌, unwrap_or, codes}
+use Rattle.std.specs.Prelude.{length, nat_le, if◌then◌else◌, not, unwrap_or, codes}
 use Rattle.std.specs.List.{list_all}
 use Rattle.std.specs.Option.{option_map}
 use Rattle.std.specs.Str.{bytes_eq}
@@ -8,11 +8,14 @@ use Rattle.std.specs.Char.{is_ascii_digit}
 use Rattle.std.specs.Str.Parse.{digits_value}
 use Rattle.clap.specs.Words.{Row, Text, fault_of, matches_of, first_of, all_of}
 use Rattle.aioscan_cmd.specs.Grammar.{the_command}
-use Rattle.aioscan_cmd.specs.Command.{Command}
+use Rattle.aioscan_cmd.specs.Command.{Command, MapOption}
 use Rattle.aioscan_cmd.specs.Generated.{made_name}
+use Rattle.aioscan_cmd.specs.declared.words.map_option.MapOption.{MapOption as MapOfWords}
 use Rattle.scan_rounds.specs.declared.settings.MethodKind.{MethodKind}
 use Rattle.scan_rounds.specs.declared.settings.MethodKind.TheVariants as method
 use Rattle.scan_rounds.specs.declared.settings.ScanSettings.{ScanSettings}
+use Rattle.vis_map.specs.declared.map.Skip.{Skip}
+use Rattle.vis_map.specs.declared.map.Skip.TheVariants as skip
 
 -- at least one, and at most so many
 abbrev pub is_count : ℕ → ℕ → Bool
@@ -45,6 +48,12 @@ method_of (Some word) =
     if bytes_eq word (codes "sync") then Some method.Sync
     else if bytes_eq word (codes "worker") then Some method.Worker
     else if bytes_eq word (codes "ring") then Some method.Ring else None
+
+abbrev pub skip_of : Option Text → Option Skip
+skip_of None = Some skip.Visible
+skip_of (Some word) =
+    if bytes_eq word (codes "visible") then Some skip.Visible
+    else if bytes_eq word (codes "frozen") then Some skip.Frozen else None
 
 -- a flag that is given has the value `true`
 abbrev pub is_set : Option Text → Bool
@@ -127,17 +136,39 @@ abbrev pub source_with : Option (Option ℕ) → Option (Option ℕ) → Bool �
 source_with (Some from) (Some to) tuples (Some made) words = source_of from to tuples made words
 source_with _ _ _ _ _ = None
 
-abbrev pub command_with : Option Source → Option ScanSettings → Bool → Option Command
-command_with (Some source) (Some settings) stats =
+-- the option that the code keeps, as contracts see it
+abbrev pub map_seen : MapOfWords → MapOption
+map_seen map = record { name = map.name.now; skip = map.skip }
+
+-- a map has a name, which is not that of its file
+abbrev pub is_map_of : Text → Text → Bool
+is_map_of file name = is_name name && not (bytes_eq name file)
+
+abbrev pub map_of : Text → Text → Option Skip → Option (Option MapOption)
+map_of file name None = None
+map_of file name (Some skip) =
+    if is_map_of file name then Some (Some (record { name = name; skip = skip })) else None
+
+-- `--map` beside one FILE word, so not with `--make`, and `--skip` with `--map` alone
+abbrev pub map_with : Option Text → Option Text → Option (List Text) → Option (Option MapOption)
+map_with None None words = Some None
+map_with None (Some skip) words = None
+map_with (Some name) skip (Some (file ∷ [])) = map_of file name (skip_of skip)
+map_with (Some name) skip _ = None
+
+abbrev pub command_with : Option Source → Option (Option MapOption) → Option ScanSettings → Bool
+    → Option Command
+command_with (Some source) (Some map) (Some settings) stats =
     Some (record {
       from = source.from;
       to = source.to;
       files = source.files;
       made = source.made;
+      map = map;
       settings = settings;
       stats = stats;
     })
-command_with _ _ _ = None
+command_with _ _ _ _ = None
 
 -- what the values ask for that `clap` found in the words
 module _ (rows : List Row) where
@@ -158,6 +189,9 @@ module _ (rows : List Row) where
       (is_set (text_of (codes "zero-damaged")))
       (is_set (text_of (codes "tuples")))
 
+  abbrev pub map_in : Option (Option MapOption)
+  map_in = map_with (text_of (codes "map")) (text_of (codes "skip")) (all_of (codes "FILE") rows)
+
   abbrev pub command_in : Option Command
   command_in = command_with
       (source_with
@@ -166,6 +200,7 @@ module _ (rows : List Row) where
       (is_set (text_of (codes "tuples")))
       (number_if_given 1 4096 (text_of (codes "make")))
       (all_of (codes "FILE") rows))
+      map_in
       settings_in
       (is_set (text_of (codes "stats")))
 

@@ -1,21 +1,26 @@
 //! A scan by any method.
-ghost use Rattle.std.specs.Prelude.{◌≡◌, ◌≢◌, ◌≤◌, ◌+◌, ◌*◌, ℕ, length, IfErr, IfOk};
+ghost use Rattle.std.specs.Prelude.{◌≡◌, ◌≢◌, ◌≤◌, ◌<◌, ◌+◌, ◌*◌, ℕ, [], length, None, IfErr, IfOk};
 ghost use Rattle.std.specs.List.{All};
 ghost use Rattle.aio_disk.specs.Counts.{raised_by};
 ghost use Rattle.scan_rounds.specs.Hands.{meter};
 ghost use Rattle.scan_rounds.specs.Opening.{AreSettings, workers_in};
-ghost use Rattle.scan_rounds.specs.Rounds.{taken_by};
+ghost use Rattle.scan_rounds.specs.Jobs.{unread_in};
+ghost use Rattle.scan_rounds.specs.Rounds.{IsMapRead, taken_by};
+ghost use Rattle.scan_rounds.specs.Skipping.{skips_by};
 ghost use Rattle.scan_rounds.specs.Scans.{IsFinished, IsScan, IsSameScan};
 ghost use Rattle.scan_rounds.specs.Scans.{hands_of, lists_of, manner_in, opened_by};
+ghost use Rattle.aioscan_cmd.specs.Listing.{skips_by_map};
 ghost use Rattle.aioscan_cmd.specs.Scanning.{IsNewScan, scan_in};
 
+use crate::lister::ByMap;
 use aio_disk::Disk;
 use aio_handle::Totals;
 use page_check::World;
-use scan_rounds::{Agenda, MethodKind, RingScan, Scan, ScanSettings};
+use scan_rounds::{Agenda, Ending, MethodKind, RingScan, Scan, ScanSettings};
 use std::alloc::Global;
 use std::sync::Wait;
 use std::thread::Threads;
+use vis_map::{Skip, VisMap};
 
 /// A scan by any method.
 #[derive(Drop)]
@@ -94,6 +99,39 @@ impl<W: World, D: Disk> AnyScan<W, D> {
         }
     }
 
+    /// Reads the pages of a visibility map, by the first backend: as many as the map was opened
+    /// for.
+    pub(crate) fn map<R: Wait>(
+        &mut self,
+        rt: &R,
+        relation: u32,
+        map: &mut VisMap,
+        warnings: &mut Vec<u8>,
+    ) -> Ending
+        requires scan { IsScan (meter D.told D.relations D.reads D.faults) W.told W.relations
+            (scan_in self.old) }
+        requires none { (map.old.added ≡ []) × (warnings.old.items ≡ []) }
+        requires relation { relation < W.relations }
+        requires room { 65 ≤ (scan_in self.old).room }
+        ensures scan { IsScan (meter D.told D.relations D.reads D.faults) W.told W.relations
+            (scan_in self.new) }
+        ensures same { IsSameScan (scan_in self.old) (scan_in self.new) }
+        ensures read { IsMapRead (manner_in (scan_in self.old)) W.told
+            (scan_in self.old).backends.items (scan_in self.new).backends.items relation
+            map.old.pages map.new warnings.new.items result }
+        ensures pages { map.new.pages ≡ map.old.pages }
+        ensures room { (scan_in self.old).room ≤ (scan_in self.new).room + 65 }
+        ensures unread { (scan_in self.new).unread
+            ≡ raised_by (unread_in result) (scan_in self.old).unread }
+        ensures taken { taken_by (scan_in self.new).backends.items
+            ≤ taken_by (scan_in self.old).backends.items + map.old.pages }
+    {
+        match self {
+            AnyScan::Plain(scan) => scan.map(rt, relation, map, warnings),
+            AnyScan::Rings(scan) => scan.map(rt, relation, map, warnings),
+        }
+    }
+
     /// Closes the table. The disks come back.
     pub(crate) fn finish(self) -> (Totals, Vec<D>)
         requires scan { IsScan (meter D.told D.relations D.reads D.faults) W.told W.relations
@@ -111,12 +149,13 @@ impl<W: World, D: Disk> AnyScan<W, D> {
 }
 
 impl<W: World + Send + Sync, D: Disk> AnyScan<W, D> {
-    /// All rounds of an agenda, until it is over. It may wait.
-    pub(crate) fn run<R: Threads + Wait + Sync, A: Agenda<W>>(&mut self, rt: &R, agenda: A) -> A
+    // All rounds of an agenda, until it is over.
+    fn run<R: Threads + Wait + Sync, A: Agenda<W>>(&mut self, rt: &R, agenda: A) -> A
         requires scan { IsScan (meter D.told D.relations D.reads D.faults) W.told W.relations
             (scan_in self.old) }
         requires room { 64 * A.left agenda ≤ (scan_in self.old).room }
         requires manner { A.manner agenda ≡ manner_in (scan_in self.old) }
+        requires skips { A.skips agenda ≡ None }
         ensures scan { IsScan (meter D.told D.relations D.reads D.faults) W.told W.relations
             (scan_in self.new) }
         ensures same { IsSameScan (scan_in self.old) (scan_in self.new) }
@@ -125,12 +164,72 @@ impl<W: World + Send + Sync, D: Disk> AnyScan<W, D> {
         ensures unread { (more : ℕ) × ((scan_in self.new).unread
             ≡ raised_by more (scan_in self.old).unread)
             × (A.unread result ≤ A.unread agenda + more) }
-        ensures taken { taken_by (scan_in self.new).backends.items + A.left result
-            ≤ taken_by (scan_in self.old).backends.items + A.left agenda }
+        ensures taken { taken_by (scan_in self.new).backends.items + A.due result
+            ≤ taken_by (scan_in self.old).backends.items + A.due agenda }
     {
         match self {
             AnyScan::Plain(scan) => scan.run(rt, agenda),
             AnyScan::Rings(scan) => scan.run(rt, agenda),
+        }
+    }
+
+    // The same, without the blocks that the map marks.
+    fn run_filtered<R: Threads + Wait + Sync, A: Agenda<W>>(
+        &mut self,
+        rt: &R,
+        agenda: A,
+        map: &VisMap,
+        skip: Skip,
+    ) -> A
+        requires scan { IsScan (meter D.told D.relations D.reads D.faults) W.told W.relations
+            (scan_in self.old) }
+        requires room { 64 * A.left agenda ≤ (scan_in self.old).room }
+        requires manner { A.manner agenda ≡ manner_in (scan_in self.old) }
+        requires skips { A.skips agenda ≡ skips_by map.now skip }
+        ensures scan { IsScan (meter D.told D.relations D.reads D.faults) W.told W.relations
+            (scan_in self.new) }
+        ensures same { IsSameScan (scan_in self.old) (scan_in self.new) }
+        ensures follows { A.follows agenda result }
+        ensures over { A.is_over result }
+        ensures unread { (more : ℕ) × ((scan_in self.new).unread
+            ≡ raised_by more (scan_in self.old).unread)
+            × (A.unread result ≤ A.unread agenda + more) }
+        ensures taken { taken_by (scan_in self.new).backends.items + A.due result
+            ≤ taken_by (scan_in self.old).backends.items + A.due agenda }
+    {
+        match self {
+            AnyScan::Plain(scan) => scan.run_filtered(rt, agenda, map, skip),
+            AnyScan::Rings(scan) => scan.run_filtered(rt, agenda, map, skip),
+        }
+    }
+
+    /// All rounds of an agenda, until it is over, without the blocks that the map marks, where
+    /// there is one. It may wait.
+    pub(crate) fn run_by<R: Threads + Wait + Sync, A: Agenda<W>>(
+        &mut self,
+        rt: &R,
+        by_map: Option<ByMap<'_>>,
+        agenda: A,
+    ) -> A
+        requires scan { IsScan (meter D.told D.relations D.reads D.faults) W.told W.relations
+            (scan_in self.old) }
+        requires room { 64 * A.left agenda ≤ (scan_in self.old).room }
+        requires manner { A.manner agenda ≡ manner_in (scan_in self.old) }
+        requires skips { A.skips agenda ≡ skips_by_map by_map }
+        ensures scan { IsScan (meter D.told D.relations D.reads D.faults) W.told W.relations
+            (scan_in self.new) }
+        ensures same { IsSameScan (scan_in self.old) (scan_in self.new) }
+        ensures follows { A.follows agenda result }
+        ensures over { A.is_over result }
+        ensures unread { (more : ℕ) × ((scan_in self.new).unread
+            ≡ raised_by more (scan_in self.old).unread)
+            × (A.unread result ≤ A.unread agenda + more) }
+        ensures taken { taken_by (scan_in self.new).backends.items + A.due result
+            ≤ taken_by (scan_in self.old).backends.items + A.due agenda }
+    {
+        match by_map {
+            None => self.run(rt, agenda),
+            Some(ByMap { map, skip }) => self.run_filtered(rt, agenda, map, skip),
         }
     }
 }

@@ -5,13 +5,16 @@ ghost use Rattle.aioscan_cmd.specs.Command.{number_limit};
 ghost use Rattle.scan_rounds.specs.Opening.{AreSettings};
 ghost use Rattle.aioscan_cmd.specs.RequestList.{block_range};
 ghost use Rattle.aioscan_cmd.specs.Cutting.{IsAsked, IsJobRange, left_at, left_here, name_at};
-ghost use Rattle.aioscan_cmd.specs.Cutting.{requests_for, settings_for};
+ghost use Rattle.aioscan_cmd.specs.Cutting.{HasMap, greatest_in, map_pages_of, requests_for};
+ghost use Rattle.aioscan_cmd.specs.Cutting.{settings_for};
+ghost use Rattle.vis_map.specs.declared.map.Skip.{Skip};
 
 use crate::relations::Relations;
 use crate::words::Command;
 use page_check::World;
 use scan_rounds::ScanSettings;
 use std::marker::{Model, PhantomData};
+use vis_map::needed_pages;
 
 // At most so many blocks has a job.
 const JOB_BLOCKS: u32 = 64;
@@ -37,6 +40,32 @@ impl Asked<'_, '_> {
             segment: self.segment,
             ..self.command.settings()
         }
+    }
+
+    // The greatest block that the one file of a map asks for.
+    fn greatest(&self) -> Option<u32>
+        requires asked { IsAsked self.now }
+        requires map { (skip : Skip) × HasMap self.now skip }
+        ensures block { result ≡ greatest_in self.now }
+        ensures below { IfSome result (λ block. block < number_limit) }
+    {
+        let relation = self.relations.number_of(self.command.files()[0]);
+        let count = self.command.asked_count(self.lengths[relation as usize]);
+        if count == 0 {
+            None
+        } else {
+            Some(self.command.first_block() + (count - 1))
+        }
+    }
+
+    /// How many pages of the map are read: those that have bits of blocks that are asked for.
+    pub(crate) fn map_pages(&self) -> u32
+        requires asked { IsAsked self.now }
+        requires map { (skip : Skip) × HasMap self.now skip }
+        ensures pages { result ≡ map_pages_of self.now }
+        ensures few { result ≤ 65 }
+    {
+        needed_pages(self.lengths[1], self.greatest())
     }
 }
 

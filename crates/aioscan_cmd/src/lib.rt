@@ -8,10 +8,12 @@
 #![tactic(auto)]
 
 mod any_scan;
+mod by_map;
 mod cutter;
 mod disks;
 mod error_line;
 mod generated;
+mod in_rounds;
 mod lengths;
 mod lister;
 mod made;

@@ -1,5 +1,6 @@
 //! Lists by rounds what a command asks for.
-ghost use Rattle.std.specs.Prelude.{◌≡◌, ◌≢◌, ◌≤◌, ◌++◌, ◌∷◌, [], length, take, false, IsErrOf};
+ghost use Rattle.std.specs.Prelude.{◌≡◌, ◌≢◌, ◌≤◌, ◌++◌, ◌∷◌, [], length, take, false, None};
+ghost use Rattle.std.specs.Prelude.{IsErrOf};
 ghost use Rattle.std.specs.List.{All};
 ghost use Rattle.scan_rounds.specs.Jobs.{IsFresh, unread_among};
 ghost use Rattle.aioscan_cmd.specs.Reading.{HasWritten};
@@ -19,11 +20,21 @@ use aio_disk::{Sink, WriteFault};
 use heap_scan::PageSums;
 use page_check::World;
 use scan_rounds::{Agenda, Ending, Job};
+use vis_map::{Skip, VisMap};
+
+/// A map in memory, and which of the blocks that it marks are left out.
+#[derive(Clone, Copy)]
+pub(crate) struct ByMap<'m> {
+    pub(crate) map: &'m VisMap,
+    pub(crate) skip: Skip,
+}
 
 /// What a run has still to list, and where to.
 #[derive(Drop)]
-pub(crate) struct Lister<'a, 'e, 'w, W: World, O: Sink, E: Sink> {
+pub(crate) struct Lister<'a, 'e, 'm, 'w, W: World, O: Sink, E: Sink> {
     pub(crate) blocks: Cutter<'a, 'w, W>,
+    /// The map by which blocks are left out, where there is one.
+    pub(crate) by_map: Option<ByMap<'m>>,
     pub(crate) out: &'a mut O,
     pub(crate) err: &'e mut E,
     /// How much of the warnings so far reached the error stream.
@@ -42,7 +53,7 @@ pub(crate) struct Lister<'a, 'e, 'w, W: World, O: Sink, E: Sink> {
 fn fill<W: World>(blocks: &mut Cutter<'_, '_, W>, jobs: &mut [Job]) -> usize
     ensures few { (result ≤ length jobs.new) × (length jobs.new ≡ length jobs.old) }
     ensures fresh { All (IsFresh W.relations) (take result jobs.new) }
-    ensures cut { blocks.old ≡ requests_in (take result jobs.new) ++ blocks.new }
+    ensures cut { blocks.old ≡ requests_in None (take result jobs.new) ++ blocks.new }
     ensures none { 1 ≤ length jobs.old → result ≡ 0 → blocks.new ≡ [] }
 {
     for place in 0..jobs.len() {
@@ -54,15 +65,15 @@ fn fill<W: World>(blocks: &mut Cutter<'_, '_, W>, jobs: &mut [Job]) -> usize
     jobs.len()
 }
 
-// What a job ended in.
-fn outcome_of(job: &Job) -> Outcome
-    ensures { result ≡ outcome_for job.now.relation job.now.ending }
+/// The outcome where blocks of this relation ended so.
+pub(crate) fn outcome_of(relation: u32, ending: Ending) -> Outcome
+    ensures { result ≡ outcome_for relation ending }
 {
-    match job.ending {
+    match ending {
         Ending::Pages => Outcome::Done,
-        Ending::Invalid(block) => Outcome::Invalid(job.relation, block),
-        Ending::Unread(block) => Outcome::Unread(job.relation, block),
-        Ending::PastEnd(block) => Outcome::Missing(job.relation, block),
+        Ending::Invalid(block) => Outcome::Invalid(relation, block),
+        Ending::Unread(block) => Outcome::Unread(relation, block),
+        Ending::PastEnd(block) => Outcome::Missing(relation, block),
         Ending::NoMemory => Outcome::NoMemory,
     }
 }
@@ -90,7 +101,7 @@ fn write_job<O: Sink, E: Sink>(job: &Job, out: &mut O, line: Line, err: &mut E) 
 {
     match write_text(job.text.as_slice(), out) {
         Ok(()) => (
-            outcome_of(job),
+            outcome_of(job.relation, job.ending),
             write_warnings(line, job.warnings.as_slice(), err),
         ),
         Err(WriteFault::Device) => (Outcome::CannotWrite, line),
@@ -150,12 +161,18 @@ fn goes_on(outcome: Outcome) -> bool
     }
 }
 
-impl<'a, 'e, 'w, W: World, O: Sink, E: Sink> Agenda<W> for Lister<'a, 'e, 'w, W, O, E> {
+impl<'a, 'e, 'm, 'w, W: World, O: Sink, E: Sink> Agenda<W> for Lister<'a, 'e, 'm, 'w, W, O, E> {
     ghost use Rattle.std.specs.Prelude.{length};
     ghost use Rattle.std.proofs.Common.{refl, ◌∙◌};
-    ghost use Rattle.aioscan_cmd.specs.Listing.{unread_count, manner_in, IsOver, Puts, Follows};
+    ghost use Rattle.scan_rounds.specs.Skipping.{kept_of};
+    ghost use Rattle.aioscan_cmd.specs.Listing.{unread_count, manner_in, skips_in};
+    ghost use Rattle.aioscan_cmd.specs.Listing.{IsOver, Puts, Follows};
 
     ghost left = { λ l. length l.blocks };
+
+    ghost due = { λ l. length (kept_of (skips_in l) l.blocks) };
+
+    ghost skips = { skips_in };
 
     ghost unread = { λ l. unread_count l.outcome };
 
@@ -187,12 +204,12 @@ impl<'a, 'e, 'w, W: World, O: Sink, E: Sink> Agenda<W> for Lister<'a, 'e, 'w, W,
         }
     }
 
-    ghost follows_itself = { λ a. (refl, refl, λ m all before faults errors was. was) };
+    ghost follows_itself = { λ a. (refl, refl, λ skips m all before faults errors was. was) };
 
     ghost follows_on = { λ a b c first second. (
       second.0 ∙ first.0,
       second.1 ∙ first.1,
-      λ m all before faults errors was.
-          second.2 m all before faults errors (first.2 m all before faults errors was),
+      λ skips m all before faults errors was.
+          second.2 skips m all before faults errors (first.2 skips m all before faults errors was),
     ) };
 }

@@ -1,4 +1,4 @@
-//! The relations of a command: the distinct names of its files.
+//! The relations of a command: the distinct names of its files, and that of its map behind them.
 ghost use Rattle.std.specs.Prelude.{◌≡◌, ◌<◌, ◌≤◌, ◌++◌, ◌∷◌, [], List, ℕ, length, map, IfOk, OnOk};
 ghost use Rattle.std.specs.Prelude.{string_bytes};
 ghost use Rattle.std.specs.List.{list_any, position};
@@ -41,7 +41,8 @@ fn distinct_names(alloc: Global, files: &[&str]) -> Result<Vec<String>, AllocErr
     Ok(names)
 }
 
-/// The relations of a command: the distinct names of its files, which is how contracts see them.
+/// The relations of a command: the distinct names of its files, and that of its map, where there is
+/// one, behind them. These names are how contracts see them.
 #[derive(Drop)]
 pub(crate) struct Relations {
     names: Vec<String>,
@@ -62,7 +63,10 @@ impl Relations {
     pub(crate) fn of(alloc: Global, command: &Command<'_>) -> Result<Relations, AllocError>
         ensures { IfOk result (λ relations. relations ≡ relations_of command.now) }
     {
-        let names = distinct_names(alloc, command.files())?;
+        let mut names = distinct_names(alloc, command.files())?;
+        if let Some(map) = command.map() {
+            names.push(String::from_str(alloc, map.name)?)?;
+        }
         Ok(Relations { names })
     }
 

@@ -1,5 +1,5 @@
 //! Lists over opened disks what a command asks for.
-ghost use Rattle.std.specs.Prelude.{◌≡◌, ◌≢◌, ◌<◌, ◌≤◌, ◌+◌, ◌*◌, ◌^◌, ℕ, length, sum_by};
+ghost use Rattle.std.specs.Prelude.{◌≡◌, ◌≢◌, ◌<◌, ◌≤◌, ◌+◌, ◌*◌, ◌^◌, ℕ, List, length, sum_by};
 ghost use Rattle.std.specs.Prelude.{None, Some, true, vec_len, vec_capacity};
 ghost use Rattle.std.specs.List.{All};
 ghost use Rattle.aio_disk.specs.Shelf.{told_of};
@@ -8,10 +8,10 @@ ghost use Rattle.scan_rounds.specs.Opening.{AreSettings};
 ghost use Rattle.scan_rounds.specs.Rounds.{taken_by};
 ghost use Rattle.scan_rounds.specs.Scans.{IsScan, IsSameScan, manner_in};
 ghost use Rattle.aioscan_cmd.specs.Command.{manner_by, relations_of};
-ghost use Rattle.aioscan_cmd.specs.Cutting.{IsAsked, requests_for, settings_for};
+ghost use Rattle.aioscan_cmd.specs.Cutting.{IsAsked, request_list_for, requests_for, settings_for};
 ghost use Rattle.aioscan_cmd.specs.Disks.{IsUnread, disks_of};
 ghost use Rattle.aioscan_cmd.specs.Lengths.{HasLengths};
-ghost use Rattle.aioscan_cmd.specs.Reading.{Lists, HasWritten, seen};
+ghost use Rattle.aioscan_cmd.specs.Reading.{Lists, HasWritten, seen, way_by};
 ghost use Rattle.aioscan_cmd.specs.Run.{Ran};
 ghost use Rattle.aioscan_cmd.specs.Scanning.{scan_in};
 ghost use Rattle.aioscan_cmd.specs.Causes.{HasScanned, HasCauses, CallsInOrder};
@@ -20,10 +20,10 @@ ghost use Rattle.aioscan_cmd.specs.Sums.{HasSums, HasSumsTold};
 ghost use Rattle.aioscan_cmd.specs.Totals.{AreCounted, AreOfScan};
 
 use crate::any_scan::AnyScan;
-use crate::cutter::{Asked, Cutter};
+use crate::by_map::list_asked;
+use crate::cutter::Asked;
 use crate::disks::{open_others, take_all_back};
 use crate::lengths::take_lengths;
-use crate::lister::Lister;
 use crate::relations::Relations;
 use crate::report::{Numbers, RunEnd};
 use crate::words::Command;
@@ -36,68 +36,6 @@ use std::alloc::Global;
 use std::marker::Brand;
 use std::sync::Wait;
 use std::thread::Threads;
-
-// Ends the loan of a sink.
-fn give_back<O: Sink>(out: &mut O)
-    ensures { out.new ≡ out.old }
-{
-    let _ = out;
-}
-
-// Lists by rounds what is asked for.
-fn list_rounds<W: World + Send + Sync, D: Disk, O: Sink, E: Sink, R: Threads + Wait + Sync>(
-    rt: &R,
-    scan: &mut AnyScan<W, D>,
-    asked: Asked<'_, '_>,
-    out: &mut O,
-    err: &mut E,
-) -> (Outcome, Line, PageSums)
-    requires scan { IsScan (meter D.told D.relations D.reads D.faults) W.told W.relations
-        (scan_in scan.old) }
-    requires room { 2 ^ 37 ≤ (scan_in scan.old).room }
-    requires asked { IsAsked asked }
-    requires manner { manner_in (scan_in scan.old) ≡ manner_by (settings_for asked) }
-    requires world { W.relations ≡ length asked.relations.now }
-    ensures scan { IsScan (meter D.told D.relations D.reads D.faults) W.told W.relations
-        (scan_in scan.new) }
-    ensures same { IsSameScan (scan_in scan.old) (scan_in scan.new) }
-    ensures lists { Warns (Lists (manner_by (settings_for asked.entry)) W.told
-        (requests_for asked.entry) (O.written out.old) (O.written out.new) result.0)
-        (error_stream Line.Whole (E.written err.old) (E.faults err.old))
-        (error_stream result.1 (E.written err.new) (E.faults err.new)) }
-    ensures writes { HasWritten (O.faults out.old) (O.faults out.new) result.0 }
-    ensures sums { result.0 ≡ Outcome.Done
-        → HasSums (manner_by (settings_for asked.entry)) W.told (requests_for asked.entry)
-        result.2 }
-    ensures taken { taken_by (scan_in scan.new).backends.items
-        ≤ taken_by (scan_in scan.old).backends.items + length (requests_for asked.entry) }
-    ensures unread { (r b : ℕ) → result.0 ≡ Outcome.Unread r b → 0 < (scan_in scan.new).unread }
-{
-    let blocks = Cutter::<W>::of(asked);
-    let settings = asked.command.settings();
-    let lister = Lister {
-        blocks,
-        out,
-        err,
-        line: Line::Whole,
-        zero: settings.zero,
-        tuples: settings.tuples,
-        outcome: Outcome::Done,
-        sums: PageSums::default(),
-    };
-    let lister = scan.run(rt, lister);
-    let Lister {
-        out,
-        err,
-        line,
-        outcome,
-        sums,
-        ..
-    } = lister;
-    give_back(out);
-    give_back(err);
-    (outcome, line, sums)
-}
 
 // Lists what is asked for, over a disk for each backend and each worker. The disks come back.
 fn list_disks<W: World + Send + Sync, D: Disk, O: Sink, E: Sink, R: Threads + Wait + Sync>(
@@ -115,15 +53,16 @@ fn list_disks<W: World + Send + Sync, D: Disk, O: Sink, E: Sink, R: Threads + Wa
         W.relations asked.segment) disks.items }
     requires handles { (settings_for asked).backends * (settings_for asked).handles
         ≡ W.handles }
-    ensures lists { Warns (Lists (manner_by (settings_for asked.entry)) W.told
-        (requests_for asked.entry) (O.written out.old) (O.written out.new) result.1.outcome)
+    ensures listed { (given : ℕ → List ℕ) × Warns (Lists (way_by asked.entry.command.now) W.told
+        (request_list_for asked.entry W.told given) (O.written out.old) (O.written out.new)
+        result.1.outcome)
         (error_stream Line.Whole (E.written err.old) (E.faults err.old))
-        (error_stream result.1.line (E.written err.new) (E.faults err.new)) }
+        (error_stream result.1.line (E.written err.new) (E.faults err.new))
+        × AreOfScan asked.entry W.told given D.reads result.0.items result.1.numbers }
     ensures writes { HasWritten (O.faults out.old) (O.faults out.new) result.1.outcome }
     ensures unread { (r b : ℕ) → result.1.outcome ≡ Outcome.Unread r b
         → 0 < sum_by D.faults result.0.items }
-    ensures counted { AreOfScan asked.entry D.reads result.0.items result.1.numbers }
-    ensures sums { result.1.outcome ≡ Outcome.Done
+    ensures sums { result.1.outcome ≡ Outcome.Done → (asked.entry.command.now).map ≡ None
         → HasSums (manner_by (settings_for asked.entry)) W.told (requests_for asked.entry)
         result.1.sums }
 {
@@ -132,7 +71,7 @@ fn list_disks<W: World + Send + Sync, D: Disk, O: Sink, E: Sink, R: Threads + Wa
         Ok(scan) => scan,
         Err(disks) => return (disks, RunEnd::without_reads(Outcome::NoMemory)),
     };
-    let (outcome, line, sums) = list_rounds(rt, &mut scan, asked, out, err);
+    let (outcome, line, sums) = list_asked(rt, alloc, &mut scan, asked, out, err);
     let (totals, disks) = scan.finish();
     let numbers = Numbers {
         incarnations: totals.incarnations(),
@@ -181,15 +120,15 @@ fn open_and_list<W: World + Send + Sync, S: Shelf, O: Sink, E: Sink, R: Threads 
         S.Disk.reads W.told W.relations asked.segment) disks.items }
     requires room { (vec_len disks ≤ 1) × (disks_of (settings_for asked)
         ≤ vec_capacity disks) }
-    ensures scanned { Warns (HasScanned asked.entry W.told (O.written out.old)
-        (O.written out.new) (S.counts shelf.old) (S.counts shelf.new)
+    ensures scanned { (given : ℕ → List ℕ) × Warns (HasScanned asked.entry given W.told
+        (O.written out.old) (O.written out.new) (S.counts shelf.old) (S.counts shelf.new)
         (sum_by S.Disk.faults result.0.items) (sum_by S.Disk.reads result.0.items)
         result.1.outcome)
         (error_stream Line.Whole (E.written err.old) (E.faults err.old))
-        (error_stream result.1.line (E.written err.new) (E.faults err.new)) }
+        (error_stream result.1.line (E.written err.new) (E.faults err.new))
+        × AreOfScan asked.entry W.told given S.Disk.reads result.0.items result.1.numbers }
     ensures writes { HasWritten (O.faults out.old) (O.faults out.new) result.1.outcome }
-    ensures counted { AreOfScan asked.entry S.Disk.reads result.0.items result.1.numbers }
-    ensures sums { result.1.outcome ≡ Outcome.Done
+    ensures sums { result.1.outcome ≡ Outcome.Done → (asked.entry.command.now).map ≡ None
         → HasSums (manner_by (settings_for asked.entry)) W.told (requests_for asked.entry)
         result.1.sums }
     ensures sure { S.surely_opens shelf.old asked.entry.relations.now ≡ true

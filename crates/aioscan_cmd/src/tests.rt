@@ -2,7 +2,11 @@
 mod failing;
 mod gate;
 mod made;
+mod map_reads;
+mod map_runs;
+mod map_words;
 mod outside;
+mod random_maps;
 mod reads;
 mod rows;
 mod segments;

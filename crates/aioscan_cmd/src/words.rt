@@ -1,18 +1,22 @@
 //! The words of a command.
-ghost use Rattle.std.specs.Prelude.{◌≡◌, ◌<◌, ◌≤◌, map, length, None, Some, IfOk, IfErr};
+ghost use Rattle.std.specs.Prelude.{◌≡◌, ◌<◌, ◌≤◌, ◌+◌, map, length, None, Some, IfOk, IfErr};
 ghost use Rattle.std.specs.Prelude.{string_bytes, codes, true, IfSome, if◌then◌else◌};
+ghost use Rattle.std.specs.Option.{option_map};
 ghost use Rattle.clap.specs.Words.{rows_of, found_of, all_of};
 ghost use Rattle.aioscan_cmd.specs.Command.{number_limit, first_block, asked_count};
 ghost use Rattle.aioscan_cmd.specs.Command.{IsBelow};
-ghost use Rattle.aioscan_cmd.specs.Command.{HasNoRange, IsMade, made_limit};
+ghost use Rattle.aioscan_cmd.specs.Command.{HasNoRange, IsMade, IsMapOf, made_limit};
 ghost use Rattle.aioscan_cmd.specs.Words.{command_in, command_of, files_by, source_of, NamesSource};
+ghost use Rattle.aioscan_cmd.specs.Words.{map_seen};
 ghost use Rattle.scan_rounds.specs.Opening.{AreSettings};
 
 mod grammar;
+mod map_option;
 mod values;
 
 use clap::ArgMatches;
 use clap::error::ErrorKind;
+pub(crate) use map_option::MapOption;
 use scan_rounds::ScanSettings;
 use std::alloc::Global;
 use std::marker::Model;
@@ -42,14 +46,18 @@ pub(crate) struct Command<'a> {
     from: Option<u32>,
     to: Option<u32>,
     made: Option<u32>,
+    map: Option<MapOption<'a>>,
     settings: ScanSettings,
     stats: bool,
 }
 
 impl<'a> Model for Command<'a> {
+    ghost use Rattle.std.specs.Option.{option_map};
+    ghost use Rattle.std.specs.Prelude.{IfSome};
     ghost use Rattle.clap.specs.Words.{rows_of, found_of};
-    ghost use Rattle.aioscan_cmd.specs.Command.{Command, HasNoRange, IsBelow, number_limit};
-    ghost use Rattle.aioscan_cmd.specs.Words.{NamesSource, files_by};
+    ghost use Rattle.aioscan_cmd.specs.Command.{Command, HasNoRange, IsBelow, IsMapOf};
+    ghost use Rattle.aioscan_cmd.specs.Command.{number_limit};
+    ghost use Rattle.aioscan_cmd.specs.Words.{NamesSource, files_by, map_seen};
     ghost use Rattle.scan_rounds.specs.Opening.{AreSettings};
 
     ghost Value = { Command };
@@ -59,13 +67,16 @@ impl<'a> Model for Command<'a> {
       to = c.to;
       files = files_by c.made (rows_of (found_of c.matches));
       made = c.made;
+      map = option_map map_seen c.map;
       settings = c.settings;
       stats = c.stats;
     } };
 
     ghost invariant = { λ c. IsBelow c.from number_limit × IsBelow c.to number_limit
         × NamesSource c.made (rows_of (found_of c.matches)) × HasNoRange c.made c.from c.to
-        × AreSettings c.settings };
+        × AreSettings c.settings
+        × IfSome (option_map map_seen c.map) (IsMapOf c.made
+        (files_by c.made (rows_of (found_of c.matches)))) };
 }
 
 // Whether FILE words are listed, or generated pages, all of them.
@@ -105,6 +116,7 @@ impl<'a> Command<'a> {
         if !is_source(&matches, from, to, tuples, made) {
             return None;
         }
+        let map = map_option::map_given(&matches)?;
         let settings = values::settings(&matches)?;
         let stats = values::flag(&matches, "stats");
         Some(Command {
@@ -112,6 +124,7 @@ impl<'a> Command<'a> {
             from,
             to,
             made,
+            map,
             settings,
             stats,
         })
@@ -136,6 +149,14 @@ impl<'a> Command<'a> {
         self.made
     }
 
+    /// The map of the one file, where it is given.
+    pub(crate) fn map(&self) -> Option<MapOption<'a>>
+        ensures map { option_map map_seen result ≡ (self.now).map }
+        ensures is { IfSome (option_map map_seen result) (IsMapOf (self.now).made self.now.files) }
+    {
+        self.map
+    }
+
     /// The first block of each file.
     pub(crate) fn first_block(&self) -> u32
         ensures block { result ≡ first_block self.now }
@@ -156,6 +177,8 @@ impl<'a> Command<'a> {
     pub(crate) fn asked_count(&self, length: u32) -> u32
         ensures count { result ≡ asked_count self.now length }
         ensures few { length ≤ number_limit → result ≤ number_limit }
+        ensures end { length ≤ number_limit → 1 ≤ result
+            → first_block self.now + result ≤ number_limit }
     {
         let after = match self.last_block() {
             Some(last) => last + 1,

@@ -8,7 +8,8 @@ use Rattle.aio_disk.specs.Counts.{raised_by}
 use Rattle.aio_handle.specs.Shown.{Named}
 use Rattle.method_worker.specs.Shown.{Queue}
 use Rattle.scan_rounds.specs.Hands.{Meter, MayRun}
-use Rattle.scan_rounds.specs.Jobs.{IsFresh, blocks_among, unread_among}
+use Rattle.scan_rounds.specs.Jobs.{IsFresh, kept_among, unread_among}
+use Rattle.scan_rounds.specs.Skipping.{Skips}
 use Rattle.scan_rounds.specs.Progress.{AreWaiting}
 use Rattle.scan_rounds.specs.Rounds.{Swapped, AllRan, AllGoOn, AreListed, IsLeastRoom, hand_of}
 use Rattle.scan_rounds.specs.Rounds.{AllListIn, taken_by}
@@ -20,7 +21,8 @@ use Rattle.scan_rounds.proofs.Again.{waiting_in}
 use Rattle.scan_rounds.proofs.Rooms.{least_falls}
 use Rattle.scan_rounds.proofs.Rounding.{all_may, backends_after, idle_after, listed_after}
 use Rattle.scan_rounds.proofs.Rounding.{goes_on_after, taken_after, unread_after, same_length}
-use Rattle.scan_rounds.proofs.Rounding.{goes_after, lived_after, raised_within, manner_after}
+use Rattle.scan_rounds.proofs.Rounding.{goes_after, lived_after, manner_after}
+use Rattle.scan_rounds.proofs.Raised.{raised_within}
 
 module _ {W D : Type 0} (m : Meter D) (told : Option Told) (relations : ℕ) (s : Scan W D)
     (t : Named) (q : Queue) (bs cs : List (Backend W D)) (js ks : List Job)
@@ -43,19 +45,21 @@ module _ {W D : Type 0} (m : Meter D) (told : Option Told) (relations : ℕ) (s 
   round_may = all_may m told relations t q bs cs js ks s.room waiting.backends waiting.idle fresh
       within enough waiting.room.have swapped
 
-  pub record IsDone (fs : List (Backend W D)) (ls : List Job) (room unread : ℕ) : Type 0 where
+  pub record IsDone (skips : Option Skips) (fs : List (Backend W D)) (ls : List Job)
+      (room unread : ℕ) : Type 0 where
     pub now : AreWaiting m told relations t q fs (record { room = room; unread = unread })
     pub go_on : AllGoOn m told relations t (map hand_of bs) (map hand_of fs)
     pub many : length fs ≡ length bs
-    pub listed : AreListed (manner_in s) told s.backends.items fs js ls
+    pub listed : AreListed skips (manner_in s) told s.backends.items fs js ls
     pub all_list_in : AllListIn (manner_in s) fs
     pub fallen : s.room ≤ room + 64
-    pub taken : taken_by fs ≤ taken_by s.backends.items + blocks_among js
+    pub taken : taken_by fs ≤ taken_by s.backends.items + kept_among skips js
 
-  pub round_done : (es fs : List (Backend W D)) (ls : List Job) (room unread : ℕ)
-      → AllRan m told relations t q cs es → Swapped es fs ks ls → IsLeastRoom fs room
-      → unread ≡ raised_by (unread_among ls) s.unread → IsDone fs ls room unread
-  round_done es fs ls room unread ran again least raised =
+  pub round_done : {skips : Option Skips} (es fs : List (Backend W D)) (ls : List Job)
+      (room unread : ℕ) → AllRan m told relations t q skips cs es → Swapped es fs ks ls
+      → IsLeastRoom fs room → unread ≡ raised_by (unread_among ls) s.unread
+      → IsDone skips fs ls room unread
+  round_done {skips} es fs ls room unread ran again least raised =
       let w = waiting in
       let many = same_length m told relations t q bs cs js ks s.room w.backends w.idle fresh within
       enough w.room.have swapped es fs ls ran again in
@@ -78,12 +82,12 @@ module _ {W D : Type 0} (m : Meter D) (told : Option Told) (relations : ℕ) (s 
         go_on = goes_on_after m told relations t q bs cs js ks s.room w.backends w.idle fresh within
             enough w.room.have swapped es fs ls ran again;
         many = many;
-        listed = subst (λ (xs : List (Backend W D)). AreListed (manner_in s) told xs fs js ls) begun
-            (listed_after m told relations t q bs cs js ks s.room w.backends w.idle fresh within
-            enough w.room.have swapped es fs ls ran again (manner_in s) manner_before);
+        listed = subst (λ (xs : List (Backend W D)). AreListed skips (manner_in s) told xs fs js ls)
+            begun (listed_after m told relations t q bs cs js ks s.room w.backends w.idle fresh
+            within enough w.room.have swapped es fs ls ran again (manner_in s) manner_before);
         all_list_in = manner_after m told relations t q bs cs js ks s.room w.backends w.idle fresh
             within enough w.room.have swapped es fs ls ran again (manner_in s) manner_before;
-        fallen = least_falls bs fs s.room room many (λ i d lt. (goes i d lt).same)
+        fallen = least_falls 64 bs fs s.room room many (λ i d lt. (goes i d lt).same)
             (λ i d lt. (w.backends i d lt).backend)
             (lived_after m told relations t q bs cs js ks s.room w.backends w.idle fresh within
             enough w.room.have swapped es fs ls ran again) w.room.have least;

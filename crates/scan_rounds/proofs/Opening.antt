@@ -10,7 +10,7 @@ use Rattle.std.proofs.lemmas.List.{map-append, length-map}
 use Rattle.std.specs.List.{All}
 use Rattle.std.proofs.lemmas.List.Elements.{All-append, All-cons, All-nil}
 use Rattle.method_worker.specs.Shown.{Seating}
-use Rattle.read_stream.specs.Open.{IsFree}
+use Rattle.read_stream.specs.Desks.{IsFree}
 use Rattle.read_stream.specs.declared.desk.Desk.{Desk}
 use Rattle.read_stream.specs.declared.desk.Settings.{Settings}
 use Rattle.scan_rounds.specs.Opening.{AreStreamsOf, GivesHands, GivesBackends, GivesWorkers}

@@ -20,11 +20,11 @@ pub fewer : (n m : ℕ) (a : Standing) → n ≤ m → HasRoom m a → HasRoom n
 fewer n m a le has = (has.0, has.1, omega (arith, has.2))
 
 -- the room falls by no more than the lives that ended
-pub falls : (a b : Standing) (n k : ℕ) → IsSame a b → a.known.number < a.known.config.backends
-    → HasRoom n a → HasRoom k b
-    → ((h : ℕ) → lives h b.known.marks ≤ lives h a.known.marks + 64)
-    → (room : ℕ) × IsRoom b.known.config b.known room × (n ≤ room + 64)
-falls a b n k same backend before after lived =
+pub falls : (most : ℕ) (a b : Standing) (n k : ℕ) → IsSame a b
+    → a.known.number < a.known.config.backends → HasRoom n a → HasRoom k b
+    → ((h : ℕ) → lives h b.known.marks ≤ lives h a.known.marks + most)
+    → (room : ℕ) × IsRoom b.known.config b.known room × (n ≤ room + most)
+falls most a b n k same backend before after lived =
     let c : b.known.config ≡ a.known.config = same.1 in
     let is : IsRoom a.known.config b.known after.0 =
     subst (λ (x : Config). IsRoom x b.known after.0) c after.1 in
@@ -92,18 +92,18 @@ module _ {W D : Type 0} where
   least_is least [] some small have greatest = absurd (omega arith)
 
   -- after lives that ended in each
-  pub least_falls : (bs fs : List (Backend W D)) (n k : ℕ) → length fs ≡ length bs
+  pub least_falls : (most : ℕ) (bs fs : List (Backend W D)) (n k : ℕ) → length fs ≡ length bs
       → ((i : ℕ) (d : Backend W D) → i < length bs
       → IsSame (slice_index_or bs i d).hand.actor (slice_index_or fs i d).hand.actor)
       → All (λ (b : Backend W D). b.hand.actor.known.number < b.hand.actor.known.config.backends) bs
       → ((i : ℕ) (d : Backend W D) → i < length bs → (h : ℕ)
       → lives h (slice_index_or fs i d).hand.actor.known.marks
-      ≤ lives h (slice_index_or bs i d).hand.actor.known.marks + 64)
-      → HaveRoom n bs → IsLeastRoom fs k → n ≤ k + 64
-  least_falls bs fs n k same each backend lived before after =
-      let fewer : HaveRoom (n - 64) fs = λ i d lt.
+      ≤ lives h (slice_index_or bs i d).hand.actor.known.marks + most)
+      → HaveRoom n bs → IsLeastRoom fs k → n ≤ k + most
+  least_falls most bs fs n k same each backend lived before after =
+      let fewer : HaveRoom (n - most) fs = λ i d lt.
       (let inside : i < length bs = omega (arith, same) in
-      let one = falls _ _ n k (each i d inside) (backend i d inside) (before i d inside)
+      let one = falls most _ _ n k (each i d inside) (backend i d inside) (before i d inside)
       (after.have i d lt) (lived i d inside) in
       (one.0, one.1, omega (arith, one.2))) in
-      let le = after.greatest (n - 64) fewer in omega arith
+      let le = after.greatest (n - most) fewer in omega arith

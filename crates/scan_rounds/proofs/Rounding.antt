@@ -1,17 +1,12 @@
 -- What one round did to each backend and to each job.
-use Rattle.std.proofs.Common.{◌≡◌, ◌≢◌, ℕ, zero, suc, ◌+◌, ◌-◌, ◌^◌, ◌<◌, ◌≤◌, Bool, true, false}
-use Rattle.std.proofs.Common.{List, []}
-use Rattle.std.proofs.Common.{◌∷◌, length, map, sum_by, min, refl, sym}
-use Rattle.std.proofs.Common.{ap, ◌∙◌, subst, arith, cond}
+use Rattle.std.proofs.Common.{◌≡◌, ◌≢◌, ℕ, zero, suc, ◌+◌, ◌<◌, ◌≤◌, Bool, true, false, List, []}
+use Rattle.std.proofs.Common.{◌∷◌, length, map, refl, sym, ap, ◌∙◌, subst, arith, cond}
 use Rattle.std.specs.Prelude.{slice_index_or, Option}
 use Rattle.std.specs.List.{All}
 use Rattle.std.proofs.lemmas.List.{length-map}
-use Rattle.std.proofs.lemmas.List.Sums.{sum_by-cons}
-use Rattle.std.proofs.Math.Nat.{min-le_left, max-le}
 use mathlib.Core.Logic.{dite}
 use native.Mathlib.Decide.{dec_le}
 use Rattle.page_check.specs.Told.{Told}
-use Rattle.aio_disk.specs.Counts.{raised_by}
 use Rattle.aio_word.specs.Events.{lives}
 use Rattle.aio_word.specs.Tokens.{failed_results}
 use Rattle.aio_handle.specs.Shown.{Named}
@@ -21,76 +16,19 @@ use Rattle.read_stream.specs.Went.{local_marks}
 use Rattle.scan_rounds.specs.Hands.{Meter, IsBackend, IsReady, Ran, GoesOn, HasRoom, MayRun}
 use Rattle.scan_rounds.specs.Hands.{manner_of}
 use Rattle.scan_rounds.specs.Manners.{Manner}
-use Rattle.scan_rounds.specs.Jobs.{IsFresh, IsListed, is_unread, unread_among, blocks_among}
+use Rattle.scan_rounds.specs.Jobs.{IsFresh, IsListed, entries_in, is_unread, kept_among}
+use Rattle.scan_rounds.specs.Jobs.{unread_among}
+use Rattle.scan_rounds.specs.Skipping.{Skips}
 use Rattle.scan_rounds.specs.Rounds.{Swapped, AreIdle, HaveRoom, AreListed, AllRan, AllGoOn}
 use Rattle.scan_rounds.specs.Rounds.{AllListIn, hand_of, results_of, taken_by}
 use Rattle.scan_rounds.specs.declared.hand.Hand.{Hand}
 use Rattle.scan_rounds.specs.declared.backend.Backend.{Backend}
 use Rattle.scan_rounds.specs.declared.job.Job.{Job}
 use Rattle.scan_rounds.proofs.Allowed.{may_run}
+use Rattle.scan_rounds.proofs.Kept.{few_kept}
 use Rattle.scan_rounds.proofs.Swapping.{with_job}
 use Rattle.scan_rounds.proofs.Unread.{unread_counted, results_more}
-
--- a count that was raised by so many
-pub raised_within : (count more before results after : ℕ) → count ≡ raised_by more before
-    → before ≤ results → results + more ≤ after → count ≤ after
-raised_within count more before results after is le sum =
-    let m = min-le_left (before + more) (2 ^ 64 - 1) in
-    let most : raised_by more before ≤ before + more =
-    max-le {a = before} {b = min (before + more) (2 ^ 64 - 1)} {k = before + more} (omega arith) m
-    in
-    omega arith
-
--- sums over two lists, and over a list that may be shorter
-module _ {X Y : Type 0} (f : X → ℕ) (w : Y → ℕ) where
-  none_more : (js : List Y) → length js ≤ 0 → sum_by w js ≡ 0
-  none_more [] le = refl
-  none_more (j ∷ js) le = absurd (omega arith)
-
-  pub at_most : (xs ys : List X) (js : List Y) → length ys ≡ length xs → length js ≤ length xs
-      → ((i : ℕ) (d : X) (j : Y) → i < length js
-      → f (slice_index_or ys i d) ≤ f (slice_index_or xs i d) + w (slice_index_or js i j))
-      → ((i : ℕ) (d : X) → length js ≤ i → i < length xs
-      → f (slice_index_or ys i d) ≤ f (slice_index_or xs i d))
-      → sum_by f ys ≤ sum_by f xs + sum_by w js
-  at_most [] [] js same few has none = omega arith
-  at_most [] (y ∷ ys) js same few has none = absurd (omega arith)
-  at_most (x ∷ xs) [] js same few has none = absurd (omega arith)
-  at_most (x ∷ xs) (y ∷ ys) [] same few has none =
-      let here = none 0 x (omega arith) (omega arith) in
-      let rest = at_most xs ys [] (omega arith) (omega arith) (λ i d j lt. absurd (omega arith))
-      (λ i d le lt. none (suc i) d (omega arith) (omega arith)) in
-      let a = sum_by-cons f x xs in let b = sum_by-cons f y ys in omega arith
-  at_most (x ∷ xs) (y ∷ ys) (j ∷ js) same few has none =
-      let here = has 0 x j (omega arith) in
-      let rest = at_most xs ys js (omega arith) (omega arith)
-      (λ i d k lt. has (suc i) d k (omega arith))
-      (λ i d le lt. none (suc i) d (omega arith) (omega arith)) in
-      let a = sum_by-cons f x xs in let b = sum_by-cons f y ys in
-      let c = sum_by-cons w j js in omega arith
-
-  pub at_least : (xs ys : List X) (js : List Y) → length ys ≡ length xs → length js ≤ length xs
-      → ((i : ℕ) (d : X) (j : Y) → i < length js
-      → f (slice_index_or xs i d) + w (slice_index_or js i j) ≤ f (slice_index_or ys i d))
-      → ((i : ℕ) (d : X) → length js ≤ i → i < length xs
-      → f (slice_index_or xs i d) ≤ f (slice_index_or ys i d))
-      → sum_by f xs + sum_by w js ≤ sum_by f ys
-  at_least [] [] [] same few has none = omega arith
-  at_least [] [] (j ∷ js) same few has none = absurd (omega arith)
-  at_least [] (y ∷ ys) js same few has none = absurd (omega arith)
-  at_least (x ∷ xs) [] js same few has none = absurd (omega arith)
-  at_least (x ∷ xs) (y ∷ ys) [] same few has none =
-      let here = none 0 x (omega arith) (omega arith) in
-      let rest = at_least xs ys [] (omega arith) (omega arith) (λ i d j lt. absurd (omega arith))
-      (λ i d le lt. none (suc i) d (omega arith) (omega arith)) in
-      let a = sum_by-cons f x xs in let b = sum_by-cons f y ys in omega arith
-  at_least (x ∷ xs) (y ∷ ys) (j ∷ js) same few has none =
-      let here = has 0 x j (omega arith) in
-      let rest = at_least xs ys js (omega arith) (omega arith)
-      (λ i d k lt. has (suc i) d k (omega arith))
-      (λ i d le lt. none (suc i) d (omega arith) (omega arith)) in
-      let a = sum_by-cons f x xs in let b = sum_by-cons f y ys in
-      let c = sum_by-cons w j js in omega arith
+use Rattle.scan_rounds.proofs.Sums.{at_least, at_most}
 
 module _ {W D : Type 0} (m : Meter D) (told : Option Told) (relations : ℕ) (t : Named) where
   -- a fact of two backends' hands, among those of all
@@ -108,14 +46,15 @@ module _ {W D : Type 0} (m : Meter D) (told : Option Told) (relations : ℕ) (t 
 module _ {W D : Type 0} (m : Meter D) (told : Option Told) (relations : ℕ) (t : Named)
     (q : Queue) where
   -- a backend that had this job, and what has become of both
-  pub record Did (b : Backend W D) (j : Job) (f : Backend W D) (l : Job) : Type 0 where
+  pub record Did (skips : Option Skips) (b : Backend W D) (j : Job) (f : Backend W D) (l : Job)
+      : Type 0 where
     pub is : IsBackend m told relations t q f
     pub idle : f.job.count ≡ 0
     pub goes : GoesOn m told relations t b.hand f.hand
     pub lived : (h : ℕ) → lives h f.hand.actor.known.marks ≤ lives h b.hand.actor.known.marks + 64
     pub taken : local_marks f.hand.actor.known.marks
-        ≤ local_marks b.hand.actor.known.marks + j.count
-    pub listed : IsListed (manner_of b) told (MayBeUnread b.hand.actor f.hand.actor.known) j l
+        ≤ local_marks b.hand.actor.known.marks + length (entries_in skips j)
+    pub listed : IsListed skips (manner_of b) told (MayBeUnread b.hand.actor f.hand.actor.known) j l
     pub manner_kept : manner_of f ≡ manner_of b
 
   -- a backend that had none
@@ -138,8 +77,9 @@ module _ {W D : Type 0} (m : Meter D) (told : Option Told) (relations : ℕ) (t 
     ring = is.ring;
   }
 
-  did_one : (b e : Backend W D) (j k : Job) → IsFresh relations j → k.count ≡ 0
-      → Ran m told relations t q (with_job b j) e → Did b j (with_job e k) e.job
+  did_one : {skips : Option Skips} (b e : Backend W D) (j k : Job) → IsFresh relations j
+      → k.count ≡ 0 → Ran m told relations t q skips (with_job b j) e
+      → Did skips b j (with_job e k) e.job
   did_one b e j k fresh none ran =
       let some : j.count ≢ 0 = λ zero. (let few = fresh.few in absurd (omega arith)) in record {
         is = with_any e k ran.is;
@@ -151,9 +91,11 @@ module _ {W D : Type 0} (m : Meter D) (told : Option Told) (relations : ℕ) (t 
         manner_kept = ran.manner_kept;
       }
 
-  rested_one : (b e : Backend W D) → b.job.count ≡ 0 → Ran m told relations t q b e → Rested b e
-  rested_one b e none ran =
-      let same = ran.idle none in record {
+  rested_one : {skips : Option Skips} (b e : Backend W D) → b.job.count ≡ 0
+      → Ran m told relations t q skips b e → Rested b e
+  rested_one {skips} b e none ran =
+      let same = ran.idle none in
+      let fewer = few_kept skips b.job in record {
         is = ran.is;
         idle = ap (λ (j : Job). j.count) same ∙ none;
         goes = ran.goes;
@@ -194,10 +136,10 @@ module _ {W D : Type 0} (m : Meter D) (told : Option Told) (relations : ℕ) (t 
         (ready_one room (slice_index_or bs i d) (slice_index_or js i j) enough (rooms i d inside)
         (backends i d inside) (λ some. fresh i j has))))
 
-    module _ (es fs : List (Backend W D)) (ls : List Job)
-        (ran : AllRan m told relations t q cs es) (again : Swapped es fs ks ls) where
+    module _ {skips : Option Skips} (es fs : List (Backend W D)) (ls : List Job)
+        (ran : AllRan m told relations t q skips cs es) (again : Swapped es fs ks ls) where
       pub did : (i : ℕ) (d : Backend W D) (j : Job) → i < length js
-          → Did (slice_index_or bs i d) (slice_index_or js i j) (slice_index_or fs i d)
+          → Did skips (slice_index_or bs i d) (slice_index_or js i j) (slice_index_or fs i d)
           (slice_index_or ls i j)
       did i d j lt =
           let inside : i < length bs = omega arith in
@@ -209,11 +151,11 @@ module _ {W D : Type 0} (m : Meter D) (told : Option Told) (relations : ℕ) (t 
           ap (λ (x : Job). x.count) to.1 ∙ idle i d inside in
           let one = did_one (slice_index_or bs i d) (slice_index_or es i d) (slice_index_or js i j)
           (slice_index_or ks i j) (fresh i j lt) none
-          (subst (λ (x : Backend W D). Ran m told relations t q x (slice_index_or es i d)) to.0
-          (ran.each i d behind)) in
-          subst (λ (x : Backend W D). Did (slice_index_or bs i d) (slice_index_or js i j) x
+          (subst (λ (x : Backend W D). Ran m told relations t q skips x (slice_index_or es i d))
+          to.0 (ran.each i d behind)) in
+          subst (λ (x : Backend W D). Did skips (slice_index_or bs i d) (slice_index_or js i j) x
           (slice_index_or ls i j)) (sym from.0)
-          (subst (λ (x : Job). Did (slice_index_or bs i d) (slice_index_or js i j)
+          (subst (λ (x : Job). Did skips (slice_index_or bs i d) (slice_index_or js i j)
           (with_job (slice_index_or es i d) (slice_index_or ks i j)) x) (sym from.1) one)
 
       pub rested : (i : ℕ) (d : Backend W D) → length js ≤ i → i < length bs
@@ -225,7 +167,7 @@ module _ {W D : Type 0} (m : Meter D) (told : Option Told) (relations : ℕ) (t 
           subst (λ (x : Backend W D). Rested (slice_index_or bs i d) x)
           (sym (again.others i d back there))
           (rested_one (slice_index_or bs i d) (slice_index_or es i d) (idle i d lt)
-          (subst (λ (x : Backend W D). Ran m told relations t q x (slice_index_or es i d))
+          (subst (λ (x : Backend W D). Ran m told relations t q skips x (slice_index_or es i d))
           (swapped.others i d le lt) (ran.each i d behind)))
 
       pub same_length : length fs ≡ length bs
@@ -256,11 +198,12 @@ module _ {W D : Type 0} (m : Meter D) (told : Option Told) (relations : ℕ) (t 
           (λ behind. (rested i d behind inside).goes)
           (λ front. (did i d (slice_index_or bs i d).job (omega arith)).goes)
 
-      pub listed_after : (how : Manner) → AllListIn how bs → AreListed how told bs fs js ls
+      pub listed_after : (how : Manner) → AllListIn how bs → AreListed skips how told bs fs js ls
       listed_after how all = record {
         jobs_are = again.jobs_are ∙ swapped.jobs_are;
         each = λ i d j lt.
-            subst (λ (n : Manner). IsListed n told (MayBeUnread (slice_index_or bs i d).hand.actor
+            subst (λ (n : Manner). IsListed skips n told
+            (MayBeUnread (slice_index_or bs i d).hand.actor
             (slice_index_or fs i d).hand.actor.known) (slice_index_or js i j)
             (slice_index_or ls i j)) (all i d (omega arith)) (did i d j lt).listed;
       }
@@ -289,10 +232,10 @@ module _ {W D : Type 0} (m : Meter D) (told : Option Told) (relations : ℕ) (t 
               (omega (arith, same_length))
               (λ e. goes_after i e inside)
 
-      pub taken_after : taken_by fs ≤ taken_by bs + blocks_among js
+      pub taken_after : taken_by fs ≤ taken_by bs + kept_among skips js
       taken_after = at_most (λ (b : Backend W D). local_marks b.hand.actor.known.marks)
-          (λ (j : Job). j.count) bs fs js same_length few (λ i d j lt. (did i d j lt).taken)
-          (λ i d le lt. (rested i d le lt).taken)
+          (λ (j : Job). length (entries_in skips j)) bs fs js same_length few
+          (λ i d j lt. (did i d j lt).taken) (λ i d le lt. (rested i d le lt).taken)
 
       pub unread_after : results_of bs + unread_among ls ≤ results_of fs
       unread_after = at_least (λ (b : Backend W D). failed_results b.hand.actor.known.marks)

@@ -4,8 +4,8 @@ use Rattle.std.proofs.Common.{cond, ap, arith}
 use Rattle.std.proofs.lemmas.List.Sums.{sum_by-append}
 use Rattle.std.specs.Prelude.{Option}
 use Rattle.page_check.specs.Told.{Told}
-use Rattle.page_check.specs.SynchronousAnswer.{Entry, Reader, Unread, reader_of}
-use Rattle.page_check.specs.IsAnswer.{IsEnding}
+use Rattle.page_check.specs.SynchronousAnswer.{Entry, Given, Reader, Unread, reader_of}
+use Rattle.page_check.specs.IsAnswer.{IsAnswer, IsEnding}
 use Rattle.aio_word.specs.declared.Class.TheVariants.{Failed}
 use Rattle.aio_word.specs.declared.Kind.TheVariants as kind
 use Rattle.aio_word.specs.declared.Known.{Known}
@@ -16,12 +16,10 @@ use Rattle.aio_word.specs.Stands.{IsIn}
 use Rattle.aio_word.specs.Tokens.{failed_results, is_failed_result}
 use Rattle.aio_word.proofs.Parts.{sum-in}
 use Rattle.aio_handle.specs.Shown.{Standing}
-use Rattle.heap_scan.specs.Listing.{TextOf}
-use Rattle.heap_scan.specs.Job.{IsJobAnswer}
-use Rattle.heap_scan.specs.declared.sums.PageSums.{PageSums}
-use Rattle.heap_tuple.specs.Listing.{text_with}
+use Rattle.heap_scan.specs.Job.{endings_of}
 use Rattle.read_stream.specs.Answering.{MayBeUnread}
 use Rattle.scan_rounds.specs.Manners.{Manner}
+use Rattle.scan_rounds.specs.Skipping.{Skips}
 use Rattle.scan_rounds.specs.Jobs.{IsListed, is_unread, said_end, entries_in}
 use Rattle.scan_rounds.specs.declared.job.Job.{Job}
 use Rattle.scan_rounds.specs.declared.job.Ending.{Ending}
@@ -53,22 +51,24 @@ cause_of : (found : Option Reader) (may : E → Type 0) (entries : List E) (k : 
     → IsEnding found may entries k (Unread b) → (x : E) × may x
 cause_of found may entries k b is = (is.next, is.cause)
 
-unread_at : (text_of : TextOf) (found : Option Reader) (was : Standing) (q : Known) (j : Job)
-    (text warnings : List ℕ) (sums : PageSums) (e : Ending)
-    → IsJobAnswer text_of found (MayBeUnread was q) (entries_in j) text warnings sums (said_end e)
+-- answers that end in Unread have left one failed result more
+pub unread_after : (found : Option Reader) (was : Standing) (q : Known) (entries : List E)
+    (pages : List (Given (Unit {0}))) (e : Ending)
+    → IsAnswer found (MayBeUnread was q) entries
+    (record { pages = pages; endings = endings_of (said_end e) })
     → is_unread e ≡ true → failed_results was.known.marks + 1 ≤ failed_results q.marks
-unread_at text_of found was q j text warnings sums (ending.Unread b) a is =
-    let (x, may) = cause_of found (MayBeUnread was q) (entries_in j) _ b a.answers.endings.0 in
+unread_after found was q entries pages (ending.Unread b) a is =
+    let (x, may) = cause_of found (MayBeUnread was q) entries _ b a.endings.0 in
     may_counted was q x may
-unread_at text_of found was q j text warnings sums ending.Pages a is = absurd (cc)
-unread_at text_of found was q j text warnings sums (ending.Invalid b) a is = absurd (cc)
-unread_at text_of found was q j text warnings sums (ending.PastEnd b) a is = absurd (cc)
-unread_at text_of found was q j text warnings sums ending.NoMemory a is = absurd (cc)
+unread_after found was q entries pages ending.Pages a is = absurd (cc)
+unread_after found was q entries pages (ending.Invalid b) a is = absurd (cc)
+unread_after found was q entries pages (ending.PastEnd b) a is = absurd (cc)
+unread_after found was q entries pages ending.NoMemory a is = absurd (cc)
 
 -- a job that ended in Unread left one failed result more
-pub unread_counted : (how : Manner) (told : Option Told) (was : Standing) (q : Known) (j k : Job)
-    → IsListed how told (MayBeUnread was q) j k → is_unread k.ending ≡ true
-    → failed_results was.known.marks + 1 ≤ failed_results q.marks
-unread_counted how told was q j k l is =
-    unread_at (text_with how.tuples) (reader_of how.zero told) was q j k.text.items
-    k.warnings.items k.tally k.ending l.answer is
+pub unread_counted : {skips : Option Skips} (how : Manner) (told : Option Told) (was : Standing)
+    (q : Known) (j k : Job) → IsListed skips how told (MayBeUnread was q) j k
+    → is_unread k.ending ≡ true → failed_results was.known.marks + 1 ≤ failed_results q.marks
+unread_counted {skips} how told was q j k l is =
+    unread_after (reader_of how.zero told) was q (entries_in skips j) l.answer.pages k.ending
+    l.answer.answers is

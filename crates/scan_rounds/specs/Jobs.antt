@@ -1,14 +1,15 @@
 -- What a job asks for, and what has become of it.
 use Rattle.std.specs.Prelude.{◌≡◌, ℕ, ◌+◌, ◌^◌, ◌<◌, ◌≤◌, List, [], length, count_by, sum_by}
-use Rattle.std.specs.Prelude.{Option, Some, None, Bool, true, false, slice_index_or, ⊤}
+use Rattle.std.specs.Prelude.{Option, Some, None, Bool, true, false, slice_index_or, ⊤, cond}
 use Rattle.page_check.specs.Told.{Told}
 use Rattle.page_check.specs.SynchronousAnswer.{Entry, reader_of, Ending as SaidEnding, End}
 use Rattle.page_check.specs.SynchronousAnswer.{Invalid as SaidInvalid, PastEnd as SaidPastEnd}
 use Rattle.page_check.specs.SynchronousAnswer.{Unread as SaidUnread}
-use Rattle.heap_scan.specs.Job.{IsJobAnswer, job_entries}
+use Rattle.heap_scan.specs.Job.{IsJobAnswer}
 use Rattle.heap_scan.specs.Sums.{no_sums}
 use Rattle.heap_tuple.specs.Listing.{text_with}
 use Rattle.scan_rounds.specs.Manners.{Manner}
+use Rattle.scan_rounds.specs.Skipping.{Skips, kept_range}
 use Rattle.scan_rounds.specs.declared.job.Ending.{Ending}
 use Rattle.scan_rounds.specs.declared.job.Ending.TheVariants as ending
 use Rattle.scan_rounds.specs.declared.job.Job.{Job}
@@ -35,6 +36,10 @@ is_unread (ending.Invalid block) = false
 is_unread (ending.PastEnd block) = false
 is_unread ending.NoMemory = false
 
+-- 1 where an ending is Unread
+abbrev pub unread_in : Ending → ℕ
+unread_in e = cond (is_unread e) 1 0
+
 -- how many of these jobs ended in Unread
 abbrev pub unread_among : List Job → ℕ
 unread_among jobs = count_by (λ j. is_unread j.ending) jobs
@@ -53,21 +58,27 @@ pub record IsFresh (relations : ℕ) (j : Job) : Type 0 where
   pub no_tally : j.tally ≡ no_sums
   pub no_ending : j.ending ≡ ending.Pages
 
--- the blocks that it asks for
-abbrev pub entries_in : Job → List (Entry (Unit {0}))
-entries_in j = job_entries j.relation j.first j.count
+-- the blocks that it asks for, but for those that are left out
+abbrev pub entries_in : Option Skips → Job → List (Entry (Unit {0}))
+entries_in skips j = kept_range skips j.relation j.first j.count
 
--- what has become of a job that is listed in this manner: the same blocks, with text, warnings, sums
--- and ending of their answers; where damaged pages are not given as zeros, there is no warning
-pub record IsListed (m : Manner) (told : Option Told) (may : Entry (Unit {0}) → Type 0)
-    (j k : Job) : Type 0 where
+-- how many blocks of these jobs are not left out
+abbrev pub kept_among : Option Skips → List Job → ℕ
+kept_among skips jobs = sum_by (λ j. length (entries_in skips j)) jobs
+
+-- what has become of a job that is listed in this manner, without the blocks that are left out:
+-- text, warnings, sums and ending are those of the answers to the others; where damaged pages are
+-- not given as zeros, there is no warning
+pub record IsListed (skips : Option Skips) (m : Manner) (told : Option Told)
+    (may : Entry (Unit {0}) → Type 0) (j k : Job) : Type 0 where
   pub same : (k.relation ≡ j.relation) × (k.first ≡ j.first) × (k.count ≡ j.count)
-  pub answer : IsJobAnswer (text_with m.tuples) (reader_of m.zero told) may (entries_in j)
+  pub answer : IsJobAnswer (text_with m.tuples) (reader_of m.zero told) may (entries_in skips j)
       k.text.items k.warnings.items k.tally (said_end k.ending)
   pub quiet : m.zero ≡ false → k.warnings.items ≡ []
 
 -- what has become of jobs that were put, whichever block may be unread
-pub record AreAnswered (m : Manner) (told : Option Told) (asked answered : List Job) : Type 0 where
+pub record AreAnswered (skips : Option Skips) (m : Manner) (told : Option Told)
+    (asked answered : List Job) : Type 0 where
   pub as_many : length answered ≡ length asked
   pub each : (i : ℕ) (j : Job) → i < length asked
-      → IsListed m told (λ _. ⊤) (slice_index_or asked i j) (slice_index_or answered i j)
+      → IsListed skips m told (λ _. ⊤) (slice_index_or asked i j) (slice_index_or answered i j)

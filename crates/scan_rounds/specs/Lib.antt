@@ -1,5 +1,8 @@
 pub mod Manners
+pub mod Skipping
 pub mod Jobs
+pub mod Taking
+pub mod Loans
 pub mod Showing
 pub mod Rings
 pub mod Hands

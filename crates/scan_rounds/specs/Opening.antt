@@ -9,7 +9,7 @@ use Rattle.page_check.specs.Told.{Told}
 use Rattle.aio_word.specs.declared.Config.{Config}
 use Rattle.aio_handle.specs.Shown.{AreNew}
 use Rattle.method_worker.specs.Shown.{IsSeatOf}
-use Rattle.read_stream.specs.Open.{IsFree}
+use Rattle.read_stream.specs.Desks.{IsFree}
 use Rattle.read_stream.specs.declared.desk.Desk.{Desk}
 use Rattle.read_stream.specs.declared.desk.Settings.{Settings}
 use Rattle.scan_rounds.specs.Manners.{manner}

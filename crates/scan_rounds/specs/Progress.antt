@@ -20,13 +20,13 @@ module _ {W D : Type 0} (m : Meter D) (told : Option Told) (relations : ℕ) (t 
     -- each job that ended in Unread has left the result of a failed I/O
     pub few_unread : counts.unread ≤ results_of bs
 
-  -- from the first state to the second so many blocks were asked for, and so many jobs ended in
-  -- Unread, at least
-  pub record HasGone (bs cs : List (Backend W D)) (before after : Counts) (blocks unread : ℕ)
-      : Type 0 where
+  -- from the first state to the second so many blocks were asked for, of which so many were not
+  -- left out, and so many jobs ended in Unread, at least
+  pub record HasGone (bs cs : List (Backend W D)) (before after : Counts)
+      (blocks kept unread : ℕ) : Type 0 where
     pub go_on : AllGoOn m told relations t (map hand_of bs) (map hand_of cs)
     pub room : before.room ≤ after.room + 64 * blocks
-    pub taken : taken_by cs ≤ taken_by bs + blocks
+    pub taken : taken_by cs ≤ taken_by bs + kept
     pub more : ℕ
     pub raised : after.unread ≡ raised_by more before.unread
     pub enough : unread ≤ more

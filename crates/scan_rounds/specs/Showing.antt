@@ -1,5 +1,5 @@
 -- What showing an answer of a stream leaves.
-use Rattle.std.specs.Prelude.{◌≡◌, ℕ, List, ◌++◌, Option, Some, None, ⊤}
+use Rattle.std.specs.Prelude.{◌≡◌, ℕ, List, ◌++◌, Option, Some, None}
 use Rattle.heap_scan.specs.Warnings.{warning_for}
 use Rattle.page_check.specs.IsAnswer.{Next as Said, Page, Stop}
 use Rattle.heap_scan.specs.Listing.{TextOf, text_for}
@@ -8,11 +8,6 @@ use Rattle.heap_scan.specs.declared.sums.PageSums.{PageSums}
 use Rattle.scan_rounds.specs.Jobs.{ending_for}
 use Rattle.scan_rounds.specs.declared.job.Ending.{Ending}
 use Rattle.scan_rounds.specs.declared.job.Ending.TheVariants as ending
-
--- the page of an answer that is one
-abbrev pub IfPage : Said (Unit {0}) → (List ℕ → Type 0) → Type 0
-IfPage (Page given) holds = holds given.page
-IfPage (Stop end) holds = ⊤
 
 -- the text, the warnings and the sums of the pages so far
 pub record Shown : Type 0 where

@@ -1,18 +1,21 @@
 //! A backend: an actor with its disk, its desk and its job.
-ghost use Rattle.std.specs.Prelude.{◌≡◌, IfSome};
+ghost use Rattle.std.specs.Prelude.{◌≡◌, ◌<◌, ◌≤◌, [], IfSome};
 ghost use Rattle.method_worker.specs.Shown.{IsSeatOf};
-ghost use Rattle.scan_rounds.specs.Hands.{IsReady, Ran, meter};
+ghost use Rattle.scan_rounds.specs.Hands.{HasReadMap, HasRoom, IsBackend, IsReady, Ran, meter};
+ghost use Rattle.scan_rounds.specs.Skipping.{skips_of};
 
 use crate::common::Common;
 use crate::hand::Hand;
-use crate::job::Job;
+use crate::job::{Ending, Job};
 use crate::ring::RingDesk;
+use crate::skipping::Skipping;
 use aio_disk::Disk;
 use method_sync::SyncMethod;
 use method_worker::{QueueSeat, WorkerMethod};
 use page_check::World;
 use read_stream::Desk;
 use std::sync::Wait;
+use vis_map::VisMap;
 
 /// A backend. One that has no seat of the queue executes its I/Os at once.
 #[derive(Drop)]
@@ -29,12 +32,18 @@ pub(crate) struct Backend<W: World, D: Disk> {
 }
 
 impl<W: World, D: Disk> Backend<W, D> {
-    /// Does its job, if it has one.
-    pub(crate) fn run<T: Wait>(&mut self, rt: &T, common: &Common<W>)
+    /// Does its job, if it has one, without the blocks that are left out.
+    pub(crate) fn run<T: Wait>(
+        &mut self,
+        rt: &T,
+        common: &Common<W>,
+        skipping: Option<Skipping<'_>>,
+    )
         requires { IsReady (meter D.told D.relations D.reads D.faults) W.told W.relations
             common.now.table common.now.queue self.old }
         ensures { Ran (meter D.told D.relations D.reads D.faults) W.told W.relations
-            common.now.table common.now.queue self.old self.new }
+            common.now.table common.now.queue (skips_of skipping.entry) self.old
+            self.new }
     {
         if self.job.count == 0 {
             return;
@@ -53,11 +62,44 @@ impl<W: World, D: Disk> Backend<W, D> {
                     queue: &common.queue,
                     seat: own,
                 };
-                hand.list(rt, common, desk, ring, &mut method, job, *tuples);
+                hand.list(rt, common, desk, ring, &mut method, job, *tuples, skipping);
                 *seat = Some(method.seat);
             }
-            None => hand.list(rt, common, desk, ring, &mut SyncMethod, job, *tuples),
+            None => hand.list(
+                rt,
+                common,
+                desk,
+                ring,
+                &mut SyncMethod,
+                job,
+                *tuples,
+                skipping,
+            ),
         }
+    }
+
+    /// Reads the pages of a map.
+    pub(crate) fn read_map<T: Wait>(
+        &mut self,
+        rt: &T,
+        common: &Common<W>,
+        relation: u32,
+        map: &mut VisMap,
+        warnings: &mut Vec<u8>,
+    ) -> Ending
+        requires is { IsBackend (meter D.told D.relations D.reads D.faults) W.told W.relations
+            common.now.table common.now.queue self.old }
+        requires room { HasRoom 65 self.old.hand.actor }
+        requires relation { relation < W.relations }
+        requires none { (map.old.added ≡ []) × (warnings.old.items ≡ []) }
+        ensures read { HasReadMap (meter D.told D.relations D.reads D.faults) W.told W.relations
+            common.now.table common.now.queue self.old self.new relation map.old.pages map.new
+            warnings.new.items result }
+        ensures pages { map.new.pages ≡ map.old.pages }
+    {
+        let Backend { hand, desk, .. } = self;
+        let pages = map.pages();
+        hand.read_map(rt, common, desk, relation, pages, map, warnings)
     }
 
     /// Closes the queue, where it has a seat.

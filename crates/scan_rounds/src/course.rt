@@ -4,12 +4,14 @@ ghost use Rattle.scan_rounds.specs.Hands.{meter};
 ghost use Rattle.scan_rounds.specs.Manners.{Manner};
 ghost use Rattle.scan_rounds.specs.Progress.{AreWaiting, HasGone};
 ghost use Rattle.scan_rounds.specs.Rounds.{AllListIn, hand_of};
+ghost use Rattle.scan_rounds.specs.Skipping.{skips_of};
 
 use crate::agenda::Agenda;
 use crate::backend::Backend;
 use crate::common::Common;
 use crate::job::Job;
 use crate::rounds::{Counts, one_round};
+use crate::skipping::Skipping;
 use aio_disk::Disk;
 use page_check::World;
 use std::sync::Wait;
@@ -19,6 +21,7 @@ use std::thread::Threads;
 fn next_round<W: World + Send + Sync, D: Disk, R: Threads + Wait + Sync, A: Agenda<W>>(
     rt: &R,
     common: &Common<W>,
+    skipping: Option<Skipping<'_>>,
     backends: &mut [Backend<W, D>],
     jobs: &mut [Job],
     agenda: &mut A,
@@ -29,15 +32,18 @@ fn next_round<W: World + Send + Sync, D: Disk, R: Threads + Wait + Sync, A: Agen
     requires jobs { length jobs.old ≡ length backends.old }
     requires room { 64 * A.left agenda.old ≤ counts.old.room }
     requires manner { AllListIn (A.manner agenda.old) backends.old }
+    requires skips { A.skips agenda.old ≡ skips_of skipping }
     ensures waiting { AreWaiting (meter D.told D.relations D.reads D.faults) W.told W.relations
         common.now.table common.now.queue backends.new counts.new }
     ensures jobs { length jobs.new ≡ length jobs.old }
-    ensures fewer { A.left agenda.new ≤ A.left agenda.old }
+    ensures fewer { (A.left agenda.new ≤ A.left agenda.old)
+        × (A.due agenda.new ≤ A.due agenda.old) }
     ensures manner { AllListIn (A.manner agenda.old) backends.new
-        × (A.manner agenda.new ≡ A.manner agenda.old) }
+        × (A.manner agenda.new ≡ A.manner agenda.old) × (A.skips agenda.new ≡ A.skips agenda.old) }
     ensures gone { HasGone (meter D.told D.relations D.reads D.faults) W.told W.relations
         common.now.table backends.old backends.new counts.old counts.new
-        (A.left agenda.old - A.left agenda.new) (A.unread agenda.new - A.unread agenda.old) }
+        (A.left agenda.old - A.left agenda.new) (A.due agenda.old - A.due agenda.new)
+        (A.unread agenda.new - A.unread agenda.old) }
     ensures follows { A.follows agenda.old agenda.new }
     ensures over { result ≡ false → A.is_over agenda.new }
     ensures nearer { result ≡ true → A.left agenda.new < A.left agenda.old }
@@ -47,7 +53,7 @@ fn next_round<W: World + Send + Sync, D: Disk, R: Threads + Wait + Sync, A: Agen
         return false;
     }
     let (front, _) = jobs.split_at_mut(count);
-    *counts = one_round(rt, common, backends, front, *counts);
+    *counts = one_round(rt, common, skipping, backends, front, *counts);
     agenda.end(front)
 }
 
@@ -55,6 +61,7 @@ fn next_round<W: World + Send + Sync, D: Disk, R: Threads + Wait + Sync, A: Agen
 fn all_rounds<W: World + Send + Sync, D: Disk, R: Threads + Wait + Sync, A: Agenda<W>>(
     rt: &R,
     common: &Common<W>,
+    skipping: Option<Skipping<'_>>,
     backends: &mut [Backend<W, D>],
     jobs: &mut [Job],
     agenda: &mut A,
@@ -65,20 +72,23 @@ fn all_rounds<W: World + Send + Sync, D: Disk, R: Threads + Wait + Sync, A: Agen
     requires jobs { length jobs.old ≡ length backends.old }
     requires room { 64 * A.left agenda.old ≤ counts.old.room }
     requires manner { AllListIn (A.manner agenda.old) backends.old }
+    requires skips { A.skips agenda.old ≡ skips_of skipping }
     ensures waiting { AreWaiting (meter D.told D.relations D.reads D.faults) W.told W.relations
         common.now.table common.now.queue backends.new counts.new }
     ensures jobs { length jobs.new ≡ length jobs.old }
-    ensures fewer { A.left agenda.new ≤ A.left agenda.old }
+    ensures fewer { (A.left agenda.new ≤ A.left agenda.old)
+        × (A.due agenda.new ≤ A.due agenda.old) }
     ensures manner { AllListIn (A.manner agenda.old) backends.new
-        × (A.manner agenda.new ≡ A.manner agenda.old) }
+        × (A.manner agenda.new ≡ A.manner agenda.old) × (A.skips agenda.new ≡ A.skips agenda.old) }
     ensures gone { HasGone (meter D.told D.relations D.reads D.faults) W.told W.relations
         common.now.table backends.old backends.new counts.old counts.new
-        (A.left agenda.old - A.left agenda.new) (A.unread agenda.new - A.unread agenda.old) }
+        (A.left agenda.old - A.left agenda.new) (A.due agenda.old - A.due agenda.new)
+        (A.unread agenda.new - A.unread agenda.old) }
     ensures follows { A.follows agenda.old agenda.new }
     ensures over { A.is_over agenda.new }
 {
     loop {
-        if !next_round(rt, common, backends, jobs, agenda, counts) {
+        if !next_round(rt, common, skipping, backends, jobs, agenda, counts) {
             return;
         }
     }
@@ -105,6 +115,7 @@ fn close_queue<W: World, D: Disk, R: Wait>(
 fn run_and_close<W: World + Send + Sync, D: Disk, R: Threads + Wait + Sync, A: Agenda<W>>(
     rt: &R,
     common: &Common<W>,
+    skipping: Option<Skipping<'_>>,
     backends: &mut [Backend<W, D>],
     jobs: &mut [Job],
     agenda: &mut A,
@@ -115,20 +126,23 @@ fn run_and_close<W: World + Send + Sync, D: Disk, R: Threads + Wait + Sync, A: A
     requires jobs { length jobs.old ≡ length backends.old }
     requires room { 64 * A.left agenda.old ≤ counts.old.room }
     requires manner { AllListIn (A.manner agenda.old) backends.old }
+    requires skips { A.skips agenda.old ≡ skips_of skipping }
     ensures waiting { AreWaiting (meter D.told D.relations D.reads D.faults) W.told W.relations
         common.now.table common.now.queue backends.new counts.new }
     ensures many { (length backends.new ≡ length backends.old)
         × (length jobs.new ≡ length jobs.old) }
-    ensures fewer { A.left agenda.new ≤ A.left agenda.old }
+    ensures fewer { (A.left agenda.new ≤ A.left agenda.old)
+        × (A.due agenda.new ≤ A.due agenda.old) }
     ensures manner { AllListIn (A.manner agenda.old) backends.new
-        × (A.manner agenda.new ≡ A.manner agenda.old) }
+        × (A.manner agenda.new ≡ A.manner agenda.old) × (A.skips agenda.new ≡ A.skips agenda.old) }
     ensures gone { HasGone (meter D.told D.relations D.reads D.faults) W.told W.relations
         common.now.table backends.old backends.new counts.old counts.new
-        (A.left agenda.old - A.left agenda.new) (A.unread agenda.new - A.unread agenda.old) }
+        (A.left agenda.old - A.left agenda.new) (A.due agenda.old - A.due agenda.new)
+        (A.unread agenda.new - A.unread agenda.old) }
     ensures follows { A.follows agenda.old agenda.new }
     ensures over { A.is_over agenda.new }
 {
-    all_rounds(rt, common, backends, jobs, agenda, counts);
+    all_rounds(rt, common, skipping, backends, jobs, agenda, counts);
     close_queue(rt, common, backends, *counts);
 }
 
@@ -145,6 +159,7 @@ pub(crate) struct Course<W: World, D: Disk, A: Drop> {
 pub(crate) fn run_course<W: World + Send + Sync, D: Disk, R: Threads + Wait + Sync, A: Agenda<W>>(
     rt: &R,
     common: &Common<W>,
+    skipping: Option<Skipping<'_>>,
     course: Course<W, D, A>,
 ) -> Course<W, D, A>
     requires waiting { AreWaiting (meter D.told D.relations D.reads D.faults) W.told W.relations
@@ -152,16 +167,20 @@ pub(crate) fn run_course<W: World + Send + Sync, D: Disk, R: Threads + Wait + Sy
     requires jobs { length course.jobs.items ≡ length course.backends.items }
     requires room { 64 * A.left course.agenda ≤ course.counts.room }
     requires manner { AllListIn (A.manner course.agenda) course.backends.items }
+    requires skips { A.skips course.agenda ≡ skips_of skipping }
     ensures waiting { AreWaiting (meter D.told D.relations D.reads D.faults) W.told W.relations
         common.now.table common.now.queue result.backends.items result.counts }
     ensures many { (length result.backends.items ≡ length course.backends.items)
         × (length result.jobs.items ≡ length course.jobs.items) }
-    ensures fewer { A.left result.agenda ≤ A.left course.agenda }
+    ensures fewer { (A.left result.agenda ≤ A.left course.agenda)
+        × (A.due result.agenda ≤ A.due course.agenda) }
     ensures manner { AllListIn (A.manner course.agenda) result.backends.items
-        × (A.manner result.agenda ≡ A.manner course.agenda) }
+        × (A.manner result.agenda ≡ A.manner course.agenda)
+        × (A.skips result.agenda ≡ A.skips course.agenda) }
     ensures gone { HasGone (meter D.told D.relations D.reads D.faults) W.told W.relations
         common.now.table course.backends.items result.backends.items course.counts
         result.counts (A.left course.agenda - A.left result.agenda)
+        (A.due course.agenda - A.due result.agenda)
         (A.unread result.agenda - A.unread course.agenda) }
     ensures follows { A.follows course.agenda result.agenda }
     ensures over { A.is_over result.agenda }
@@ -175,6 +194,7 @@ pub(crate) fn run_course<W: World + Send + Sync, D: Disk, R: Threads + Wait + Sy
     run_and_close(
         rt,
         common,
+        skipping,
         backends.as_mut_slice(),
         jobs.as_mut_slice(),
         &mut agenda,

@@ -1,8 +1,10 @@
 //! Disks of which one is held up until another reads.
 ghost use Rattle.std.specs.Prelude.{None, false};
 
+use crate::test_files::EMPTY_PAGE;
+use crate::test_scans::USUAL;
 use crate::tests::check_job;
-use crate::trials::{EMPTY_PAGE, USUAL, scan_over};
+use crate::trials::scan_over;
 use crate::{Ending, ScanSettings};
 use aio_disk::{DeviceFault, Disk, OpenFault, Shelf};
 use page_check::Page;

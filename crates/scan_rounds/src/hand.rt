@@ -1,26 +1,36 @@
 //! An actor with its disk.
-ghost use Rattle.std.specs.Prelude.{◌≡◌, IfSome, Some};
+ghost use Rattle.std.specs.Prelude.{◌≡◌, ◌≤◌, IfSome, Some, []};
 ghost use Rattle.method_worker.specs.Shown.{IsSeatOf};
-ghost use Rattle.scan_rounds.specs.Hands.{GoesOn, HasListed, IsHand, MayList, meter};
+ghost use Rattle.scan_rounds.specs.Hands.{GoesOn, HasListed, HasRead, IsHand, MayList, MayRead};
+ghost use Rattle.scan_rounds.specs.Hands.{map_blocks, meter};
 ghost use Rattle.scan_rounds.specs.Rings.{IsRingOf};
+ghost use Rattle.scan_rounds.specs.Skipping.{skips_of};
+ghost use Rattle.scan_rounds.specs.Taking.{HasPages};
 
 use crate::common::Common;
-use crate::job::Job;
+use crate::consumer::Consumer;
+use crate::job::{Ending, Job};
 use crate::lent::{LentRunner, Line};
-use crate::list::list;
+use crate::listing::Listing;
+use crate::loan::give_back;
+use crate::map_pages::MapPages;
+use crate::reading::read;
 use crate::ring::RingDesk;
+use crate::skipping::Skipping;
+use crate::source::Blocks;
 use aio_batch::Method;
 use aio_callback::ReadIo;
 use aio_disk::Disk;
 use aio_handle::{Actor, Table};
 use buf_pool::Pool;
 use method_ring::RingRunner;
-use method_sync::Runner;
+use method_sync::{Runner, SyncMethod};
 use method_worker::{QueueSeat, SubmitQueue, work};
 use page_check::World;
 use read_stream::Desk;
 use std::marker::{Brand, PhantomData};
 use std::sync::Wait;
+use vis_map::VisMap;
 
 /// An actor with its disk.
 #[derive(Drop)]
@@ -31,21 +41,25 @@ pub(crate) struct Hand<W: World, D: Disk> {
 }
 
 impl<W: World, D: Disk> Hand<W, D> {
-    // Lists the blocks of a job, and executes each I/O by itself.
-    fn list_one_by_one<M: Method<ReadIo, W>, T: Wait>(
+    // Reads blocks, and executes each I/O by itself.
+    fn read_one_by_one<M: Method<ReadIo, W>, T: Wait, C: Consumer>(
         &mut self,
         rt: &T,
         common: &Common<W>,
         desk: &mut Desk<W, ()>,
         method: &mut M,
-        job: &mut Job,
-        tuples: bool,
-    )
-        requires may { MayList (meter D.told D.relations D.reads D.faults) W.told W.relations
-            common.now.table self.old desk.old job.old }
-        ensures listed { HasListed (meter D.told D.relations D.reads D.faults) W.told W.relations
-            common.now.table tuples self.old self.new desk.old desk.new job.old job.new }
+        blocks: Blocks<'_>,
+        consumer: &mut C,
+    ) -> Ending
+        requires may { MayRead (meter D.told D.relations D.reads D.faults) W.told W.relations
+            common.now.table self.old desk.old blocks }
+        requires few { blocks.count ≤ C.most consumer.old }
+        requires held { C.holds consumer.old [] }
+        ensures read { HasRead (meter D.told D.relations D.reads D.faults) W.told W.relations
+            common.now.table (C.holds consumer.new) self.old self.new desk.old desk.new
+            blocks.entry result }
         ensures stands_on { M.stands_on method.new ≡ M.stands_on method.old }
+        ensures consumer { C.is_same consumer.old consumer.new }
     {
         let Some(disk) = self.disk.take() else {
             unreachable!()
@@ -54,7 +68,7 @@ impl<W: World, D: Disk> Hand<W, D> {
             disk,
             places: &common.pool,
         };
-        list(
+        let ending = read(
             rt,
             &common.table,
             &common.pool,
@@ -62,31 +76,36 @@ impl<W: World, D: Disk> Hand<W, D> {
             desk,
             method,
             &mut runner,
-            job,
-            tuples,
+            blocks,
+            consumer,
         );
         self.disk = Some(runner.disk);
+        ending
     }
 
-    // Lists the blocks of a job, and executes I/Os by a ring over the disk.
-    fn list_by_ring<L: Line, M: Method<ReadIo, W>, T: Wait>(
+    // Reads blocks, and executes I/Os by a ring over the disk.
+    fn read_by_ring<L: Line, M: Method<ReadIo, W>, T: Wait, C: Consumer>(
         &mut self,
         rt: &T,
         common: &Common<W>,
         desk: &mut Desk<W, ()>,
         ring: RingDesk<W>,
         method: &mut M,
-        job: &mut Job,
-        tuples: bool,
-    ) -> RingDesk<W>
-        requires may { MayList (meter D.told D.relations D.reads D.faults) W.told W.relations
-            common.now.table self.old desk.old job.old }
+        blocks: Blocks<'_>,
+        consumer: &mut C,
+    ) -> (RingDesk<W>, Ending)
+        requires may { MayRead (meter D.told D.relations D.reads D.faults) W.told W.relations
+            common.now.table self.old desk.old blocks }
+        requires few { blocks.count ≤ C.most consumer.old }
+        requires held { C.holds consumer.old [] }
         requires ring { IsRingOf common.now.queue ring }
         requires line { L.queue ≡ Some common.now.queue }
-        ensures listed { HasListed (meter D.told D.relations D.reads D.faults) W.told W.relations
-            common.now.table tuples self.old self.new desk.old desk.new job.old job.new }
-        ensures ring { IsRingOf common.now.queue result }
+        ensures read { HasRead (meter D.told D.relations D.reads D.faults) W.told W.relations
+            common.now.table (C.holds consumer.new) self.old self.new desk.old desk.new
+            blocks.entry result.1 }
+        ensures ring { IsRingOf common.now.queue result.0 }
         ensures stands_on { M.stands_on method.new ≡ M.stands_on method.old }
+        ensures consumer { C.is_same consumer.old consumer.new }
     {
         let Some(disk) = self.disk.take() else {
             unreachable!()
@@ -97,7 +116,7 @@ impl<W: World, D: Disk> Hand<W, D> {
             runner: RingRunner::new(ring, &common.pool, &common.queue, seat, room),
             line: PhantomData,
         };
-        list(
+        let ending = read(
             rt,
             &common.table,
             &common.pool,
@@ -105,16 +124,51 @@ impl<W: World, D: Disk> Hand<W, D> {
             desk,
             method,
             &mut lent,
-            job,
-            tuples,
+            blocks,
+            consumer,
         );
         let (ring, seat, room) = lent.runner.into_parts();
         let (disk, idle) = ring.into_parts();
         self.disk = Some(disk);
-        RingDesk { idle, room, seat }
+        (RingDesk { idle, room, seat }, ending)
     }
 
-    /// Lists the blocks of a job, by the ring where there is one.
+    // Reads blocks, by the ring where there is one.
+    fn read<M: Method<ReadIo, W>, T: Wait, C: Consumer>(
+        &mut self,
+        rt: &T,
+        common: &Common<W>,
+        desk: &mut Desk<W, ()>,
+        ring: &mut Option<RingDesk<W>>,
+        method: &mut M,
+        blocks: Blocks<'_>,
+        consumer: &mut C,
+    ) -> Ending
+        requires may { MayRead (meter D.told D.relations D.reads D.faults) W.told W.relations
+            common.now.table self.old desk.old blocks }
+        requires few { blocks.count ≤ C.most consumer.old }
+        requires held { C.holds consumer.old [] }
+        requires ring { IfSome ring.old (IsRingOf common.now.queue) }
+        ensures read { HasRead (meter D.told D.relations D.reads D.faults) W.told W.relations
+            common.now.table (C.holds consumer.new) self.old self.new desk.old desk.new
+            blocks.entry result }
+        ensures ring { IfSome ring.new (IsRingOf common.now.queue) }
+        ensures stands_on { M.stands_on method.new ≡ M.stands_on method.old }
+        ensures consumer { C.is_same consumer.old consumer.new }
+    {
+        match ring.take() {
+            Some(own) => {
+                let (own, ending) = self.read_by_ring::<Brand, M, T, C>(
+                    rt, common, desk, own, method, blocks, consumer,
+                );
+                *ring = Some(own);
+                ending
+            }
+            None => self.read_one_by_one(rt, common, desk, method, blocks, consumer),
+        }
+    }
+
+    /// Lists the blocks of a job that are not left out, by the ring where there is one.
     pub(crate) fn list<M: Method<ReadIo, W>, T: Wait>(
         &mut self,
         rt: &T,
@@ -124,24 +178,62 @@ impl<W: World, D: Disk> Hand<W, D> {
         method: &mut M,
         job: &mut Job,
         tuples: bool,
+        skipping: Option<Skipping<'_>>,
     )
         requires may { MayList (meter D.told D.relations D.reads D.faults) W.told W.relations
             common.now.table self.old desk.old job.old }
         requires ring { IfSome ring.old (IsRingOf common.now.queue) }
         ensures listed { HasListed (meter D.told D.relations D.reads D.faults) W.told W.relations
-            common.now.table tuples self.old self.new desk.old desk.new job.old job.new }
+            common.now.table (skips_of skipping.entry) tuples self.old self.new desk.old desk.new
+            job.old job.new }
         ensures ring { IfSome ring.new (IsRingOf common.now.queue) }
         ensures stands_on { M.stands_on method.new ≡ M.stands_on method.old }
     {
-        match ring.take() {
-            Some(own) => {
-                let own = self.list_by_ring::<Brand, M, T>(
-                    rt, common, desk, own, method, job, tuples,
-                );
-                *ring = Some(own);
-            }
-            None => self.list_one_by_one(rt, common, desk, method, job, tuples),
-        }
+        let blocks = Blocks {
+            relation: job.relation,
+            first: job.first,
+            count: job.count,
+            skipping,
+        };
+        let mut listing = Listing { job, tuples };
+        let ending = self.read(rt, common, desk, ring, method, blocks, &mut listing);
+        let Listing { job, .. } = listing;
+        job.ending = ending;
+        give_back(job);
+    }
+
+    /// Reads so many pages of a map, and executes each I/O by itself.
+    pub(crate) fn read_map<T: Wait>(
+        &mut self,
+        rt: &T,
+        common: &Common<W>,
+        desk: &mut Desk<W, ()>,
+        relation: u32,
+        pages: u32,
+        map: &mut VisMap,
+        warnings: &mut Vec<u8>,
+    ) -> Ending
+        requires may { MayRead (meter D.told D.relations D.reads D.faults) W.told W.relations
+            common.now.table self.old desk.old (map_blocks relation pages) }
+        requires pages { pages ≡ map.old.pages }
+        requires none { (map.old.added ≡ []) × (warnings.old.items ≡ []) }
+        ensures read { HasRead (meter D.told D.relations D.reads D.faults) W.told W.relations
+            common.now.table (HasPages map.new warnings.new.items) self.old self.new desk.old
+            desk.new (map_blocks relation pages) result }
+        ensures pages { map.new.pages ≡ map.old.pages }
+    {
+        let blocks = Blocks {
+            relation,
+            first: 0,
+            count: pages,
+            skipping: None,
+        };
+        let mut taken = MapPages { map, warnings };
+        let ending = self.read_one_by_one(rt, common, desk, &mut SyncMethod, blocks, &mut taken);
+        let MapPages { map, warnings } = taken;
+        give_back(map);
+        give_back(warnings);
+        ending
     }
 
     /// Executes what the queue hands out, until it is closed and empty.

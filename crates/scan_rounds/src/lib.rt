@@ -26,7 +26,10 @@
 
 mod agenda;
 mod backend;
+mod beside;
+mod calls;
 mod common;
+mod consumer;
 mod course;
 mod finish;
 #[cfg(test)]
@@ -34,11 +37,18 @@ mod gate;
 mod hand;
 mod job;
 mod lent;
-mod list;
+mod listing;
+mod loan;
 #[cfg(test)]
 mod manners;
+mod map_pages;
+#[cfg(test)]
+mod map_scans;
+#[cfg(test)]
+mod map_tests;
 mod memory;
 mod open;
+mod reading;
 mod ring;
 mod ring_scan;
 #[cfg(test)]
@@ -50,6 +60,12 @@ mod rounds;
 mod run;
 mod scan;
 mod settings;
+mod skipping;
+mod source;
+#[cfg(test)]
+mod test_files;
+#[cfg(test)]
+mod test_scans;
 #[cfg(test)]
 mod tests;
 #[cfg(test)]

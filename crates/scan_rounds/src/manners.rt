@@ -1,6 +1,8 @@
 //! Scans in each manner of listing: damaged pages given as zeros, and pages with their tuples.
+use crate::test_files::{file_of, lines, shelf_of};
+use crate::test_scans::USUAL;
 use crate::tests::check_job;
-use crate::trials::{Outcome, USUAL, file_of, lines, scan_over, shelf_of};
+use crate::trials::{Outcome, scan_over};
 use crate::{Ending, MethodKind, ScanSettings};
 use std::alloc::Global;
 use std::process::Abort;

@@ -1,18 +1,20 @@
 //! A scan whose backends execute I/Os by rings.
 ghost use Rattle.std.specs.Prelude.{◌≡◌, ◌≤◌, ◌<◌, ◌+◌, ◌*◌, ◌-◌, ◌^◌, ℕ, length, map};
-ghost use Rattle.std.specs.Prelude.{Some, IfErr, IfOk};
+ghost use Rattle.std.specs.Prelude.{None, Some, [], IfErr, IfOk};
 ghost use Rattle.std.specs.List.{All};
 ghost use Rattle.aio_disk.specs.Counts.{raised_by};
 ghost use Rattle.scan_rounds.specs.Hands.{meter};
-ghost use Rattle.scan_rounds.specs.Jobs.{IsFresh, blocks_among, unread_among};
+ghost use Rattle.scan_rounds.specs.Jobs.{IsFresh, blocks_among, kept_among, unread_among};
+ghost use Rattle.scan_rounds.specs.Jobs.{unread_in};
 ghost use Rattle.scan_rounds.specs.Manners.{manner};
 ghost use Rattle.scan_rounds.specs.Opening.{AreSettings, IsSetUp};
-ghost use Rattle.scan_rounds.specs.Rounds.{AreListed, taken_by};
+ghost use Rattle.scan_rounds.specs.Rounds.{AreListed, IsMapRead, taken_by};
+ghost use Rattle.scan_rounds.specs.Skipping.{skips_by};
 ghost use Rattle.scan_rounds.specs.Scans.{IsFinished, IsOpenedAgain, IsScan, IsSameScan};
 ghost use Rattle.scan_rounds.specs.Scans.{disk_of, hands_of, lists_of, manner_in, opened_by};
 
 use crate::agenda::Agenda;
-use crate::job::Job;
+use crate::job::{Ending, Job};
 use crate::open::open_scan;
 use crate::scan::Scan;
 use crate::settings::{MethodKind, ScanSettings};
@@ -23,6 +25,7 @@ use std::alloc::Global;
 use std::marker::Model;
 use std::sync::Wait;
 use std::thread::Threads;
+use vis_map::{Skip, VisMap};
 
 /// A scan without workers, each of whose backends executes I/Os by a ring over its disk: its own
 /// and those that others have pushed, in groups. Contracts see the scan.
@@ -122,6 +125,36 @@ impl<W: World, D: Disk> RingScan<W, D> {
         self.scan.unread()
     }
 
+    /// Reads the pages of a visibility map, which is a relation, by the first backend, in the
+    /// caller's thread and without its ring: as many as the map was opened for. The map holds
+    /// those before the ending, and the warnings are a line for each of them that was invalid and
+    /// is given as zeros. Want of memory is that for a warning. It may wait.
+    pub fn map<R: Wait>(
+        &mut self,
+        rt: &R,
+        relation: u32,
+        map: &mut VisMap,
+        warnings: &mut Vec<u8>,
+    ) -> Ending
+        requires scan { IsScan (meter D.told D.relations D.reads D.faults) W.told W.relations
+            self.old }
+        requires none { (map.old.added ≡ []) × (warnings.old.items ≡ []) }
+        requires relation { relation < W.relations }
+        requires room { 65 ≤ self.old.room }
+        ensures scan { IsScan (meter D.told D.relations D.reads D.faults) W.told W.relations
+            self.new }
+        ensures same { IsSameScan self.old self.new }
+        ensures read { IsMapRead (manner_in self.old) W.told self.old.backends.items
+            self.new.backends.items relation map.old.pages map.new warnings.new.items result }
+        ensures pages { map.new.pages ≡ map.old.pages }
+        ensures room { self.old.room ≤ self.new.room + 65 }
+        ensures unread { self.new.unread ≡ raised_by (unread_in result) self.old.unread }
+        ensures taken { taken_by self.new.backends.items
+            ≤ taken_by self.old.backends.items + map.old.pages }
+    {
+        self.scan.map(rt, relation, map, warnings)
+    }
+
     /// Closes the table. The disks come back in the order in which they were handed in. It takes
     /// no memory.
     pub fn finish(self) -> (Totals, Vec<D>)
@@ -148,7 +181,7 @@ impl<W: World + Send + Sync, D: Disk> RingScan<W, D> {
         ensures same { IsSameScan self.old self.new }
         ensures reopened { IsOpenedAgain self.old.backends.items self.old.common.queue
             self.new.common.queue }
-        ensures listed { AreListed (manner_in self.old) W.told self.old.backends.items
+        ensures listed { AreListed None (manner_in self.old) W.told self.old.backends.items
             self.new.backends.items jobs.old jobs.new }
         ensures room { self.old.room ≤ self.new.room + 64 }
         ensures unread { self.new.unread ≡ raised_by (unread_among jobs.new) self.old.unread }
@@ -158,6 +191,34 @@ impl<W: World + Send + Sync, D: Disk> RingScan<W, D> {
         self.scan.round(rt, jobs);
     }
 
+    /// The same, without the blocks that the map marks: those that are all-visible, or all-frozen.
+    pub fn round_filtered<R: Threads + Wait + Sync>(
+        &mut self,
+        rt: &R,
+        jobs: &mut [Job],
+        map: &VisMap,
+        skip: Skip,
+    )
+        requires scan { IsScan (meter D.told D.relations D.reads D.faults) W.told W.relations
+            self.old }
+        requires few { (1 ≤ length jobs.old) × (length jobs.old ≤ length self.old.backends.items) }
+        requires fresh { All (IsFresh W.relations) jobs.old }
+        requires room { 64 ≤ self.old.room }
+        ensures scan { IsScan (meter D.told D.relations D.reads D.faults) W.told W.relations
+            self.new }
+        ensures same { IsSameScan self.old self.new }
+        ensures reopened { IsOpenedAgain self.old.backends.items self.old.common.queue
+            self.new.common.queue }
+        ensures listed { AreListed (skips_by map.now skip) (manner_in self.old) W.told
+            self.old.backends.items self.new.backends.items jobs.old jobs.new }
+        ensures room { self.old.room ≤ self.new.room + 64 }
+        ensures unread { self.new.unread ≡ raised_by (unread_among jobs.new) self.old.unread }
+        ensures taken { taken_by self.new.backends.items
+            ≤ taken_by self.old.backends.items + kept_among (skips_by map.now skip) jobs.old }
+    {
+        self.scan.round_filtered(rt, jobs, map, skip);
+    }
+
     /// All rounds of an agenda, until it is over. The first backend runs in the caller's thread.
     /// It may wait.
     pub fn run<R: Threads + Wait + Sync, A: Agenda<W>>(&mut self, rt: &R, agenda: A) -> A
@@ -165,6 +226,7 @@ impl<W: World + Send + Sync, D: Disk> RingScan<W, D> {
             self.old }
         requires room { 64 * A.left agenda ≤ self.old.room }
         requires manner { A.manner agenda ≡ manner_in self.old }
+        requires skips { A.skips agenda ≡ None }
         ensures scan { IsScan (meter D.told D.relations D.reads D.faults) W.told W.relations
             self.new }
         ensures same { IsSameScan self.old self.new }
@@ -176,9 +238,39 @@ impl<W: World + Send + Sync, D: Disk> RingScan<W, D> {
         ensures room { self.old.room + 64 * A.left result ≤ self.new.room + 64 * A.left agenda }
         ensures unread { (more : ℕ) × (self.new.unread ≡ raised_by more self.old.unread)
             × (A.unread result ≤ A.unread agenda + more) }
-        ensures taken { taken_by self.new.backends.items + A.left result
-            ≤ taken_by self.old.backends.items + A.left agenda }
+        ensures taken { taken_by self.new.backends.items + A.due result
+            ≤ taken_by self.old.backends.items + A.due agenda }
     {
         self.scan.run(rt, agenda)
+    }
+
+    /// The same, without the blocks that the map marks: those that are all-visible, or all-frozen.
+    pub fn run_filtered<R: Threads + Wait + Sync, A: Agenda<W>>(
+        &mut self,
+        rt: &R,
+        agenda: A,
+        map: &VisMap,
+        skip: Skip,
+    ) -> A
+        requires scan { IsScan (meter D.told D.relations D.reads D.faults) W.told W.relations
+            self.old }
+        requires room { 64 * A.left agenda ≤ self.old.room }
+        requires manner { A.manner agenda ≡ manner_in self.old }
+        requires skips { A.skips agenda ≡ skips_by map.now skip }
+        ensures scan { IsScan (meter D.told D.relations D.reads D.faults) W.told W.relations
+            self.new }
+        ensures same { IsSameScan self.old self.new }
+        ensures reopened { IsOpenedAgain self.old.backends.items self.old.common.queue
+            self.new.common.queue }
+        ensures follows { A.follows agenda result }
+        ensures over { A.is_over result }
+        ensures manner { A.manner result ≡ A.manner agenda }
+        ensures room { self.old.room + 64 * A.left result ≤ self.new.room + 64 * A.left agenda }
+        ensures unread { (more : ℕ) × (self.new.unread ≡ raised_by more self.old.unread)
+            × (A.unread result ≤ A.unread agenda + more) }
+        ensures taken { taken_by self.new.backends.items + A.due result
+            ≤ taken_by self.old.backends.items + A.due agenda }
+    {
+        self.scan.run_filtered(rt, agenda, map, skip)
     }
 }

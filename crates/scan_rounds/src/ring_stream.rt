@@ -8,7 +8,7 @@ ghost use Rattle.method_worker.specs.Shown.{IsSeatOf};
 ghost use Rattle.read_stream.specs.Open.{IsOpen};
 
 use crate::ring_tests::blocks_read;
-use crate::trials::{file_of, shelf_of};
+use crate::test_files::{file_of, shelf_of};
 use aio_batch::Method;
 use aio_callback::ReadIo;
 use aio_disk::{Disk, MemDisk};

@@ -1,6 +1,8 @@
 //! Scans by rings.
+use crate::test_files::{file_of, shelf_of};
+use crate::test_scans::USUAL;
 use crate::tests::{check_job, check_listing};
-use crate::trials::{Blocks, Outcome, USUAL, file_of, scan_over, shelf_of};
+use crate::trials::{Blocks, Outcome, scan_over};
 use crate::{Ending, MethodKind, ScanSettings};
 use aio_disk::MemShelf;
 use std::alloc::{AllocError, Global};

@@ -4,9 +4,11 @@ ghost use Rattle.std.specs.List.{All};
 ghost use Rattle.std.specs.Thread.{IsSync};
 ghost use Rattle.scan_rounds.specs.Hands.{MayRun, MayServe, Ran, Worked, meter};
 ghost use Rattle.scan_rounds.specs.Rounds.{AllRan, AllWorked};
+ghost use Rattle.scan_rounds.specs.Skipping.{skips_of};
 
 use crate::backend::Backend;
 use crate::common::Common;
+use crate::skipping::Skipping;
 use crate::worker::Worker;
 use aio_disk::Disk;
 use page_check::World;
@@ -15,13 +17,19 @@ use std::thread;
 use std::thread::Threads;
 
 // Lets a backend do its job.
-fn run_one<W: World, D: Disk, R: Wait>(rt: &R, common: &Common<W>, backend: &mut Backend<W, D>)
+fn run_one<W: World, D: Disk, R: Wait>(
+    rt: &R,
+    common: &Common<W>,
+    skipping: Option<Skipping<'_>>,
+    backend: &mut Backend<W, D>,
+)
     requires may { MayRun (meter D.told D.relations D.reads D.faults) W.told W.relations
         common.now.table common.now.queue backend.old }
     ensures ran { Ran (meter D.told D.relations D.reads D.faults) W.told W.relations
-        common.now.table common.now.queue backend.old backend.new }
+        common.now.table common.now.queue (skips_of skipping.entry) backend.old
+        backend.new }
 {
-    backend.run(rt, common);
+    backend.run(rt, common, skipping);
 }
 
 // Lets a worker serve the queue.
@@ -34,16 +42,19 @@ fn serve_one<W: World, D: Disk, R: Wait>(rt: &R, common: &Common<W>, worker: &mu
     worker.run(rt, common);
 }
 
-/// Each backend does its job in a thread of its own, the first in the caller's.
+/// Each backend does its job in a thread of its own, the first in the caller's, without the blocks
+/// that are left out.
 pub(crate) fn run_backends<W: World + Send + Sync, D: Disk, R: Threads + Wait + Sync>(
     rt: &R,
     common: &Common<W>,
+    skipping: Option<Skipping<'_>>,
     backends: &mut [Backend<W, D>],
 )
     requires may { All (MayRun (meter D.told D.relations D.reads D.faults) W.told W.relations
         common.now.table common.now.queue) backends.old }
     ensures ran { AllRan (meter D.told D.relations D.reads D.faults) W.told W.relations
-        common.now.table common.now.queue backends.old backends.new }
+        common.now.table common.now.queue (skips_of skipping.entry) backends.old
+        backends.new }
 {
     thread::for_each_mut(
         rt,
@@ -53,8 +64,9 @@ pub(crate) fn run_backends<W: World + Send + Sync, D: Disk, R: Threads + Wait + 
             requires { MayRun (meter D.told D.relations D.reads D.faults) W.told W.relations
                 common.now.table common.now.queue backend.old }
             ensures { Ran (meter D.told D.relations D.reads D.faults) W.told W.relations
-                common.entry.now.table common.entry.now.queue backend.old backend.new }
-        { run_one(rt, common, backend) },
+                common.entry.now.table common.entry.now.queue (skips_of skipping.entry)
+                backend.old backend.new }
+        { run_one(rt, common, skipping, backend) },
     );
 }
 

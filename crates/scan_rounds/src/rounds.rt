@@ -3,16 +3,18 @@ ghost use Rattle.std.specs.Prelude.{◌≡◌, ◌≤◌, ◌<◌, ◌+◌, ◌*
 ghost use Rattle.std.specs.List.{All};
 ghost use Rattle.aio_disk.specs.Counts.{raised_by};
 ghost use Rattle.scan_rounds.specs.Hands.{IsBackend, meter};
-ghost use Rattle.scan_rounds.specs.Jobs.{IsFresh, blocks_among, unread_among};
+ghost use Rattle.scan_rounds.specs.Jobs.{IsFresh, kept_among, unread_among, unread_in};
 ghost use Rattle.scan_rounds.specs.Manners.{Manner};
 ghost use Rattle.scan_rounds.specs.Rounds.{AllGoOn, AllListIn, AreIdle, AreListed, IsLeastRoom};
 ghost use Rattle.scan_rounds.specs.Rounds.{Swapped};
 ghost use Rattle.scan_rounds.specs.Rounds.{hand_of, results_of, taken_by};
+ghost use Rattle.scan_rounds.specs.Skipping.{skips_of};
 
 use crate::backend::Backend;
 use crate::common::Common;
 use crate::job::{Ending, Job};
 use crate::round::run_backends;
+use crate::skipping::Skipping;
 use aio_disk::Disk;
 use page_check::World;
 use std::mem;
@@ -38,14 +40,22 @@ pub(crate) fn swap_jobs<W: World, D: Disk>(backends: &mut [Backend<W, D>], jobs:
     }
 }
 
+/// The count with one more where this is Unread.
+pub(crate) fn count_one(count: u64, ending: Ending) -> u64
+    ensures { result ≡ raised_by (unread_in ending) count }
+{
+    match ending {
+        Ending::Unread(_) => count.saturating_add(1),
+        _ => count,
+    }
+}
+
 // The count with one more for each job that ended in Unread.
 pub(crate) fn count_unread(mut count: u64, jobs: &[Job]) -> u64
     ensures { result ≡ raised_by (unread_among jobs.now) count }
 {
     for job in jobs {
-        if let Ending::Unread(_) = job.ending {
-            count = count.saturating_add(1);
-        }
+        count = count_one(count, job.ending);
     }
     count
 }
@@ -62,10 +72,12 @@ pub(crate) fn least_room<W: World, D: Disk>(backends: &[Backend<W, D>]) -> u64
     least
 }
 
-/// One round: the first backends do these jobs, one each, and the others do nothing.
+/// One round: the first backends do these jobs, one each, without the blocks that are left out, and
+/// the others do nothing.
 pub(crate) fn one_round<W: World + Send + Sync, D: Disk, R: Threads + Wait + Sync>(
     rt: &R,
     common: &Common<W>,
+    skipping: Option<Skipping<'_>>,
     backends: &mut [Backend<W, D>],
     jobs: &mut [Job],
     counts: Counts,
@@ -83,15 +95,16 @@ pub(crate) fn one_round<W: World + Send + Sync, D: Disk, R: Threads + Wait + Syn
     ensures go_on { AllGoOn (meter D.told D.relations D.reads D.faults) W.told W.relations
         common.now.table (map hand_of backends.old) (map hand_of backends.new) }
     ensures listed { (m : Manner) → AllListIn m backends.old
-        → AreListed m W.told backends.old backends.new jobs.old jobs.new }
+        → AreListed (skips_of skipping.entry) m W.told backends.old backends.new jobs.old jobs.new }
     ensures manner { (m : Manner) → AllListIn m backends.old → AllListIn m backends.new }
     ensures room { IsLeastRoom backends.new result.room × (counts.room ≤ result.room + 64) }
     ensures unread { result.unread ≡ raised_by (unread_among jobs.new) counts.unread }
-    ensures taken { taken_by backends.new ≤ taken_by backends.old + blocks_among jobs.old }
+    ensures taken { taken_by backends.new
+        ≤ taken_by backends.old + kept_among (skips_of skipping.entry) jobs.old }
     ensures results { result.unread ≤ results_of backends.new }
 {
     swap_jobs(backends, jobs);
-    run_backends(rt, common, backends);
+    run_backends(rt, common, skipping, backends);
     swap_jobs(backends, jobs);
     Counts {
         room: least_room(backends),

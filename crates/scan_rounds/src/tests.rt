@@ -1,10 +1,9 @@
 //! Rounds of scans, job by job.
 ghost use Rattle.std.specs.Prelude.{◌+◌, ◌^◌, ◌≤◌};
 
-use crate::trials::{
-    Blocks, EMPTY_PAGE, Outcome, Parts, THREE_ITEMS, USUAL, ZERO_PAGE, file_of, file_with, lines,
-    scan_at, scan_by_parts, scan_over, shelf_of,
-};
+use crate::test_files::{EMPTY_PAGE, THREE_ITEMS, ZERO_PAGE, file_of, file_with, lines, shelf_of};
+use crate::test_scans::USUAL;
+use crate::trials::{Blocks, Outcome, Parts, scan_at, scan_by_parts, scan_over};
 use crate::{Ending, MethodKind, ScanSettings};
 use heap_scan::PageSums;
 use std::alloc::Global;

@@ -71,7 +71,8 @@ impl VisMap {
 
     /// How many pages it was opened for.
     pub fn pages(&self) -> u32
-        ensures { result ≡ self.now.pages }
+        ensures pages { result ≡ self.now.pages }
+        ensures few { result ≤ 65 }
     {
         self.pages.len() as u32
     }

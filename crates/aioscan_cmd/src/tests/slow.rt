@@ -23,8 +23,13 @@ fn number(bytes: &[u8], offset: usize, size: usize) -> u32 {
     value
 }
 
-// Appends the text of a page, and says whether it is a valid one.
-fn list_page(text: &mut String, relation: usize, block: u32, page: &[u8]) -> Result<bool, Fail> {
+/// Appends the text of a page, and says whether it is a valid one.
+pub(super) fn list_page(
+    text: &mut String,
+    relation: usize,
+    block: u32,
+    page: &[u8],
+) -> Result<bool, Fail> {
     if page.iter().all(|byte| *byte == 0) {
         writeln!(text, "page {relation} {block} new")?;
         return Ok(true);
@@ -51,18 +56,18 @@ fn list_page(text: &mut String, relation: usize, block: u32, page: &[u8]) -> Res
     Ok(true)
 }
 
-// What is asked for: the first and the last block, and files by their numbers.
+/// What is asked for: the first and the last block, and files by their numbers.
 #[derive(Drop)]
-struct Asked {
-    from: Option<u32>,
-    to: Option<u32>,
-    files: Vec<usize>,
+pub(super) struct Asked {
+    pub(super) from: Option<u32>,
+    pub(super) to: Option<u32>,
+    pub(super) files: Vec<usize>,
     /// Whether damaged pages are listed as zeros.
-    zero: bool,
+    pub(super) zero: bool,
 }
 
-// The listing, what is said on the error stream and the status for two files `a` and `b`.
-fn slow_run(
+/// The listing, what is said on the error stream and the status for two files `a` and `b`.
+pub(super) fn slow_run(
     alloc: Global,
     asked: &Asked,
     contents: &[Vec<u8>],
@@ -107,8 +112,8 @@ pub(crate) fn pick(state: &mut u64, limit: u64) -> u64
     (*state >> 33) % limit
 }
 
-// A file of up to four pages, one in eight of them damaged.
-fn random_file(alloc: Global, state: &mut u64) -> Result<Vec<u8>, AllocError> {
+/// A file of up to four pages, one in eight of them damaged.
+pub(super) fn random_file(alloc: Global, state: &mut u64) -> Result<Vec<u8>, AllocError> {
     let mut pages: Vec<Parts<'_>> = Vec::new(alloc);
     for _ in 0..pick(state, 5) {
         pages.push(match pick(state, 8) {
@@ -121,8 +126,8 @@ fn random_file(alloc: Global, state: &mut u64) -> Result<Vec<u8>, AllocError> {
     file_of(alloc, pages.as_slice())
 }
 
-// A block number below 5, or none.
-fn random_block(state: &mut u64) -> Option<u32> {
+/// A block number below 5, or none.
+pub(super) fn random_block(state: &mut u64) -> Option<u32> {
     match pick(state, 10) {
         block @ 0..5 => Some(block as u32),
         _ => None,
@@ -142,8 +147,8 @@ fn random_asked(alloc: Global, state: &mut u64, zero: bool) -> Result<Asked, All
     })
 }
 
-// The words that ask for this.
-fn line_of(alloc: Global, asked: &Asked, settings: &str) -> Result<String, Fail> {
+/// The words that ask for this.
+pub(super) fn line_of(alloc: Global, asked: &Asked, settings: &str) -> Result<String, Fail> {
     let mut line = String::from_str(alloc, settings)?;
     if let Some(block) = asked.from {
         write!(line, " --from {block}")?;
@@ -160,6 +165,34 @@ fn line_of(alloc: Global, asked: &Asked, settings: &str) -> Result<String, Fail>
     Ok(line)
 }
 
+/// Runs a line over the files `a` and `b`, and compares the listing, what is said and the status.
+pub(super) fn expect_shown<R: Abort + AllocGlobal + Threads + Wait + Sync>(
+    rt: &R,
+    request: u32,
+    line: &str,
+    (a, b): (Vec<u8>, Vec<u8>),
+    (text, said, status): (&str, &str, u8),
+) -> Result<(), Fail> {
+    let alloc = rt.alloc();
+    let files = vec![in alloc;
+        (String::from_str(alloc, "a")?, a),
+        (String::from_str(alloc, "b")?, b),
+    ]?;
+    let done = run(rt, files, STEADY, line, (&[], &[]))?;
+    assert_eq!(rt;
+        done.out.bytes(),
+        text.as_bytes(),
+        "request {request}: {line}"
+    );
+    assert_eq!(rt;
+        done.err.bytes(),
+        said.as_bytes(),
+        "request {request}: {line}"
+    );
+    assert_eq!(rt; done.report.status, status, "request {request}: {line}");
+    Ok(())
+}
+
 // Runs a request over the files `a` and `b`, and compares what it shows with what the plain slow
 // lister gives.
 fn compare<R: Abort + AllocGlobal + Threads + Wait + Sync>(
@@ -172,25 +205,10 @@ fn compare<R: Abort + AllocGlobal + Threads + Wait + Sync>(
 ) -> Result<(), Fail> {
     let alloc = rt.alloc();
     let contents = vec![in alloc; a.clone()?, b.clone()?]?;
-    let (text, wanted, status) = slow_run(alloc, asked, contents.as_slice())?;
+    let (text, said, status) = slow_run(alloc, asked, contents.as_slice())?;
     let line = line_of(alloc, asked, settings)?;
-    let files = vec![in alloc;
-        (String::from_str(alloc, "a")?, a),
-        (String::from_str(alloc, "b")?, b),
-    ]?;
-    let done = run(rt, files, STEADY, line.as_str(), (&[], &[]))?;
-    assert_eq!(rt;
-        done.out.bytes(),
-        text.as_str().as_bytes(),
-        "request {request}: {line}"
-    );
-    assert_eq!(rt;
-        done.err.bytes(),
-        wanted.as_str().as_bytes(),
-        "request {request}: {line}"
-    );
-    assert_eq!(rt; done.report.status, status, "request {request}: {line}");
-    Ok(())
+    let wanted = (text.as_str(), said.as_str(), status);
+    expect_shown(rt, request, line.as_str(), (a, b), wanted)
 }
 
 /// Compares 2,000 random requests under random settings with the plain slow lister.

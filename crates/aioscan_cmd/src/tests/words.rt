@@ -20,8 +20,8 @@ const DEFAULTS: ScanSettings = ScanSettings {
     tuples: false,
 };
 
-// The words with a space behind each.
-fn joined(alloc: Global, words: &[&str]) -> Result<String, Fail> {
+/// The words with a space behind each.
+pub(crate) fn joined(alloc: Global, words: &[&str]) -> Result<String, Fail> {
     let mut text = String::new(alloc);
     for word in words {
         text.push_str(word)?;
@@ -223,6 +223,24 @@ fn refused_words(rt: HostRuntime) -> Result<(), Fail> {
         "--make 10 --to 1",
         "--make 10 --make 10",
         "--make 10 --tuples",
+        "--make 3 --map m",
+        "--make 3 --map m f",
+        "--make 3 --skip frozen",
+        "--map m",
+        "--map m f f",
+        "--map m f g",
+        "--map f f",
+        "--map= f",
+        "--map '' f",
+        "--map f",
+        "--map m --map n f",
+        "--map m --skip none f",
+        "--map m --skip Frozen f",
+        "--map m --skip= f",
+        "--map m --skip visible --skip visible f",
+        "--skip visible f",
+        "--skip frozen f",
+        "--skip none f",
         "--stats",
         "--stats --stats f",
         "--stats=true f",

@@ -8,7 +8,7 @@ use clap::{Arg, ArgAction, Command};
 use std::alloc::{AllocError, Global};
 
 // The options with a value.
-const OPTIONS: [&str; 10] = [
+const OPTIONS: [&str; 12] = [
     "method",
     "workers",
     "backends",
@@ -19,6 +19,8 @@ const OPTIONS: [&str; 10] = [
     "from",
     "to",
     "make",
+    "map",
+    "skip",
 ];
 
 // The flags.

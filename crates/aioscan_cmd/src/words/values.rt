@@ -21,8 +21,8 @@ const SEGMENT_SIZE: u32 = 131072;
 // At most so many files are named.
 const MOST_FILES: usize = 1024;
 
-// The value of an option.
-fn text_of<'a>(matches: &ArgMatches<'a>, name: &str) -> Option<&'a str>
+/// The value of an option.
+pub(crate) fn text_of<'a>(matches: &ArgMatches<'a>, name: &str) -> Option<&'a str>
     ensures { option_map (λ s. s.now) result ≡ first_of name.now (rows_of (found_of matches.now)) }
 {
     matches.get_str(name)
@@ -151,8 +151,8 @@ fn are_files(words: &[&str]) -> bool
     is_count(words.len(), MOST_FILES) && all_names(words)
 }
 
-// The values of an argument, in their order.
-fn texts_of<'m, 'a>(matches: &'m ArgMatches<'a>, name: &str) -> Option<&'m [&'a str]>
+/// The values of an argument, in their order.
+pub(crate) fn texts_of<'m, 'a>(matches: &'m ArgMatches<'a>, name: &str) -> Option<&'m [&'a str]>
     ensures { option_map (λ s. map (λ v. v.now) s.now) result
         ≡ all_of name.now (rows_of (found_of matches.now)) }
 {

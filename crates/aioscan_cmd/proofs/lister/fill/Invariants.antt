@@ -1,4 +1,4 @@
-use Rattle.std.proofs.Common.{◌≡◌, ◌++◌, length, take}
+use Rattle.std.proofs.Common.{◌≡◌, ◌++◌, length, take, None}
 use Rattle.std.specs.List.{All}
 use Rattle.scan_rounds.specs.Jobs.{IsFresh}
 use Rattle.aioscan_cmd.specs.Listing.{requests_in}
@@ -8,5 +8,5 @@ abbrev pub invariant-loop-place : goal.invariant-loop-place
 invariant-loop-place g l = record {
   same : length l.jobs ≡ length l.fn.jobs;
   fresh : All (IsFresh g.W.World.relations) (take l.place l.jobs);
-  cut : l.fn.blocks ≡ requests_in (take l.place l.jobs) ++ l.blocks;
+  cut : l.fn.blocks ≡ requests_in None (take l.place l.jobs) ++ l.blocks;
 }

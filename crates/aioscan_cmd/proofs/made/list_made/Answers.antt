@@ -7,9 +7,9 @@ use Rattle.aioscan_cmd.specs.Command.{relations_of}
 use Rattle.aioscan_cmd.specs.Generated.{summary_of}
 use Rattle.aioscan_cmd.specs.Reading.{GrewBy}
 use Rattle.aioscan_cmd.specs.declared.report.Outcome.TheVariants.{NoMemory}
-use Rattle.aioscan_cmd.proofs.MadeRuns.{all_listed, listed_sums_made, made_contents}
-use Rattle.aioscan_cmd.proofs.MadeRuns.{made_there, none_to_warn, one_relation, ran_made}
-use Rattle.aioscan_cmd.proofs.MadeRuns.{ran_made_without_memory}
+use Rattle.aioscan_cmd.proofs.MadeScans.{all_listed, listed_sums_made, made_contents, made_there}
+use Rattle.aioscan_cmd.proofs.MadeScans.{none_to_warn, one_relation}
+use Rattle.aioscan_cmd.proofs.MadeRuns.{ran_made, ran_made_without_memory}
 use Rattle.aioscan_cmd.proofs.Telling.{warns_none}
 use Rattle.aioscan_cmd.proofs.made.list_made.Goals as goal
 

@@ -1,8 +1,9 @@
 use Rattle.std.proofs.Common.{◌∙◌, [], ap, length, refl}
 use Rattle.aio_disk.specs.Shelf.{told_of}
 use Rattle.aioscan_cmd.specs.Command.{relations_of}
-use Rattle.aioscan_cmd.proofs.EndOfRun.{ran_without_memory, ran_unopened, ran_same}
-use Rattle.aioscan_cmd.proofs.EndOfRun.{no_sums_told, sums_same}
+use Rattle.aioscan_cmd.proofs.NothingListed.{ran_without_memory, ran_unopened}
+use Rattle.aioscan_cmd.proofs.BlocksListed.{ran_same}
+use Rattle.aioscan_cmd.proofs.SumsTold.{no_sums_told, sums_same}
 use Rattle.aioscan_cmd.proofs.Telling.{warns_also, warns_none}
 use Rattle.aioscan_cmd.proofs.relation_files.list_files.Goals as goal
 

@@ -3,7 +3,7 @@ use Rattle.std.specs.Prelude.{string_bytes}
 use Rattle.aioscan_cmd.specs.Reading.{seen}
 use Rattle.aioscan_cmd.specs.Words.{command_of}
 use Rattle.aioscan_cmd.specs.declared.report.RunEnd.{RunEnd}
-use Rattle.aioscan_cmd.proofs.EndOfRun.{ran_no_command, ran_unread}
+use Rattle.aioscan_cmd.proofs.NothingListed.{ran_no_command, ran_unread}
 use Rattle.aioscan_cmd.proofs.EndOfScan.{uncounted}
 use Rattle.aioscan_cmd.proofs.Telling.{warns_none}
 use Rattle.aioscan_cmd.proofs.run.run.Goals as goal

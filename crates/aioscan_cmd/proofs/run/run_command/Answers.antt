@@ -3,7 +3,7 @@ use Rattle.std.specs.Prelude.{Option, Some}
 use Rattle.aioscan_cmd.specs.Reading.{seen}
 use Rattle.aioscan_cmd.specs.Run.{RanBy}
 use Rattle.aioscan_cmd.specs.Totals.{AreCounted}
-use Rattle.aioscan_cmd.proofs.MadeRuns.{made_apart, made_causes}
+use Rattle.aioscan_cmd.proofs.MadeCauses.{made_apart, made_causes}
 use Rattle.aioscan_cmd.proofs.run.run_command.Goals as goal
 
 pub returns-in-Some-clause-ran : goal.returns-in-Some-clause-ran

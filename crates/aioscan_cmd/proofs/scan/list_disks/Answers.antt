@@ -1,4 +1,4 @@
-use Rattle.std.proofs.Common.{◌∙◌, ap, arith, sum_by}
+use Rattle.std.proofs.Common.{◌∙◌, ap, arith, sum_by, []}
 use Rattle.aioscan_cmd.proofs.EndOfScan.{no_reads, some_fault, nothing_counted, nothing_listed}
 use Rattle.aioscan_cmd.proofs.EndOfScan.{none_by_workers}
 use Rattle.aioscan_cmd.proofs.Telling.{warns_none}
@@ -7,48 +7,52 @@ use Rattle.aioscan_cmd.proofs.scan.list_disks.Goals as goal
 pub returns-clause-unread : goal.returns-clause-unread
 returns-clause-unread g c = λ r b is.
     some_fault g.D.Disk.faults c.finish-totals.result.1.items _ _
-    c.finish-totals.ensures.finished.each_unread (c.list_rounds-outcome.ensures.unread r b is)
+    c.finish-totals.ensures.finished.each_unread (c.list_asked-outcome.ensures.unread r b is)
 
-pub returns-clause-counted : goal.returns-clause-counted
-returns-clause-counted g c =
+pub returns-clause-listed : goal.returns-clause-listed
+returns-clause-listed g c =
+    let (given, lists, few) = c.list_asked-outcome.ensures.listed in
     let f = c.finish-totals.ensures.finished in
-    let same = c.list_rounds-outcome.ensures.same in
+    let same = c.list_asked-outcome.ensures.same in
     let none = ap (sum_by g.D.Disk.reads) (same.opened ∙ c.in-Ok.ensures.new.opened)
     ∙ no_reads g.D.Disk.told g.D.Disk.relations g.D.Disk.segment g.D.Disk.faults g.D.Disk.reads
-    g.W.World.told g.W.World.relations c.args.asked.segment c.args.disks.items c.requires.unread in
-    record {
-      sum = omega (
-        arith,
-        f.are.sum,
-        c.incarnations.ensures,
-        c.by_runners.ensures,
-        c.by_backends.ensures,
-      );
-      reads_are = λ below.
-          (let each = f.each_read below in omega (arith, each, none, c.incarnations.ensures));
-      few = omega (
-        arith,
-        f.each_taken,
-        c.incarnations.ensures,
-        c.list_rounds-outcome.ensures.taken,
-        c.in-Ok.ensures.new.taken,
-      );
-      no_workers = none_by_workers _ _ _ _ _ c.settings-settings.ensures.settings
-          (ap (λ config. config.runners) same.config ∙ c.in-Ok.ensures.new.runners)
-          f.no_workers c.by_runners.ensures;
-    }
+    g.W.World.told g.W.World.relations c.args.asked.segment c.args.disks.items
+    c.requires.unread in (
+      given,
+      lists,
+      record {
+        sum = omega (
+          arith,
+          f.are.sum,
+          c.incarnations.ensures,
+          c.by_runners.ensures,
+          c.by_backends.ensures,
+        );
+        reads_are = λ below.
+            (let each = f.each_read below in omega (arith, each, none, c.incarnations.ensures));
+        few = omega (
+          arith,
+          f.each_taken,
+          c.incarnations.ensures,
+          few,
+          c.in-Ok.ensures.new.taken,
+        );
+        no_workers = none_by_workers _ _ _ _ _ c.settings-settings.ensures.settings
+            (ap (λ config. config.runners) same.config ∙ c.in-Ok.ensures.new.runners)
+            f.no_workers c.by_runners.ensures;
+      },
+    )
 
-pub returns-in-Err-clause-lists : goal.returns-in-Err-clause-lists
-returns-in-Err-clause-lists g c =
-    warns_none _ _ _ _ _ c.without_reads.ensures.line
-    (nothing_listed _ g.W.World.told c.args.asked _ _ c.without_reads.ensures.outcome)
-
-pub returns-in-Err-clause-counted : goal.returns-in-Err-clause-counted
-returns-in-Err-clause-counted g c =
+pub returns-in-Err-clause-listed : goal.returns-in-Err-clause-listed
+returns-in-Err-clause-listed g c =
     let none = no_reads g.D.Disk.told g.D.Disk.relations g.D.Disk.segment g.D.Disk.faults
     g.D.Disk.reads g.W.World.told g.W.World.relations c.args.asked.segment c.args.disks.items
     c.requires.unread in
-    let numbers = c.without_reads.ensures.numbers in
-    nothing_counted _ _ _ _
-    (ap (λ disks. sum_by g.D.Disk.reads disks.items) c.in-Err.ensures.back ∙ none)
-    numbers.0 numbers.1 numbers.2
+    let numbers = c.without_reads.ensures.numbers in (
+      λ _. [],
+      warns_none _ _ _ _ _ c.without_reads.ensures.line
+          (nothing_listed _ g.W.World.told _ _ _ c.without_reads.ensures.outcome),
+      nothing_counted _ _ _ _ _ _
+          (ap (λ disks. sum_by g.D.Disk.reads disks.items) c.in-Err.ensures.back ∙ none)
+          numbers.0 numbers.1 numbers.2,
+    )

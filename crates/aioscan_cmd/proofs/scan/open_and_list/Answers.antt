@@ -1,41 +1,52 @@
-use Rattle.std.proofs.Common.{rules}
+use Rattle.std.proofs.Common.{◌≡◌, rules, [], subst, false}
+use Rattle.aioscan_cmd.specs.Outcomes.{is_refused}
+use Rattle.aioscan_cmd.specs.declared.report.Outcome.{Outcome}
 use Rattle.aioscan_cmd.proofs.EndOfScan.{no_reads, no_faults, nothing_counted, scanned_nothing}
 use Rattle.aioscan_cmd.proofs.EndOfScan.{scan_refused}
-use Rattle.aioscan_cmd.proofs.Telling.{warns_none}
+use Rattle.aioscan_cmd.proofs.Telling.{warns_also, warns_none}
 use Rattle.aioscan_cmd.proofs.scan.open_and_list.Goals as goal
+
+pub returns-in-Ok-clause-scanned : goal.returns-in-Ok-clause-scanned
+returns-in-Ok-clause-scanned g c =
+    let (given, listed, counted) = c.list_disks.ensures.listed in
+    let e = c.open_others.ensures in (
+      given,
+      warns_also _ _ _ _ (λ w lists. record {
+        opens = e.later;
+        others = (e.length_faults, e.faults, e.reads);
+        lists = λ _. lists;
+        cannot_open = λ is. absurd (
+            let begun = subst (λ (o : Outcome). is_refused o ≡ false) is lists.begun in cc);
+        unread = c.list_disks.ensures.unread;
+      }) listed,
+      counted,
+    )
 
 pub returns-in-Err-Device-clause-scanned : goal.returns-in-Err-Device-clause-scanned
 returns-in-Err-Device-clause-scanned g c =
     let e = c.open_others.ensures in
-    warns_none _ _ _ _ _ c.without_reads.ensures.line
-    (scan_refused _ _ _ _ _ _ _ _ c.without_reads.ensures.outcome e.later
-    (e.length_faults, e.faults, e.reads) (search rules)
-    (no_faults g.S.Disk.Disk.told g.S.Disk.Disk.relations g.S.Disk.Disk.segment
-    g.S.Disk.Disk.faults g.S.Disk.Disk.reads _ _ _ c.open_others.new.disks.items e.unread)
-    (no_reads g.S.Disk.Disk.told g.S.Disk.Disk.relations g.S.Disk.Disk.segment
-    g.S.Disk.Disk.faults g.S.Disk.Disk.reads _ _ _ c.open_others.new.disks.items e.unread))
-
-pub returns-in-Err-Device-clause-counted : goal.returns-in-Err-Device-clause-counted
-returns-in-Err-Device-clause-counted g c =
     let numbers = c.without_reads.ensures.numbers in
-    nothing_counted _ _ _ _
-    (no_reads g.S.Disk.Disk.told g.S.Disk.Disk.relations g.S.Disk.Disk.segment
-    g.S.Disk.Disk.faults g.S.Disk.Disk.reads _ _ _ c.open_others.new.disks.items
-    c.open_others.ensures.unread)
-    numbers.0 numbers.1 numbers.2
+    let none = no_reads g.S.Disk.Disk.told g.S.Disk.Disk.relations g.S.Disk.Disk.segment
+    g.S.Disk.Disk.faults g.S.Disk.Disk.reads _ _ _ c.open_others.new.disks.items e.unread in (
+      λ _. [],
+      warns_none _ _ _ _ _ c.without_reads.ensures.line
+          (scan_refused _ _ _ _ _ _ _ _ _ c.without_reads.ensures.outcome e.later
+          (e.length_faults, e.faults, e.reads) (search rules)
+          (no_faults g.S.Disk.Disk.told g.S.Disk.Disk.relations g.S.Disk.Disk.segment
+          g.S.Disk.Disk.faults g.S.Disk.Disk.reads _ _ _ c.open_others.new.disks.items e.unread)
+          none),
+      nothing_counted _ _ _ _ _ _ none numbers.0 numbers.1 numbers.2,
+    )
 
 pub returns-in-Err-Memory-clause-scanned : goal.returns-in-Err-Memory-clause-scanned
 returns-in-Err-Memory-clause-scanned g c =
     let e = c.open_others.ensures in
-    warns_none _ _ _ _ _ c.without_reads-in-Err-Memory.ensures.line
-    (scanned_nothing _ _ _ _ _ _ _ _ c.without_reads-in-Err-Memory.ensures.outcome e.later
-    (e.length_faults, e.faults, e.reads))
-
-pub returns-in-Err-Memory-clause-counted : goal.returns-in-Err-Memory-clause-counted
-returns-in-Err-Memory-clause-counted g c =
     let numbers = c.without_reads-in-Err-Memory.ensures.numbers in
-    nothing_counted _ _ _ _
-    (no_reads g.S.Disk.Disk.told g.S.Disk.Disk.relations g.S.Disk.Disk.segment
-    g.S.Disk.Disk.faults g.S.Disk.Disk.reads _ _ _ c.open_others.new.disks.items
-    c.open_others.ensures.unread)
-    numbers.0 numbers.1 numbers.2
+    let none = no_reads g.S.Disk.Disk.told g.S.Disk.Disk.relations g.S.Disk.Disk.segment
+    g.S.Disk.Disk.faults g.S.Disk.Disk.reads _ _ _ c.open_others.new.disks.items e.unread in (
+      λ _. [],
+      warns_none _ _ _ _ _ c.without_reads-in-Err-Memory.ensures.line
+          (scanned_nothing _ _ _ _ _ _ _ _ _ c.without_reads-in-Err-Memory.ensures.outcome e.later
+          (e.length_faults, e.faults, e.reads)),
+      nothing_counted _ _ _ _ _ _ none numbers.0 numbers.1 numbers.2,
+    )

@@ -1,5 +1,6 @@
 use Rattle.std.proofs.Common.{arith, refl, ap, sym, length}
-use Rattle.aioscan_cmd.proofs.EndOfRun.{ran_without_memory, no_sums_told, listed_sums}
+use Rattle.aioscan_cmd.proofs.NothingListed.{ran_without_memory}
+use Rattle.aioscan_cmd.proofs.SumsTold.{no_sums_told, listed_sums}
 use Rattle.aioscan_cmd.proofs.EndOfScan.{ended_ran, ended_counted, ended_in_order}
 use Rattle.aioscan_cmd.proofs.EndOfScan.{ended_by_causes, ended_not_usage}
 use Rattle.aioscan_cmd.proofs.Telling.{warns_also, warns_none}
@@ -15,37 +16,42 @@ pub returns-clause-ran : goal.returns-clause-ran
 returns-clause-ran g c =
     let e = c.open_and_list-disks.ensures in
     let back = c.take_all_back.ensures in
-    warns_also _ _ _ _ (λ w scanned. ended_ran c.args.asked _ _ _ _ _ _ _ _ w scanned _
-    back.open_faults _ back.length_faults back.faults back.reads _ _ _ e.counted refl
+    let (given, scanned, counted) = e.scanned in
+    warns_also _ _ _ _ (λ w is. ended_ran c.args.asked given _ _ _ _ _ _ _ _ w is _
+    back.open_faults _ back.length_faults back.faults back.reads _ _ _ counted refl
     (g.S.Disk.Disk.told c.args.first) _ (sym c.requires.told.0)
-    (ap length c.requires.asked.relations_are) c.requires.lengths) e.scanned
+    (ap length c.requires.asked.relations_are) c.requires.lengths) scanned
 
 pub returns-clause-counted : goal.returns-clause-counted
 returns-clause-counted g c =
     let e = c.open_and_list-disks.ensures in
     let back = c.take_all_back.ensures in
-    ended_counted c.args.asked _ _ _ _ _ _ _ _ _ e.scanned.are _ back.open_faults _
-    back.length_faults back.faults back.reads _ _ _ e.counted refl
+    let (given, scanned, counted) = e.scanned in
+    ended_counted c.args.asked given _ _ _ _ _ _ _ _ _ scanned.are _ back.open_faults _
+    back.length_faults back.faults back.reads _ _ _ counted refl
 
 pub returns-clause-causes : goal.returns-clause-causes
 returns-clause-causes g c =
     let e = c.open_and_list-disks.ensures in
     let back = c.take_all_back.ensures in
-    ended_by_causes c.args.asked _ _ _ _ _ _ _ _ _ e.scanned.are _ back.open_faults _
+    let (given, scanned, counted) = e.scanned in
+    ended_by_causes c.args.asked given _ _ _ _ _ _ _ _ _ scanned.are _ back.open_faults _
     back.length_faults back.faults back.reads _ _ e.writes
 
 pub returns-clause-order : goal.returns-clause-order
 returns-clause-order g c =
     let e = c.open_and_list-disks.ensures in
     let back = c.take_all_back.ensures in
-    ended_in_order c.args.asked _ _ _ _ _ _ _ _ _ e.scanned.are _ back.open_faults _
+    let (given, scanned, counted) = e.scanned in
+    ended_in_order c.args.asked given _ _ _ _ _ _ _ _ _ scanned.are _ back.open_faults _
     back.length_faults back.faults back.reads
 
 pub returns-clause-words : goal.returns-clause-words
 returns-clause-words g c =
     let e = c.open_and_list-disks.ensures in
     let back = c.take_all_back.ensures in
-    ended_not_usage c.args.asked _ _ _ _ _ _ _ _ _ e.scanned.are _ back.open_faults _
+    let (given, scanned, counted) = e.scanned in
+    ended_not_usage c.args.asked given _ _ _ _ _ _ _ _ _ scanned.are _ back.open_faults _
     back.length_faults back.faults back.reads
 
 pub returns-in_default-clause-sums : goal.returns-in_default-clause-sums

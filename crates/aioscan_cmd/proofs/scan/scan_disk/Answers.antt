@@ -1,6 +1,7 @@
 use Rattle.std.proofs.Common.{ℕ, arith, subst}
 use Rattle.aioscan_cmd.specs.Lengths.{HasNoLengths}
-use Rattle.aioscan_cmd.proofs.EndOfRun.{ran_refused, refused_sums}
+use Rattle.aioscan_cmd.proofs.NothingListed.{ran_refused}
+use Rattle.aioscan_cmd.proofs.SumsTold.{refused_sums}
 use Rattle.aioscan_cmd.proofs.Telling.{warns_none}
 use Rattle.aioscan_cmd.proofs.scan.scan_disk.Goals as goal
 

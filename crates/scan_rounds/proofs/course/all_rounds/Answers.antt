@@ -9,11 +9,12 @@ loop-init g c = record {
   waiting = c.requires.waiting;
   jobs = refl;
   backends = refl;
-  fewer = omega arith;
+  fewer = (omega arith, omega arith);
   room = c.requires.room;
-  gone = gone_nowhere _ _ _ _ _ _ _ _ _ c.requires.waiting (omega arith);
+  gone = gone_nowhere _ _ _ _ _ _ _ _ _ _ c.requires.waiting (omega arith);
   all_list_in = c.requires.manner;
   manner = refl;
+  skips = refl;
   follows = g.met.A.Agenda.follows_itself c.args.agenda.now;
 }
 
@@ -24,13 +25,18 @@ loop-preserved g c =
       waiting = e.waiting;
       jobs = e.jobs ∙ i.jobs;
       backends = as_many_hands _ _ _ _ _ _ e.gone.go_on ∙ i.backends;
-      fewer = (let a = e.fewer in let b = i.fewer in omega arith);
-      room = (let a = e.gone.room in let b = i.room in let f = e.fewer in omega arith);
-      gone = gone_then _ _ _ _ _ _ _ _ _ _ _ _ _ _ _ _ i.gone e.gone
-          (let a = e.fewer in let b = i.fewer in omega arith) (omega arith);
+      fewer = (
+        (let a = e.fewer.0 in let b = i.fewer.0 in omega arith),
+        (let a = e.fewer.1 in let b = i.fewer.1 in omega arith),
+      );
+      room = (let a = e.gone.room in let b = i.room in let f = e.fewer.0 in omega arith);
+      gone = gone_then _ _ _ _ _ _ _ _ _ _ _ _ _ _ _ _ _ _ _ i.gone e.gone
+          (let a = e.fewer.0 in let b = i.fewer.0 in omega arith)
+          (let a = e.fewer.1 in let b = i.fewer.1 in omega arith) (omega arith);
       all_list_in = subst (λ (n : Manner). AllListIn n c.next_round.new.backends) i.manner
           e.manner.0;
       manner = e.manner.1 ∙ i.manner;
+      skips = e.manner.2 ∙ i.skips;
       follows = g.met.A.Agenda.follows_on _ _ _ i.follows e.follows;
     }
 
@@ -38,8 +44,9 @@ pub returns-then-not-next_round-clause-gone : goal.returns-then-not-next_round-c
 returns-then-not-next_round-clause-gone g c =
     let i = c.loop.invariant in
     let e = c.next_round.ensures in
-    gone_then _ _ _ _ _ _ _ _ _ _ _ _ _ _ _ _ i.gone e.gone
-    (let a = e.fewer in let b = i.fewer in omega arith) (omega arith)
+    gone_then _ _ _ _ _ _ _ _ _ _ _ _ _ _ _ _ _ _ _ i.gone e.gone
+    (let a = e.fewer.0 in let b = i.fewer.0 in omega arith)
+    (let a = e.fewer.1 in let b = i.fewer.1 in omega arith) (omega arith)
 
 pub next_round-requires-clause-manner : goal.next_round-requires-clause-manner
 next_round-requires-clause-manner g c κs within =
@@ -52,4 +59,8 @@ returns-then-not-next_round-clause-manner g c =
     let e = c.next_round.ensures in (
       subst (λ (n : Manner). AllListIn n c.next_round.new.backends) i.manner e.manner.0,
       e.manner.1 ∙ i.manner,
+      e.manner.2 ∙ i.skips,
     )
+
+pub next_round-requires-clause-skips : goal.next_round-requires-clause-skips
+next_round-requires-clause-skips g c κs within = c.loop.invariant.skips ∙ c.requires.skips

@@ -10,14 +10,17 @@ invariant-loop g l = record {
       g.W.World.told g.W.World.relations l.common.table l.common.queue l.backends l.counts;
   jobs : length l.jobs ≡ length l.fn.jobs;
   backends : length l.backends ≡ length l.fn.backends;
-  fewer : g.A.Agenda.left l.agenda ≤ g.A.Agenda.left l.fn.agenda;
+  fewer : (g.A.Agenda.left l.agenda ≤ g.A.Agenda.left l.fn.agenda)
+      × (g.A.Agenda.due l.agenda ≤ g.A.Agenda.due l.fn.agenda);
   room : 64 * g.A.Agenda.left l.agenda ≤ l.counts.room;
   gone : HasGone (meter g.D.Disk.told g.D.Disk.relations g.D.Disk.reads g.D.Disk.faults)
       g.W.World.told g.W.World.relations l.common.table l.fn.backends l.backends l.fn.counts
       l.counts (g.A.Agenda.left l.fn.agenda - g.A.Agenda.left l.agenda)
+      (g.A.Agenda.due l.fn.agenda - g.A.Agenda.due l.agenda)
       (g.A.Agenda.unread l.agenda - g.A.Agenda.unread l.fn.agenda);
   all_list_in : AllListIn (g.A.Agenda.manner l.fn.agenda) l.backends;
   manner : g.A.Agenda.manner l.agenda ≡ g.A.Agenda.manner l.fn.agenda;
+  skips : g.A.Agenda.skips l.agenda ≡ g.A.Agenda.skips l.fn.agenda;
   follows : g.A.Agenda.follows l.fn.agenda l.agenda;
 }
 

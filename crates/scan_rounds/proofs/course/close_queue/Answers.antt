@@ -1,5 +1,5 @@
 use Rattle.std.proofs.lemmas.List.{get_or_default}
-use Rattle.scan_rounds.proofs.Going.{first_closed, manner_closed}
+use Rattle.scan_rounds.proofs.Closed.{first_closed, manner_closed}
 use Rattle.scan_rounds.proofs.course.close_queue.Goals as goal
 
 pub returns-clause-waiting : goal.returns-clause-waiting

@@ -1,13 +1,15 @@
-use Rattle.std.proofs.Common.{rules, sym, ap, ◌∙◌, subst, arith, List}
+use Rattle.std.proofs.Common.{rules, sym, ap, ◌∙◌, subst, arith, List, ◌+◌, ◌≤◌}
 use Rattle.std.specs.List.{All}
-use Rattle.scan_rounds.specs.Jobs.{IsFresh, AreAnswered, blocks_among}
+use Rattle.scan_rounds.specs.Jobs.{IsFresh, AreAnswered, blocks_among, kept_among}
+use Rattle.scan_rounds.specs.Rounds.{taken_by}
+use Rattle.scan_rounds.specs.Skipping.{skips_of}
 use Rattle.scan_rounds.specs.declared.job.Job.{Job}
 use Rattle.scan_rounds.proofs.Going.{gone_nowhere, answered_as, answered_by, some_blocks}
 use Rattle.scan_rounds.proofs.course.next_round.Goals as goal
 
 pub returns-then-count-eq0-clause-gone : goal.returns-then-count-eq0-clause-gone
 returns-then-count-eq0-clause-gone g c =
-    gone_nowhere _ _ _ _ _ _ _ _ _ c.requires.waiting
+    gone_nowhere _ _ _ _ _ _ _ _ _ _ c.requires.waiting
     (let e = c.put-count.ensures.unread in omega arith)
 
 pub one_round-requires-clause-fresh : goal.one_round-requires-clause-fresh
@@ -33,10 +35,17 @@ returns-clause-gone g c =
     let some = c.requires.waiting.some in omega arith) in
     let left = c.put-count.ensures.left in
     let less = c.end.ensures.left in
+    let due = c.put-count.ensures.due in
+    let owed = c.end.ensures.due in
+    let out = c.requires.skips in
+    let kept = ap (kept_among (g.A.Agenda.skips c.args.agenda.now))
+    c.split_at_mut-front.ensures.front in
     record {
       go_on = e.go_on;
       room = (let r = e.room.1 in omega arith);
-      taken = (let n = e.taken in omega arith);
+      taken = (let n = subst (λ s. taken_by c.one_round.new.backends
+          ≤ taken_by c.args.backends.now + kept_among s c.split_at_mut-front.result.0.now)
+          (sym out) e.taken in omega arith);
       more = _;
       raised = e.unread;
       enough = (let a = c.put-count.ensures.unread in let b = c.end.ensures.unread in omega arith);
@@ -45,9 +54,10 @@ returns-clause-gone g c =
 pub returns-clause-follows : goal.returns-clause-follows
 returns-clause-follows g c =
     c.end.ensures.follows _ _ c.put-count.ensures.puts
-    (answered_as _ _ _ _ _ c.put-count.ensures.manner
-    (subst (λ (js : List Job). AreAnswered (g.A.Agenda.manner c.args.agenda.now) g.W.World.told js
-    c.one_round.new.jobs)
+    (answered_as _ _ _ _ _ _ _ (c.put-count.ensures.skips ∙ c.requires.skips)
+    c.put-count.ensures.manner
+    (subst (λ (js : List Job). AreAnswered (skips_of c.args.skipping)
+    (g.A.Agenda.manner c.args.agenda.now) g.W.World.told js c.one_round.new.jobs)
     c.split_at_mut-front.ensures.front (answered_by _ _ _ _ _ _ c.requires.waiting.some
     (c.one_round.ensures.listed _ c.requires.manner))))
 
@@ -55,6 +65,7 @@ pub returns-clause-manner : goal.returns-clause-manner
 returns-clause-manner g c = (
   c.one_round.ensures.manner _ c.requires.manner,
   c.end.ensures.manner ∙ c.put-count.ensures.manner,
+  c.end.ensures.skips ∙ c.put-count.ensures.skips,
 )
 
 pub returns-clause-nearer : goal.returns-clause-nearer

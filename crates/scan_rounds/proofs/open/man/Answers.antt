@@ -7,7 +7,8 @@ use Rattle.scan_rounds.specs.Rings.{IsRingOf}
 use Rattle.scan_rounds.specs.Opening.{IsDeskFor}
 use Rattle.scan_rounds.specs.declared.scan.Scan.{Scan}
 use Rattle.scan_rounds.proofs.Opening.{left_of_backends, seats_least}
-use Rattle.scan_rounds.proofs.Manned.{enough_seats, opened_scan}
+use Rattle.scan_rounds.proofs.Manned.{opened_scan}
+use Rattle.scan_rounds.proofs.Seated.{enough_seats}
 use Rattle.scan_rounds.proofs.open.man.Goals as goal
 
 pub workers-workers-requires-clause-actors : goal.workers-workers-requires-clause-actors

@@ -1,7 +1,8 @@
 use Rattle.scan_rounds.proofs.Rooms.{least_falls}
 use Rattle.scan_rounds.proofs.Rounding.{all_may, backends_after, idle_after, listed_after}
 use Rattle.scan_rounds.proofs.Rounding.{goes_on_after, taken_after, unread_after, same_length}
-use Rattle.scan_rounds.proofs.Rounding.{goes_after, lived_after, raised_within, manner_after}
+use Rattle.scan_rounds.proofs.Rounding.{goes_after, lived_after, manner_after}
+use Rattle.scan_rounds.proofs.Raised.{raised_within}
 use Rattle.scan_rounds.proofs.rounds.one_round.Goals as goal
 
 pub run_backends-requires-clause-may : goal.run_backends-requires-clause-may
@@ -39,7 +40,7 @@ returns-clause-room g c =
     c.requires.fresh c.requires.few.1 c.requires.room.1 c.requires.room.0.have
     c.swap_jobs.ensures _ _ _ c.run_backends.ensures.ran c.swap_jobs-2.ensures in (
       c.least_room.ensures.least,
-      least_falls c.args.backends.now c.swap_jobs-2.new.backends c.args.counts.room
+      least_falls 64 c.args.backends.now c.swap_jobs-2.new.backends c.args.counts.room
           c.least_room.result same
           (λ i d lt. (goes_after _ _ _ _ _ _ _ _ _ _ c.requires.backends c.requires.idle
           c.requires.fresh c.requires.few.1 c.requires.room.1 c.requires.room.0.have

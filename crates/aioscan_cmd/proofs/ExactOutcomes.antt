@@ -1,0 +1,74 @@
+-- An outcome is exact, and complete where nothing failed.
+use Rattle.std.proofs.Common.{◌≡◌, ◌≢◌, ℕ, ◌<◌, List, refl, sym, ap, arith, inl, inr}
+use Rattle.std.specs.Prelude.{Option}
+use Rattle.std.proofs.lemmas.Bool.{cases_lt}
+use Rattle.aio_disk.specs.Counts.{ShelfCounts}
+use Rattle.aioscan_cmd.specs.Run.{SynchronousRun, Writes, EarlierFit, FitsInOrder}
+use Rattle.aioscan_cmd.specs.Causes.{HasCauses, IsExact, IsComplete}
+use Rattle.aioscan_cmd.specs.declared.report.Outcome.{Outcome}
+use Rattle.aioscan_cmd.specs.declared.report.Outcome.TheVariants.{Done, Invalid, Usage, CannotOpen}
+use Rattle.aioscan_cmd.specs.declared.report.Outcome.TheVariants.{NoLength, Unread, CannotWrite}
+use Rattle.aioscan_cmd.specs.declared.report.Outcome.TheVariants.{NoMemory, Missing, TooLong}
+
+-- the first relation that is too long is one alone
+first_too_long : (limit : ℕ) (blocks : ℕ → ℕ) (q r : ℕ) → limit < blocks q
+    → EarlierFit limit blocks q → limit < blocks r → EarlierFit limit blocks r → q ≡ r
+first_too_long limit blocks q r long_q fit_q long_r fit_r = elim (cases_lt q r) [
+  | inl below ↦ absurd (let within = fit_r q below in omega arith)
+  | inr above ↦ elim (cases_lt r q) [
+    | inl under ↦ absurd (let within = fit_q r under in omega arith)
+    | inr equal ↦ omega arith
+  ]
+]
+
+pub exact : (run : SynchronousRun) (o : Outcome) → FitsInOrder run.limit run.lengths run.relations o
+    → IsExact run o
+exact run Done fits r below long fit usage opens lengths memory =
+    absurd (let within = fits r below in omega arith)
+exact run (Invalid q k) fits r below long fit usage opens lengths memory =
+    absurd (let within = fits r below in omega arith)
+exact run (Missing q k) fits r below long fit usage opens lengths memory =
+    absurd (let within = fits r below in omega arith)
+exact run (Unread q k) fits r below long fit usage opens lengths memory =
+    absurd (let within = fits r below in omega arith)
+exact run CannotWrite fits r below long fit usage opens lengths memory =
+    absurd (let within = fits r below in omega arith)
+exact run NoMemory fits r below long fit usage opens lengths memory = absurd (memory refl)
+exact run Usage fits r below long fit usage opens lengths memory = absurd (usage refl)
+exact run CannotOpen fits r below long fit usage opens lengths memory = absurd (opens refl)
+exact run (NoLength q) fits r below long fit usage opens lengths memory =
+    absurd (lengths q refl)
+exact run (TooLong q) fits r below long fit usage opens lengths memory =
+    ap TooLong (first_too_long run.limit run.lengths q r fits.1 fits.2 long fit)
+
+pub complete : (run : SynchronousRun) (before now : ShelfCounts) (wb wn : ℕ)
+    (b a : Option (List ℕ)) (o : Outcome) → o ≢ Usage → HasCauses before now wb wn o
+    → FitsInOrder run.limit run.lengths run.relations o → Writes run b a o
+    → IsComplete run before now wb wn o
+complete run before now wb wn b a Done words causes fits writes opens lengths reads failed fit =
+    inl (sym writes.0)
+complete run before now wb wn b a (Invalid r k) words causes fits writes opens lengths reads failed
+    fit =
+    inl (sym writes.0)
+complete run before now wb wn b a (Missing r k) words causes fits writes opens lengths reads failed
+    fit =
+    inl (sym writes.0)
+complete run before now wb wn b a NoMemory words causes fits writes opens lengths reads failed fit =
+    inr refl
+complete run before now wb wn b a (Unread r k) words causes fits writes opens lengths reads failed
+    fit =
+    absurd (reads (causes.unread r k refl))
+complete run before now wb wn b a CannotWrite words causes fits writes opens lengths reads failed
+    fit =
+    absurd (failed (causes.cannot_write refl))
+complete run before now wb wn b a Usage words causes fits writes opens lengths reads failed fit =
+    absurd (words refl)
+complete run before now wb wn b a CannotOpen words causes fits writes opens lengths reads failed fit
+    =
+    absurd (opens (causes.cannot_open refl))
+complete run before now wb wn b a (NoLength r) words causes fits writes opens lengths reads failed
+    fit =
+    absurd (lengths (causes.no_length r refl))
+complete run before now wb wn b a (TooLong r) words causes fits writes opens lengths reads failed
+    fit =
+    absurd (let within = fit r fits.0 in let long = fits.1 in omega arith)

@@ -1,0 +1,137 @@
+-- A scan of the shelf of generated pages lists them all, or finds no memory.
+use Rattle.std.proofs.Common.{◌≡◌, ◌≢◌, ◌⊎◌, ℕ, ◌-◌, List, ◌∷◌, length, sym, ap, subst, ◌∙◌}
+use Rattle.std.proofs.Common.{arith, inl, inr, append-nil, [], take, true}
+use Rattle.std.specs.Prelude.{Option, Some}
+use Rattle.page_check.specs.Told.{Told, blocks_of}
+use Rattle.page_check.specs.SynchronousAnswer.{found_at, pages_of, stop_of, page_in, zeroing}
+use Rattle.heap_scan.specs.Sums.{sums_of}
+use Rattle.heap_scan.specs.Warnings.{warnings_of}
+use Rattle.heap_scan.specs.declared.sums.PageSums.{PageSums}
+use Rattle.aio_disk.specs.Counts.{Rose, ShelfCounts}
+use Rattle.aio_disk.specs.Shelf.{are_there, told_of}
+use Rattle.aioscan_cmd.specs.Command.{Command, IsMade, distinct, manner_by, MapOption, relations_of}
+use Rattle.aioscan_cmd.specs.Command.{relations_with}
+use Rattle.aioscan_cmd.specs.Generated.{made_name, made_files, made_told}
+use Rattle.aioscan_cmd.specs.Causes.{HasCauses}
+use Rattle.aioscan_cmd.specs.Reading.{Seen}
+use Rattle.aioscan_cmd.specs.RequestList.{Request, block_range, request_list, requests_of, with_map}
+use Rattle.aioscan_cmd.specs.Run.{IsWarned, Ran, outcome_at, run_of}
+use Rattle.aioscan_cmd.specs.Sums.{HasSums, HasSumsTold}
+use Rattle.aioscan_cmd.specs.declared.report.Outcome.{Outcome}
+use Rattle.aioscan_cmd.specs.declared.report.Outcome.TheVariants.{Done, NoMemory, Usage, CannotOpen}
+use Rattle.aioscan_cmd.proofs.MadePages.{made_blocks}
+use Rattle.aioscan_cmd.proofs.MadeReads.{made_done, all_quiet, none_warned, made_sums}
+use Rattle.aioscan_cmd.proofs.MadeRuns.{made_fits}
+use Rattle.aioscan_cmd.proofs.ExactOutcomes.{complete}
+use Rattle.aioscan_cmd.proofs.ToldRuns.{writes, warned}
+
+-- where no open failed, their count does not matter
+abbrev but_opens : ShelfCounts → ShelfCounts
+but_opens counts = record counts { open_faults = 0 }
+
+causes_but_opens : (before now : ShelfCounts) (wb wn : ℕ) (o : Outcome)
+    → HasCauses before now wb wn o → o ≢ CannotOpen
+    → HasCauses (but_opens before) (but_opens now) wb wn o
+causes_but_opens before now wb wn o causes sure = record {
+  later = record {
+    open_faults = omega arith;
+    length_faults = causes.later.length_faults;
+    faults = causes.later.faults;
+    reads = causes.later.reads;
+  };
+  later_writes = causes.later_writes;
+  cannot_open = λ is. absurd (sure is);
+  no_length = causes.no_length;
+  unread = causes.unread;
+  cannot_write = causes.cannot_write;
+}
+
+module _ (n : ℕ) (c : Command) (is : IsMade n c) where
+  made_relations : relations_of c ≡ distinct (made_name ∷ [])
+  made_relations =
+      ap (λ (map : Option MapOption). relations_with c.files map) is.4 ∙ ap distinct is.0
+
+  -- the shelf of generated pages tells them
+  pub made_contents : told_of (Some (made_files n)) (relations_of c) ≡ Some (made_told n)
+  made_contents =
+      ap (λ (names : List (List ℕ)). told_of (Some (made_files n)) names) made_relations
+
+  pub one_relation : length (relations_of c) ≡ 1
+  one_relation = ap (λ (names : List (List ℕ)). length names) made_relations
+
+  pub made_requests : requests_of (blocks_of (made_told n)) c ≡ block_range 0 0 n
+  unfolding requests_of
+  made_requests =
+      let blocks = made_blocks n is.3 in
+      rw (is.0, is.1, is.2, is.4, blocks) (append-nil (block_range 0 0 (n - 0))
+      ∙ ap (block_range 0 0) (omega arith))
+
+  pub made_list : (map_page : ℕ → List ℕ)
+      → request_list (blocks_of (made_told n)) map_page c ≡ block_range 0 0 n
+  made_list map_page =
+      ap (λ (o : Option MapOption). with_map o (blocks_of (made_told n)) map_page
+      (requests_of (blocks_of (made_told n)) c)) is.4
+      ∙ made_requests
+
+  -- and has their file
+  pub made_there : are_there (made_files n).named (relations_of c) ≡ true
+  made_there =
+      ap (λ (names : List (List ℕ)). are_there (made_files n).named names) made_relations
+
+  -- the run over them listed all, or found no memory
+  module _ (told : Option Told) (relations : ℕ) (b a : Seen) (o : Outcome) (w : List ℕ)
+      (told_is : told ≡ Some (made_told n)) (one : relations ≡ 1)
+      (ran : Ran told relations c b a o w) where
+    ran_here : Ran (Some (made_told n)) (length (relations_of c)) c b a o w
+    ran_here =
+        let P : Option Told → Type 0 = λ t. Ran t relations c b a o w in
+        let Q : ℕ → Type 0 = λ r. Ran (Some (made_told n)) r c b a o w in
+        subst Q (one ∙ sym one_relation) (subst P told_is ran)
+
+    pub all_listed : (before now : ShelfCounts) (wb wn : ℕ) → HasCauses before now wb wn o
+        → o ≢ Usage → o ≢ CannotOpen → ¬ Rose before.length_faults now.length_faults
+        → ¬ Rose before.faults now.faults → ¬ Rose wb wn → (o ≡ Done) ⊎ (o ≡ NoMemory)
+    all_listed before now wb wn causes words sure lengths reads failed =
+        let run = run_of (made_told n) c in
+        let found = zeroing c.settings.zero (found_at (made_told n)) in
+        let done : run.outcome ≡ Done =
+        ap (λ (l : List Request). outcome_at found (stop_of found l))
+        (made_list (λ block. page_in (found 1 block)))
+        ∙ made_done c.settings.zero n is.3 in
+        let still : ¬ Rose 0 0 = λ rose. absurd (omega (arith, rose)) in
+        elim (complete run (but_opens before) (but_opens now) wb wn b.written a.written o words
+        (causes_but_opens before now wb wn o causes sure) ran_here.in_order
+        (writes (made_told n) _ c b a o w ran_here) still lengths reads failed
+        (λ q below. made_fits c.settings.zero n is.3 q (omega (arith, below, one_relation)))) [
+          | inl same ↦ inl (same ∙ done)
+          | inr memory ↦ inr memory
+        ]
+
+    -- and has warned of nothing
+    pub none_to_warn : (o ≡ Done) ⊎ (o ≡ NoMemory) → w ≡ []
+    none_to_warn ends =
+        let found = zeroing c.settings.zero (found_at (made_told n)) in
+        let run = run_of (made_told n) c in
+        let said = warned (made_told n) _ c b a o w ran_here in
+        let Q : Outcome → Type 0 = λ x. IsWarned run b.written a.written x w in elim ends [
+          | inl done ↦ subst Q done said
+              ∙ ap (λ (l : List Request). warnings_of (pages_of found l))
+              (made_list (λ block. page_in (found 1 block)))
+              ∙ all_quiet c.settings.zero n is.3
+          | inr memory ↦ let cut = subst Q memory said in
+              cut.are
+              ∙ ap (λ (l : List Request). warnings_of (take cut.k (pages_of found l)))
+              (made_list (λ block. page_in (found 1 block)))
+              ∙ none_warned c.settings.zero n is.3 cut.k
+        ]
+
+  pub listed_sums_made : (told : Option Told) (o : Outcome) (sums : PageSums)
+      → told ≡ Some (made_told n) → o ≡ Done → HasSumsTold told c o sums
+      → sums ≡ sums_of (pages_of (zeroing c.settings.zero (found_at (made_told n)))
+      (block_range 0 0 n))
+  listed_sums_made told o sums told_is done has =
+      let P : Option Told → Type 0 = λ t. HasSumsTold t c o sums in
+      let Q : List Request → Type 0 =
+      λ l. HasSums (manner_by c.settings) (Some (made_told n)) l sums in
+      made_sums c.settings.zero n is.3 c.settings.tuples sums
+      (subst Q made_requests (subst P told_is has done is.4))

@@ -1,0 +1,87 @@
+-- What it says of a command that it has a map.
+use Rattle.std.proofs.Common.{◌≡◌, ℕ, List, [], ◌∷◌, refl, sym, subst, Bool, true, false}
+use Rattle.std.specs.Prelude.{Option, Some, None, IfSome, codes, not, ◌&&◌, if◌then◌else◌}
+use Rattle.std.specs.Str.{bytes_eq}
+use Rattle.clap.specs.Words.{Row, Text, all_of}
+use Rattle.vis_map.specs.declared.map.Skip.{Skip}
+use Rattle.aioscan_cmd.specs.Command.{IsMapOf, MapOption}
+use Rattle.aioscan_cmd.specs.Words.{Source, files_by, is_map_of, is_name, map_in, map_of, map_with}
+use Rattle.aioscan_cmd.specs.Words.{skip_of, source_of}
+
+-- a command that has a map has one file, whose name is another
+record IsOfOne (words : Option (List Text)) (map : MapOption) : Type 0 where
+  file : Text
+  one : words ≡ Some (file ∷ [])
+  other : bytes_eq map.name file ≡ false
+
+is_other_by : (named same : Bool) → (named && not same) ≡ true → same ≡ false
+is_other_by true false is = refl
+is_other_by true true is = absurd (cc)
+is_other_by false same is = absurd (cc)
+
+of_one_by : (file name : Text) (skip : Skip) (right : Bool) (map : Option MapOption)
+    → is_map_of file name ≡ right
+    → (if right then Some (Some (record { name = name; skip = skip })) else None) ≡ Some map
+    → IfSome map (IsOfOne (Some (file ∷ [])))
+of_one_by file name skip true None right is = cc
+of_one_by file name skip true (Some map) right is =
+    record {
+      file = file;
+      one = refl;
+      other =
+          let P : Text → Type 0 = λ n. bytes_eq n file ≡ false in
+          let same : name ≡ map.name = cc in
+          subst P same (is_other_by (is_name name) (bytes_eq name file) right);
+    }
+of_one_by file name skip false map right is = absurd (cc)
+
+of_one : (file name : Text) (skip : Option Skip) (map : Option MapOption)
+    → map_of file name skip ≡ Some map → IfSome map (IsOfOne (Some (file ∷ [])))
+of_one file name None map is = absurd (cc)
+of_one file name (Some skip) map is = of_one_by file name skip (is_map_of file name) map refl is
+
+one_file : (name skip : Option Text) (words : Option (List Text)) (map : Option MapOption)
+    → map_with name skip words ≡ Some map → IfSome map (IsOfOne words)
+one_file None None words None is = tt
+one_file None None words (Some map) is = absurd (cc)
+one_file None (Some skip) words map is = absurd (cc)
+one_file (Some name) skip (Some (file ∷ [])) map is = of_one file name (skip_of skip) map is
+one_file (Some name) skip None map is = absurd (cc)
+one_file (Some name) skip (Some []) map is = absurd (cc)
+one_file (Some name) skip (Some (file ∷ other ∷ files)) map is = absurd (cc)
+
+-- no pages are generated where there are FILE words
+not_made : (from to : Option ℕ) (tuples : Bool) (made : Option ℕ) (words : List Text) (s : Source)
+    → source_of from to tuples made (Some words) ≡ Some s → made ≡ None
+not_made from to tuples None words s is = refl
+not_made (Some from) to tuples (Some n) words s is = absurd (cc)
+not_made None (Some to) tuples (Some n) words s is = absurd (cc)
+not_made None None true (Some n) words s is = absurd (cc)
+not_made None None false (Some n) words s is = absurd (cc)
+
+of_files : (rows : List Row) (from to : Option ℕ) (tuples : Bool) (made : Option ℕ) (s : Source)
+    (map : Option MapOption) → source_of from to tuples made (all_of (codes "FILE") rows) ≡ Some s
+    → IfSome map (IsOfOne (all_of (codes "FILE") rows))
+    → IfSome map (IsMapOf made (files_by made rows))
+of_files rows from to tuples made s None source of = tt
+of_files rows from to tuples made s (Some map) source of =
+    let P : Option (List Text) → Type 0 = λ w. source_of from to tuples made w ≡ Some s in
+    let none = not_made from to tuples made _ s (subst P of.one source) in
+    let Q : Option ℕ → Type 0 = λ m. files_by m rows ≡ of.file ∷ [] in
+    let here : Q None = rw (of.one) refl in
+    record {
+      file = of.file;
+      one_file = subst Q (sym none) here;
+      other_name = of.other;
+      none_made = none;
+    }
+
+-- words that are taken, and what they say of a map
+pub map_of_words : (rows : List Row) (from to : Option ℕ) (tuples : Bool) (made : Option ℕ)
+    (s : Source) (right : Bool) (map : Option MapOption)
+    → source_of from to tuples made (all_of (codes "FILE") rows)
+    ≡ (if right then Some s else None)
+    → right ≡ true → map_in rows ≡ Some map → IfSome map (IsMapOf made (files_by made rows))
+map_of_words rows from to tuples made s true map source taken is =
+    of_files rows from to tuples made s map source (one_file _ _ _ map is)
+map_of_words rows from to tuples made s false map source taken is = absurd (cc)

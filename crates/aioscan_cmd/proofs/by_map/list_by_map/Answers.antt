@@ -1,0 +1,109 @@
+use Rattle.std.proofs.Common.{rules, arith, refl, [], ℕ, List, ap, sym, ◌∙◌, subst}
+use Rattle.std.specs.Prelude.{Some, slice_index_or}
+use Rattle.aioscan_cmd.specs.Command.{manner_by}
+use Rattle.aioscan_cmd.specs.Cutting.{map_pages_of, request_list_for, settings_for}
+use Rattle.aioscan_cmd.specs.Reading.{Lists, way_by}
+use Rattle.aioscan_cmd.specs.RequestList.{block_range}
+use Rattle.aioscan_cmd.specs.declared.report.Outcome.{Outcome}
+use Rattle.aioscan_cmd.specs.Scanning.{scan_in}
+use Rattle.aioscan_cmd.proofs.AskedByMap.{all_asked, map_added, map_followed, map_part, map_stopped}
+use Rattle.aioscan_cmd.proofs.AskedByMap.{pages_asked, unread_out}
+use Rattle.aioscan_cmd.proofs.ByMap.{way_with}
+use Rattle.aioscan_cmd.proofs.OneJob.{not_write}
+use Rattle.aioscan_cmd.proofs.Lists.{lists_nothing}
+use Rattle.aioscan_cmd.proofs.MapBlocks.{all_of_zero, has_two}
+use Rattle.aioscan_cmd.proofs.Telling.{tells_same, warns_none, warns_then}
+use Rattle.aioscan_cmd.proofs.Totals.{ended_done}
+use Rattle.aioscan_cmd.proofs.by_map.list_by_map.Goals as goal
+
+pub map-ending-requires-clause-relation : goal.map-ending-requires-clause-relation
+map-ending-requires-clause-relation g c κs within =
+    let map = c.requires.map in
+    omega (
+      arith,
+      has_two c.args.asked map.map map.of.file c.requires.asked map.of.one_file map.given,
+      c.requires.world,
+    )
+
+pub returns-in_default-clause-listed : goal.returns-in_default-clause-listed
+returns-in_default-clause-listed g c = (
+  λ _. [],
+  warns_none _ _ _ _ _ refl (lists_nothing (way_by c.args.asked.command.now) g.W.World.told
+      (request_list_for c.args.asked g.W.World.told (λ _. [])) _),
+  omega arith,
+)
+
+pub returns-in-Done-clause-listed : goal.returns-in-Done-clause-listed
+returns-in-Done-clause-listed g c =
+    let by = c.requires.map in
+    let told = g.W.World.told in
+    let read = c.map-ending.ensures.read in
+    let found = c.map-ending.new.map in
+    let given : ℕ → List ℕ = λ b. slice_index_or found.added b [] in
+    let count = ap (λ m. m.pages) c.in-Ok.ensures ∙ c.map_pages.ensures.pages in
+    let some = c.requires.scan.some in
+    let ended = ended_done 1 c.map-ending.result (sym c.outcome_of.ensures ∙ c.in-Done.is) in
+    let bs = (scan_in c.args.scan.now).backends.items in
+    let cs = (scan_in c.map-ending.new.self).backends.items in
+    let known = map_added _ _ told bs cs _ _ found c.map-ending.new.warnings.items
+    c.map-ending.result some c.requires.manner count read ended in
+    let zero = all_of_zero c.args.asked by.of.file by.of.one_file in
+    let all = all_asked c.args.asked by.map by.given told given c.args.skip found.added by.skip_is
+    known in (
+      given,
+      warns_then _ _ _ _ _ _
+          (λ v w first second. map_followed c.args.asked by.map by.given told given c.args.skip
+          found.added by.skip_is known _ _ _ _ v w (sym c.outcome_of.ensures ∙ c.in-Done.is) zero
+          first second)
+          (record {
+            warnings = c.map-ending.new.warnings.items;
+            tells = tells_same _ _ _ _ (search rules) c.write_warnings-line.ensures;
+            are = map_part _ _ told bs cs _ _ found c.map-ending.new.warnings.items
+                c.map-ending.result some c.requires.manner count read by.map _;
+          })
+          c.list_rounds.ensures.lists,
+      (let first = c.map-ending.ensures.taken in
+          let second = c.list_rounds.ensures.taken in omega arith),
+    )
+
+pub returns : goal.returns
+returns g c =
+    let by = c.requires.map in
+    let told = g.W.World.told in
+    let read = c.map-ending.ensures.read in
+    let found = c.map-ending.new.map in
+    let given : ℕ → List ℕ = λ b. slice_index_or found.added b [] in
+    let count = ap (λ m. m.pages) c.in-Ok.ensures ∙ c.map_pages.ensures.pages in
+    let some = c.requires.scan.some in
+    let bs = (scan_in c.args.scan.now).backends.items in
+    let cs = (scan_in c.map-ending.new.self).backends.items in
+    let few = pages_asked c.args.asked by.map by.given told given in
+    record {
+      scan = c.map-ending.ensures.scan;
+      same = c.map-ending.ensures.same;
+      listed = (
+        given,
+        record {
+          warnings = c.map-ending.new.warnings.items;
+          tells = tells_same _ _ _ _ (search rules) c.write_warnings-line.ensures;
+          are = map_stopped c.args.asked by.map by.given told given _ _ _
+              c.in_default-outcome_of.not-Done
+              (subst (λ (o : Outcome). Lists (way_with (manner_by (settings_for c.args.asked))
+              (Some by.map)) told (block_range 1 0 (map_pages_of c.args.asked))
+              (g.O.Sink.written c.args.out.now) (g.O.Sink.written c.args.out.now) o
+              c.map-ending.new.warnings.items) (sym c.outcome_of.ensures)
+              (map_part _ _ told bs cs _ _ found c.map-ending.new.warnings.items
+              c.map-ending.result some c.requires.manner count read by.map _));
+        },
+        (let first = c.map-ending.ensures.taken in omega arith),
+      );
+      writes = record {
+        later = omega arith;
+        cannot_write = λ is.
+            absurd (not_write 1 c.map-ending.result (sym c.outcome_of.ensures ∙ is));
+      };
+      unread = λ r b is.
+          (let one =
+          unread_out 1 c.map-ending.result c.outcome_of.result r b c.outcome_of.ensures is in
+          let raised = c.map-ending.ensures.unread in omega arith);
+    }

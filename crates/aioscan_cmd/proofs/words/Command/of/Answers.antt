@@ -1,0 +1,14 @@
+use Rattle.std.proofs.Common.{rules, ◌≡◌, true}
+use Rattle.aioscan_cmd.proofs.MapWords.{map_of_words}
+use Rattle.aioscan_cmd.proofs.words.Command.of.Goals as goal
+
+pub invariant_of-result : goal.invariant_of-result
+invariant_of-result c =
+    let taken : c.is_source.result ≡ true = search rules in (
+      search rules,
+      search rules,
+      search rules,
+      search rules,
+      search rules,
+      map_of_words _ _ _ _ _ _ _ _ c.is_source.ensures.source taken (search rules),
+    )
