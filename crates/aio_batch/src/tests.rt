@@ -2,5 +2,5 @@
 
 mod fill;
 mod keep;
-mod note;
+mod listeners;
 mod push;

@@ -1,16 +1,14 @@
 //! A run that goes wrong at its third event, and lines of totals, one of a table that was used.
-ghost use Rattle.std.specs.Prelude.{◌≡◌, ◌<◌, ◌+◌, IsTrue, IfOk, IfSome, length};
-ghost use Rattle.aio_word.specs.Tokens.{IsInFlight};
+ghost use Rattle.std.specs.Prelude.{◌≡◌, ◌<◌, IsTrue};
 ghost use Rattle.aio_handle.specs.Closing.{IsAtRest};
-ghost use Rattle.aio_handle.specs.Ruled.{newcomer};
-ghost use Rattle.aio_handle.specs.Shown.{IsOf, IsSame, AreNew};
-ghost use Rattle.aio_handle.specs.Trials.{EndsLife, IsLaunched, AreHandedIn};
+ghost use Rattle.aio_handle.specs.Shown.{IsOf, IsSame};
 
 use crate::text::numbers_text;
 use crate::{ReplayAnswer, replay, totals_text};
 use aio_core::StepRefusal;
-use aio_handle::{Actor, InFlight, Label, Record, Table, Take, Totals};
-use aio_word::{Class, Event, Step, WaitRef};
+use aio_handle::{Actor, Table, Totals};
+use aio_note::{Note, executed, hand_in, last, launched, nobody, take_back};
+use aio_word::{Class, Event, Step};
 use page_check::World;
 use std::alloc::{AllocError, Global};
 use std::marker::Brand;
@@ -71,115 +69,6 @@ fn numbers_of_up_to_39_digits(rt: HostRuntime) -> Result<(), Fail> {
     Ok(())
 }
 
-/// A record that reads nothing.
-#[derive(Drop)]
-struct Note {
-    label: Label,
-}
-
-impl Record for Note {
-    ghost use Rattle.std.specs.Prelude.{[]};
-
-    ghost label = { λ r. r.label };
-
-    ghost aim = { λ r. [] };
-
-    ghost fits = { λ told relations r. Unit {0} };
-
-    fn bind(&mut self, handle: u32, generation: u64) {
-        self.label = Label {
-            handle,
-            generation,
-            ended: Class::Unended,
-            settled: false,
-        };
-    }
-
-    fn handle(&self) -> u32 {
-        self.label.handle
-    }
-
-    fn generation(&self) -> u64 {
-        self.label.generation
-    }
-
-    fn ended(&self) -> Class {
-        self.label.ended
-    }
-
-    fn settled(&self) -> bool {
-        self.label.settled
-    }
-}
-
-fn fresh() -> Note {
-    Note {
-        label: Label {
-            handle: 0,
-            generation: 0,
-            ended: Class::Unended,
-            settled: false,
-        },
-    }
-}
-
-/// An I/O of a backend's handle that is free, up to submit.
-fn launched<W: World>(table: &Table<Note, W>, backend: &mut Actor<Note, W>) -> Option<InFlight<W>>
-    requires table { IsOf table.now backend.old }
-    requires backend { backend.old.known.number < table.now.config.backends }
-    requires rests { IsAtRest backend.old.known }
-    ensures same { IsSame backend.old backend.new }
-    ensures token { IfSome result (λ t. IsInFlight backend.new.known t) }
-    ensures launched { IfSome result (λ t. IsLaunched t backend.new.known) }
-{
-    let Ok(token) = table.acquire(backend) else {
-        return None;
-    };
-    let token = table.define(backend, token, fresh());
-    let token = table.stage(backend, token);
-    Some(table.submit(backend, token))
-}
-
-/// Claims an I/O and ends it whole, where nobody has claimed it before.
-fn executed<W: World>(
-    table: &Table<Note, W>,
-    actor: &mut Actor<Note, W>,
-    reference: WaitRef,
-) -> bool
-    requires table { IsOf table.now actor.old }
-    requires range { reference.handle < W.handles }
-    requires rests { IsAtRest actor.old.known }
-    ensures same { IsSame actor.old actor.new }
-    ensures rests { IsAtRest actor.new.known }
-{
-    let Some(mut claimed) = table.claim(actor, reference) else {
-        return false;
-    };
-    claimed.record_mut().label.ended = Class::Whole;
-    table.complete_io(actor, &mut claimed, Class::Whole);
-    table.complete_shared(actor, claimed);
-    true
-}
-
-/// The result of an I/O is taken and its handle reclaimed, where it has ended.
-fn taken_back<W: World>(
-    table: &Table<Note, W>,
-    backend: &mut Actor<Note, W>,
-    token: InFlight<W>,
-) -> bool
-    requires table { IsOf table.now backend.old }
-    requires token { IsInFlight backend.old.known token }
-    ensures same { IsSame backend.old backend.new }
-    ensures ended { IsTrue result → EndsLife token backend.old.known backend.new.known }
-{
-    let Take::Ready(mut local) = table.try_take(backend, token) else {
-        return false;
-    };
-    local.record_mut().label.settled = true;
-    table.reclaim(backend, local);
-    true
-}
-
 /// One life of a handle of the owner's, whose I/O the other actor executes.
 fn life<W: World>(
     table: &Table<Note, W>,
@@ -194,57 +83,10 @@ fn life<W: World>(
     ensures owner { IsTrue result → IsAtRest owner.new.known }
     ensures other { IsAtRest other.new.known }
 {
-    let Some(token) = launched(table, owner) else {
+    let Some(token) = launched(table, owner, Note::new()) else {
         return false;
     };
-    executed(table, other, token.reference()) && taken_back(table, owner, token)
-}
-
-/// The last of the actors of a new table.
-fn last<W: World>(
-    table: &Table<Note, W>,
-    actors: &mut Vec<Actor<Note, W>>,
-) -> Option<Actor<Note, W>>
-    requires { AreNew table.now 0 actors.old.items }
-    ensures left { AreNew table.now 0 actors.new.items }
-    ensures number { 0 < length actors.old.items
-        → length actors.new.items + 1 ≡ length actors.old.items }
-    ensures actor { IfSome result
-        (λ a. a ≡ record {
-          table = table.now.table;
-          known =
-              newcomer table.now.config (length actors.new.items);
-        }) }
-{
-    match actors.pop() {
-        Some(actor) => Some(actor),
-        None => None,
-    }
-}
-
-/// No actor is handed in yet.
-fn nobody<W: World>(table: &Table<Note, W>, alloc: Global) -> Vec<Actor<Note, W>>
-    ensures all { AreHandedIn table.now result.items }
-    ensures count { length result.items ≡ 0 }
-{
-    let _ = table;
-    Vec::new(alloc)
-}
-
-/// Hands an actor in, which is at rest.
-fn hand_in<W: World>(
-    table: &Table<Note, W>,
-    actors: &mut Vec<Actor<Note, W>>,
-    actor: Actor<Note, W>,
-) -> Result<(), AllocError>
-    requires table { IsOf table.now actor }
-    requires rests { IsAtRest actor.known }
-    requires others { AreHandedIn table.now actors.old.items }
-    ensures all { IfOk result (λ _. AreHandedIn table.now actors.new.items) }
-    ensures count { IfOk result (λ _. length actors.new.items ≡ length actors.old.items + 1) }
-{
-    actors.push(actor)?;
-    Ok(())
+    executed(table, other, token.reference(), Class::Whole) && take_back(table, owner, token)
 }
 
 /// The totals of three lives of a backend's handle, one executed by the runner and two by another

@@ -3,7 +3,7 @@
 
 mod claimed;
 mod moment;
-mod note;
+mod notes;
 mod own;
 mod several;
 mod stale;

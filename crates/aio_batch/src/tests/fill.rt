@@ -4,9 +4,10 @@ ghost use Rattle.aio_handle.specs.Shown.{IsOf};
 ghost use Rattle.aio_batch.specs.Held.{Held};
 
 use crate::Batch;
-use crate::tests::note::{Listener, Note, Sleeper};
+use crate::tests::listeners::{Listener, Sleeper};
 use crate::tests::push::{Pushed, push_all};
 use aio_handle::{Actor, Table};
+use aio_note::Note;
 use aio_word::WaitRef;
 use page_check::World;
 use std::alloc::{AllocError, Global};

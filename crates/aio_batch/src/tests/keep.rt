@@ -4,10 +4,11 @@ ghost use Rattle.aio_word.specs.Tokens.{IsInFlight};
 ghost use Rattle.aio_handle.specs.Shown.{IsOf};
 ghost use Rattle.aio_batch.specs.Held.{Held};
 
-use crate::tests::note::{Listener, Note, Sleeper};
+use crate::tests::listeners::{Listener, Sleeper};
 use crate::tests::push::push_all;
 use crate::{Batch, laws};
 use aio_handle::{Actor, InFlight, Table, Take, laws as table_laws};
+use aio_note::Note;
 use page_check::World;
 use std::alloc::{AllocError, Global};
 use std::marker::{Brand, PhantomData};

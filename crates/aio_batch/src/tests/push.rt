@@ -3,9 +3,9 @@ ghost use Rattle.std.specs.Prelude.{◌≡◌, ◌<◌};
 ghost use Rattle.aio_handle.specs.Shown.{IsOf, IsSame};
 ghost use Rattle.aio_batch.specs.Held.{Held};
 
-use crate::tests::note::{Note, fresh};
 use crate::{Batch, Full, laws};
 use aio_handle::{Actor, Table, laws as table_laws};
+use aio_note::Note;
 use aio_word::WaitRef;
 use page_check::World;
 use std::alloc::{AllocError, Global};
@@ -37,7 +37,7 @@ fn push_one<W: World>(
     laws::batches_are_kept::<Note>();
     laws::what_is_staged_may_be_pushed::<Note>();
     actor.keeps();
-    let token = table.define(actor, token, fresh());
+    let token = table.define(actor, token, Note::new());
     let token = table.stage(actor, token);
     let reference = token.reference();
     let back = match batch.push(token) {

@@ -2,12 +2,13 @@
 ghost use Rattle.std.specs.Prelude.{◌≡◌};
 ghost use Rattle.aio_word.specs.Tokens.{IsInFlight};
 ghost use Rattle.aio_handle.specs.Shown.{IsOf};
-ghost use Rattle.aio_waitref.specs.Trials.{HasClaimed};
+ghost use Rattle.aio_handle.specs.Trials.{HasClaimed};
 
 use crate::tests::moment::Moment;
-use crate::tests::note::{Note, claimed_by, end_as, last, second_launched};
+use crate::tests::notes::{claimed_by, second_launched};
 use crate::tests::own::{Waited, wait_counted};
 use aio_handle::{Actor, Claimed, InFlight, Table};
+use aio_note::{Note, end_as, last};
 use aio_word::Class;
 use page_check::World;
 use std::alloc::{AllocError, Global};

@@ -1,8 +1,8 @@
 //! When a runner ends its I/O, beside actors that wait for it.
 ghost use Rattle.std.specs.Prelude.{◌<◌};
 
-use crate::tests::note::Note;
 use aio_handle::Table;
+use aio_note::Note;
 use page_check::World;
 use std::sync::Wait;
 use std::sync::atomic::{AtomicU64, Ordering};

@@ -3,9 +3,10 @@ ghost use Rattle.std.specs.Prelude.{◌≡◌};
 ghost use Rattle.aio_word.specs.Tokens.{IsInFlight};
 ghost use Rattle.aio_handle.specs.Shown.{IsOf};
 
-use crate::tests::note::{Ender, Note, last, launched};
+use crate::tests::notes::Ender;
 use crate::wait_own;
 use aio_handle::{Actor, InFlight, Record, Table};
+use aio_note::{Note, last, launched};
 use aio_word::Class;
 use page_check::World;
 use std::alloc::{AllocError, Global};
@@ -48,7 +49,7 @@ fn unclaimed<W: World, T: Wait>(rt: &T, alloc: Global) -> Result<Option<Waited>,
     let Some(mut owner) = last(&table, &mut actors) else {
         return Ok(None);
     };
-    let Some(token) = launched(&table, &mut owner) else {
+    let Some(token) = launched(&table, &mut owner, Note::new()) else {
         return Ok(None);
     };
     Ok(Some(wait_counted(rt, &table, owner, token)))

@@ -2,14 +2,15 @@
 ghost use Rattle.std.specs.Prelude.{◌≡◌, ◌<◌};
 ghost use Rattle.aio_word.specs.Tokens.{IsInFlight};
 ghost use Rattle.aio_handle.specs.Shown.{IsOf};
-ghost use Rattle.aio_waitref.specs.Trials.{HasClaimed};
+ghost use Rattle.aio_handle.specs.Trials.{HasClaimed};
 
 use crate::tests::claimed::{SHORT, owner_beside_runner};
 use crate::tests::moment::Moment;
-use crate::tests::note::{Ender, Note, claimed_by, last, second_launched};
+use crate::tests::notes::{Ender, claimed_by, second_launched};
 use crate::tests::own::Waited;
 use crate::wait;
 use aio_handle::{Actor, Table};
+use aio_note::{Note, last};
 use aio_word::WaitRef;
 use page_check::World;
 use std::alloc::{AllocError, Global};

@@ -2,9 +2,10 @@
 ghost use Rattle.std.specs.Prelude.{◌≡◌, ◌<◌};
 ghost use Rattle.aio_handle.specs.Shown.{IsOf, IsSame};
 
-use crate::tests::note::{Ender, Note, last, launched};
+use crate::tests::notes::Ender;
 use crate::{wait, wait_own};
 use aio_handle::{Actor, Table};
+use aio_note::{Note, last, launched};
 use aio_word::WaitRef;
 use page_check::World;
 use std::alloc::{AllocError, Global};
@@ -17,7 +18,7 @@ fn live<W: World, T: Wait>(rt: &T, table: &Table<Note, W>, actor: &mut Actor<Not
     requires backend { actor.old.known.number < table.now.config.backends }
     ensures same { IsSame actor.old actor.new }
 {
-    let Some(token) = launched(table, actor) else {
+    let Some(token) = launched(table, actor, Note::new()) else {
         return false;
     };
     let mut runner = Ender::<W>::new();
@@ -53,7 +54,7 @@ fn wait_for_the_first<W: World, T: Wait>(rt: &T, alloc: Global) -> Result<Option
     if !lived {
         return Ok(None);
     }
-    let Some(token) = launched(&table, &mut owner) else {
+    let Some(token) = launched(&table, &mut owner, Note::new()) else {
         return Ok(None);
     };
     let first = WaitRef {

@@ -7,4 +7,4 @@ pub life-requires-3-clause-owner : goal.life-requires-3-clause-owner
 life-requires-3-clause-owner g c = c.life-2.ensures.owner c.if-not-life-2.false
 
 pub hand_in-requires-clause-rests : goal.hand_in-requires-clause-rests
-hand_in-requires-clause-rests g c = c.life-3.ensures.owner c.if-not-life-3.false
+hand_in-requires-clause-rests g c κs within = c.life-3.ensures.owner c.if-not-life-3.false

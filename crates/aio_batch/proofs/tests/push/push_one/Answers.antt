@@ -4,7 +4,7 @@ use Rattle.aio_word.specs.declared.Step.TheVariants as event
 use Rattle.aio_word.specs.declared.WaitRef.{WaitRef}
 use Rattle.aio_word.specs.Tokens.{IsStaged}
 use Rattle.aio_handle.specs.LifeWords.{idle, handed}
-use Rattle.aio_batch.specs.declared.tests.note.Note.{Note}
+use Rattle.aio_note.specs.declared.note.Note.{Note}
 use Rattle.aio_batch.specs.Held.{Held}
 use Rattle.aio_batch.proofs.tests.push.push_one.Goals as goal
 

@@ -6,8 +6,8 @@ use Rattle.aio_word.specs.declared.Kind.TheVariants as kind
 use Rattle.aio_word.specs.Tokens.{mark_at}
 use Rattle.aio_handle.specs.Executing.{TakesUp}
 use Rattle.aio_handle.proofs.Growing.{took-one}
-use Rattle.aio_waitref.specs.declared.tests.note.Note.{Note}
-use Rattle.aio_waitref.proofs.tests.note.EnderExecuteNote.run.Goals as goal
+use Rattle.aio_note.specs.declared.note.Note.{Note}
+use Rattle.aio_waitref.proofs.tests.notes.EnderExecuteNote.run.Goals as goal
 
 pub returns-clause-marks : goal.returns-clause-marks
 returns-clause-marks g c =

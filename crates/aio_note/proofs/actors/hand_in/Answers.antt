@@ -1,5 +1,5 @@
 use Rattle.aio_handle.proofs.Trying.{handed-in}
-use Rattle.aio_trace.proofs.tests.hand_in.Goals as goal
+use Rattle.aio_note.proofs.actors.hand_in.Goals as goal
 
 pub returns-clause-all : goal.returns-clause-all
 returns-clause-all g c =

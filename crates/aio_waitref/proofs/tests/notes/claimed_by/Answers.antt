@@ -1,7 +1,7 @@
 use Rattle.std.proofs.Common.{◌≡◌, ◌∙◌, sym, subst}
 use Rattle.aio_word.specs.declared.WaitRef.{WaitRef}
 use Rattle.aio_handle.specs.Labels.{bound}
-use Rattle.aio_waitref.proofs.tests.note.claimed_by.Goals as goal
+use Rattle.aio_waitref.proofs.tests.notes.claimed_by.Goals as goal
 
 pub returns-in-Some : goal.returns-in-Some
 returns-in-Some g c =

@@ -1,62 +1,11 @@
-//! A record that reads nothing, and who executes it and hears of it.
+//! Who executes I/Os of notes, and who hears of them.
 use crate::Method;
-use aio_handle::{Actor, Claimed, Execute, Label, Record, Table};
-use aio_word::{Class, WaitRef};
+use aio_handle::{Actor, Claimed, Execute, Table};
+use aio_note::Note;
+use aio_word::WaitRef;
 use page_check::World;
 use std::marker::PhantomData;
 use std::sync::Wait;
-
-/// A record that reads nothing.
-#[derive(Drop)]
-pub(super) struct Note {
-    label: Label,
-}
-
-impl Record for Note {
-    ghost use Rattle.std.specs.Prelude.{[]};
-
-    ghost label = { λ r. r.label };
-
-    ghost aim = { λ r. [] };
-
-    ghost fits = { λ told relations r. Unit {0} };
-
-    fn bind(&mut self, handle: u32, generation: u64) {
-        self.label = Label {
-            handle,
-            generation,
-            ended: Class::Unended,
-            settled: false,
-        };
-    }
-
-    fn handle(&self) -> u32 {
-        self.label.handle
-    }
-
-    fn generation(&self) -> u64 {
-        self.label.generation
-    }
-
-    fn ended(&self) -> Class {
-        self.label.ended
-    }
-
-    fn settled(&self) -> bool {
-        self.label.settled
-    }
-}
-
-pub(super) fn fresh() -> Note {
-    Note {
-        label: Label {
-            handle: 0,
-            generation: 0,
-            ended: Class::Unended,
-            settled: false,
-        },
-    }
-}
 
 /// An executor that nobody calls: its call does not return.
 #[derive(Drop)]

@@ -3,7 +3,7 @@ use Rattle.std.proofs.Common.{length-append}
 use Rattle.aio_handle.specs.Ruled.{newcomer}
 use Rattle.aio_handle.specs.Shown.{Named, Standing, AreNew}
 use Rattle.aio_handle.proofs.Opening.{push-old, push-last}
-use Rattle.aio_trace.proofs.tests.last.Goals as goal
+use Rattle.aio_note.proofs.actors.last.Goals as goal
 
 new-before : (t : Named) (xs ys : List Standing) (x : Standing) → ys ≡ xs ++ x ∷ [] → AreNew t 0 ys
     → AreNew t 0 xs
