@@ -2,4 +2,3 @@ mod Counting
 mod Keeping
 mod Reading
 mod Seeing
-mod Trying

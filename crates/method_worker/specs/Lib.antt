@@ -4,4 +4,3 @@ pub mod Shown
 pub mod Seats
 pub mod Began
 pub mod Working
-pub mod Trials

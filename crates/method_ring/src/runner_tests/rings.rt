@@ -4,13 +4,15 @@ ghost use Rattle.aio_handle.specs.Closing.{IsAtRest};
 ghost use Rattle.aio_handle.specs.Shown.{IsOf, IsSame};
 ghost use Rattle.method_worker.specs.Shown.{IsSeatOf};
 
-use crate::runner_tests::backends::{backends_of, closed_by_two, seats_of};
-use crate::runner_tests::reads::{pushed, read_and_wait, take_in};
+use crate::runner_tests::backends::{backends_of, seats_of};
+use crate::runner_tests::reads::{pushed, read_and_wait};
 use crate::tests::{blocks_read, disk_of, shelf_of};
 use crate::{RingRoom, RingRunner, SimRing};
 use aio_callback::{NoPlaces, ReadIo};
 use aio_disk::{Disk, SteadyDisk};
 use aio_handle::{Actor, Execute, Table};
+use aio_note::closed_by_two;
+use aio_trials::take_in;
 use method_worker::{QueueSeat, SubmitQueue};
 use page_check::World;
 use std::alloc::{AllocError, Global};
@@ -120,10 +122,10 @@ fn two_backends<W: World, D: Disk, T: Wait>(
     ) {
         return Ok(None);
     }
-    let (incarnations, by_backends) = closed_by_two(alloc, table, zero, one)?;
+    let totals = closed_by_two(alloc, table, zero, one)?;
     Ok(Some(Ran {
-        incarnations,
-        by_backends,
+        incarnations: totals.incarnations(),
+        by_backends: totals.by_backends(),
         disks: (disk_in(idle), disk_in(busy)),
     }))
 }

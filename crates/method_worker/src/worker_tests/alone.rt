@@ -4,10 +4,10 @@ ghost use Rattle.aio_handle.specs.Closing.{IsAtRest};
 ghost use Rattle.aio_handle.specs.Shown.{IsOf, IsSame};
 ghost use Rattle.method_worker.specs.Shown.{IsSeatOf, IsSameSeat};
 
-use crate::worker_tests::reads::Ender;
 use crate::{QueueSeat, SubmitQueue, work};
 use aio_callback::ReadIo;
 use aio_handle::{Actor, Table};
+use aio_trials::Ender;
 use aio_word::WaitRef;
 use page_check::World;
 use std::sync::Wait;

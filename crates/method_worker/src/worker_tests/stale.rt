@@ -4,9 +4,9 @@ ghost use Rattle.std.specs.Prelude.{◌≡◌, None};
 use crate::SubmitQueue;
 use crate::tests::entries::last as last_seat;
 use crate::worker_tests::alone::{push_times, work_alone};
-use crate::worker_tests::reads::{closed_by_two, last};
 use aio_callback::ReadIo;
 use aio_handle::Table;
+use aio_note::{closed_by_two, last};
 use aio_word::WaitRef;
 use page_check::World;
 use std::alloc::{AllocError, Global};
@@ -42,7 +42,7 @@ fn stale_thrice<W: World, T: Wait>(
     queue.close(rt, &mut seat);
     let calls = work_alone(rt, &queue, &mut seat, &table, &mut runner);
     let totals = closed_by_two(alloc, table, owner, runner)?;
-    Ok(Some((calls, totals)))
+    Ok(Some((calls, (totals.incarnations(), totals.by_runners()))))
 }
 
 #[test]

@@ -6,10 +6,12 @@ ghost use Rattle.method_worker.specs.Shown.{IsSeatOf};
 
 use crate::tests::entries::last as last_seat;
 use crate::worker_tests::alone::{push_times, work_alone};
-use crate::worker_tests::reads::{Ender, closed_by_two, last, launch, take_in};
+use crate::worker_tests::reads::launch;
 use crate::{QueueSeat, SubmitQueue, WorkerMethod};
 use aio_callback::ReadIo;
 use aio_handle::{Actor, Table};
+use aio_note::{closed_by_two, last};
+use aio_trials::{Ender, take_in};
 use aio_word::WaitRef;
 use page_check::World;
 use std::alloc::{AllocError, Global};
@@ -120,12 +122,12 @@ fn three_reads<W: World, T: Wait>(
     let Some(theirs) = answer else {
         return Ok(None);
     };
-    let (incarnations, by_runners) = closed_by_two(alloc, table, owner, runner)?;
+    let totals = closed_by_two(alloc, table, owner, runner)?;
     Ok(Some(Run {
         mine: mine.calls,
         theirs,
-        incarnations,
-        by_runners,
+        incarnations: totals.incarnations(),
+        by_runners: totals.by_runners(),
     }))
 }
 

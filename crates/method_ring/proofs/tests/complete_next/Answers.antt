@@ -1,4 +1,4 @@
-use Rattle.std.proofs.Common.{◌≡◌, ℕ, List, length, ap, ◌∙◌, sym, subst}
+use Rattle.std.proofs.Common.{ℕ, List, length, ap, ◌∙◌, sym, subst}
 use Rattle.method_ring.specs.declared.ring.Entry.{Entry}
 use Rattle.method_ring.specs.Pending.{entry_of, without_entry, IsFilledBy}
 use Rattle.method_ring.specs.Trials.{AreReadInto}

@@ -1,7 +1,7 @@
 use Rattle.std.proofs.Common.{[], ◌∷◌}
 use Rattle.aio_word.specs.declared.Known.{Known}
 use Rattle.aio_word.specs.declared.WaitRef.{WaitRef}
-use Rattle.method_ring.proofs.Trying.{owes-none, rests-owing-none, taken-up-owes, taken-in-owes}
+use Rattle.aio_note.proofs.Owing.{owes-none, rests-owing-none, taken-up-owes, taken-in-owes}
 use Rattle.method_ring.proofs.runner_tests.reads.read_and_wait.Goals as goal
 
 pub returns-clause-rests : goal.returns-clause-rests

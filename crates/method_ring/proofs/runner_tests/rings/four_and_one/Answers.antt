@@ -1,5 +1,5 @@
 use Rattle.std.proofs.Common.{[], ◌∷◌, refl}
-use Rattle.method_ring.proofs.Trying.{owes-none, rests-owing-none}
+use Rattle.aio_note.proofs.Owing.{owes-none, rests-owing-none}
 use Rattle.method_ring.proofs.runner_tests.rings.four_and_one.Goals as goal
 
 pub take_in-requires-then-take_in-clause-token : goal.take_in-requires-then-take_in-clause-token

@@ -1,5 +1,5 @@
 use Rattle.std.proofs.Common.{[], ◌∷◌}
-use Rattle.method_worker.proofs.Trying.{owes-none, rests-owing-none}
+use Rattle.aio_note.proofs.Owing.{owes-none, rests-owing-none}
 use Rattle.method_worker.proofs.worker_tests.three.three_begun.Goals as goal
 
 pub take_in-requires-then-take_in-clause-token : goal.take_in-requires-then-take_in-clause-token

@@ -6,8 +6,8 @@ use Rattle.aio_word.specs.declared.Kind.TheVariants as kind
 use Rattle.aio_word.specs.Tokens.{mark_at}
 use Rattle.aio_handle.specs.Executing.{TakesUp}
 use Rattle.aio_callback.specs.Reading.{Reading, Answered}
-use Rattle.method_worker.proofs.Trying.{answered-untold, whole-class, ended-whole}
-use Rattle.method_worker.proofs.worker_tests.reads.EnderExecuteReadIo.run.Goals as goal
+use Rattle.aio_trials.proofs.Ending.{answered-untold, whole-class, ended-whole}
+use Rattle.aio_trials.proofs.ender.EnderExecuteReadIo.run.Goals as goal
 
 pub complete_shared-requires-clause-answered : goal.complete_shared-requires-clause-answered
 complete_shared-requires-clause-answered g c =
