@@ -2,7 +2,6 @@ mod Looking
 mod Found
 mod Joining
 mod Gathering
-mod Seeing
 mod Popping
 mod Completing
 mod Ended

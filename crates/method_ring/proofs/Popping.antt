@@ -13,8 +13,8 @@ use Rattle.aio_handle.proofs.Growing.{claim-grows}
 use Rattle.method_worker.specs.Shown.{Seating}
 use Rattle.method_worker.specs.Seats.{Reads}
 use Rattle.method_worker.specs.Working.{SeesTo}
-use Rattle.method_ring.proofs.Seeing.{reads-nothing, reads-then}
-use Rattle.method_ring.proofs.Seeing.{each-later, each-then, each-of-none, each-of-one}
+use Rattle.method_worker.proofs.Reading.{reads-nothing, reads-then}
+use Rattle.method_worker.proofs.Seeing.{each-later, each-then, each-of-none, each-of-one}
 use Rattle.method_ring.specs.Running.{Pops}
 
 -- a claim that was won

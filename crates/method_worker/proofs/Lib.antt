@@ -1,4 +1,4 @@
 mod Counting
 mod Keeping
-mod Reading
-mod Seeing
+pub mod Reading
+pub mod Seeing
