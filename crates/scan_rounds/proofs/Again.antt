@@ -174,7 +174,7 @@ module _ {W D : Type 0} (m : Meter D) (told : Option Told) (relations : ℕ) whe
         all_list_in = all;
         room = waiting.room;
         few_unread = waiting.few_unread;
-        jobs_are = (let j = is.jobs_are in let b = ap length begun in omega arith);
+        jobs_suffice = (let j = is.jobs_suffice in let b = ap length begun in omega arith);
         no_actors = rw actors is.no_actors;
         no_disks = rw disks is.no_disks;
         actors_fit = rw actors fits_actors;

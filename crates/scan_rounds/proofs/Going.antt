@@ -73,7 +73,7 @@ module _ {W D : Type 0} (m : Meter D) (told : Option Told) (relations : ℕ) (t 
     pays = record { read_each = λ below. omega arith; fault_each = λ below. omega arith };
   }
 
-  goes_then : (h k l : Hand W D) → GoesOn m told relations t h k → GoesOn m told relations t k l
+  pub goes_then : (h k l : Hand W D) → GoesOn m told relations t h k → GoesOn m told relations t k l
       → GoesOn m told relations t h l
   goes_then h k l a b =
       let one : a.after ≡ b.before = some_same k.disk a.after b.before a.has b.had in
@@ -169,7 +169,7 @@ some_blocks relations zero js fresh some there = absurd (omega arith)
 some_blocks relations (suc n) [] fresh some there = absurd (omega arith)
 
 -- whatever may be unread
-anyway : {skips : Option Skips} (how : Manner) (told : Option Told)
+pub anyway : {skips : Option Skips} (how : Manner) (told : Option Told)
     (may : Entry (Unit {0}) → Type 0) (j k : Job) → IsListed skips how told may j k
     → IsListed skips how told (λ _. ⊤) j k
 anyway {skips} how told may j k is = record {

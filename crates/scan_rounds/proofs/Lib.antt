@@ -16,6 +16,9 @@ pub mod Going
 mod Closed
 mod Again
 mod OneRound
+mod TurnLaws
+mod Turning
+mod Parted
 pub mod Allowed
 mod Counting
 mod Finishing

@@ -47,7 +47,7 @@ module _ {W D : Type 0} where
     pub backends_are : length s.backends.items ≡ settings.backends
     pub workers : GivesWorkers q r s.workers.items
     pub workers_are : length s.workers.items ≡ workers_in settings
-    pub jobs_are : length s.jobs.items ≡ settings.backends
+    pub jobs_suffice : settings.backends ≤ length s.jobs.items
     pub room : s.room ≡ 2 ^ 58 - 1 - start
     pub unread : s.unread ≡ 0
     pub manner_is : manner_in s ≡ manner settings.zero settings.tuples
@@ -135,7 +135,7 @@ module _ {W D : Type 0} where
           (omega (arith, backends)) some_handles (omega (arith, begun, early)) in
           let same = ap (λ (n : ℕ). 2 ^ 58 - 1 - n) begun ∙ sym made.room in
           let none = made.unread in
-          let jobs = made.jobs_are in
+          let jobs = made.jobs_suffice in
           let actors = made.actors_fit.1 in
           let disks = made.disks_fit.1 in
           let P : ℕ → Type 0 = λ n. IsLeastRoom bs n in record {
@@ -155,7 +155,7 @@ module _ {W D : Type 0} where
                 (made.backends.all_tuples k b lt) ∙ sym made.manner_is;
             room = subst P same rooms;
             few_unread = omega (arith, none);
-            jobs_are = omega (arith, jobs, few);
+            jobs_suffice = omega (arith, jobs, few);
             no_actors = made.actors_fit.0;
             no_disks = made.disks_fit.0;
             actors_fit = omega (arith, actors, few, others);

@@ -1,14 +1,16 @@
 -- The room that backends have.
-use Rattle.std.proofs.Common.{◌≡◌, ℕ, ◌+◌, ◌-◌, ◌^◌, ◌<◌, ◌≤◌, List, [], ◌∷◌, length}
-use Rattle.std.proofs.Common.{get_or, take, min, sym, ap, ◌∙◌, subst, arith}
+use Rattle.std.proofs.Common.{◌≡◌, ◌⊎◌, inl, inr, ℕ, zero, suc, ◌+◌, ◌-◌, ◌^◌, ◌<◌, ◌≤◌}
+use Rattle.std.proofs.Common.{List, [], ◌∷◌, length, get_or, take, min, sym, ap, ◌∙◌, subst, arith}
 use Rattle.std.specs.List.{All}
 use Rattle.std.specs.Prelude.{slice_index_or}
 use Rattle.std.proofs.Math.Nat.{min-le_left, min-le_right, min-eq_left, le-min}
 use Rattle.std.proofs.lemmas.List.{get_or-take, length-take, get_or_default}
 use mathlib.Core.Logic.{dite}
-use native.Mathlib.Decide.{ℕ_discrete}
+use native.Mathlib.Decide.{ℕ_discrete, dec_le}
 use Rattle.aio_word.specs.declared.Config.{Config}
-use Rattle.aio_word.specs.Events.{lives}
+use Rattle.aio_word.specs.Events.{handles, lives, owner}
+use Rattle.aio_word.specs.Words.{last_generation}
+use Rattle.aio_handle.specs.Made.{generation_of}
 use Rattle.aio_handle.specs.Free.{IsRoom}
 use Rattle.aio_handle.specs.Shown.{Standing, IsSame}
 use Rattle.aio_handle.proofs.Rooms.{room-is-one, room-bounded}
@@ -34,6 +36,100 @@ falls most a b n k same backend before after lived =
     let f = before.1.for_each e.0 e.1 own in
     let more = lived e.0 in
     (after.0, after.1, omega (arith, before.2, e.3))
+
+-- the number below n, of those that a owns, at which f is greatest
+abbrev Greatest : (ℕ → ℕ) → (ℕ → ℕ) → ℕ → ℕ → Type 0
+Greatest f own a n = (k : ℕ) × (k < n) × (a ≡ own k)
+    × ((j : ℕ) → j < n → a ≡ own j → f j ≤ f k)
+
+-- none, or that one
+greatest_below : (f own : ℕ → ℕ) (a n : ℕ)
+    → ((k : ℕ) → k < n → a ≡ own k → ⊥) ⊎ Greatest f own a n
+greatest_below f own a zero = inl (λ k lt is. absurd (omega arith))
+greatest_below f own a (suc n) =
+    let rest = greatest_below f own a n in
+    dite (ℕ_discrete a (own n)) (λ here. with_last here rest) (λ other. without other rest)
+  where
+    last_or : (P : ℕ → Type 0) (j : ℕ) → j < suc n → P n → (j < n → P j) → P j
+    last_or P j lt last before = dite (ℕ_discrete j n) (λ e. subst P (sym e) last)
+        (λ ne. before (omega arith))
+
+    with_last : a ≡ own n → ((k : ℕ) → k < n → a ≡ own k → ⊥) ⊎ Greatest f own a n
+        → ((k : ℕ) → k < suc n → a ≡ own k → ⊥) ⊎ Greatest f own a (suc n)
+    with_last here (inl none) = inr (
+      n,
+      omega arith,
+      here,
+      λ j lt is.
+          last_or (λ x. f x ≤ f n) j lt (omega arith) (λ below. absurd (none j below is)),
+    )
+    with_last here (inr g) = dite (dec_le (f g.0) (f n))
+        (λ le. inr (
+          n,
+          omega arith,
+          here,
+          λ j lt is.
+              last_or (λ x. f x ≤ f n) j lt (omega arith)
+              (λ below. (let less = g.3 j below is in omega arith)),
+        ))
+        (λ more. inr (
+          g.0,
+          (let below = g.1 in omega arith),
+          g.2,
+          λ j lt is.
+              last_or (λ x. f x ≤ f g.0) j lt (omega arith) (λ below. g.3 j below is),
+        ))
+
+    without : (a ≡ own n → ⊥) → ((k : ℕ) → k < n → a ≡ own k → ⊥) ⊎ Greatest f own a n
+        → ((k : ℕ) → k < suc n → a ≡ own k → ⊥) ⊎ Greatest f own a (suc n)
+    without other (inl none) = inl (λ k lt.
+        last_or (λ x. a ≡ own x → ⊥) k lt other (none k))
+    without other (inr g) = inr (
+      g.0,
+      (let below = g.1 in omega arith),
+      g.2,
+      λ j lt.
+          last_or (λ x. a ≡ own x → f x ≤ f g.0) j lt (λ is. absurd (other is)) (g.3 j),
+    )
+
+-- what is left after lives that ended
+pub left_after : (most n : ℕ) (a b : Standing) → IsSame a b
+    → a.known.number < a.known.config.backends → HasRoom (most + n) a
+    → ((h : ℕ) → lives h b.known.marks ≤ lives h a.known.marks + most) → HasRoom n b
+left_after most n a b same backend has lived = found (greatest_below
+    (generation_of b.known.config b.known) (owner b.known.config) b.known.number
+    (handles b.known.config))
+  where
+    c : b.known.config ≡ a.known.config
+    c = same.1
+
+    before : (h : ℕ) → h < handles b.known.config → b.known.number ≡ owner b.known.config h
+        → generation_of b.known.config b.known h + n ≤ last_generation
+    before h lt is =
+        let inside : h < handles a.known.config = rw (sym c) lt in
+        let own : a.known.number ≡ owner a.known.config h =
+        sym same.2 ∙ (is ∙ ap (λ (x : Config). owner x h) c) in
+        let f = has.1.for_each h inside own in
+        let start = ap (λ (x : Config). x.start) c in
+        let more = lived h in omega (arith, has.2)
+
+    found : ((k : ℕ) → k < handles b.known.config → b.known.number ≡ owner b.known.config k → ⊥)
+        ⊎ Greatest (generation_of b.known.config b.known) (owner b.known.config) b.known.number
+        (handles b.known.config) → HasRoom n b
+    found (inl none) =
+        let e = has.1.exact backend in
+        absurd (none e.0 (rw c e.1) (same.2 ∙ (e.2 ∙ sym (ap (λ (x : Config). owner x e.0) c))))
+    found (inr g) =
+        let g-before = before g.0 g.1 g.2 in (
+          last_generation - generation_of b.known.config b.known g.0,
+          record {
+            of_runner = λ runner. (let runners = ap (λ (x : Config). x.backends) c in
+                let number = same.2 in absurd (omega arith));
+            for_each = λ h lt own. (let less = g.3 h lt own in omega arith);
+            exact = λ still. (g.0, g.1, g.2, omega arith);
+          },
+          omega arith,
+        )
 
 taken : {X : Type 0} (i : ℕ) (xs : List X) → i ≤ length xs → length (take i xs) ≡ i
 taken i xs le = length-take i xs ∙ min-eq_left {n = i} {m = length xs} le

@@ -21,6 +21,7 @@ use Rattle.scan_rounds.specs.Jobs.{unread_among}
 use Rattle.scan_rounds.specs.Skipping.{Skips}
 use Rattle.scan_rounds.specs.Rounds.{Swapped, AreIdle, HaveRoom, AreListed, AllRan, AllGoOn}
 use Rattle.scan_rounds.specs.Rounds.{AllListIn, hand_of, results_of, taken_by}
+use Rattle.scan_rounds.specs.Turns.{Did}
 use Rattle.scan_rounds.specs.declared.hand.Hand.{Hand}
 use Rattle.scan_rounds.specs.declared.backend.Backend.{Backend}
 use Rattle.scan_rounds.specs.declared.job.Job.{Job}
@@ -45,18 +46,6 @@ module _ {W D : Type 0} (m : Meter D) (told : Option Told) (relations : ℕ) (t 
 
 module _ {W D : Type 0} (m : Meter D) (told : Option Told) (relations : ℕ) (t : Named)
     (q : Queue) where
-  -- a backend that had this job, and what has become of both
-  pub record Did (skips : Option Skips) (b : Backend W D) (j : Job) (f : Backend W D) (l : Job)
-      : Type 0 where
-    pub is : IsBackend m told relations t q f
-    pub idle : f.job.count ≡ 0
-    pub goes : GoesOn m told relations t b.hand f.hand
-    pub lived : (h : ℕ) → lives h f.hand.actor.known.marks ≤ lives h b.hand.actor.known.marks + 64
-    pub taken : local_marks f.hand.actor.known.marks
-        ≤ local_marks b.hand.actor.known.marks + length (entries_in skips j)
-    pub listed : IsListed skips (manner_of b) told (MayBeUnread b.hand.actor f.hand.actor.known) j l
-    pub manner_kept : manner_of f ≡ manner_of b
-
   -- a backend that had none
   pub record Rested (b f : Backend W D) : Type 0 where
     pub is : IsBackend m told relations t q f
@@ -77,9 +66,9 @@ module _ {W D : Type 0} (m : Meter D) (told : Option Told) (relations : ℕ) (t 
     ring = is.ring;
   }
 
-  did_one : {skips : Option Skips} (b e : Backend W D) (j k : Job) → IsFresh relations j
+  pub did_one : {skips : Option Skips} (b e : Backend W D) (j k : Job) → IsFresh relations j
       → k.count ≡ 0 → Ran m told relations t q skips (with_job b j) e
-      → Did skips b j (with_job e k) e.job
+      → Did m told relations t q skips b j (with_job e k) e.job
   did_one b e j k fresh none ran =
       let some : j.count ≢ 0 = λ zero. (let few = fresh.few in absurd (omega arith)) in record {
         is = with_any e k ran.is;
@@ -104,7 +93,7 @@ module _ {W D : Type 0} (m : Meter D) (told : Option Told) (relations : ℕ) (t 
         manner_kept = ran.manner_kept;
       }
 
-  ready_one : (room : ℕ) (b : Backend W D) (j : Job) → 64 ≤ room → HasRoom room b.hand.actor
+  pub ready_one : (room : ℕ) (b : Backend W D) (j : Job) → 64 ≤ room → HasRoom room b.hand.actor
       → IsBackend m told relations t q b → (j.count ≢ 0 → IsFresh relations j)
       → IsReady m told relations t q (with_job b j)
   ready_one room b j enough has is fresh = record {
@@ -139,7 +128,7 @@ module _ {W D : Type 0} (m : Meter D) (told : Option Told) (relations : ℕ) (t 
     module _ {skips : Option Skips} (es fs : List (Backend W D)) (ls : List Job)
         (ran : AllRan m told relations t q skips cs es) (again : Swapped es fs ks ls) where
       pub did : (i : ℕ) (d : Backend W D) (j : Job) → i < length js
-          → Did skips (slice_index_or bs i d) (slice_index_or js i j) (slice_index_or fs i d)
+          → Did m told relations t q skips (slice_index_or bs i d) (slice_index_or js i j) (slice_index_or fs i d)
           (slice_index_or ls i j)
       did i d j lt =
           let inside : i < length bs = omega arith in
@@ -153,9 +142,11 @@ module _ {W D : Type 0} (m : Meter D) (told : Option Told) (relations : ℕ) (t 
           (slice_index_or ks i j) (fresh i j lt) none
           (subst (λ (x : Backend W D). Ran m told relations t q skips x (slice_index_or es i d))
           to.0 (ran.each i d behind)) in
-          subst (λ (x : Backend W D). Did skips (slice_index_or bs i d) (slice_index_or js i j) x
+          subst (λ (x : Backend W D). Did m told relations t q skips (slice_index_or bs i d)
+          (slice_index_or js i j) x
           (slice_index_or ls i j)) (sym from.0)
-          (subst (λ (x : Job). Did skips (slice_index_or bs i d) (slice_index_or js i j)
+          (subst (λ (x : Job). Did m told relations t q skips (slice_index_or bs i d)
+          (slice_index_or js i j)
           (with_job (slice_index_or es i d) (slice_index_or ks i j)) x) (sym from.1) one)
 
       pub rested : (i : ℕ) (d : Backend W D) → length js ≤ i → i < length bs

@@ -10,3 +10,5 @@ pub mod Rounds
 pub mod Progress
 pub mod Opening
 pub mod Scans
+pub mod Turns
+pub mod Shares

@@ -140,7 +140,7 @@ module _ {W D : Type 0} where
     pub rings : All (IsRingOf m.common.queue) m.rings.items
     pub desks_are : length m.desks.items ≡ s.backends
     pub desks : All (IsDeskFor s) m.desks.items
-    pub jobs_are : length m.jobs.items ≡ s.backends
+    pub jobs_suffice : s.backends ≤ length m.jobs.items
     pub lists : HasLists s.backends (workers_in s) m.lists
 
   -- the first actors and disks of the parts are those of the hands, and these are left

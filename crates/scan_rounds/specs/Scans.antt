@@ -74,7 +74,7 @@ module _ {W D : Type 0} (m : Meter D) (told : Option Told) (relations : ℕ) whe
     pub room : IsLeastRoom s.backends.items s.room
     -- each job that ended in Unread has left the result of a failed I/O
     pub few_unread : s.unread ≤ results_of s.backends.items
-    pub jobs_are : length s.jobs.items ≡ length s.backends.items
+    pub jobs_suffice : length s.backends.items ≤ length s.jobs.items
     -- there is room for all actors and all disks at the end
     pub no_actors : s.actors.items ≡ []
     pub no_disks : s.disks.items ≡ []

@@ -48,7 +48,7 @@ pub(crate) fn run_beside<W: World + Send + Sync, D: Disk, R: Threads + Wait + Sy
         common.now.table common.now.queue) workers.items }
     requires waiting { AreWaiting (meter D.told D.relations D.reads D.faults) W.told W.relations
         common.now.table common.now.queue course.backends.items course.counts }
-    requires jobs { length course.jobs.items ≡ length course.backends.items }
+    requires jobs { length course.backends.items ≤ length course.jobs.items }
     requires room { 64 * A.left course.agenda ≤ course.counts.room }
     requires manner { AllListIn (A.manner course.agenda) course.backends.items }
     requires skips { A.skips course.agenda ≡ skips_of skipping }
@@ -82,7 +82,7 @@ pub(crate) fn run_beside<W: World + Send + Sync, D: Disk, R: Threads + Wait + Sy
         move || -> Course<W, D, A>
             requires { AreWaiting (meter D.told D.relations D.reads D.faults) W.told W.relations
                 common.now.table common.now.queue course.backends.items course.counts
-                × (length course.jobs.items ≡ length course.backends.items)
+                × (length course.backends.items ≤ length course.jobs.items)
                 × (64 * A.left course.agenda ≤ course.counts.room)
                 × AllListIn (A.manner course.agenda) course.backends.items
                 × (A.skips course.agenda ≡ skips_of skipping) × IsSync R.row }

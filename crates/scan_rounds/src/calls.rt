@@ -171,8 +171,9 @@ impl<W: World + Send + Sync, D: Disk> Scan<W, D> {
         self.round_by(rt, Some(Skipping { map, skip }), jobs);
     }
 
-    /// All rounds of an agenda, until it is over. The workers live from the first round to the
-    /// last, and the first backend runs in the caller's thread. It may wait.
+    /// All rounds of an agenda, until it is over. They are made in turns: the first is one round,
+    /// and a later one as many as four, of which each backend does neighbouring jobs in one thread,
+    /// one of them in the caller's. The workers live from the first turn to the last. It may wait.
     pub fn run<R: Threads + Wait + Sync, A: Agenda<W>>(&mut self, rt: &R, agenda: A) -> A
         requires scan { IsScan (meter D.told D.relations D.reads D.faults) W.told W.relations
             self.old }

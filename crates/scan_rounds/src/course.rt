@@ -10,15 +10,16 @@ use crate::agenda::Agenda;
 use crate::backend::Backend;
 use crate::common::Common;
 use crate::job::Job;
-use crate::rounds::{Counts, one_round};
+use crate::rounds::Counts;
 use crate::skipping::Skipping;
+use crate::turn::take_turn;
 use aio_disk::Disk;
 use page_check::World;
 use std::sync::Wait;
 use std::thread::Threads;
 
-// One round of an agenda. Whether there is to be another.
-fn next_round<W: World + Send + Sync, D: Disk, R: Threads + Wait + Sync, A: Agenda<W>>(
+// One turn of an agenda. Whether there is to be another.
+fn next_turn<W: World + Send + Sync, D: Disk, R: Threads + Wait + Sync, A: Agenda<W>>(
     rt: &R,
     common: &Common<W>,
     skipping: Option<Skipping<'_>>,
@@ -29,7 +30,7 @@ fn next_round<W: World + Send + Sync, D: Disk, R: Threads + Wait + Sync, A: Agen
 ) -> bool
     requires waiting { AreWaiting (meter D.told D.relations D.reads D.faults) W.told W.relations
         common.now.table common.now.queue backends.old counts.old }
-    requires jobs { length jobs.old ≡ length backends.old }
+    requires jobs { length backends.old ≤ length jobs.old }
     requires room { 64 * A.left agenda.old ≤ counts.old.room }
     requires manner { AllListIn (A.manner agenda.old) backends.old }
     requires skips { A.skips agenda.old ≡ skips_of skipping }
@@ -53,11 +54,11 @@ fn next_round<W: World + Send + Sync, D: Disk, R: Threads + Wait + Sync, A: Agen
         return false;
     }
     let (front, _) = jobs.split_at_mut(count);
-    *counts = one_round(rt, common, skipping, backends, front, *counts);
+    *counts = take_turn(rt, common, skipping, backends, front, *counts);
     agenda.end(front)
 }
 
-// All rounds of an agenda.
+// All rounds of an agenda, in turns: a round by itself first, and then more and more in one turn.
 fn all_rounds<W: World + Send + Sync, D: Disk, R: Threads + Wait + Sync, A: Agenda<W>>(
     rt: &R,
     common: &Common<W>,
@@ -69,7 +70,7 @@ fn all_rounds<W: World + Send + Sync, D: Disk, R: Threads + Wait + Sync, A: Agen
 )
     requires waiting { AreWaiting (meter D.told D.relations D.reads D.faults) W.told W.relations
         common.now.table common.now.queue backends.old counts.old }
-    requires jobs { length jobs.old ≡ length backends.old }
+    requires jobs { length backends.old ≤ length jobs.old }
     requires room { 64 * A.left agenda.old ≤ counts.old.room }
     requires manner { AllListIn (A.manner agenda.old) backends.old }
     requires skips { A.skips agenda.old ≡ skips_of skipping }
@@ -87,10 +88,13 @@ fn all_rounds<W: World + Send + Sync, D: Disk, R: Threads + Wait + Sync, A: Agen
     ensures follows { A.follows agenda.old agenda.new }
     ensures over { A.is_over agenda.new }
 {
+    let mut many = backends.len();
     loop {
-        if !next_round(rt, common, skipping, backends, jobs, agenda, counts) {
+        let (front, _) = jobs.split_at_mut(many);
+        if !next_turn(rt, common, skipping, backends, front, agenda, counts) {
             return;
         }
+        many = jobs.len().min(many.saturating_mul(2));
     }
 }
 
@@ -123,7 +127,7 @@ fn run_and_close<W: World + Send + Sync, D: Disk, R: Threads + Wait + Sync, A: A
 )
     requires waiting { AreWaiting (meter D.told D.relations D.reads D.faults) W.told W.relations
         common.now.table common.now.queue backends.old counts.old }
-    requires jobs { length jobs.old ≡ length backends.old }
+    requires jobs { length backends.old ≤ length jobs.old }
     requires room { 64 * A.left agenda.old ≤ counts.old.room }
     requires manner { AllListIn (A.manner agenda.old) backends.old }
     requires skips { A.skips agenda.old ≡ skips_of skipping }
@@ -164,7 +168,7 @@ pub(crate) fn run_course<W: World + Send + Sync, D: Disk, R: Threads + Wait + Sy
 ) -> Course<W, D, A>
     requires waiting { AreWaiting (meter D.told D.relations D.reads D.faults) W.told W.relations
         common.now.table common.now.queue course.backends.items course.counts }
-    requires jobs { length course.jobs.items ≡ length course.backends.items }
+    requires jobs { length course.backends.items ≤ length course.jobs.items }
     requires room { 64 * A.left course.agenda ≤ course.counts.room }
     requires manner { AllListIn (A.manner course.agenda) course.backends.items }
     requires skips { A.skips course.agenda ≡ skips_of skipping }

@@ -6,8 +6,9 @@
 //! of their pages, with their tuples where the settings say so, and counts them. With
 //! `MethodKind::Sync` each backend executes its own I/Os; with `MethodKind::Worker` the workers do,
 //! and a backend executes what no worker has claimed when it would wait for it. [`Scan::run`] makes
-//! all rounds of an [`Agenda`], with workers that live from the first to the last. [`Scan::finish`]
-//! closes the table, and gives the disks back.
+//! all rounds of an [`Agenda`], several of them in one turn of the backends' threads, with workers
+//! that live from the first to the last. [`Scan::finish`] closes the table, and gives the disks
+//! back.
 //!
 //! With `MethodKind::Ring` it is a [`RingScan`], with the same calls and no workers: a backend that
 //! would wait executes its own I/O by a ring, together with what it takes from the queue.
@@ -60,6 +61,7 @@ mod rounds;
 mod run;
 mod scan;
 mod settings;
+mod sharing;
 mod skipping;
 mod source;
 #[cfg(test)]
@@ -70,6 +72,7 @@ mod test_scans;
 mod tests;
 #[cfg(test)]
 mod trials;
+mod turn;
 mod worker;
 
 pub use agenda::Agenda;

@@ -22,6 +22,10 @@ use page_check::World;
 use read_stream::{Desk, Settings};
 use std::alloc::{AllocError, Global};
 
+/// How many jobs a backend does in one turn at most. Making a thread and waiting for it takes some
+/// 100 microseconds, and a job some 200; the text of each is kept until the turn is over.
+const TURN_JOBS: u32 = 4;
+
 /// The lists of a scan, all empty.
 #[derive(Drop)]
 pub(crate) struct Lists<W: World, D: Disk> {
@@ -154,6 +158,19 @@ fn open_rings<W: World>(
     Ok(rings)
 }
 
+// How many jobs there are for the turns of a run. A backend alone makes no thread for a turn, so
+// longer turns would save it nothing.
+fn job_count(settings: &ScanSettings) -> u32
+    requires { AreSettings settings.now }
+    ensures { settings.now.backends ≤ result }
+{
+    if settings.backends == 1 {
+        1
+    } else {
+        settings.backends * TURN_JOBS
+    }
+}
+
 // So many jobs that ask for nothing.
 fn open_jobs(alloc: Global, count: u32) -> Result<Vec<Job>, AllocError>
     ensures { IfOk result (λ j. length j.items ≡ count) }
@@ -223,7 +240,7 @@ impl<W: World, D: Disk> Memory<W, D> {
             seats,
             rings,
             desks: open_desks(alloc, settings)?,
-            jobs: open_jobs(alloc, settings.backends)?,
+            jobs: open_jobs(alloc, job_count(settings))?,
             lists: Lists::open(alloc, settings.backends, worker_count(settings))?,
         })
     }

@@ -219,8 +219,8 @@ impl<W: World + Send + Sync, D: Disk> RingScan<W, D> {
         self.scan.round_filtered(rt, jobs, map, skip);
     }
 
-    /// All rounds of an agenda, until it is over. The first backend runs in the caller's thread.
-    /// It may wait.
+    /// All rounds of an agenda, until it is over, in turns of up to four, of which each backend does
+    /// neighbouring jobs in one thread, one of them in the caller's. It may wait.
     pub fn run<R: Threads + Wait + Sync, A: Agenda<W>>(&mut self, rt: &R, agenda: A) -> A
         requires scan { IsScan (meter D.told D.relations D.reads D.faults) W.told W.relations
             self.old }

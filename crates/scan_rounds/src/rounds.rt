@@ -1,25 +1,14 @@
-//! One round, and all rounds of a run.
-ghost use Rattle.std.specs.Prelude.{◌≡◌, ◌≤◌, ◌<◌, ◌+◌, ◌*◌, ℕ, length, map, slice_index_or};
-ghost use Rattle.std.specs.List.{All};
+//! What a round does beside its reads: jobs change places, and lives and endings are counted.
+ghost use Rattle.std.specs.Prelude.{◌≡◌, ◌≤◌, length};
 ghost use Rattle.aio_disk.specs.Counts.{raised_by};
-ghost use Rattle.scan_rounds.specs.Hands.{IsBackend, meter};
-ghost use Rattle.scan_rounds.specs.Jobs.{IsFresh, kept_among, unread_among, unread_in};
-ghost use Rattle.scan_rounds.specs.Manners.{Manner};
-ghost use Rattle.scan_rounds.specs.Rounds.{AllGoOn, AllListIn, AreIdle, AreListed, IsLeastRoom};
-ghost use Rattle.scan_rounds.specs.Rounds.{Swapped};
-ghost use Rattle.scan_rounds.specs.Rounds.{hand_of, results_of, taken_by};
-ghost use Rattle.scan_rounds.specs.Skipping.{skips_of};
+ghost use Rattle.scan_rounds.specs.Jobs.{unread_among, unread_in};
+ghost use Rattle.scan_rounds.specs.Rounds.{IsLeastRoom, Swapped};
 
 use crate::backend::Backend;
-use crate::common::Common;
 use crate::job::{Ending, Job};
-use crate::round::run_backends;
-use crate::skipping::Skipping;
 use aio_disk::Disk;
 use page_check::World;
 use std::mem;
-use std::sync::Wait;
-use std::thread::Threads;
 
 /// What a scan counts over its rounds.
 #[derive(Clone, Copy)]
@@ -70,44 +59,4 @@ pub(crate) fn least_room<W: World, D: Disk>(backends: &[Backend<W, D>]) -> u64
         least = least.min(backend.hand.actor.room());
     }
     least
-}
-
-/// One round: the first backends do these jobs, one each, without the blocks that are left out, and
-/// the others do nothing.
-pub(crate) fn one_round<W: World + Send + Sync, D: Disk, R: Threads + Wait + Sync>(
-    rt: &R,
-    common: &Common<W>,
-    skipping: Option<Skipping<'_>>,
-    backends: &mut [Backend<W, D>],
-    jobs: &mut [Job],
-    counts: Counts,
-) -> Counts
-    requires backends { All (IsBackend (meter D.told D.relations D.reads D.faults) W.told
-        W.relations common.now.table common.now.queue) backends.old }
-    requires idle { AreIdle backends.old }
-    requires few { (1 ≤ length backends.old) × (length jobs.old ≤ length backends.old) }
-    requires fresh { All (IsFresh W.relations) jobs.old }
-    requires room { IsLeastRoom backends.old counts.room × (64 ≤ counts.room) }
-    requires unread { counts.unread ≤ results_of backends.old }
-    ensures backends { All (IsBackend (meter D.told D.relations D.reads D.faults) W.told
-        W.relations common.now.table common.now.queue) backends.new }
-    ensures idle { AreIdle backends.new }
-    ensures go_on { AllGoOn (meter D.told D.relations D.reads D.faults) W.told W.relations
-        common.now.table (map hand_of backends.old) (map hand_of backends.new) }
-    ensures listed { (m : Manner) → AllListIn m backends.old
-        → AreListed (skips_of skipping.entry) m W.told backends.old backends.new jobs.old jobs.new }
-    ensures manner { (m : Manner) → AllListIn m backends.old → AllListIn m backends.new }
-    ensures room { IsLeastRoom backends.new result.room × (counts.room ≤ result.room + 64) }
-    ensures unread { result.unread ≡ raised_by (unread_among jobs.new) counts.unread }
-    ensures taken { taken_by backends.new
-        ≤ taken_by backends.old + kept_among (skips_of skipping.entry) jobs.old }
-    ensures results { result.unread ≤ results_of backends.new }
-{
-    swap_jobs(backends, jobs);
-    run_backends(rt, common, skipping, backends);
-    swap_jobs(backends, jobs);
-    Counts {
-        room: least_room(backends),
-        unread: count_unread(counts.unread, jobs),
-    }
 }

@@ -20,7 +20,7 @@ pub struct Scan<W: World, D: Disk> {
     // In the order of the actors' numbers.
     pub(crate) backends: Vec<Backend<W, D>>,
     pub(crate) workers: Vec<Worker<W, D>>,
-    // One for each backend, for a run of several rounds.
+    // One for each backend at least, for the turns of a run.
     pub(crate) jobs: Vec<Job>,
     // The least room of the backends.
     pub(crate) room: u64,
