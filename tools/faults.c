@@ -1,11 +1,13 @@
 // A library to be preloaded: makes one call of a kind fail, give less than was asked for, or be
-// interrupted, and counts the calls of each kind. tools/fault_runs builds and uses it.
+// interrupted, and counts the calls of each kind; or makes each read wait, as on a slow device.
+// tools/fault_runs and tools/bench build and use it.
 //
 // FAULT_KIND  what the call is: open, status (statx), length (lseek), read (pread), out, err
 //             (write to the two standard streams), memory (malloc, realloc), thread (clone3)
 // FAULT_AT    which call of that kind, from 1; 0 for none
 // FAULT_HOW   fail, full (the system's want of memory), short, interrupted
 // FAULT_COUNT a file that gets the number of calls of that kind, as the machine keeps a long
+// FAULT_WAIT  how many microseconds each pread sleeps first
 #define _GNU_SOURCE
 #include <dlfcn.h>
 #include <errno.h>
@@ -15,17 +17,19 @@
 #include <stdlib.h>
 #include <string.h>
 #include <sys/mman.h>
+#include <sys/prctl.h>
 #include <sys/stat.h>
 #include <sys/types.h>
+#include <time.h>
 #include <unistd.h>
 
 static atomic_long own_calls, *calls = &own_calls;
-static long fault_at = -1;
+static long fault_at = -1, wait_for;
 static const char *fault_kind = "", *fault_how = "";
 
 // The count lies in a file, since a program may end without running what is registered for its end.
 __attribute__((constructor)) static void read_settings(void) {
-  const char *path = getenv("FAULT_COUNT"), *at = getenv("FAULT_AT");
+  const char *path = getenv("FAULT_COUNT"), *at = getenv("FAULT_AT"), *wait = getenv("FAULT_WAIT");
   if (path) {
     int file = open(path, O_RDWR | O_CREAT | O_TRUNC, 0600);
     if (file >= 0 && !ftruncate(file, sizeof *calls)) {
@@ -37,6 +41,8 @@ __attribute__((constructor)) static void read_settings(void) {
   if (getenv("FAULT_KIND")) fault_kind = getenv("FAULT_KIND");
   fault_how = getenv("FAULT_HOW") ? getenv("FAULT_HOW") : "fail";
   fault_at = at ? atol(at) : 0;
+  // A sleep may else last 50 microseconds longer than it should. New threads have this from here.
+  if (wait) wait_for = 1000 * atol(wait), prctl(PR_SET_TIMERSLACK, 1);
 }
 
 // Whether this call of the kind is the one.
@@ -75,6 +81,7 @@ off_t lseek(int file, off_t at, int from) {
 }
 
 ssize_t pread(int file, void *bytes, size_t count, off_t at) {
+  if (wait_for) nanosleep(&(struct timespec){0, wait_for}, NULL);
   if (is_hit("read")) {
     if (!is_how("short")) return fault();
     count = count > 5000 ? 5000 : count / 2 + 1;

@@ -1,6 +1,8 @@
-// The same listing in plain C on one thread, to compare times with: it reads 128 KiB at a time,
-// checks each page, writes its text into one buffer, and writes that out at some 900 KB.
+// The same listing in plain C on one thread, to compare times with: it reads so many blocks at a
+// time, checks each page, writes its text into one buffer, and writes that out at some 900 KB.
 // tools/bench builds and runs it. It stops at the first page that is not valid.
+//
+// usage: scan BLOCKS FILE..
 #include <fcntl.h>
 #include <stdint.h>
 #include <stdio.h>
@@ -8,7 +10,7 @@
 #include <string.h>
 #include <unistd.h>
 
-enum { PAGE = 8192, READ = 16 * PAGE, FULL = 900000, ROOM = FULL + 128 * 1024 };
+enum { PAGE = 8192, FULL = 900000, ROOM = FULL + 128 * 1024 };
 
 static char text[ROOM];
 static size_t length;
@@ -93,14 +95,16 @@ static void put_page(uint32_t relation, uint32_t block, const uint8_t *page) {
   }
 }
 
-int main(int count, char **files) {
+int main(int count, char **words) {
+  if (count < 2) return 2;
+  size_t read_size = PAGE * strtoul(words[1], NULL, 10);
   for (int i = 0; i < 100; i++) pairs[2 * i] = '0' + i / 10, pairs[2 * i + 1] = '0' + i % 10;
-  uint8_t *bytes = aligned_alloc(4096, READ);
-  for (int relation = 0; relation + 1 < count; relation++) {
-    int file = open(files[relation + 1], O_RDONLY);
+  uint8_t *bytes = aligned_alloc(4096, read_size);
+  for (int relation = 0; relation + 2 < count; relation++) {
+    int file = open(words[relation + 2], O_RDONLY);
     if (file < 0) return 3;
     off_t at = 0;
-    for (ssize_t got; (got = pread(file, bytes, READ, at)) >= PAGE;) {
+    for (ssize_t got; (got = pread(file, bytes, read_size, at)) >= PAGE;) {
       for (int page = 0; page < got / PAGE; page++) {
         put_page(relation, at / PAGE + page, bytes + page * PAGE);
         if (length >= FULL) write_out();
