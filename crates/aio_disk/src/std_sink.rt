@@ -132,26 +132,37 @@ mod tests {
         sink.faults
     }
 
+    // How often a write to standard output or standard error failed, of one, where one of the two
+    // takes `text` alone.
+    fn faults(alloc: Global, open: Stream, stream: Stream, bytes: &[u8]) -> u64 {
+        let streams = OneStream {
+            alloc,
+            open,
+            text: "text",
+        };
+        match stream {
+            Stream::Out => write(StdSink::out(&streams), bytes),
+            Stream::Err => write(StdSink::err(&streams), bytes),
+        }
+    }
+
+    // The stream that takes text, the stream that is written to, the bytes, and how often it
+    // failed.
+    const WRITES: [(Stream, Stream, &[u8], u64); 7] = [
+        (Stream::Out, Stream::Out, b"text", 0),
+        (Stream::Out, Stream::Err, b"text", 1),
+        (Stream::Err, Stream::Out, b"text", 1),
+        (Stream::Err, Stream::Err, b"text", 0),
+        (Stream::Out, Stream::Out, b"other", 1),
+        (Stream::Err, Stream::Err, b"other", 1),
+        (Stream::Err, Stream::Err, b"no text: \xff", 1),
+    ];
+
     #[test]
     fn each_stream_is_its_own(rt: HostRuntime) {
-        let (alloc, text) = (rt.alloc(), "text");
-        let out = OneStream {
-            alloc,
-            open: Stream::Out,
-            text,
-        };
-        let err = OneStream {
-            alloc,
-            open: Stream::Err,
-            text,
-        };
-        assert_eq!(rt; write(StdSink::out(&out), b"text"), 0);
-        assert_eq!(rt; write(StdSink::err(&out), b"text"), 1);
-        assert_eq!(rt; write(StdSink::out(&err), b"text"), 1);
-        assert_eq!(rt; write(StdSink::err(&err), b"text"), 0);
-        assert_eq!(rt; write(StdSink::out(&out), b"other"), 1);
-        assert_eq!(rt; write(StdSink::err(&err), b"other"), 1);
-        assert_eq!(rt; write(StdSink::err(&err), b"no text: \xff"), 1);
+        for (open, stream, bytes, wanted) in WRITES {
+            assert_eq!(rt; faults(rt.alloc(), open, stream, bytes), wanted);
+        }
     }
 
     #[test]

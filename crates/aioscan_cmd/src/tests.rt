@@ -6,6 +6,7 @@ mod map_reads;
 mod map_runs;
 mod map_words;
 mod outside;
+mod plain;
 mod random_maps;
 mod reads;
 mod rows;

@@ -1,8 +1,8 @@
 //! Scans in each manner of listing: damaged pages given as zeros, and pages with their tuples.
-use crate::test_files::{file_of, lines, shelf_of};
+use crate::test_files::{lines, shelf_of};
 use crate::test_scans::USUAL;
-use crate::tests::check_job;
-use crate::trials::{Outcome, scan_over};
+use crate::tests::{check_jobs, rounds_of, scan_pages};
+use crate::trials::{Blocks, Shown, scan_over};
 use crate::{Ending, MethodKind, ScanSettings};
 use std::alloc::Global;
 use std::process::Abort;
@@ -10,46 +10,71 @@ use std::sync::Wait;
 use std::test::Fail;
 use std::thread::Threads;
 
+// The lines of blocks 10 to 13, with zeros for block 12.
+fn zeroed_lines(alloc: Global) -> Result<Vec<u8>, Fail> {
+    let mut text = lines(alloc, 10, 2)?;
+    text.extend_from_slice(b"page 0 12 new\n")?;
+    text.extend_from_slice(lines(alloc, 13, 1)?.as_slice())?;
+    Ok(text)
+}
+
 // Compares what became of a job of the blocks 10 to 13, of which 12 is bad.
-fn check_zeroed<R: Abort + AllocGlobal>(
-    rt: &R,
-    outcome: &Outcome,
-    place: usize,
-) -> Result<(), Fail> {
-    let alloc = rt.alloc();
-    let job = outcome.jobs.get(place).ok_or("a job is missing")?;
-    let mut wanted = lines(alloc, 10, 2)?;
-    wanted.extend_from_slice(b"page 0 12 new\n")?;
-    wanted.extend_from_slice(lines(alloc, 13, 1)?.as_slice())?;
+fn check_zeroed<R: Abort + AllocGlobal>(rt: &R, job: &Shown) -> Result<(), Fail> {
+    let wanted = zeroed_lines(rt.alloc())?;
     assert_eq!(rt; job.text.as_slice(), wanted.as_slice());
     assert_eq!(rt; job.warnings.as_slice(), b"zeroed page 0 12\n".as_slice());
     assert_eq!(rt; job.ending, Ending::Pages);
     Ok(())
 }
 
+// Lists those blocks twice.
+fn scan_twice<R: Abort + AllocGlobal + Threads + Wait + Sync>(
+    rt: &R,
+    settings: &ScanSettings,
+) -> Result<Vec<Shown>, Fail> {
+    let rounds: &[&[Blocks]] = &[&[(10, 4)], &[(10, 4)]];
+    let outcome = scan_pages(rt, settings, (14, Some(12)), &[], rounds)?;
+    assert_eq!(rt; outcome.jobs.len(), 2);
+    Ok(outcome.jobs)
+}
+
+// Lists them with zeros in place of the bad page.
+fn check_zeroed_twice<R: Abort + AllocGlobal + Threads + Wait + Sync>(
+    rt: &R,
+    method: MethodKind,
+) -> Result<(), Fail> {
+    let settings = ScanSettings {
+        method,
+        zero: true,
+        ..USUAL
+    };
+    for job in scan_twice(rt, &settings)?.as_slice() {
+        check_zeroed(rt, job)?;
+    }
+    Ok(())
+}
+
+// Lists them up to the bad page.
+fn check_invalid_twice<R: Abort + AllocGlobal + Threads + Wait + Sync>(
+    rt: &R,
+    method: MethodKind,
+) -> Result<(), Fail> {
+    let settings = ScanSettings { method, ..USUAL };
+    let jobs = scan_twice(rt, &settings)?;
+    let wanted = [(10, 2, Ending::Invalid(12)), (10, 2, Ending::Invalid(12))];
+    check_jobs(rt, jobs.as_slice(), &wanted)?;
+    for job in jobs.as_slice() {
+        assert!(rt; job.warnings.is_empty());
+    }
+    Ok(())
+}
+
 // The pool never holds a page that was zeroed: it is read again for the second job.
 #[test]
 fn damaged_pages_are_zeroed_with_warnings(rt: HostRuntime) -> Result<(), Fail> {
-    let alloc = rt.alloc();
     for method in [MethodKind::Sync, MethodKind::Worker, MethodKind::Ring] {
-        let first = vec![in alloc; (10u32, 4u32)]?;
-        let second = vec![in alloc; (10u32, 4u32)]?;
-        let rounds = vec![in alloc; first, second]?;
-        let settings = ScanSettings {
-            method,
-            zero: true,
-            ..USUAL
-        };
-        let mut shelf = shelf_of(&rt, file_of(alloc, 14, Some(12))?, Vec::new(alloc))?;
-        let outcome = scan_over(&rt, &settings, &mut shelf, rounds.as_slice())?;
-        check_zeroed(&rt, &outcome, 0)?;
-        check_zeroed(&rt, &outcome, 1)?;
-        let settings = ScanSettings { method, ..USUAL };
-        let mut shelf = shelf_of(&rt, file_of(alloc, 14, Some(12))?, Vec::new(alloc))?;
-        let outcome = scan_over(&rt, &settings, &mut shelf, rounds.as_slice())?;
-        check_job(&rt, &outcome, 0, 10, 2, Ending::Invalid(12))?;
-        let job = outcome.jobs.get(0).ok_or("a job is missing")?;
-        assert!(&rt; job.warnings.is_empty());
+        check_zeroed_twice(&rt, method)?;
+        check_invalid_twice(&rt, method)?;
     }
     Ok(())
 }
@@ -82,34 +107,38 @@ fn check_text<R: Abort + AllocGlobal + Threads + Wait + Sync>(
     settings: &ScanSettings,
     wanted: &str,
 ) -> Result<(), Fail> {
-    let alloc = rt.alloc();
-    let rounds = vec![in alloc; vec![in alloc; (0u32, 2u32)]?]?;
-    let mut shelf = shelf_of(rt, file_with_a_tuple(alloc)?, Vec::new(alloc))?;
+    let rounds = rounds_of(rt.alloc(), &[&[(0, 2)]])?;
+    let mut shelf = shelf_of(rt, file_with_a_tuple(rt.alloc())?, Vec::new(rt.alloc()))?;
     let outcome = scan_over(rt, settings, &mut shelf, rounds.as_slice())?;
-    let job = outcome.jobs.get(0).ok_or("a job is missing")?;
-    assert_eq!(rt; job.text.as_slice(), wanted.as_bytes());
-    assert_eq!(rt; job.ending, Ending::Pages);
+    assert_eq!(rt; outcome.jobs.len(), 1);
+    for job in outcome.jobs.as_slice() {
+        assert_eq!(rt; job.text.as_slice(), wanted.as_bytes());
+        assert_eq!(rt; job.ending, Ending::Pages);
+    }
     Ok(())
 }
+
+const WITHOUT: &str = "page 0 0 lower 28 upper 8152 special 8192 items 1\n\
+     item 1 normal 8152 40\n\
+     page 0 1 new\n";
+
+const WITH: &str = "page 0 0 lower 28 upper 8152 special 8192 items 1\n\
+     item 1 normal 8152 40\n\
+     tuple 1 xmin 700 xmax 0 field3 0 ctid (0,1) attrs 2 mask 2306 hoff 24\n\
+     chains 1 longest 1\n\
+     page 0 1 new\n";
 
 #[test]
 fn pages_with_their_tuples(rt: HostRuntime) -> Result<(), Fail> {
     for method in [MethodKind::Sync, MethodKind::Worker, MethodKind::Ring] {
-        let bare = ScanSettings { method, ..USUAL };
-        let without = "page 0 0 lower 28 upper 8152 special 8192 items 1\n\
-                       item 1 normal 8152 40\n\
-                       page 0 1 new\n";
-        check_text(&rt, &bare, without)?;
-        let with = "page 0 0 lower 28 upper 8152 special 8192 items 1\n\
-                    item 1 normal 8152 40\n\
-                    tuple 1 xmin 700 xmax 0 field3 0 ctid (0,1) attrs 2 mask 2306 hoff 24\n\
-                    chains 1 longest 1\n\
-                    page 0 1 new\n";
-        let full = ScanSettings {
-            tuples: true,
-            ..bare
-        };
-        check_text(&rt, &full, with)?;
+        for (tuples, wanted) in [(false, WITHOUT), (true, WITH)] {
+            let settings = ScanSettings {
+                method,
+                tuples,
+                ..USUAL
+            };
+            check_text(&rt, &settings, wanted)?;
+        }
     }
     Ok(())
 }

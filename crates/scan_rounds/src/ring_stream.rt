@@ -8,7 +8,7 @@ ghost use Rattle.method_worker.specs.Shown.{IsSeatOf};
 ghost use Rattle.read_stream.specs.Open.{IsOpen};
 
 use crate::ring_tests::blocks_read;
-use crate::test_files::{file_of, shelf_of};
+use crate::test_files::pages_shelf;
 use aio_batch::Method;
 use aio_callback::ReadIo;
 use aio_disk::{Disk, MemDisk};
@@ -21,6 +21,7 @@ use page_check::World;
 use read_stream::{Desk, Next, ReadStream, Settings};
 use std::alloc::{AllocError, Global};
 use std::marker::Brand;
+use std::process::Abort;
 use std::sync::Wait;
 use std::test::Fail;
 
@@ -210,21 +211,27 @@ fn pages_by_ring<W: World, D: Disk, T: Wait>(
     Ok((pages, ring.into_disk()))
 }
 
+// The pages of a list of a file of 5 blocks, and the blocks that were read.
+fn pages_and_reads<R: Abort + AllocGlobal + Wait>(
+    rt: &R,
+    list: Vec<Noted>,
+) -> Result<(Vec<Noted>, Vec<u32>), Fail> {
+    let mut shelf = pages_shelf(rt, 5, None, &[])?;
+    let mut names = Vec::new(rt.alloc());
+    names.push(String::from_str(rt.alloc(), "f")?)?;
+    let disk = shelf.open(names.as_slice()).ok().ok_or("no disk")?;
+    let (pages, disk) = pages_by_ring::<Brand, MemDisk, R>(rt, rt.alloc(), disk, list)?;
+    shelf.take_back(disk);
+    Ok((pages, blocks_read(rt.alloc(), &shelf, 0)?))
+}
+
 // A block twice in the list is read once; blocks that do not follow one another are not combined.
 #[test]
 fn a_list_is_read_by_a_ring(rt: HostRuntime) -> Result<(), Fail> {
-    let alloc = rt.alloc();
-    let mut shelf = shelf_of(&rt, file_of(alloc, 5, None)?, Vec::new(alloc))?;
-    let names = vec![in alloc; String::from_str(alloc, "f")?]?;
-    let disk = shelf.open(names.as_slice()).ok().ok_or("no disk")?;
     let wanted = [(3u32, 7u32), (3, 8), (4, 9), (0, 1)];
-    let list = Vec::from_array(alloc, wanted)?;
-    let (pages, disk) = pages_by_ring::<Brand, MemDisk, HostRuntime>(&rt, alloc, disk, list)?;
-    shelf.take_back(disk);
+    let list = Vec::from_array(rt.alloc(), wanted)?;
+    let (pages, blocks) = pages_and_reads(&rt, list)?;
     assert_eq!(&rt; pages.as_slice(), wanted.as_slice());
-    assert_eq!(&rt;
-        blocks_read(alloc, &shelf, 0)?.as_slice(),
-        [3u32, 4, 0].as_slice()
-    );
+    assert_eq!(&rt; blocks.as_slice(), [3u32, 4, 0].as_slice());
     Ok(())
 }

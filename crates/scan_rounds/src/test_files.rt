@@ -1,5 +1,4 @@
 //! The files of tests, and the lines of their pages.
-ghost use Rattle.std.specs.Prelude.{◌+◌, ◌^◌, ◌≤◌};
 
 use aio_disk::{MemShelf, Script};
 use std::alloc::Global;
@@ -71,15 +70,26 @@ pub(crate) fn shelf_of<R: Abort + AllocGlobal>(
     Ok(MemShelf::make(alloc, files, script, LOG_ROOM)?)
 }
 
+/// A shelf of a file `f` of so many empty pages, of which one may be bad, and of these reads that
+/// fail.
+pub(crate) fn pages_shelf<R: Abort + AllocGlobal>(
+    rt: &R,
+    blocks: u32,
+    bad: Option<u32>,
+    fail_reads: &[(u32, u64)],
+) -> Result<MemShelf, Fail> {
+    let reads = Vec::from_slice(rt.alloc(), fail_reads)?;
+    shelf_of(rt, file_of(rt.alloc(), blocks, bad)?, reads)
+}
+
 /// The lines of so many empty pages of relation 0.
-pub(crate) fn lines(alloc: Global, first: u32, count: u32) -> Result<Vec<u8>, Fail>
-    requires { first + count ≤ 2 ^ 28 }
-{
+pub(crate) fn lines(alloc: Global, first: u32, count: u32) -> Result<Vec<u8>, Fail> {
     let mut text = String::new(alloc);
-    for block in first..first + count {
-        text.push_str("page 0 ")?;
-        text.push_str(block.to_string(alloc)?.as_str())?;
-        text.push_str(" lower 24 upper 8192 special 8192 items 0\n")?;
+    for block in first..first.saturating_add(count) {
+        writeln!(
+            text,
+            "page 0 {block} lower 24 upper 8192 special 8192 items 0"
+        )?;
     }
     Ok(text.into_bytes())
 }

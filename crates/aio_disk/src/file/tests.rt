@@ -40,74 +40,107 @@ fn filling(page: &Page) -> Option<u8> {
         .then_some(byte)
 }
 
-// Reads, and says what fills each page that was read.
-fn read<R: Abort + AllocGlobal>(
+// Reads into these pages, and says how many were read.
+fn read_into<R: Abort>(
     rt: &R,
     disk: &mut FileDisk,
     relation: u32,
     first: u32,
-    count: usize,
-) -> Result<Vec<Option<u8>>, Fail> {
-    let alloc = rt.alloc();
-    let mut pages = zeroed_pages(alloc, count)?;
+    pages: &mut [Page],
+) -> Result<usize, Fail> {
     assert!(rt; (relation as usize) < disk.relations.len());
     assert!(rt; 0 < pages.len() && pages.len() <= 128);
-    let answered = disk
-        .read(relation, first, pages.as_mut_slice())
-        .ok()
-        .ok_or("a fault")?;
-    let mut fillings = Vec::new(alloc);
-    for page in &pages[..answered as usize] {
-        fillings.push(filling(page))?;
+    match disk.read(relation, first, pages) {
+        Ok(answered) => Ok(answered as usize),
+        Err(_) => Err(Fail::from("a fault")),
     }
-    Ok(fillings)
+}
+
+// What fills the first pages, so many of them.
+fn fillings(alloc: Global, pages: &[Page], count: usize) -> Result<Vec<u8>, Fail> {
+    let mut bytes = Vec::new(alloc);
+    for page in pages.iter().take(count) {
+        bytes.push(filling(page).ok_or("a page of several bytes")?)?;
+    }
+    Ok(bytes)
+}
+
+// Reads pages of a relation from a block on, and says what fills each page that was read.
+fn read<R: Abort + AllocGlobal>(
+    rt: &R,
+    disk: &mut FileDisk,
+    (relation, first, count): (u32, u32, usize),
+) -> Result<Vec<u8>, Fail> {
+    let mut pages = zeroed_pages(rt.alloc(), count)?;
+    let answered = read_into(rt, disk, relation, first, pages.as_mut_slice())?;
+    fillings(rt.alloc(), pages.as_slice(), answered)
+}
+
+// How many blocks a relation has.
+fn blocks_of<R: Abort>(rt: &R, disk: &mut FileDisk, relation: u32) -> Result<u32, Fail> {
+    assert!(rt; (relation as usize) < disk.relations.len());
+    Ok(disk.blocks(relation).ok().ok_or("a fault")?)
+}
+
+// The names of relations.
+fn named(alloc: Global, words: &[&str]) -> Result<Vec<String>, AllocError> {
+    let mut names = Vec::new(alloc);
+    for word in words {
+        names.push(String::from_str(alloc, word)?)?;
+    }
+    Ok(names)
+}
+
+// Reads of a file of 3 blocks and one of 20, and what fills the pages: pages of relation 1, more
+// than one run of blocks, and a page in place; at the end, where a part of a block stands, and past
+// it.
+const READS: [((u32, u32, usize), &[u8]); 8] = [
+    ((1, 2, 3), &[103, 104, 105]),
+    (
+        (1, 0, 20),
+        &[
+            101, 102, 103, 104, 105, 106, 107, 108, 109, 110, 111, 112, 113, 114, 115, 116, 117,
+            118, 119, 120,
+        ],
+    ),
+    ((0, 1, 1), &[2]),
+    ((0, 2, 3), &[3]),
+    (
+        (1, 1, 128),
+        &[
+            102, 103, 104, 105, 106, 107, 108, 109, 110, 111, 112, 113, 114, 115, 116, 117, 118,
+            119, 120,
+        ],
+    ),
+    ((0, 3, 3), &[]),
+    ((0, 3, 1), &[]),
+    ((0, u32::MAX, 128), &[]),
+];
+
+// Makes these reads, and compares what they give.
+fn check_reads<R: Abort + AllocGlobal>(rt: &R, disk: &mut FileDisk) -> Result<(), Fail> {
+    for (asked, wanted) in READS {
+        let bytes = read(rt, disk, asked)?;
+        assert_eq!(rt; bytes.as_slice(), wanted);
+    }
+    Ok(())
 }
 
 #[test]
 fn two_files_are_two_relations(rt: HostRuntime) -> Result<(), Fail> {
-    let alloc = rt.alloc();
     write_file(&rt, "first", 1, 3)?;
     write_file(&rt, "second", 101, 20)?;
-    let names = vec![in alloc;
-        String::from_str(alloc, "first")?,
-        String::from_str(alloc, "second")?,
-    ]?;
+    let names = named(rt.alloc(), &["first", "second"])?;
     let mut shelf = FileShelf::new(&rt);
     let mut disk = shelf.open(names.as_slice()).ok().ok_or("no disk")?;
     assert_eq!(rt; disk.relations.len(), 2);
-    assert_eq!(rt; disk.blocks(0).ok(), Some(3));
-    assert_eq!(rt; disk.blocks(1).ok(), Some(20));
-
-    // Three pages of relation 1, more than one run of blocks, and one page in place.
-    let three = [Some(103), Some(104), Some(105)];
-    assert_eq!(rt; read(&rt, &mut disk, 1, 2, 3)?.as_slice(), three.as_slice());
-    let all = read(&rt, &mut disk, 1, 0, 20)?;
-    assert_eq!(rt; all.len(), 20);
-    assert_eq!(rt;
-        &all[14..18],
-        [Some(115), Some(116), Some(117), Some(118)].as_slice()
-    );
-    assert_eq!(rt;
-        read(&rt, &mut disk, 0, 1, 1)?.as_slice(),
-        [Some(2)].as_slice()
-    );
-
-    // At the end, where a part of a block stands, and past it.
-    assert_eq!(rt;
-        read(&rt, &mut disk, 0, 2, 3)?.as_slice(),
-        [Some(3)].as_slice()
-    );
-    assert_eq!(rt; read(&rt, &mut disk, 1, 1, 128)?.len(), 19);
-    assert_eq!(rt; read(&rt, &mut disk, 0, 3, 3)?.len(), 0);
-    assert_eq!(rt; read(&rt, &mut disk, 0, 3, 1)?.len(), 0);
-    assert_eq!(rt; read(&rt, &mut disk, 0, u32::MAX, 128)?.len(), 0);
-
+    let lengths = (blocks_of(&rt, &mut disk, 0)?, blocks_of(&rt, &mut disk, 1)?);
+    assert_eq!(rt; lengths, (3, 20));
+    check_reads(&rt, &mut disk)?;
     shelf.take_back(disk);
     assert_eq!(rt; shelf.reads, 8);
-    assert_eq!(rt;
-        (shelf.open_faults, shelf.length_faults, shelf.faults),
-        (0, 0, 0)
-    );
+    let faults = (shelf.open_faults, shelf.length_faults, shelf.faults);
+    assert_eq!(rt; faults, (0, 0, 0));
     fs::remove_file(&rt, "first")?;
     fs::remove_file(&rt, "second")?;
     Ok(())
@@ -138,11 +171,10 @@ fn disk_over(alloc: Global, file: File) -> Result<FileDisk, AllocError> {
 #[test]
 fn reads_that_fail_are_counted(rt: HostRuntime) -> Result<(), Fail> {
     let mut disk = disk_over(rt.alloc(), File::create(&rt, "write_only")?)?;
-    assert!(rt; fails(&rt, &mut disk, 1)?);
-    assert!(rt; fails(&rt, &mut disk, 3)?);
-    assert!(rt; fails(&rt, &mut disk, 128)?);
-    assert_eq!(rt; disk.faults, 3);
-    assert_eq!(rt; disk.reads, 3);
+    for count in [1, 3, 128] {
+        assert!(rt; fails(&rt, &mut disk, count)?);
+    }
+    assert_eq!(rt; (disk.faults, disk.reads), (3, 3));
     fs::remove_file(&rt, "write_only")?;
     Ok(())
 }
@@ -162,14 +194,10 @@ fn lengths_that_fail_are_counted(rt: HostRuntime) -> Result<(), Fail> {
 
 #[test]
 fn what_has_no_blocks_is_refused(rt: HostRuntime) -> Result<(), Fail> {
-    let alloc = rt.alloc();
     write_file(&rt, "third", 1, 1)?;
     let mut shelf = FileShelf::new(&rt);
     for name in ["missing", ".", "/dev/null", ""] {
-        let names = vec![in alloc;
-            String::from_str(alloc, "third")?,
-            String::from_str(alloc, name)?,
-        ]?;
+        let names = named(rt.alloc(), &["third", name])?;
         assert!(rt; matches!(shelf.open(names.as_slice()), Err(OpenFault::Device)));
     }
     assert_eq!(rt; shelf.open_faults, 4);

@@ -64,6 +64,28 @@ fn parts_of(alloc: Global, byte: u8, blocks: u8, most: usize) -> Result<Parts, A
     })
 }
 
+// Pages of zeros.
+fn zeroed_pages(alloc: Global, count: u32) -> Result<Vec<Page>, AllocError> {
+    let mut pages = Vec::new(alloc);
+    for _ in 0..count {
+        pages.push(Page::zeroed(alloc)?)?;
+    }
+    Ok(pages)
+}
+
+// Reads into these pages, and says how many were read.
+fn read_into<R: Abort + AllocGlobal>(
+    rt: &R,
+    parts: &mut Parts,
+    first: u32,
+    pages: &mut [Page],
+) -> Result<Option<usize>, Fail> {
+    let mut buffer = vec![in rt.alloc(); 0u8; RUN * PAGE_SIZE]?;
+    assert!(rt; 0 < pages.len());
+    assert!(rt; first as usize + pages.len() < 4294967296);
+    Ok(read_blocks(parts, first, buffer.as_mut_slice(), pages).ok())
+}
+
 // Reads, and says which byte stands first and last in each page that was read.
 fn read<R: Abort + AllocGlobal>(
     rt: &R,
@@ -71,19 +93,12 @@ fn read<R: Abort + AllocGlobal>(
     first: u32,
     count: u32,
 ) -> Result<Option<Vec<(u8, u8)>>, Fail> {
-    let alloc = rt.alloc();
-    let mut pages = Vec::new(alloc);
-    for _ in 0..count {
-        pages.push(Page::zeroed(alloc)?)?;
-    }
-    let mut buffer = vec![in alloc; 0u8; RUN * PAGE_SIZE]?;
-    assert!(rt; 0 < pages.len());
-    assert!(rt; first as usize + pages.len() < 4294967296);
-    let Ok(given) = read_blocks(parts, first, buffer.as_mut_slice(), pages.as_mut_slice()) else {
+    let mut pages = zeroed_pages(rt.alloc(), count)?;
+    let Some(given) = read_into(rt, parts, first, pages.as_mut_slice())? else {
         return Ok(None);
     };
-    let mut ends = Vec::new(alloc);
-    for page in &pages[..given] {
+    let mut ends = Vec::new(rt.alloc());
+    for page in pages.iter().take(given) {
         let bytes = page.bytes();
         ends.push((bytes[0], bytes[8191]))?;
     }
@@ -104,23 +119,32 @@ fn short_and_interrupted_reads_are_taken_up(rt: HostRuntime) -> Result<(), Fail>
     Ok(())
 }
 
+// Reads blocks 0 to 19, of which the first 16 are given.
+fn check_front<R: Abort + AllocGlobal>(rt: &R, parts: &mut Parts) -> Result<(), Fail> {
+    let front = read(rt, parts, 0, 20)?.ok_or("a fault")?;
+    assert_eq!(rt; front.len(), 16);
+    assert_eq!(rt; front.as_slice().last().copied(), Some((16, 16)));
+    Ok(())
+}
+
+// Reads from block 16 on to the end.
+fn check_back<R: Abort + AllocGlobal>(rt: &R, parts: &mut Parts) -> Result<(), Fail> {
+    let back = read(rt, parts, 16, 20)?.ok_or("a fault")?;
+    let wanted = [(17, 17), (18, 18), (19, 19), (20, 20)];
+    assert_eq!(rt; back.as_slice(), wanted.as_slice());
+    Ok(())
+}
+
 // The read of block 16 fails twice: behind 16 blocks that is no fault, but before any it is.
 #[test]
 fn a_fault_behind_a_run_cuts_the_read(rt: HostRuntime) -> Result<(), Fail> {
     let mut parts = parts_of(rt.alloc(), 1, 20, 200000)?;
     parts.fail_from = 16 * PAGE_SIZE as u64;
     parts.faults_left = 2;
-    let front = read(&rt, &mut parts, 0, 20)?.ok_or("a fault")?;
-    assert_eq!(rt; front.len(), 16);
-    assert_eq!(rt; front.as_slice().last().copied(), Some((16, 16)));
+    check_front(&rt, &mut parts)?;
     assert!(rt; read(&rt, &mut parts, 16, 4)?.is_none());
     assert_eq!(rt; parts.faults_left, 0);
-    let back = read(&rt, &mut parts, 16, 20)?.ok_or("a fault")?;
-    assert_eq!(rt;
-        back.as_slice(),
-        [(17, 17), (18, 18), (19, 19), (20, 20)].as_slice()
-    );
-    Ok(())
+    check_back(&rt, &mut parts)
 }
 
 // Parts that do not tell their bytes.
@@ -175,48 +199,66 @@ fn read_of(
     read_relation(segments, 4, first, buffer, pages).ok()
 }
 
+// Reads into these pages, and says how many were read.
+fn read_segments<R: Abort + AllocGlobal>(
+    rt: &R,
+    segments: &mut [Untold],
+    first: u32,
+    pages: &mut [Page],
+) -> Result<Option<usize>, Fail> {
+    let mut buffer = vec![in rt.alloc(); 0u8; RUN * PAGE_SIZE]?;
+    assert!(rt; 0 < segments.len());
+    assert!(rt; 0 < pages.len());
+    assert!(rt; 131072 <= buffer.len());
+    Ok(read_of(segments, first, buffer.as_mut_slice(), pages))
+}
+
 // Reads 16 pages of it, and says what each that was read begins with.
 fn read_16<R: Abort + AllocGlobal>(
     rt: &R,
     segments: &mut [Untold],
     first: u32,
 ) -> Result<Option<Vec<u8>>, Fail> {
-    let alloc = rt.alloc();
-    let mut pages = Vec::new(alloc);
-    for _ in 0..16 {
-        pages.push(Page::zeroed(alloc)?)?;
-    }
-    let mut buffer = vec![in alloc; 0u8; RUN * PAGE_SIZE]?;
-    assert!(rt; 0 < segments.len());
-    assert!(rt; 0 < pages.len());
-    assert!(rt; 131072 <= buffer.len());
-    let given = read_of(segments, first, buffer.as_mut_slice(), pages.as_mut_slice());
-    let Some(given) = given else {
+    let mut pages = zeroed_pages(rt.alloc(), 16)?;
+    let Some(given) = read_segments(rt, segments, first, pages.as_mut_slice())? else {
         return Ok(None);
     };
-    let mut bytes = Vec::new(alloc);
+    let mut bytes = Vec::new(rt.alloc());
     for page in pages.iter().take(given) {
         bytes.push(page.bytes()[0])?;
     }
     Ok(Some(bytes))
 }
 
+// Compares what 16 pages begin with.
+fn check_16<R: Abort + AllocGlobal>(
+    rt: &R,
+    segments: &mut [Untold],
+    first: u32,
+    wanted: &[u8],
+) -> Result<(), Fail> {
+    let bytes = read_16(rt, segments, first)?.ok_or("a fault")?;
+    assert_eq!(rt; bytes.as_slice(), wanted, "block {first}");
+    Ok(())
+}
+
+// First blocks, and what the blocks from there to the end of the segment begin with.
+const READS: [(u32, &[u8]); 6] = [
+    (0, &[1, 2, 3, 4]),
+    (2, &[3, 4]),
+    (4, &[5, 6, 7, 8]),
+    (8, &[9, 10]),
+    (10, &[]),
+    (u32::MAX, &[]),
+];
+
 #[test]
 fn a_read_ends_with_its_segment(rt: HostRuntime) -> Result<(), Fail> {
     let mut segments = segments_of(rt.alloc(), &[4, 4, 2])?;
     assert!(rt; 0 < segments.len());
     assert_eq!(rt; count_of(segments.as_mut_slice()), Some(10));
-    let runs: [(u32, &[u8]); 6] = [
-        (0, &[1, 2, 3, 4]),
-        (2, &[3, 4]),
-        (4, &[5, 6, 7, 8]),
-        (8, &[9, 10]),
-        (10, &[]),
-        (u32::MAX, &[]),
-    ];
-    for (first, wanted) in runs {
-        let bytes = read_16(&rt, segments.as_mut_slice(), first)?.ok_or("a fault")?;
-        assert_eq!(rt; bytes.as_slice(), wanted, "block {first}");
+    for (first, wanted) in READS {
+        check_16(&rt, segments.as_mut_slice(), first, wanted)?;
     }
     Ok(())
 }
@@ -228,9 +270,16 @@ fn the_last_segment_may_be_long(rt: HostRuntime) -> Result<(), Fail> {
     assert_eq!(rt; is_full(&mut segments[0], 4).ok(), Some(false));
     assert_eq!(rt; is_full(&mut segments[0], 5).ok(), Some(true));
     assert_eq!(rt; count_of(segments.as_mut_slice()), Some(5));
-    let bytes = read_16(&rt, segments.as_mut_slice(), 4)?.ok_or("a fault")?;
-    assert_eq!(rt; bytes.as_slice(), [5].as_slice());
-    Ok(())
+    check_16(&rt, segments.as_mut_slice(), 4, &[5])
+}
+
+// How many faults each segment has left.
+fn faults_left(alloc: Global, segments: &[Untold]) -> Result<Vec<u8>, AllocError> {
+    let mut left = Vec::new(alloc);
+    for segment in segments {
+        left.push(segment.parts.faults_left)?;
+    }
+    Ok(left)
 }
 
 // The first read of each segment fails, but that of block 5 is of the second one alone.
@@ -241,12 +290,7 @@ fn a_fault_is_that_of_its_segment(rt: HostRuntime) -> Result<(), Fail> {
         segment.parts.faults_left = 1;
     }
     assert!(rt; read_16(&rt, segments.as_mut_slice(), 5)?.is_none());
-    let mut left = Vec::new(rt.alloc());
-    for segment in &segments {
-        left.push(segment.parts.faults_left)?;
-    }
+    let left = faults_left(rt.alloc(), segments.as_slice())?;
     assert_eq!(rt; left.as_slice(), [1, 0, 1].as_slice());
-    let bytes = read_16(&rt, segments.as_mut_slice(), 5)?.ok_or("a fault")?;
-    assert_eq!(rt; bytes.as_slice(), [6, 7, 8].as_slice());
-    Ok(())
+    check_16(&rt, segments.as_mut_slice(), 5, &[6, 7, 8])
 }

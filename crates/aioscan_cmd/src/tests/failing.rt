@@ -1,5 +1,7 @@
 //! Reads that fail or are short, and what is listed before them.
-use super::outside::{Ended, Faults, STEADY, empty_file, empty_lines, run, run_over};
+use super::outside::{
+    Ended, Faults, STEADY, check_shown, empty_file, empty_lines, one_file, run, run_over,
+};
 use crate::Outcome;
 use std::process::Abort;
 use std::sync::Wait;
@@ -26,45 +28,53 @@ fn faults_of(fails: Fails) -> Faults<'static> {
     }
 }
 
-// Eight empty pages by one backend: how many are listed, and what is said of it.
+// How many of eight empty pages one backend lists, what is said of it, and the status, for each of
+// these.
+const SHOWN: [(u32, &str, u8); 6] = [
+    (
+        0,
+        "unread page 0 0\nincarnations 1 workers 0 backends 1\n",
+        3,
+    ),
+    (
+        1,
+        "unread page 0 1\nincarnations 2 workers 0 backends 2\n",
+        3,
+    ),
+    (
+        3,
+        "unread page 0 3\nincarnations 3 workers 0 backends 3\n",
+        3,
+    ),
+    (
+        7,
+        "unread page 0 7\nincarnations 4 workers 0 backends 4\n",
+        3,
+    ),
+    (8, "incarnations 5 workers 0 backends 5\n", 0),
+    (
+        2,
+        "unread page 0 2\nincarnations 3 workers 0 backends 3\n",
+        3,
+    ),
+];
+
+fn check_listed<R: Abort + AllocGlobal + Threads + Wait + Sync>(
+    rt: &R,
+    fails: Fails,
+    (listed, lines, status): (u32, &str, u8),
+) -> Result<(), Fail> {
+    let line = "--method sync --backends 1 --stats f";
+    let done = run_over(rt, empty_file(rt.alloc(), 8)?, faults_of(fails), line)?;
+    let text = empty_lines(rt.alloc(), 0, listed)?;
+    check_shown(rt, lines, &done, (text.as_str(), lines, status));
+    Ok(())
+}
+
 #[test]
 fn reads_of_one_backend_that_fail(rt: HostRuntime) -> Result<(), Fail> {
-    let alloc = rt.alloc();
-    let wanted = [
-        (
-            0,
-            "unread page 0 0\nincarnations 1 workers 0 backends 1\n",
-            3,
-        ),
-        (
-            1,
-            "unread page 0 1\nincarnations 2 workers 0 backends 2\n",
-            3,
-        ),
-        (
-            3,
-            "unread page 0 3\nincarnations 3 workers 0 backends 3\n",
-            3,
-        ),
-        (
-            7,
-            "unread page 0 7\nincarnations 4 workers 0 backends 4\n",
-            3,
-        ),
-        (8, "incarnations 5 workers 0 backends 5\n", 0),
-        (
-            2,
-            "unread page 0 2\nincarnations 3 workers 0 backends 3\n",
-            3,
-        ),
-    ];
-    let line = "--method sync --backends 1 --stats f";
-    for (fails, (listed, lines, status)) in SCRIPTS.iter().zip(wanted) {
-        let done = run_over(&rt, empty_file(alloc, 8)?, faults_of(*fails), line)?;
-        let text = empty_lines(alloc, 0, listed)?;
-        assert_eq!(rt; done.out.bytes(), text.as_str().as_bytes(), "{lines}");
-        assert_eq!(rt; done.err.bytes(), lines.as_bytes());
-        assert_eq!(rt; done.report.status, status, "{lines}");
+    for (fails, shown) in SCRIPTS.iter().zip(SHOWN) {
+        check_listed(&rt, *fails, shown)?;
     }
     Ok(())
 }
@@ -101,14 +111,11 @@ fn reads_beside_workers_that_fail(rt: HostRuntime) -> Result<(), Fail> {
 
 #[test]
 fn an_output_that_fails_at_its_third_write(rt: HostRuntime) -> Result<(), Fail> {
-    let alloc = rt.alloc();
-    let files = vec![in alloc; (String::from_str(alloc, "f")?, empty_file(alloc, 200)?)]?;
+    let files = one_file(rt.alloc(), "f", empty_file(rt.alloc(), 200)?)?;
     let line = "--method sync --backends 1 --stats f";
     let done = run(&rt, files, STEADY, line, (&[(3, 0)], &[]))?;
-    let text = empty_lines(alloc, 0, 128)?;
+    let text = empty_lines(rt.alloc(), 0, 128)?;
     let lines = "cannot write\nincarnations 24 workers 0 backends 24\n";
-    assert_eq!(rt; done.out.bytes(), text.as_str().as_bytes());
-    assert_eq!(rt; done.err.bytes(), lines.as_bytes());
-    assert_eq!(rt; done.report.status, 4);
+    check_shown(&rt, line, &done, (text.as_str(), lines, 4));
     Ok(())
 }

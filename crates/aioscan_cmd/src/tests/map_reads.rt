@@ -1,6 +1,7 @@
 //! The reads of scans that leave out the blocks that a visibility map marks.
 use super::outside::{
-    DAMAGED, EMPTY, Ended, Faults, Parts, STEADY, ZEROS, empty_file, file_of, run,
+    DAMAGED, EMPTY, Ended, Faults, Parts, STEADY, ZEROS, check_shown, empty_file, file_of, run,
+    two_files,
 };
 use std::alloc::Global;
 use std::process::Abort;
@@ -58,11 +59,7 @@ pub(super) fn run_by_map<R: Abort + AllocGlobal + Threads + Wait + Sync>(
     faults: Faults<'_>,
     line: &str,
 ) -> Result<Ended, Fail> {
-    let alloc = rt.alloc();
-    let files = vec![in alloc;
-        (String::from_str(alloc, "f")?, file),
-        (String::from_str(alloc, "m")?, map),
-    ]?;
+    let files = two_files(rt.alloc(), ("f", file), ("m", map))?;
     run(rt, files, faults, line, (&[], &[]))
 }
 
@@ -85,10 +82,9 @@ fn expect_reads<R: Abort + AllocGlobal + Threads + Wait + Sync>(
         "{}incarnations {count} workers 0 backends {count}\n",
         wanted.1
     )?;
-    assert_eq!(rt; done.out.bytes(), text.as_str().as_bytes(), "{words}");
-    assert_eq!(rt; done.err.bytes(), told.as_str().as_bytes(), "{words}");
-    assert_eq!(rt; done.report.status, wanted.2, "{words}");
-    assert_eq!(rt; reads_by_relation(rt, &done)?.as_slice(), reads, "{words}");
+    check_shown(rt, words, &done, (text.as_str(), told.as_str(), wanted.2));
+    let made = reads_by_relation(rt, &done)?;
+    assert_eq!(rt; made.as_slice(), reads, "{words}");
     Ok(())
 }
 

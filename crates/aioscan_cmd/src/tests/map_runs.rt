@@ -1,7 +1,8 @@
 //! Whole runs by a visibility map: each method, damaged pages, tuples, and what fails.
 use super::map_reads::{FLAGGED, HEADER, MARKED, lines_of, run_by_map};
 use super::outside::{
-    DAMAGED, EMPTY, Faults, Parts, STEADY, ZEROS, empty_file, empty_lines, file_of, run,
+    DAMAGED, EMPTY, Faults, Parts, STEADY, Shown, ZEROS, check_shown, empty_file, empty_lines,
+    file_of, one_file, run, two_files,
 };
 use crate::Line;
 use std::process::Abort;
@@ -34,22 +35,31 @@ const OF_A_SERVER: Parts<'static> = &[
     (110, &[3]),
 ];
 
+// Runs over these pages by the map of these, and compares what is shown.
+fn check_by_map<R: Abort + AllocGlobal + Threads + Wait + Sync>(
+    rt: &R,
+    (file, map): (&[Parts<'_>], &[Parts<'_>]),
+    faults: Faults<'_>,
+    line: &str,
+    wanted: Shown<'_>,
+) -> Result<(), Fail> {
+    let (file, map) = (file_of(rt.alloc(), file)?, file_of(rt.alloc(), map)?);
+    let done = run_by_map(rt, file, map, faults, line)?;
+    check_shown(rt, line, &done, wanted);
+    Ok(())
+}
+
 // Runs by each method, and compares the output, what is said of it and the status.
 fn expect<R: Abort + AllocGlobal + Threads + Wait + Sync>(
     rt: &R,
     file: &[Parts<'_>],
     map: &[Parts<'_>],
     words: &str,
-    wanted: (&str, &str, u8),
+    wanted: Shown<'_>,
 ) -> Result<(), Fail> {
-    let alloc = rt.alloc();
     for method in ["sync", "worker", "ring"] {
-        let line = format!(in alloc; "--method {method} --backends 2 --map m {words} f")?;
-        let (file, map) = (file_of(alloc, file)?, file_of(alloc, map)?);
-        let done = run_by_map(rt, file, map, STEADY, line.as_str())?;
-        assert_eq!(rt; done.out.bytes(), wanted.0.as_bytes(), "{line}");
-        assert_eq!(rt; done.err.bytes(), wanted.1.as_bytes(), "{line}");
-        assert_eq!(rt; done.report.status, wanted.2, "{line}");
+        let line = format!(in rt.alloc(); "--method {method} --backends 2 --map m {words} f")?;
+        check_by_map(rt, (file, map), STEADY, line.as_str(), wanted)?;
     }
     Ok(())
 }
@@ -61,7 +71,7 @@ fn the_same_by_each_method(rt: HostRuntime) -> Result<(), Fail> {
     let frozen = lines_of(alloc, &[0, 1, 2, 3, 5, 6, 7])?;
     let all = empty_lines(alloc, 0, 8)?;
     let zeroed = "zeroed page 1 0\n";
-    let rows: [(&[Parts<'_>], &str, (&str, &str, u8)); 6] = [
+    let rows: [(&[Parts<'_>], &str, Shown<'_>); 6] = [
         (&[MARKED], "", (visible.as_str(), "", 0)),
         (&[MARKED], "--skip visible", (visible.as_str(), "", 0)),
         (&[MARKED], "--skip frozen", (frozen.as_str(), "", 0)),
@@ -129,51 +139,40 @@ fn tuples_by_a_map(rt: HostRuntime) -> Result<(), Fail> {
 
 #[test]
 fn a_map_that_cannot_be_read(rt: HostRuntime) -> Result<(), Fail> {
-    let alloc = rt.alloc();
     let faults = Faults {
         reads: &[(0, 1)],
         ..STEADY
     };
-    for method in ["sync", "ring"] {
-        let line = format!(in alloc; "--method {method} --backends 1 --stats --map m f")?;
-        let map = file_of(alloc, &[MARKED])?;
-        let done = run_by_map(&rt, empty_file(alloc, 8)?, map, faults, line.as_str())?;
-        let said = "unread page 1 0\nincarnations 1 workers 0 backends 1\n";
-        assert_eq!(&rt; done.out.bytes(), "".as_bytes(), "{method}");
-        assert_eq!(&rt; done.err.bytes(), said.as_bytes(), "{method}");
-        assert_eq!(&rt; done.report.status, 3, "{method}");
+    let said = "unread page 1 0\nincarnations 1 workers 0 backends 1\n";
+    let lines = [
+        "--method sync --backends 1 --stats --map m f",
+        "--method ring --backends 1 --stats --map m f",
+    ];
+    for line in lines {
+        check_by_map(&rt, (&[EMPTY; 8], &[MARKED]), faults, line, ("", said, 3))?;
     }
     Ok(())
 }
 
 #[test]
 fn a_map_that_is_missing(rt: HostRuntime) -> Result<(), Fail> {
-    let alloc = rt.alloc();
-    let files = vec![in alloc; (String::from_str(alloc, "f")?, empty_file(alloc, 8)?)]?;
-    let done = run(&rt, files, STEADY, "--stats --map m f", (&[], &[]))?;
-    assert_eq!(&rt; done.out.bytes(), "".as_bytes());
-    assert_eq!(&rt; done.err.bytes(), "cannot open\n".as_bytes());
-    assert_eq!(&rt; done.report.status, 3);
+    let files = one_file(rt.alloc(), "f", empty_file(rt.alloc(), 8)?)?;
+    let line = "--stats --map m f";
+    let done = run(&rt, files, STEADY, line, (&[], &[]))?;
+    check_shown(&rt, line, &done, ("", "cannot open\n", 3));
     Ok(())
 }
 
 #[test]
 fn an_error_stream_that_fails_at_the_warning_of_a_map(rt: HostRuntime) -> Result<(), Fail> {
     let alloc = rt.alloc();
-    let files = vec![in alloc;
-        (
-            String::from_str(alloc, "f")?,
-            file_of(alloc, &[EMPTY, DAMAGED])?
-        ),
-        (String::from_str(alloc, "m")?, file_of(alloc, &[DAMAGED])?),
-    ]?;
+    let file = file_of(alloc, &[EMPTY, DAMAGED])?;
+    let files = two_files(alloc, ("f", file), ("m", file_of(alloc, &[DAMAGED])?))?;
     let line = "--zero-damaged --method sync --backends 1 --stats --map m f";
     let done = run(&rt, files, STEADY, line, (&[], &[(1, 5)]))?;
     let mut text = empty_lines(alloc, 0, 1)?;
     text.push_str("page 0 1 new\n")?;
-    assert_eq!(&rt; done.out.bytes(), text.as_str().as_bytes());
-    assert_eq!(&rt; done.err.bytes(), "zeroe".as_bytes());
-    assert_eq!(&rt; done.report.status, 0);
+    check_shown(&rt, line, &done, (text.as_str(), "zeroe", 0));
     assert_eq!(&rt; done.report.line, Line::Cut);
     Ok(())
 }

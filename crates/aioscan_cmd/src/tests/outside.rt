@@ -95,6 +95,71 @@ pub(crate) struct Ended {
     pub(crate) shelf: MemShelf,
 }
 
+/// A file of this name.
+pub(crate) fn one_file(
+    alloc: Global,
+    name: &str,
+    file: Vec<u8>,
+) -> Result<Vec<(String, Vec<u8>)>, AllocError> {
+    let mut files = Vec::new(alloc);
+    files.push((String::from_str(alloc, name)?, file))?;
+    Ok(files)
+}
+
+/// Two files of these names.
+pub(crate) fn two_files(
+    alloc: Global,
+    (name, file): (&str, Vec<u8>),
+    (second, other): (&str, Vec<u8>),
+) -> Result<Vec<(String, Vec<u8>)>, AllocError> {
+    let mut files = one_file(alloc, name, file)?;
+    files.push((String::from_str(alloc, second)?, other))?;
+    Ok(files)
+}
+
+/// The output, what is said on the error stream, and the status.
+pub(crate) type Shown<'a> = (&'a str, &'a str, u8);
+
+/// Compares what a run shows.
+pub(crate) fn check_shown<R: Abort>(rt: &R, name: &str, done: &Ended, wanted: Shown<'_>) {
+    assert_eq!(rt; done.out.bytes(), wanted.0.as_bytes(), "{name}");
+    assert_eq!(rt; done.err.bytes(), wanted.1.as_bytes(), "{name}");
+    assert_eq!(rt; done.report.status, wanted.2, "{name}");
+}
+
+// The script of these faults.
+fn script_of(alloc: Global, faults: Faults<'_>) -> Result<Script, AllocError> {
+    let mut shorts = Vec::new(alloc);
+    if !faults.shorts.is_empty() {
+        shorts.push((0, Vec::from_slice(alloc, faults.shorts)?))?;
+    }
+    Ok(Script {
+        fail_opens: Vec::from_slice(alloc, faults.opens)?,
+        fail_lengths: Vec::from_slice(alloc, faults.lengths)?,
+        fail_reads: Vec::from_slice(alloc, faults.reads)?,
+        shorts,
+    })
+}
+
+// A shelf of these files.
+fn shelf_of<R: Abort + AllocGlobal>(
+    rt: &R,
+    files: Vec<(String, Vec<u8>)>,
+    segment: u32,
+    faults: Faults<'_>,
+) -> Result<MemShelf, Fail> {
+    let script = script_of(rt.alloc(), faults)?;
+    assert!(rt; have_distinct_names(files.as_slice()));
+    assert!(rt; script.has_positive_shorts());
+    assert!(rt; 1 <= segment && segment <= 131072);
+    Ok(MemShelf::make_segmented(rt.alloc(), files, segment, script, 64)?)
+}
+
+// A sink that fails at these writes.
+fn sink_of(alloc: Global, cuts: &[(u64, u64)]) -> Result<MemSink, AllocError> {
+    Ok(MemSink::make(alloc, Vec::from_slice(alloc, cuts)?))
+}
+
 /// A run over files in memory, whose sinks fail at these writes.
 pub(crate) fn run<R: Abort + AllocGlobal + Threads + Wait + Sync>(
     rt: &R,
@@ -116,23 +181,10 @@ pub(crate) fn run_segmented<R: Abort + AllocGlobal + Threads + Wait + Sync>(
     cuts: (&[(u64, u64)], &[(u64, u64)]),
 ) -> Result<Ended, Fail> {
     let alloc = rt.alloc();
-    let mut shorts = Vec::new(alloc);
-    if !faults.shorts.is_empty() {
-        shorts.push((0, Vec::from_slice(alloc, faults.shorts)?))?;
-    }
-    let script = Script {
-        fail_opens: Vec::from_slice(alloc, faults.opens)?,
-        fail_lengths: Vec::from_slice(alloc, faults.lengths)?,
-        fail_reads: Vec::from_slice(alloc, faults.reads)?,
-        shorts,
-    };
-    assert!(rt; have_distinct_names(files.as_slice()));
-    assert!(rt; script.has_positive_shorts());
-    assert!(rt; 1 <= segment && segment <= 131072);
-    let mut shelf = MemShelf::make_segmented(alloc, files, segment, script, 64)?;
+    let mut shelf = shelf_of(rt, files, segment, faults)?;
     let words = words_of(alloc, line)?;
-    let mut out = MemSink::make(alloc, Vec::from_slice(alloc, cuts.0)?);
-    let mut err = MemSink::make(alloc, Vec::from_slice(alloc, cuts.1)?);
+    let mut out = sink_of(alloc, cuts.0)?;
+    let mut err = sink_of(alloc, cuts.1)?;
     let report = aioscan(rt, alloc, words.as_slice(), &mut shelf, &mut out, &mut err);
     Ok(Ended {
         report,
@@ -149,6 +201,19 @@ pub(crate) fn run_over<R: Abort + AllocGlobal + Threads + Wait + Sync>(
     faults: Faults<'_>,
     line: &str,
 ) -> Result<Ended, Fail> {
-    let files = vec![in rt.alloc(); (String::from_str(rt.alloc(), "f")?, file)]?;
+    let files = one_file(rt.alloc(), "f", file)?;
     run(rt, files, faults, line, (&[], &[]))
+}
+
+/// Runs over the one file `f`, and compares what is shown.
+pub(crate) fn check_over<R: Abort + AllocGlobal + Threads + Wait + Sync>(
+    rt: &R,
+    file: Vec<u8>,
+    faults: Faults<'_>,
+    line: &str,
+    wanted: Shown<'_>,
+) -> Result<Ended, Fail> {
+    let done = run_over(rt, file, faults, line)?;
+    check_shown(rt, line, &done, wanted);
+    Ok(done)
 }

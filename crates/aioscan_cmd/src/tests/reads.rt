@@ -1,6 +1,7 @@
 //! Which reads a run makes, and what its report counts.
 use super::outside::{
-    EMPTY, Ended, Faults, Parts, STEADY, empty_file, empty_lines, file_of, run_over,
+    EMPTY, Ended, Faults, Parts, STEADY, check_over, check_shown, empty_file, empty_lines, file_of,
+    run_over,
 };
 use std::alloc::Global;
 use std::process::Abort;
@@ -11,13 +12,25 @@ use std::thread::Threads;
 /// The first block of a read, how many blocks were asked for, and how many came.
 pub(crate) type Read = (u32, u32, Option<u32>);
 
-/// The reads of a run, in their order.
-pub(crate) fn reads_of(alloc: Global, run: &Ended) -> Result<Vec<Read>, Fail> {
+// The reads of a run, in their order.
+fn reads_of(alloc: Global, run: &Ended) -> Result<Vec<Read>, Fail> {
     let mut reads = Vec::new(alloc);
     for entry in run.shelf.log() {
         reads.push((entry.first, entry.asked, entry.answered))?;
     }
     Ok(reads)
+}
+
+/// Compares the reads of a run.
+pub(crate) fn check_reads<R: Abort + AllocGlobal>(
+    rt: &R,
+    done: &Ended,
+    name: &str,
+    wanted: &[Read],
+) -> Result<(), Fail> {
+    let reads = reads_of(rt.alloc(), done)?;
+    assert_eq!(rt; reads.as_slice(), wanted, "{name}");
+    Ok(())
 }
 
 // Runs over one file of empty pages, and compares the reads and the line of totals.
@@ -33,124 +46,126 @@ fn expect_reads<R: Abort + AllocGlobal + Threads + Wait + Sync>(
     let faults = Faults { shorts, ..STEADY };
     let done = run_over(rt, empty_file(alloc, pages)?, faults, line)?;
     assert_eq!(rt; done.report.status, 0, "{name}");
-    assert_eq!(rt; reads_of(alloc, &done)?.as_slice(), wanted, "{name}");
+    check_reads(rt, &done, name, wanted)?;
     let count = wanted.len();
     let totals = format!(in alloc; "incarnations {count} workers 0 backends {count}\n")?;
     assert_eq!(rt; done.err.bytes(), totals.as_str().as_bytes(), "{name}");
     Ok(())
 }
 
+// How many pages the file has, what the first reads give at most, the line, and the reads.
+const ROWS: [(&str, usize, &[u32], &str, &[Read]); 9] = [
+    (
+        "runs grow with the distance",
+        8,
+        &[],
+        "--method sync --backends 1 --stats f",
+        &[
+            (0, 1, Some(1)),
+            (1, 2, Some(2)),
+            (3, 4, Some(4)),
+            (7, 1, Some(1)),
+        ],
+    ),
+    (
+        "up to 16 blocks, in jobs of 64",
+        66,
+        &[],
+        "--method sync --backends 1 --stats f",
+        &[
+            (0, 1, Some(1)),
+            (1, 2, Some(2)),
+            (3, 4, Some(4)),
+            (7, 8, Some(8)),
+            (15, 16, Some(16)),
+            (31, 16, Some(16)),
+            (47, 16, Some(16)),
+            (63, 1, Some(1)),
+            (64, 1, Some(1)),
+            (65, 1, Some(1)),
+        ],
+    ),
+    (
+        "the rest of a short read is read while others are taken up",
+        8,
+        &[1, 1],
+        "--method sync --backends 1 --stats f",
+        &[
+            (0, 1, Some(1)),
+            (1, 2, Some(1)),
+            (2, 1, Some(1)),
+            (3, 5, Some(5)),
+        ],
+    ),
+    (
+        "short reads under --full",
+        16,
+        &[1, 2, 4, 9],
+        "--method sync --backends 1 --full --stats f",
+        &[
+            (0, 16, Some(1)),
+            (1, 15, Some(2)),
+            (3, 13, Some(4)),
+            (7, 9, Some(9)),
+        ],
+    ),
+    (
+        "the same by a ring, which has one read at a time",
+        16,
+        &[1, 2, 4, 9],
+        "--method ring --backends 1 --full --stats f",
+        &[
+            (0, 16, Some(1)),
+            (1, 15, Some(2)),
+            (3, 13, Some(4)),
+            (7, 9, Some(9)),
+        ],
+    ),
+    (
+        "two short reads, one behind the other",
+        8,
+        &[1, 2, 2],
+        "--method sync --backends 1 --stats f",
+        &[
+            (0, 1, Some(1)),
+            (1, 2, Some(2)),
+            (3, 4, Some(2)),
+            (7, 1, Some(1)),
+            (5, 2, Some(2)),
+        ],
+    ),
+    (
+        "the same with one I/O at a time",
+        8,
+        &[1, 2, 2],
+        "--method sync --backends 1 --stats --concurrency 1 f",
+        &[
+            (0, 1, Some(1)),
+            (1, 2, Some(2)),
+            (3, 4, Some(2)),
+            (5, 2, Some(2)),
+            (7, 1, Some(1)),
+        ],
+    ),
+    (
+        "no run is longer than the frames",
+        32,
+        &[],
+        "--method sync --backends 1 --stats --full --combine 32 --buffers 16 f",
+        &[(0, 16, Some(16)), (16, 16, Some(16))],
+    ),
+    (
+        "a file twice is read once",
+        2,
+        &[],
+        "--method sync --backends 1 --stats f f",
+        &[(0, 1, Some(1)), (1, 1, Some(1))],
+    ),
+];
+
 #[test]
 fn reads_of_one_backend(rt: HostRuntime) -> Result<(), Fail> {
-    let rows: [(&str, usize, &[u32], &str, &[Read]); 9] = [
-        (
-            "runs grow with the distance",
-            8,
-            &[],
-            "--method sync --backends 1 --stats f",
-            &[
-                (0, 1, Some(1)),
-                (1, 2, Some(2)),
-                (3, 4, Some(4)),
-                (7, 1, Some(1)),
-            ],
-        ),
-        (
-            "up to 16 blocks, in jobs of 64",
-            66,
-            &[],
-            "--method sync --backends 1 --stats f",
-            &[
-                (0, 1, Some(1)),
-                (1, 2, Some(2)),
-                (3, 4, Some(4)),
-                (7, 8, Some(8)),
-                (15, 16, Some(16)),
-                (31, 16, Some(16)),
-                (47, 16, Some(16)),
-                (63, 1, Some(1)),
-                (64, 1, Some(1)),
-                (65, 1, Some(1)),
-            ],
-        ),
-        (
-            "the rest of a short read is read while others are taken up",
-            8,
-            &[1, 1],
-            "--method sync --backends 1 --stats f",
-            &[
-                (0, 1, Some(1)),
-                (1, 2, Some(1)),
-                (2, 1, Some(1)),
-                (3, 5, Some(5)),
-            ],
-        ),
-        (
-            "short reads under --full",
-            16,
-            &[1, 2, 4, 9],
-            "--method sync --backends 1 --full --stats f",
-            &[
-                (0, 16, Some(1)),
-                (1, 15, Some(2)),
-                (3, 13, Some(4)),
-                (7, 9, Some(9)),
-            ],
-        ),
-        (
-            "the same by a ring, which has one read at a time",
-            16,
-            &[1, 2, 4, 9],
-            "--method ring --backends 1 --full --stats f",
-            &[
-                (0, 16, Some(1)),
-                (1, 15, Some(2)),
-                (3, 13, Some(4)),
-                (7, 9, Some(9)),
-            ],
-        ),
-        (
-            "two short reads, one behind the other",
-            8,
-            &[1, 2, 2],
-            "--method sync --backends 1 --stats f",
-            &[
-                (0, 1, Some(1)),
-                (1, 2, Some(2)),
-                (3, 4, Some(2)),
-                (7, 1, Some(1)),
-                (5, 2, Some(2)),
-            ],
-        ),
-        (
-            "the same with one I/O at a time",
-            8,
-            &[1, 2, 2],
-            "--method sync --backends 1 --stats --concurrency 1 f",
-            &[
-                (0, 1, Some(1)),
-                (1, 2, Some(2)),
-                (3, 4, Some(2)),
-                (5, 2, Some(2)),
-                (7, 1, Some(1)),
-            ],
-        ),
-        (
-            "no run is longer than the frames",
-            32,
-            &[],
-            "--method sync --backends 1 --stats --full --combine 32 --buffers 16 f",
-            &[(0, 16, Some(16)), (16, 16, Some(16))],
-        ),
-        (
-            "a file twice is read once",
-            2,
-            &[],
-            "--method sync --backends 1 --stats f f",
-            &[(0, 1, Some(1)), (1, 1, Some(1))],
-        ),
-    ];
-    for (name, pages, shorts, line, wanted) in rows {
+    for (name, pages, shorts, line, wanted) in ROWS {
         expect_reads(&rt, name, pages, shorts, line, wanted)?;
     }
     Ok(())
@@ -163,22 +178,22 @@ fn an_invalid_page_behind_one_read(rt: HostRuntime) -> Result<(), Fail> {
     let mut file = empty_file(alloc, 12)?;
     file.extend_from_slice(file_of(alloc, &[flagged, EMPTY])?.as_slice())?;
     let text = empty_lines(alloc, 10, 12)?;
-    let wanted: &[Read] = &[(10, 4, Some(4))];
+    let wanted = (text.as_str(), "invalid page 0 12\n", 1);
     for line in [
         "--method sync --backends 1 --full --from 10 --to 13 f",
         "--method ring --backends 1 --full --from 10 --to 13 f",
     ] {
-        let done = run_over(&rt, file.clone()?, STEADY, line)?;
-        assert_eq!(rt; done.out.bytes(), text.as_str().as_bytes(), "{line}");
-        assert_eq!(rt;
-            done.err.bytes(),
-            "invalid page 0 12\n".as_bytes(),
-            "{line}"
-        );
-        assert_eq!(rt; done.report.status, 1, "{line}");
-        assert_eq!(rt; reads_of(alloc, &done)?.as_slice(), wanted, "{line}");
+        let done = check_over(&rt, file.clone()?, STEADY, line, wanted)?;
+        check_reads(&rt, &done, line, &[(10, 4, Some(4))])?;
     }
     Ok(())
+}
+
+// Compares how many I/Os there were, of workers and of backends.
+fn check_counts<R: Abort>(rt: &R, done: &Ended, line: &str, wanted: (u128, u128, u128)) {
+    let report = &done.report;
+    let counts = (report.incarnations, report.by_workers, report.by_backends);
+    assert_eq!(rt; counts, wanted, "{line}");
 }
 
 #[test]
@@ -194,13 +209,9 @@ fn a_third_read_that_fails(rt: HostRuntime) -> Result<(), Fail> {
         "--method sync --backends 1 --combine 1 --handles 1 --stats f",
         "--method ring --backends 1 --combine 1 --handles 1 --stats f",
     ] {
-        let done = run_over(&rt, empty_file(alloc, 5)?, faults, line)?;
-        assert_eq!(rt; done.out.bytes(), text.as_str().as_bytes(), "{line}");
-        assert_eq!(rt; done.err.bytes(), lines.as_bytes(), "{line}");
-        assert_eq!(rt; done.report.status, 3, "{line}");
-        assert_eq!(rt; done.report.incarnations, 3, "{line}");
-        assert_eq!(rt; done.report.by_workers, 0, "{line}");
-        assert_eq!(rt; done.report.by_backends, 3, "{line}");
+        let file = empty_file(alloc, 5)?;
+        let done = check_over(&rt, file, faults, line, (text.as_str(), lines, 3))?;
+        check_counts(&rt, &done, line, (3, 0, 3));
     }
     Ok(())
 }
@@ -209,10 +220,9 @@ fn a_third_read_that_fails(rt: HostRuntime) -> Result<(), Fail> {
 fn an_incarnation_for_each_of_512_blocks(rt: HostRuntime) -> Result<(), Fail> {
     let alloc = rt.alloc();
     let line = "--workers 1 --backends 2 --handles 64 --concurrency 64 --combine 1 f";
-    let done = run_over(&rt, empty_file(alloc, 512)?, STEADY, line)?;
     let text = empty_lines(alloc, 0, 512)?;
-    assert_eq!(rt; done.out.bytes(), text.as_str().as_bytes());
-    assert_eq!(rt; done.report.status, 0);
+    let wanted = (text.as_str(), "", 0);
+    let done = check_over(&rt, empty_file(alloc, 512)?, STEADY, line, wanted)?;
     assert_eq!(rt; done.report.incarnations, 512);
     Ok(())
 }
@@ -246,6 +256,23 @@ fn push_server_page(
     Ok(())
 }
 
+// Runs over one file by 28 I/Os, at most so many of them by workers, and compares what is shown.
+fn check_28<R: Abort + AllocGlobal + Threads + Wait + Sync>(
+    rt: &R,
+    file: Vec<u8>,
+    line: &str,
+    text: &str,
+    by_workers: u128,
+) -> Result<(), Fail> {
+    let done = run_over(rt, file, STEADY, line)?;
+    let (workers, backends) = (done.report.by_workers, done.report.by_backends);
+    let totals = format!(in rt.alloc(); "incarnations 28 workers {workers} backends {backends}\n")?;
+    check_shown(rt, line, &done, (text, totals.as_str(), 0));
+    assert_eq!(rt; workers.saturating_add(backends), 28, "{line}");
+    assert!(rt; workers <= by_workers, "{line}");
+    Ok(())
+}
+
 #[test]
 fn pages_of_a_server_with_checksums(rt: HostRuntime) -> Result<(), Fail> {
     let alloc = rt.alloc();
@@ -253,20 +280,12 @@ fn pages_of_a_server_with_checksums(rt: HostRuntime) -> Result<(), Fail> {
     for block in 0..200 {
         push_server_page(alloc, &mut file, &mut text, block)?;
     }
-    let most = u128::MAX;
     for (line, by_workers) in [
-        ("--stats f", most),
+        ("--stats f", u128::MAX),
         ("--method sync --backends 1 --stats f", 0),
         ("--method ring --stats f", 0),
     ] {
-        let done = run_over(&rt, file.clone()?, STEADY, line)?;
-        let (workers, backends) = (done.report.by_workers, done.report.by_backends);
-        let totals = format!(in alloc; "incarnations 28 workers {workers} backends {backends}\n")?;
-        assert_eq!(rt; done.out.bytes(), text.as_str().as_bytes(), "{line}");
-        assert_eq!(rt; done.report.status, 0, "{line}");
-        assert_eq!(rt; done.err.bytes(), totals.as_str().as_bytes(), "{line}");
-        assert_eq!(rt; workers.saturating_add(backends), 28, "{line}");
-        assert!(rt; workers <= by_workers, "{line}");
+        check_28(&rt, file.clone()?, line, text.as_str(), by_workers)?;
     }
     Ok(())
 }

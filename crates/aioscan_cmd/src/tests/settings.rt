@@ -1,5 +1,5 @@
 //! The same bytes by all settings.
-use super::outside::{DAMAGED, EMPTY, Parts, STEADY, ZEROS, file_of, run_over};
+use super::outside::{DAMAGED, EMPTY, Ended, Parts, STEADY, ZEROS, file_of, run_over};
 use super::slow::pick;
 use std::alloc::Global;
 use std::process::Abort;
@@ -49,25 +49,31 @@ fn mixed_file(alloc: Global) -> Result<Vec<u8>, Fail> {
     Ok(file_of(alloc, pages.as_slice())?)
 }
 
+// Runs over a file, and compares all that is written with that of the first run.
+fn check_same<R: Abort + AllocGlobal + Threads + Wait + Sync>(
+    rt: &R,
+    file: Vec<u8>,
+    line: &str,
+    first: &Ended,
+) -> Result<(), Fail> {
+    let done = run_over(rt, file, STEADY, line)?;
+    assert_eq!(rt; done.out.bytes(), first.out.bytes(), "{line}");
+    assert_eq!(rt; done.err.bytes(), first.err.bytes(), "{line}");
+    assert_eq!(rt; done.report.outcome, first.report.outcome, "{line}");
+    Ok(())
+}
+
 // Runs 200 times under each of these settings, and compares all that is written.
 fn check_settings<R: Abort + AllocGlobal + Threads + Wait + Sync>(
     rt: &R,
     settings: &[&str],
 ) -> Result<(), Fail> {
-    let alloc = rt.alloc();
-    let file = mixed_file(alloc)?;
+    let file = mixed_file(rt.alloc())?;
     let first = run_over(rt, file.clone()?, STEADY, "--method sync --backends 1 f")?;
     assert_eq!(rt; first.report.status, 1);
     for line in settings {
-        for turn in 0..200 {
-            let done = run_over(rt, file.clone()?, STEADY, line)?;
-            assert_eq!(rt; done.out.bytes(), first.out.bytes(), "{line}: turn {turn}");
-            assert_eq!(rt; done.err.bytes(), first.err.bytes(), "{line}: turn {turn}");
-            assert_eq!(rt;
-                done.report.outcome,
-                first.report.outcome,
-                "{line}: turn {turn}"
-            );
+        for _ in 0..200 {
+            check_same(rt, file.clone()?, line, &first)?;
         }
     }
     Ok(())

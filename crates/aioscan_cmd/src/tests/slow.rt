@@ -1,7 +1,10 @@
-//! A plain slow lister, and random requests on which the two are compared.
+//! Random requests, on which a run and the plain slow lister are compared.
 ghost use Rattle.std.specs.Prelude.{◌<◌};
 
-use super::outside::{DAMAGED, EMPTY, Parts, STEADY, ZEROS, file_of, run};
+use super::outside::{
+    DAMAGED, EMPTY, Parts, STEADY, Shown, ZEROS, check_shown, file_of, run, two_files,
+};
+use super::plain::{Asked, slow_run};
 use super::settings::random_settings;
 use std::alloc::{AllocError, Global};
 use std::process::Abort;
@@ -13,93 +16,6 @@ const TWO_ITEMS: Parts<'static> = &[
     (12, &[32, 0, 0, 16, 0, 32, 4, 32]),
     (24, &[0xd8, 0x9f, 0x50, 0, 0, 0x80, 1, 0]),
 ];
-
-// A number of `size` bytes, the lowest first.
-fn number(bytes: &[u8], offset: usize, size: usize) -> u32 {
-    let mut value: u32 = 0;
-    for byte in bytes.iter().skip(offset).take(size).rev() {
-        value = value.wrapping_mul(256).wrapping_add(u32::from(*byte));
-    }
-    value
-}
-
-/// Appends the text of a page, and says whether it is a valid one.
-pub(super) fn list_page(
-    text: &mut String,
-    relation: usize,
-    block: u32,
-    page: &[u8],
-) -> Result<bool, Fail> {
-    if page.iter().all(|byte| *byte == 0) {
-        writeln!(text, "page {relation} {block} new")?;
-        return Ok(true);
-    }
-    let (flags, lower) = (number(page, 10, 2), number(page, 12, 2));
-    let (upper, special) = (number(page, 14, 2), number(page, 16, 2));
-    if upper == 0 || flags > 7 || lower > upper || upper > special {
-        return Ok(false);
-    }
-    if special > 8192 || special % 8 != 0 {
-        return Ok(false);
-    }
-    let items = lower.saturating_sub(24) / 4;
-    writeln!(
-        text,
-        "page {relation} {block} lower {lower} upper {upper} special {special} items {items}"
-    )?;
-    for index in 0..items.min(2042) {
-        let pointer = number(page, 24 + 4 * index as usize, 4);
-        let word = ["unused", "normal", "redirect", "dead"][(pointer / 32768 % 4) as usize];
-        let (offset, length) = (pointer % 32768, pointer / 131072);
-        writeln!(text, "item {} {word} {offset} {length}", index + 1)?;
-    }
-    Ok(true)
-}
-
-/// What is asked for: the first and the last block, and files by their numbers.
-#[derive(Drop)]
-pub(super) struct Asked {
-    pub(super) from: Option<u32>,
-    pub(super) to: Option<u32>,
-    pub(super) files: Vec<usize>,
-    /// Whether damaged pages are listed as zeros.
-    pub(super) zero: bool,
-}
-
-/// The listing, what is said on the error stream and the status for two files `a` and `b`.
-pub(super) fn slow_run(
-    alloc: Global,
-    asked: &Asked,
-    contents: &[Vec<u8>],
-) -> Result<(String, String, u8), Fail> {
-    let (mut text, mut said) = (String::new(alloc), String::new(alloc));
-    let first_named = asked.files.as_slice().first().copied().unwrap_or(0);
-    for file in asked.files.as_slice() {
-        let relation = if *file == first_named { 0usize } else { 1 };
-        let empty = Vec::new(alloc);
-        let bytes = contents.get(*file).unwrap_or(&empty).as_slice();
-        let blocks = (bytes.len() / 8192).min(1000) as u32;
-        let after = asked.to.map_or(blocks, |last| last.saturating_add(1));
-        for block in asked.from.unwrap_or(0)..after {
-            if block >= blocks {
-                writeln!(said, "no page {relation} {block}")?;
-                return Ok((text, said, 6));
-            }
-            let page = bytes.get(8192 * block as usize..).unwrap_or(&[]);
-            let page = page.get(..8192).unwrap_or(&[]);
-            if list_page(&mut text, relation, block, page)? {
-                continue;
-            }
-            if !asked.zero {
-                writeln!(said, "invalid page {relation} {block}")?;
-                return Ok((text, said, 1));
-            }
-            writeln!(text, "page {relation} {block} new")?;
-            writeln!(said, "zeroed page {relation} {block}")?;
-        }
-    }
-    Ok((text, said, 0))
-}
 
 // A number below `limit`, and the next state.
 pub(crate) fn pick(state: &mut u64, limit: u64) -> u64
@@ -171,25 +87,12 @@ pub(super) fn expect_shown<R: Abort + AllocGlobal + Threads + Wait + Sync>(
     request: u32,
     line: &str,
     (a, b): (Vec<u8>, Vec<u8>),
-    (text, said, status): (&str, &str, u8),
+    wanted: Shown<'_>,
 ) -> Result<(), Fail> {
-    let alloc = rt.alloc();
-    let files = vec![in alloc;
-        (String::from_str(alloc, "a")?, a),
-        (String::from_str(alloc, "b")?, b),
-    ]?;
+    let files = two_files(rt.alloc(), ("a", a), ("b", b))?;
     let done = run(rt, files, STEADY, line, (&[], &[]))?;
-    assert_eq!(rt;
-        done.out.bytes(),
-        text.as_bytes(),
-        "request {request}: {line}"
-    );
-    assert_eq!(rt;
-        done.err.bytes(),
-        said.as_bytes(),
-        "request {request}: {line}"
-    );
-    assert_eq!(rt; done.report.status, status, "request {request}: {line}");
+    let name = format!(in rt.alloc(); "request {request}: {line}")?;
+    check_shown(rt, name.as_str(), &done, wanted);
     Ok(())
 }
 
@@ -211,19 +114,29 @@ fn compare<R: Abort + AllocGlobal + Threads + Wait + Sync>(
     expect_shown(rt, request, line.as_str(), (a, b), wanted)
 }
 
+// Runs a random request under random settings, and compares what it shows.
+fn compare_random<R: Abort + AllocGlobal + Threads + Wait + Sync>(
+    rt: &R,
+    request: u32,
+    state: &mut u64,
+    zero: bool,
+) -> Result<(), Fail> {
+    let alloc = rt.alloc();
+    let a = random_file(alloc, state)?;
+    let b = random_file(alloc, state)?;
+    let asked = random_asked(alloc, state, zero)?;
+    let settings = random_settings(alloc, state)?;
+    compare(rt, request, &asked, settings.as_str(), a, b)
+}
+
 /// Compares 2,000 random requests under random settings with the plain slow lister.
 pub(crate) fn check_requests<R: Abort + AllocGlobal + Threads + Wait + Sync>(
     rt: &R,
     mut state: u64,
     zero: bool,
 ) -> Result<(), Fail> {
-    let alloc = rt.alloc();
     for request in 0..2000 {
-        let a = random_file(alloc, &mut state)?;
-        let b = random_file(alloc, &mut state)?;
-        let asked = random_asked(alloc, &mut state, zero)?;
-        let settings = random_settings(alloc, &mut state)?;
-        compare(rt, request, &asked, settings.as_str(), a, b)?;
+        compare_random(rt, request, &mut state, zero)?;
     }
     Ok(())
 }

@@ -1,5 +1,7 @@
 //! Listings with the headers of tuples and their update chains.
-use super::outside::{DAMAGED, EMPTY, Parts, STEADY, ZEROS, file_of, run};
+use super::outside::{
+    DAMAGED, EMPTY, Parts, STEADY, Shown, ZEROS, check_shown, file_of, run, two_files,
+};
 use std::process::Abort;
 use std::slice::from_ref;
 use std::sync::Wait;
@@ -88,75 +90,72 @@ fn expect<R: Abort + AllocGlobal + Threads + Wait + Sync>(
     name: &str,
     files: (&[Parts<'_>], &[Parts<'_>]),
     words: &str,
-    wanted: (&str, &str, u8),
+    wanted: Shown<'_>,
 ) -> Result<(), Fail> {
     let alloc = rt.alloc();
     for method in ["--method worker", "--method sync --backends 1"] {
-        let all = vec![in alloc;
-            (String::from_str(alloc, "f")?, file_of(alloc, files.0)?),
-            (String::from_str(alloc, "g")?, file_of(alloc, files.1)?),
-        ]?;
+        let (f, g) = (file_of(alloc, files.0)?, file_of(alloc, files.1)?);
         let line = format!(in alloc; "{method} --tuples {words}")?;
+        let all = two_files(alloc, ("f", f), ("g", g))?;
         let done = run(rt, all, STEADY, line.as_str(), (&[], &[]))?;
-        assert_eq!(rt; done.out.bytes(), wanted.0.as_bytes(), "{name}: {method}");
-        assert_eq!(rt; done.err.bytes(), wanted.1.as_bytes(), "{name}: {method}");
-        assert_eq!(rt; done.report.status, wanted.2, "{name}: {method}");
+        check_shown(rt, name, &done, wanted);
     }
     Ok(())
 }
 
+const PAGES: [(&str, Parts<'static>, &str); 7] = [
+    ("one tuple", ONE_TUPLE, ONE_TUPLE_TEXT),
+    (
+        "a chain of three",
+        UPDATED_TWICE,
+        "page 0 0 lower 36 upper 8072 special 8192 items 3\n\
+         item 1 normal 8152 40\n\
+         tuple 1 xmin 700 xmax 701 field3 0 ctid (0,2) attrs 0 mask 0 hoff 0 step 2\n\
+         item 2 normal 8112 40\n\
+         tuple 2 xmin 701 xmax 702 field3 0 ctid (0,3) attrs 0 mask 0 hoff 0 step 3\n\
+         item 3 normal 8072 40\n\
+         tuple 3 xmin 702 xmax 0 field3 0 ctid (0,3) attrs 0 mask 0 hoff 0\n\
+         chains 1 longest 3\n",
+    ),
+    (
+        "an item that ends behind the page",
+        OUTSIDE,
+        "page 0 0 lower 28 upper 8152 special 8192 items 1\n\
+         item 1 normal 8180 40\n\
+         tuple 1 outside\n\
+         chains 0 longest 0\n",
+    ),
+    (
+        "a circle has no root",
+        CIRCLE,
+        "page 0 0 lower 36 upper 8072 special 8192 items 3\n\
+         item 1 normal 8152 40\n\
+         tuple 1 xmin 5 xmax 6 field3 0 ctid (0,2) attrs 0 mask 0 hoff 0 step 2\n\
+         item 2 normal 8112 40\n\
+         tuple 2 xmin 6 xmax 5 field3 0 ctid (0,1) attrs 0 mask 0 hoff 0 step 1\n\
+         item 3 normal 8072 40\n\
+         tuple 3 xmin 9 xmax 0 field3 0 ctid (0,3) attrs 0 mask 0 hoff 0\n\
+         chains 1 longest 1\n",
+    ),
+    ("a page of zeros", ZEROS, "page 0 0 new\n"),
+    (
+        "an empty page",
+        EMPTY,
+        "page 0 0 lower 24 upper 8192 special 8192 items 0\nchains 0 longest 0\n",
+    ),
+    (
+        "a page of an index",
+        INDEX,
+        "page 0 0 lower 28 upper 8160 special 8176 items 1\n\
+         item 1 normal 8160 16\n\
+         tuple 1 outside\n\
+         chains 0 longest 0\n",
+    ),
+];
+
 #[test]
 fn pages_with_their_tuples(rt: HostRuntime) -> Result<(), Fail> {
-    let rows: [(&str, Parts<'_>, &str); 7] = [
-        ("one tuple", ONE_TUPLE, ONE_TUPLE_TEXT),
-        (
-            "a chain of three",
-            UPDATED_TWICE,
-            "page 0 0 lower 36 upper 8072 special 8192 items 3\n\
-             item 1 normal 8152 40\n\
-             tuple 1 xmin 700 xmax 701 field3 0 ctid (0,2) attrs 0 mask 0 hoff 0 step 2\n\
-             item 2 normal 8112 40\n\
-             tuple 2 xmin 701 xmax 702 field3 0 ctid (0,3) attrs 0 mask 0 hoff 0 step 3\n\
-             item 3 normal 8072 40\n\
-             tuple 3 xmin 702 xmax 0 field3 0 ctid (0,3) attrs 0 mask 0 hoff 0\n\
-             chains 1 longest 3\n",
-        ),
-        (
-            "an item that ends behind the page",
-            OUTSIDE,
-            "page 0 0 lower 28 upper 8152 special 8192 items 1\n\
-             item 1 normal 8180 40\n\
-             tuple 1 outside\n\
-             chains 0 longest 0\n",
-        ),
-        (
-            "a circle has no root",
-            CIRCLE,
-            "page 0 0 lower 36 upper 8072 special 8192 items 3\n\
-             item 1 normal 8152 40\n\
-             tuple 1 xmin 5 xmax 6 field3 0 ctid (0,2) attrs 0 mask 0 hoff 0 step 2\n\
-             item 2 normal 8112 40\n\
-             tuple 2 xmin 6 xmax 5 field3 0 ctid (0,1) attrs 0 mask 0 hoff 0 step 1\n\
-             item 3 normal 8072 40\n\
-             tuple 3 xmin 9 xmax 0 field3 0 ctid (0,3) attrs 0 mask 0 hoff 0\n\
-             chains 1 longest 1\n",
-        ),
-        ("a page of zeros", ZEROS, "page 0 0 new\n"),
-        (
-            "an empty page",
-            EMPTY,
-            "page 0 0 lower 24 upper 8192 special 8192 items 0\nchains 0 longest 0\n",
-        ),
-        (
-            "a page of an index",
-            INDEX,
-            "page 0 0 lower 28 upper 8160 special 8176 items 1\n\
-             item 1 normal 8160 16\n\
-             tuple 1 outside\n\
-             chains 0 longest 0\n",
-        ),
-    ];
-    for (name, parts, text) in rows {
+    for (name, parts, text) in PAGES {
         expect(&rt, name, (from_ref(&parts), &[]), "f", (text, "", 0))?;
     }
     Ok(())

@@ -1,7 +1,7 @@
 //! Shelves that do not tell their contents.
 ghost use Rattle.std.specs.Prelude.{None, false};
 
-use super::outside::{EMPTY, empty_lines, file_of, words_of};
+use super::outside::{EMPTY, Shown, empty_lines, file_of, words_of};
 use crate::{Report, aioscan};
 use aio_disk::{DeviceFault, Disk, MemSink, OpenFault, Shelf};
 use page_check::Page;
@@ -126,15 +126,9 @@ pub(crate) fn empty_page(alloc: Global) -> Result<Page, AllocError> {
     Ok(page)
 }
 
-// A run over relations of this length, of which reads see fewer pages.
-fn run_long<R: Abort + AllocGlobal + Threads + Wait + Sync>(
-    rt: &R,
-    length: u32,
-    seen: u32,
-    line: &str,
-) -> Result<(Report, MemSink, MemSink, LongShelf), Fail> {
-    let alloc = rt.alloc();
-    let mut shelf = LongShelf {
+// Relations of this length, of which reads see fewer pages.
+fn long_shelf(alloc: Global, length: u32, seen: u32) -> LongShelf {
+    LongShelf {
         alloc,
         length,
         seen,
@@ -143,29 +137,59 @@ fn run_long<R: Abort + AllocGlobal + Threads + Wait + Sync>(
         opens: 0,
         lengths: 0,
         log: Vec::new(alloc),
-    };
+    }
+}
+
+// What a run over them has left.
+#[derive(Drop)]
+struct Long {
+    report: Report,
+    out: MemSink,
+    err: MemSink,
+    shelf: LongShelf,
+}
+
+// A run over such relations.
+fn run_long<R: Abort + AllocGlobal + Threads + Wait + Sync>(
+    rt: &R,
+    length: u32,
+    seen: u32,
+    line: &str,
+) -> Result<Long, Fail> {
+    let alloc = rt.alloc();
+    let mut shelf = long_shelf(alloc, length, seen);
     let words = words_of(alloc, line)?;
     let mut out = MemSink::make(alloc, Vec::new(alloc));
     let mut err = MemSink::make(alloc, Vec::new(alloc));
     let report = aioscan(rt, alloc, words.as_slice(), &mut shelf, &mut out, &mut err);
-    Ok((report, out, err, shelf))
+    Ok(Long {
+        report,
+        out,
+        err,
+        shelf,
+    })
+}
+
+// Compares what such a run shows.
+fn check_long<R: Abort>(rt: &R, done: &Long, wanted: Shown<'_>) {
+    assert_eq!(rt; done.out.bytes(), wanted.0.as_bytes());
+    assert_eq!(rt; done.err.bytes(), wanted.1.as_bytes());
+    assert_eq!(rt; done.report.status, wanted.2);
 }
 
 #[test]
 fn lengths_that_nothing_tells(rt: HostRuntime) -> Result<(), Fail> {
     let line = "--method sync --backends 1 f g";
     let rows = [
-        (2097153, "relation 0 is too long\n", 7, (1, 0)),
-        (2097152, "no page 0 0\n", 6, (2, 1)),
-        (0, "", 0, (2, 0)),
+        (2097153, "relation 0 is too long\n", 7, (1, 1, 0)),
+        (2097152, "no page 0 0\n", 6, (1, 2, 1)),
+        (0, "", 0, (1, 2, 0)),
     ];
-    for (length, wanted, status, calls) in rows {
-        let (report, out, err, shelf) = run_long(&rt, length, 0, line)?;
-        assert_eq!(rt; out.bytes().len(), 0, "length {length}");
-        assert_eq!(rt; err.bytes(), wanted.as_bytes(), "length {length}");
-        assert_eq!(rt; report.status, status, "length {length}");
-        assert_eq!(rt; shelf.opens, 1, "length {length}");
-        assert_eq!(rt; (shelf.lengths, shelf.reads), calls, "length {length}");
+    for (length, said, status, calls) in rows {
+        let done = run_long(&rt, length, 0, line)?;
+        check_long(&rt, &done, ("", said, status));
+        let shelf = &done.shelf;
+        assert_eq!(rt; (shelf.opens, shelf.lengths, shelf.reads), calls);
     }
     Ok(())
 }
@@ -194,12 +218,10 @@ fn fewer_pages_than_its_length(rt: HostRuntime) -> Result<(), Fail> {
     ];
     let line = "--method sync --backends 1 --stats f";
     for (length, seen, lines, log) in rows {
-        let (report, out, err, shelf) = run_long(&rt, length, seen, line)?;
+        let done = run_long(&rt, length, seen, line)?;
         let text = empty_lines(rt.alloc(), 0, seen)?;
-        assert_eq!(rt; out.bytes(), text.as_str().as_bytes(), "{seen} of {length}");
-        assert_eq!(rt; err.bytes(), lines.as_bytes(), "{seen} of {length}");
-        assert_eq!(rt; report.status, 6, "{seen} of {length}");
-        assert_eq!(&rt; shelf.log.as_slice(), log);
+        check_long(&rt, &done, (text.as_str(), lines, 6));
+        assert_eq!(&rt; done.shelf.log.as_slice(), log);
     }
     Ok(())
 }
@@ -213,9 +235,12 @@ fn a_disk_for_each_backend_and_each_worker(rt: HostRuntime) -> Result<(), Fail> 
         ("--method sync --workers 4 --backends 1 f", 1),
     ];
     for (line, opens) in rows {
-        let (report, _, _, shelf) = run_long(&rt, 1, 1, line)?;
-        assert_eq!(rt; report.status, 0, "{line}");
-        assert_eq!(rt; shelf.opens, opens, "{line}");
+        let done = run_long(&rt, 1, 1, line)?;
+        assert_eq!(rt;
+            (done.report.status, done.shelf.opens),
+            (0, opens),
+            "{line}"
+        );
     }
     Ok(())
 }

@@ -3,6 +3,7 @@ use super::outside::words_of;
 use crate::words::{Refusal, read_command};
 use scan_rounds::{MethodKind, ScanSettings};
 use std::alloc::Global;
+use std::process::Abort;
 use std::test::Fail;
 
 const DEFAULTS: ScanSettings = ScanSettings {
@@ -39,224 +40,255 @@ fn is_command(alloc: Global, line: &str) -> Result<bool, Fail> {
     }
 }
 
+const EVERY_OPTION: ScanSettings = ScanSettings {
+    method: MethodKind::Sync,
+    workers: 4,
+    backends: 5,
+    combine: 6,
+    concurrency: 7,
+    handles: 8,
+    buffers: 19,
+    batch: true,
+    full: false,
+    segment: 131072,
+    zero: false,
+    tuples: false,
+};
+
+/// A name, the words, the settings, the first block and how many of a file of 10 blocks, and the
+/// files.
+type Row = (
+    &'static str,
+    &'static str,
+    ScanSettings,
+    (u32, u32),
+    &'static str,
+);
+
+const ROWS: [Row; 12] = [
+    ("a file alone", "f", DEFAULTS, (0, 10), "f "),
+    (
+        "--combine=128",
+        "--combine=128 e",
+        ScanSettings {
+            combine: 128,
+            ..DEFAULTS
+        },
+        (0, 10),
+        "e ",
+    ),
+    (
+        "--zero-damaged",
+        "e --zero-damaged",
+        ScanSettings {
+            zero: true,
+            ..DEFAULTS
+        },
+        (0, 10),
+        "e ",
+    ),
+    (
+        "--tuples",
+        "--tuples e",
+        ScanSettings {
+            tuples: true,
+            ..DEFAULTS
+        },
+        (0, 10),
+        "e ",
+    ),
+    (
+        "every option",
+        "--method sync --workers 4 --backends 5 --combine 6 --concurrency 7 \
+         --handles 8 --buffers 19 --from 1 --to 3 --batch f",
+        EVERY_OPTION,
+        (1, 3),
+        "f ",
+    ),
+    (
+        "options between and behind files",
+        "f --full g --to=12 h --from=12",
+        ScanSettings {
+            full: true,
+            ..DEFAULTS
+        },
+        (12, 1),
+        "f g h ",
+    ),
+    ("7 digits", "--from 0000007 f", DEFAULTS, (7, 3), "f "),
+    (
+        "--from above --to",
+        "--from 5 --to 4 f",
+        DEFAULTS,
+        (5, 0),
+        "f ",
+    ),
+    (
+        "--method worker",
+        "--method=worker f",
+        DEFAULTS,
+        (0, 10),
+        "f ",
+    ),
+    (
+        "--method ring",
+        "--method ring f",
+        ScanSettings {
+            method: MethodKind::Ring,
+            ..DEFAULTS
+        },
+        (0, 10),
+        "f ",
+    ),
+    (
+        "words behind --",
+        "f -- --full -x --",
+        DEFAULTS,
+        (0, 10),
+        "f --full -x -- ",
+    ),
+    (
+        "scan, help and - name files",
+        "scan help - f f",
+        DEFAULTS,
+        (0, 10),
+        "scan help - f f ",
+    ),
+];
+
+fn check_command<R: Abort + AllocGlobal>(
+    rt: &R,
+    (name, line, settings, blocks, files): Row,
+) -> Result<(), Fail> {
+    let words = words_of(rt.alloc(), line)?;
+    let Ok(command) = read_command(rt.alloc(), words.as_slice()) else {
+        return Err(Fail::from(name));
+    };
+    assert_eq!(rt; command.settings(), settings, "{name}");
+    let asked = (command.first_block(), command.asked_count(10));
+    assert_eq!(rt; asked, blocks, "{name}");
+    let named = joined(rt.alloc(), command.files())?;
+    assert_eq!(rt; named.as_str(), files, "{name}");
+    Ok(())
+}
+
 #[test]
 fn commands(rt: HostRuntime) -> Result<(), Fail> {
-    let alloc = rt.alloc();
-    let every_option = ScanSettings {
-        method: MethodKind::Sync,
-        workers: 4,
-        backends: 5,
-        combine: 6,
-        concurrency: 7,
-        handles: 8,
-        buffers: 19,
-        batch: true,
-        full: false,
-        segment: 131072,
-        zero: false,
-        tuples: false,
-    };
-    // Each with the settings, the first block and how many of a file of 10 blocks, and the files.
-    let rows = [
-        ("a file alone", "f", DEFAULTS, (0, 10), "f "),
-        (
-            "--combine=128",
-            "--combine=128 e",
-            ScanSettings {
-                combine: 128,
-                ..DEFAULTS
-            },
-            (0, 10),
-            "e ",
-        ),
-        (
-            "--zero-damaged",
-            "e --zero-damaged",
-            ScanSettings {
-                zero: true,
-                ..DEFAULTS
-            },
-            (0, 10),
-            "e ",
-        ),
-        (
-            "--tuples",
-            "--tuples e",
-            ScanSettings {
-                tuples: true,
-                ..DEFAULTS
-            },
-            (0, 10),
-            "e ",
-        ),
-        (
-            "every option",
-            "--method sync --workers 4 --backends 5 --combine 6 --concurrency 7 \
-             --handles 8 --buffers 19 --from 1 --to 3 --batch f",
-            every_option,
-            (1, 3),
-            "f ",
-        ),
-        (
-            "options between and behind files",
-            "f --full g --to=12 h --from=12",
-            ScanSettings {
-                full: true,
-                ..DEFAULTS
-            },
-            (12, 1),
-            "f g h ",
-        ),
-        ("7 digits", "--from 0000007 f", DEFAULTS, (7, 3), "f "),
-        (
-            "--from above --to",
-            "--from 5 --to 4 f",
-            DEFAULTS,
-            (5, 0),
-            "f ",
-        ),
-        (
-            "--method worker",
-            "--method=worker f",
-            DEFAULTS,
-            (0, 10),
-            "f ",
-        ),
-        (
-            "--method ring",
-            "--method ring f",
-            ScanSettings {
-                method: MethodKind::Ring,
-                ..DEFAULTS
-            },
-            (0, 10),
-            "f ",
-        ),
-        (
-            "words behind --",
-            "f -- --full -x --",
-            DEFAULTS,
-            (0, 10),
-            "f --full -x -- ",
-        ),
-        (
-            "scan, help and - name files",
-            "scan help - f f",
-            DEFAULTS,
-            (0, 10),
-            "scan help - f f ",
-        ),
-    ];
-    for (name, line, settings, blocks, files) in rows {
-        let words = words_of(alloc, line)?;
-        let Ok(command) = read_command(alloc, words.as_slice()) else {
-            return Err(Fail::from(name));
-        };
-        assert_eq!(rt; command.settings(), settings, "{name}");
-        assert_eq!(rt;
-            (command.first_block(), command.asked_count(10)),
-            blocks,
-            "{name}"
-        );
-        assert_eq!(rt; joined(alloc, command.files())?.as_str(), files, "{name}");
+    for row in ROWS {
+        check_command(&rt, row)?;
     }
+    Ok(())
+}
+
+/// A value below the least, the least, the most, and one above it.
+const RANGES: [(&str, [&str; 4]); 8] = [
+    ("--workers", ["0", "1", "32", "33"]),
+    ("--backends", ["0", "1", "16", "17"]),
+    ("--combine", ["0", "1", "128", "129"]),
+    ("--concurrency", ["0", "1", "256", "257"]),
+    ("--handles", ["0", "1", "64", "65"]),
+    ("--buffers", ["15", "16", "16384", "16385"]),
+    ("--from", ["-1", "0", "2097151", "2097152"]),
+    ("--to", ["-1", "0", "2097151", "2097152"]),
+];
+
+// Whether an option takes a value, in each of its two forms.
+fn check_value<R: Abort + AllocGlobal>(
+    rt: &R,
+    option: &str,
+    value: &str,
+    taken: bool,
+) -> Result<(), Fail> {
+    let apart = format!(in rt.alloc(); "{option} {value} f")?;
+    let joined = format!(in rt.alloc(); "{option}={value} f")?;
+    let are_taken = (
+        is_command(rt.alloc(), apart.as_str())?,
+        is_command(rt.alloc(), joined.as_str())?,
+    );
+    assert_eq!(rt; are_taken, (taken, taken), "{apart}");
     Ok(())
 }
 
 #[test]
 fn ranges(rt: HostRuntime) -> Result<(), Fail> {
-    let alloc = rt.alloc();
-    let rows = [
-        ("--workers", "0", "1", "32", "33"),
-        ("--backends", "0", "1", "16", "17"),
-        ("--combine", "0", "1", "128", "129"),
-        ("--concurrency", "0", "1", "256", "257"),
-        ("--handles", "0", "1", "64", "65"),
-        ("--buffers", "15", "16", "16384", "16385"),
-        ("--from", "-1", "0", "2097151", "2097152"),
-        ("--to", "-1", "0", "2097151", "2097152"),
-    ];
-    for (option, below, least, most, above) in rows {
-        for (value, taken) in [(below, false), (least, true), (most, true), (above, false)] {
-            let apart = format!(in alloc; "{option} {value} f")?;
-            let joined = format!(in alloc; "{option}={value} f")?;
-            assert_eq!(rt; is_command(alloc, apart.as_str())?, taken, "{apart}");
-            assert_eq!(rt; is_command(alloc, joined.as_str())?, taken, "{joined}");
+    for (option, values) in RANGES {
+        for (value, taken) in values.into_iter().zip([false, true, true, false]) {
+            check_value(&rt, option, value, taken)?;
         }
     }
     Ok(())
 }
 
+const REFUSED: [&str; 63] = [
+    "",
+    "''",
+    "f ''",
+    "--full",
+    "--full --",
+    "--full --full f",
+    "--full=true f",
+    "--full= f",
+    "--from +1 f",
+    "--from -1 f",
+    "--from '' f",
+    "--from= f",
+    "--from 1x f",
+    "--from 00000001 f",
+    "--from f",
+    "f --from",
+    "--from 1 --from 1 f",
+    "--to=1 --to 1 f",
+    "--combine 0 f",
+    "--combine 129 f",
+    "--method other f",
+    "--method Sync f",
+    "--method rings f",
+    "--method= f",
+    "--comb 1 f",
+    "--make 10 f",
+    "--make 0",
+    "--make 4097",
+    "--make 10 --from 1",
+    "--make 10 --to 1",
+    "--make 10 --make 10",
+    "--make 10 --tuples",
+    "--make 3 --map m",
+    "--make 3 --map m f",
+    "--make 3 --skip frozen",
+    "--map m",
+    "--map m f f",
+    "--map m f g",
+    "--map f f",
+    "--map= f",
+    "--map '' f",
+    "--map f",
+    "--map m --map n f",
+    "--map m --skip none f",
+    "--map m --skip Frozen f",
+    "--map m --skip= f",
+    "--map m --skip visible --skip visible f",
+    "--skip visible f",
+    "--skip frozen f",
+    "--skip none f",
+    "--stats",
+    "--stats --stats f",
+    "--stats=true f",
+    "--tuples",
+    "--tuples --tuples f",
+    "--tuples=true f",
+    "--unknown f",
+    "-f",
+    "--help",
+    "--help f",
+    "-h f",
+    "--version f",
+    "-V f",
+];
+
 #[test]
 fn refused_words(rt: HostRuntime) -> Result<(), Fail> {
-    let alloc = rt.alloc();
-    let lines = [
-        "",
-        "''",
-        "f ''",
-        "--full",
-        "--full --",
-        "--full --full f",
-        "--full=true f",
-        "--full= f",
-        "--from +1 f",
-        "--from -1 f",
-        "--from '' f",
-        "--from= f",
-        "--from 1x f",
-        "--from 00000001 f",
-        "--from f",
-        "f --from",
-        "--from 1 --from 1 f",
-        "--to=1 --to 1 f",
-        "--combine 0 f",
-        "--combine 129 f",
-        "--method other f",
-        "--method Sync f",
-        "--method rings f",
-        "--method= f",
-        "--comb 1 f",
-        "--make 10 f",
-        "--make 0",
-        "--make 4097",
-        "--make 10 --from 1",
-        "--make 10 --to 1",
-        "--make 10 --make 10",
-        "--make 10 --tuples",
-        "--make 3 --map m",
-        "--make 3 --map m f",
-        "--make 3 --skip frozen",
-        "--map m",
-        "--map m f f",
-        "--map m f g",
-        "--map f f",
-        "--map= f",
-        "--map '' f",
-        "--map f",
-        "--map m --map n f",
-        "--map m --skip none f",
-        "--map m --skip Frozen f",
-        "--map m --skip= f",
-        "--map m --skip visible --skip visible f",
-        "--skip visible f",
-        "--skip frozen f",
-        "--skip none f",
-        "--stats",
-        "--stats --stats f",
-        "--stats=true f",
-        "--tuples",
-        "--tuples --tuples f",
-        "--tuples=true f",
-        "--unknown f",
-        "-f",
-        "--help",
-        "--help f",
-        "-h f",
-        "--version f",
-        "-V f",
-    ];
-    for line in lines {
-        assert!(rt; !is_command(alloc, line)?, "{line}");
+    for line in REFUSED {
+        assert!(rt; !is_command(rt.alloc(), line)?, "{line}");
     }
     Ok(())
 }

@@ -1,8 +1,9 @@
 //! Invalid pages that are listed as zeros, with a warning each.
 use super::outside::{
-    DAMAGED, EMPTY, Ended, Parts, STEADY, ZEROS, empty_file, empty_lines, file_of, run, run_over,
+    DAMAGED, EMPTY, Ended, Parts, STEADY, Shown, ZEROS, check_over, check_shown, empty_file,
+    empty_lines, file_of, one_file, run,
 };
-use super::reads::{Read, reads_of};
+use super::reads::check_reads;
 use super::slow::{check_damaged_files, check_requests};
 use crate::Line;
 use std::alloc::Global;
@@ -32,12 +33,9 @@ fn expect<R: Abort + AllocGlobal + Threads + Wait + Sync>(
     rt: &R,
     file: Vec<u8>,
     line: &str,
-    wanted: (&str, &str, u8),
+    wanted: Shown<'_>,
 ) -> Result<Ended, Fail> {
-    let done = run_over(rt, file, STEADY, line)?;
-    assert_eq!(rt; done.out.bytes(), wanted.0.as_bytes(), "{line}");
-    assert_eq!(rt; done.err.bytes(), wanted.1.as_bytes(), "{line}");
-    assert_eq!(rt; done.report.status, wanted.2, "{line}");
+    let done = check_over(rt, file, STEADY, line, wanted)?;
     assert_eq!(rt; done.report.line, Line::Whole, "{line}");
     Ok(done)
 }
@@ -51,9 +49,7 @@ fn zeros_in_place_of_an_invalid_page(rt: HostRuntime) -> Result<(), Fail> {
     let _ = expect(&rt, bad_at_12(alloc)?, line, wanted)?;
     let line = "--zero-damaged --method sync --backends 1 --full --from 10 --to 13 f";
     let done = expect(&rt, bad_at_12(alloc)?, line, wanted)?;
-    let reads: &[Read] = &[(10, 4, Some(4))];
-    assert_eq!(&rt; reads_of(alloc, &done)?.as_slice(), reads);
-    Ok(())
+    check_reads(&rt, &done, line, &[(10, 4, Some(4))])
 }
 
 #[test]
@@ -98,8 +94,7 @@ fn generated_pages_have_no_warning(rt: HostRuntime) -> Result<(), Fail> {
 #[test]
 fn an_error_stream_that_fails_at_the_first_warning(rt: HostRuntime) -> Result<(), Fail> {
     let alloc = rt.alloc();
-    let file = file_of(alloc, &[DAMAGED, EMPTY])?;
-    let files = vec![in alloc; (String::from_str(alloc, "f")?, file)]?;
+    let files = one_file(alloc, "f", file_of(alloc, &[DAMAGED, EMPTY])?)?;
     let line = "--zero-damaged --method sync --backends 1 --stats f f";
     let done = run(&rt, files, STEADY, line, (&[], &[(1, 5)]))?;
     let mut text = String::new(alloc);
@@ -107,9 +102,7 @@ fn an_error_stream_that_fails_at_the_first_warning(rt: HostRuntime) -> Result<()
         text.push_str("page 0 0 new\n")?;
         text.push_str(empty_lines(alloc, 1, 2)?.as_str())?;
     }
-    assert_eq!(&rt; done.out.bytes(), text.as_str().as_bytes());
-    assert_eq!(&rt; done.err.bytes(), "zeroe".as_bytes());
-    assert_eq!(&rt; done.report.status, 0);
+    check_shown(&rt, line, &done, (text.as_str(), "zeroe", 0));
     assert_eq!(&rt; done.report.line, Line::Cut);
     Ok(())
 }

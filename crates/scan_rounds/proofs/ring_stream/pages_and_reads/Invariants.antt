@@ -1,5 +1,5 @@
 use Rattle.std.proofs.Common.{Some, length}
-use Rattle.scan_rounds.proofs.ring_stream.a_list_is_read_by_a_ring.Given as goal
+use Rattle.scan_rounds.proofs.ring_stream.pages_and_reads.Given as goal
 
 abbrev pub ghosts-pages_by_ring : goal.ghosts-pages_by_ring
 ghosts-pages_by_ring g a = record {
