@@ -58,13 +58,6 @@ impl Blocks for WholeBlocks<'_> {
     }
 }
 
-fn fill(page: &mut Page, bytes: &[u8])
-    requires { length bytes.now ≡ 8192 }
-    ensures { page.new ≡ bytes.now }
-{
-    page.bytes_mut().copy_from_slice(bytes);
-}
-
 /// Copies blocks from `first` on into the pages, and no more than `most`, and says how many.
 pub(crate) fn copy_blocks<B: Blocks>(blocks: &B, first: u32, most: u32, pages: &mut [Page]) -> u32
     requires { length pages.old ≤ 128 }
@@ -75,7 +68,7 @@ pub(crate) fn copy_blocks<B: Blocks>(blocks: &B, first: u32, most: u32, pages: &
     let room = most.min(pages.len() as u32);
     let count = blocks.count().saturating_sub(first).min(room);
     for index in 0..count {
-        fill(&mut pages[index as usize], blocks.block(first + index));
+        pages[index as usize].fill(blocks.block(first + index));
     }
     count
 }

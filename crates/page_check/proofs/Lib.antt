@@ -1,4 +1,5 @@
 pub mod Bytes
+pub mod Content
 pub mod Zeros
 pub mod ValidPages
 pub mod SynchronousReads

@@ -1,7 +1,8 @@
 //! A page in memory.
-ghost use Rattle.std.specs.Prelude.{◌≡◌, length, replicate, IfOk};
+ghost use Rattle.std.specs.Prelude.{◌≡◌, ◌≤◌, ◌⊎◌, [], length, replicate, IfOk, vec_capacity};
 ghost use Rattle.std.specs.Borrow.{Lends, Array, sem, u8};
 ghost use Rattle.std.specs.List.{refill};
+ghost use Rattle.page_check.specs.Content.{content_of};
 ghost use Rattle.page_check.specs.contracts.page.Page.{the_row};
 
 use std::alloc::{AllocError, Global};
@@ -10,20 +11,40 @@ use std::marker::Model;
 /// How many bytes a page has: `BLCKSZ` of a server with the default block size.
 pub const PAGE_SIZE: usize = 8192;
 
+// What a page holds that was not written yet.
+static ZEROS: [u8; PAGE_SIZE] = [0; PAGE_SIZE];
+
 /// A page, which contracts see as the list of its 8192 bytes.
 #[derive(Drop)]
 pub struct Page {
+    // With room for all bytes. None of them is there until the page is written to, so that the
+    // system need not give it memory before.
     bytes: Vec<u8>,
 }
 
 impl Model for Page {
-    ghost use Rattle.std.specs.Prelude.{◌≡◌, List, ℕ, length};
+    ghost use Rattle.std.specs.Prelude.{◌≡◌, ◌≤◌, ◌⊎◌, [], List, ℕ, length, vec_capacity};
+    ghost use Rattle.page_check.specs.Content.{content_of};
 
     ghost Value = { List ℕ };
 
-    ghost view = { λ p. p.bytes.items };
+    ghost view = { λ p. content_of p.bytes.items };
 
-    ghost invariant = { λ p. length p.bytes.items ≡ 8192 };
+    ghost invariant = { λ p. (8192 ≤ vec_capacity p.bytes)
+        × ((p.bytes.items ≡ []) ⊎ (length p.bytes.items ≡ 8192)) };
+}
+
+// Writes the zeros of a page to which nothing was written.
+fn write_zeros(bytes: &mut Vec<u8>)
+    requires room { 8192 ≤ vec_capacity bytes.old }
+    requires size { (bytes.old.items ≡ []) ⊎ (length bytes.old.items ≡ 8192) }
+    ensures same { bytes.new.items ≡ content_of bytes.old.items }
+    ensures size { length bytes.new.items ≡ 8192 }
+    ensures room { 8192 ≤ vec_capacity bytes.new }
+{
+    if bytes.is_empty() && bytes.resize(PAGE_SIZE, 0).is_err() {
+        unreachable!()
+    }
 }
 
 impl Page {
@@ -32,7 +53,7 @@ impl Page {
     pub fn zeroed(alloc: Global) -> Result<Page, AllocError>
         ensures { IfOk result (λ page. page ≡ replicate 8192 0) }
     {
-        let bytes = vec![in alloc; 0u8; PAGE_SIZE]?;
+        let bytes = Vec::with_capacity(alloc, PAGE_SIZE)?;
         Ok(Page { bytes })
     }
 
@@ -41,6 +62,9 @@ impl Page {
         ensures value { result.now ≡ self.now }
         ensures size { length result.now ≡ 8192 }
     {
+        if self.bytes.is_empty() {
+            return &ZEROS;
+        }
         self.bytes.as_slice()
     }
 
@@ -52,13 +76,25 @@ impl Page {
         ensures value { result.now ≡ self.old }
         ensures size { length result.now ≡ 8192 }
     {
+        write_zeros(&mut self.bytes);
         self.bytes.as_mut_slice()
+    }
+
+    /// Becomes the page of these bytes.
+    pub fn fill(&mut self, bytes: &[u8])
+        requires { length bytes.now ≡ 8192 }
+        ensures { self.new ≡ bytes.now }
+    {
+        self.bytes.clear();
+        if self.bytes.extend_from_slice(bytes).is_err() {
+            unreachable!()
+        }
     }
 
     /// Becomes equal to the other page.
     pub fn copy_from(&mut self, other: &Page)
         ensures { self.new ≡ other.now }
     {
-        self.bytes.copy_from_slice(other.bytes.as_slice());
+        self.fill(other.bytes());
     }
 }

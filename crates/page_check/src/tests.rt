@@ -1,6 +1,7 @@
 //! Worked pages.
 use crate::{
-    Kind, LinePointer, Page, PageHeader, Verdict, check, count, header, laws, line_pointer,
+    Kind, LinePointer, PAGE_SIZE, Page, PageHeader, Verdict, check, count, header, laws,
+    line_pointer,
 };
 use std::alloc::{AllocError, Global};
 use std::marker::Brand;
@@ -154,6 +155,18 @@ fn header_fields_are_little_endian(rt: HostRuntime) -> Result<(), Fail> {
     };
     assert_eq!(rt; header(&copy), wanted);
     assert_eq!(rt; copy.bytes(), page.bytes());
+    Ok(())
+}
+
+#[test]
+fn a_page_is_zeros_until_it_is_filled(rt: HostRuntime) -> Result<(), Fail> {
+    let zeros = [0; PAGE_SIZE];
+    let ones = [1; PAGE_SIZE];
+    let mut page = Page::zeroed(rt.alloc())?;
+    assert_eq!(rt; page.bytes(), zeros.as_slice(), "not written");
+    assert_eq!(rt; &*page.bytes_mut(), zeros.as_slice(), "lent for writing");
+    page.fill(&ones);
+    assert_eq!(rt; page.bytes(), ones.as_slice(), "filled");
     Ok(())
 }
 
