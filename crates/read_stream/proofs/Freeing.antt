@@ -2,7 +2,6 @@
 use Rattle.std.proofs.Common.{◌≡◌, ℕ, ◌-◌, List, [], ◌∷◌, ◌++◌, length, refl, ap, sym, subst, arith}
 use Rattle.std.proofs.Common.{◌∙◌}
 use Rattle.std.specs.Prelude.{Option, Some, None, IfSome}
-use Rattle.std.proofs.lemmas.List.{length-append}
 use Rattle.page_check.specs.Told.{Told}
 use Rattle.aio_word.specs.declared.Known.{Known}
 use Rattle.aio_callback.specs.Reading.{Reading}
@@ -25,7 +24,7 @@ module _ {W S P : Type 0} (left : S → List (ℕ × P)) (told : Option Told)
       (pl : Planned) (none : Option Reading)
       → s.current ≡ Some io → none ≡ None
       → r ≡ record s.desk.now.reads {
-        free = buffer (s.desk.now.reads.free.items ++ io ∷ []) s.desk.now.reads.free.capacity;
+        free = buffer (io ∷ s.desk.now.reads.free.items) s.desk.now.reads.free.capacity;
       }
       → pl ≡ record s.plan { ios_in_progress = s.plan.ios_in_progress - 1 }
       → UnderwayBut left told relations handles [] [] 0 p s
@@ -35,7 +34,7 @@ module _ {W S P : Type 0} (left : S → List (ℕ × P)) (told : Option Told)
       let g = u.going in
       let v = u.steady in
       let reads : Reads W = s.desk.now.reads in
-      let queue : Buffer Reading = buffer (reads.free.items ++ io ∷ []) reads.free.capacity in
+      let queue : Buffer Reading = buffer (io ∷ reads.free.items) reads.free.capacity in
       let fuller : Reads W = record reads { free = queue } in
       let one : count_some s.current ≡ 1 = ap (λ (z : Option Reading). count_some z) now in
       let zero : count_some none ≡ 0 = ap (λ (z : Option Reading). count_some z) gone in
@@ -50,9 +49,8 @@ module _ {W S P : Type 0} (left : S → List (ℕ × P)) (told : Option Told)
       let made : made_in r ≡ made_in reads = ap (λ (z : Reads W). made_in z) is in
       let batch : length r.batch ≡ length reads.batch =
       ap (λ (z : Reads W). length z.batch) is in
-      let free : length r.free.items ≡ length (reads.free.items ++ io ∷ []) =
+      let free : length r.free.items ≡ length (io ∷ reads.free.items) =
       ap (λ (z : Reads W). length z.free.items) is in
-      let longer = length-append reads.free.items (io ∷ []) in
       let credit : r.credit ≡ reads.credit = ap (λ (z : Reads W). z.credit) is in
       let ios : pl.ios_in_progress ≡ s.plan.ios_in_progress - 1 =
       ap (λ (z : Planned). z.ios_in_progress) plan in

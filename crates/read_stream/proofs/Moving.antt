@@ -170,26 +170,28 @@ module _ {W : Type 0} (c : Scope W) (told : Option Told) (relations : ℕ) (p : 
 
     -- a record is free again
     pub more-free : (r : Reading) (queue : Buffer Reading)
-        → queue ≡ buffer (s.free.items ++ r ∷ []) s.free.capacity
+        → queue ≡ buffer (r ∷ s.free.items) s.free.capacity
         → records_in s < c.total → length r.pages ≡ c.combine → Issued c told relations p s
         → Issued c told relations p (record s { free = queue })
         × (records_in (record s { free = queue }) ≡ records_in s + 1)
     more-free r queue now room new i =
-        let items : queue.items ≡ s.free.items ++ r ∷ [] =
+        let items : queue.items ≡ r ∷ s.free.items =
         ap (λ (z : Buffer Reading). z.items) now in
-        let more = length-append s.free.items (r ∷ []) in
-        let parts : length queue.items ≡ length (s.free.items ++ r ∷ []) =
+        let parts : length queue.items ≡ length (r ∷ s.free.items) =
         ap (λ (z : List Reading). length z) items in
         let cap : queue.capacity ≡ s.free.capacity =
         ap (λ (z : Buffer Reading). z.capacity) now in (
           issued-records queue s.ended (let f = i.room.free in omega arith) i.room.ended
               (omega arith)
               (subst (λ (z : List Reading). (x : Reading) → IsIn x z → length x.pages ≡ c.combine)
-              (sym items)
-              (each-pushed (λ x. length x.pages ≡ c.combine) s.free.items r i.free new))
-              i.ended i,
+              (sym items) first-or-free) i.ended i,
           omega arith,
         )
+      where
+        first-or-free : (x : Reading) → IsIn x (r ∷ s.free.items) → length x.pages ≡ c.combine
+        first-or-free x (inl is) =
+            ap (λ (z : Reading). length z.pages) (sym is) ∙ new
+        first-or-free x (inr in_free) = i.free x in_free
 
     -- a free record is taken
     pub less-free : (r : Reading) (rest : List Reading) (queue : Buffer Reading)

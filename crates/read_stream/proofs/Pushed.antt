@@ -8,7 +8,6 @@ use Rattle.aio_word.specs.declared.WaitRef.{WaitRef}
 use Rattle.aio_word.specs.Stands.{IsIn}
 use Rattle.aio_word.specs.Tokens.{IsStaged}
 use Rattle.aio_word.proofs.Parts.{in-append}
-use Rattle.aio_handle.specs.LifeWords.{staged, taken}
 use Rattle.aio_batch.specs.Held.{Held}
 use Rattle.aio_callback.specs.Reading.{Reading}
 use Rattle.read_stream.specs.declared.reads.Reads.{Reads}

@@ -1,5 +1,5 @@
 -- Streams with the same blocks in their queues.
-use Rattle.std.proofs.Common.{◌≡◌, ℕ, ◌+◌, ◌<◌, List, length, refl, ap, arith, ◌∙◌}
+use Rattle.std.proofs.Common.{[], ◌≡◌, ℕ, ◌+◌, ◌<◌, List, length, refl, ap, arith, ◌∙◌}
 use Rattle.std.specs.Prelude.{Option}
 use Rattle.page_check.specs.Told.{Told}
 use Rattle.aio_word.specs.declared.Known.{Known}
@@ -157,3 +157,16 @@ module _ {W S P : Type 0} (left : S → List (ℕ × P)) (told : Option Told)
               most = let z = g.most in omega arith;
             };
           }
+
+      -- the same where nothing is staged any more
+      pub underway_submitted : (r : Reads W) → Issued s.scope told relations q r → r.batch ≡ []
+          → (records_in r ≡ records_in s.desk.now.reads)
+          × (made_in r ≡ made_in s.desk.now.reads)
+          × (r.free ≡ s.desk.now.reads.free) × (r.credit ≡ s.desk.now.reads.credit)
+          → ((runs : List Run) → AreFor s.scope p s.desk.now.reads runs
+          → AreFor s.scope q r runs)
+          → (hand : List ℕ) → UnderwayBut left told relations handles hand [] 0 p s
+          → UnderwayBut left told relations handles hand [] 0 q (with_reads s r)
+      underway_submitted r issued none all runs hand u =
+          let staged : length r.batch ≡ 0 = ap (λ (z : List _). length z) none in
+          underway_reads r hand [] 0 issued (omega arith) all.0 all.1 all.2 all.3 runs u

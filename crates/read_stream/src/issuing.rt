@@ -20,6 +20,7 @@ use aio_callback::{CallbackId, ReadIo};
 use aio_handle::{Actor, Execute, Staged, Table};
 use aio_word::WaitRef;
 use buf_pool::{Pool, Tag};
+use method_sync::SyncMethod;
 use page_check::World;
 use read_plan::Run;
 use std::sync::Wait;
@@ -213,7 +214,7 @@ impl<W: World> Reads<W> {
         }
     }
 
-    /// Reads the run by the record, at once.
+    /// Reads the run by the record, at once and by this thread.
     pub fn read<M: Method<ReadIo, W>, E: Execute<ReadIo, W>, T: Wait>(
         &mut self,
         rt: &T,
@@ -255,7 +256,10 @@ impl<W: World> Reads<W> {
         self.submit(rt, scope, table, actor, method, runner);
         let token = self.stage(rt, scope, pool, table, actor, method, runner, io, run);
         self.put(token);
-        let Some(token) = self.batch.submit_next(rt, table, actor, method, runner) else {
+        let Some(token) = self
+            .batch
+            .submit_next(rt, table, actor, &mut SyncMethod, runner)
+        else {
             unreachable!()
         };
         self.settle(rt, scope, table, actor, runner, token)

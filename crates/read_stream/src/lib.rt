@@ -13,8 +13,8 @@
 //! damaged pages given as zeros where [`Settings::zero`] says so. Or it is `Unread` at the block
 //! where a read of this stream has failed, whose record the stream keeps and whose mark stands in
 //! the actor's list. An ending is given again by each later call. After [`ReadStream::close`] no
-//! token of the stream is out and its desk is free. When a stream looks ahead and what it combines
-//! is no part of any contract.
+//! token of the stream is out and its desk is free. When a stream looks ahead, what it combines and
+//! which reads it makes by its own thread is no part of any contract.
 #![tactic(auto)]
 
 mod acquiring;

@@ -1,9 +1,9 @@
 //! The I/Os of a stream.
-ghost use Rattle.std.specs.Prelude.{◌≡◌, ◌<◌, ◌≤◌, ◌++◌, [], ◌∷◌, length, IfOk};
+ghost use Rattle.std.specs.Prelude.{◌≡◌, ◌<◌, ◌≤◌, ◌∷◌, length, IfOk};
 ghost use Rattle.circular_buffer.specs.Buffer.{buffer};
 ghost use Rattle.read_stream.specs.Issued.{IsReady};
 
-use crate::ring::push;
+use crate::ring::{push, push_front};
 use aio_batch::Batch;
 use aio_callback::{Counts, ReadIo};
 use aio_handle::InFlight;
@@ -15,7 +15,8 @@ use std::alloc::{AllocError, Global};
 /// started. Those that have ended are older than those in flight, and these than the staged ones.
 #[derive(Drop)]
 pub struct Reads<W: World> {
-    /// Records that nobody uses.
+    /// Records that nobody uses, the one that was used last in front: its pages are in memory, and
+    /// in a processor's cache.
     pub free: HeapCircularBuffer<ReadIo>,
     /// Staged, not submitted.
     pub batch: Batch<ReadIo, W>,
@@ -57,9 +58,9 @@ impl<W: World> Reads<W> {
     pub(crate) fn release(&mut self, io: ReadIo)
         requires { length self.old.free.items < self.old.free.capacity }
         ensures { self.new ≡ record self.old {
-          free = buffer (self.old.free.items ++ io ∷ []) self.old.free.capacity;
+          free = buffer (io ∷ self.old.free.items) self.old.free.capacity;
         } }
     {
-        push(&mut self.free, io);
+        push_front(&mut self.free, io);
     }
 }

@@ -13,3 +13,13 @@ pub(crate) fn push<T: Drop>(queue: &mut HeapCircularBuffer<T>, item: T)
         unreachable!()
     }
 }
+
+/// Puts the item before the others.
+pub(crate) fn push_front<T: Drop>(queue: &mut HeapCircularBuffer<T>, item: T)
+    requires { length queue.old.items < queue.old.capacity }
+    ensures { queue.new ≡ buffer (item ∷ queue.old.items) queue.old.capacity }
+{
+    if queue.try_push_front(item).is_err() {
+        unreachable!()
+    }
+}

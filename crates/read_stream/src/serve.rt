@@ -20,6 +20,7 @@ use aio_batch::Method;
 use aio_callback::ReadIo;
 use aio_handle::{Actor, Execute, Table};
 use block_source::BlockSource;
+use method_sync::SyncMethod;
 use page_check::World;
 use std::mem;
 use std::snapshot::Snapshot;
@@ -115,7 +116,8 @@ impl<'d, 'p, W: World, S: BlockSource<P> + Drop, P: Copy> ReadStream<'d, 'p, W, 
         }
     }
 
-    // Submits what is staged.
+    // Submits what is staged. This thread makes a read itself that is all that is wanted while no
+    // page is given: it would wait for it at once.
     pub(crate) fn submit<M: Method<ReadIo, W>, E: Execute<ReadIo, W>, T: Wait>(
         &mut self,
         rt: &T,
@@ -144,9 +146,15 @@ impl<'d, 'p, W: World, S: BlockSource<P> + Drop, P: Copy> ReadStream<'d, 'p, W, 
         ensures wants { self.new.desk.now.wants ≡ self.old.desk.now.wants }
         ensures staged { self.new.desk.now.reads.batch ≡ [] }
     {
-        self.desk
-            .reads
-            .submit(rt, &self.scope, table, actor, method, runner);
+        if self.current.is_none() && self.desk.wants.len() == 1 {
+            self.desk
+                .reads
+                .submit(rt, &self.scope, table, actor, &mut SyncMethod, runner);
+        } else {
+            self.desk
+                .reads
+                .submit(rt, &self.scope, table, actor, method, runner);
+        }
     }
 
     // Serves the front of the queue.

@@ -1,4 +1,4 @@
-use Rattle.std.proofs.Common.{◌≡◌, [], ◌∷◌, ◌++◌, subst, sym, ap, arith, length, refl}
+use Rattle.std.proofs.Common.{◌≡◌, ◌∷◌, subst, sym, ap, arith, length, refl}
 use Rattle.std.specs.Prelude.{Some, IfSome}
 use Rattle.read_stream.specs.Hands.{count_some}
 use Rattle.aio_callback.specs.Reading.{Reading}
@@ -22,4 +22,4 @@ finish-requires-clause-issued g c =
     subst (λ (z : Reads W). Issued c.args.scope.now g.W.World.told g.W.World.relations
     c.args.actor.now.known z) (sym c.release.ensures)
     (more-free c.args.scope.now g.W.World.told g.W.World.relations c.args.actor.now.known s io
-    (buffer (s.free.items ++ io ∷ []) s.free.capacity) refl (omega arith) fits c.requires.issued).0
+    (buffer (io ∷ s.free.items) s.free.capacity) refl (omega arith) fits c.requires.issued).0

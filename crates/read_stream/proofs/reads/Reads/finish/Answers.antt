@@ -1,4 +1,4 @@
-use Rattle.std.proofs.Common.{◌≡◌, [], ◌∷◌, ◌++◌, List, subst, sym, ap, ◌∙◌, arith, length, refl}
+use Rattle.std.proofs.Common.{◌≡◌, [], ◌∷◌, List, subst, sym, ap, ◌∙◌, arith, length, refl}
 use Rattle.aio_word.specs.declared.WaitRef.{WaitRef}
 use Rattle.aio_callback.specs.Reading.{Reading}
 use Rattle.circular_buffer.specs.Buffer.{Buffer, buffer}
@@ -29,10 +29,10 @@ loop-io-preserved g c =
     let records = some.1 in
     let all = inv.8 in
     let is : c.release.new.self
-    ≡ record s { free = buffer (s.free.items ++ io ∷ []) s.free.capacity } =
+    ≡ record s { free = buffer (io ∷ s.free.items) s.free.capacity } =
     c.release.ensures in
     let more = more-free c.args.scope.now g.W.World.told g.W.World.relations
-    c.oldest.new.actor.known s io (buffer (s.free.items ++ io ∷ []) s.free.capacity) refl
+    c.oldest.new.actor.known s io (buffer (io ∷ s.free.items) s.free.capacity) refl
     (omega arith) some.0.aimed.room c.in-Some.ensures.issued in
     let count = more.1 in
     let made = rest.2 in

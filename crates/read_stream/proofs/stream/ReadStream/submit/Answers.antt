@@ -1,13 +1,16 @@
-use Rattle.std.proofs.Common.{◌≡◌, List, length, ap, arith}
-use Rattle.read_stream.proofs.SameQueues.{underway_reads}
+use Rattle.read_stream.proofs.SameQueues.{underway_submitted}
 use Rattle.read_stream.proofs.stream.ReadStream.submit.Goals as goal
 
-pub returns-clause-underway : goal.returns-clause-underway
-returns-clause-underway g c = λ hand u.
-    let all = c.submit.ensures.all in
-    let none : length c.submit.new.self.batch ≡ 0 =
-    ap (λ (z : List _). length z) c.submit.ensures.none in
-    underway_reads g.S.BlockSource.left g.W.World.told g.W.World.relations g.W.World.handles
-    c.args.actor.now.known c.submit.new.actor.known c.args.self.now _ _ _ _ c.submit.ensures.went
-    c.submit.new.self hand _ 0 c.submit.ensures.issued (omega arith) all.0 all.1 all.2 all.3
-    c.submit.ensures.runs u
+pub returns-then-len-eq1-clause-underway : goal.returns-then-len-eq1-clause-underway
+returns-then-len-eq1-clause-underway g c =
+    let done = c.submit.ensures in
+    underway_submitted g.S.BlockSource.left g.W.World.told g.W.World.relations g.W.World.handles
+    c.args.actor.now.known c.submit.new.actor.known c.args.self.now _ _ _ _ done.went
+    c.submit.new.self done.issued done.none done.all done.runs
+
+pub returns-else-is_none-clause-underway : goal.returns-else-is_none-clause-underway
+returns-else-is_none-clause-underway g c =
+    let done = c.submit-else-is_none.ensures in
+    underway_submitted g.S.BlockSource.left g.W.World.told g.W.World.relations g.W.World.handles
+    c.args.actor.now.known c.submit-else-is_none.new.actor.known c.args.self.now _ _ _ _ done.went
+    c.submit-else-is_none.new.self done.issued done.none done.all done.runs
