@@ -178,7 +178,7 @@ impl<'d, 'p, W: World, S: BlockSource<P> + Drop, P: Copy> ReadStream<'d, 'p, W, 
     }
 
     // Whether another block is to be taken from the source.
-    fn wants_more(&self) -> bool
+    pub(crate) fn wants_more(&self) -> bool
         ensures more { IsTrue result → MayLookAhead self.now.plan }
         ensures goes_on { IsTrue result → self.now.over ≡ false }
         ensures idle { (IsTrue result → ⊥) → self.now.plan.blocks_ahead ≡ 0

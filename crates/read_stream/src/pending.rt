@@ -16,12 +16,14 @@ use aio_batch::Method;
 use aio_callback::ReadIo;
 use aio_handle::{Actor, Execute, Table};
 use block_source::BlockSource;
+use method_sync::SyncMethod;
 use page_check::World;
 use read_plan::Run;
 use std::sync::Wait;
 
 impl<'d, 'p, W: World, S: BlockSource<P> + Drop, P: Copy> ReadStream<'d, 'p, W, S, P> {
-    // Starts the run by a free record.
+    // Starts the run by a free record. This thread makes a read itself for which it would wait at
+    // once.
     pub(crate) fn start<M: Method<ReadIo, W>, E: Execute<ReadIo, W>, T: Wait>(
         &mut self,
         rt: &T,
@@ -63,17 +65,37 @@ impl<'d, 'p, W: World, S: BlockSource<P> + Drop, P: Copy> ReadStream<'d, 'p, W, 
         };
         self.plan.started();
         push(&mut self.desk.wants, Want::Run(run));
-        self.desk.reads.start(
-            rt,
-            &self.scope,
-            self.pool,
-            table,
-            actor,
-            method,
-            runner,
-            io,
-            run,
-        );
+        if self.is_alone() {
+            self.desk.reads.start(
+                rt,
+                &self.scope,
+                self.pool,
+                table,
+                actor,
+                &mut SyncMethod,
+                runner,
+                io,
+                run,
+            );
+        } else {
+            self.desk.reads.start(
+                rt,
+                &self.scope,
+                self.pool,
+                table,
+                actor,
+                method,
+                runner,
+                io,
+                run,
+            );
+        }
+    }
+
+    // Whether one read, a look or a join is all that is wanted, no page is given, and no further
+    // block is taken before that: the stream would wait for it at once.
+    pub(crate) fn is_alone(&self) -> bool {
+        self.current.is_none() && self.desk.wants.len() == 1 && !self.wants_more()
     }
 
     // Starts the pending run, where there is one. The blocks behind it stay behind.

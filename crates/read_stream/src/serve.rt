@@ -116,8 +116,7 @@ impl<'d, 'p, W: World, S: BlockSource<P> + Drop, P: Copy> ReadStream<'d, 'p, W, 
         }
     }
 
-    // Submits what is staged. This thread makes a read itself that is all that is wanted while no
-    // page is given: it would wait for it at once.
+    // Submits what is staged. This thread makes a read itself for which it would wait at once.
     pub(crate) fn submit<M: Method<ReadIo, W>, E: Execute<ReadIo, W>, T: Wait>(
         &mut self,
         rt: &T,
@@ -146,7 +145,7 @@ impl<'d, 'p, W: World, S: BlockSource<P> + Drop, P: Copy> ReadStream<'d, 'p, W, 
         ensures wants { self.new.desk.now.wants ≡ self.old.desk.now.wants }
         ensures staged { self.new.desk.now.reads.batch ≡ [] }
     {
-        if self.current.is_none() && self.desk.wants.len() == 1 {
+        if self.is_alone() {
             self.desk
                 .reads
                 .submit(rt, &self.scope, table, actor, &mut SyncMethod, runner);

@@ -1,16 +1,16 @@
 use Rattle.read_stream.proofs.SameQueues.{underway_submitted}
 use Rattle.read_stream.proofs.stream.ReadStream.submit.Goals as goal
 
-pub returns-then-len-eq1-clause-underway : goal.returns-then-len-eq1-clause-underway
-returns-then-len-eq1-clause-underway g c =
+pub returns-then-is_alone-clause-underway : goal.returns-then-is_alone-clause-underway
+returns-then-is_alone-clause-underway g c =
     let done = c.submit.ensures in
     underway_submitted g.S.BlockSource.left g.W.World.told g.W.World.relations g.W.World.handles
     c.args.actor.now.known c.submit.new.actor.known c.args.self.now _ _ _ _ done.went
     c.submit.new.self done.issued done.none done.all done.runs
 
-pub returns-else-is_none-clause-underway : goal.returns-else-is_none-clause-underway
-returns-else-is_none-clause-underway g c =
-    let done = c.submit-else-is_none.ensures in
+pub returns-else-is_alone-clause-underway : goal.returns-else-is_alone-clause-underway
+returns-else-is_alone-clause-underway g c =
+    let done = c.submit-else-is_alone.ensures in
     underway_submitted g.S.BlockSource.left g.W.World.told g.W.World.relations g.W.World.handles
-    c.args.actor.now.known c.submit-else-is_none.new.actor.known c.args.self.now _ _ _ _ done.went
-    c.submit-else-is_none.new.self done.issued done.none done.all done.runs
+    c.args.actor.now.known c.submit-else-is_alone.new.actor.known c.args.self.now _ _ _ _ done.went
+    c.submit-else-is_alone.new.self done.issued done.none done.all done.runs
