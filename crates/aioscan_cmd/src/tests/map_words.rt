@@ -1,6 +1,5 @@
 //! Words that name a map.
-use super::outside::words_of;
-use super::words::joined;
+use super::words::{joined, words_of};
 use crate::words::read_command;
 use std::test::Fail;
 use vis_map::Skip;

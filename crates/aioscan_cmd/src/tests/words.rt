@@ -1,5 +1,4 @@
 //! Words that are a command, and words that are none.
-use super::outside::words_of;
 use crate::words::{Refusal, read_command};
 use scan_rounds::{MethodKind, ScanSettings};
 use std::alloc::Global;
@@ -20,6 +19,16 @@ const DEFAULTS: ScanSettings = ScanSettings {
     zero: false,
     tuples: false,
 };
+
+/// The words of a line, of which `''` is an empty one.
+pub(crate) fn words_of(alloc: Global, line: &str) -> Result<Vec<String>, Fail> {
+    let mut words = Vec::new(alloc);
+    for word in line.split_whitespace() {
+        let text = if word == "''" { "" } else { word };
+        words.push(text.to_string(alloc)?)?;
+    }
+    Ok(words)
+}
 
 /// The words with a space behind each.
 pub(crate) fn joined(alloc: Global, words: &[&str]) -> Result<String, Fail> {

@@ -1,10 +1,10 @@
 //! Whole runs by a visibility map: each method, damaged pages, tuples, and what fails.
-use super::map_reads::{FLAGGED, HEADER, MARKED, lines_of, run_by_map};
-use super::outside::{
+use crate::map_reads::{FLAGGED, HEADER, MARKED, lines_of, run_by_map};
+use crate::outside::{
     DAMAGED, EMPTY, Faults, Parts, STEADY, Shown, ZEROS, check_shown, empty_file, empty_lines,
     file_of, one_file, run, two_files,
 };
-use crate::Line;
+use aioscan_cmd::Line;
 use std::process::Abort;
 use std::sync::Wait;
 use std::test::Fail;

@@ -1,11 +1,11 @@
 //! Random requests, on which a run and the plain slow lister are compared.
 ghost use Rattle.std.specs.Prelude.{◌<◌};
 
-use super::outside::{
+use crate::outside::{
     DAMAGED, EMPTY, Parts, STEADY, Shown, ZEROS, check_shown, file_of, run, two_files,
 };
-use super::plain::{Asked, slow_run};
-use super::settings::random_settings;
+use crate::plain::{Asked, slow_run};
+use crate::settings::random_settings;
 use std::alloc::{AllocError, Global};
 use std::process::Abort;
 use std::sync::Wait;
@@ -29,7 +29,7 @@ pub(crate) fn pick(state: &mut u64, limit: u64) -> u64
 }
 
 /// A file of up to four pages, one in eight of them damaged.
-pub(super) fn random_file(alloc: Global, state: &mut u64) -> Result<Vec<u8>, AllocError> {
+pub(crate) fn random_file(alloc: Global, state: &mut u64) -> Result<Vec<u8>, AllocError> {
     let mut pages: Vec<Parts<'_>> = Vec::new(alloc);
     for _ in 0..pick(state, 5) {
         pages.push(match pick(state, 8) {
@@ -43,7 +43,7 @@ pub(super) fn random_file(alloc: Global, state: &mut u64) -> Result<Vec<u8>, All
 }
 
 /// A block number below 5, or none.
-pub(super) fn random_block(state: &mut u64) -> Option<u32> {
+pub(crate) fn random_block(state: &mut u64) -> Option<u32> {
     match pick(state, 10) {
         block @ 0..5 => Some(block as u32),
         _ => None,
@@ -64,7 +64,7 @@ fn random_asked(alloc: Global, state: &mut u64, zero: bool) -> Result<Asked, All
 }
 
 /// The words that ask for this.
-pub(super) fn line_of(alloc: Global, asked: &Asked, settings: &str) -> Result<String, Fail> {
+pub(crate) fn line_of(alloc: Global, asked: &Asked, settings: &str) -> Result<String, Fail> {
     let mut line = String::from_str(alloc, settings)?;
     if let Some(block) = asked.from {
         write!(line, " --from {block}")?;
@@ -82,7 +82,7 @@ pub(super) fn line_of(alloc: Global, asked: &Asked, settings: &str) -> Result<St
 }
 
 /// Runs a line over the files `a` and `b`, and compares the listing, what is said and the status.
-pub(super) fn expect_shown<R: Abort + AllocGlobal + Threads + Wait + Sync>(
+pub(crate) fn expect_shown<R: Abort + AllocGlobal + Threads + Wait + Sync>(
     rt: &R,
     request: u32,
     line: &str,

@@ -1,9 +1,9 @@
 //! Random maps and requests, beside a plain lister of the blocks that a map does not mark.
-use super::map_reads::HEADER;
-use super::outside::{DAMAGED, Parts, ZEROS, file_of};
-use super::plain::{Asked, list_page, slow_run};
-use super::settings::random_settings;
-use super::slow::{expect_shown, line_of, pick, random_block, random_file};
+use crate::map_reads::HEADER;
+use crate::outside::{DAMAGED, Parts, ZEROS, file_of};
+use crate::plain::{Asked, list_page, slow_run};
+use crate::settings::random_settings;
+use crate::slow::{expect_shown, line_of, pick, random_block, random_file};
 use std::alloc::{AllocError, Global};
 use std::process::Abort;
 use std::sync::Wait;

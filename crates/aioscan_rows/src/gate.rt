@@ -1,7 +1,7 @@
 //! Disks of which one is held up until another reads.
-use super::outside::{empty_lines, words_of};
-use crate::aioscan;
+use crate::outside::{empty_lines, words_of};
 use aio_disk::MemSink;
+use aioscan_cmd::aioscan;
 use held_disk::HeldShelf;
 use std::test::Fail;
 

@@ -1,8 +1,8 @@
 //! Reads that fail or are short, and what is listed before them.
-use super::outside::{
+use crate::outside::{
     Ended, Faults, STEADY, check_shown, empty_file, empty_lines, one_file, run, run_over,
 };
-use crate::Outcome;
+use aioscan_cmd::Outcome;
 use std::process::Abort;
 use std::sync::Wait;
 use std::test::Fail;

@@ -1,6 +1,6 @@
 //! The same bytes by all settings.
-use super::outside::{DAMAGED, EMPTY, Ended, Parts, STEADY, ZEROS, file_of, run_over};
-use super::slow::pick;
+use crate::outside::{DAMAGED, EMPTY, Ended, Parts, STEADY, ZEROS, file_of, run_over};
+use crate::slow::pick;
 use std::alloc::Global;
 use std::process::Abort;
 use std::sync::Wait;

@@ -1,9 +1,9 @@
 //! Shelves that do not tell their contents.
 ghost use Rattle.std.specs.Prelude.{None, false};
 
-use super::outside::{EMPTY, Shown, empty_lines, file_of, words_of};
-use crate::{Report, aioscan};
+use crate::outside::{EMPTY, Shown, empty_lines, file_of, words_of};
 use aio_disk::{DeviceFault, Disk, MemSink, OpenFault, Shelf};
+use aioscan_cmd::{Report, aioscan};
 use page_check::Page;
 use std::alloc::{AllocError, Global};
 use std::process::Abort;

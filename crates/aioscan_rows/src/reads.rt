@@ -1,5 +1,5 @@
 //! Which reads a run makes, and what its report counts.
-use super::outside::{
+use crate::outside::{
     EMPTY, Ended, Faults, Parts, STEADY, check_over, check_shown, empty_file, empty_lines, file_of,
     run_over,
 };

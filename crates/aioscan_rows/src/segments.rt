@@ -1,6 +1,6 @@
 //! Relations of several segments.
-use super::outside::{Ended, STEADY, check_shown, empty_file, empty_lines, run_segmented};
-use crate::Line;
+use crate::outside::{Ended, STEADY, check_shown, empty_file, empty_lines, run_segmented};
+use aioscan_cmd::Line;
 use std::alloc::{AllocError, Global};
 use std::process::Abort;
 use std::sync::Wait;

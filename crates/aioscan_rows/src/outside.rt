@@ -1,6 +1,6 @@
 //! Files, scripts and runs over them for the tests.
-use crate::{Report, aioscan};
 use aio_disk::{MemShelf, MemSink, Script, have_distinct_names};
+use aioscan_cmd::{Report, aioscan};
 use std::alloc::{AllocError, Global};
 use std::process::Abort;
 use std::sync::Wait;

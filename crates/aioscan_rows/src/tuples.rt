@@ -1,5 +1,5 @@
 //! Listings with the headers of tuples and their update chains.
-use super::outside::{
+use crate::outside::{
     DAMAGED, EMPTY, Parts, STEADY, Shown, ZEROS, check_shown, file_of, run, two_files,
 };
 use std::process::Abort;

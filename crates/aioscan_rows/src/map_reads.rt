@@ -1,5 +1,5 @@
 //! The reads of scans that leave out the blocks that a visibility map marks.
-use super::outside::{
+use crate::outside::{
     DAMAGED, EMPTY, Ended, Faults, Parts, STEADY, ZEROS, check_shown, empty_file, file_of, run,
     two_files,
 };
@@ -16,10 +16,10 @@ type MapRead = (u32, u32, u32);
 type Wanted<'a> = (&'a [u32], &'a str, u8);
 
 /// The header of an empty page, from lower on.
-pub(super) const HEADER: &[u8] = &[24, 0, 0, 32, 0, 32, 4, 32];
+pub(crate) const HEADER: &[u8] = &[24, 0, 0, 32, 0, 32, 4, 32];
 
 /// Marks blocks 0, 1 and 3 as visible, and 4 as visible and frozen.
-pub(super) const MARKED: Parts<'static> = &[(12, HEADER), (24, &[0x45, 3])];
+pub(crate) const MARKED: Parts<'static> = &[(12, HEADER), (24, &[0x45, 3])];
 
 // Marks block 32671, the last one of a page, as visible and frozen.
 const LAST_MARKED: Parts<'static> = &[(12, HEADER), (8191, &[0xc0])];
@@ -28,10 +28,10 @@ const LAST_MARKED: Parts<'static> = &[(12, HEADER), (8191, &[0xc0])];
 const FIRST_MARKED: Parts<'static> = &[(12, HEADER), (24, &[1])];
 
 /// A page with a flag that no page has.
-pub(super) const FLAGGED: Parts<'static> = &[(10, &[8, 0, 24, 0, 0, 32, 0, 32, 4, 32])];
+pub(crate) const FLAGGED: Parts<'static> = &[(10, &[8, 0, 24, 0, 0, 32, 0, 32, 4, 32])];
 
 /// The lines of empty pages of relation 0.
-pub(super) fn lines_of(alloc: Global, blocks: &[u32]) -> Result<String, Fail> {
+pub(crate) fn lines_of(alloc: Global, blocks: &[u32]) -> Result<String, Fail> {
     let mut text = String::new(alloc);
     for block in blocks {
         writeln!(
@@ -52,7 +52,7 @@ fn reads_by_relation<R: Abort + AllocGlobal>(rt: &R, run: &Ended) -> Result<Vec<
 }
 
 /// A run over the file `f` and its map `m`.
-pub(super) fn run_by_map<R: Abort + AllocGlobal + Threads + Wait + Sync>(
+pub(crate) fn run_by_map<R: Abort + AllocGlobal + Threads + Wait + Sync>(
     rt: &R,
     file: Vec<u8>,
     map: Vec<u8>,

@@ -1,11 +1,11 @@
 //! Invalid pages that are listed as zeros, with a warning each.
-use super::outside::{
+use crate::outside::{
     DAMAGED, EMPTY, Ended, Parts, STEADY, Shown, ZEROS, check_over, check_shown, empty_file,
     empty_lines, file_of, one_file, run,
 };
-use super::reads::check_reads;
-use super::slow::{check_damaged_files, check_requests};
-use crate::Line;
+use crate::reads::check_reads;
+use crate::slow::{check_damaged_files, check_requests};
+use aioscan_cmd::Line;
 use std::alloc::Global;
 use std::process::Abort;
 use std::sync::Wait;

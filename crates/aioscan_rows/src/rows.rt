@@ -1,9 +1,9 @@
 //! Worked runs over memory.
-use super::outside::{
+use crate::outside::{
     DAMAGED, EMPTY, Faults, Parts, STEADY, Shown, ZEROS, check_over, check_shown, file_of,
     one_file, run, two_files,
 };
-use crate::Line;
+use aioscan_cmd::Line;
 use std::process::Abort;
 use std::slice::from_ref;
 use std::sync::Wait;

@@ -1,5 +1,5 @@
 //! Generated pages.
-use super::outside::{STEADY, Shown, check_over, empty_file};
+use crate::outside::{STEADY, Shown, check_over, empty_file};
 use std::process::Abort;
 use std::sync::Wait;
 use std::test::Fail;
