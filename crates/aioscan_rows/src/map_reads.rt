@@ -156,55 +156,58 @@ fn ranges_by_a_map(rt: HostRuntime) -> Result<(), Fail> {
     Ok(())
 }
 
-// Blocks 32671 and 32672 have their bits on the first and on the second page of a map.
+const BOTH: &str = "--from 32671 --to 32672";
+
+// Blocks 32671 and 32672 have their bits on the first and on the second page of a map: its pages,
+// the words, and what is wanted of a run over eight pages.
+const TWO_PAGES: [(&[Parts<'static>], &str, Wanted<'static>, &[MapRead]); 7] = [
+    (
+        &[EMPTY, EMPTY],
+        BOTH,
+        (&[], "no page 0 32671\n", 6),
+        &[(1, 0, 1), (1, 1, 1), (0, 32671, 1)],
+    ),
+    (
+        &[LAST_MARKED, EMPTY],
+        BOTH,
+        (&[], "no page 0 32672\n", 6),
+        &[(1, 0, 1), (1, 1, 1), (0, 32672, 1)],
+    ),
+    (
+        &[LAST_MARKED, FIRST_MARKED],
+        BOTH,
+        (&[], "", 0),
+        &[(1, 0, 1), (1, 1, 1)],
+    ),
+    (
+        &[LAST_MARKED],
+        BOTH,
+        (&[], "no page 0 32672\n", 6),
+        &[(1, 0, 1), (0, 32672, 1)],
+    ),
+    (
+        &[LAST_MARKED, DAMAGED],
+        BOTH,
+        (&[], "invalid page 1 1\n", 1),
+        &[(1, 0, 1), (1, 1, 1)],
+    ),
+    (
+        &[LAST_MARKED, DAMAGED],
+        "--zero-damaged --from 32671 --to 32672",
+        (&[], "zeroed page 1 1\nno page 0 32672\n", 6),
+        &[(1, 0, 1), (1, 1, 1), (0, 32672, 1)],
+    ),
+    (
+        &[LAST_MARKED, DAMAGED],
+        "--skip frozen --from 32671 --to 32671",
+        (&[], "", 0),
+        &[(1, 0, 1)],
+    ),
+];
+
 #[test]
 fn maps_of_two_pages(rt: HostRuntime) -> Result<(), Fail> {
-    let both = "--from 32671 --to 32672";
-    let first = [(1, 0, 1)];
-    let pages = [(1, 0, 1), (1, 1, 1)];
-    let then_last = [(1, 0, 1), (1, 1, 1), (0, 32671, 1)];
-    let then_first = [(1, 0, 1), (1, 1, 1), (0, 32672, 1)];
-    let of_one_page = [(1, 0, 1), (0, 32672, 1)];
-    let rows: [(&[Parts<'_>], &str, Wanted<'_>, &[MapRead]); 7] = [
-        (
-            &[EMPTY, EMPTY],
-            both,
-            (&[], "no page 0 32671\n", 6),
-            &then_last,
-        ),
-        (
-            &[LAST_MARKED, EMPTY],
-            both,
-            (&[], "no page 0 32672\n", 6),
-            &then_first,
-        ),
-        (&[LAST_MARKED, FIRST_MARKED], both, (&[], "", 0), &pages),
-        (
-            &[LAST_MARKED],
-            both,
-            (&[], "no page 0 32672\n", 6),
-            &of_one_page,
-        ),
-        (
-            &[LAST_MARKED, DAMAGED],
-            both,
-            (&[], "invalid page 1 1\n", 1),
-            &pages,
-        ),
-        (
-            &[LAST_MARKED, DAMAGED],
-            "--zero-damaged --from 32671 --to 32672",
-            (&[], "zeroed page 1 1\nno page 0 32672\n", 6),
-            &then_first,
-        ),
-        (
-            &[LAST_MARKED, DAMAGED],
-            "--skip frozen --from 32671 --to 32671",
-            (&[], "", 0),
-            &first,
-        ),
-    ];
-    for (map, words, wanted, reads) in rows {
+    for (map, words, wanted, reads) in TWO_PAGES {
         expect_reads(&rt, map, words, wanted, reads)?;
     }
     Ok(())
