@@ -54,7 +54,7 @@ fn expect_reads<R: Abort + AllocGlobal + Threads + Wait + Sync>(
 }
 
 // How many pages the file has, what the first reads give at most, the line, and the reads.
-const ROWS: [(&str, usize, &[u32], &str, &[Read]); 9] = [
+const ROWS: [(&str, usize, &[u32], &str, &[Read]); 10] = [
     (
         "runs grow with the distance",
         8,
@@ -83,6 +83,19 @@ const ROWS: [(&str, usize, &[u32], &str, &[Read]); 9] = [
             (63, 1, Some(1)),
             (64, 1, Some(1)),
             (65, 1, Some(1)),
+        ],
+    ),
+    (
+        "reads that are waited for at once stay with the backend",
+        31,
+        &[],
+        "--workers 1 --backends 1 --stats f",
+        &[
+            (0, 1, Some(1)),
+            (1, 2, Some(2)),
+            (3, 4, Some(4)),
+            (7, 8, Some(8)),
+            (15, 16, Some(16)),
         ],
     ),
     (
