@@ -3,6 +3,7 @@ use crate::laws::a_page_adds_few;
 use crate::{PageSums, page_text, tally, warning_text};
 use page_check::{Page, Verdict, check};
 use std::alloc::{AllocError, Global};
+use std::process::Abort;
 use std::test::Fail;
 
 // A page of zeros with lower, upper and special, and these bytes behind the header.
@@ -82,20 +83,31 @@ fn warnings_name_the_page(rt: HostRuntime) -> Result<(), Fail> {
     Ok(())
 }
 
-// The most line pointers that a page can have, behind what the vector held before.
-#[test]
-fn items_up_to_2042(rt: HostRuntime) -> Result<(), Fail> {
+// A page of so many line pointers that are not used, and its text behind what the vector held.
+fn check_unused<R: Abort + AllocGlobal>(rt: &R, lower: u16, count: u16) -> Result<(), Fail> {
     let alloc = rt.alloc();
-    let page = page_of(alloc, (8192, 8192, 8192), &[])?;
+    let page = page_of(alloc, (lower, 8192, 8192), &[])?;
     let mut wanted = String::from_str(alloc, "before\n")?;
-    wanted.push_str("page 0 0 lower 8192 upper 8192 special 8192 items 2042\n")?;
-    for number in 1..2043 {
-        writeln!(wanted, "item {number} unused 0 0")?;
+    writeln!(
+        wanted,
+        "page 0 0 lower {lower} upper 8192 special 8192 items {count}"
+    )?;
+    for number in 0..count {
+        writeln!(wanted, "item {} unused 0 0", u32::from(number) + 1)?;
     }
     let mut out = Vec::from_slice(alloc, b"before\n")?;
     assert!(rt; check(&page) == Verdict::Sane);
     page_text(0, 0, &page, &mut out)?;
-    assert_eq!(rt; out.as_slice(), wanted.as_str().as_bytes());
+    assert_eq!(rt; out.as_slice(), wanted.as_str().as_bytes(), "{count} items");
+    Ok(())
+}
+
+// As many line pointers as have a scratch on the stack, one more, and as many as a page can have.
+#[test]
+fn items_up_to_2042(rt: HostRuntime) -> Result<(), Fail> {
+    for (lower, count) in [(280, 64), (284, 65), (8192, 2042)] {
+        check_unused(&rt, lower, count)?;
+    }
     Ok(())
 }
 

@@ -19,7 +19,7 @@ use Rattle.scan_rounds.specs.Progress.{AreWaiting, HasGone}
 use Rattle.scan_rounds.specs.Jobs.{IsFresh, IsListed, AreAnswered, blocks_among, entries_in}
 use Rattle.scan_rounds.specs.Manners.{Manner}
 use Rattle.scan_rounds.specs.Skipping.{Skips}
-use Rattle.scan_rounds.specs.Rounds.{AllGoOn, AreListed, hand_of, taken_by}
+use Rattle.scan_rounds.specs.Rounds.{AllGoOn, hand_of, taken_by}
 use Rattle.read_stream.specs.Went.{local_marks}
 use Rattle.scan_rounds.specs.declared.job.Job.{Job}
 use Rattle.scan_rounds.proofs.Blocks.{answer_wider}
@@ -184,15 +184,6 @@ anyway {skips} how told may j k is = record {
   };
   quiet = is.quiet;
 }
-
-pub answered_by : {W D : Type 0} {skips : Option Skips} (how : Manner) (told : Option Told)
-    (bs cs : List (Backend W D)) (js ks : List Job) → 1 ≤ length bs
-    → AreListed skips how told bs cs js ks → AreAnswered skips how told js ks
-answered_by how told (b ∷ bs) cs js ks some is = record {
-  as_many = is.jobs_are;
-  each = λ i j lt. anyway how told _ _ _ (is.each i b j lt);
-}
-answered_by how told [] cs js ks some is = absurd (omega arith)
 
 -- by the agenda's manner, and what it leaves out, before and after it put them
 pub answered_as : (skips skips' : Option Skips) (how how' : Manner) (told : Option Told)

@@ -1,11 +1,11 @@
 -- Jobs that a backend does one after the other, and what a turn of all makes of a scan.
-use Rattle.std.proofs.Common.{◌≡◌, ℕ, zero, suc, ◌+◌, ◌*◌, ◌<◌, ◌≤◌, List, [], ◌∷◌, ◌++◌, length}
-use Rattle.std.proofs.Common.{map, take, sum_by, cond, Bool, true, false, refl, sym, ap, ◌∙◌, subst}
+use Rattle.std.proofs.Common.{◌≡◌, ℕ, zero, suc, ◌+◌, ◌*◌, ◌<◌, ◌≤◌, List, [], ◌∷◌, length}
+use Rattle.std.proofs.Common.{map, cond, Bool, true, false, refl, sym, ap, ◌∙◌, subst}
 use Rattle.std.proofs.Common.{arith}
 use Rattle.std.specs.Prelude.{slice_index_or, Option, ⊤}
 use Rattle.std.specs.List.{All}
 use Rattle.std.proofs.lemmas.List.{length-map}
-use Rattle.std.proofs.lemmas.List.Elements.{All-cons, All-nil, All-head, All-tail}
+use Rattle.std.proofs.lemmas.List.Elements.{All-cons, All-nil, All-tail}
 use Rattle.std.proofs.lemmas.List.Sums.{sum_by-cons}
 use Rattle.std.proofs.lemmas.Grind.{div_ceil_times}
 use Rattle.std.specs.Int.{div_ceil}
@@ -13,13 +13,10 @@ use native.Mathlib.Nat.{mul-le-mul, add-mul}
 use mathlib.Core.Logic.{dite}
 use native.Mathlib.Decide.{dec_le}
 use Rattle.page_check.specs.Told.{Told}
-use Rattle.aio_word.specs.Events.{lives}
 use Rattle.aio_word.specs.Tokens.{failed_results}
 use Rattle.aio_handle.specs.Shown.{Named}
 use Rattle.method_worker.specs.Shown.{Queue}
-use Rattle.read_stream.specs.Answering.{MayBeUnread}
-use Rattle.read_stream.specs.Went.{local_marks}
-use Rattle.scan_rounds.specs.Hands.{Meter, IsBackend, GoesOn, HasRoom, manner_of}
+use Rattle.scan_rounds.specs.Hands.{Meter, IsBackend, HasRoom, manner_of}
 use Rattle.scan_rounds.specs.Jobs.{IsFresh, IsListed, AreAnswered, entries_in, is_unread}
 use Rattle.scan_rounds.specs.Jobs.{blocks_among}
 use Rattle.scan_rounds.specs.Manners.{Manner}
@@ -27,7 +24,6 @@ use Rattle.scan_rounds.specs.Rounds.{AllGoOn, AllListIn, hand_of}
 use Rattle.scan_rounds.specs.Skipping.{Skips}
 use Rattle.scan_rounds.proofs.TurnLaws.{answers_joined}
 use Rattle.scan_rounds.specs.Turns.{Did, MayTurn, HasTurned}
-use Rattle.scan_rounds.specs.declared.hand.Hand.{Hand}
 use Rattle.scan_rounds.specs.declared.backend.Backend.{Backend}
 use Rattle.scan_rounds.specs.declared.job.Job.{Job}
 use Rattle.scan_rounds.proofs.Going.{anyway, goes_then, stays_put}

@@ -8,7 +8,7 @@ use Rattle.aio_handle.specs.Shown.{Named}
 use Rattle.method_worker.specs.Shown.{Queue}
 use Rattle.read_stream.specs.Answering.{MayBeUnread}
 use Rattle.read_stream.specs.Went.{local_marks}
-use Rattle.scan_rounds.specs.Hands.{Meter, IsBackend, IsReady, GoesOn, manner_of}
+use Rattle.scan_rounds.specs.Hands.{Meter, IsBackend, GoesOn, manner_of}
 use Rattle.scan_rounds.specs.Jobs.{IsFresh, IsListed, AreAnswered, entries_in, kept_among}
 use Rattle.scan_rounds.specs.Jobs.{unread_among}
 use Rattle.scan_rounds.specs.Manners.{Manner}

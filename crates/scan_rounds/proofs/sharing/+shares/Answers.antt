@@ -1,4 +1,4 @@
-use Rattle.std.proofs.Common.{refl, sym, ap, subst, arith, length, append-nil, [], ℕ, ◌*◌}
+use Rattle.std.proofs.Common.{refl, sym, ap, arith, append-nil, [], ℕ, ◌*◌}
 use Rattle.std.proofs.lemmas.List.{get_or_default}
 use Rattle.scan_rounds.proofs.Parted.{one_share, both_shares, accepts_front, accepts_back}
 use Rattle.scan_rounds.proofs.sharing.+shares.Goals as goal

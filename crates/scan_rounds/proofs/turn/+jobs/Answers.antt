@@ -1,6 +1,5 @@
-use Rattle.std.proofs.Common.{refl, sym, ap, ◌∙◌, subst, arith, length, List, ◌∷◌, [], ◌*◌, ◌+◌}
-use Rattle.std.specs.List.{All}
-use Rattle.std.proofs.lemmas.List.Elements.{All-head, All-rest}
+use Rattle.std.proofs.Common.{sym, subst, arith, length, List, ◌∷◌, [], ◌*◌, ◌+◌}
+use Rattle.std.proofs.lemmas.List.Elements.{All-rest}
 use Rattle.scan_rounds.specs.Hands.{meter}
 use Rattle.scan_rounds.specs.Jobs.{IsFresh}
 use Rattle.scan_rounds.specs.Skipping.{skips_of}

@@ -1,4 +1,4 @@
-use Rattle.std.proofs.Common.{arith, length, ◌*◌}
+use Rattle.std.proofs.Common.{arith, ◌*◌}
 use Rattle.std.specs.Prelude.{slice_index_or}
 use Rattle.scan_rounds.proofs.Raised.{raised_within}
 use Rattle.scan_rounds.proofs.Rooms.{fewer, least_falls}
