@@ -1,7 +1,7 @@
 //! What an actor keeps of its tokens over the calls of a batch, for callers that hold several. The
 //! functions do nothing: each is there for its contract. Those on other calls are
 //! `aio_handle::laws`.
-ghost use Rattle.std.specs.Prelude.{◌≡◌, ◌≢◌, ◌⊎◌, ℕ, List, [], ◌∷◌, ◌++◌};
+ghost use Rattle.std.specs.Prelude.{◌≢◌, ℕ, List, [], ◌∷◌, ◌++◌};
 ghost use Rattle.aio_word.specs.declared.Known.{Known};
 ghost use Rattle.aio_word.specs.declared.Step.TheVariants.{Stage};
 ghost use Rattle.aio_word.specs.declared.WaitRef.{WaitRef};

@@ -1,5 +1,5 @@
 //! Where the pages of a completed read go.
-ghost use Rattle.std.specs.Prelude.{◌≡◌, List, Option, [], ◌∷◌, IfSome, option_map};
+ghost use Rattle.std.specs.Prelude.{List, Option, [], ◌∷◌, IfSome, option_map};
 ghost use Rattle.aio_callback.specs.Good.{IsGood};
 ghost use Rattle.aio_callback.specs.Finished.{Finish, Grew};
 

@@ -1,8 +1,8 @@
 //! The machine of a program.
 
-ghost use Rattle.std.specs.Prelude.{◌≡◌, ◌<◌, ◌≤◌, ◌^◌, ℕ, IfOk, IfErr, IfSome, OnOk, Some};
+ghost use Rattle.std.specs.Prelude.{◌≡◌, ◌<◌, ◌≤◌, ◌^◌, IfOk, IfErr, IfSome, OnOk, Some};
 ghost use Rattle.std.specs.Prelude.{length, slice_get};
-ghost use Rattle.aio_word.specs.Events.{Machine as MachineState, stepped, has_out_from};
+ghost use Rattle.aio_word.specs.Events.{stepped, has_out_from};
 ghost use Rattle.aio_word.specs.Stands.{MachineStands};
 ghost use Rattle.aio_word.specs.Words.{IsLawful, packed};
 ghost use Rattle.aio_core.specs.Allowed.{permits, next_word_of, HasStep};

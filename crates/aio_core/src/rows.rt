@@ -1,6 +1,6 @@
 //! What each step does to a word, and which mark it leaves.
 
-ghost use Rattle.std.specs.Prelude.{◌≡◌, ◌<◌, ◌^◌, ℕ};
+ghost use Rattle.std.specs.Prelude.{◌≡◌, ◌<◌, ◌^◌};
 ghost use Rattle.aio_word.specs.Events.{after as word_after, leaves, word_in as plain_word};
 
 use aio_word::{Class, Kind, State, Step, Word};

@@ -1,5 +1,5 @@
 //! Shelves in memory.
-ghost use Rattle.std.specs.Prelude.{◌≡◌, ◌⊎◌, ◌≤◌, length, map, IfOk, OnOk, IfSome, IsErrOf};
+ghost use Rattle.std.specs.Prelude.{◌≡◌, ◌⊎◌, ◌≤◌, map, IfOk, OnOk, IsErrOf};
 ghost use Rattle.std.specs.Prelude.{IsTrue, Some, true, false, string_bytes};
 ghost use Rattle.aio_disk.specs.declared.fault.OpenFault.TheVariants.{Device, Memory};
 ghost use Rattle.aio_disk.specs.Shelf.{file_of, files_in, has_name, have_distinct_names};

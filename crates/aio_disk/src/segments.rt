@@ -1,6 +1,5 @@
 //! Relations in memory, cut into segments.
-ghost use Rattle.std.specs.Prelude.{◌≡◌, ◌≤◌, ◌<◌, length, IfOk, string_bytes};
-ghost use Rattle.page_check.specs.Told.{block_count, page_at};
+ghost use Rattle.std.specs.Prelude.{◌≡◌, ◌≤◌, ◌<◌, IfOk, string_bytes};
 ghost use Rattle.aio_disk.specs.Shelf.{contents_of, segment_name, segments_of};
 
 use crate::blocks::{Blocks, block_bytes, whole_blocks};

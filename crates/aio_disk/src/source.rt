@@ -1,5 +1,5 @@
 //! What real files are read by: bytes that come in parts, and calls that fail or are interrupted.
-ghost use Rattle.std.specs.Prelude.{◌≡◌, ◌≤◌, ◌<◌, ◌+◌, ◌*◌, ◌^◌, ◌⊎◌, ◌∷◌, [], length, None, IfOk};
+ghost use Rattle.std.specs.Prelude.{◌≡◌, ◌≤◌, ◌<◌, ◌+◌, ◌*◌, ◌^◌, ◌∷◌, [], length, None, IfOk};
 ghost use Rattle.std.specs.Prelude.{◌==◌, IfSome, Option, MatchResult};
 ghost use Rattle.std.specs.Option.{option_map};
 ghost use Rattle.page_check.specs.Told.{block_count};

@@ -1,7 +1,6 @@
 //! Whether an incarnation is done.
 ghost use Rattle.std.specs.Prelude.{◌<◌, IsTrue};
 ghost use Rattle.aio_word.specs.declared.Word.{Word};
-ghost use Rattle.aio_word.specs.Events.{handles};
 ghost use Rattle.aio_word.specs.Tokens.{IsSeenDone};
 ghost use Rattle.aio_handle.specs.Made.{Looked, Checked};
 

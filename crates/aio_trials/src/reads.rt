@@ -1,5 +1,5 @@
 //! The calls of a read's owner.
-ghost use Rattle.std.specs.Prelude.{◌≡◌, ◌≢◌, ◌≤◌, ◌<◌, [], ◌∷◌, List, IfSome, IsTrue, IsFalse};
+ghost use Rattle.std.specs.Prelude.{◌≢◌, ◌≤◌, ◌<◌, [], ◌∷◌, List, IfSome, IsTrue, IsFalse};
 ghost use Rattle.std.specs.Prelude.{length};
 ghost use Rattle.aio_word.specs.declared.WaitRef.{WaitRef};
 ghost use Rattle.aio_word.specs.declared.Word.{Word};

@@ -1,7 +1,7 @@
 //! The word of a handle as a number: state in bits 0 to 2, claim in bit 3, class in bits 4 and 5,
 //! generation from bit 6 on.
 
-ghost use Rattle.std.specs.Prelude.{◌≡◌, ◌≢◌, ◌<◌, ◌^◌, ℕ, IfOk, IfErr, IsTrue, ◌↔◌};
+ghost use Rattle.std.specs.Prelude.{◌≡◌, ◌<◌, ◌^◌, IfOk, IfErr, IsTrue, ◌↔◌};
 ghost use Rattle.aio_word.specs.declared.Word.{Word};
 ghost use Rattle.aio_word.specs.Words.{IsLawful, ClaimFits, ClassFits, packed, place_of, IsDone};
 ghost use Rattle.aio_word.specs.Words.{IsOfNoWord, number_of_state, number_of_class};

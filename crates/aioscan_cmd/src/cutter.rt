@@ -1,6 +1,6 @@
 //! Cuts the blocks that a command asks for into jobs, without a list of them.
-ghost use Rattle.std.specs.Prelude.{◌≡◌, ◌≤◌, ◌<◌, ◌+◌, ◌++◌, ◌^◌, [], ℕ, length, slice_index};
-ghost use Rattle.std.specs.Prelude.{IfSome, IfNone, IfOk};
+ghost use Rattle.std.specs.Prelude.{◌≡◌, ◌≤◌, ◌<◌, ◌+◌, ◌++◌, ◌^◌, [], length};
+ghost use Rattle.std.specs.Prelude.{IfSome, IfNone};
 ghost use Rattle.aioscan_cmd.specs.Command.{number_limit};
 ghost use Rattle.scan_rounds.specs.Opening.{AreSettings};
 ghost use Rattle.aioscan_cmd.specs.RequestList.{block_range};

@@ -1,5 +1,5 @@
 //! What is told on the error stream.
-ghost use Rattle.std.specs.Prelude.{◌≡◌, ◌≤◌, ◌++◌, [], IfOk, IfSome, IsNone, string_bytes, true};
+ghost use Rattle.std.specs.Prelude.{◌≡◌, ◌≤◌, ◌++◌, IfOk, IfSome, IsNone, string_bytes, true};
 ghost use Rattle.aioscan_cmd.specs.Outcomes.{line_of};
 ghost use Rattle.aioscan_cmd.specs.ErrorLine.{IsToldOnErr, HasNumbers, Tells, error_stream};
 ghost use Rattle.aioscan_cmd.specs.ErrorLine.{totals_line};

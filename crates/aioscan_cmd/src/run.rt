@@ -1,6 +1,6 @@
 //! The top call.
-ghost use Rattle.std.specs.Prelude.{◌≡◌, ◌≢◌, ◌<◌, ◌≤◌, ◌⊎◌, ℕ, List, length, map, None, Some};
-ghost use Rattle.std.specs.Prelude.{true, IfSome, string_bytes};
+ghost use Rattle.std.specs.Prelude.{◌≡◌, ◌≢◌, ◌<◌, ◌≤◌, ◌⊎◌, ℕ, List, map, None, Some};
+ghost use Rattle.std.specs.Prelude.{true, string_bytes};
 ghost use Rattle.aioscan_cmd.specs.Words.{command_of};
 ghost use Rattle.aioscan_cmd.specs.Outcomes.{status_of, is_refused};
 ghost use Rattle.aioscan_cmd.specs.Reading.{seen};

@@ -1,19 +1,15 @@
 //! Lists over opened disks what a command asks for.
-ghost use Rattle.std.specs.Prelude.{◌≡◌, ◌≢◌, ◌<◌, ◌≤◌, ◌+◌, ◌*◌, ◌^◌, ℕ, List, length, sum_by};
+ghost use Rattle.std.specs.Prelude.{◌≡◌, ◌≢◌, ◌<◌, ◌≤◌, ◌+◌, ◌*◌, ℕ, List, length, sum_by};
 ghost use Rattle.std.specs.Prelude.{None, Some, true, vec_len, vec_capacity};
 ghost use Rattle.std.specs.List.{All};
 ghost use Rattle.aio_disk.specs.Shelf.{told_of};
-ghost use Rattle.scan_rounds.specs.Hands.{meter};
 ghost use Rattle.scan_rounds.specs.Opening.{AreSettings};
-ghost use Rattle.scan_rounds.specs.Rounds.{taken_by};
-ghost use Rattle.scan_rounds.specs.Scans.{IsScan, IsSameScan, manner_in};
 ghost use Rattle.aioscan_cmd.specs.Command.{manner_by, relations_of};
 ghost use Rattle.aioscan_cmd.specs.Cutting.{IsAsked, request_list_for, requests_for, settings_for};
 ghost use Rattle.aioscan_cmd.specs.Disks.{IsUnread, disks_of};
 ghost use Rattle.aioscan_cmd.specs.Lengths.{HasLengths};
 ghost use Rattle.aioscan_cmd.specs.Reading.{Lists, HasWritten, seen, way_by};
 ghost use Rattle.aioscan_cmd.specs.Run.{Ran};
-ghost use Rattle.aioscan_cmd.specs.Scanning.{scan_in};
 ghost use Rattle.aioscan_cmd.specs.Causes.{HasScanned, HasCauses, CallsInOrder};
 ghost use Rattle.aioscan_cmd.specs.ErrorLine.{Warns, error_stream};
 ghost use Rattle.aioscan_cmd.specs.Sums.{HasSums, HasSumsTold};

@@ -1,5 +1,5 @@
 //! The line that warns of a page that was given as zeros.
-ghost use Rattle.std.specs.Prelude.{◌≡◌, ◌++◌, ◌<◌, ◌≤◌, ◌+◌, length, drop, codes, decimal};
+ghost use Rattle.std.specs.Prelude.{◌≡◌, ◌++◌, ◌<◌, ◌≤◌, ◌+◌, length, drop};
 ghost use Rattle.std.specs.Prelude.{OnOk, OnErr};
 ghost use Rattle.heap_scan.specs.Warnings.{warning_line};
 

@@ -3,15 +3,13 @@
 //! Items are followed one after the other, and the length of each chain is written down at its
 //! items. So no item is passed twice, also where two items step to the same one or steps go in a
 //! circle.
-ghost use Rattle.std.specs.Prelude.{◌≡◌, ℕ, ◌≤◌, ◌<◌, ◌+◌, List, [], true, false, length, OnOk};
-ghost use Rattle.std.specs.Prelude.{OnErr, IfOk, IfSome, Some, slice_index, slice_index_or, not};
-ghost use Rattle.std.specs.Prelude.{◌==◌, nat_eq, ◌++◌, ◌∷◌};
-ghost use Rattle.std.specs.List.{IsDistinct, list_any, range_with_len};
+ghost use Rattle.std.specs.Prelude.{◌≡◌, ℕ, ◌≤◌, ◌<◌, ◌+◌, [], true, false, length, OnOk};
+ghost use Rattle.std.specs.Prelude.{IfOk, IfSome, Some, slice_index, slice_index_or, ◌==◌};
 ghost use Rattle.page_check.specs.Verdict.{IsValid};
 ghost use Rattle.page_check.specs.LinePointers.{count_of};
 ghost use Rattle.heap_tuple.specs.Tuples.{step_of};
 ghost use Rattle.heap_tuple.specs.Chains.{Passes, has, is_root, roots_of, longest_of, chain_of};
-ghost use Rattle.heap_tuple.specs.Following.{AreLengths, GoesOnFor, IsPath, AreMarked, IsClosed};
+ghost use Rattle.heap_tuple.specs.Following.{AreLengths, IsPath, AreMarked, IsClosed};
 ghost use Rattle.heap_tuple.specs.Following.{AreReached};
 
 use crate::{step, tuple};

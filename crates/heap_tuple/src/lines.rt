@@ -1,7 +1,5 @@
 //! The lines of a page's tuples, each written from its end to its start.
-ghost use Rattle.std.specs.Prelude.{◌≡◌, ◌≢◌, ◌++◌, ◌∷◌, [], ◌<◌, ◌≤◌, ◌+◌, ◌*◌, length, drop};
-ghost use Rattle.std.specs.Prelude.{codes, decimal};
-ghost use Rattle.std.specs.List.{concat};
+ghost use Rattle.std.specs.Prelude.{◌≡◌, ◌≢◌, ◌++◌, ◌<◌, ◌≤◌, ◌+◌, ◌*◌, length, drop};
 ghost use Rattle.page_check.specs.Fields.{header_of};
 ghost use Rattle.page_check.specs.Verdict.{IsValid};
 ghost use Rattle.page_check.specs.LinePointers.{count_of};

@@ -1,5 +1,5 @@
 //! The steps of update chains.
-ghost use Rattle.std.specs.Prelude.{◌≡◌, ℕ, ◌<◌, ◌≤◌, ◌+◌, length, MatchOption, IfSome};
+ghost use Rattle.std.specs.Prelude.{◌≡◌, ℕ, ◌<◌, ◌+◌, MatchOption, IfSome};
 ghost use Rattle.page_check.specs.Verdict.{IsValid};
 ghost use Rattle.page_check.specs.LinePointers.{count_of};
 ghost use Rattle.heap_tuple.specs.Tuples.{Steps, step_of, is_made_by};

@@ -1,5 +1,5 @@
 //! Further I/Os for a group, from the submission queue.
-ghost use Rattle.std.specs.Prelude.{◌≡◌, ◌<◌, ◌≤◌, length};
+ghost use Rattle.std.specs.Prelude.{◌≡◌, ◌<◌, length};
 ghost use Rattle.aio_handle.specs.Shown.{IsOf, IsSame};
 ghost use Rattle.method_worker.specs.Shown.{IsSeatOf, IsSameSeat};
 ghost use Rattle.method_ring.specs.Holding.{AreHeld, AreBelow};

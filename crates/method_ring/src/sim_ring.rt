@@ -1,5 +1,5 @@
 //! A ring over a disk, which completes its reads in an order that is handed in.
-ghost use Rattle.std.specs.Prelude.{◌≡◌, ◌≢◌, ◌≤◌, ◌<◌, ◌+◌, ◌++◌, ◌∷◌, [], ℕ, length};
+ghost use Rattle.std.specs.Prelude.{◌≡◌, ◌≢◌, ◌≤◌, ◌<◌, ◌+◌, ◌++◌, ◌∷◌, [], length};
 ghost use Rattle.std.specs.Prelude.{Some, None, IfOk, IfErr, IfSome, IfNone};
 ghost use Rattle.aio_disk.specs.Counts.{HasCause, raised_by};
 ghost use Rattle.aio_disk.specs.Disk.{AnswersPages};

@@ -1,7 +1,5 @@
 //! Rings that complete in a given order.
-ghost use Rattle.std.specs.Prelude.{◌≡◌, ◌≢◌, ◌<◌, ◌≤◌, [], IfOk, IfNone, IfSome, length};
-ghost use Rattle.aio_word.specs.Stands.{IsIn};
-ghost use Rattle.method_ring.specs.declared.ring.Entry.{Entry};
+ghost use Rattle.std.specs.Prelude.{◌≡◌, ◌<◌, ◌≤◌, [], IfOk, length};
 ghost use Rattle.method_ring.specs.Trials.{AreReadInto};
 
 mod random_rings;

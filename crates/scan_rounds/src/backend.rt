@@ -1,5 +1,5 @@
 //! A backend: an actor with its disk, its desk and its job.
-ghost use Rattle.std.specs.Prelude.{◌≡◌, ◌<◌, ◌≤◌, [], IfSome};
+ghost use Rattle.std.specs.Prelude.{◌≡◌, ◌<◌, [], IfSome};
 ghost use Rattle.method_worker.specs.Shown.{IsSeatOf};
 ghost use Rattle.scan_rounds.specs.Hands.{HasReadMap, HasRoom, IsBackend, IsReady, Ran, meter};
 ghost use Rattle.scan_rounds.specs.Skipping.{skips_of};

@@ -1,6 +1,5 @@
 //! What a scan is asked for between its opening and its end.
 ghost use Rattle.std.specs.Prelude.{◌≡◌, ◌≤◌, ◌<◌, ◌+◌, ◌*◌, ℕ, [], length, None, Some};
-ghost use Rattle.std.specs.Prelude.{slice_index_or};
 ghost use Rattle.std.specs.List.{All};
 ghost use Rattle.aio_disk.specs.Counts.{raised_by};
 ghost use Rattle.scan_rounds.specs.Hands.{IsBackend, meter};

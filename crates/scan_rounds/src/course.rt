@@ -1,5 +1,5 @@
 //! The rounds of an agenda, one after the other.
-ghost use Rattle.std.specs.Prelude.{◌≡◌, ◌≤◌, ◌<◌, ◌+◌, ◌*◌, ◌-◌, ℕ, length, map, false, true};
+ghost use Rattle.std.specs.Prelude.{◌≡◌, ◌≤◌, ◌<◌, ◌+◌, ◌*◌, ◌-◌, length, map, false, true};
 ghost use Rattle.scan_rounds.specs.Hands.{meter};
 ghost use Rattle.scan_rounds.specs.Manners.{Manner};
 ghost use Rattle.scan_rounds.specs.Progress.{AreWaiting, HasGone};

@@ -1,5 +1,4 @@
 //! Takes the pages of a visibility map.
-ghost use Rattle.std.specs.Prelude.{◌≡◌};
 
 use crate::consumer::Consumer;
 use crate::job::Ending;

@@ -1,7 +1,6 @@
 //! Backends and workers in threads of their own.
-ghost use Rattle.std.specs.Prelude.{◌≡◌, ◌≤◌, ◌<◌, ◌+◌, ℕ, length, slice_index_or};
+ghost use Rattle.std.specs.Prelude.{◌<◌, ◌+◌};
 ghost use Rattle.std.specs.List.{All};
-ghost use Rattle.std.specs.Thread.{IsSync};
 ghost use Rattle.scan_rounds.specs.Hands.{MayRun, MayServe, Ran, Worked, meter};
 ghost use Rattle.scan_rounds.specs.Rounds.{AllRan, AllWorked};
 ghost use Rattle.scan_rounds.specs.Skipping.{skips_of};

@@ -1,5 +1,5 @@
 //! Tasks that are shared out to takers, each of which does its share in a thread of its own.
-ghost use Rattle.std.specs.Prelude.{◌≡◌, ◌≤◌, ◌*◌, ℕ, List, length};
+ghost use Rattle.std.specs.Prelude.{◌≤◌, ◌*◌, length};
 ghost use Rattle.std.specs.Thread.{IsSync, IsSend};
 ghost use Rattle.scan_rounds.specs.Shares.{AcceptsShares, AreShared};
 

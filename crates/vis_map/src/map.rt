@@ -1,7 +1,7 @@
 //! A map in memory.
 ghost use Rattle.std.specs.Prelude.{◌≡◌, ◌++◌, ◌∷◌, [], ◌+◌, ◌≤◌, ◌<◌, length, IfOk};
 ghost use Rattle.page_check.specs.Verdict.{IsValid};
-ghost use Rattle.vis_map.specs.Bits.{bits_of, bits_on, is_skipped, skips};
+ghost use Rattle.vis_map.specs.Bits.{bits_of, bits_on, skips};
 
 use page_check::Page;
 use std::alloc::{AllocError, Global};

@@ -1,5 +1,5 @@
 //! Random rings beside a plain list.
-ghost use Rattle.std.specs.Prelude.{◌<◌, ◌≤◌};
+ghost use Rattle.std.specs.Prelude.{◌<◌};
 
 use super::picks_and_reads;
 use std::alloc::{AllocError, Global};

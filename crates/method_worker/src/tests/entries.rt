@@ -1,5 +1,5 @@
 //! The references that the tests push, and the seats that push them.
-ghost use Rattle.std.specs.Prelude.{◌≡◌, ◌≤◌, ◌<◌, ◌+◌, ◌^◌, IfSome};
+ghost use Rattle.std.specs.Prelude.{◌≤◌, ◌<◌, ◌+◌, ◌^◌, IfSome};
 ghost use Rattle.std.specs.List.{All};
 ghost use Rattle.method_worker.specs.Shown.{IsSeatOf, IsSameSeat};
 
