@@ -1,6 +1,7 @@
 pub mod Lists
 pub mod Rooms
 pub mod Going
+pub mod Serving
 pub mod Counting
 pub mod Nexts
 pub mod Opening

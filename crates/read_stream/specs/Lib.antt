@@ -1,4 +1,5 @@
 pub mod Went
+pub mod Crews
 pub mod Issued
 pub mod Answering
 pub mod Parts

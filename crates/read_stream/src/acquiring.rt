@@ -2,9 +2,11 @@
 ghost use Rattle.std.specs.Prelude.{◌≡◌, ◌≤◌, ◌<◌, length, IfSome, IfNone, ℕ, List};
 ghost use Rattle.aio_handle.specs.Free.{HasNoneFree};
 ghost use Rattle.aio_handle.specs.Shown.{IsOf, IsSame};
+ghost use Rattle.read_stream.specs.Crews.{IsHanded, Serves};
 ghost use Rattle.read_plan.specs.declared.runs.Run.{Run};
 ghost use Rattle.read_stream.specs.Issued.{Issued, HandedBy, AreFor, records_in, made_in};
 
+use crate::crew::Crew;
 use crate::reads::Reads;
 use crate::scope::Scope;
 use aio_batch::Method;
@@ -46,37 +48,28 @@ impl<W: World> Reads<W> {
         &mut self,
         rt: &T,
         scope: &Scope<W>,
-        table: &Table<ReadIo, W>,
-        actor: &mut Actor<ReadIo, W>,
-        method: &mut M,
-        runner: &mut E,
+        crew: &mut Crew<W, M, E>,
     ) -> HandedOut<W>
-        requires table { IsOf table.now actor.old }
-        requires scope { IsOf table.now scope.now.was.value }
-        requires backend { actor.old.known.number < table.now.config.backends }
-        requires told { (E.told runner.old ≡ W.told) × (E.relations runner.old ≡ W.relations) }
-        requires issued { Issued scope.now W.told W.relations actor.old.known self.old }
+        requires handed { IsHanded E.told E.relations W.told W.relations scope.now crew.old }
+        requires issued { Issued scope.now W.told W.relations crew.old.actor.now.known self.old }
         requires credit { made_in self.old < scope.now.most }
-        ensures same { IsSame actor.old actor.new }
-        ensures told { (E.told runner.new ≡ E.told runner.old)
-            × (E.relations runner.new ≡ E.relations runner.old) }
-        ensures stands_on { M.stands_on method.new ≡ M.stands_on method.old }
-        ensures handed { HandedBy scope.now W.told W.relations actor.old.known actor.new.known
-            (E.reads runner.old) (E.reads runner.new) (E.faults runner.old) (E.faults runner.new)
-            self.new result }
+        ensures serves { Serves E.told E.relations E.reads E.faults M.stands_on crew.old crew.new }
+        ensures handed { HandedBy scope.now W.told W.relations crew.old.actor.now.known
+            crew.new.actor.now.known (E.reads crew.old.runner.now) (E.reads crew.new.runner.now)
+            (E.faults crew.old.runner.now) (E.faults crew.new.runner.now) self.new result }
         ensures all { (records_in self.new ≡ records_in self.old)
             × (made_in self.new ≡ made_in self.old)
             × (self.new.free ≡ self.old.free) × (self.new.credit ≡ self.old.credit) }
         ensures batch { length self.new.batch ≤ length self.old.batch }
-        ensures runs { (runs : List Run) → AreFor scope.now actor.old.known self.old runs
-            → AreFor scope.now actor.new.known self.new runs }
+        ensures runs { (runs : List Run) → AreFor scope.now crew.old.actor.now.known self.old runs
+            → AreFor scope.now crew.new.actor.now.known self.new runs }
     {
-        if let Some(token) = self.hand_out(scope, table, actor) {
+        if let Some(token) = self.hand_out(scope, crew.table, crew.actor) {
             return token;
         }
-        self.submit(rt, scope, table, actor, method, runner);
-        self.take_in(rt, scope, table, actor, runner);
-        match self.hand_out(scope, table, actor) {
+        self.submit(rt, scope, crew);
+        self.take_in(rt, scope, crew);
+        match self.hand_out(scope, crew.table, crew.actor) {
             Some(token) => token,
             None => unreachable!(),
         }

@@ -1,20 +1,20 @@
 //! How a stream looks ahead.
 ghost use Rattle.std.specs.Prelude.{◌≡◌, ◌<◌, ◌≤◌, ◌+◌, ◌-◌, ◌^◌, [], ◌∷◌, length, IsTrue, IfSome};
 ghost use Rattle.std.specs.Prelude.{true, false, ◌⊎◌};
-ghost use Rattle.aio_handle.specs.Shown.{IsOf, IsSame};
+ghost use Rattle.read_stream.specs.Crews.{IsHanded, Serves};
 ghost use Rattle.read_plan.specs.Plans.{MayLookAhead};
 ghost use Rattle.read_stream.specs.Wanted.{IsWant, blocks_by, runs_by};
 ghost use Rattle.read_stream.specs.Hands.{rest_of};
 ghost use Rattle.read_stream.specs.Open.{Underway, UnderwayBut};
 ghost use Rattle.read_stream.specs.Changes.{Asks, Puts, Stays};
-ghost use Rattle.read_stream.specs.Went.{Went};
 
+use crate::crew::Crew;
 use crate::queue::{Asked, Want};
 use crate::ring::push;
 use crate::stream::ReadStream;
 use aio_batch::Method;
 use aio_callback::ReadIo;
-use aio_handle::{Actor, Execute, Table};
+use aio_handle::Execute;
 use block_source::BlockSource;
 use buf_pool::{Look, Tag};
 use page_check::World;
@@ -26,34 +26,24 @@ impl<'d, 'p, W: World, S: BlockSource<P> + Drop, P: Copy> ReadStream<'d, 'p, W, 
     fn offer<M: Method<ReadIo, W>, E: Execute<ReadIo, W>, T: Wait>(
         &mut self,
         rt: &T,
-        table: &Table<ReadIo, W>,
-        actor: &mut Actor<ReadIo, W>,
-        method: &mut M,
-        runner: &mut E,
+        crew: &mut Crew<W, M, E>,
         block: u32,
     )
-        requires table { IsOf table.now actor.old }
-        requires scope { IsOf table.now self.old.scope.was.value }
-        requires backend { actor.old.known.number < table.now.config.backends }
-        requires told { (E.told runner.old ≡ W.told) × (E.relations runner.old ≡ W.relations) }
-        requires underway { UnderwayBut S.left W.told W.relations W.handles
-            (rest_of self.old.current self.old.step) (block ∷ []) 0 actor.old.known self.old }
+        requires handed { IsHanded E.told E.relations W.told W.relations self.old.scope crew.old }
+        requires underway { UnderwayBut S.left W.told W.relations W.handles (rest_of
+            self.old.current self.old.step) (block ∷ []) 0 crew.old.actor.now.known self.old }
         requires free { 1 < length self.old.desk.now.reads.free.items }
-        ensures same { IsSame actor.old actor.new }
-        ensures told { (E.told runner.new ≡ E.told runner.old)
-            × (E.relations runner.new ≡ E.relations runner.old) }
-        ensures went { Went actor.old.known actor.new.known (E.reads runner.old)
-            (E.reads runner.new) (E.faults runner.old) (E.faults runner.new) }
-        ensures stands_on { M.stands_on method.new ≡ M.stands_on method.old }
-        ensures underway { Underway S.left W.told W.relations W.handles actor.new.known self.new }
+        ensures serves { Serves E.told E.relations E.reads E.faults M.stands_on crew.old crew.new }
+        ensures underway { Underway S.left W.told W.relations W.handles crew.new.actor.now.known
+            self.new }
         ensures stays { Stays self.old self.new }
         ensures ahead { (self.new.plan.blocks_ahead ≡ self.old.plan.blocks_ahead)
             × (self.new.over ≡ self.old.over) }
     {
         match self.plan.offer(block) {
-            Offer::Flush(run) => self.start(rt, table, actor, method, runner, run),
+            Offer::Flush(run) => self.start(rt, crew, run),
             Offer::Start | Offer::Extended => {
-                self.start_whole(rt, table, actor, method, runner);
+                self.start_whole(rt, crew);
             }
         }
     }
@@ -106,33 +96,23 @@ impl<'d, 'p, W: World, S: BlockSource<P> + Drop, P: Copy> ReadStream<'d, 'p, W, 
     fn look_for<M: Method<ReadIo, W>, E: Execute<ReadIo, W>, T: Wait>(
         &mut self,
         rt: &T,
-        table: &Table<ReadIo, W>,
-        actor: &mut Actor<ReadIo, W>,
-        method: &mut M,
-        runner: &mut E,
+        crew: &mut Crew<W, M, E>,
         want: Want,
     )
-        requires table { IsOf table.now actor.old }
-        requires scope { IsOf table.now self.old.scope.was.value }
-        requires backend { actor.old.known.number < table.now.config.backends }
-        requires told { (E.told runner.old ≡ W.told) × (E.relations runner.old ≡ W.relations) }
-        requires underway { UnderwayBut S.left W.told W.relations W.handles
-            (rest_of self.old.current self.old.step) (blocks_by want) 0 actor.old.known self.old }
+        requires handed { IsHanded E.told E.relations W.told W.relations self.old.scope crew.old }
+        requires underway { UnderwayBut S.left W.told W.relations W.handles (rest_of
+            self.old.current self.old.step) (blocks_by want) 0 crew.old.actor.now.known self.old }
         requires want { IsWant self.old.desk.now.combine W.handles want × (runs_by want ≡ [])
             × (length (blocks_by want) ≡ 1) }
         requires free { 1 < length self.old.desk.now.reads.free.items }
-        ensures same { IsSame actor.old actor.new }
-        ensures told { (E.told runner.new ≡ E.told runner.old)
-            × (E.relations runner.new ≡ E.relations runner.old) }
-        ensures went { Went actor.old.known actor.new.known (E.reads runner.old)
-            (E.reads runner.new) (E.faults runner.old) (E.faults runner.new) }
-        ensures stands_on { M.stands_on method.new ≡ M.stands_on method.old }
-        ensures underway { Underway S.left W.told W.relations W.handles actor.new.known self.new }
+        ensures serves { Serves E.told E.relations E.reads E.faults M.stands_on crew.old crew.new }
+        ensures underway { Underway S.left W.told W.relations W.handles crew.new.actor.now.known
+            self.new }
         ensures stays { Stays self.old self.new }
         ensures ahead { (self.new.plan.blocks_ahead ≡ self.old.plan.blocks_ahead)
             × (self.new.over ≡ self.old.over) }
     {
-        self.start_pending(rt, table, actor, method, runner);
+        self.start_pending(rt, crew);
         self.put(want);
     }
 
@@ -140,24 +120,15 @@ impl<'d, 'p, W: World, S: BlockSource<P> + Drop, P: Copy> ReadStream<'d, 'p, W, 
     fn take_next<M: Method<ReadIo, W>, E: Execute<ReadIo, W>, T: Wait>(
         &mut self,
         rt: &T,
-        table: &Table<ReadIo, W>,
-        actor: &mut Actor<ReadIo, W>,
-        method: &mut M,
-        runner: &mut E,
+        crew: &mut Crew<W, M, E>,
     )
-        requires table { IsOf table.now actor.old }
-        requires scope { IsOf table.now self.old.scope.was.value }
-        requires backend { actor.old.known.number < table.now.config.backends }
-        requires told { (E.told runner.old ≡ W.told) × (E.relations runner.old ≡ W.relations) }
-        requires underway { Underway S.left W.told W.relations W.handles actor.old.known self.old }
+        requires handed { IsHanded E.told E.relations W.told W.relations self.old.scope crew.old }
+        requires underway { Underway S.left W.told W.relations W.handles crew.old.actor.now.known
+            self.old }
         requires ahead { MayLookAhead self.old.plan }
-        ensures same { IsSame actor.old actor.new }
-        ensures told { (E.told runner.new ≡ E.told runner.old)
-            × (E.relations runner.new ≡ E.relations runner.old) }
-        ensures went { Went actor.old.known actor.new.known (E.reads runner.old)
-            (E.reads runner.new) (E.faults runner.old) (E.faults runner.new) }
-        ensures stands_on { M.stands_on method.new ≡ M.stands_on method.old }
-        ensures underway { Underway S.left W.told W.relations W.handles actor.new.known self.new }
+        ensures serves { Serves E.told E.relations E.reads E.faults M.stands_on crew.old crew.new }
+        ensures underway { Underway S.left W.told W.relations W.handles crew.new.actor.now.known
+            self.new }
         ensures stays { Stays self.old self.new }
         ensures progress { IsTrue self.new.over
             ⊎ (self.new.plan.blocks_ahead ≡ self.old.plan.blocks_ahead + 1) }
@@ -172,8 +143,8 @@ impl<'d, 'p, W: World, S: BlockSource<P> + Drop, P: Copy> ReadStream<'d, 'p, W, 
         let want = self.from_pool(rt, taken.0);
         self.ask(taken.0, taken.1);
         match want {
-            Some(want) => self.look_for(rt, table, actor, method, runner, want),
-            None => self.offer(rt, table, actor, method, runner, taken.0),
+            Some(want) => self.look_for(rt, crew, want),
+            None => self.offer(rt, crew, taken.0),
         }
     }
 
@@ -191,29 +162,20 @@ impl<'d, 'p, W: World, S: BlockSource<P> + Drop, P: Copy> ReadStream<'d, 'p, W, 
     pub(crate) fn look_ahead<M: Method<ReadIo, W>, E: Execute<ReadIo, W>, T: Wait>(
         &mut self,
         rt: &T,
-        table: &Table<ReadIo, W>,
-        actor: &mut Actor<ReadIo, W>,
-        method: &mut M,
-        runner: &mut E,
+        crew: &mut Crew<W, M, E>,
     )
-        requires table { IsOf table.now actor.old }
-        requires scope { IsOf table.now self.old.scope.was.value }
-        requires backend { actor.old.known.number < table.now.config.backends }
-        requires told { (E.told runner.old ≡ W.told) × (E.relations runner.old ≡ W.relations) }
-        requires underway { Underway S.left W.told W.relations W.handles actor.old.known self.old }
-        ensures same { IsSame actor.old actor.new }
-        ensures told { (E.told runner.new ≡ E.told runner.old)
-            × (E.relations runner.new ≡ E.relations runner.old) }
-        ensures went { Went actor.old.known actor.new.known (E.reads runner.old)
-            (E.reads runner.new) (E.faults runner.old) (E.faults runner.new) }
-        ensures stands_on { M.stands_on method.new ≡ M.stands_on method.old }
-        ensures underway { Underway S.left W.told W.relations W.handles actor.new.known self.new }
+        requires handed { IsHanded E.told E.relations W.told W.relations self.old.scope crew.old }
+        requires underway { Underway S.left W.told W.relations W.handles crew.old.actor.now.known
+            self.old }
+        ensures serves { Serves E.told E.relations E.reads E.faults M.stands_on crew.old crew.new }
+        ensures underway { Underway S.left W.told W.relations W.handles crew.new.actor.now.known
+            self.new }
         ensures stays { Stays self.old self.new }
         ensures ended { self.new.desk.now.queue.items ≡ [] → self.new.current ≡ None
             → S.left self.new.source ≡ [] }
     {
         while self.wants_more() {
-            self.take_next(rt, table, actor, method, runner);
+            self.take_next(rt, crew);
         }
     }
 }

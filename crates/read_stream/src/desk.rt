@@ -1,17 +1,17 @@
 //! The memory of a stream.
 ghost use Rattle.std.specs.Prelude.{◌≡◌, ◌≤◌, ◌+◌, IfOk, IfSome, length};
-ghost use Rattle.aio_handle.specs.Shown.{IsOf, IsSame};
+ghost use Rattle.read_stream.specs.Crews.{IsHanded, Serves};
 ghost use Rattle.read_stream.specs.Issued.{Issued, records_in, made_in};
 ghost use Rattle.read_stream.specs.Desks.{IsSameDesk, AreSettings, IsFree};
 ghost use Rattle.read_stream.specs.Hands.{count_some};
-ghost use Rattle.read_stream.specs.Went.{Went};
 
+use crate::crew::Crew;
 use crate::queue::{Asked, Want};
 use crate::reads::Reads;
 use crate::scope::Scope;
 use aio_batch::Method;
 use aio_callback::ReadIo;
-use aio_handle::{Actor, Execute, Table};
+use aio_handle::Execute;
 use circular_buffer::HeapCircularBuffer;
 use page_check::World;
 use std::alloc::{AllocError, Global};
@@ -95,30 +95,22 @@ impl<W: World, P: Copy> Desk<W, P> {
         &mut self,
         rt: &T,
         scope: &Scope<W>,
-        table: &Table<ReadIo, W>,
-        actor: &mut Actor<ReadIo, W>,
-        method: &mut M,
-        runner: &mut E,
+        crew: &mut Crew<W, M, E>,
         current: Option<ReadIo>,
     ) -> u64
-        requires table { IsOf table.now actor.old }
-        requires scope { IsOf table.now scope.now.was.value }
-        requires told { (E.told runner.old ≡ W.told) × (E.relations runner.old ≡ W.relations) }
+        requires handed { IsHanded E.told E.relations W.told W.relations scope.now crew.old }
         requires settings { AreSettings self.old.combine self.old.ios self.old.limit
             self.old.segment }
         requires desk { (scope.now.combine ≡ self.old.combine)
             × (scope.now.total ≡ self.old.ios + 1) × (self.old.limit ≤ self.old.queue.capacity)
             × (self.old.limit ≤ self.old.wants.capacity) }
-        requires issued { Issued scope.now W.told W.relations actor.old.known self.old.reads }
+        requires issued { Issued scope.now W.told W.relations crew.old.actor.now.known
+            self.old.reads }
         requires current { IfSome current (λ io. length io.pages ≡ scope.now.combine) }
         requires all { records_in self.old.reads + count_some current ≡ scope.now.total }
-        ensures same { IsSame actor.old actor.new }
-        ensures told { (E.told runner.new ≡ E.told runner.old)
-            × (E.relations runner.new ≡ E.relations runner.old) }
-        ensures went { Went actor.old.known actor.new.known (E.reads runner.old)
-            (E.reads runner.new) (E.faults runner.old) (E.faults runner.new) }
-        ensures stands_on { M.stands_on method.new ≡ M.stands_on method.old }
-        ensures issued { Issued scope.now W.told W.relations actor.new.known self.new.reads }
+        ensures serves { Serves E.told E.relations E.reads E.faults M.stands_on crew.old crew.new }
+        ensures issued { Issued scope.now W.told W.relations crew.new.actor.now.known
+            self.new.reads }
         ensures free { IsFree self.new × IsSameDesk self.old self.new }
         ensures count { (result ≡ self.new.reads.taken_in)
             × (made_in self.new.reads ≡ made_in self.old.reads) }
@@ -128,9 +120,9 @@ impl<W: World, P: Copy> Desk<W, P> {
         match current {
             Some(io) => {
                 self.reads.release(io);
-                self.reads.finish(rt, scope, table, actor, method, runner)
+                self.reads.finish(rt, scope, crew)
             }
-            None => self.reads.finish(rt, scope, table, actor, method, runner),
+            None => self.reads.finish(rt, scope, crew),
         }
     }
 }

@@ -3,21 +3,21 @@ ghost use Rattle.std.specs.Prelude.{◌≡◌, ◌≤◌, ◌<◌, ◌+◌, ◌^
 ghost use Rattle.aio_word.specs.declared.WaitRef.{WaitRef};
 ghost use Rattle.aio_word.specs.Stands.{IsIn};
 ghost use Rattle.aio_word.specs.Tokens.{IsStaged};
-ghost use Rattle.aio_handle.specs.Shown.{IsOf, IsSame};
+ghost use Rattle.read_stream.specs.Crews.{IsHanded, Serves};
 ghost use Rattle.aio_callback.specs.Reading.{Reading, aimed_at};
 ghost use Rattle.aio_callback.specs.Cases.{stream_ids};
 ghost use Rattle.read_plan.specs.declared.runs.Run.{Run};
 ghost use Rattle.read_plan.specs.Runs.{IsRun};
 ghost use Rattle.read_stream.specs.Issued.{Issued, IssuedBut, IsAimed, IsNew, IsTakenIn, AreFor};
 ghost use Rattle.read_stream.specs.Issued.{records_in, made_in};
-ghost use Rattle.read_stream.specs.Went.{Went};
 
+use crate::crew::Crew;
 use crate::reads::Reads;
 use crate::ring::push;
 use crate::scope::Scope;
 use aio_batch::Method;
 use aio_callback::{CallbackId, ReadIo};
-use aio_handle::{Actor, Execute, Staged, Table};
+use aio_handle::{Execute, Staged};
 use aio_word::WaitRef;
 use buf_pool::{Pool, Tag};
 use method_sync::SyncMethod;
@@ -81,30 +81,23 @@ impl<W: World> Reads<W> {
         &mut self,
         rt: &T,
         scope: &Scope<W>,
-        table: &Table<ReadIo, W>,
-        actor: &mut Actor<ReadIo, W>,
-        method: &mut M,
-        runner: &mut E,
+        crew: &mut Crew<W, M, E>,
     )
-        requires table { IsOf table.now actor.old }
-        requires scope { IsOf table.now scope.now.was.value }
-        requires told { (E.told runner.old ≡ W.told) × (E.relations runner.old ≡ W.relations) }
-        requires issued { Issued scope.now W.told W.relations actor.old.known self.old }
-        ensures same { IsSame actor.old actor.new }
-        ensures told { (E.told runner.new ≡ E.told runner.old)
-            × (E.relations runner.new ≡ E.relations runner.old) }
-        ensures stands_on { M.stands_on method.new ≡ M.stands_on method.old }
-        ensures went { Went actor.old.known actor.new.known (E.reads runner.old)
-            (E.reads runner.new) (E.faults runner.old) (E.faults runner.new) }
-        ensures issued { Issued scope.now W.told W.relations actor.new.known self.new }
+        requires handed { IsHanded E.told E.relations W.told W.relations scope.now crew.old }
+        requires issued { Issued scope.now W.told W.relations crew.old.actor.now.known self.old }
+        ensures serves { Serves E.told E.relations E.reads E.faults M.stands_on crew.old crew.new }
+        ensures issued { Issued scope.now W.told W.relations crew.new.actor.now.known self.new }
         ensures none { self.new.batch ≡ [] }
         ensures all { (records_in self.new ≡ records_in self.old)
             × (made_in self.new ≡ made_in self.old)
             × (self.new.free ≡ self.old.free) × (self.new.credit ≡ self.old.credit) }
-        ensures runs { (runs : List Run) → AreFor scope.now actor.old.known self.old runs
-            → AreFor scope.now actor.new.known self.new runs }
+        ensures runs { (runs : List Run) → AreFor scope.now crew.old.actor.now.known self.old runs
+            → AreFor scope.now crew.new.actor.now.known self.new runs }
     {
-        while let Some(token) = self.batch.submit_next(rt, table, actor, method, runner) {
+        while let Some(token) = self
+            .batch
+            .submit_next(rt, crew.table, crew.actor, crew.method, crew.runner)
+        {
             push(&mut self.flights, token);
         }
     }
@@ -115,31 +108,20 @@ impl<W: World> Reads<W> {
         rt: &T,
         scope: &Scope<W>,
         pool: &Pool<W>,
-        table: &Table<ReadIo, W>,
-        actor: &mut Actor<ReadIo, W>,
-        method: &mut M,
-        runner: &mut E,
+        crew: &mut Crew<W, M, E>,
         io: ReadIo,
         run: Run,
     ) -> Staged<ReadIo, W>
-        requires table { IsOf table.now actor.old }
-        requires scope { IsOf table.now scope.now.was.value }
-        requires backend { actor.old.known.number < table.now.config.backends }
-        requires told { (E.told runner.old ≡ W.told) × (E.relations runner.old ≡ W.relations) }
-        requires issued { Issued scope.now W.told W.relations actor.old.known self.old }
+        requires handed { IsHanded E.told E.relations W.told W.relations scope.now crew.old }
+        requires issued { Issued scope.now W.told W.relations crew.old.actor.now.known self.old }
         requires relation { scope.now.relation < W.relations }
         requires record { length io.pages ≡ scope.now.combine }
         requires run { IsRun scope.now.combine run }
         requires credit { 0 < self.old.credit }
-        ensures same { IsSame actor.old actor.new }
-        ensures told { (E.told runner.new ≡ E.told runner.old)
-            × (E.relations runner.new ≡ E.relations runner.old) }
-        ensures stands_on { M.stands_on method.new ≡ M.stands_on method.old }
-        ensures went { Went actor.old.known actor.new.known (E.reads runner.old)
-            (E.reads runner.new) (E.faults runner.old) (E.faults runner.new) }
-        ensures issued { IssuedBut (result.0 ∷ []) scope.now W.told W.relations actor.new.known
-            self.new }
-        ensures token { IsStaged actor.new.known result.0 × IsAimed scope.now result.1
+        ensures serves { Serves E.told E.relations E.reads E.faults M.stands_on crew.old crew.new }
+        ensures issued { IssuedBut (result.0 ∷ []) scope.now W.told W.relations
+            crew.new.actor.now.known self.new }
+        ensures token { IsStaged crew.new.actor.now.known result.0 × IsAimed scope.now result.1
             × IsNew scope.now result.0 }
         ensures run { (result.1.first ≡ run.first) × (result.1.count ≡ run.count) }
         ensures apart { (u : WaitRef × Reading) → IsIn u self.new.batch → (u.0 ≡ result.0 → ⊥) }
@@ -147,15 +129,15 @@ impl<W: World> Reads<W> {
             × (made_in self.old ≡ made_in self.new + 1) × (self.new.free ≡ self.old.free)
             × (self.old.credit ≡ self.new.credit + 1) }
         ensures batch { length self.new.batch ≤ length self.old.batch }
-        ensures runs { (runs : List Run) → AreFor scope.now actor.old.known self.old runs
-            → AreFor scope.now actor.new.known self.new runs }
+        ensures runs { (runs : List Run) → AreFor scope.now crew.old.actor.now.known self.old runs
+            → AreFor scope.now crew.new.actor.now.known self.new runs }
     {
         self.credit -= 1;
-        let token = self.acquire(rt, scope, table, actor, method, runner);
+        let token = self.acquire(rt, scope, crew);
         let io = aimed(io, scope.relation, run, scope.zero);
-        let token = table.define(actor, token, io);
+        let token = crew.table.define(crew.actor, token, io);
         begin_blocks(rt, pool, scope.relation, run, token.reference());
-        table.stage(actor, token)
+        crew.table.stage(crew.actor, token)
     }
 
     // Puts the staged I/O into the batch.
@@ -175,42 +157,31 @@ impl<W: World> Reads<W> {
         rt: &T,
         scope: &Scope<W>,
         pool: &Pool<W>,
-        table: &Table<ReadIo, W>,
-        actor: &mut Actor<ReadIo, W>,
-        method: &mut M,
-        runner: &mut E,
+        crew: &mut Crew<W, M, E>,
         io: ReadIo,
         run: Run,
     )
-        requires table { IsOf table.now actor.old }
-        requires scope { IsOf table.now scope.now.was.value }
-        requires backend { actor.old.known.number < table.now.config.backends }
-        requires told { (E.told runner.old ≡ W.told) × (E.relations runner.old ≡ W.relations) }
-        requires issued { Issued scope.now W.told W.relations actor.old.known self.old }
+        requires handed { IsHanded E.told E.relations W.told W.relations scope.now crew.old }
+        requires issued { Issued scope.now W.told W.relations crew.old.actor.now.known self.old }
         requires relation { scope.now.relation < W.relations }
         requires few { length self.old.batch < 32 }
         requires room { records_in self.old < scope.now.total }
         requires record { length io.pages ≡ scope.now.combine }
         requires run { IsRun scope.now.combine run }
         requires credit { 0 < self.old.credit }
-        ensures same { IsSame actor.old actor.new }
-        ensures told { (E.told runner.new ≡ E.told runner.old)
-            × (E.relations runner.new ≡ E.relations runner.old) }
-        ensures stands_on { M.stands_on method.new ≡ M.stands_on method.old }
-        ensures went { Went actor.old.known actor.new.known (E.reads runner.old)
-            (E.reads runner.new) (E.faults runner.old) (E.faults runner.new) }
-        ensures issued { Issued scope.now W.told W.relations actor.new.known self.new }
+        ensures serves { Serves E.told E.relations E.reads E.faults M.stands_on crew.old crew.new }
+        ensures issued { Issued scope.now W.told W.relations crew.new.actor.now.known self.new }
         ensures few { length self.new.batch < 32 }
         ensures all { (records_in self.new ≡ records_in self.old + 1)
             × (made_in self.new ≡ made_in self.old) × (self.new.free ≡ self.old.free) }
-        ensures runs { (runs : List Run) → AreFor scope.now actor.old.known self.old runs
-            → AreFor scope.now actor.new.known self.new (runs ++ run ∷ []) }
+        ensures runs { (runs : List Run) → AreFor scope.now crew.old.actor.now.known self.old runs
+            → AreFor scope.now crew.new.actor.now.known self.new (runs ++ run ∷ []) }
         ensures credit { self.old.credit ≡ self.new.credit + 1 }
     {
-        let token = self.stage(rt, scope, pool, table, actor, method, runner, io, run);
+        let token = self.stage(rt, scope, pool, crew, io, run);
         self.put(token);
         if !scope.batched || self.batch.len() == MOST_STAGED {
-            self.submit(rt, scope, table, actor, method, runner);
+            self.submit(rt, scope, crew);
         }
     }
 
@@ -220,48 +191,37 @@ impl<W: World> Reads<W> {
         rt: &T,
         scope: &Scope<W>,
         pool: &Pool<W>,
-        table: &Table<ReadIo, W>,
-        actor: &mut Actor<ReadIo, W>,
-        method: &mut M,
-        runner: &mut E,
+        crew: &mut Crew<W, M, E>,
         io: ReadIo,
         run: Run,
     ) -> ReadIo
-        requires table { IsOf table.now actor.old }
-        requires scope { IsOf table.now scope.now.was.value }
-        requires backend { actor.old.known.number < table.now.config.backends }
-        requires told { (E.told runner.old ≡ W.told) × (E.relations runner.old ≡ W.relations) }
-        requires issued { Issued scope.now W.told W.relations actor.old.known self.old }
+        requires handed { IsHanded E.told E.relations W.told W.relations scope.now crew.old }
+        requires issued { Issued scope.now W.told W.relations crew.old.actor.now.known self.old }
         requires room { records_in self.old < scope.now.total }
         requires relation { scope.now.relation < W.relations }
         requires record { length io.pages ≡ scope.now.combine }
         requires run { IsRun scope.now.combine run }
         requires credit { 0 < self.old.credit }
-        ensures same { IsSame actor.old actor.new }
-        ensures told { (E.told runner.new ≡ E.told runner.old)
-            × (E.relations runner.new ≡ E.relations runner.old) }
-        ensures stands_on { M.stands_on method.new ≡ M.stands_on method.old }
-        ensures went { Went actor.old.known actor.new.known (E.reads runner.old)
-            (E.reads runner.new) (E.faults runner.old) (E.faults runner.new) }
-        ensures issued { Issued scope.now W.told W.relations actor.new.known self.new }
-        ensures record { IsTakenIn scope.now W.told W.relations actor.new.known result }
+        ensures serves { Serves E.told E.relations E.reads E.faults M.stands_on crew.old crew.new }
+        ensures issued { Issued scope.now W.told W.relations crew.new.actor.now.known self.new }
+        ensures record { IsTakenIn scope.now W.told W.relations crew.new.actor.now.known result }
         ensures run { (result.first ≡ run.first) × (result.count ≡ run.count) }
         ensures none { self.new.batch ≡ [] }
         ensures all { (records_in self.new ≡ records_in self.old)
             × (made_in self.new ≡ made_in self.old) × (self.new.free ≡ self.old.free) }
-        ensures runs { (runs : List Run) → AreFor scope.now actor.old.known self.old runs
-            → AreFor scope.now actor.new.known self.new runs }
+        ensures runs { (runs : List Run) → AreFor scope.now crew.old.actor.now.known self.old runs
+            → AreFor scope.now crew.new.actor.now.known self.new runs }
         ensures credit { self.old.credit ≡ self.new.credit + 1 }
     {
-        self.submit(rt, scope, table, actor, method, runner);
-        let token = self.stage(rt, scope, pool, table, actor, method, runner, io, run);
+        self.submit(rt, scope, crew);
+        let token = self.stage(rt, scope, pool, crew, io, run);
         self.put(token);
         let Some(token) = self
             .batch
-            .submit_next(rt, table, actor, &mut SyncMethod, runner)
+            .submit_next(rt, crew.table, crew.actor, &mut SyncMethod, crew.runner)
         else {
             unreachable!()
         };
-        self.settle(rt, scope, table, actor, runner, token)
+        self.settle(rt, scope, crew, token)
     }
 }

@@ -20,6 +20,7 @@
 mod acquiring;
 mod ahead;
 mod answer;
+mod crew;
 mod desk;
 #[cfg(test)]
 mod fault_tests;

@@ -1,14 +1,14 @@
 //! How a stream has the page of a block by the pool.
 ghost use Rattle.std.specs.Prelude.{◌≡◌, ◌<◌, [], ◌∷◌, List, ℕ};
-ghost use Rattle.aio_handle.specs.Shown.{IsOf, IsSame};
+ghost use Rattle.read_stream.specs.Crews.{IsHanded, Serves};
 ghost use Rattle.read_stream.specs.Open.{Reaches, UnderwayBut};
 ghost use Rattle.read_stream.specs.Changes.{Moves, Stays};
-ghost use Rattle.read_stream.specs.Went.{Went};
 
+use crate::crew::Crew;
 use crate::stream::ReadStream;
 use aio_batch::Method;
 use aio_callback::ReadIo;
-use aio_handle::{Actor, Execute, Table};
+use aio_handle::Execute;
 use aio_waitref::wait;
 use aio_word::WaitRef;
 use block_source::BlockSource;
@@ -23,35 +23,24 @@ impl<'d, 'p, W: World, S: BlockSource<P> + Drop, P: Copy> ReadStream<'d, 'p, W, 
     pub(crate) fn look<M: Method<ReadIo, W>, E: Execute<ReadIo, W>, T: Wait>(
         &mut self,
         rt: &T,
-        table: &Table<ReadIo, W>,
-        actor: &mut Actor<ReadIo, W>,
-        method: &mut M,
-        runner: &mut E,
+        crew: &mut Crew<W, M, E>,
         block: u32,
     )
-        requires table { IsOf table.now actor.old }
-        requires scope { IsOf table.now self.old.scope.was.value }
-        requires backend { actor.old.known.number < table.now.config.backends }
-        requires told { (E.told runner.old ≡ W.told) × (E.relations runner.old ≡ W.relations) }
+        requires handed { IsHanded E.told E.relations W.told W.relations self.old.scope crew.old }
         requires underway { UnderwayBut S.left W.told W.relations W.handles (block ∷ []) [] 0
-            actor.old.known self.old }
+            crew.old.actor.now.known self.old }
         requires none { (self.old.current ≡ None) × (self.old.pin ≡ None) }
-        ensures same { IsSame actor.old actor.new }
-        ensures told { (E.told runner.new ≡ E.told runner.old)
-            × (E.relations runner.new ≡ E.relations runner.old) }
-        ensures went { Went actor.old.known actor.new.known (E.reads runner.old)
-            (E.reads runner.new) (E.faults runner.old) (E.faults runner.new) }
-        ensures stands_on { M.stands_on method.new ≡ M.stands_on method.old }
-        ensures reaches { Reaches S.left W.told W.relations W.handles block actor.new.known
+        ensures serves { Serves E.told E.relations E.reads E.faults M.stands_on crew.old crew.new }
+        ensures reaches { Reaches S.left W.told W.relations W.handles block crew.new.actor.now.known
             self.new }
         ensures moves { Moves self.old self.new }
     {
         match self.pool.lookup(rt, self.tag(block)) {
             Found::Hit(pin) => self.hold(rt, pin),
             Found::Busy(reference) => {
-                self.join(rt, table, actor, method, runner, block, reference);
+                self.join(rt, crew, block, reference);
             }
-            Found::Absent => self.read_block(rt, table, actor, method, runner, block),
+            Found::Absent => self.read_block(rt, crew, block),
         }
     }
 
@@ -59,37 +48,26 @@ impl<'d, 'p, W: World, S: BlockSource<P> + Drop, P: Copy> ReadStream<'d, 'p, W, 
     pub(crate) fn join<M: Method<ReadIo, W>, E: Execute<ReadIo, W>, T: Wait>(
         &mut self,
         rt: &T,
-        table: &Table<ReadIo, W>,
-        actor: &mut Actor<ReadIo, W>,
-        method: &mut M,
-        runner: &mut E,
+        crew: &mut Crew<W, M, E>,
         block: u32,
         reference: WaitRef,
     )
-        requires table { IsOf table.now actor.old }
-        requires scope { IsOf table.now self.old.scope.was.value }
-        requires backend { actor.old.known.number < table.now.config.backends }
-        requires told { (E.told runner.old ≡ W.told) × (E.relations runner.old ≡ W.relations) }
+        requires handed { IsHanded E.told E.relations W.told W.relations self.old.scope crew.old }
         requires underway { UnderwayBut S.left W.told W.relations W.handles (block ∷ []) [] 0
-            actor.old.known self.old }
+            crew.old.actor.now.known self.old }
         requires none { (self.old.current ≡ None) × (self.old.pin ≡ None) }
         requires range { reference.handle < W.handles }
-        ensures same { IsSame actor.old actor.new }
-        ensures told { (E.told runner.new ≡ E.told runner.old)
-            × (E.relations runner.new ≡ E.relations runner.old) }
-        ensures went { Went actor.old.known actor.new.known (E.reads runner.old)
-            (E.reads runner.new) (E.faults runner.old) (E.faults runner.new) }
-        ensures stands_on { M.stands_on method.new ≡ M.stands_on method.old }
-        ensures reaches { Reaches S.left W.told W.relations W.handles block actor.new.known
+        ensures serves { Serves E.told E.relations E.reads E.faults M.stands_on crew.old crew.new }
+        ensures reaches { Reaches S.left W.told W.relations W.handles block crew.new.actor.now.known
             self.new }
         ensures moves { Moves self.old self.new }
     {
-        self.wait_for(rt, table, actor, method, runner, reference);
+        self.wait_for(rt, crew, reference);
         let found = self.pool.lookup(rt, self.tag(block));
         match found {
             Found::Hit(pin) => self.hold(rt, pin),
             Found::Busy(_) | Found::Absent => {
-                self.read_block(rt, table, actor, method, runner, block);
+                self.read_block(rt, crew, block);
             }
         }
     }
@@ -98,33 +76,22 @@ impl<'d, 'p, W: World, S: BlockSource<P> + Drop, P: Copy> ReadStream<'d, 'p, W, 
     fn wait_for<M: Method<ReadIo, W>, E: Execute<ReadIo, W>, T: Wait>(
         &mut self,
         rt: &T,
-        table: &Table<ReadIo, W>,
-        actor: &mut Actor<ReadIo, W>,
-        method: &mut M,
-        runner: &mut E,
+        crew: &mut Crew<W, M, E>,
         reference: WaitRef,
     )
-        requires table { IsOf table.now actor.old }
-        requires scope { IsOf table.now self.old.scope.was.value }
-        requires backend { actor.old.known.number < table.now.config.backends }
-        requires told { (E.told runner.old ≡ W.told) × (E.relations runner.old ≡ W.relations) }
-        requires underway { (hand : List ℕ)
-            × UnderwayBut S.left W.told W.relations W.handles hand [] 0 actor.old.known self.old }
+        requires handed { IsHanded E.told E.relations W.told W.relations self.old.scope crew.old }
+        requires underway { (hand : List ℕ) × UnderwayBut S.left W.told W.relations W.handles hand
+            [] 0 crew.old.actor.now.known self.old }
         requires range { reference.handle < W.handles }
-        ensures same { IsSame actor.old actor.new }
-        ensures told { (E.told runner.new ≡ E.told runner.old)
-            × (E.relations runner.new ≡ E.relations runner.old) }
-        ensures went { Went actor.old.known actor.new.known (E.reads runner.old)
-            (E.reads runner.new) (E.faults runner.old) (E.faults runner.new) }
-        ensures stands_on { M.stands_on method.new ≡ M.stands_on method.old }
-        ensures underway { (hand : List ℕ)
-            → UnderwayBut S.left W.told W.relations W.handles hand [] 0 actor.old.known self.old
-            → UnderwayBut S.left W.told W.relations W.handles hand [] 0 actor.new.known self.new }
+        ensures serves { Serves E.told E.relations E.reads E.faults M.stands_on crew.old crew.new }
+        ensures underway { (hand : List ℕ) → UnderwayBut S.left W.told W.relations W.handles hand []
+            0 crew.old.actor.now.known self.old → UnderwayBut S.left W.told W.relations W.handles
+            hand [] 0 crew.new.actor.now.known self.new }
         ensures stays { Stays self.old self.new }
         ensures moves { Moves self.old self.new }
     {
-        self.submit(rt, table, actor, method, runner);
-        wait(rt, table, actor, reference, runner);
+        self.submit(rt, crew);
+        wait(rt, crew.table, crew.actor, reference, crew.runner);
         self.plan.waited();
     }
 
@@ -150,26 +117,15 @@ impl<'d, 'p, W: World, S: BlockSource<P> + Drop, P: Copy> ReadStream<'d, 'p, W, 
     fn read_block<M: Method<ReadIo, W>, E: Execute<ReadIo, W>, T: Wait>(
         &mut self,
         rt: &T,
-        table: &Table<ReadIo, W>,
-        actor: &mut Actor<ReadIo, W>,
-        method: &mut M,
-        runner: &mut E,
+        crew: &mut Crew<W, M, E>,
         block: u32,
     )
-        requires table { IsOf table.now actor.old }
-        requires scope { IsOf table.now self.old.scope.was.value }
-        requires backend { actor.old.known.number < table.now.config.backends }
-        requires told { (E.told runner.old ≡ W.told) × (E.relations runner.old ≡ W.relations) }
+        requires handed { IsHanded E.told E.relations W.told W.relations self.old.scope crew.old }
         requires underway { UnderwayBut S.left W.told W.relations W.handles (block ∷ []) [] 0
-            actor.old.known self.old }
+            crew.old.actor.now.known self.old }
         requires none { (self.old.current ≡ None) × (self.old.pin ≡ None) }
-        ensures same { IsSame actor.old actor.new }
-        ensures told { (E.told runner.new ≡ E.told runner.old)
-            × (E.relations runner.new ≡ E.relations runner.old) }
-        ensures went { Went actor.old.known actor.new.known (E.reads runner.old)
-            (E.reads runner.new) (E.faults runner.old) (E.faults runner.new) }
-        ensures stands_on { M.stands_on method.new ≡ M.stands_on method.old }
-        ensures reaches { Reaches S.left W.told W.relations W.handles block actor.new.known
+        ensures serves { Serves E.told E.relations E.reads E.faults M.stands_on crew.old crew.new }
+        ensures reaches { Reaches S.left W.told W.relations W.handles block crew.new.actor.now.known
             self.new }
         ensures moves { Moves self.old self.new }
     {
@@ -181,6 +137,6 @@ impl<'d, 'p, W: World, S: BlockSource<P> + Drop, P: Copy> ReadStream<'d, 'p, W, 
             first: block,
             count: 1,
         };
-        self.read_run(rt, table, actor, method, runner, io, run);
+        self.read_run(rt, crew, io, run);
     }
 }

@@ -1,20 +1,20 @@
 //! When a stream starts the run that is pending.
 ghost use Rattle.std.specs.Prelude.{◌≡◌, ◌<◌, ◌-◌, ◌^◌, ◌++◌, List, ℕ, [], ◌∷◌, length, IsTrue};
-ghost use Rattle.aio_handle.specs.Shown.{IsOf, IsSame};
+ghost use Rattle.read_stream.specs.Crews.{IsHanded, Serves};
 ghost use Rattle.read_plan.specs.Runs.{IsRun};
 ghost use Rattle.read_plan.specs.declared.runs.Run.{Run};
 ghost use Rattle.read_stream.specs.Issued.{Issued, AreFor};
 ghost use Rattle.read_stream.specs.Hands.{rest_of};
 ghost use Rattle.read_stream.specs.Open.{Underway, UnderwayBut};
 ghost use Rattle.read_stream.specs.Changes.{Starts, Stays};
-ghost use Rattle.read_stream.specs.Went.{Went};
 
+use crate::crew::Crew;
 use crate::queue::Want;
 use crate::ring::push;
 use crate::stream::ReadStream;
 use aio_batch::Method;
 use aio_callback::ReadIo;
-use aio_handle::{Actor, Execute, Table};
+use aio_handle::Execute;
 use block_source::BlockSource;
 use method_sync::SyncMethod;
 use page_check::World;
@@ -27,17 +27,11 @@ impl<'d, 'p, W: World, S: BlockSource<P> + Drop, P: Copy> ReadStream<'d, 'p, W, 
     pub(crate) fn start<M: Method<ReadIo, W>, E: Execute<ReadIo, W>, T: Wait>(
         &mut self,
         rt: &T,
-        table: &Table<ReadIo, W>,
-        actor: &mut Actor<ReadIo, W>,
-        method: &mut M,
-        runner: &mut E,
+        crew: &mut Crew<W, M, E>,
         run: Run,
     )
-        requires table { IsOf table.now actor.old }
-        requires scope { IsOf table.now self.old.scope.was.value }
-        requires backend { actor.old.known.number < table.now.config.backends }
-        requires told { (E.told runner.old ≡ W.told) × (E.relations runner.old ≡ W.relations) }
-        requires issued { Issued self.old.scope W.told W.relations actor.old.known
+        requires handed { IsHanded E.told E.relations W.told W.relations self.old.scope crew.old }
+        requires issued { Issued self.old.scope W.told W.relations crew.old.actor.now.known
             self.old.desk.now.reads }
         requires relation { self.old.scope.relation < W.relations }
         requires run { IsRun self.old.scope.combine run }
@@ -46,17 +40,12 @@ impl<'d, 'p, W: World, S: BlockSource<P> + Drop, P: Copy> ReadStream<'d, 'p, W, 
         requires plan { self.old.plan.ios_in_progress < 2 ^ 32 - 1 }
         requires credit { 0 < self.old.desk.now.reads.credit }
         requires room { length self.old.desk.now.wants.items < self.old.desk.now.wants.capacity }
-        ensures same { IsSame actor.old actor.new }
-        ensures told { (E.told runner.new ≡ E.told runner.old)
-            × (E.relations runner.new ≡ E.relations runner.old) }
-        ensures went { Went actor.old.known actor.new.known (E.reads runner.old)
-            (E.reads runner.new) (E.faults runner.old) (E.faults runner.new) }
-        ensures stands_on { M.stands_on method.new ≡ M.stands_on method.old }
-        ensures issued { Issued self.new.scope W.told W.relations actor.new.known
+        ensures serves { Serves E.told E.relations E.reads E.faults M.stands_on crew.old crew.new }
+        ensures issued { Issued self.new.scope W.told W.relations crew.new.actor.now.known
             self.new.desk.now.reads }
         ensures few { length self.new.desk.now.reads.batch < 32 }
-        ensures runs { (runs : List Run) → AreFor self.old.scope actor.old.known
-            self.old.desk.now.reads runs → AreFor self.new.scope actor.new.known
+        ensures runs { (runs : List Run) → AreFor self.old.scope crew.old.actor.now.known
+            self.old.desk.now.reads runs → AreFor self.new.scope crew.new.actor.now.known
             self.new.desk.now.reads (runs ++ run ∷ []) }
         ensures starts { Starts run self.old self.new }
     {
@@ -66,29 +55,19 @@ impl<'d, 'p, W: World, S: BlockSource<P> + Drop, P: Copy> ReadStream<'d, 'p, W, 
         self.plan.started();
         push(&mut self.desk.wants, Want::Run(run));
         if self.is_alone() {
-            self.desk.reads.start(
-                rt,
-                &self.scope,
-                self.pool,
-                table,
-                actor,
-                &mut SyncMethod,
-                runner,
-                io,
-                run,
-            );
+            let mut by_itself = Crew {
+                table: crew.table,
+                actor: &mut *crew.actor,
+                method: &mut SyncMethod,
+                runner: &mut *crew.runner,
+            };
+            self.desk
+                .reads
+                .start(rt, &self.scope, self.pool, &mut by_itself, io, run);
         } else {
-            self.desk.reads.start(
-                rt,
-                &self.scope,
-                self.pool,
-                table,
-                actor,
-                method,
-                runner,
-                io,
-                run,
-            );
+            self.desk
+                .reads
+                .start(rt, &self.scope, self.pool, crew, io, run);
         }
     }
 
@@ -102,28 +81,17 @@ impl<'d, 'p, W: World, S: BlockSource<P> + Drop, P: Copy> ReadStream<'d, 'p, W, 
     pub(crate) fn start_pending<M: Method<ReadIo, W>, E: Execute<ReadIo, W>, T: Wait>(
         &mut self,
         rt: &T,
-        table: &Table<ReadIo, W>,
-        actor: &mut Actor<ReadIo, W>,
-        method: &mut M,
-        runner: &mut E,
+        crew: &mut Crew<W, M, E>,
     )
-        requires table { IsOf table.now actor.old }
-        requires scope { IsOf table.now self.old.scope.was.value }
-        requires backend { actor.old.known.number < table.now.config.backends }
-        requires told { (E.told runner.old ≡ W.told) × (E.relations runner.old ≡ W.relations) }
+        requires handed { IsHanded E.told E.relations W.told W.relations self.old.scope crew.old }
         requires underway { (behind : List ℕ) × UnderwayBut S.left W.told W.relations W.handles
-            (rest_of self.old.current self.old.step) behind 0 actor.old.known self.old }
+            (rest_of self.old.current self.old.step) behind 0 crew.old.actor.now.known self.old }
         requires free { 1 < length self.old.desk.now.reads.free.items }
-        ensures same { IsSame actor.old actor.new }
-        ensures told { (E.told runner.new ≡ E.told runner.old)
-            × (E.relations runner.new ≡ E.relations runner.old) }
-        ensures went { Went actor.old.known actor.new.known (E.reads runner.old)
-            (E.reads runner.new) (E.faults runner.old) (E.faults runner.new) }
-        ensures stands_on { M.stands_on method.new ≡ M.stands_on method.old }
+        ensures serves { Serves E.told E.relations E.reads E.faults M.stands_on crew.old crew.new }
         ensures underway { (behind : List ℕ) → UnderwayBut S.left W.told W.relations W.handles
-            (rest_of self.old.current self.old.step) behind 0 actor.old.known self.old
+            (rest_of self.old.current self.old.step) behind 0 crew.old.actor.now.known self.old
             → UnderwayBut S.left W.told W.relations W.handles
-            (rest_of self.new.current self.new.step) behind 0 actor.new.known self.new }
+            (rest_of self.new.current self.new.step) behind 0 crew.new.actor.now.known self.new }
         ensures none { self.new.plan.pending ≡ None }
         ensures stays { Stays self.old self.new }
         ensures ahead { (self.new.plan.blocks_ahead ≡ self.old.plan.blocks_ahead)
@@ -131,7 +99,7 @@ impl<'d, 'p, W: World, S: BlockSource<P> + Drop, P: Copy> ReadStream<'d, 'p, W, 
             × (self.new.desk.now.queue ≡ self.old.desk.now.queue) }
     {
         if let Some(run) = self.plan.take_pending() {
-            self.start(rt, table, actor, method, runner, run);
+            self.start(rt, crew, run);
         }
     }
 
@@ -139,30 +107,21 @@ impl<'d, 'p, W: World, S: BlockSource<P> + Drop, P: Copy> ReadStream<'d, 'p, W, 
     pub(crate) fn start_whole<M: Method<ReadIo, W>, E: Execute<ReadIo, W>, T: Wait>(
         &mut self,
         rt: &T,
-        table: &Table<ReadIo, W>,
-        actor: &mut Actor<ReadIo, W>,
-        method: &mut M,
-        runner: &mut E,
+        crew: &mut Crew<W, M, E>,
     )
-        requires table { IsOf table.now actor.old }
-        requires scope { IsOf table.now self.old.scope.was.value }
-        requires backend { actor.old.known.number < table.now.config.backends }
-        requires told { (E.told runner.old ≡ W.told) × (E.relations runner.old ≡ W.relations) }
-        requires underway { Underway S.left W.told W.relations W.handles actor.old.known self.old }
+        requires handed { IsHanded E.told E.relations W.told W.relations self.old.scope crew.old }
+        requires underway { Underway S.left W.told W.relations W.handles crew.old.actor.now.known
+            self.old }
         requires free { 1 < length self.old.desk.now.reads.free.items }
-        ensures same { IsSame actor.old actor.new }
-        ensures told { (E.told runner.new ≡ E.told runner.old)
-            × (E.relations runner.new ≡ E.relations runner.old) }
-        ensures went { Went actor.old.known actor.new.known (E.reads runner.old)
-            (E.reads runner.new) (E.faults runner.old) (E.faults runner.new) }
-        ensures stands_on { M.stands_on method.new ≡ M.stands_on method.old }
-        ensures underway { Underway S.left W.told W.relations W.handles actor.new.known self.new }
+        ensures serves { Serves E.told E.relations E.reads E.faults M.stands_on crew.old crew.new }
+        ensures underway { Underway S.left W.told W.relations W.handles crew.new.actor.now.known
+            self.new }
         ensures stays { Stays self.old self.new }
         ensures ahead { (self.new.plan.blocks_ahead ≡ self.old.plan.blocks_ahead)
             × (self.new.over ≡ self.old.over) }
     {
         if self.is_whole() {
-            self.start_pending(rt, table, actor, method, runner);
+            self.start_pending(rt, crew);
         }
     }
 
@@ -189,23 +148,14 @@ impl<'d, 'p, W: World, S: BlockSource<P> + Drop, P: Copy> ReadStream<'d, 'p, W, 
     pub(crate) fn start_last<M: Method<ReadIo, W>, E: Execute<ReadIo, W>, T: Wait>(
         &mut self,
         rt: &T,
-        table: &Table<ReadIo, W>,
-        actor: &mut Actor<ReadIo, W>,
-        method: &mut M,
-        runner: &mut E,
+        crew: &mut Crew<W, M, E>,
     )
-        requires table { IsOf table.now actor.old }
-        requires scope { IsOf table.now self.old.scope.was.value }
-        requires backend { actor.old.known.number < table.now.config.backends }
-        requires told { (E.told runner.old ≡ W.told) × (E.relations runner.old ≡ W.relations) }
-        requires underway { Underway S.left W.told W.relations W.handles actor.old.known self.old }
-        ensures same { IsSame actor.old actor.new }
-        ensures told { (E.told runner.new ≡ E.told runner.old)
-            × (E.relations runner.new ≡ E.relations runner.old) }
-        ensures went { Went actor.old.known actor.new.known (E.reads runner.old)
-            (E.reads runner.new) (E.faults runner.old) (E.faults runner.new) }
-        ensures stands_on { M.stands_on method.new ≡ M.stands_on method.old }
-        ensures underway { Underway S.left W.told W.relations W.handles actor.new.known self.new }
+        requires handed { IsHanded E.told E.relations W.told W.relations self.old.scope crew.old }
+        requires underway { Underway S.left W.told W.relations W.handles crew.old.actor.now.known
+            self.old }
+        ensures serves { Serves E.told E.relations E.reads E.faults M.stands_on crew.old crew.new }
+        ensures underway { Underway S.left W.told W.relations W.handles crew.new.actor.now.known
+            self.new }
         ensures stays { Stays self.old self.new }
         ensures none { self.new.desk.now.wants.items ≡ [] → self.new.current ≡ None
             → self.new.plan.pending ≡ None }
@@ -213,7 +163,7 @@ impl<'d, 'p, W: World, S: BlockSource<P> + Drop, P: Copy> ReadStream<'d, 'p, W, 
             × (self.new.source ≡ self.old.source) }
     {
         if self.may_start_last() {
-            self.start_pending(rt, table, actor, method, runner);
+            self.start_pending(rt, crew);
         }
     }
 }

@@ -1,19 +1,19 @@
 //! How a stream has the page of a block.
 ghost use Rattle.std.specs.Prelude.{◌≡◌, ◌<◌, [], map, IfSome, IfNone, slice_get};
-ghost use Rattle.aio_handle.specs.Shown.{IsOf, IsSame};
+ghost use Rattle.read_stream.specs.Crews.{IsHanded, Serves};
 ghost use Rattle.read_stream.specs.Wanted.{block_of};
 ghost use Rattle.read_stream.specs.Hands.{IsShown, IsGiving, IsStop};
 ghost use Rattle.read_stream.specs.Open.{Reaches, Underway, UnderwayBut};
 ghost use Rattle.read_stream.specs.Changes.{Moves, Skips};
 ghost use Rattle.read_stream.specs.declared.queue.Want.TheVariants.{Run as RunWant};
-ghost use Rattle.read_stream.specs.Went.{Went};
 
 use crate::answer::Ending;
+use crate::crew::Crew;
 use crate::queue::Want;
 use crate::stream::ReadStream;
 use aio_batch::Method;
 use aio_callback::ReadIo;
-use aio_handle::{Actor, Execute, Table};
+use aio_handle::Execute;
 use block_source::BlockSource;
 use page_check::World;
 use read_plan::Run;
@@ -24,74 +24,54 @@ impl<'d, 'p, W: World, S: BlockSource<P> + Drop, P: Copy> ReadStream<'d, 'p, W, 
     pub(crate) fn find<M: Method<ReadIo, W>, E: Execute<ReadIo, W>, T: Wait>(
         &mut self,
         rt: &T,
-        table: &Table<ReadIo, W>,
-        actor: &mut Actor<ReadIo, W>,
-        method: &mut M,
-        runner: &mut E,
+        crew: &mut Crew<W, M, E>,
         block: u32,
     ) -> Option<Ending>
-        requires table { IsOf table.now actor.old }
-        requires scope { IsOf table.now self.old.scope.was.value }
-        requires backend { actor.old.known.number < table.now.config.backends }
-        requires told { (E.told runner.old ≡ W.told) × (E.relations runner.old ≡ W.relations) }
-        requires underway { Underway S.left W.told W.relations W.handles actor.old.known self.old }
+        requires handed { IsHanded E.told E.relations W.told W.relations self.old.scope crew.old }
+        requires underway { Underway S.left W.told W.relations W.handles crew.old.actor.now.known
+            self.old }
         requires giving { IsGiving self.old.current self.old.step }
         requires none { self.old.pin ≡ None }
         requires front { slice_get (map block_of self.old.desk.now.queue.items) 0 ≡ Some block }
         requires last { self.old.desk.now.wants.items ≡ [] → self.old.current ≡ None
             → self.old.plan.pending ≡ None }
-        ensures same { IsSame actor.old actor.new }
-        ensures told { (E.told runner.new ≡ E.told runner.old)
-            × (E.relations runner.new ≡ E.relations runner.old) }
-        ensures went { Went actor.old.known actor.new.known (E.reads runner.old)
-            (E.reads runner.new) (E.faults runner.old) (E.faults runner.new) }
-        ensures stands_on { M.stands_on method.new ≡ M.stands_on method.old }
-        ensures reaches { Reaches S.left W.told W.relations W.handles block actor.new.known
+        ensures serves { Serves E.told E.relations E.reads E.faults M.stands_on crew.old crew.new }
+        ensures reaches { Reaches S.left W.told W.relations W.handles block crew.new.actor.now.known
             self.new }
         ensures moves { Moves self.old self.new }
         ensures page { IfNone result
             (IsShown W.told self.new.scope.relation self.new.pin self.new.current block) }
         ensures stop { IfSome result (IsStop W.told self.new.current block) }
     {
-        self.reach(rt, table, actor, method, runner, block);
+        self.reach(rt, crew, block);
         if self.current.is_none() {
             return None;
         }
-        self.read(rt, table, actor, method, runner, block)
+        self.read(rt, crew, block)
     }
 
     // Has the block at the front under the pin, or its record as the one whose pages are given.
     fn reach<M: Method<ReadIo, W>, E: Execute<ReadIo, W>, T: Wait>(
         &mut self,
         rt: &T,
-        table: &Table<ReadIo, W>,
-        actor: &mut Actor<ReadIo, W>,
-        method: &mut M,
-        runner: &mut E,
+        crew: &mut Crew<W, M, E>,
         block: u32,
     )
-        requires table { IsOf table.now actor.old }
-        requires scope { IsOf table.now self.old.scope.was.value }
-        requires backend { actor.old.known.number < table.now.config.backends }
-        requires told { (E.told runner.old ≡ W.told) × (E.relations runner.old ≡ W.relations) }
-        requires underway { Underway S.left W.told W.relations W.handles actor.old.known self.old }
+        requires handed { IsHanded E.told E.relations W.told W.relations self.old.scope crew.old }
+        requires underway { Underway S.left W.told W.relations W.handles crew.old.actor.now.known
+            self.old }
         requires giving { IsGiving self.old.current self.old.step }
         requires none { self.old.pin ≡ None }
         requires front { slice_get (map block_of self.old.desk.now.queue.items) 0 ≡ Some block }
         requires last { self.old.desk.now.wants.items ≡ [] → self.old.current ≡ None
             → self.old.plan.pending ≡ None }
-        ensures same { IsSame actor.old actor.new }
-        ensures told { (E.told runner.new ≡ E.told runner.old)
-            × (E.relations runner.new ≡ E.relations runner.old) }
-        ensures went { Went actor.old.known actor.new.known (E.reads runner.old)
-            (E.reads runner.new) (E.faults runner.old) (E.faults runner.new) }
-        ensures stands_on { M.stands_on method.new ≡ M.stands_on method.old }
-        ensures reaches { Reaches S.left W.told W.relations W.handles block actor.new.known
+        ensures serves { Serves E.told E.relations E.reads E.faults M.stands_on crew.old crew.new }
+        ensures reaches { Reaches S.left W.told W.relations W.handles block crew.new.actor.now.known
             self.new }
         ensures moves { Moves self.old self.new }
     {
         if self.current.is_none() {
-            self.take_up(rt, table, actor, method, runner, block);
+            self.take_up(rt, crew, block);
         }
     }
 
@@ -99,41 +79,30 @@ impl<'d, 'p, W: World, S: BlockSource<P> + Drop, P: Copy> ReadStream<'d, 'p, W, 
     fn take_up<M: Method<ReadIo, W>, E: Execute<ReadIo, W>, T: Wait>(
         &mut self,
         rt: &T,
-        table: &Table<ReadIo, W>,
-        actor: &mut Actor<ReadIo, W>,
-        method: &mut M,
-        runner: &mut E,
+        crew: &mut Crew<W, M, E>,
         block: u32,
     )
-        requires table { IsOf table.now actor.old }
-        requires scope { IsOf table.now self.old.scope.was.value }
-        requires backend { actor.old.known.number < table.now.config.backends }
-        requires told { (E.told runner.old ≡ W.told) × (E.relations runner.old ≡ W.relations) }
+        requires handed { IsHanded E.told E.relations W.told W.relations self.old.scope crew.old }
         requires underway { UnderwayBut S.left W.told W.relations W.handles [] [] 0
-            actor.old.known self.old }
+            crew.old.actor.now.known self.old }
         requires none { (self.old.current ≡ None) × (self.old.pin ≡ None) }
         requires front { slice_get (map block_of self.old.desk.now.queue.items) 0 ≡ Some block }
         requires last { self.old.desk.now.wants.items ≡ [] → self.old.current ≡ None
             → self.old.plan.pending ≡ None }
-        ensures same { IsSame actor.old actor.new }
-        ensures told { (E.told runner.new ≡ E.told runner.old)
-            × (E.relations runner.new ≡ E.relations runner.old) }
-        ensures went { Went actor.old.known actor.new.known (E.reads runner.old)
-            (E.reads runner.new) (E.faults runner.old) (E.faults runner.new) }
-        ensures stands_on { M.stands_on method.new ≡ M.stands_on method.old }
-        ensures reaches { Reaches S.left W.told W.relations W.handles block actor.new.known
+        ensures serves { Serves E.told E.relations E.reads E.faults M.stands_on crew.old crew.new }
+        ensures reaches { Reaches S.left W.told W.relations W.handles block crew.new.actor.now.known
             self.new }
         ensures moves { Moves self.old self.new }
     {
         match self.next_want() {
-            Some(Want::Run(run)) => self.take_run(rt, table, actor, method, runner, block, run),
+            Some(Want::Run(run)) => self.take_run(rt, crew, block, run),
             Some(Want::Look(_)) => {
                 self.skip_want();
-                self.look(rt, table, actor, method, runner, block);
+                self.look(rt, crew, block);
             }
             Some(Want::Join(_, reference)) => {
                 self.skip_want();
-                self.join(rt, table, actor, method, runner, block, reference);
+                self.join(rt, crew, block, reference);
             }
             None => unreachable!(),
         }
@@ -157,70 +126,46 @@ impl<'d, 'p, W: World, S: BlockSource<P> + Drop, P: Copy> ReadStream<'d, 'p, W, 
     fn take_run<M: Method<ReadIo, W>, E: Execute<ReadIo, W>, T: Wait>(
         &mut self,
         rt: &T,
-        table: &Table<ReadIo, W>,
-        actor: &mut Actor<ReadIo, W>,
-        method: &mut M,
-        runner: &mut E,
+        crew: &mut Crew<W, M, E>,
         block: u32,
         run: Run,
     )
-        requires table { IsOf table.now actor.old }
-        requires scope { IsOf table.now self.old.scope.was.value }
-        requires backend { actor.old.known.number < table.now.config.backends }
-        requires told { (E.told runner.old ≡ W.told) × (E.relations runner.old ≡ W.relations) }
+        requires handed { IsHanded E.told E.relations W.told W.relations self.old.scope crew.old }
         requires underway { UnderwayBut S.left W.told W.relations W.handles [] [] 0
-            actor.old.known self.old }
+            crew.old.actor.now.known self.old }
         requires none { (self.old.current ≡ None) × (self.old.pin ≡ None) }
         requires front { slice_get (map block_of self.old.desk.now.queue.items) 0 ≡ Some block }
         requires run { slice_get self.old.desk.now.wants.items 0 ≡ Some (RunWant run) }
-        ensures same { IsSame actor.old actor.new }
-        ensures told { (E.told runner.new ≡ E.told runner.old)
-            × (E.relations runner.new ≡ E.relations runner.old) }
-        ensures went { Went actor.old.known actor.new.known (E.reads runner.old)
-            (E.reads runner.new) (E.faults runner.old) (E.faults runner.new) }
-        ensures stands_on { M.stands_on method.new ≡ M.stands_on method.old }
-        ensures reaches { Reaches S.left W.told W.relations W.handles block actor.new.known
+        ensures serves { Serves E.told E.relations E.reads E.faults M.stands_on crew.old crew.new }
+        ensures reaches { Reaches S.left W.told W.relations W.handles block crew.new.actor.now.known
             self.new }
         ensures moves { Moves self.old self.new }
     {
-        self.submit(rt, table, actor, method, runner);
-        self.take_oldest(rt, table, actor, runner, block, run);
+        self.submit(rt, crew);
+        self.take_oldest(rt, crew, block, run);
     }
 
     // The same where nothing is staged.
-    fn take_oldest<E: Execute<ReadIo, W>, T: Wait>(
+    fn take_oldest<M: Method<ReadIo, W>, E: Execute<ReadIo, W>, T: Wait>(
         &mut self,
         rt: &T,
-        table: &Table<ReadIo, W>,
-        actor: &mut Actor<ReadIo, W>,
-        runner: &mut E,
+        crew: &mut Crew<W, M, E>,
         block: u32,
         run: Run,
     )
-        requires table { IsOf table.now actor.old }
-        requires scope { IsOf table.now self.old.scope.was.value }
-        requires backend { actor.old.known.number < table.now.config.backends }
-        requires told { (E.told runner.old ≡ W.told) × (E.relations runner.old ≡ W.relations) }
+        requires handed { IsHanded E.told E.relations W.told W.relations self.old.scope crew.old }
         requires underway { UnderwayBut S.left W.told W.relations W.handles [] [] 0
-            actor.old.known self.old }
+            crew.old.actor.now.known self.old }
         requires none { (self.old.current ≡ None) × (self.old.pin ≡ None) }
         requires front { slice_get (map block_of self.old.desk.now.queue.items) 0 ≡ Some block }
         requires run { slice_get self.old.desk.now.wants.items 0 ≡ Some (RunWant run) }
         requires staged { self.old.desk.now.reads.batch ≡ [] }
-        ensures same { IsSame actor.old actor.new }
-        ensures told { (E.told runner.new ≡ E.told runner.old)
-            × (E.relations runner.new ≡ E.relations runner.old) }
-        ensures went { Went actor.old.known actor.new.known (E.reads runner.old)
-            (E.reads runner.new) (E.faults runner.old) (E.faults runner.new) }
-        ensures reaches { Reaches S.left W.told W.relations W.handles block actor.new.known
+        ensures serves { Serves E.told E.relations E.reads E.faults M.stands_on crew.old crew.new }
+        ensures reaches { Reaches S.left W.told W.relations W.handles block crew.new.actor.now.known
             self.new }
         ensures moves { Moves self.old self.new }
     {
-        let Some(io) = self
-            .desk
-            .reads
-            .oldest(rt, &self.scope, table, actor, runner)
-        else {
+        let Some(io) = self.desk.reads.oldest(rt, &self.scope, crew) else {
             unreachable!()
         };
         self.skip_want();

@@ -1,7 +1,7 @@
 //! Reads that a stream waits for, and what their records have for a block.
 ghost use Rattle.std.specs.Prelude.{◌≡◌, ◌≢◌, ◌<◌, List, length, IfSome, IfNone};
 ghost use Rattle.aio_word.specs.declared.Class.TheVariants.{Unended};
-ghost use Rattle.aio_handle.specs.Shown.{IsOf, IsSame};
+ghost use Rattle.read_stream.specs.Crews.{IsHanded, Serves};
 ghost use Rattle.aio_callback.specs.Cases.{stream_ids};
 ghost use Rattle.aio_callback.specs.Reading.{Fits};
 ghost use Rattle.read_stream.specs.Issued.{Issued, AreFor, IsTakenIn, records_in};
@@ -12,14 +12,14 @@ ghost use Rattle.read_plan.specs.Runs.{IsRun};
 ghost use Rattle.read_plan.specs.declared.runs.Run.{Run};
 ghost use Rattle.read_stream.specs.declared.parts.Part.TheVariants.{Page};
 ghost use Rattle.read_stream.specs.Parts.{Has, IsPart};
-ghost use Rattle.read_stream.specs.Went.{Went};
 
 use crate::answer::Ending;
+use crate::crew::Crew;
 use crate::parts::{Part, part_of};
 use crate::stream::ReadStream;
 use aio_batch::Method;
 use aio_callback::ReadIo;
-use aio_handle::{Actor, Execute, Table};
+use aio_handle::Execute;
 use block_source::BlockSource;
 use page_check::World;
 use read_plan::Run;
@@ -30,51 +30,33 @@ impl<'d, 'p, W: World, S: BlockSource<P> + Drop, P: Copy> ReadStream<'d, 'p, W, 
     pub(crate) fn read_run<M: Method<ReadIo, W>, E: Execute<ReadIo, W>, T: Wait>(
         &mut self,
         rt: &T,
-        table: &Table<ReadIo, W>,
-        actor: &mut Actor<ReadIo, W>,
-        method: &mut M,
-        runner: &mut E,
+        crew: &mut Crew<W, M, E>,
         io: ReadIo,
         run: Run,
     )
-        requires table { IsOf table.now actor.old }
-        requires scope { IsOf table.now self.old.scope.was.value }
-        requires backend { actor.old.known.number < table.now.config.backends }
-        requires told { (E.told runner.old ≡ W.told) × (E.relations runner.old ≡ W.relations) }
-        requires issued { Issued self.old.scope W.told W.relations actor.old.known
+        requires handed { IsHanded E.told E.relations W.told W.relations self.old.scope crew.old }
+        requires issued { Issued self.old.scope W.told W.relations crew.old.actor.now.known
             self.old.desk.now.reads }
         requires relation { self.old.scope.relation < W.relations }
         requires room { records_in self.old.desk.now.reads < self.old.scope.total }
         requires record { length io.pages ≡ self.old.scope.combine }
         requires run { IsRun self.old.scope.combine run }
         requires credit { 0 < self.old.desk.now.reads.credit }
-        ensures same { IsSame actor.old actor.new }
-        ensures told { (E.told runner.new ≡ E.told runner.old)
-            × (E.relations runner.new ≡ E.relations runner.old) }
-        ensures went { Went actor.old.known actor.new.known (E.reads runner.old)
-            (E.reads runner.new) (E.faults runner.old) (E.faults runner.new) }
-        ensures stands_on { M.stands_on method.new ≡ M.stands_on method.old }
-        ensures issued { Issued self.new.scope W.told W.relations actor.new.known
+        ensures serves { Serves E.told E.relations E.reads E.faults M.stands_on crew.old crew.new }
+        ensures issued { Issued self.new.scope W.told W.relations crew.new.actor.now.known
             self.new.desk.now.reads }
         ensures record { IfSome self.new.current (λ r. IsTakenIn self.new.scope W.told W.relations
-            actor.new.known r × (r.first ≡ run.first) × (r.count ≡ run.count)) }
+            crew.new.actor.now.known r × (r.first ≡ run.first) × (r.count ≡ run.count)) }
         ensures some { self.new.current ≢ None }
-        ensures runs { (runs : List Run) → AreFor self.old.scope actor.old.known
-            self.old.desk.now.reads runs → AreFor self.new.scope actor.new.known
+        ensures runs { (runs : List Run) → AreFor self.old.scope crew.old.actor.now.known
+            self.old.desk.now.reads runs → AreFor self.new.scope crew.new.actor.now.known
             self.new.desk.now.reads runs }
         ensures reads { ReadsOne self.old self.new }
     {
-        let io = self.desk.reads.read(
-            rt,
-            &self.scope,
-            self.pool,
-            table,
-            actor,
-            method,
-            runner,
-            io,
-            run,
-        );
+        let io = self
+            .desk
+            .reads
+            .read(rt, &self.scope, self.pool, crew, io, run);
         self.current = Some(io);
         self.plan.waited();
     }
@@ -84,26 +66,15 @@ impl<'d, 'p, W: World, S: BlockSource<P> + Drop, P: Copy> ReadStream<'d, 'p, W, 
     pub(crate) fn read<M: Method<ReadIo, W>, E: Execute<ReadIo, W>, T: Wait>(
         &mut self,
         rt: &T,
-        table: &Table<ReadIo, W>,
-        actor: &mut Actor<ReadIo, W>,
-        method: &mut M,
-        runner: &mut E,
+        crew: &mut Crew<W, M, E>,
         block: u32,
     ) -> Option<Ending>
-        requires table { IsOf table.now actor.old }
-        requires scope { IsOf table.now self.old.scope.was.value }
-        requires backend { actor.old.known.number < table.now.config.backends }
-        requires told { (E.told runner.old ≡ W.told) × (E.relations runner.old ≡ W.relations) }
-        requires reaches { Reaches S.left W.told W.relations W.handles block actor.old.known
-            self.old }
+        requires handed { IsHanded E.told E.relations W.told W.relations self.old.scope crew.old }
+        requires reaches { Reaches S.left W.told W.relations W.handles block
+            crew.old.actor.now.known self.old }
         requires some { self.old.current ≢ None }
-        ensures same { IsSame actor.old actor.new }
-        ensures told { (E.told runner.new ≡ E.told runner.old)
-            × (E.relations runner.new ≡ E.relations runner.old) }
-        ensures went { Went actor.old.known actor.new.known (E.reads runner.old)
-            (E.reads runner.new) (E.faults runner.old) (E.faults runner.new) }
-        ensures stands_on { M.stands_on method.new ≡ M.stands_on method.old }
-        ensures reaches { Reaches S.left W.told W.relations W.handles block actor.new.known
+        ensures serves { Serves E.told E.relations E.reads E.faults M.stands_on crew.old crew.new }
+        ensures reaches { Reaches S.left W.told W.relations W.handles block crew.new.actor.now.known
             self.new }
         ensures moves { Moves self.old self.new }
         ensures page { IfNone result
@@ -114,7 +85,7 @@ impl<'d, 'p, W: World, S: BlockSource<P> + Drop, P: Copy> ReadStream<'d, 'p, W, 
             Part::Page => None,
             Part::Stop(ending) => Some(ending),
             Part::Rest => {
-                self.read_rest(rt, table, actor, method, runner, block);
+                self.read_rest(rt, crew, block);
                 self.part_of_rest(block)
             }
         }
@@ -156,27 +127,16 @@ impl<'d, 'p, W: World, S: BlockSource<P> + Drop, P: Copy> ReadStream<'d, 'p, W, 
     fn read_rest<M: Method<ReadIo, W>, E: Execute<ReadIo, W>, T: Wait>(
         &mut self,
         rt: &T,
-        table: &Table<ReadIo, W>,
-        actor: &mut Actor<ReadIo, W>,
-        method: &mut M,
-        runner: &mut E,
+        crew: &mut Crew<W, M, E>,
         block: u32,
     )
-        requires table { IsOf table.now actor.old }
-        requires scope { IsOf table.now self.old.scope.was.value }
-        requires backend { actor.old.known.number < table.now.config.backends }
-        requires told { (E.told runner.old ≡ W.told) × (E.relations runner.old ≡ W.relations) }
-        requires reaches { Reaches S.left W.told W.relations W.handles block actor.old.known
-            self.old }
+        requires handed { IsHanded E.told E.relations W.told W.relations self.old.scope crew.old }
+        requires reaches { Reaches S.left W.told W.relations W.handles block
+            crew.old.actor.now.known self.old }
         requires some { self.old.current ≢ None }
         requires behind { IfSome self.old.current (λ io. io.first < block) }
-        ensures same { IsSame actor.old actor.new }
-        ensures told { (E.told runner.new ≡ E.told runner.old)
-            × (E.relations runner.new ≡ E.relations runner.old) }
-        ensures went { Went actor.old.known actor.new.known (E.reads runner.old)
-            (E.reads runner.new) (E.faults runner.old) (E.faults runner.new) }
-        ensures stands_on { M.stands_on method.new ≡ M.stands_on method.old }
-        ensures reaches { Reaches S.left W.told W.relations W.handles block actor.new.known
+        ensures serves { Serves E.told E.relations E.reads E.faults M.stands_on crew.old crew.new }
+        ensures reaches { Reaches S.left W.told W.relations W.handles block crew.new.actor.now.known
             self.new }
         ensures moves { Moves self.old self.new }
         ensures first { IfSome self.new.current (λ io. io.first ≡ block)
@@ -189,6 +149,6 @@ impl<'d, 'p, W: World, S: BlockSource<P> + Drop, P: Copy> ReadStream<'d, 'p, W, 
             first: block,
             count: io.count() - (block - io.first()),
         };
-        self.read_run(rt, table, actor, method, runner, io, run);
+        self.read_run(rt, crew, io, run);
     }
 }

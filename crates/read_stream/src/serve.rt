@@ -3,22 +3,22 @@ ghost use Rattle.std.specs.Prelude.{◌≡◌, ◌≢◌, ◌+◌, ◌-◌, ◌^
 ghost use Rattle.std.specs.Prelude.{IsTrue, slice_get};
 ghost use Rattle.page_check.specs.SynchronousAnswer.{reader_of};
 ghost use Rattle.page_check.specs.IsAnswer.{IsNext};
-ghost use Rattle.aio_handle.specs.Shown.{IsOf, IsSame};
+ghost use Rattle.read_stream.specs.Crews.{IsHanded, Serves};
 ghost use Rattle.read_stream.specs.Answering.{entries_of, MayBeUnread, pages_in, said_by};
 ghost use Rattle.read_stream.specs.Answering.{IfStopped};
 ghost use Rattle.read_stream.specs.Hands.{IsLent, IsGiving, rest_of, shown};
 ghost use Rattle.read_stream.specs.Open.{IsBetween, IsOpen, Follows, Underway, UnderwayBut};
 ghost use Rattle.read_stream.specs.Changes.{Keeps, Moves, Gives, Stays};
 ghost use Rattle.read_stream.specs.declared.parts.Part.TheVariants.{Page};
-ghost use Rattle.read_stream.specs.Went.{Went};
 ghost use Rattle.read_stream.specs.declared.answer.Step.TheVariants.{Stop};
 
 use crate::answer::{Ending, Step};
+use crate::crew::Crew;
 use crate::queue::Asked;
 use crate::stream::ReadStream;
 use aio_batch::Method;
 use aio_callback::ReadIo;
-use aio_handle::{Actor, Execute, Table};
+use aio_handle::Execute;
 use block_source::BlockSource;
 use method_sync::SyncMethod;
 use page_check::World;
@@ -31,38 +31,29 @@ impl<'d, 'p, W: World, S: BlockSource<P> + Drop, P: Copy> ReadStream<'d, 'p, W, 
     pub(crate) fn advance<M: Method<ReadIo, W>, E: Execute<ReadIo, W>, T: Wait>(
         &mut self,
         rt: &T,
-        table: &Table<ReadIo, W>,
-        actor: &mut Actor<ReadIo, W>,
-        method: &mut M,
-        runner: &mut E,
+        crew: &mut Crew<W, M, E>,
     )
-        requires table { IsOf table.now actor.old }
-        requires told { (E.told runner.old ≡ W.told) × (E.relations runner.old ≡ W.relations) }
-        requires actor { actor.old ≡ self.old.actor_is.value }
+        requires handed { IsHanded E.told E.relations W.told W.relations self.old.scope crew.old }
+        requires actor { crew.old.actor.now ≡ self.old.actor_is.value }
         requires is_open { IsOpen S.left W.told W.relations W.handles self.old }
-        ensures same { IsSame actor.old actor.new }
-        ensures told { (E.told runner.new ≡ E.told runner.old)
-            × (E.relations runner.new ≡ E.relations runner.old) }
-        ensures went { Went actor.old.known actor.new.known (E.reads runner.old)
-            (E.reads runner.new) (E.faults runner.old) (E.faults runner.new) }
-        ensures stands_on { M.stands_on method.new ≡ M.stands_on method.old }
+        ensures serves { Serves E.told E.relations E.reads E.faults M.stands_on crew.old crew.new }
         ensures answer { IsNext (reader_of self.old.scope.zero W.told)
-            (MayBeUnread self.old.scope.was.value actor.new.known)
+            (MayBeUnread self.old.scope.was.value crew.new.actor.now.known)
             (entries_of self.old.scope.relation (S.left self.old.source_was.value)) self.old.given
             (said_by self.new.scope.relation self.new.step (shown self.new)) }
         ensures again { IfStopped self.old.step (λ e. self.new.step ≡ Stop e) }
-        ensures follows { Follows S.left W.told W.relations W.handles self.old self.new actor.new
-            (said_by self.new.scope.relation self.new.step (shown self.new)) }
+        ensures follows { Follows S.left W.told W.relations W.handles self.old self.new
+            crew.new.actor.now (said_by self.new.scope.relation self.new.step (shown self.new)) }
     {
         if let Step::Stop(_) = self.step {
             return;
         }
         self.let_go(rt);
-        self.look_ahead(rt, table, actor, method, runner);
-        self.submit(rt, table, actor, method, runner);
-        self.start_last(rt, table, actor, method, runner);
-        self.serve(rt, table, actor, method, runner);
-        self.actor_is = Snapshot::of(actor);
+        self.look_ahead(rt, crew);
+        self.submit(rt, crew);
+        self.start_last(rt, crew);
+        self.serve(rt, crew);
+        self.actor_is = Snapshot::of(crew.actor);
     }
 
     // Lets the page go that was lent last. The record of a run whose last page it was is free
@@ -120,39 +111,30 @@ impl<'d, 'p, W: World, S: BlockSource<P> + Drop, P: Copy> ReadStream<'d, 'p, W, 
     pub(crate) fn submit<M: Method<ReadIo, W>, E: Execute<ReadIo, W>, T: Wait>(
         &mut self,
         rt: &T,
-        table: &Table<ReadIo, W>,
-        actor: &mut Actor<ReadIo, W>,
-        method: &mut M,
-        runner: &mut E,
+        crew: &mut Crew<W, M, E>,
     )
-        requires table { IsOf table.now actor.old }
-        requires scope { IsOf table.now self.old.scope.was.value }
-        requires backend { actor.old.known.number < table.now.config.backends }
-        requires told { (E.told runner.old ≡ W.told) × (E.relations runner.old ≡ W.relations) }
-        requires underway { (hand : List ℕ)
-            × UnderwayBut S.left W.told W.relations W.handles hand [] 0 actor.old.known self.old }
-        ensures same { IsSame actor.old actor.new }
-        ensures told { (E.told runner.new ≡ E.told runner.old)
-            × (E.relations runner.new ≡ E.relations runner.old) }
-        ensures went { Went actor.old.known actor.new.known (E.reads runner.old)
-            (E.reads runner.new) (E.faults runner.old) (E.faults runner.new) }
-        ensures stands_on { M.stands_on method.new ≡ M.stands_on method.old }
-        ensures underway { (hand : List ℕ)
-            → UnderwayBut S.left W.told W.relations W.handles hand [] 0 actor.old.known self.old
-            → UnderwayBut S.left W.told W.relations W.handles hand [] 0 actor.new.known self.new }
+        requires handed { IsHanded E.told E.relations W.told W.relations self.old.scope crew.old }
+        requires underway { (hand : List ℕ) × UnderwayBut S.left W.told W.relations W.handles hand
+            [] 0 crew.old.actor.now.known self.old }
+        ensures serves { Serves E.told E.relations E.reads E.faults M.stands_on crew.old crew.new }
+        ensures underway { (hand : List ℕ) → UnderwayBut S.left W.told W.relations W.handles hand []
+            0 crew.old.actor.now.known self.old → UnderwayBut S.left W.told W.relations W.handles
+            hand [] 0 crew.new.actor.now.known self.new }
         ensures stays { Stays self.old self.new }
         ensures moves { Moves self.old self.new }
         ensures wants { self.new.desk.now.wants ≡ self.old.desk.now.wants }
         ensures staged { self.new.desk.now.reads.batch ≡ [] }
     {
         if self.is_alone() {
-            self.desk
-                .reads
-                .submit(rt, &self.scope, table, actor, &mut SyncMethod, runner);
+            let mut by_itself = Crew {
+                table: crew.table,
+                actor: &mut *crew.actor,
+                method: &mut SyncMethod,
+                runner: &mut *crew.runner,
+            };
+            self.desk.reads.submit(rt, &self.scope, &mut by_itself);
         } else {
-            self.desk
-                .reads
-                .submit(rt, &self.scope, table, actor, method, runner);
+            self.desk.reads.submit(rt, &self.scope, crew);
         }
     }
 
@@ -160,32 +142,23 @@ impl<'d, 'p, W: World, S: BlockSource<P> + Drop, P: Copy> ReadStream<'d, 'p, W, 
     fn serve<M: Method<ReadIo, W>, E: Execute<ReadIo, W>, T: Wait>(
         &mut self,
         rt: &T,
-        table: &Table<ReadIo, W>,
-        actor: &mut Actor<ReadIo, W>,
-        method: &mut M,
-        runner: &mut E,
+        crew: &mut Crew<W, M, E>,
     )
-        requires table { IsOf table.now actor.old }
-        requires scope { IsOf table.now self.old.scope.was.value }
-        requires backend { actor.old.known.number < table.now.config.backends }
-        requires told { (E.told runner.old ≡ W.told) × (E.relations runner.old ≡ W.relations) }
-        requires underway { Underway S.left W.told W.relations W.handles actor.old.known self.old }
+        requires handed { IsHanded E.told E.relations W.told W.relations self.old.scope crew.old }
+        requires underway { Underway S.left W.told W.relations W.handles crew.old.actor.now.known
+            self.old }
         requires giving { IsGiving self.old.current self.old.step }
         requires none { self.old.pin ≡ None }
         requires last { self.old.desk.now.wants.items ≡ [] → self.old.current ≡ None
             → self.old.plan.pending ≡ None }
         requires ended { self.old.desk.now.queue.items ≡ [] → self.old.current ≡ None
             → S.left self.old.source ≡ [] }
-        ensures same { IsSame actor.old actor.new }
-        ensures told { (E.told runner.new ≡ E.told runner.old)
-            × (E.relations runner.new ≡ E.relations runner.old) }
-        ensures went { Went actor.old.known actor.new.known (E.reads runner.old)
-            (E.reads runner.new) (E.faults runner.old) (E.faults runner.new) }
-        ensures stands_on { M.stands_on method.new ≡ M.stands_on method.old }
-        ensures between { IsBetween S.left W.told W.relations W.handles actor.new.known self.new }
+        ensures serves { Serves E.told E.relations E.reads E.faults M.stands_on crew.old crew.new }
+        ensures between { IsBetween S.left W.told W.relations W.handles crew.new.actor.now.known
+            self.new }
         ensures keeps { Keeps self.old self.new }
         ensures answer { IsNext (reader_of self.old.scope.zero W.told)
-            (MayBeUnread self.old.scope.was.value actor.new.known)
+            (MayBeUnread self.old.scope.was.value crew.new.actor.now.known)
             (entries_of self.old.scope.relation (S.left self.old.source_was.value)) self.old.given
             (said_by self.new.scope.relation self.new.step (shown self.new)) }
         ensures given { self.new.given ≡ self.old.given
@@ -195,7 +168,7 @@ impl<'d, 'p, W: World, S: BlockSource<P> + Drop, P: Copy> ReadStream<'d, 'p, W, 
             self.step = Step::Stop(Ending::End);
             return;
         };
-        match self.find(rt, table, actor, method, runner, asked.block) {
+        match self.find(rt, crew, asked.block) {
             Some(ending) => self.step = Step::Stop(ending),
             None => self.give(asked),
         }

@@ -17,6 +17,7 @@ ghost use Rattle.read_stream.specs.declared.answer.Step.TheVariants.{Start, Stop
 ghost use Rattle.read_stream.specs.Went.{Went, local_marks};
 
 use crate::answer::{Ending, Next, Step};
+use crate::crew::Crew;
 use crate::desk::Desk;
 use crate::scope::Scope;
 use aio_batch::Method;
@@ -141,7 +142,13 @@ impl<'d, 'p, W: World, S: BlockSource<P> + Drop, P: Copy> ReadStream<'d, 'p, W, 
             (λ n. Follows S.left W.told W.relations W.handles self.old n actor.new
             (said self.old.scope.relation result))) }
     {
-        self.advance(rt, table, actor, method, runner);
+        let mut crew = Crew {
+            table,
+            actor,
+            method,
+            runner,
+        };
+        self.advance(rt, &mut crew);
         self.answer()
     }
 
@@ -240,7 +247,13 @@ impl<'d, 'p, W: World, S: BlockSource<P> + Drop, P: Copy> ReadStream<'d, 'p, W, 
         if let Some(pin) = pin {
             pool.unpin(rt, pin);
         }
-        let taken_in = desk.end(rt, &scope, table, actor, method, runner, current);
+        let mut crew = Crew {
+            table,
+            actor,
+            method,
+            runner,
+        };
+        let taken_in = desk.end(rt, &scope, &mut crew, current);
         (taken_in, desk)
     }
 }

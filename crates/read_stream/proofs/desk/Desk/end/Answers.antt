@@ -20,6 +20,6 @@ finish-requires-clause-issued g c =
     subst (λ z. IfSome z (λ x. length x.pages ≡ c.args.scope.now.combine)) now
     c.requires.current in
     subst (λ (z : Reads W). Issued c.args.scope.now g.W.World.told g.W.World.relations
-    c.args.actor.now.known z) (sym c.release.ensures)
-    (more-free c.args.scope.now g.W.World.told g.W.World.relations c.args.actor.now.known s io
-    (buffer (io ∷ s.free.items) s.free.capacity) refl (omega arith) fits c.requires.issued).0
+    c.args.crew.now.actor.now.known z) (sym c.release.ensures)
+    (more-free c.args.scope.now g.W.World.told g.W.World.relations c.args.crew.now.actor.now.known s
+    io (buffer (io ∷ s.free.items) s.free.capacity) refl (omega arith) fits c.requires.issued).0

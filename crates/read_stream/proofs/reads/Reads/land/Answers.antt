@@ -12,8 +12,8 @@ use Rattle.read_stream.proofs.reads.Reads.land.Goals as goal
 pub settle-requires-clause-lent : goal.settle-requires-clause-lent
 settle-requires-clause-lent g c =
     let xs : List WaitRef = c.args.self.now.flights.items in
-    (less-flights c.args.scope.now g.W.World.told g.W.World.relations c.args.actor.now.known
-    c.args.self.now c.in-Some.token (drop 1 xs) c.pop_front.new.self
+    (less-flights c.args.scope.now g.W.World.told g.W.World.relations
+    c.args.crew.now.actor.now.known c.args.self.now c.in-Some.token (drop 1 xs) c.pop_front.new.self
     (first-of xs c.in-Some.token (sym c.pop_front.ensures.value ∙ c.in-Some.is))
     c.pop_front.ensures.items c.requires.issued).0
 
@@ -21,15 +21,15 @@ pub returns-in-Some-clause-run : goal.returns-in-Some-clause-run
 returns-in-Some-clause-run g c = λ runs flying.
     (let xs : List WaitRef = c.args.self.now.flights.items in
     let t : WaitRef = c.in-Some.token in
-    let p : Known = c.args.actor.now.known in
-    let q : Known = c.settle.new.actor.known in
+    let p : Known = c.args.crew.now.actor.now.known in
+    let q : Known = c.settle.new.crew.actor.now.known in
     let first = first-of xs t (sym c.pop_front.ensures.value ∙ c.in-Some.is) in
     let left : c.settle.new.self.flights.items ≡ drop 1 xs =
     ap (λ (z : Buffer WaitRef). z.items) (c.settle.ensures.all.2 ∙ c.pop_front.ensures.items) in
     subst (λ (z : List WaitRef). (rest : List Run) × (runs ≡ run_of c.settle.result ∷ rest)
     × FlyFor c.args.scope.now q z rest) (sym left)
-    (fly-first c.args.scope.now p q t (drop 1 xs) c.settle.result runs c.settle.ensures.went.aims
-    c.settle.ensures.aim
+    (fly-first c.args.scope.now p q t (drop 1 xs) c.settle.result runs
+    c.settle.ensures.serves.went.aims c.settle.ensures.aim
     (subst (λ (z : List WaitRef). FlyFor c.args.scope.now p z runs) first flying)))
 
 pub returns-in-None-clause-issued : goal.returns-in-None-clause-issued
@@ -39,4 +39,4 @@ returns-in-None-clause-issued g c =
     let none = nothing-of s.flights.items (sym c.pop_front.ensures.value ∙ c.in-None.is) in
     let e = same-queue s.flights c.pop_front.new.self c.pop_front.ensures.items none in
     subst (λ (z : Buffer WaitRef). Issued c.args.scope.now g.W.World.told g.W.World.relations
-    c.args.actor.now.known (record s { flights = z })) (sym e) c.requires.issued
+    c.args.crew.now.actor.now.known (record s { flights = z })) (sym e) c.requires.issued

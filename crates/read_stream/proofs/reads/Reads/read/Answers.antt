@@ -1,8 +1,9 @@
-use Rattle.std.proofs.Common.{◌≡◌, List, ap, ◌∙◌, arith, length}
+use Rattle.std.proofs.Common.{◌≡◌, List, ap, ◌∙◌, arith, length, refl}
 use Rattle.aio_word.specs.declared.Known.{Known}
 use Rattle.aio_word.specs.declared.WaitRef.{WaitRef}
 use Rattle.aio_callback.specs.Reading.{Reading, aim_in}
-use Rattle.read_stream.proofs.Going.{went_then, went_submitting}
+use Rattle.read_stream.proofs.Going.{went_submitting}
+use Rattle.read_stream.proofs.Serving.{serves_by, serves_then}
 use Rattle.read_stream.proofs.Flown.{are-for-at-once}
 use Rattle.read_stream.proofs.Submitted.{lent-at-once, for-at-once}
 use Rattle.read_stream.proofs.reads.Reads.read.Goals as goal
@@ -14,22 +15,22 @@ settle-requires-clause-lent g c =
     let before = c.submit.ensures.all.0 in
     let room = c.requires.room in
     lent-at-once c.args.scope.now g.W.World.told g.W.World.relations
-    c.stage-token.new.actor.known c.submit_next.new.actor.known c.stage-token.new.self
+    c.stage-token.new.crew.actor.now.known c.submit_next.new.actor.known c.stage-token.new.self
     c.put.new.self c.stage-token.result c.submit_next.new.self c.in-Some.token _ _ _ _
     c.put.ensures token.0 token.1 token.2 c.stage-token.ensures.apart (omega arith)
     c.stage-token.ensures.issued c.in-Some.ensures.next c.in-Some.ensures.tokens
 
-pub returns-clause-went : goal.returns-clause-went
-returns-clause-went g c =
-    let p : Known = c.args.actor.now.known in
-    let a : Known = c.submit.new.actor.known in
-    let b : Known = c.stage-token.new.actor.known in
+pub returns-clause-serves : goal.returns-clause-serves
+returns-clause-serves g c =
+    let b : Known = c.stage-token.new.crew.actor.now.known in
     let q : Known = c.submit_next.new.actor.known in
-    went_then p a c.settle.new.actor.known _ _ _ _ _ _ c.submit.ensures.went
-    (went_then a b c.settle.new.actor.known _ _ _ _ _ _ c.stage-token.ensures.went
-    (went_then b q c.settle.new.actor.known _ _ _ _ _ _
-    (went_submitting aim_in c.put.new.self.batch c.submit_next.new.self c.in-Some.token b q _ _ _ _
-    c.in-Some.ensures.next) c.settle.ensures.went))
+    serves_then
+    (serves_then c.settle.ensures.serves
+    (serves_by c.stage-token.new.crew c.submit_next.new.actor c.stage-token.new.crew.method.now
+    c.submit_next.new.runner c.in-Some.ensures.same c.in-Some.ensures.told
+    (went_submitting aim_in c.put.new.self.batch c.submit_next.new.self c.in-Some.token b q
+    _ _ _ _ c.in-Some.ensures.next) refl))
+    (serves_then c.stage-token.ensures.serves c.submit.ensures.serves)
 
 pub returns-clause-run : goal.returns-clause-run
 returns-clause-run g c =
@@ -38,7 +39,7 @@ returns-clause-run g c =
     let none : length c.submit.new.self.batch ≡ 0 =
     ap (λ (z : List (WaitRef × Reading)). length z) c.submit.ensures.none in
     let r = c.settle.ensures.aim x.1.first x.1.count (for-at-once c.args.scope.now
-    c.stage-token.new.actor.known c.submit_next.new.actor.known c.stage-token.new.self
+    c.stage-token.new.crew.actor.now.known c.submit_next.new.actor.known c.stage-token.new.self
     c.put.new.self x c.submit_next.new.self c.in-Some.token _ _ _ _ (omega arith)
     c.put.ensures c.stage-token.ensures.token.1 c.in-Some.ensures.next) in
     (r.0 ∙ c.stage-token.ensures.run.0, r.1 ∙ c.stage-token.ensures.run.1)
@@ -49,7 +50,7 @@ returns-clause-runs g c = λ runs f.
     let few = c.stage-token.ensures.batch in
     let none : length c.submit.new.self.batch ≡ 0 =
     ap (λ (z : List (WaitRef × Reading)). length z) c.submit.ensures.none in
-    let b : Known = c.stage-token.new.actor.known in
+    let b : Known = c.stage-token.new.crew.actor.now.known in
     let q : Known = c.submit_next.new.actor.known in
     let n = c.in-Some.ensures.next in
     c.settle.ensures.runs runs (are-for-at-once c.args.scope.now b q c.stage-token.new.self

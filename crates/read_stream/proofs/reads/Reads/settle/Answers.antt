@@ -11,6 +11,7 @@ use Rattle.aio_callback.specs.Reading.{Reading, Fits, settled_of}
 use Rattle.read_stream.proofs.Flown.{are-for-later}
 use Rattle.read_stream.proofs.Settled.{settled-issued, settled-reading, settled-for, went-settling}
 use Rattle.read_stream.proofs.Settled.{idle-now}
+use Rattle.read_stream.proofs.Serving.{serves_by}
 use Rattle.read_stream.proofs.reads.Reads.settle.Goals as goal
 
 reclaims : (t u : WaitRef) (class : Class) (m q : Known) → u ≡ t
@@ -19,22 +20,25 @@ reclaims : (t u : WaitRef) (class : Class) (m q : Known) → u ≡ t
 reclaims t u class m q e made = subst (λ (z : WaitRef). Made Reclaim z.handle
     (taken class z.generation) (idle (z.generation + 1)) [] m q) e made
 
-pub returns-clause-went : goal.returns-clause-went
-returns-clause-went g c =
+pub returns-clause-serves : goal.returns-clause-serves
+returns-clause-serves g c =
     let l : WaitRef × Reading = c.wait_own-local.result in
-    let p : Known = c.args.actor.now.known in
+    let p : Known = c.args.crew.now.actor.now.known in
     let m : Known = c.wait_own-local.new.actor.known in
     let q : Known = c.reclaim-io.new.actor.known in
     let t : WaitRef = c.args.token in
-    went-settling p m q t l.1.label _ _ _ _ c.reclaim-io.ensures.event.0
-    c.wait_own-local.ensures.taken
-    (reclaims t l.0 c.reclaim-io.ensures.event.0 m q c.wait_own-local.ensures.token.0
-    c.reclaim-io.ensures.event.1)
+    let a = c.wait_own-local.ensures in
+    let b = c.reclaim-io.ensures in
+    serves_by c.args.crew.now c.reclaim-io.new.actor c.args.crew.now.method.now
+    c.wait_own-local.new.runner
+    (b.same.0 ∙ a.same.0, b.same.1 ∙ a.same.1, b.same.2 ∙ a.same.2) a.told
+    (went-settling p m q t l.1.label _ _ _ _ b.event.0 a.taken
+    (reclaims t l.0 b.event.0 m q a.token.0 b.event.1)) refl
 
 pub returns-clause-issued : goal.returns-clause-issued
 returns-clause-issued g c =
     let l : WaitRef × Reading = c.wait_own-local.result in
-    let p : Known = c.args.actor.now.known in
+    let p : Known = c.args.crew.now.actor.now.known in
     let m : Known = c.wait_own-local.new.actor.known in
     let q : Known = c.reclaim-io.new.actor.known in
     let t : WaitRef = c.args.token in
@@ -48,7 +52,7 @@ returns-clause-issued g c =
 pub returns-clause-record : goal.returns-clause-record
 returns-clause-record g c =
     let l : WaitRef × Reading = c.wait_own-local.result in
-    let p : Known = c.args.actor.now.known in
+    let p : Known = c.args.crew.now.actor.now.known in
     let m : Known = c.wait_own-local.new.actor.known in
     let q : Known = c.reclaim-io.new.actor.known in
     let t : WaitRef = c.args.token in
@@ -71,12 +75,12 @@ returns-clause-record g c =
     c.requires.lent.flying c.requires.lent.issued fits c.wait_own-local.ensures.record.1
     (λ one. subst (λ (z : WaitRef). LivedAlone z x.label.ended m) c.wait_own-local.ensures.token.0
     (c.wait_own-local.ensures.alone
-    (subst (λ (z : Config). actors z ≡ 1) c.requires.scope.1 one)))
+    (subst (λ (z : Config). actors z ≡ 1) c.requires.handed.scope.1 one)))
 
 pub returns-clause-aim : goal.returns-clause-aim
 returns-clause-aim g c = λ first count for_it.
     (let l : WaitRef × Reading = c.wait_own-local.result in
-    let p : Known = c.args.actor.now.known in
+    let p : Known = c.args.crew.now.actor.now.known in
     let m : Known = c.wait_own-local.new.actor.known in
     let q : Known = c.reclaim-io.new.actor.known in
     let t : WaitRef = c.args.token in
@@ -94,20 +98,20 @@ returns-clause-aim g c = λ first count for_it.
 pub returns-clause-idle : goal.returns-clause-idle
 returns-clause-idle g c =
     let l : WaitRef × Reading = c.wait_own-local.result in
-    let p : Known = c.args.actor.now.known in
+    let p : Known = c.args.crew.now.actor.now.known in
     let m : Known = c.wait_own-local.new.actor.known in
     let q : Known = c.reclaim-io.new.actor.known in
     let t : WaitRef = c.args.token in
-    let config : c.reclaim-io.new.actor.known.config ≡ c.args.table.now.config =
-    c.reclaim-io.ensures.same.1 ∙ (c.wait_own-local.ensures.same.1 ∙ c.requires.table.1) in
+    let config : c.reclaim-io.new.actor.known.config ≡ c.args.crew.now.table.now.config =
+    c.reclaim-io.ensures.same.1 ∙ (c.wait_own-local.ensures.same.1 ∙ c.requires.handed.table.1) in
     idle-now p m q t l.1.label _ _ _ _ c.reclaim-io.ensures.event.0
     c.wait_own-local.ensures.taken
     (reclaims t l.0 c.reclaim-io.ensures.event.0 m q c.wait_own-local.ensures.token.0
     c.reclaim-io.ensures.event.1)
-    c.args.table.now.config
+    c.args.crew.now.table.now.config
     config c.keeps.ensures
 
 pub returns-clause-runs : goal.returns-clause-runs
-returns-clause-runs g c = λ runs. are-for-later c.args.scope.now c.args.actor.now.known
-    c.reclaim-io.new.actor.known c.args.self.now _ runs (returns-clause-went g c).aims refl refl
-    refl
+returns-clause-runs g c = λ runs. are-for-later c.args.scope.now c.args.crew.now.actor.now.known
+    c.reclaim-io.new.actor.known c.args.self.now _ runs (returns-clause-serves g c).went.aims refl
+    refl refl

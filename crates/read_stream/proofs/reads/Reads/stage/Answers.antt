@@ -21,25 +21,38 @@ stages : (t u : WaitRef) (p q : Known) → u ≡ t
 stages t u p q e m = subst (λ (z : WaitRef).
     Made Stage z.handle (defined z.generation) (staged z.generation) [] p q) e m
 
-pub returns-clause-went : goal.returns-clause-went
-returns-clause-went g c =
+pub returns-clause-serves : goal.returns-clause-serves
+returns-clause-serves g c =
     let t : WaitRef = c.acquire-token.result in
     let d : WaitRef × Reading = c.define-token.result in
     let e : d.0 ≡ t = c.define-token.ensures.token.0 in
-    let q : Known = c.acquire-token.new.actor.known in
+    let q : Known = c.acquire-token.new.crew.actor.now.known in
     let q1 : Known = c.define-token.new.actor.known in
     let q2 : Known = c.stage.new.actor.known in
-    went-staged c.args.scope.now g.W.World.told g.W.World.relations c.args.actor.now.known q q1 q2
-    c.acquire-token.new.self t _ _ _ _ c.acquire-token.ensures.handed c.define-token.ensures.event
-    (defines t d.0 q1 e c.define-token.ensures.token.2)
-    (stages t d.0 q1 q2 e c.stage.ensures.event)
+    let a = c.acquire-token.ensures.serves in
+    let b = c.define-token.ensures.same in
+    let s = c.stage.ensures.same in
+    record {
+      table = a.table;
+      actor = a.actor;
+      method = a.method;
+      runner = a.runner;
+      same = (s.0 ∙ (b.0 ∙ a.same.0), s.1 ∙ (b.1 ∙ a.same.1), s.2 ∙ (b.2 ∙ a.same.2));
+      told = a.told;
+      went = went-staged c.args.scope.now g.W.World.told g.W.World.relations
+          c.args.crew.now.actor.now.known q q1 q2 c.acquire-token.new.self t _ _ _ _
+          c.acquire-token.ensures.handed c.define-token.ensures.event
+          (defines t d.0 q1 e c.define-token.ensures.token.2)
+          (stages t d.0 q1 q2 e c.stage.ensures.event);
+      stands_on = a.stands_on;
+    }
 
 pub returns-clause-issued : goal.returns-clause-issued
 returns-clause-issued g c =
     let t : WaitRef = c.acquire-token.result in
     let d : WaitRef × Reading = c.define-token.result in
     let e : d.0 ≡ t = c.define-token.ensures.token.0 in
-    let q : Known = c.acquire-token.new.actor.known in
+    let q : Known = c.acquire-token.new.crew.actor.now.known in
     let q1 : Known = c.define-token.new.actor.known in
     let q2 : Known = c.stage.new.actor.known in
     let same : c.stage.result.0 ≡ t =
@@ -50,9 +63,9 @@ returns-clause-issued g c =
     let few : made_in c.acquire-token.new.self + 1 ≤ c.args.scope.now.most = omega arith in
     subst (λ (z : WaitRef). IssuedBut (z ∷ []) c.args.scope.now g.W.World.told
     g.W.World.relations q2 c.acquire-token.new.self) (sym same)
-    (issued-staged c.args.scope.now g.W.World.told g.W.World.relations c.args.actor.now.known q
-    q1 q2 c.acquire-token.new.self t _ _ _ _ c.acquire-token.ensures.handed
-    c.define-token.ensures.event
+    (issued-staged c.args.scope.now g.W.World.told g.W.World.relations
+    c.args.crew.now.actor.now.known q q1 q2 c.acquire-token.new.self t _ _ _ _
+    c.acquire-token.ensures.handed c.define-token.ensures.event
     (defines t d.0 q1 e c.define-token.ensures.token.2)
     (stages t d.0 q1 q2 e c.stage.ensures.event) few)
 
@@ -88,13 +101,13 @@ returns-clause-apart g c =
     let t : WaitRef = c.acquire-token.result in
     let d : WaitRef × Reading = c.define-token.result in
     let e : d.0 ≡ t = c.define-token.ensures.token.0 in
-    let q : Known = c.acquire-token.new.actor.known in
+    let q : Known = c.acquire-token.new.crew.actor.now.known in
     let q1 : Known = c.define-token.new.actor.known in
     let q2 : Known = c.stage.new.actor.known in
     let same : c.stage.result.0 ≡ t =
     ap (λ (z : WaitRef × Reading). z.0) c.stage.ensures.token.0 ∙ e in
     λ u i x. staged-apart c.args.scope.now g.W.World.told g.W.World.relations
-    c.args.actor.now.known q q1 q2 c.acquire-token.new.self t _ _ _ _
+    c.args.crew.now.actor.now.known q q1 q2 c.acquire-token.new.self t _ _ _ _
     c.acquire-token.ensures.handed c.define-token.ensures.event
     (defines t d.0 q1 e c.define-token.ensures.token.2)
     (stages t d.0 q1 q2 e c.stage.ensures.event) u i (x ∙ same)
@@ -104,8 +117,8 @@ returns-clause-runs g c = λ runs f.
     (let t : WaitRef = c.acquire-token.result in
     let d : WaitRef × Reading = c.define-token.result in
     let e : d.0 ≡ t = c.define-token.ensures.token.0 in
-    let p : Known = c.args.actor.now.known in
-    let q : Known = c.acquire-token.new.actor.known in
+    let p : Known = c.args.crew.now.actor.now.known in
+    let q : Known = c.acquire-token.new.crew.actor.now.known in
     let q1 : Known = c.define-token.new.actor.known in
     let q2 : Known = c.stage.new.actor.known in
     are-for-later c.args.scope.now q q2 c.acquire-token.new.self c.acquire-token.new.self runs

@@ -19,22 +19,22 @@ pub returns-in-Some-clause-issued : goal.returns-in-Some-clause-issued
 returns-in-Some-clause-issued g c =
     let a = c.in-Some.ensures.some.1 in
     let d = c.requires.issued.room.few in
-    (more-ended c.args.scope.now g.W.World.told g.W.World.relations c.land.new.actor.known
+    (more-ended c.args.scope.now g.W.World.told g.W.World.relations c.land.new.crew.actor.now.known
     c.land.new.self c.in-Some.io c.push.new.queue c.push.ensures (omega arith)
     c.in-Some.ensures.some.0 c.in-Some.ensures.issued).0
 
 pub returns-in-Some-clause-runs : goal.returns-in-Some-clause-runs
 returns-in-Some-clause-runs g c = λ runs. are-for-taken-in c.args.scope.now
-    c.args.actor.now.known c.land.new.actor.known c.args.self.now _ c.in-Some.io runs
-    c.in-Some.ensures.run
+    c.args.crew.now.actor.now.known c.land.new.crew.actor.now.known c.args.self.now _ c.in-Some.io
+    runs c.in-Some.ensures.run
     (ap (λ (z : Buffer Reading). z.items) c.push.ensures
     ∙ ap (λ (z : Buffer Reading). z.items ++ c.in-Some.io ∷ []) c.in-Some.ensures.all.2)
     c.in-Some.ensures.all.1
 
 pub returns-in-None-clause-idle : goal.returns-in-None-clause-idle
 returns-in-None-clause-idle g c = λ batch.
-    subst (λ (z : Standing). HasIdle c.args.table.now.config z.known)
+    subst (λ (z : Standing). HasIdle c.args.crew.now.table.now.config z.known)
     (sym c.in-None.ensures.same_state.1)
-    (idle-at-rest c.args.scope.now g.W.World.told g.W.World.relations _ c.args.actor.now.known
-    c.args.self.now c.requires.scope.1 c.requires.issued c.requires.backend batch
-    c.in-None.ensures.none)
+    (idle-at-rest c.args.scope.now g.W.World.told g.W.World.relations _
+    c.args.crew.now.actor.now.known c.args.self.now c.requires.handed.scope.1 c.requires.issued
+    c.requires.handed.backend batch c.in-None.ensures.none)

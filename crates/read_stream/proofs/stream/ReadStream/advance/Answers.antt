@@ -1,6 +1,5 @@
 use Rattle.std.proofs.Common.{◌≡◌, ◌<◌, refl, ap, sym, subst, arith, ◌∙◌}
 use Rattle.std.specs.Prelude.{Option}
-use Rattle.aio_word.specs.declared.Known.{Known}
 use Rattle.aio_word.specs.declared.Config.{Config}
 use Rattle.aio_handle.specs.Shown.{Standing}
 use Rattle.aio_callback.specs.Reading.{Reading}
@@ -11,7 +10,7 @@ use Rattle.read_stream.specs.Answering.{said_by}
 use Rattle.read_stream.specs.Hands.{IsGiving, shown}
 use Rattle.read_stream.specs.Open.{IsBetween}
 use Rattle.read_stream.proofs.Kept.{between_known, next_kept}
-use Rattle.read_stream.proofs.Going.{went_then}
+use Rattle.read_stream.proofs.Serving.{serves_then}
 use Rattle.read_stream.proofs.Steady.{keeps_then}
 use Rattle.read_stream.proofs.stream.ReadStream.advance.Goals as goal
 
@@ -27,15 +26,10 @@ serve-requires-clause-giving g c =
     (subst (λ (z : Step g.row.P.Denot). IsGiving s.current z) (sym (d.step ∙ (b.step ∙ a.step)))
     c.let_go.ensures.giving)
 
-pub returns-clause-went : goal.returns-clause-went
-returns-clause-went g c =
-    let p : Known = c.args.actor.now.known in
-    let q : Known = c.serve.new.actor.known in
-    went_then p c.look_ahead.new.actor.known q _ _ _ _ _ _ c.look_ahead.ensures.went
-    (went_then c.look_ahead.new.actor.known c.submit.new.actor.known q _ _ _ _ _ _
-    c.submit.ensures.went
-    (went_then c.submit.new.actor.known c.start_last.new.actor.known q _ _ _ _ _ _
-    c.start_last.ensures.went c.serve.ensures.went))
+pub returns-clause-serves : goal.returns-clause-serves
+returns-clause-serves g c = serves_then c.serve.ensures.serves
+    (serves_then c.start_last.ensures.serves
+    (serves_then c.submit.ensures.serves c.look_ahead.ensures.serves))
 
 pub returns-clause-answer : goal.returns-clause-answer
 returns-clause-answer g c =
@@ -51,7 +45,7 @@ returns-clause-answer g c =
     let given = c.start_last.ensures.stays.given ∙ (c.submit.ensures.stays.given
     ∙ (c.look_ahead.ensures.stays.given ∙ c.let_go.ensures.moves.given)) in
     next_kept g.S.BlockSource.left g.W.World.told g.W.World.relations g.W.World.handles
-    c.serve.new.actor.known s t (said_by n.scope.relation n.step (shown n)) keeps given
+    c.serve.new.crew.actor.now.known s t (said_by n.scope.relation n.step (shown n)) keeps given
     c.serve.ensures.answer
 
 pub returns-clause-follows : goal.returns-clause-follows
@@ -69,25 +63,27 @@ returns-clause-follows g c =
     let given = c.start_last.ensures.stays.given ∙ (c.submit.ensures.stays.given
     ∙ (c.look_ahead.ensures.stays.given ∙ c.let_go.ensures.moves.given)) in
     let more = c.serve.ensures.given in
-    let is : c.of.result.value ≡ c.serve.new.actor = c.of.ensures in
+    let is : c.of.result.value ≡ c.serve.new.crew.actor.now = c.of.ensures in
     let was : n.scope.was.value ≡ s.scope.was.value =
     ap (λ (z : Scope g.row.W.Denot). z.was.value) keeps.scope in
     let was_open = c.requires.is_open in
     let actor = c.requires.actor in
-    let w1 = c.look_ahead.ensures.went in
-    let w2 = c.submit.ensures.went in
-    let w3 = c.start_last.ensures.went in
-    let w4 = c.serve.ensures.went in
-    let config : c.serve.new.actor.known.config ≡ s.actor_is.value.known.config =
-    c.serve.ensures.same.1 ∙ (c.start_last.ensures.same.1 ∙ (c.submit.ensures.same.1
-    ∙ (c.look_ahead.ensures.same.1 ∙ ap (λ (z : Standing). z.known.config) actor))) in
-    let backends : c.serve.new.actor.known.config.backends ≡
+    let w1 = c.look_ahead.ensures.serves.went in
+    let w2 = c.submit.ensures.serves.went in
+    let w3 = c.start_last.ensures.serves.went in
+    let w4 = c.serve.ensures.serves.went in
+    let config : c.serve.new.crew.actor.now.known.config ≡ s.actor_is.value.known.config =
+    c.serve.ensures.serves.same.1 ∙ (c.start_last.ensures.serves.same.1 ∙
+    (c.submit.ensures.serves.same.1 ∙ (c.look_ahead.ensures.serves.same.1 ∙ ap (λ (z : Standing).
+    z.known.config) actor))) in
+    let backends : c.serve.new.crew.actor.now.known.config.backends ≡
     s.actor_is.value.known.config.backends =
     ap (λ (z : Config). z.backends) config in
-    let number : c.serve.new.actor.known.number ≡ s.actor_is.value.known.number =
+    let number : c.serve.new.crew.actor.now.known.number ≡ s.actor_is.value.known.number =
     w4.number ∙ (w3.number ∙ (w2.number ∙ (w1.number
     ∙ ap (λ (z : Standing). z.known.number) actor))) in
-    let backend : c.serve.new.actor.known.number < c.serve.new.actor.known.config.backends =
+    let backend : c.serve.new.crew.actor.now.known.number <
+    c.serve.new.crew.actor.now.known.config.backends =
     let z = was_open.backend in omega arith in
     record {
       desk = keeps.desk;
@@ -101,9 +97,10 @@ returns-clause-follows g c =
       is_open = record {
         same = (
           ap (λ (z : Standing). z.table) is
-              ∙ (c.serve.ensures.same.0 ∙ (c.start_last.ensures.same.0 ∙ (c.submit.ensures.same.0
-              ∙ (c.look_ahead.ensures.same.0 ∙ (ap (λ (z : Standing). z.table) actor
-              ∙ (was_open.same.0 ∙ sym (ap (λ (z : Standing). z.table) was))))))),
+              ∙ (c.serve.ensures.serves.same.0 ∙ (c.start_last.ensures.serves.same.0 ∙
+              (c.submit.ensures.serves.same.0 ∙ (c.look_ahead.ensures.serves.same.0 ∙ (ap (λ (z :
+              Standing). z.table) actor ∙ (was_open.same.0 ∙ sym (ap (λ (z : Standing). z.table)
+              was))))))),
           ap (λ (z : Standing). z.known.config) is
               ∙ (config ∙ (was_open.same.1 ∙ sym (ap (λ (z : Standing). z.known.config) was))),
           ap (λ (z : Standing). z.known.number) is
@@ -115,6 +112,7 @@ returns-clause-follows g c =
             g.W.World.relations g.W.World.handles z.known (record n { actor_is = c.of.result }))
             (sym is)
             (between_known g.S.BlockSource.left g.W.World.told g.W.World.relations
-            g.W.World.handles c.serve.new.actor.known n c.of.result c.serve.ensures.between);
+            g.W.World.handles c.serve.new.crew.actor.now.known n c.of.result
+            c.serve.ensures.between);
       };
     }

@@ -3,11 +3,16 @@ use Rattle.read_stream.proofs.Closing.{at-rest}
 use Rattle.read_stream.proofs.stream.ReadStream.close.Goals as goal
 
 pub returns-clause-rest : goal.returns-clause-rest
-returns-clause-rest g c = at-rest c.args.self.scope g.W.World.told g.W.World.relations
-    c.end-taken_in.new.actor.known c.end-taken_in.new.self.reads _ _ c.end-taken_in.ensures.issued
-    c.end-taken_in.ensures.free.0.ready
+returns-clause-rest g c =
+    let rest = at-rest c.args.self.scope g.W.World.told g.W.World.relations
+    c.end-taken_in.new.crew.actor.now.known c.end-taken_in.new.self.reads _ _
+    c.end-taken_in.ensures.issued c.end-taken_in.ensures.free.0.ready in
+    let none = rest.0 in (
+      grind (arith, none),
+      λ t. (let over = rest.1 t in grind (arith, over)),
+    )
 
 pub returns-clause-lived : goal.returns-clause-lived
 returns-clause-lived g c = λ h.
     (let l = c.end-taken_in.ensures.issued.lived h in
-    let n = c.end-taken_in.ensures.count.0 in omega arith)
+    let n = c.end-taken_in.ensures.count.0 in grind (arith, l, n))

@@ -1,6 +1,5 @@
-use Rattle.read_stream.proofs.Going.{went_then}
+use Rattle.read_stream.proofs.Serving.{serves_then}
 use Rattle.read_stream.proofs.stream.ReadStream.find.Goals as goal
 
-pub returns-clause-went : goal.returns-clause-went
-returns-clause-went g c = went_then c.args.actor.now.known c.reach.new.actor.known
-    c.read.new.actor.known _ _ _ _ _ _ c.reach.ensures.went c.read.ensures.went
+pub returns-clause-serves : goal.returns-clause-serves
+returns-clause-serves g c = serves_then c.read.ensures.serves c.reach.ensures.serves

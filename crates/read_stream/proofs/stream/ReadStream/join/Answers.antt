@@ -4,7 +4,7 @@ use Rattle.buf_pool.specs.Found.{pinned_page}
 use Rattle.buf_pool.specs.declared.descriptor.Tag.{Tag}
 use Rattle.read_stream.specs.declared.stream.ReadStream.{ReadStream}
 use Rattle.read_stream.specs.Open.{Reaches}
-use Rattle.read_stream.proofs.Going.{went_then}
+use Rattle.read_stream.proofs.Serving.{serves_then}
 use Rattle.read_stream.proofs.Hands.{reaches_pinned}
 use Rattle.read_stream.proofs.stream.ReadStream.join.Goals as goal
 
@@ -17,14 +17,14 @@ returns-in-Hit-clause-reaches g c =
     let n : ReadStream g.row.W.Denot g.row.S.Denot g.row.P.Denot = c.wait_for.new.self in
     subst (λ (z : ReadStream g.row.W.Denot g.row.S.Denot g.row.P.Denot).
     Reaches g.S.BlockSource.left g.W.World.told g.W.World.relations g.W.World.handles c.args.block
-    c.wait_for.new.actor.known z) (sym c.hold.ensures)
+    c.wait_for.new.crew.actor.now.known z) (sym c.hold.ensures)
     (reaches_pinned g.S.BlockSource.left g.W.World.told g.W.World.relations g.W.World.handles
-    c.wait_for.new.actor.known n c.in-Hit.pin c.args.block
+    c.wait_for.new.crew.actor.now.known n c.in-Hit.pin c.args.block
     (c.wait_for.ensures.stays.current ∙ c.requires.none.0)
     (subst (λ (z : Tag). IsGood g.W.World.told z.relation z.block (pinned_page c.in-Hit.pin))
     c.tag.ensures c.in-Hit.ensures.1)
     (c.wait_for.ensures.underway (c.args.block ∷ []) c.requires.underway))
 
-pub returns-in-Busy-clause-went : goal.returns-in-Busy-clause-went
-returns-in-Busy-clause-went g c = went_then c.args.actor.now.known c.wait_for.new.actor.known
-    c.read_block.new.actor.known _ _ _ _ _ _ c.wait_for.ensures.went c.read_block.ensures.went
+pub returns-in-Busy-clause-serves : goal.returns-in-Busy-clause-serves
+returns-in-Busy-clause-serves g c =
+    serves_then c.read_block.ensures.serves c.wait_for.ensures.serves

@@ -4,20 +4,16 @@ use Rattle.buf_pool.specs.Found.{pinned_page}
 use Rattle.buf_pool.specs.declared.descriptor.Tag.{Tag}
 use Rattle.read_stream.specs.declared.stream.ReadStream.{ReadStream}
 use Rattle.read_stream.specs.Open.{Reaches}
-use Rattle.read_stream.proofs.Going.{went_nothing}
 use Rattle.read_stream.proofs.Hands.{reaches_pinned}
 use Rattle.read_stream.proofs.stream.ReadStream.look.Goals as goal
-
-pub returns-in-Hit-clause-went : goal.returns-in-Hit-clause-went
-returns-in-Hit-clause-went g c = went_nothing c.args.actor.now.known _ _
 
 pub returns-in-Hit-clause-reaches : goal.returns-in-Hit-clause-reaches
 returns-in-Hit-clause-reaches g c =
     let s : ReadStream g.row.W.Denot g.row.S.Denot g.row.P.Denot = c.args.self.now in
     subst (λ (z : ReadStream g.row.W.Denot g.row.S.Denot g.row.P.Denot).
     Reaches g.S.BlockSource.left g.W.World.told g.W.World.relations g.W.World.handles c.args.block
-    c.args.actor.now.known z) (sym c.hold.ensures)
+    c.args.crew.now.actor.now.known z) (sym c.hold.ensures)
     (reaches_pinned g.S.BlockSource.left g.W.World.told g.W.World.relations g.W.World.handles
-    c.args.actor.now.known s c.in-Hit.pin c.args.block c.requires.none.0
+    c.args.crew.now.actor.now.known s c.in-Hit.pin c.args.block c.requires.none.0
     (subst (λ (z : Tag). IsGood g.W.World.told z.relation z.block (pinned_page c.in-Hit.pin))
     c.tag.ensures c.in-Hit.ensures.1) c.requires.underway)

@@ -16,13 +16,13 @@ use Rattle.read_stream.proofs.stream.ReadStream.offer.Goals as goal
 pub start-requires-clause-credit : goal.start-requires-clause-credit
 start-requires-clause-credit g c =
     (may_start g.S.BlockSource.left g.W.World.told g.W.World.relations g.W.World.handles
-    c.args.actor.now.known c.args.actor.now.known c.args.self.now c.args.self.now
+    c.args.crew.now.actor.now.known c.args.crew.now.actor.now.known c.args.self.now c.args.self.now
     (c.args.block ∷ []) c.requires.underway (omega arith)).0
 
 pub start-requires-clause-room : goal.start-requires-clause-room
 start-requires-clause-room g c =
     (may_start g.S.BlockSource.left g.W.World.told g.W.World.relations g.W.World.handles
-    c.args.actor.now.known c.args.actor.now.known c.args.self.now c.args.self.now
+    c.args.crew.now.actor.now.known c.args.crew.now.actor.now.known c.args.self.now c.args.self.now
     (c.args.block ∷ []) c.requires.underway (omega arith)).1
 
 pub returns-in-Flush-clause-underway : goal.returns-in-Flush-clause-underway
@@ -31,14 +31,14 @@ returns-in-Flush-clause-underway g c =
     let pl : Planned = c.offer.new.self in
     let run : Run = c.in-Flush.run' in
     underway_started g.S.BlockSource.left g.W.World.told g.W.World.relations g.W.World.handles
-    c.args.actor.now.known c.start.new.actor.known s c.start.new.self _ _ _ _ pl run
-    (c.args.block ∷ []) [] c.requires.underway
+    c.args.crew.now.actor.now.known c.start.new.crew.actor.now.known s c.start.new.self _ _ _ _ pl
+    run (c.args.block ∷ []) [] c.requires.underway
     (same_plan s.plan pl pl.pending c.offer.ensures.rest)
     (offered s.plan.combine s.plan.segment c.args.block s.plan.pending pl.pending c.offer.result
     c.offer.ensures.answer
     ∙ ap (λ (z : Offer). handed_out z ++ (pending_in pl.pending ++ [])) c.in-Flush.is)
     (subst (λ (z : ℕ). IsRun z run) c.requires.underway.going.combine c.in-Flush.ensures.flushed)
-    c.start.ensures.starts c.requires.free c.start.ensures.went c.start.ensures.issued
+    c.start.ensures.starts c.requires.free c.start.ensures.serves.went c.start.ensures.issued
     c.start.ensures.few c.start.ensures.runs
 
 pub start_whole-requires-clause-underway : goal.start_whole-requires-clause-underway
@@ -46,7 +46,7 @@ start_whole-requires-clause-underway g c =
     let s : ReadStream g.row.W.Denot g.row.S.Denot g.row.P.Denot = c.args.self.now in
     let pl : Planned = c.offer.new.self in
     underway_plan g.S.BlockSource.left g.W.World.told g.W.World.relations g.W.World.handles
-    c.args.actor.now.known s pl (rest_of s.current s.step) (c.args.block ∷ []) [] 0
+    c.args.crew.now.actor.now.known s pl (rest_of s.current s.step) (c.args.block ∷ []) [] 0
     (same_plan s.plan pl pl.pending c.offer.ensures.rest)
     (offered s.plan.combine s.plan.segment c.args.block s.plan.pending pl.pending c.offer.result
     c.offer.ensures.answer

@@ -11,13 +11,13 @@ pub returns-else-is_none-clause-reaches : goal.returns-else-is_none-clause-reach
 returns-else-is_none-clause-reaches g c =
     let s : ReadStream g.row.W.Denot g.row.S.Denot g.row.P.Denot = c.args.self.now in
     reaches_already g.S.BlockSource.left g.W.World.told g.W.World.relations g.W.World.handles
-    c.args.actor.now.known s c.args.block c.requires.giving
+    c.args.crew.now.actor.now.known s c.args.block c.requires.giving
     (not_none s.current c.if-is_none.ensures) c.requires.none c.requires.front c.requires.underway
 
 pub take_up-requires-clause-underway : goal.take_up-requires-clause-underway
 take_up-requires-clause-underway g c =
     let s : ReadStream g.row.W.Denot g.row.S.Denot g.row.P.Denot = c.args.self.now in
     subst (λ (z : List ℕ). UnderwayBut g.S.BlockSource.left g.W.World.told g.W.World.relations
-    g.W.World.handles z [] 0 c.args.actor.now.known s)
+    g.W.World.handles z [] 0 c.args.crew.now.actor.now.known s)
     (ap (λ (z : Option Reading). rest_of z s.step) (is_none s.current c.if-is_none.ensures))
     c.requires.underway

@@ -18,7 +18,8 @@ use Rattle.read_stream.proofs.stream.ReadStream.read_block.Goals as goal
 pub read_run-requires-clause-credit : goal.read_run-requires-clause-credit
 read_run-requires-clause-credit g c =
     may_read g.S.BlockSource.left g.W.World.told g.W.World.relations g.W.World.handles
-    c.args.actor.now.known c.args.self.now (c.args.block ∷ []) c.requires.underway (omega arith)
+    c.args.crew.now.actor.now.known c.args.self.now (c.args.block ∷ []) c.requires.underway
+    (omega arith)
 
 pub returns-clause-reaches : goal.returns-clause-reaches
 returns-clause-reaches g c =
@@ -30,8 +31,8 @@ returns-clause-reaches g c =
     let m : ReadStream g.row.W.Denot g.row.S.Denot g.row.P.Denot =
     record (with_reads s fewer) { plan = pl } in
     let run : Run = record { first = c.args.block; count = 1 } in
-    let less = less-free s.scope g.W.World.told g.W.World.relations c.args.actor.now.known reads
-    c.in-Some.io (drop 1 reads.free.items) queue
+    let less = less-free s.scope g.W.World.told g.W.World.relations c.args.crew.now.actor.now.known
+    reads c.in-Some.io (drop 1 reads.free.items) queue
     (first-of reads.free.items c.in-Some.io (sym c.pop_front.ensures.value ∙ c.in-Some.is))
     c.pop_front.ensures.items c.requires.underway.steady.issued in
     let records = less.2 in
@@ -43,12 +44,12 @@ returns-clause-reaches g c =
     let ios : pl.ios_in_progress ≡ s.plan.ios_in_progress + 1 =
     ap (λ (z : Planned). z.ios_in_progress) c.started.ensures in
     reaches_read g.S.BlockSource.left g.W.World.told g.W.World.relations g.W.World.handles
-    c.args.actor.now.known c.read_run.new.actor.known s m c.read_run.new.self run c.args.block
-    (c.args.block ∷ []) (popped s queue pl c.started.ensures) refl
+    c.args.crew.now.actor.now.known c.read_run.new.crew.actor.now.known s m c.read_run.new.self run
+    c.args.block (c.args.block ∷ []) (popped s queue pl c.started.ensures) refl
     (ap (λ (z : Planned). z.pending) c.started.ensures) refl (omega arith) (omega arith)
     c.requires.none.1
     (λ runs a. c.read_run.ensures.runs runs
-    (are-for-later s.scope c.args.actor.now.known c.args.actor.now.known reads fewer runs
-    (λ x i. i) refl refl refl a))
+    (are-for-later s.scope c.args.crew.now.actor.now.known c.args.crew.now.actor.now.known reads
+    fewer runs (λ x i. i) refl refl refl a))
     c.requires.underway refl (omega arith) refl c.read_run.ensures.issued c.read_run.ensures.some
     c.read_run.ensures.record c.read_run.ensures.reads

@@ -24,10 +24,10 @@ read_run-requires-clause-credit g c =
     ap (λ (z : Option Reading). length (hand_from z c.args.block)) is
     ∙ length-range_with_len c.args.block (io.first + io.count - c.args.block) in
     may_read g.S.BlockSource.left g.W.World.told g.W.World.relations g.W.World.handles
-    c.args.actor.now.known s (hand_from s.current c.args.block)
+    c.args.crew.now.actor.now.known s (hand_from s.current c.args.block)
     (subst (λ (z : ℕ). UnderwayBut g.S.BlockSource.left g.W.World.told g.W.World.relations
-    g.W.World.handles (hand_from s.current c.args.block) [] z c.args.actor.now.known s) paid
-    c.requires.reaches.underway) (omega arith)
+    g.W.World.handles (hand_from s.current c.args.block) [] z c.args.crew.now.actor.now.known s)
+    paid c.requires.reaches.underway) (omega arith)
 
 pub returns-clause-reaches : goal.returns-clause-reaches
 returns-clause-reaches g c =
@@ -48,12 +48,12 @@ returns-clause-reaches g c =
     let all = c.requires.reaches.underway.steady.all in
     let one : count_some s.current ≡ 1 = ap (λ (z : Option Reading). count_some z) is in
     reaches_read g.S.BlockSource.left g.W.World.told g.W.World.relations g.W.World.handles
-    c.args.actor.now.known c.read_run.new.actor.known s m c.read_run.new.self run c.args.block
-    (hand_from s.current c.args.block) (taken_out s c.take.new.self) refl refl refl
+    c.args.crew.now.actor.now.known c.read_run.new.crew.actor.now.known s m c.read_run.new.self run
+    c.args.block (hand_from s.current c.args.block) (taken_out s c.take.new.self) refl refl refl
     c.requires.reaches.underway.going.in_use (omega arith) no_pin c.read_run.ensures.runs
     (subst (λ (z : ℕ). UnderwayBut g.S.BlockSource.left g.W.World.told g.W.World.relations
-    g.W.World.handles (hand_from s.current c.args.block) [] z c.args.actor.now.known s) paid
-    c.requires.reaches.underway) refl (omega arith)
+    g.W.World.handles (hand_from s.current c.args.block) [] z c.args.crew.now.actor.now.known s)
+    paid c.requires.reaches.underway) refl (omega arith)
     (ap (λ (z : ℕ). range_with_len c.args.block z) many
     ∙ sym (ap (λ (z : Option Reading). hand_from z c.args.block) is))
     c.read_run.ensures.issued c.read_run.ensures.some c.read_run.ensures.record

@@ -19,7 +19,7 @@ use Rattle.read_stream.proofs.stream.ReadStream.serve.Goals as goal
 pub returns-in_default-clause-between : goal.returns-in_default-clause-between
 returns-in_default-clause-between g c =
     let s : ReadStream g.row.W.Denot g.row.S.Denot g.row.P.Denot = c.args.self.now in
-    let p : Known = c.args.actor.now.known in
+    let p : Known = c.args.crew.now.actor.now.known in
     let none = nothing-of s.desk.now.queue.items (sym c.front.ensures ∙ c.in_default.is) in
     let no_record = no_current g.S.BlockSource.left g.W.World.told g.W.World.relations
     g.W.World.handles p s c.requires.giving none c.requires.underway in
@@ -29,7 +29,7 @@ returns-in_default-clause-between g c =
 pub returns-in_default-clause-answer : goal.returns-in_default-clause-answer
 returns-in_default-clause-answer g c =
     let s : ReadStream g.row.W.Denot g.row.S.Denot g.row.P.Denot = c.args.self.now in
-    let p : Known = c.args.actor.now.known in
+    let p : Known = c.args.crew.now.actor.now.known in
     let none = nothing-of s.desk.now.queue.items (sym c.front.ensures ∙ c.in_default.is) in
     let no_record = no_current g.S.BlockSource.left g.W.World.told g.W.World.relations
     g.W.World.handles p s c.requires.giving none c.requires.underway in
@@ -50,7 +50,7 @@ returns-in-Some-find-clause-between g c =
     c.find.ensures.moves.queue
     ∙ (sym c.front.ensures ∙ c.in-Some.is) in
     (stopped_by g.S.BlockSource.left g.W.World.told g.W.World.relations g.W.World.handles
-    c.find.new.actor.known n (hand_from n.current a.block) [] (paid_at n.current a.block) a
+    c.find.new.crew.actor.now.known n (hand_from n.current a.block) [] (paid_at n.current a.block) a
     c.in-Some-find.ending first c.find.ensures.reaches.underway c.in-Some-find.ensures.stop).1
 
 pub returns-in-Some-find-clause-answer : goal.returns-in-Some-find-clause-answer
@@ -62,10 +62,10 @@ returns-in-Some-find-clause-answer g c =
     c.find.ensures.moves.queue
     ∙ (sym c.front.ensures ∙ c.in-Some.is) in
     next_kept g.S.BlockSource.left g.W.World.told g.W.World.relations g.W.World.handles
-    c.find.new.actor.known s n (SaidStop (said_of c.in-Some-find.ending)) c.find.ensures.moves.keeps
-    c.find.ensures.moves.given
+    c.find.new.crew.actor.now.known s n (SaidStop (said_of c.in-Some-find.ending))
+    c.find.ensures.moves.keeps c.find.ensures.moves.given
     (stopped_by g.S.BlockSource.left g.W.World.told g.W.World.relations g.W.World.handles
-    c.find.new.actor.known n (hand_from n.current a.block) [] (paid_at n.current a.block) a
+    c.find.new.crew.actor.now.known n (hand_from n.current a.block) [] (paid_at n.current a.block) a
     c.in-Some-find.ending first c.find.ensures.reaches.underway c.in-Some-find.ensures.stop).0
 
 pub returns-in-None-clause-between : goal.returns-in-None-clause-between
@@ -75,7 +75,7 @@ returns-in-None-clause-between g c =
     c.find.ensures.moves.queue
     ∙ (sym c.front.ensures ∙ c.in-Some.is) in
     given_between g.S.BlockSource.left g.W.World.told g.W.World.relations g.W.World.handles
-    c.find.new.actor.known n c.give.new.self c.in-Some.asked first c.give.ensures
+    c.find.new.crew.actor.now.known n c.give.new.self c.in-Some.asked first c.give.ensures
     c.find.ensures.reaches.underway c.in-None.ensures.page
 
 pub returns-in-None-clause-answer : goal.returns-in-None-clause-answer
@@ -87,9 +87,9 @@ returns-in-None-clause-answer g c =
     c.find.ensures.moves.queue
     ∙ (sym c.front.ensures ∙ c.in-Some.is) in
     next_kept g.S.BlockSource.left g.W.World.told g.W.World.relations g.W.World.handles
-    c.find.new.actor.known s n (said_by m.scope.relation m.step (shown m))
+    c.find.new.crew.actor.now.known s n (said_by m.scope.relation m.step (shown m))
     c.find.ensures.moves.keeps
     c.find.ensures.moves.given
     (given_next g.S.BlockSource.left g.W.World.told g.W.World.relations g.W.World.handles
-    c.find.new.actor.known n m c.in-Some.asked first c.give.ensures
+    c.find.new.crew.actor.now.known n m c.in-Some.asked first c.give.ensures
     c.find.ensures.reaches.underway c.in-None.ensures.page)

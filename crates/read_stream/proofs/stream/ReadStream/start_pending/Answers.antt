@@ -16,8 +16,8 @@ start-requires-clause-credit g c =
     let some = some_pending s.plan.combine s.plan.pending c.in-Some.run'
     (sym c.take_pending.ensures.run ∙ c.in-Some.is) c.in-Some.ensures.each in
     (may_start g.S.BlockSource.left g.W.World.told g.W.World.relations g.W.World.handles
-    c.args.actor.now.known c.args.actor.now.known s s c.requires.underway.0 c.requires.underway.1
-    (omega arith)).0
+    c.args.crew.now.actor.now.known c.args.crew.now.actor.now.known s s c.requires.underway.0
+    c.requires.underway.1 (omega arith)).0
 
 pub start-requires-clause-room : goal.start-requires-clause-room
 start-requires-clause-room g c =
@@ -25,8 +25,8 @@ start-requires-clause-room g c =
     let some = some_pending s.plan.combine s.plan.pending c.in-Some.run'
     (sym c.take_pending.ensures.run ∙ c.in-Some.is) c.in-Some.ensures.each in
     (may_start g.S.BlockSource.left g.W.World.told g.W.World.relations g.W.World.handles
-    c.args.actor.now.known c.args.actor.now.known s s c.requires.underway.0 c.requires.underway.1
-    (omega arith)).1
+    c.args.crew.now.actor.now.known c.args.crew.now.actor.now.known s s c.requires.underway.0
+    c.requires.underway.1 (omega arith)).1
 
 pub returns-in-Some-clause-underway : goal.returns-in-Some-clause-underway
 returns-in-Some-clause-underway g c = λ behind u.
@@ -35,10 +35,10 @@ returns-in-Some-clause-underway g c = λ behind u.
     let run : Run = c.in-Some.run' in
     let is = c.take_pending.ensures.rest in
     underway_started g.S.BlockSource.left g.W.World.told g.W.World.relations g.W.World.handles
-    c.args.actor.now.known c.start.new.actor.known s c.start.new.self _ _ _ _ pl run behind behind u
-    (same_plan s.plan pl None is)
+    c.args.crew.now.actor.now.known c.start.new.crew.actor.now.known s c.start.new.self _ _ _ _ pl
+    run behind behind u (same_plan s.plan pl None is)
     (ap (λ (z : Option Run). pending_in z ++ behind) (sym c.take_pending.ensures.run ∙ c.in-Some.is)
     ∙ sym (ap (λ (z : Planned). blocks_of run ++ (pending_in z.pending ++ behind)) is))
     (subst (λ (z : ℕ). IsRun z run) u.going.combine c.in-Some.ensures.each)
-    c.start.ensures.starts c.requires.free c.start.ensures.went c.start.ensures.issued
+    c.start.ensures.starts c.requires.free c.start.ensures.serves.went c.start.ensures.issued
     c.start.ensures.few c.start.ensures.runs

@@ -5,12 +5,13 @@ pub returns-then-is_alone-clause-underway : goal.returns-then-is_alone-clause-un
 returns-then-is_alone-clause-underway g c =
     let done = c.submit.ensures in
     underway_submitted g.S.BlockSource.left g.W.World.told g.W.World.relations g.W.World.handles
-    c.args.actor.now.known c.submit.new.actor.known c.args.self.now _ _ _ _ done.went
-    c.submit.new.self done.issued done.none done.all done.runs
+    c.args.crew.now.actor.now.known c.submit.new.crew.actor.now.known c.args.self.now _ _ _ _
+    done.serves.went c.submit.new.self done.issued done.none done.all done.runs
 
 pub returns-else-is_alone-clause-underway : goal.returns-else-is_alone-clause-underway
 returns-else-is_alone-clause-underway g c =
     let done = c.submit-else-is_alone.ensures in
     underway_submitted g.S.BlockSource.left g.W.World.told g.W.World.relations g.W.World.handles
-    c.args.actor.now.known c.submit-else-is_alone.new.actor.known c.args.self.now _ _ _ _ done.went
-    c.submit-else-is_alone.new.self done.issued done.none done.all done.runs
+    c.args.crew.now.actor.now.known c.submit-else-is_alone.new.crew.actor.now.known c.args.self.now
+    _ _ _ _ done.serves.went c.submit-else-is_alone.new.self done.issued done.none done.all
+    done.runs

@@ -16,8 +16,8 @@ offer-requires-clause-underway g c =
     let near = c.requires.ahead.0 in
     let far = c.distance.ensures in
     underway_asked g.S.BlockSource.left g.W.World.told g.W.World.relations g.W.World.handles
-    c.args.actor.now.known c.args.actor.now.known s c.ask.new.self c.next.new.self a
-    c.in-Some.ensures.first c.ask.ensures (omega arith) c.requires.underway
+    c.args.crew.now.actor.now.known c.args.crew.now.actor.now.known s c.ask.new.self c.next.new.self
+    a c.in-Some.ensures.first c.ask.ensures (omega arith) c.requires.underway
 
 pub look_for-requires-clause-underway : goal.look_for-requires-clause-underway
 look_for-requires-clause-underway g c =
@@ -30,8 +30,8 @@ look_for-requires-clause-underway g c =
     let near = c.requires.ahead.0 in
     let far = c.distance.ensures in
     subst (λ (z : List ℕ). UnderwayBut g.S.BlockSource.left g.W.World.told g.W.World.relations
-    g.W.World.handles (rest_of n.current n.step) z 0 c.args.actor.now.known n)
+    g.W.World.handles (rest_of n.current n.step) z 0 c.args.crew.now.actor.now.known n)
     (sym c.in-Some-want.ensures.1)
     (underway_asked g.S.BlockSource.left g.W.World.told g.W.World.relations g.W.World.handles
-    c.args.actor.now.known c.args.actor.now.known s n c.next.new.self a
+    c.args.crew.now.actor.now.known c.args.crew.now.actor.now.known s n c.next.new.self a
     c.in-Some.ensures.first c.ask.ensures (omega arith) c.requires.underway)

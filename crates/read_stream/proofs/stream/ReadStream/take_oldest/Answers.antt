@@ -19,8 +19,8 @@ unreachable-requires g c =
     let first = first-of s.desk.now.wants.items (want.Run c.args.run) c.requires.run in
     subst (λ (z : Option Reading). IsOneFor c.args.run z) c.in_default.is
     (c.oldest.ensures.runs c.requires.staged c.args.run (runs_in ws)
-    (subst (λ (z : List Want). AreFor s.scope c.args.actor.now.known s.desk.now.reads (runs_in z))
-    first c.requires.underway.going.runs)).0
+    (subst (λ (z : List Want). AreFor s.scope c.args.crew.now.actor.now.known s.desk.now.reads
+    (runs_in z)) first c.requires.underway.going.runs)).0
 
 pub returns-clause-reaches : goal.returns-clause-reaches
 returns-clause-reaches g c =
@@ -30,14 +30,14 @@ returns-clause-reaches g c =
     let first = first-of s.desk.now.wants.items (want.Run c.args.run) c.requires.run in
     let all = c.oldest.ensures.all in
     let one = c.oldest.ensures.runs c.requires.staged c.args.run (runs_in ws)
-    (subst (λ (z : List Want). AreFor s.scope c.args.actor.now.known s.desk.now.reads
+    (subst (λ (z : List Want). AreFor s.scope c.args.crew.now.actor.now.known s.desk.now.reads
     (runs_in z)) first c.requires.underway.going.runs) in
     let far = same_far m.plan c.waited.new.self _ c.waited.ensures in
     let none : length c.oldest.new.self.batch ≡ 0 =
     ap (λ (z : List _). length z) (all.1 ∙ c.requires.staged) in
     reaches_run g.S.BlockSource.left g.W.World.told g.W.World.relations g.W.World.handles
-    c.args.actor.now.known c.oldest.new.actor.known s m c.oldest.new.self c.waited.new.self
-    c.in-Some.io c.args.run ws c.args.block c.requires.none.0 c.requires.none.1 first
-    c.requires.front c.requires.underway c.oldest.ensures.issued c.in-Some.ensures.some.0
+    c.args.crew.now.actor.now.known c.oldest.new.crew.actor.now.known s m c.oldest.new.self
+    c.waited.new.self c.in-Some.io c.args.run ws c.args.block c.requires.none.0 c.requires.none.1
+    first c.requires.front c.requires.underway c.oldest.ensures.issued c.in-Some.ensures.some.0
     (subst (λ (z : Option Reading). IsOneFor c.args.run z) c.in-Some.is one.0) (omega arith)
     c.in-Some.ensures.some.1 all.2 all.0 all.3 one.1 c.skip_want.ensures far.0 far.1

@@ -20,12 +20,12 @@ look-requires-clause-underway g c =
     let first = first-of s.desk.now.wants.items w (sym c.next_want.ensures
     ∙ (c.in-Some-Look.is ∙ ap (λ (z : Want). Some z) c.in-Some-Look.field-0-is)) in
     let same = front_want g.S.BlockSource.left g.W.World.told g.W.World.relations
-    g.W.World.handles c.args.actor.now.known s w ws b c.args.block first refl c.requires.front
-    c.requires.underway in
+    g.W.World.handles c.args.crew.now.actor.now.known s w ws b c.args.block first refl
+    c.requires.front c.requires.underway in
     subst (λ (z : ℕ). UnderwayBut g.S.BlockSource.left g.W.World.told g.W.World.relations
-    g.W.World.handles (z ∷ []) [] 0 c.args.actor.now.known n) same
+    g.W.World.handles (z ∷ []) [] 0 c.args.crew.now.actor.now.known n) same
     (underway_skipped g.S.BlockSource.left g.W.World.told g.W.World.relations g.W.World.handles
-    c.args.actor.now.known s n c.skip_want.ensures w ws first refl c.requires.underway)
+    c.args.crew.now.actor.now.known s n c.skip_want.ensures w ws first refl c.requires.underway)
 
 pub join-requires-clause-underway : goal.join-requires-clause-underway
 join-requires-clause-underway g c =
@@ -38,12 +38,12 @@ join-requires-clause-underway g c =
     let first = first-of s.desk.now.wants.items w (sym c.next_want.ensures
     ∙ (c.in-Some-Join.is ∙ ap (λ (z : Want). Some z) c.in-Some-Join.field-0-is)) in
     let same = front_want g.S.BlockSource.left g.W.World.told g.W.World.relations
-    g.W.World.handles c.args.actor.now.known s w ws b c.args.block first refl c.requires.front
-    c.requires.underway in
+    g.W.World.handles c.args.crew.now.actor.now.known s w ws b c.args.block first refl
+    c.requires.front c.requires.underway in
     subst (λ (z : ℕ). UnderwayBut g.S.BlockSource.left g.W.World.told g.W.World.relations
-    g.W.World.handles (z ∷ []) [] 0 c.args.actor.now.known n) same
+    g.W.World.handles (z ∷ []) [] 0 c.args.crew.now.actor.now.known n) same
     (underway_skipped g.S.BlockSource.left g.W.World.told g.W.World.relations g.W.World.handles
-    c.args.actor.now.known s n c.skip_want-in-Some-Join.ensures w ws first refl
+    c.args.crew.now.actor.now.known s n c.skip_want-in-Some-Join.ensures w ws first refl
     c.requires.underway)
 
 pub join-requires-clause-range : goal.join-requires-clause-range
@@ -60,5 +60,5 @@ unreachable-requires g c =
     let s : ReadStream g.row.W.Denot g.row.S.Denot g.row.P.Denot = c.args.self.now in
     let none = nothing-of s.desk.now.wants.items (sym c.next_want.ensures ∙ c.in-None.is) in
     no_front g.S.BlockSource.left g.W.World.told g.W.World.relations g.W.World.handles
-    c.args.actor.now.known s c.args.block none (c.requires.last none c.requires.none.0)
+    c.args.crew.now.actor.now.known s c.args.block none (c.requires.last none c.requires.none.0)
     c.requires.front c.requires.underway
