@@ -1,14 +1,13 @@
 //! A scan by any method.
-ghost use Rattle.std.specs.Prelude.{◌≡◌, ◌≢◌, ◌≤◌, ◌<◌, ◌+◌, ◌*◌, ℕ, [], length, None, IfErr, IfOk};
+ghost use Rattle.std.specs.Prelude.{◌≡◌, ◌≢◌, ◌<◌, ◌+◌, ◌*◌, length, None, IfErr, IfOk};
 ghost use Rattle.std.specs.List.{All};
-ghost use Rattle.aio_disk.specs.Counts.{raised_by};
+ghost use Rattle.scan_rounds.specs.Calls.{HasFollowed, HasMapped, MayFollow, MayMap};
 ghost use Rattle.scan_rounds.specs.Hands.{meter};
 ghost use Rattle.scan_rounds.specs.Opening.{AreSettings, workers_in};
-ghost use Rattle.scan_rounds.specs.Jobs.{unread_in};
-ghost use Rattle.scan_rounds.specs.Rounds.{IsMapRead, taken_by};
+ghost use Rattle.scan_rounds.specs.Rounds.{taken_by};
 ghost use Rattle.scan_rounds.specs.Skipping.{skips_by};
-ghost use Rattle.scan_rounds.specs.Scans.{IsFinished, IsScan, IsSameScan};
-ghost use Rattle.scan_rounds.specs.Scans.{hands_of, lists_of, manner_in, opened_by};
+ghost use Rattle.scan_rounds.specs.Scans.{IsFinished, IsScan};
+ghost use Rattle.scan_rounds.specs.Scans.{hands_of, lists_of, opened_by};
 ghost use Rattle.aioscan_cmd.specs.Listing.{skips_by_map};
 ghost use Rattle.aioscan_cmd.specs.Scanning.{IsNewScan, scan_in};
 
@@ -108,23 +107,11 @@ impl<W: World, D: Disk> AnyScan<W, D> {
         map: &mut VisMap,
         warnings: &mut Vec<u8>,
     ) -> Ending
-        requires scan { IsScan (meter D.told D.relations D.reads D.faults) W.told W.relations
-            (scan_in self.old) }
-        requires none { (map.old.added ≡ []) × (warnings.old.items ≡ []) }
-        requires relation { relation < W.relations }
-        requires room { 65 ≤ (scan_in self.old).room }
-        ensures scan { IsScan (meter D.told D.relations D.reads D.faults) W.told W.relations
-            (scan_in self.new) }
-        ensures same { IsSameScan (scan_in self.old) (scan_in self.new) }
-        ensures read { IsMapRead (manner_in (scan_in self.old)) W.told
-            (scan_in self.old).backends.items (scan_in self.new).backends.items relation
-            map.old.pages map.new warnings.new.items result }
-        ensures pages { map.new.pages ≡ map.old.pages }
-        ensures room { (scan_in self.old).room ≤ (scan_in self.new).room + 65 }
-        ensures unread { (scan_in self.new).unread
-            ≡ raised_by (unread_in result) (scan_in self.old).unread }
-        ensures taken { taken_by (scan_in self.new).backends.items
-            ≤ taken_by (scan_in self.old).backends.items + map.old.pages }
+        requires may { MayMap (meter D.told D.relations D.reads D.faults) W.told W.relations
+            relation (scan_in self.old) map.old warnings.old.items }
+        ensures mapped { HasMapped (meter D.told D.relations D.reads D.faults) W.told W.relations
+            relation (scan_in self.old) (scan_in self.new) map.old map.new warnings.new.items
+            result }
     {
         match self {
             AnyScan::Plain(scan) => scan.map(rt, relation, map, warnings),
@@ -151,21 +138,11 @@ impl<W: World, D: Disk> AnyScan<W, D> {
 impl<W: World + Send + Sync, D: Disk> AnyScan<W, D> {
     // All rounds of an agenda, until it is over.
     fn run<R: Threads + Wait + Sync, A: Agenda<W>>(&mut self, rt: &R, agenda: A) -> A
-        requires scan { IsScan (meter D.told D.relations D.reads D.faults) W.told W.relations
-            (scan_in self.old) }
-        requires room { 64 * A.left agenda ≤ (scan_in self.old).room }
-        requires manner { A.manner agenda ≡ manner_in (scan_in self.old) }
-        requires skips { A.skips agenda ≡ None }
-        ensures scan { IsScan (meter D.told D.relations D.reads D.faults) W.told W.relations
-            (scan_in self.new) }
-        ensures same { IsSameScan (scan_in self.old) (scan_in self.new) }
-        ensures follows { A.follows agenda result }
-        ensures over { A.is_over result }
-        ensures unread { (more : ℕ) × ((scan_in self.new).unread
-            ≡ raised_by more (scan_in self.old).unread)
-            × (A.unread result ≤ A.unread agenda + more) }
-        ensures taken { taken_by (scan_in self.new).backends.items + A.due result
-            ≤ taken_by (scan_in self.old).backends.items + A.due agenda }
+        requires may { MayFollow (meter D.told D.relations D.reads D.faults) W.told W.relations
+            A.left A.manner A.skips None (scan_in self.old) agenda }
+        ensures followed { HasFollowed (meter D.told D.relations D.reads D.faults) W.told
+            W.relations A.left A.due A.unread A.manner A.skips A.follows A.is_over (scan_in
+            self.old) (scan_in self.new) agenda result }
     {
         match self {
             AnyScan::Plain(scan) => scan.run(rt, agenda),
@@ -181,21 +158,11 @@ impl<W: World + Send + Sync, D: Disk> AnyScan<W, D> {
         map: &VisMap,
         skip: Skip,
     ) -> A
-        requires scan { IsScan (meter D.told D.relations D.reads D.faults) W.told W.relations
-            (scan_in self.old) }
-        requires room { 64 * A.left agenda ≤ (scan_in self.old).room }
-        requires manner { A.manner agenda ≡ manner_in (scan_in self.old) }
-        requires skips { A.skips agenda ≡ skips_by map.now skip }
-        ensures scan { IsScan (meter D.told D.relations D.reads D.faults) W.told W.relations
-            (scan_in self.new) }
-        ensures same { IsSameScan (scan_in self.old) (scan_in self.new) }
-        ensures follows { A.follows agenda result }
-        ensures over { A.is_over result }
-        ensures unread { (more : ℕ) × ((scan_in self.new).unread
-            ≡ raised_by more (scan_in self.old).unread)
-            × (A.unread result ≤ A.unread agenda + more) }
-        ensures taken { taken_by (scan_in self.new).backends.items + A.due result
-            ≤ taken_by (scan_in self.old).backends.items + A.due agenda }
+        requires may { MayFollow (meter D.told D.relations D.reads D.faults) W.told W.relations
+            A.left A.manner A.skips (skips_by map.now skip) (scan_in self.old) agenda }
+        ensures followed { HasFollowed (meter D.told D.relations D.reads D.faults) W.told
+            W.relations A.left A.due A.unread A.manner A.skips A.follows A.is_over (scan_in
+            self.old) (scan_in self.new) agenda result }
     {
         match self {
             AnyScan::Plain(scan) => scan.run_filtered(rt, agenda, map, skip),
@@ -211,21 +178,11 @@ impl<W: World + Send + Sync, D: Disk> AnyScan<W, D> {
         by_map: Option<ByMap<'_>>,
         agenda: A,
     ) -> A
-        requires scan { IsScan (meter D.told D.relations D.reads D.faults) W.told W.relations
-            (scan_in self.old) }
-        requires room { 64 * A.left agenda ≤ (scan_in self.old).room }
-        requires manner { A.manner agenda ≡ manner_in (scan_in self.old) }
-        requires skips { A.skips agenda ≡ skips_by_map by_map }
-        ensures scan { IsScan (meter D.told D.relations D.reads D.faults) W.told W.relations
-            (scan_in self.new) }
-        ensures same { IsSameScan (scan_in self.old) (scan_in self.new) }
-        ensures follows { A.follows agenda result }
-        ensures over { A.is_over result }
-        ensures unread { (more : ℕ) × ((scan_in self.new).unread
-            ≡ raised_by more (scan_in self.old).unread)
-            × (A.unread result ≤ A.unread agenda + more) }
-        ensures taken { taken_by (scan_in self.new).backends.items + A.due result
-            ≤ taken_by (scan_in self.old).backends.items + A.due agenda }
+        requires may { MayFollow (meter D.told D.relations D.reads D.faults) W.told W.relations
+            A.left A.manner A.skips (skips_by_map by_map) (scan_in self.old) agenda }
+        ensures followed { HasFollowed (meter D.told D.relations D.reads D.faults) W.told
+            W.relations A.left A.due A.unread A.manner A.skips A.follows A.is_over (scan_in
+            self.old) (scan_in self.new) agenda result }
     {
         match by_map {
             None => self.run(rt, agenda),

@@ -19,7 +19,8 @@ use Rattle.scan_rounds.specs.Progress.{AreWaiting, HasGone}
 use Rattle.scan_rounds.specs.Jobs.{IsFresh, IsListed, AreAnswered, blocks_among, entries_in}
 use Rattle.scan_rounds.specs.Manners.{Manner}
 use Rattle.scan_rounds.specs.Skipping.{Skips}
-use Rattle.scan_rounds.specs.Rounds.{AllGoOn, hand_of, taken_by}
+use Rattle.scan_rounds.specs.Courses.{Goes}
+use Rattle.scan_rounds.specs.Rounds.{AllGoOn, AllListIn, hand_of, taken_by}
 use Rattle.read_stream.specs.Went.{local_marks}
 use Rattle.scan_rounds.specs.declared.job.Job.{Job}
 use Rattle.scan_rounds.proofs.Blocks.{answer_wider}
@@ -156,6 +157,50 @@ module _ {W D : Type 0} (m : Meter D) (told : Option Told) (relations : ℕ) (t 
     raised = two.raised ∙ (ap (raised_by two.more) one.raised
         ∙ raised_twice one.more two.more a.unread);
     enough = omega (arith, one.enough, two.enough);
+  }
+
+module _ {W D A : Type 0} {m : Meter D} {told : Option Told} {relations : ℕ} {t : Named}
+    {q : Queue} {left due unread : A → ℕ} {manner : A → Manner} {skips : A → Option Skips}
+    {follows : A → A → Type 0} where
+  -- before the first round
+  pub no_rounds : (bs : List (Backend W D)) (js : List Job) (a : A) (counts : Counts)
+      → AreWaiting m told relations t q bs counts → AllListIn (manner a) bs → follows a a
+      → Goes m told relations t q left due unread manner skips follows bs bs js js a a counts counts
+  no_rounds bs js a counts waiting list_in itself = record {
+    waiting = waiting;
+    backends = refl;
+    places = refl;
+    left_fewer = omega arith;
+    due_fewer = omega arith;
+    all_list_in = list_in;
+    manner_is = refl;
+    skips_are = refl;
+    gone = gone_nowhere m told relations t q bs counts _ _ _ waiting (omega arith);
+    goes_on = itself;
+  }
+
+  -- some rounds, and then further ones by some of the places
+  pub rounds_then : {bs cs ds : List (Backend W D)} {js ks ls fs gs : List Job} {a b c : A}
+      {before between after : Counts}
+      → ((x y z : A) → follows x y → follows y z → follows x z)
+      → Goes m told relations t q left due unread manner skips follows bs cs js ks a b before
+      between
+      → Goes m told relations t q left due unread manner skips follows cs ds fs gs b c between
+      after → length ls ≡ length ks
+      → Goes m told relations t q left due unread manner skips follows bs ds js ls a c before after
+  rounds_then {bs} {cs} {ds} {js} {ks} {ls} {fs} {gs} {a} {b} {c} on one two same = record {
+    waiting = two.waiting;
+    backends = two.backends ∙ one.backends;
+    places = same ∙ one.places;
+    left_fewer = omega (arith, one.left_fewer, two.left_fewer);
+    due_fewer = omega (arith, one.due_fewer, two.due_fewer);
+    all_list_in = subst (λ (n : Manner). AllListIn n ds) one.manner_is two.all_list_in;
+    manner_is = two.manner_is ∙ one.manner_is;
+    skips_are = two.skips_are ∙ one.skips_are;
+    gone = gone_then m told relations t bs cs ds _ _ _ _ _ _ _ _ _ _ _ _ one.gone two.gone
+        (omega (arith, one.left_fewer, two.left_fewer))
+        (omega (arith, one.due_fewer, two.due_fewer)) (omega arith);
+    goes_on = on a b c one.goes_on two.goes_on;
   }
 
 -- jobs that are fresh ask for at least one block each

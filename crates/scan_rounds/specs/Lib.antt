@@ -8,7 +8,9 @@ pub mod Rings
 pub mod Hands
 pub mod Rounds
 pub mod Progress
+pub mod Courses
 pub mod Opening
 pub mod Scans
+pub mod Calls
 pub mod Turns
 pub mod Shares

@@ -1,10 +1,10 @@
 //! Backends and workers side by side: all rounds of a run, or one.
-ghost use Rattle.std.specs.Prelude.{◌≡◌, ◌≤◌, ◌<◌, ◌+◌, ◌-◌, ◌*◌, length, Option};
+ghost use Rattle.std.specs.Prelude.{◌≤◌, ◌<◌, ◌+◌, ◌-◌, length, Option};
 ghost use Rattle.std.specs.List.{All};
 ghost use Rattle.std.specs.Thread.{IsSync};
+ghost use Rattle.scan_rounds.specs.Courses.{Goes, MayGo};
 ghost use Rattle.scan_rounds.specs.Hands.{MayRun, MayServe, meter};
-ghost use Rattle.scan_rounds.specs.Progress.{AreWaiting, HasGone};
-ghost use Rattle.scan_rounds.specs.Rounds.{AllListIn, AllRan, AllWorked};
+ghost use Rattle.scan_rounds.specs.Rounds.{AllRan, AllWorked};
 ghost use Rattle.scan_rounds.specs.Skipping.{skips_of};
 
 use crate::agenda::Agenda;
@@ -44,31 +44,17 @@ pub(crate) fn run_beside<W: World + Send + Sync, D: Disk, R: Threads + Wait + Sy
     workers: Vec<Worker<W, D>>,
     course: Course<W, D, A>,
 ) -> (Vec<Worker<W, D>>, Course<W, D, A>)
-    requires may { All (MayServe (meter D.told D.relations D.reads D.faults) W.told W.relations
+    requires serve { All (MayServe (meter D.told D.relations D.reads D.faults) W.told W.relations
         common.now.table common.now.queue) workers.items }
-    requires waiting { AreWaiting (meter D.told D.relations D.reads D.faults) W.told W.relations
-        common.now.table common.now.queue course.backends.items course.counts }
-    requires jobs { length course.backends.items ≤ length course.jobs.items }
-    requires room { 64 * A.left course.agenda ≤ course.counts.room }
-    requires manner { AllListIn (A.manner course.agenda) course.backends.items }
-    requires skips { A.skips course.agenda ≡ skips_of skipping }
+    requires may { MayGo (meter D.told D.relations D.reads D.faults) W.told W.relations
+        common.now.table common.now.queue A.left A.manner A.skips (skips_of skipping)
+        course.backends.items course.jobs.items course.agenda course.counts }
     ensures worked { AllWorked (meter D.told D.relations D.reads D.faults) W.told W.relations
         common.now.table common.now.queue workers.items result.0.items }
-    ensures waiting { AreWaiting (meter D.told D.relations D.reads D.faults) W.told W.relations
-        common.now.table common.now.queue result.1.backends.items result.1.counts }
-    ensures many { (length result.1.backends.items ≡ length course.backends.items)
-        × (length result.1.jobs.items ≡ length course.jobs.items) }
-    ensures fewer { (A.left result.1.agenda ≤ A.left course.agenda)
-        × (A.due result.1.agenda ≤ A.due course.agenda) }
-    ensures manner { AllListIn (A.manner course.agenda) result.1.backends.items
-        × (A.manner result.1.agenda ≡ A.manner course.agenda)
-        × (A.skips result.1.agenda ≡ A.skips course.agenda) }
-    ensures gone { HasGone (meter D.told D.relations D.reads D.faults) W.told W.relations
-        common.now.table course.backends.items result.1.backends.items course.counts
-        result.1.counts (A.left course.agenda - A.left result.1.agenda)
-        (A.due course.agenda - A.due result.1.agenda)
-        (A.unread result.1.agenda - A.unread course.agenda) }
-    ensures follows { A.follows course.agenda result.1.agenda }
+    ensures goes { Goes (meter D.told D.relations D.reads D.faults) W.told W.relations
+        common.now.table common.now.queue A.left A.due A.unread A.manner A.skips A.follows
+        course.backends.items result.1.backends.items course.jobs.items result.1.jobs.items
+        course.agenda result.1.agenda course.counts result.1.counts }
     ensures over { A.is_over result.1.agenda }
 {
     thread::join(
@@ -80,27 +66,15 @@ pub(crate) fn run_beside<W: World + Send + Sync, D: Disk, R: Threads + Wait + Sy
                 common.entry.now.table common.entry.now.queue workers.items result.items }
         { serve_all(rt, common, workers) },
         move || -> Course<W, D, A>
-            requires { AreWaiting (meter D.told D.relations D.reads D.faults) W.told W.relations
-                common.now.table common.now.queue course.backends.items course.counts
-                × (length course.backends.items ≤ length course.jobs.items)
-                × (64 * A.left course.agenda ≤ course.counts.room)
-                × AllListIn (A.manner course.agenda) course.backends.items
-                × (A.skips course.agenda ≡ skips_of skipping) × IsSync R.row }
-            ensures { AreWaiting (meter D.told D.relations D.reads D.faults) W.told W.relations
-                common.entry.now.table common.entry.now.queue result.backends.items result.counts
-                × (length result.backends.items ≡ length course.backends.items)
-                × (length result.jobs.items ≡ length course.jobs.items)
-                × (A.left result.agenda ≤ A.left course.agenda)
-                × (A.due result.agenda ≤ A.due course.agenda)
-                × HasGone (meter D.told D.relations D.reads D.faults) W.told W.relations
-                common.entry.now.table course.backends.items result.backends.items course.counts
-                result.counts (A.left course.agenda - A.left result.agenda)
-                (A.due course.agenda - A.due result.agenda)
-                (A.unread result.agenda - A.unread course.agenda)
-                × AllListIn (A.manner course.agenda) result.backends.items
-                × (A.manner result.agenda ≡ A.manner course.agenda)
-                × (A.skips result.agenda ≡ A.skips course.agenda)
-                × A.follows course.agenda result.agenda × A.is_over result.agenda }
+            requires { MayGo (meter D.told D.relations D.reads D.faults) W.told W.relations
+                common.now.table common.now.queue A.left A.manner A.skips (skips_of skipping)
+                course.backends.items course.jobs.items course.agenda course.counts
+                × IsSync R.row }
+            ensures { Goes (meter D.told D.relations D.reads D.faults) W.told W.relations
+                common.entry.now.table common.entry.now.queue A.left A.due A.unread A.manner A.skips
+                A.follows course.backends.items result.backends.items course.jobs.items
+                result.jobs.items course.agenda result.agenda course.counts result.counts
+                × A.is_over result.agenda }
         { run_course(rt, common, skipping, course) },
     )
 }

@@ -1,12 +1,10 @@
 //! What a scan is asked for between its opening and its end.
-ghost use Rattle.std.specs.Prelude.{◌≡◌, ◌≤◌, ◌<◌, ◌+◌, ◌*◌, ℕ, [], length, None, Some};
+ghost use Rattle.std.specs.Prelude.{◌≡◌, ◌≤◌, ◌<◌, ◌+◌, ◌*◌, [], length, None, Some};
 ghost use Rattle.std.specs.List.{All};
-ghost use Rattle.aio_disk.specs.Counts.{raised_by};
+ghost use Rattle.scan_rounds.specs.Calls.{HasFollowed, HasMapped, HasRounded};
+ghost use Rattle.scan_rounds.specs.Calls.{MayFollow, MayMap, MayRound};
 ghost use Rattle.scan_rounds.specs.Hands.{IsBackend, meter};
-ghost use Rattle.scan_rounds.specs.Jobs.{IsFresh, blocks_among, kept_among, unread_among};
-ghost use Rattle.scan_rounds.specs.Jobs.{unread_in};
-ghost use Rattle.scan_rounds.specs.Rounds.{AreListed, HaveRoom, IsFirstRead, IsMapRead, taken_by};
-ghost use Rattle.scan_rounds.specs.Scans.{IsOpenedAgain, IsScan, IsSameScan, manner_in};
+ghost use Rattle.scan_rounds.specs.Rounds.{HaveRoom, IsFirstRead};
 ghost use Rattle.scan_rounds.specs.Skipping.{skips_by};
 
 use crate::agenda::Agenda;
@@ -82,21 +80,10 @@ impl<W: World, D: Disk> Scan<W, D> {
         map: &mut VisMap,
         warnings: &mut Vec<u8>,
     ) -> Ending
-        requires scan { IsScan (meter D.told D.relations D.reads D.faults) W.told W.relations
-            self.old }
-        requires none { (map.old.added ≡ []) × (warnings.old.items ≡ []) }
-        requires relation { relation < W.relations }
-        requires room { 65 ≤ self.old.room }
-        ensures scan { IsScan (meter D.told D.relations D.reads D.faults) W.told W.relations
-            self.new }
-        ensures same { IsSameScan self.old self.new }
-        ensures read { IsMapRead (manner_in self.old) W.told self.old.backends.items
-            self.new.backends.items relation map.old.pages map.new warnings.new.items result }
-        ensures pages { map.new.pages ≡ map.old.pages }
-        ensures room { self.old.room ≤ self.new.room + 65 }
-        ensures unread { self.new.unread ≡ raised_by (unread_in result) self.old.unread }
-        ensures taken { taken_by self.new.backends.items
-            ≤ taken_by self.old.backends.items + map.old.pages }
+        requires may { MayMap (meter D.told D.relations D.reads D.faults) W.told W.relations
+            relation self.old map.old warnings.old.items }
+        ensures mapped { HasMapped (meter D.told D.relations D.reads D.faults) W.told W.relations
+            relation self.old self.new map.old map.new warnings.new.items result }
     {
         let Scan {
             alloc,
@@ -122,22 +109,10 @@ impl<W: World + Send + Sync, D: Disk> Scan<W, D> {
     /// Where no thread can be made the parts run one after the other, the backends first, each of
     /// which executes what no worker has claimed.
     pub fn round<R: Threads + Wait + Sync>(&mut self, rt: &R, jobs: &mut [Job])
-        requires scan { IsScan (meter D.told D.relations D.reads D.faults) W.told W.relations
-            self.old }
-        requires few { (1 ≤ length jobs.old) × (length jobs.old ≤ length self.old.backends.items) }
-        requires fresh { All (IsFresh W.relations) jobs.old }
-        requires room { 64 ≤ self.old.room }
-        ensures scan { IsScan (meter D.told D.relations D.reads D.faults) W.told W.relations
-            self.new }
-        ensures same { IsSameScan self.old self.new }
-        ensures reopened { IsOpenedAgain self.old.backends.items self.old.common.queue
-            self.new.common.queue }
-        ensures listed { AreListed None (manner_in self.old) W.told self.old.backends.items
-            self.new.backends.items jobs.old jobs.new }
-        ensures room { self.old.room ≤ self.new.room + 64 }
-        ensures unread { self.new.unread ≡ raised_by (unread_among jobs.new) self.old.unread }
-        ensures taken { taken_by self.new.backends.items
-            ≤ taken_by self.old.backends.items + blocks_among jobs.old }
+        requires may { MayRound (meter D.told D.relations D.reads D.faults) W.told W.relations
+            self.old jobs.old }
+        ensures rounded { HasRounded (meter D.told D.relations D.reads D.faults) W.told W.relations
+            None self.old self.new jobs.old jobs.new }
     {
         self.round_by(rt, None, jobs);
     }
@@ -150,22 +125,10 @@ impl<W: World + Send + Sync, D: Disk> Scan<W, D> {
         map: &VisMap,
         skip: Skip,
     )
-        requires scan { IsScan (meter D.told D.relations D.reads D.faults) W.told W.relations
-            self.old }
-        requires few { (1 ≤ length jobs.old) × (length jobs.old ≤ length self.old.backends.items) }
-        requires fresh { All (IsFresh W.relations) jobs.old }
-        requires room { 64 ≤ self.old.room }
-        ensures scan { IsScan (meter D.told D.relations D.reads D.faults) W.told W.relations
-            self.new }
-        ensures same { IsSameScan self.old self.new }
-        ensures reopened { IsOpenedAgain self.old.backends.items self.old.common.queue
-            self.new.common.queue }
-        ensures listed { AreListed (skips_by map.now skip) (manner_in self.old) W.told
-            self.old.backends.items self.new.backends.items jobs.old jobs.new }
-        ensures room { self.old.room ≤ self.new.room + 64 }
-        ensures unread { self.new.unread ≡ raised_by (unread_among jobs.new) self.old.unread }
-        ensures taken { taken_by self.new.backends.items
-            ≤ taken_by self.old.backends.items + kept_among (skips_by map.now skip) jobs.old }
+        requires may { MayRound (meter D.told D.relations D.reads D.faults) W.told W.relations
+            self.old jobs.old }
+        ensures rounded { HasRounded (meter D.told D.relations D.reads D.faults) W.told W.relations
+            (skips_by map.now skip) self.old self.new jobs.old jobs.new }
     {
         self.round_by(rt, Some(Skipping { map, skip }), jobs);
     }
@@ -174,24 +137,11 @@ impl<W: World + Send + Sync, D: Disk> Scan<W, D> {
     /// and a later one as many as four, of which each backend does neighbouring jobs in one thread,
     /// one of them in the caller's. The workers live from the first turn to the last. It may wait.
     pub fn run<R: Threads + Wait + Sync, A: Agenda<W>>(&mut self, rt: &R, agenda: A) -> A
-        requires scan { IsScan (meter D.told D.relations D.reads D.faults) W.told W.relations
-            self.old }
-        requires room { 64 * A.left agenda ≤ self.old.room }
-        requires manner { A.manner agenda ≡ manner_in self.old }
-        requires skips { A.skips agenda ≡ None }
-        ensures scan { IsScan (meter D.told D.relations D.reads D.faults) W.told W.relations
-            self.new }
-        ensures same { IsSameScan self.old self.new }
-        ensures reopened { IsOpenedAgain self.old.backends.items self.old.common.queue
-            self.new.common.queue }
-        ensures follows { A.follows agenda result }
-        ensures over { A.is_over result }
-        ensures manner { A.manner result ≡ A.manner agenda }
-        ensures room { self.old.room + 64 * A.left result ≤ self.new.room + 64 * A.left agenda }
-        ensures unread { (more : ℕ) × (self.new.unread ≡ raised_by more self.old.unread)
-            × (A.unread result ≤ A.unread agenda + more) }
-        ensures taken { taken_by self.new.backends.items + A.due result
-            ≤ taken_by self.old.backends.items + A.due agenda }
+        requires may { MayFollow (meter D.told D.relations D.reads D.faults) W.told W.relations
+            A.left A.manner A.skips None self.old agenda }
+        ensures followed { HasFollowed (meter D.told D.relations D.reads D.faults) W.told
+            W.relations A.left A.due A.unread A.manner A.skips A.follows A.is_over self.old self.new
+            agenda result }
     {
         self.run_by(rt, None, agenda)
     }
@@ -204,24 +154,11 @@ impl<W: World + Send + Sync, D: Disk> Scan<W, D> {
         map: &VisMap,
         skip: Skip,
     ) -> A
-        requires scan { IsScan (meter D.told D.relations D.reads D.faults) W.told W.relations
-            self.old }
-        requires room { 64 * A.left agenda ≤ self.old.room }
-        requires manner { A.manner agenda ≡ manner_in self.old }
-        requires skips { A.skips agenda ≡ skips_by map.now skip }
-        ensures scan { IsScan (meter D.told D.relations D.reads D.faults) W.told W.relations
-            self.new }
-        ensures same { IsSameScan self.old self.new }
-        ensures reopened { IsOpenedAgain self.old.backends.items self.old.common.queue
-            self.new.common.queue }
-        ensures follows { A.follows agenda result }
-        ensures over { A.is_over result }
-        ensures manner { A.manner result ≡ A.manner agenda }
-        ensures room { self.old.room + 64 * A.left result ≤ self.new.room + 64 * A.left agenda }
-        ensures unread { (more : ℕ) × (self.new.unread ≡ raised_by more self.old.unread)
-            × (A.unread result ≤ A.unread agenda + more) }
-        ensures taken { taken_by self.new.backends.items + A.due result
-            ≤ taken_by self.old.backends.items + A.due agenda }
+        requires may { MayFollow (meter D.told D.relations D.reads D.faults) W.told W.relations
+            A.left A.manner A.skips (skips_by map.now skip) self.old agenda }
+        ensures followed { HasFollowed (meter D.told D.relations D.reads D.faults) W.told
+            W.relations A.left A.due A.unread A.manner A.skips A.follows A.is_over self.old self.new
+            agenda result }
     {
         self.run_by(rt, Some(Skipping { map, skip }), agenda)
     }

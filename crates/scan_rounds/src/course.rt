@@ -1,8 +1,9 @@
 //! The rounds of an agenda, one after the other.
-ghost use Rattle.std.specs.Prelude.{◌≡◌, ◌≤◌, ◌<◌, ◌+◌, ◌*◌, ◌-◌, length, map, false, true};
+ghost use Rattle.std.specs.Prelude.{◌≡◌, ◌<◌, ◌+◌, ◌*◌, ◌-◌, map, false, true};
+ghost use Rattle.scan_rounds.specs.Courses.{Goes, MayGo};
 ghost use Rattle.scan_rounds.specs.Hands.{meter};
 ghost use Rattle.scan_rounds.specs.Manners.{Manner};
-ghost use Rattle.scan_rounds.specs.Progress.{AreWaiting, HasGone};
+ghost use Rattle.scan_rounds.specs.Progress.{AreWaiting};
 ghost use Rattle.scan_rounds.specs.Rounds.{AllListIn, hand_of};
 ghost use Rattle.scan_rounds.specs.Skipping.{skips_of};
 
@@ -28,24 +29,12 @@ fn next_turn<W: World + Send + Sync, D: Disk, R: Threads + Wait + Sync, A: Agend
     agenda: &mut A,
     counts: &mut Counts,
 ) -> bool
-    requires waiting { AreWaiting (meter D.told D.relations D.reads D.faults) W.told W.relations
-        common.now.table common.now.queue backends.old counts.old }
-    requires jobs { length backends.old ≤ length jobs.old }
-    requires room { 64 * A.left agenda.old ≤ counts.old.room }
-    requires manner { AllListIn (A.manner agenda.old) backends.old }
-    requires skips { A.skips agenda.old ≡ skips_of skipping }
-    ensures waiting { AreWaiting (meter D.told D.relations D.reads D.faults) W.told W.relations
-        common.now.table common.now.queue backends.new counts.new }
-    ensures jobs { length jobs.new ≡ length jobs.old }
-    ensures fewer { (A.left agenda.new ≤ A.left agenda.old)
-        × (A.due agenda.new ≤ A.due agenda.old) }
-    ensures manner { AllListIn (A.manner agenda.old) backends.new
-        × (A.manner agenda.new ≡ A.manner agenda.old) × (A.skips agenda.new ≡ A.skips agenda.old) }
-    ensures gone { HasGone (meter D.told D.relations D.reads D.faults) W.told W.relations
-        common.now.table backends.old backends.new counts.old counts.new
-        (A.left agenda.old - A.left agenda.new) (A.due agenda.old - A.due agenda.new)
-        (A.unread agenda.new - A.unread agenda.old) }
-    ensures follows { A.follows agenda.old agenda.new }
+    requires may { MayGo (meter D.told D.relations D.reads D.faults) W.told W.relations
+        common.now.table common.now.queue A.left A.manner A.skips (skips_of skipping)
+        backends.old jobs.old agenda.old counts.old }
+    ensures goes { Goes (meter D.told D.relations D.reads D.faults) W.told W.relations
+        common.now.table common.now.queue A.left A.due A.unread A.manner A.skips A.follows
+        backends.old backends.new jobs.old jobs.new agenda.old agenda.new counts.old counts.new }
     ensures over { result ≡ false → A.is_over agenda.new }
     ensures nearer { result ≡ true → A.left agenda.new < A.left agenda.old }
 {
@@ -56,46 +45,6 @@ fn next_turn<W: World + Send + Sync, D: Disk, R: Threads + Wait + Sync, A: Agend
     let (front, _) = jobs.split_at_mut(count);
     *counts = take_turn(rt, common, skipping, backends, front, *counts);
     agenda.end(front)
-}
-
-// All rounds of an agenda, in turns: a round by itself first, and then more and more in one turn.
-fn all_rounds<W: World + Send + Sync, D: Disk, R: Threads + Wait + Sync, A: Agenda<W>>(
-    rt: &R,
-    common: &Common<W>,
-    skipping: Option<Skipping<'_>>,
-    backends: &mut [Backend<W, D>],
-    jobs: &mut [Job],
-    agenda: &mut A,
-    counts: &mut Counts,
-)
-    requires waiting { AreWaiting (meter D.told D.relations D.reads D.faults) W.told W.relations
-        common.now.table common.now.queue backends.old counts.old }
-    requires jobs { length backends.old ≤ length jobs.old }
-    requires room { 64 * A.left agenda.old ≤ counts.old.room }
-    requires manner { AllListIn (A.manner agenda.old) backends.old }
-    requires skips { A.skips agenda.old ≡ skips_of skipping }
-    ensures waiting { AreWaiting (meter D.told D.relations D.reads D.faults) W.told W.relations
-        common.now.table common.now.queue backends.new counts.new }
-    ensures jobs { length jobs.new ≡ length jobs.old }
-    ensures fewer { (A.left agenda.new ≤ A.left agenda.old)
-        × (A.due agenda.new ≤ A.due agenda.old) }
-    ensures manner { AllListIn (A.manner agenda.old) backends.new
-        × (A.manner agenda.new ≡ A.manner agenda.old) × (A.skips agenda.new ≡ A.skips agenda.old) }
-    ensures gone { HasGone (meter D.told D.relations D.reads D.faults) W.told W.relations
-        common.now.table backends.old backends.new counts.old counts.new
-        (A.left agenda.old - A.left agenda.new) (A.due agenda.old - A.due agenda.new)
-        (A.unread agenda.new - A.unread agenda.old) }
-    ensures follows { A.follows agenda.old agenda.new }
-    ensures over { A.is_over agenda.new }
-{
-    let mut many = backends.len();
-    loop {
-        let (front, _) = jobs.split_at_mut(many);
-        if !next_turn(rt, common, skipping, backends, front, agenda, counts) {
-            return;
-        }
-        many = jobs.len().min(many.saturating_mul(2));
-    }
 }
 
 // The first backend closes the queue, where it has a seat.
@@ -115,8 +64,9 @@ fn close_queue<W: World, D: Disk, R: Wait>(
     backends[0].close(rt, common);
 }
 
-// All rounds of an agenda; then the queue is closed.
-fn run_and_close<W: World + Send + Sync, D: Disk, R: Threads + Wait + Sync, A: Agenda<W>>(
+// All rounds of an agenda, in turns: a round by itself first, and then more and more in one turn.
+// Then the queue is closed.
+fn all_rounds<W: World + Send + Sync, D: Disk, R: Threads + Wait + Sync, A: Agenda<W>>(
     rt: &R,
     common: &Common<W>,
     skipping: Option<Skipping<'_>>,
@@ -125,29 +75,23 @@ fn run_and_close<W: World + Send + Sync, D: Disk, R: Threads + Wait + Sync, A: A
     agenda: &mut A,
     counts: &mut Counts,
 )
-    requires waiting { AreWaiting (meter D.told D.relations D.reads D.faults) W.told W.relations
-        common.now.table common.now.queue backends.old counts.old }
-    requires jobs { length backends.old ≤ length jobs.old }
-    requires room { 64 * A.left agenda.old ≤ counts.old.room }
-    requires manner { AllListIn (A.manner agenda.old) backends.old }
-    requires skips { A.skips agenda.old ≡ skips_of skipping }
-    ensures waiting { AreWaiting (meter D.told D.relations D.reads D.faults) W.told W.relations
-        common.now.table common.now.queue backends.new counts.new }
-    ensures many { (length backends.new ≡ length backends.old)
-        × (length jobs.new ≡ length jobs.old) }
-    ensures fewer { (A.left agenda.new ≤ A.left agenda.old)
-        × (A.due agenda.new ≤ A.due agenda.old) }
-    ensures manner { AllListIn (A.manner agenda.old) backends.new
-        × (A.manner agenda.new ≡ A.manner agenda.old) × (A.skips agenda.new ≡ A.skips agenda.old) }
-    ensures gone { HasGone (meter D.told D.relations D.reads D.faults) W.told W.relations
-        common.now.table backends.old backends.new counts.old counts.new
-        (A.left agenda.old - A.left agenda.new) (A.due agenda.old - A.due agenda.new)
-        (A.unread agenda.new - A.unread agenda.old) }
-    ensures follows { A.follows agenda.old agenda.new }
+    requires may { MayGo (meter D.told D.relations D.reads D.faults) W.told W.relations
+        common.now.table common.now.queue A.left A.manner A.skips (skips_of skipping)
+        backends.old jobs.old agenda.old counts.old }
+    ensures goes { Goes (meter D.told D.relations D.reads D.faults) W.told W.relations
+        common.now.table common.now.queue A.left A.due A.unread A.manner A.skips A.follows
+        backends.old backends.new jobs.old jobs.new agenda.old agenda.new counts.old counts.new }
     ensures over { A.is_over agenda.new }
 {
-    all_rounds(rt, common, skipping, backends, jobs, agenda, counts);
-    close_queue(rt, common, backends, *counts);
+    let mut many = backends.len();
+    loop {
+        let (front, _) = jobs.split_at_mut(many);
+        if !next_turn(rt, common, skipping, backends, front, agenda, counts) {
+            close_queue(rt, common, backends, *counts);
+            return;
+        }
+        many = jobs.len().min(many.saturating_mul(2));
+    }
 }
 
 /// What goes through all rounds of a run, and comes back.
@@ -166,27 +110,13 @@ pub(crate) fn run_course<W: World + Send + Sync, D: Disk, R: Threads + Wait + Sy
     skipping: Option<Skipping<'_>>,
     course: Course<W, D, A>,
 ) -> Course<W, D, A>
-    requires waiting { AreWaiting (meter D.told D.relations D.reads D.faults) W.told W.relations
-        common.now.table common.now.queue course.backends.items course.counts }
-    requires jobs { length course.backends.items ≤ length course.jobs.items }
-    requires room { 64 * A.left course.agenda ≤ course.counts.room }
-    requires manner { AllListIn (A.manner course.agenda) course.backends.items }
-    requires skips { A.skips course.agenda ≡ skips_of skipping }
-    ensures waiting { AreWaiting (meter D.told D.relations D.reads D.faults) W.told W.relations
-        common.now.table common.now.queue result.backends.items result.counts }
-    ensures many { (length result.backends.items ≡ length course.backends.items)
-        × (length result.jobs.items ≡ length course.jobs.items) }
-    ensures fewer { (A.left result.agenda ≤ A.left course.agenda)
-        × (A.due result.agenda ≤ A.due course.agenda) }
-    ensures manner { AllListIn (A.manner course.agenda) result.backends.items
-        × (A.manner result.agenda ≡ A.manner course.agenda)
-        × (A.skips result.agenda ≡ A.skips course.agenda) }
-    ensures gone { HasGone (meter D.told D.relations D.reads D.faults) W.told W.relations
-        common.now.table course.backends.items result.backends.items course.counts
-        result.counts (A.left course.agenda - A.left result.agenda)
-        (A.due course.agenda - A.due result.agenda)
-        (A.unread result.agenda - A.unread course.agenda) }
-    ensures follows { A.follows course.agenda result.agenda }
+    requires may { MayGo (meter D.told D.relations D.reads D.faults) W.told W.relations
+        common.now.table common.now.queue A.left A.manner A.skips (skips_of skipping)
+        course.backends.items course.jobs.items course.agenda course.counts }
+    ensures goes { Goes (meter D.told D.relations D.reads D.faults) W.told W.relations
+        common.now.table common.now.queue A.left A.due A.unread A.manner A.skips A.follows
+        course.backends.items result.backends.items course.jobs.items result.jobs.items
+        course.agenda result.agenda course.counts result.counts }
     ensures over { A.is_over result.agenda }
 {
     let Course {
@@ -195,7 +125,7 @@ pub(crate) fn run_course<W: World + Send + Sync, D: Disk, R: Threads + Wait + Sy
         mut agenda,
         mut counts,
     } = course;
-    run_and_close(
+    all_rounds(
         rt,
         common,
         skipping,

@@ -1,12 +1,11 @@
 //! One round of a scan, and all rounds of a run, in their parts.
-ghost use Rattle.std.specs.Prelude.{◌≡◌, ◌≤◌, ◌<◌, ◌+◌, ◌*◌, ℕ, length, Option, IfSome};
+ghost use Rattle.std.specs.Prelude.{◌≡◌, ◌≤◌, ◌<◌, ◌+◌, ◌*◌, length, Option, IfSome};
 ghost use Rattle.std.specs.List.{All};
-ghost use Rattle.aio_disk.specs.Counts.{raised_by};
 ghost use Rattle.method_worker.specs.Shown.{IsSeatOf};
+ghost use Rattle.scan_rounds.specs.Calls.{HasFollowed, HasRounded, MayFollow, MayRound};
 ghost use Rattle.scan_rounds.specs.Hands.{meter};
-ghost use Rattle.scan_rounds.specs.Jobs.{IsFresh, kept_among, unread_among};
-ghost use Rattle.scan_rounds.specs.Rounds.{AreListed, Swapped, taken_by};
-ghost use Rattle.scan_rounds.specs.Scans.{IsOpenedAgain, IsScan, IsSameScan, manner_in};
+ghost use Rattle.scan_rounds.specs.Rounds.{Swapped};
+ghost use Rattle.scan_rounds.specs.Scans.{IsOpenedAgain};
 ghost use Rattle.scan_rounds.specs.Skipping.{skips_of};
 
 use crate::agenda::Agenda;
@@ -63,22 +62,10 @@ impl<W: World + Send + Sync, D: Disk> Scan<W, D> {
         skipping: Option<Skipping<'_>>,
         jobs: &mut [Job],
     )
-        requires scan { IsScan (meter D.told D.relations D.reads D.faults) W.told W.relations
-            self.old }
-        requires few { (1 ≤ length jobs.old) × (length jobs.old ≤ length self.old.backends.items) }
-        requires fresh { All (IsFresh W.relations) jobs.old }
-        requires room { 64 ≤ self.old.room }
-        ensures scan { IsScan (meter D.told D.relations D.reads D.faults) W.told W.relations
-            self.new }
-        ensures same { IsSameScan self.old self.new }
-        ensures reopened { IsOpenedAgain self.old.backends.items self.old.common.queue
-            self.new.common.queue }
-        ensures listed { AreListed (skips_of skipping.entry) (manner_in self.old) W.told
-            self.old.backends.items self.new.backends.items jobs.old jobs.new }
-        ensures room { self.old.room ≤ self.new.room + 64 }
-        ensures unread { self.new.unread ≡ raised_by (unread_among jobs.new) self.old.unread }
-        ensures taken { taken_by self.new.backends.items
-            ≤ taken_by self.old.backends.items + kept_among (skips_of skipping.entry) jobs.old }
+        requires may { MayRound (meter D.told D.relations D.reads D.faults) W.told W.relations
+            self.old jobs.old }
+        ensures rounded { HasRounded (meter D.told D.relations D.reads D.faults) W.told W.relations
+            (skips_of skipping.entry) self.old self.new jobs.old jobs.new }
     {
         let Scan {
             alloc,
@@ -108,25 +95,11 @@ impl<W: World + Send + Sync, D: Disk> Scan<W, D> {
         skipping: Option<Skipping<'_>>,
         agenda: A,
     ) -> A
-        requires scan { IsScan (meter D.told D.relations D.reads D.faults) W.told W.relations
-            self.old }
-        requires room { 64 * A.left agenda ≤ self.old.room }
-        requires manner { A.manner agenda ≡ manner_in self.old }
-        requires skips { A.skips agenda ≡ skips_of skipping }
-        ensures scan { IsScan (meter D.told D.relations D.reads D.faults) W.told W.relations
-            self.new }
-        ensures same { IsSameScan self.old self.new }
-        ensures reopened { IsOpenedAgain self.old.backends.items self.old.common.queue
-            self.new.common.queue }
-        ensures follows { A.follows agenda result }
-        ensures over { A.is_over result }
-        ensures manner { (A.manner result ≡ A.manner agenda)
-            × (A.skips result ≡ A.skips agenda) }
-        ensures room { self.old.room + 64 * A.left result ≤ self.new.room + 64 * A.left agenda }
-        ensures unread { (more : ℕ) × (self.new.unread ≡ raised_by more self.old.unread)
-            × (A.unread result ≤ A.unread agenda + more) }
-        ensures taken { taken_by self.new.backends.items + A.due result
-            ≤ taken_by self.old.backends.items + A.due agenda }
+        requires may { MayFollow (meter D.told D.relations D.reads D.faults) W.told W.relations
+            A.left A.manner A.skips (skips_of skipping) self.old agenda }
+        ensures followed { HasFollowed (meter D.told D.relations D.reads D.faults) W.told
+            W.relations A.left A.due A.unread A.manner A.skips A.follows A.is_over self.old self.new
+            agenda result }
     {
         let Scan {
             alloc,

@@ -16,14 +16,19 @@ use Rattle.aioscan_cmd.proofs.Telling.{tells_same, warns_none, warns_then}
 use Rattle.aioscan_cmd.proofs.Totals.{ended_done}
 use Rattle.aioscan_cmd.proofs.by_map.list_by_map.Goals as goal
 
-pub map-ending-requires-clause-relation : goal.map-ending-requires-clause-relation
-map-ending-requires-clause-relation g c κs within =
+pub map-ending-requires-clause-may : goal.map-ending-requires-clause-may
+map-ending-requires-clause-may g c κs within =
     let map = c.requires.map in
-    omega (
-      arith,
-      has_two c.args.asked map.map map.of.file c.requires.asked map.of.one_file map.given,
-      c.requires.world,
-    )
+    record {
+      scan = c.requires.scan;
+      relation_in = omega (
+        arith,
+        has_two c.args.asked map.map map.of.file c.requires.asked map.of.one_file map.given,
+        c.requires.world,
+      );
+      none = search rules;
+      room = omega (arith, c.requires.room);
+    }
 
 pub returns-in_default-clause-listed : goal.returns-in_default-clause-listed
 returns-in_default-clause-listed g c = (
@@ -37,7 +42,7 @@ pub returns-in-Done-clause-listed : goal.returns-in-Done-clause-listed
 returns-in-Done-clause-listed g c =
     let by = c.requires.map in
     let told = g.W.World.told in
-    let read = c.map-ending.ensures.read in
+    let read = c.map-ending.ensures.mapped.read in
     let found = c.map-ending.new.map in
     let given : ℕ → List ℕ = λ b. slice_index_or found.added b [] in
     let count = ap (λ m. m.pages) c.in-Ok.ensures ∙ c.map_pages.ensures.pages in
@@ -62,7 +67,7 @@ returns-in-Done-clause-listed g c =
                 c.map-ending.result some c.requires.manner count read by.map _;
           })
           c.list_rounds.ensures.lists,
-      (let first = c.map-ending.ensures.taken in
+      (let first = c.map-ending.ensures.mapped.taken in
           let second = c.list_rounds.ensures.taken in omega arith),
     )
 
@@ -70,7 +75,7 @@ pub returns : goal.returns
 returns g c =
     let by = c.requires.map in
     let told = g.W.World.told in
-    let read = c.map-ending.ensures.read in
+    let read = c.map-ending.ensures.mapped.read in
     let found = c.map-ending.new.map in
     let given : ℕ → List ℕ = λ b. slice_index_or found.added b [] in
     let count = ap (λ m. m.pages) c.in-Ok.ensures ∙ c.map_pages.ensures.pages in
@@ -79,8 +84,8 @@ returns g c =
     let cs = (scan_in c.map-ending.new.self).backends.items in
     let few = pages_asked c.args.asked by.map by.given told given in
     record {
-      scan = c.map-ending.ensures.scan;
-      same = c.map-ending.ensures.same;
+      scan = c.map-ending.ensures.mapped.scan;
+      same = c.map-ending.ensures.mapped.same;
       listed = (
         given,
         record {
@@ -95,7 +100,7 @@ returns g c =
               (map_part _ _ told bs cs _ _ found c.map-ending.new.warnings.items
               c.map-ending.result some c.requires.manner count read by.map _));
         },
-        (let first = c.map-ending.ensures.taken in omega arith),
+        (let first = c.map-ending.ensures.mapped.taken in omega arith),
       );
       writes = record {
         later = omega arith;
@@ -105,5 +110,5 @@ returns g c =
       unread = λ r b is.
           (let one =
           unread_out 1 c.map-ending.result c.outcome_of.result r b c.outcome_of.ensures is in
-          let raised = c.map-ending.ensures.unread in omega arith);
+          let raised = c.map-ending.ensures.mapped.unread in omega arith);
     }

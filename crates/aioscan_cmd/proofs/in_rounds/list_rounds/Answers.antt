@@ -20,8 +20,8 @@ returns-clause-lists g c =
     (g.E.Sink.faults c.args.err.now) in
     let listed = all_listed g.W.World.told g.O.Sink.written g.O.Sink.faults g.E.Sink.written
     g.E.Sink.faults kept _ t refl (ap (kept_of skips) c.of-blocks.ensures.all)
-    (zero_sums c.default.result c.default.ensures) c.run_by-lister.ensures.follows
-    c.run_by-lister.ensures.over in
+    (zero_sums c.default.result c.default.ensures) c.run_by-lister.ensures.followed.goes_on
+    c.run_by-lister.ensures.followed.over in
     let manner_is = ap manner_by c.settings-settings.ensures.settings in
     let Z : Manner → Type 0 = λ m.
     Lists (way_of m) g.W.World.told kept (g.O.Sink.written c.args.out.now)
@@ -32,8 +32,8 @@ returns-clause-lists g c =
     let Q : g.row.E.Denot → Type 0 = λ e.
     Tells listed.warnings before
     (error_stream t.line (g.E.Sink.written e) (g.E.Sink.faults e)) in
-    let loan = c.run_by-lister.ensures.follows.0 in
-    let err_loan = c.run_by-lister.ensures.follows.1 in record {
+    let loan = c.run_by-lister.ensures.followed.goes_on.0 in
+    let err_loan = c.run_by-lister.ensures.followed.goes_on.1 in record {
       warnings = listed.warnings;
       tells = subst Q (sym (c.err-1.given.1 (sym err_loan) ∙ c.give_back-2.ensures)) listed.tells;
       are = subst P (sym (c.out-1.given.1 (sym loan) ∙ c.give_back.ensures))
@@ -45,13 +45,13 @@ returns-clause-writes g c =
     let P : g.row.O.Denot → Type 0 = λ o.
     HasWritten (g.O.Sink.faults c.args.out.now) (g.O.Sink.faults o)
     c.run_by-lister.result.outcome in
-    let loan = c.run_by-lister.ensures.follows.0 in
+    let loan = c.run_by-lister.ensures.followed.goes_on.0 in
     let skips = skips_by_map c.args.by_map in
     subst P (search (rules, loan, c.out-1.given.1))
     (all_written g.W.World.told g.O.Sink.written g.O.Sink.faults g.E.Sink.written
     g.E.Sink.faults (kept_of skips (requests_for c.args.asked)) _ c.run_by-lister.result refl
     (ap (kept_of skips) c.of-blocks.ensures.all) (zero_sums c.default.result c.default.ensures)
-    c.run_by-lister.ensures.follows)
+    c.run_by-lister.ensures.followed.goes_on)
 
 pub returns-clause-sums : goal.returns-clause-sums
 returns-clause-sums g c = λ done.
@@ -63,4 +63,4 @@ returns-clause-sums g c = λ done.
     (all_summed g.W.World.told g.O.Sink.written g.O.Sink.faults g.E.Sink.written
     g.E.Sink.faults kept _ c.run_by-lister.result refl
     (ap (kept_of skips) c.of-blocks.ensures.all) (zero_sums c.default.result c.default.ensures)
-    c.run_by-lister.ensures.follows c.run_by-lister.ensures.over done))
+    c.run_by-lister.ensures.followed.goes_on c.run_by-lister.ensures.followed.over done))

@@ -1,78 +1,63 @@
 use Rattle.std.proofs.Common.{rules, refl, sym, subst, arith, ◌∙◌}
 use Rattle.scan_rounds.specs.Manners.{Manner}
 use Rattle.scan_rounds.specs.Rounds.{AllListIn}
-use Rattle.scan_rounds.proofs.Going.{gone_nowhere, gone_then, as_many_hands}
+use Rattle.scan_rounds.proofs.Going.{as_many_hands, gone_as, no_rounds, rounds_then}
 use Rattle.scan_rounds.proofs.course.all_rounds.Goals as goal
 
-pub loop-many-init : goal.loop-many-init
-loop-many-init g c = record {
-  waiting = c.requires.waiting;
-  jobs = refl;
-  many = (c.requires.waiting.some, c.requires.jobs, omega arith);
-  backends = refl;
-  fewer = (omega arith, omega arith);
-  room = c.requires.room;
-  gone = gone_nowhere _ _ _ _ _ _ _ _ _ _ c.requires.waiting (omega arith);
-  all_list_in = c.requires.manner;
-  manner = refl;
-  skips = refl;
-  follows = g.met.A.Agenda.follows_itself c.args.agenda.now;
-}
-
-pub loop-many-preserved : goal.loop-many-preserved
-loop-many-preserved g c =
-    let i = c.loop-many.invariant in
-    let e = c.next_turn.ensures in record {
-      waiting = e.waiting;
-      jobs = search rules;
-      many = search rules;
-      backends = as_many_hands _ _ _ _ _ _ e.gone.go_on ∙ i.backends;
-      fewer = (
-        (let a = e.fewer.0 in let b = i.fewer.0 in omega arith),
-        (let a = e.fewer.1 in let b = i.fewer.1 in omega arith),
-      );
-      room = (let a = e.gone.room in let b = i.room in let f = e.fewer.0 in omega arith);
-      gone = gone_then _ _ _ _ _ _ _ _ _ _ _ _ _ _ _ _ _ _ _ i.gone e.gone
-          (let a = e.fewer.0 in let b = i.fewer.0 in omega arith)
-          (let a = e.fewer.1 in let b = i.fewer.1 in omega arith) (omega arith);
-      all_list_in = subst (λ (n : Manner). AllListIn n c.next_turn.new.backends) i.manner
-          e.manner.0;
-      manner = e.manner.1 ∙ i.manner;
-      skips = e.manner.2 ∙ i.skips;
-      follows = g.met.A.Agenda.follows_on _ _ _ i.follows e.follows;
+pub loop-backends-init : goal.loop-backends-init
+loop-backends-init g c =
+    let may = c.requires.may in
+    record {
+      goes = no_rounds _ _ _ _ may.waiting may.all_list_in
+          (g.met.A.Agenda.follows_itself c.args.agenda.now);
+      many = (may.waiting.some, may.places, omega arith);
+      room = may.room;
     }
 
-pub returns-then-not-next_turn-clause-gone : goal.returns-then-not-next_turn-clause-gone
-returns-then-not-next_turn-clause-gone g c =
-    let i = c.loop-many.invariant in
-    let e = c.next_turn.ensures in
-    gone_then _ _ _ _ _ _ _ _ _ _ _ _ _ _ _ _ _ _ _ i.gone e.gone
-    (let a = e.fewer.0 in let b = i.fewer.0 in omega arith)
-    (let a = e.fewer.1 in let b = i.fewer.1 in omega arith) (omega arith)
+pub next_turn-requires-clause-may : goal.next_turn-requires-clause-may
+next_turn-requires-clause-may g c κs within =
+    let i = c.loop-backends.invariant in
+    record {
+      waiting = i.goes.waiting;
+      places = search rules;
+      room = i.room;
+      all_list_in = subst (λ (n : Manner). AllListIn n c.loop-backends.backends)
+          (sym i.goes.manner_is) i.goes.all_list_in;
+      skips_are = i.goes.skips_are ∙ c.requires.may.skips_are;
+    }
 
-pub next_turn-requires-clause-manner : goal.next_turn-requires-clause-manner
-next_turn-requires-clause-manner g c κs within =
-    let i = c.loop-many.invariant in
-    subst (λ (n : Manner). AllListIn n c.loop-many.backends) (sym i.manner) i.all_list_in
+pub loop-backends-preserved : goal.loop-backends-preserved
+loop-backends-preserved g c =
+    let i = c.loop-backends.invariant in
+    let e = c.next_turn.ensures.goes in
+    record {
+      goes = rounds_then g.met.A.Agenda.follows_on i.goes e (search rules);
+      many = search rules;
+      room = (let asked = e.gone.room in let room = i.room in let fewer = e.left_fewer in
+          omega arith);
+    }
 
-pub returns-then-not-next_turn-clause-manner : goal.returns-then-not-next_turn-clause-manner
-returns-then-not-next_turn-clause-manner g c =
-    let i = c.loop-many.invariant in
-    let e = c.next_turn.ensures in (
-      subst (λ (n : Manner). AllListIn n c.next_turn.new.backends) i.manner e.manner.0,
-      e.manner.1 ∙ i.manner,
-      e.manner.2 ∙ i.skips,
-    )
-
-pub next_turn-requires-clause-skips : goal.next_turn-requires-clause-skips
-next_turn-requires-clause-skips g c κs within = c.loop-many.invariant.skips ∙ c.requires.skips
-
-pub returns-then-not-next_turn-clause-follows : goal.returns-then-not-next_turn-clause-follows
-returns-then-not-next_turn-clause-follows g c =
-    g.met.A.Agenda.follows_on _ _ _ c.loop-many.invariant.follows c.next_turn.ensures.follows
+pub returns-then-not-next_turn-clause-goes : goal.returns-then-not-next_turn-clause-goes
+returns-then-not-next_turn-clause-goes g c =
+    let e = rounds_then g.met.A.Agenda.follows_on c.loop-backends.invariant.goes
+    c.next_turn.ensures.goes (search rules) in
+    let closed = c.close_queue.ensures in
+    let gone = gone_as _ _ _ _ _ _ _ _ _ _ _ _ _ refl closed.hands e.gone in
+    record {
+      waiting = closed.waiting;
+      backends = as_many_hands _ _ _ _ _ _ gone.go_on;
+      places = e.places;
+      left_fewer = e.left_fewer;
+      due_fewer = e.due_fewer;
+      all_list_in = closed.manner _ e.all_list_in;
+      manner_is = e.manner_is;
+      skips_are = e.skips_are;
+      gone = gone;
+      goes_on = e.goes_on;
+    }
 
 pub returns-then-not-next_turn-clause-over : goal.returns-then-not-next_turn-clause-over
 returns-then-not-next_turn-clause-over g c = c.next_turn.ensures.over (search rules)
 
-pub loop-many-smaller : goal.loop-many-smaller
-loop-many-smaller g c = c.next_turn.ensures.nearer (search rules)
+pub loop-backends-smaller : goal.loop-backends-smaller
+loop-backends-smaller g c = c.next_turn.ensures.nearer (search rules)

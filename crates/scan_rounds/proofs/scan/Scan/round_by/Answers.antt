@@ -9,70 +9,40 @@ pub round_beside-own_workers-requires-clause-serve :
     goal.round_beside-own_workers-requires-clause-serve
 round_beside-own_workers-requires-clause-serve g c κs within =
     let r = c.reopen_queue-waiting.ensures in
-    serving_in _ _ _ c.args.self.now _ _ _ c.requires.scan r.table r.queue.0 r.queue.1
+    serving_in _ _ _ c.args.self.now _ _ _ c.requires.may.scan r.table r.queue.0 r.queue.1
     (search rules)
 
 pub round_beside-own_workers-requires-clause-may : goal.round_beside-own_workers-requires-clause-may
 round_beside-own_workers-requires-clause-may g c κs within =
     let r = c.reopen_queue-waiting.ensures in
-    round_may _ _ _ c.args.self.now _ _ _ _ _ _ c.requires.scan r.table r.queue.0 r.queue.1
-    (search rules) c.requires.fresh c.requires.few.1 c.requires.room c.exchange-ready.ensures
+    round_may _ _ _ c.args.self.now _ _ _ _ _ _ c.requires.may.scan r.table r.queue.0 r.queue.1
+    (search rules) c.requires.may.fresh c.requires.may.few.1 c.requires.may.room
+    c.exchange-ready.ensures
 
-pub returns-clause-scan : goal.returns-clause-scan
-returns-clause-scan g c =
+pub returns : goal.returns
+returns g c =
+    let may = c.requires.may in
     let r = c.reopen_queue-waiting.ensures in
     let e = c.round_beside-own_workers.ensures in
-    let d = round_done _ _ _ c.args.self.now _ _ _ _ _ _ c.requires.scan r.table r.queue.0 r.queue.1
-    (search rules) c.requires.fresh c.requires.few.1 c.requires.room c.exchange-ready.ensures _ _ _
-    c.least_room.result _
-    e.ran c.exchange-idle.ensures (search rules) c.count_unread.ensures in
-    scan_again _ _ _ c.args.self.now _ _ _ c.requires.scan r.table (search rules) (search rules)
-    d.now
-    e.worked d.go_on d.all_list_in d.many refl refl refl refl
-
-pub returns-clause-same : goal.returns-clause-same
-returns-clause-same g c =
-    let r = c.reopen_queue-waiting.ensures in
-    let e = c.round_beside-own_workers.ensures in
-    let d = round_done _ _ _ c.args.self.now _ _ _ _ _ _ c.requires.scan r.table r.queue.0 r.queue.1
-    (search rules) c.requires.fresh c.requires.few.1 c.requires.room c.exchange-ready.ensures _ _ _
-    c.least_room.result _
-    e.ran c.exchange-idle.ensures (search rules) c.count_unread.ensures in record {
-      config = ap (λ (t : Named). t.config) r.table;
-      as_many = d.many ∙ (search rules);
-      opened = refl;
-      manner_kept = refl;
+    let d = round_done _ _ _ c.args.self.now _ _ _ _ _ _ may.scan r.table r.queue.0 r.queue.1
+    (search rules) may.fresh may.few.1 may.room c.exchange-ready.ensures _ _ _
+    c.least_room.result _ e.ran c.exchange-idle.ensures (search rules) c.count_unread.ensures in
+    record {
+      rounded = record {
+        scan = scan_again _ _ _ c.args.self.now _ _ _ may.scan r.table (search rules) (search rules)
+            d.now e.worked d.go_on d.all_list_in d.many refl refl refl refl;
+        same = record {
+          config = ap (λ (t : Named). t.config) r.table;
+          as_many = d.many ∙ (search rules);
+          opened = refl;
+          manner_kept = refl;
+        };
+        reopened = subst (λ own. IsOpenedAgain own.items c.args.self.now.common.queue
+            c.reopen_queue-waiting.new.common.queue)
+            c.replace-own_backends.ensures.value r.reopened;
+        listed = d.listed;
+        room = d.fallen;
+        unread = c.count_unread.ensures;
+        taken = d.taken;
+      };
     }
-
-pub returns-clause-reopened : goal.returns-clause-reopened
-returns-clause-reopened g c =
-    subst (λ own. IsOpenedAgain own.items c.args.self.now.common.queue
-    c.reopen_queue-waiting.new.common.queue)
-    c.replace-own_backends.ensures.value c.reopen_queue-waiting.ensures.reopened
-
-pub returns-clause-listed : goal.returns-clause-listed
-returns-clause-listed g c =
-    let r = c.reopen_queue-waiting.ensures in
-    (round_done _ _ _ c.args.self.now _ _ _ _ _ _ c.requires.scan r.table r.queue.0 r.queue.1
-    (search rules) c.requires.fresh c.requires.few.1 c.requires.room c.exchange-ready.ensures _ _ _
-    c.least_room.result _
-    c.round_beside-own_workers.ensures.ran c.exchange-idle.ensures (search rules)
-    c.count_unread.ensures).listed
-
-pub returns-clause-room : goal.returns-clause-room
-returns-clause-room g c =
-    let r = c.reopen_queue-waiting.ensures in
-    (round_done _ _ _ c.args.self.now _ _ _ _ _ _ c.requires.scan r.table r.queue.0 r.queue.1
-    (search rules) c.requires.fresh c.requires.few.1 c.requires.room c.exchange-ready.ensures _ _ _
-    c.least_room.result _
-    c.round_beside-own_workers.ensures.ran c.exchange-idle.ensures (search rules)
-    c.count_unread.ensures).fallen
-
-pub returns-clause-taken : goal.returns-clause-taken
-returns-clause-taken g c =
-    let r = c.reopen_queue-waiting.ensures in
-    (round_done _ _ _ c.args.self.now _ _ _ _ _ _ c.requires.scan r.table r.queue.0 r.queue.1
-    (search rules) c.requires.fresh c.requires.few.1 c.requires.room c.exchange-ready.ensures _ _ _
-    c.least_room.result _
-    c.round_beside-own_workers.ensures.ran c.exchange-idle.ensures (search rules)
-    c.count_unread.ensures).taken
