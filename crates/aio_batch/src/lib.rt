@@ -19,8 +19,6 @@
 mod batch;
 pub mod laws;
 mod method;
-#[cfg(test)]
-mod tests;
 
 pub use batch::{Batch, Full};
 pub use method::Method;

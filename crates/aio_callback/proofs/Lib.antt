@@ -6,6 +6,6 @@ pub mod SixWays
 pub mod Grown
 pub mod ReadInto
 pub mod Refilled
-pub mod Trying
 pub mod Aims
 pub mod Zeroing
+mod Rows

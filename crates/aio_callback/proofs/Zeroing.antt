@@ -2,11 +2,9 @@
 use Rattle.std.proofs.Common.{◌≡◌, ℕ, zero, suc, ◌+◌, ◌<◌, Bool, true, false, ◌||◌, List, []}
 use Rattle.std.proofs.Common.{◌∷◌, ◌++◌, take, drop, length, get_or, slice_set, refl, sym, ap}
 use Rattle.std.proofs.Common.{◌∙◌, arith, if◌then◌else◌}
-use Rattle.std.specs.List.{refill}
 use Rattle.std.proofs.lemmas.List.{take_all}
 use Rattle.std.proofs.lemmas.List.Sums.{count_by_more_no, count_by_more_yes}
 use Rattle.page_check.specs.SynchronousAnswer.{zero_page}
-use Rattle.page_check.proofs.Bytes.{refill_whole}
 use Rattle.aio_callback.specs.Chain.{is_bad, zeros_if_bad, mark_if_bad, zeros_for_bad}
 use Rattle.aio_callback.specs.Chain.{marks_for_bad, bad_among}
 
@@ -154,7 +152,6 @@ if_bad true page zeros e = refl
 if_bad false page zeros e = absurd (cc)
 
 -- zeros that are written over a bad page
-pub written_over : (page written : List ℕ) → is_bad page ≡ true → length written ≡ 8192
-    → written ≡ zero_page → refill 8192 page written ≡ zeros_if_bad page
-written_over page written bad size e =
-    refill_whole 8192 page written size ∙ (e ∙ if_bad (is_bad page) page zero_page bad)
+pub written_over : (page written : List ℕ) → is_bad page ≡ true → written ≡ zero_page
+    → written ≡ zeros_if_bad page
+written_over page written bad e = e ∙ if_bad (is_bad page) page zero_page bad

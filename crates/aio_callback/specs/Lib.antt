@@ -5,4 +5,4 @@ pub mod Finished
 pub mod Counting
 pub mod Cases
 pub mod Inside
-pub mod Trials
+pub mod Row

@@ -19,8 +19,6 @@ mod counting;
 pub mod laws;
 mod places;
 mod record;
-#[cfg(test)]
-mod tests;
 
 pub use chain::{CallbackId, Raw};
 pub use counting::Counts;

@@ -1,6 +1,7 @@
 //! The record of a read.
 ghost use Rattle.std.specs.Prelude.{◌≡◌, ◌≢◌, ◌≤◌, ◌<◌, ◌+◌, ◌^◌, ℕ, length, take, true};
-ghost use Rattle.std.specs.Prelude.{Option, Some, None, IfOk, IfErr};
+ghost use Rattle.std.specs.Prelude.{Option, Some, None, IfOk, IfErr, [], ◌⊎◌, vec_capacity};
+ghost use Rattle.aio_callback.specs.Row.{row_of};
 ghost use Rattle.std.specs.Borrow.{Lends, Array, sem};
 ghost use Rattle.page_check.specs.Told.{Told};
 ghost use Rattle.page_check.specs.contracts.page.Page.{the_row as page_row};
@@ -40,6 +41,9 @@ pub struct ReadIo {
     aimed: bool,
     raw: Option<Raw>,
     result: AioResult,
+    // How many pages it has. None of them is there until the record is used, so that the system
+    // need not give it memory before.
+    room: u32,
     pages: Vec<Page>,
     // Which pages were set to zeros when the read ended.
     zeroed: Vec<bool>,
@@ -51,6 +55,7 @@ impl Model for ReadIo {
     ghost Value = { Reading };
 
     ghost use Rattle.std.specs.Prelude.{take};
+    ghost use Rattle.aio_callback.specs.Row.{row_of};
     ghost use Rattle.aio_callback.specs.Inside.{IsSound};
 
     ghost view = { λ r. record {
@@ -62,7 +67,7 @@ impl Model for ReadIo {
       aimed = r.aimed;
       raw = r.raw;
       result = r.result;
-      pages = r.pages.items;
+      pages = row_of r.room r.pages.items;
       zeroed = r.zeroed.items;
     } };
 
@@ -120,6 +125,21 @@ fn unended(handle: u32, generation: u64) -> Label
     }
 }
 
+// Makes the pages of zeros of a record that was not used.
+fn fill_room(pages: &mut Vec<Page>, room: u32)
+    requires space { room ≤ vec_capacity pages.old }
+    requires held { (pages.old.items ≡ []) ⊎ (length pages.old.items ≡ room) }
+    ensures same { pages.new.items ≡ row_of room pages.old.items }
+    ensures size { length pages.new.items ≡ room }
+    ensures space { room ≤ vec_capacity pages.new }
+{
+    if pages.is_empty() {
+        for _ in 0..room {
+            pages.push_reserved(Page::zeros());
+        }
+    }
+}
+
 impl ReadIo {
     ghost use Rattle.aio_callback.specs.Reading.{page_in, zeroed_in, Fits};
     ghost use Rattle.aio_callback.specs.Reading.{made, aimed_at, with_pages};
@@ -131,10 +151,7 @@ impl ReadIo {
         requires { (1 ≤ room) × (room ≤ 128) }
         ensures { IfOk result (λ r. r ≡ made room) }
     {
-        let mut pages = Vec::with_capacity(alloc, room as usize)?;
-        for _ in 0..room {
-            pages.push_reserved(Page::zeroed(alloc)?);
-        }
+        let pages = Vec::with_capacity(alloc, room as usize)?;
         let zeroed = vec![in alloc; false; room as usize]?;
         Ok(ReadIo {
             label: unended(0, 0),
@@ -151,6 +168,7 @@ impl ReadIo {
                 error: 0,
                 result: 0,
             },
+            room,
             pages,
             zeroed,
         })
@@ -225,6 +243,7 @@ impl ReadIo {
         ensures few { length result.now ≤ 128 }
         ensures some { self.old.aimed ≡ true → 0 < length result.now }
     {
+        fill_room(&mut self.pages, self.room);
         self.pages.slice_mut(..self.count as usize)
     }
 

@@ -1,18 +1,15 @@
 -- Pages whose bytes were given, and runs of them.
 use Rattle.std.proofs.Common.{◌≡◌, ◌⊎◌, ℕ, ◌+◌, ◌-◌, ◌*◌, ◌/◌, ◌^◌, ◌<◌, ◌≤◌, zero, suc, List, []}
 use Rattle.std.proofs.Common.{◌∷◌, ◌++◌, length, map, take, drop, min, refl, sym, ap, ◌∙◌, arith}
-use Rattle.std.proofs.Common.{inl, inr}
+use Rattle.std.proofs.Common.{inl, inr, subst}
 use Rattle.std.specs.Prelude.{Option, Some, None, IfSome}
 use Rattle.std.specs.List.{range_with_len}
-use borrow.Rule.Slice.PartMut.{put_mid}
+use Rattle.std.specs.Simd.{first_chunks}
 use Rattle.std.proofs.lemmas.List.{take-take, drop-drop, drop-take, length-take, length-take-le}
-use Rattle.std.proofs.lemmas.List.{length-drop}
-use Rattle.std.proofs.Math.Seq.{take-length}
+use Rattle.std.proofs.lemmas.List.{length-drop, append-nil}
 use Rattle.page_check.specs.Told.{page_at, block_count}
-use Rattle.aio_disk.specs.Disk.{HoldsBlocks, ReadsBlocks}
-use Rattle.aio_disk.proofs.Sources.{take_parts, told_still}
-use Rattle.std.proofs.lemmas.Slice.{take-put_mid_below}
-use Rattle.aio_disk.specs.Source.{Source, NoneFailed, HoldsBytes, GivesBlock}
+use Rattle.aio_disk.specs.Disk.{ReadsBlocks}
+use Rattle.aio_disk.specs.Source.{Source, HoldsBytes, GivesBlock}
 
 -- no more was given than there is
 given_within : (bytes given : List ℕ) (offset got : ℕ) → got ≤ length given
@@ -83,109 +80,44 @@ run_given (Some s) given pages first got n room few count blocks copied gives =
           ∙ ap (λ (k : ℕ). map (page_at s.bytes) (range_with_len k n)) start;
     }
 
-one_whole : (given : List ℕ) (got : ℕ) → length given ≡ 8192 → got ≡ 8192
-    → given ∷ [] ≡ page_at (take got given) 0 ∷ []
+-- the first pages of a row are the whole blocks of the bytes that were written to it
+pub row_held : (k : ℕ) (given : List ℕ) (n got : ℕ) → n ≤ k → 8192 * n ≤ got
+    → take n (first_chunks 8192 k given) ≡ map (page_at (take got given)) (range_with_len 0 n)
 unfolding page_at
-one_whole given got size whole =
-    let all : take 8192 (take got given) ≡ given =
-    take-take 8192 got given (omega arith) ∙ ap (λ (n : ℕ). take n given) (sym size)
-    ∙ take-length given in
-    sym (rw all refl)
+row_held k given zero got few whole = refl
+row_held zero given (suc n) got few whole = absurd (omega arith)
+row_held (suc k) given (suc n) got few whole =
+    let rest = got - 8192 in
+    let all : got ≡ 8192 + rest = omega arith in
+    let later = drop 8192 given in
+    let start : 0 ≡ 8192 * 0 = omega arith in
+    let first : take 8192 given ≡ page_at (take got given) 0 =
+    sym (take-take 8192 got given (omega arith))
+    ∙ ap (λ (m : ℕ). take 8192 (drop m (take got given))) start in
+    let shifted : (i : ℕ) → page_at (take rest later) i ≡ page_at (take got given) (1 + i) = λ i.
+    let place : 8192 + 8192 * i ≡ 8192 * (1 + i) = omega arith in
+    ap (λ (l : List ℕ). take 8192 (drop (8192 * i) l)) (sym (drop-take 8192 rest given))
+    ∙ ap (λ (m : ℕ). take 8192 (drop (8192 * i) (drop 8192 (take m given)))) (sym all)
+    ∙ ap (take 8192) (drop-drop (8192 * i) 8192 (take got given))
+    ∙ ap (λ (m : ℕ). take 8192 (drop m (take got given))) place in
+    ap (λ (l : List (List ℕ)). take 8192 given ∷ l)
+    (row_held k later n rest (omega arith) (omega arith)
+    ∙ map_shift (page_at (take rest later)) (page_at (take got given)) 1 0 n
+    (λ i below. shifted i))
+    ∙ ap (λ (l : List ℕ). l ∷ map (page_at (take got given)) (range_with_len 1 n)) first
 
-one_page : (given : List ℕ) (got n : ℕ) → length given ≡ 8192 → got ≤ length given → n ≡ got / 8192
-    → take n (given ∷ []) ≡ map (page_at (take got given)) (range_with_len 0 n)
-one_page given got zero size few count = refl
-one_page given got (suc zero) size few count = one_whole given got size (omega arith)
-one_page given got (suc (suc n)) size few count = absurd (omega arith)
-
--- the page that was read in place
-pub page_given : (b : Option Source) (given : List ℕ) (first got n : ℕ) → length given ≡ 8192
-    → got ≤ length given → n ≡ got / 8192 → first + 1 < 2 ^ 32
-    → IfSome b (λ s. GivesBlock s.bytes (8192 * first) got given)
-    → IfSome b (λ s. ReadsBlocks s.bytes first n (given ∷ []))
-page_given b given first got n size few count blocks gives =
-    run_given b given (given ∷ []) first got n (omega arith) few count (omega arith)
-    (one_page given got n size few count) gives
-
--- what was read of a source still is
-pub reads_still : (b m : Option Source) (first n : ℕ) (pages : List (List ℕ)) → NoneFailed b m
-    → IfSome m (λ s. ReadsBlocks s.bytes first n pages)
-    → IfSome b (λ s. ReadsBlocks s.bytes first n pages)
-reads_still b m first n pages passed reads =
-    told_still b m (λ bytes. ReadsBlocks bytes first n pages) passed reads
-
--- the pages of the first runs
-pub record SoFar (source : Source) (first done : ℕ) (pages : List (List ℕ)) : Type 0 where
-  pub within : done ≤ block_count source.bytes - first
-  pub held : HoldsBlocks source.bytes first done pages
-
-pub none_so_far : (b : Option Source) (first : ℕ) (pages : List (List ℕ))
-    → IfSome b (λ s. SoFar s first 0 pages)
-none_so_far None first pages = tt
-none_so_far (Some s) first pages = record { within = omega arith; held = refl }
-
-pub so_far : (b : Option Source) (first n : ℕ) (pages : List (List ℕ))
-    → IfSome b (λ s. ReadsBlocks s.bytes first n pages) → IfSome b (λ s. SoFar s first n pages)
-so_far None first n pages reads = tt
-so_far (Some s) first n pages reads = record { within = reads.within; held = reads.told_pages }
-
-map_join : {X : Type 0} (f : ℕ → X) (first done n : ℕ)
-    → map f (range_with_len first (done + n))
-    ≡ map f (range_with_len first done) ++ map f (range_with_len (first + done) n)
-map_join f first zero n =
-    let none : 0 + n ≡ n = omega arith in
-    let start : first ≡ first + 0 = omega arith in
-    ap (λ (k : ℕ). map f (range_with_len first k)) none
-    ∙ ap (λ (k : ℕ). map f (range_with_len k n)) start
-map_join {X} f first (suc done) n =
-    let more : suc done + n ≡ suc (done + n) = omega arith in
-    let next : first + 1 + done ≡ first + suc done = omega arith in
-    ap (λ (k : ℕ). map f (range_with_len first k)) more
-    ∙ ap (λ (l : List X). f first ∷ l)
-    (map_join f (first + 1) done n
-    ∙ ap (λ (k : ℕ). map f (range_with_len (first + 1) done) ++ map f (range_with_len k n)) next)
-
-some_by : (done n first blocks : ℕ) → (first + done < blocks → 0 < n) → first < blocks
-    → 0 < done + n
-some_by zero n first blocks some below = let more = some (omega arith) in omega arith
-some_by (suc done) n first blocks some below = omega arith
-
--- and those of the next one
-pub runs_more : (b : Option Source) (pages run : List (List ℕ)) (first done n room : ℕ)
-    → done ≤ length pages → length run ≡ room → n ≤ room
-    → IfSome b (λ s. SoFar s first done pages)
-    → IfSome b (λ s. ReadsBlocks s.bytes (first + done) n run)
-    → IfSome b (λ s. ReadsBlocks s.bytes first (done + n) (put_mid done room pages run))
-runs_more None pages run first done n room fits size few front back = tt
-runs_more (Some s) pages run first done n room fits size few front back =
-    let page = page_at s.bytes in record {
-      within = omega (arith, front.within, back.within);
-      some = some_by done n first (block_count s.bytes) back.some;
-      told_pages =
-          take_parts pages run done n room fits size few
-          ∙ ap (λ (l : List (List ℕ)). l ++ take n run) front.held
-          ∙ ap (λ (l : List (List ℕ)). map page (range_with_len first done) ++ l) back.told_pages
-          ∙ sym (map_join page first done n);
-    }
-
--- some runs were given, and no more
-pub runs_end : (b : Option Source) (pages : List (List ℕ)) (first done : ℕ) → 0 < done
-    → IfSome b (λ s. SoFar s first done pages)
-    → IfSome b (λ s. ReadsBlocks s.bytes first done pages)
-runs_end None pages first done some front = tt
-runs_end (Some s) pages first done some front =
-    record { within = front.within; some = λ below. some; told_pages = front.held }
-
--- since the next one failed
-pub runs_cut : (b : Option Source) (pages run : List (List ℕ)) (first done room : ℕ) → 0 < done
-    → done ≤ length pages → IfSome b (λ s. SoFar s first done pages)
-    → IfSome b (λ s. ReadsBlocks s.bytes first done (put_mid done room pages run))
-runs_cut None pages run first done room some fits front = tt
-runs_cut (Some s) pages run first done room some fits front = record {
-  within = front.within;
-  some = λ below. some;
-  told_pages = take-put_mid_below done room pages run done (omega arith) fits ∙ front.held;
-}
+-- the pages that were read in place, beside none
+pub row_given : (b : Option Source) (given : List ℕ) (others : List (List ℕ)) (k first got n : ℕ)
+    → 0 < k → length given ≡ k * 8192 → others ≡ [] → got ≤ length given → n ≡ got / 8192
+    → first + k < 2 ^ 32 → IfSome b (λ s. GivesBlock s.bytes (8192 * first) got given)
+    → IfSome b (λ s. ReadsBlocks s.bytes first n (first_chunks 8192 k given ++ others))
+row_given b given others k first got n some size none few count blocks gives =
+    let pages = first_chunks 8192 k given in
+    let alone : pages ≡ pages ++ others =
+    sym (ap (λ (l : List (List ℕ)). pages ++ l) none ∙ append-nil pages) in
+    subst (λ (l : List (List ℕ)). IfSome b (λ s. ReadsBlocks s.bytes first n l)) alone
+    (run_given b given pages first got n (omega arith) few count (omega arith)
+    (row_held k given n got (omega arith) (omega arith)) gives)
 
 pub no_block : (bytes : List ℕ) (first : ℕ) → 2 ^ 32 ≤ first + 1 → first < block_count bytes → ⊥
 unfolding block_count

@@ -1,5 +1,5 @@
 -- Sources that are the segments of one relation, in their order.
-use Rattle.std.specs.Prelude.{◌≡◌, ◌≢◌, ◌⊎◌, ℕ, ◌-◌, ◌<◌, ◌/◌, List, [], ◌∷◌, map, length, min, ⊤}
+use Rattle.std.specs.Prelude.{◌≡◌, ◌≢◌, ℕ, ◌-◌, ◌/◌, List, [], ◌∷◌, map, length, min, ⊤}
 use Rattle.std.specs.Prelude.{Option, None, Some, IfSome, Result, MatchResult, slice_index_or}
 use Rattle.std.specs.Option.{option_map}
 use Rattle.page_check.specs.Told.{block_count}
@@ -37,8 +37,7 @@ abbrev pub AsksSize : {E : Type 0} → Option Source → Option Source → Resul
 AsksSize before now result =
     MatchResult result (λ _. now ≡ before) (λ _. now ≡ option_map (later 1 0) before)
 
--- one of them, if any, was read, and failed where the answer is a fault, or behind a block
+-- one of them, if any, was read, and failed where the answer is a fault
 abbrev pub Reads : {E : Type 0} → Option Source → Option Source → Result ℕ E → Type 0
 Reads before now result =
-    MatchResult result (λ n. NoneFailed before now ⊎ ((0 < n) × OneFailed before now))
-    (λ _. OneFailed before now)
+    MatchResult result (λ _. NoneFailed before now) (λ _. OneFailed before now)

@@ -59,17 +59,9 @@ AnswersBytes before now offset given (Ok n) =
 AnswersBytes before now offset given (Err Device) = now ≡ option_map (later 1 0) before
 AnswersBytes before now offset given (Err Interrupted) = now ≡ option_map (later 0 1) before
 
--- one run of blocks: their pages, or a fault
-abbrev pub GivesRun : {E : Type 0} → Option Source → Option Source → ℕ → List (List ℕ)
-    → Result ℕ E → Type 0
-GivesRun before now first pages (Ok n) =
-    NoneFailed before now × IfSome before (λ source. ReadsBlocks source.bytes first n pages)
-GivesRun before now first pages (Err fault) = OneFailed before now
-
--- blocks: their pages, where a fault comes only behind one of them, or a fault
+-- blocks: their pages, or a fault
 abbrev pub GivesBlocks : {E : Type 0} → Option Source → Option Source → ℕ → List (List ℕ)
     → Result ℕ E → Type 0
 GivesBlocks before now first pages (Ok n) =
-    (NoneFailed before now ⊎ ((0 < n) × OneFailed before now))
-    × IfSome before (λ source. ReadsBlocks source.bytes first n pages)
+    NoneFailed before now × IfSome before (λ source. ReadsBlocks source.bytes first n pages)
 GivesBlocks before now first pages (Err fault) = OneFailed before now

@@ -31,8 +31,8 @@ pub trait Disk: Send + Drop {
     ghost reads: { Self → ℕ };
 
     /// How many blocks a segment of a relation has that another one follows: 1 to 131072
-    /// (`RELSEG_SIZE` of `pg_config.h`). A read gives blocks of one segment at best, so a caller
-    /// does well to end its reads where a segment ends.
+    /// (`RELSEG_SIZE` of `pg_config.h`). A read may end where a segment ends, so a caller does
+    /// well to end its reads there.
     fn segment(&self) -> u32
         ensures same { result ≡ segment self.now }
         ensures least { 1 ≤ result }

@@ -1,4 +1,7 @@
-//! The faults of the outside.
+//! The faults of the outside, and their counts.
+ghost use Rattle.std.specs.Prelude.{◌≡◌, if◌then◌else◌, is_err};
+ghost use Rattle.aio_disk.specs.Counts.{raised_by};
+
 use thiserror::Error;
 
 /// A device failed at a length or a read. The disk has counted it.
@@ -28,23 +31,13 @@ pub enum WriteFault {
     Memory,
 }
 
-#[cfg(test)]
-mod tests {
-    use super::*;
-    use std::test::Fail;
-
-    #[test]
-    fn faults_have_their_texts(rt: HostRuntime) -> Result<(), Fail> {
-        let alloc = rt.alloc();
-        let texts = format!(in alloc;
-            "{DeviceFault}, {}, {}, {}, {}",
-            OpenFault::Device,
-            OpenFault::Memory,
-            WriteFault::Device,
-            WriteFault::Memory
-        )?;
-        let wanted = "device fault, device fault, out of memory, device fault, out of memory";
-        assert_eq!(rt; texts.as_str(), wanted);
-        Ok(())
+/// The answer, counted where it is an error.
+pub(crate) fn counted<T, E>(answer: Result<T, E>, faults: &mut u64) -> Result<T, E>
+    ensures same { result ≡ answer }
+    ensures count { faults.new ≡ (if is_err answer then raised_by 1 faults.old else faults.old) }
+{
+    if answer.is_err() {
+        *faults = faults.saturating_add(1);
     }
+    answer
 }

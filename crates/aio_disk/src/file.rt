@@ -1,16 +1,15 @@
 //! Real files as disks.
 ghost use Rattle.std.specs.Prelude.{◌≡◌, ◌≤◌, None, false, length, IfOk};
 
+use crate::fault::counted;
 use crate::file_relation::FileRelation;
 use crate::segments::SEGMENT_SIZE;
-use crate::source::RUN;
 use crate::{DeviceFault, Disk, OpenFault, Shelf};
-use page_check::{PAGE_SIZE, Page};
+use page_check::Page;
 use std::fs::File;
 use std::rt::Files;
 
-/// Relations whose files are open for reading, and room for one run of blocks. It does not tell
-/// what they hold.
+/// Relations whose files are open for reading. It does not tell what they hold.
 ///
 /// Their files are opened when the disk is, and stay open until it is dropped: a relation takes
 /// one file descriptor for each of its segments, up to 17. A segment that comes to be later is
@@ -18,11 +17,9 @@ use std::rt::Files;
 #[derive(Drop)]
 pub struct FileDisk {
     relations: Vec<FileRelation>,
-    buffer: Vec<u8>,
     faults: u64,
     length_faults: u64,
     reads: u64,
-    ghost room: { 131072 ≤ length buffer.items },
 }
 
 impl Disk for FileDisk {
@@ -44,24 +41,15 @@ impl Disk for FileDisk {
 
     fn blocks(&mut self, relation: u32) -> Result<u32, DeviceFault> {
         let blocks = self.relations[relation as usize].blocks();
-        if blocks.is_err() {
-            self.length_faults = self.length_faults.saturating_add(1);
-        }
-        blocks
+        counted(blocks, &mut self.length_faults)
     }
 
-    /// Reads in place where one page is asked for, and else by runs of up to 16 blocks, each of
-    /// them one system call. After a fault behind a whole block it answers the pages before it.
+    /// Reads in place, by one system call where the system gives all that is asked for. After a
+    /// fault behind a whole block it answers the pages before it.
     fn read(&mut self, relation: u32, first: u32, pages: &mut [Page]) -> Result<u32, DeviceFault> {
         self.reads = self.reads.saturating_add(1);
-        let buffer = self.buffer.as_mut_slice();
-        match self.relations[relation as usize].read(first, buffer, pages) {
-            Ok(count) => Ok(count as u32),
-            Err(_) => {
-                self.faults = self.faults.saturating_add(1);
-                Err(DeviceFault)
-            }
-        }
+        let count = self.relations[relation as usize].read(first, pages);
+        Ok(counted(count, &mut self.faults)? as u32)
     }
 }
 
@@ -130,15 +118,12 @@ impl<R: Files<File = File> + AllocGlobal> Shelf for FileShelf<'_, R> {
     /// A name that is not there, and one of a directory or of anything else that is neither a
     /// regular file nor a block device, is a device fault. So is a later segment that is there and
     /// cannot be opened, a segment whose size cannot be told, and a lack of file descriptors
-    /// (`EMFILE`, `ENFILE`).
+    /// (`EMFILE`, `ENFILE`). A later segment is not there either where its name would be longer
+    /// than the system's names are (`ENAMETOOLONG`).
     fn open(&mut self, names: &[String]) -> Result<FileDisk, OpenFault> {
-        let Ok(buffer) = vec![in self.rt.alloc(); 0u8; RUN * PAGE_SIZE] else {
-            return Err(OpenFault::Memory);
-        };
         match open_relations(self.rt, names) {
             Ok(relations) => Ok(FileDisk {
                 relations,
-                buffer,
                 faults: 0,
                 length_faults: 0,
                 reads: 0,
@@ -159,6 +144,3 @@ impl<R: Files<File = File> + AllocGlobal> Shelf for FileShelf<'_, R> {
             .saturating_add(u64::from(disk.length_faults > 0));
     }
 }
-
-#[cfg(test)]
-mod tests;

@@ -47,18 +47,12 @@ impl FileRelation {
     }
 
     /// Reads the pages of blocks of one segment, and says how many.
-    pub(crate) fn read(
-        &mut self,
-        first: u32,
-        buffer: &mut [u8],
-        pages: &mut [Page],
-    ) -> Result<usize, DeviceFault>
+    pub(crate) fn read(&mut self, first: u32, pages: &mut [Page]) -> Result<usize, DeviceFault>
         requires some { 0 < length pages.old }
-        requires room { 131072 ≤ length buffer.old }
         ensures few { IfOk result (λ n. n ≤ length pages.new) }
     {
         let segments = self.segments.as_mut_slice();
-        read_relation(segments, SEGMENT_SIZE, first, buffer, pages)
+        read_relation(segments, SEGMENT_SIZE, first, pages)
     }
 }
 
@@ -80,20 +74,26 @@ fn open_file<R: Files<File = File>>(rt: &R, name: &str) -> io::Result<File> {
     Ok(file)
 }
 
+// What a look at a name or an open of it gave, or nothing where nothing has the name. A name that is
+// longer than the system's names are is of nothing, as that of a later segment may be.
+fn found<T>(answer: io::Result<T>) -> Result<Option<T>, OpenFault> {
+    match answer {
+        Ok(value) => Ok(Some(value)),
+        Err(error) => match error.kind() {
+            io::ErrorKind::NotFound | io::ErrorKind::InvalidFilename => Ok(None),
+            io::ErrorKind::OutOfMemory => Err(OpenFault::Memory),
+            _ => Err(OpenFault::Device),
+        },
+    }
+}
+
 // Opens a segment of this relation, where it is there.
 fn open_segment<R>(rt: &R, name: &str, number: u32) -> Result<Option<File>, OpenFault>
 where
     R: Files<File = File> + AllocGlobal,
 {
     let name = segment_name(rt.alloc(), name, number).map_err(|_| OpenFault::Memory)?;
-    match open_file(rt, name.as_str()) {
-        Ok(file) => Ok(Some(file)),
-        Err(error) => match error.kind() {
-            io::ErrorKind::NotFound => Ok(None),
-            io::ErrorKind::OutOfMemory => Err(OpenFault::Memory),
-            _ => Err(OpenFault::Device),
-        },
-    }
+    found(open_file(rt, name.as_str()))
 }
 
 // Whether something stands under the name of a segment of this relation.
@@ -102,14 +102,7 @@ where
     R: Files<File = File> + AllocGlobal,
 {
     let name = segment_name(rt.alloc(), name, number).map_err(|_| OpenFault::Memory)?;
-    match fs::metadata(rt, name.as_str()) {
-        Ok(_) => Ok(true),
-        Err(error) => match error.kind() {
-            io::ErrorKind::NotFound => Ok(false),
-            io::ErrorKind::OutOfMemory => Err(OpenFault::Memory),
-            _ => Err(OpenFault::Device),
-        },
-    }
+    Ok(found(fs::metadata(rt, name.as_str()))?.is_some())
 }
 
 // Opens the segment behind the last one, where it is there and that is full. So a relation of one
@@ -132,6 +125,3 @@ where
         Err(_) => Err(OpenFault::Device),
     }
 }
-
-#[cfg(test)]
-mod tests;

@@ -11,7 +11,7 @@
 //! exact clauses: which call fails, how many pages a read gives, what the log of reads then
 //! holds. [`FileShelf`] and [`StdSink`] are the real files and streams, and tell nothing: what
 //! they give is the system's, and tests alone show it. How the bytes of a file become pages, and
-//! where its faults go, is proved over any source of bytes that tells them (`source.rt`).
+//! where its faults go, is proved over any [`ByteSource`](source::ByteSource) that tells its bytes.
 #![tactic(auto)]
 
 mod blocks;
@@ -28,8 +28,8 @@ mod segments;
 mod shared;
 mod shelf;
 mod sink;
-mod source;
-mod source_relation;
+pub mod source;
+pub mod source_relation;
 mod std_sink;
 mod steady;
 

@@ -211,6 +211,3 @@ impl Shelf for MemShelf {
         MemShelf::take_back(self, disk);
     }
 }
-
-#[cfg(test)]
-mod tests;

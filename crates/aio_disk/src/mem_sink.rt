@@ -99,21 +99,3 @@ impl Sink for MemSink {
         MemSink::write(self, bytes)
     }
 }
-
-#[cfg(test)]
-mod tests {
-    use super::*;
-    use std::test::Fail;
-
-    #[test]
-    fn a_listed_write_takes_some_bytes_and_fails(rt: HostRuntime) -> Result<(), Fail> {
-        let mut sink = MemSink::make(rt.alloc(), vec![in rt.alloc(); (2, 5), (3, 100)]?);
-        assert!(rt; sink.write(b"whole, ").is_ok());
-        assert!(rt; matches!(sink.write(b"page 0 0 new"), Err(WriteFault::Device)));
-        assert!(rt; matches!(sink.write(b"short "), Err(WriteFault::Device)));
-        assert!(rt; sink.write(b"end").is_ok());
-        assert_eq!(rt; sink.bytes(), b"whole, page short end".as_slice());
-        assert_eq!(rt; sink.fault_count, 2);
-        Ok(())
-    }
-}

@@ -5,29 +5,34 @@ ghost use Rattle.std.specs.Option.{option_map};
 ghost use Rattle.page_check.specs.Told.{block_count};
 ghost use Rattle.aio_disk.specs.Source.{Source, later, NoneFailed, OneFailed, GivesBytes};
 ghost use Rattle.aio_disk.specs.Source.{GivesBlock};
-ghost use Rattle.aio_disk.specs.Source.{AnswersSize, AnswersBytes, GivesRun, GivesBlocks};
+ghost use Rattle.aio_disk.specs.Source.{AnswersSize, AnswersBytes, GivesBlocks};
 
 use crate::DeviceFault;
-use crate::blocks::{WholeBlocks, copy_blocks};
-use page_check::{PAGE_SIZE, Page};
+use page_check::{PAGE_SIZE, Page, split_bytes};
 use std::fs::File;
-use std::io::{self, Seek, SeekFrom};
+use std::io::{ErrorKind, Seek, SeekFrom};
 use std::os::unix::fs::FileExt;
-
-/// How many blocks are read at once at most.
-pub(crate) const RUN: usize = 16;
 
 /// Why a read gave nothing.
 #[derive(Clone, Copy)]
-pub(crate) enum ReadFault {
+pub enum ReadFault {
     /// The device failed.
     Device,
     /// A signal came first (`EINTR`): the call is to be made again.
     Interrupted,
 }
 
+impl From<ErrorKind> for ReadFault {
+    fn from(kind: ErrorKind) -> ReadFault {
+        match kind {
+            ErrorKind::Interrupted => ReadFault::Interrupted,
+            _ => ReadFault::Device,
+        }
+    }
+}
+
 /// The bytes of one relation. It may tell them, and which of its calls failed.
-pub(crate) trait ByteSource {
+pub trait ByteSource {
     /// What it tells.
     ghost told: { Self → Option Source };
 
@@ -49,17 +54,13 @@ impl ByteSource for File {
     }
 
     fn read_at(&mut self, bytes: &mut [u8], offset: u64) -> Result<usize, ReadFault> {
-        match FileExt::read_at(self, bytes, offset) {
-            Ok(count) => Ok(count),
-            Err(error) if error.kind() == io::ErrorKind::Interrupted => Err(ReadFault::Interrupted),
-            Err(_) => Err(ReadFault::Device),
-        }
+        FileExt::read_at(self, bytes, offset).map_err(|error| ReadFault::from(error.kind()))
     }
 }
 
 /// How many whole blocks there are (`FileSize` of `fd.c`).
 #[tactic(auto, unfolding(page_check::specs::Told::block_count))]
-pub(crate) fn count_blocks<S: ByteSource>(source: &mut S) -> Result<u32, DeviceFault>
+pub fn count_blocks<S: ByteSource>(source: &mut S) -> Result<u32, DeviceFault>
     ensures { MatchResult result
         (λ n. (S.told source.new ≡ S.told source.old)
         × IfSome (S.told source.old) (λ told. n ≡ block_count told.bytes))
@@ -72,7 +73,7 @@ pub(crate) fn count_blocks<S: ByteSource>(source: &mut S) -> Result<u32, DeviceF
 }
 
 /// Whether there are exactly as many whole blocks as a segment has that another one follows.
-pub(crate) fn is_full<S: ByteSource>(source: &mut S, size: u32) -> Result<bool, DeviceFault>
+pub fn is_full<S: ByteSource>(source: &mut S, size: u32) -> Result<bool, DeviceFault>
     ensures { MatchResult result
         (λ full. (S.told source.new ≡ S.told source.old)
         × IfSome (S.told source.old) (λ told. full ≡ (block_count told.bytes == size)))
@@ -130,95 +131,22 @@ fn read_some<S: ByteSource>(
     Ok(done)
 }
 
-// Reads one block in place, and says how many that gave.
-fn read_page<S: ByteSource>(
+/// Reads the pages of whole blocks in place, by one call, and says how many: none only from the end
+/// on. After a fault behind a whole block it gives the pages before it.
+pub fn read_blocks<S: ByteSource>(
     source: &mut S,
     first: u32,
-    page: &mut Page,
+    pages: &mut [Page],
 ) -> Result<usize, DeviceFault>
-    requires { first + 1 < 2 ^ 32 }
-    ensures few { IfOk result (λ n. n ≤ 1) }
-    ensures pages { GivesRun (S.told source.old) (S.told source.new) first (page.new ∷ []) result }
+    requires some { 0 < length pages.old }
+    requires blocks { first + length pages.old < 2 ^ 32 }
+    ensures few { IfOk result (λ n. n ≤ length pages.new) }
+    ensures pages { GivesBlocks (S.told source.old) (S.told source.new) first pages.new result }
 {
-    let offset = PAGE_SIZE as u64 * u64::from(first);
-    match read_some(source, page.bytes_mut(), offset) {
+    let count = pages.len();
+    let (bytes, _) = split_bytes(pages, count);
+    match read_some(source, bytes, PAGE_SIZE as u64 * u64::from(first)) {
         Ok(got) => Ok(got / PAGE_SIZE),
         Err(fault) => Err(fault),
     }
 }
-
-// Reads a run of blocks by way of the buffer, and says how many.
-fn read_run<S: ByteSource>(
-    source: &mut S,
-    first: u32,
-    buffer: &mut [u8],
-    pages: &mut [Page],
-) -> Result<usize, DeviceFault>
-    requires some { 0 < length pages.old }
-    requires few { length pages.old ≤ 16 }
-    requires room { 131072 ≤ length buffer.old }
-    requires blocks { first + length pages.old < 2 ^ 32 }
-    ensures few { IfOk result (λ n. n ≤ length pages.new) }
-    ensures pages { GivesRun (S.told source.old) (S.told source.new) first pages.new result }
-{
-    let bytes = &mut buffer[..pages.len() * PAGE_SIZE];
-    match read_some(source, bytes, PAGE_SIZE as u64 * u64::from(first)) {
-        Ok(got) => {
-            let blocks = WholeBlocks {
-                bytes: &bytes[..got],
-            };
-            Ok(copy_blocks(&blocks, 0, u32::MAX, pages) as usize)
-        }
-        Err(fault) => Err(fault),
-    }
-}
-
-// Reads run by run, and says how many blocks. It ends at a run that is not whole, and at a fault
-// behind a whole block.
-fn read_runs<S: ByteSource>(
-    source: &mut S,
-    first: u32,
-    buffer: &mut [u8],
-    pages: &mut [Page],
-) -> Result<usize, DeviceFault>
-    requires some { 0 < length pages.old }
-    requires room { 131072 ≤ length buffer.old }
-    requires blocks { first + length pages.old < 2 ^ 32 }
-    ensures few { IfOk result (λ n. n ≤ length pages.new) }
-    ensures pages { GivesBlocks (S.told source.old) (S.told source.new) first pages.new result }
-{
-    let mut done = 0;
-    while done < pages.len() {
-        let end = pages.len().min(done + RUN);
-        match read_run(source, first + done as u32, buffer, &mut pages[done..end]) {
-            Ok(count) if count < end - done => return Ok(done + count),
-            Ok(_) => done = end,
-            Err(_) if done > 0 => return Ok(done),
-            Err(fault) => return Err(fault),
-        }
-    }
-    Ok(done)
-}
-
-/// Reads the pages of whole blocks, and says how many: none only from the end on. One page is read
-/// in place, and more by runs. After a fault behind a whole block it gives the pages before it.
-pub(crate) fn read_blocks<S: ByteSource>(
-    source: &mut S,
-    first: u32,
-    buffer: &mut [u8],
-    pages: &mut [Page],
-) -> Result<usize, DeviceFault>
-    requires some { 0 < length pages.old }
-    requires room { 131072 ≤ length buffer.old }
-    requires blocks { first + length pages.old < 2 ^ 32 }
-    ensures few { IfOk result (λ n. n ≤ length pages.new) }
-    ensures pages { GivesBlocks (S.told source.old) (S.told source.new) first pages.new result }
-{
-    match pages {
-        [page] => read_page(source, first, page),
-        pages => read_runs(source, first, buffer, pages),
-    }
-}
-
-#[cfg(test)]
-mod tests;

@@ -28,10 +28,7 @@ fn segment_of(size: u32, segments: usize, block: u32) -> usize
 }
 
 /// How many blocks the segments have together. The last one alone is asked for its size.
-pub(crate) fn count_relation<S: ByteSource>(
-    segments: &mut [S],
-    size: u32,
-) -> Result<u32, DeviceFault>
+pub fn count_relation<S: ByteSource>(segments: &mut [S], size: u32) -> Result<u32, DeviceFault>
     requires some { 0 < length segments.old }
     requires size { size ≤ 131072 }
     requires whole { AreWholeButLast size (map S.told segments.old) }
@@ -55,11 +52,10 @@ pub(crate) fn count_relation<S: ByteSource>(
 
 /// Reads the pages of blocks of one segment, and says how many: none only from the relation's end
 /// on, and fewer than asked for where the segment ends. A fault is as that of `read_blocks`.
-pub(crate) fn read_relation<S: ByteSource>(
+pub fn read_relation<S: ByteSource>(
     segments: &mut [S],
     size: u32,
     first: u32,
-    buffer: &mut [u8],
     pages: &mut [Page],
 ) -> Result<usize, DeviceFault>
     requires segments { 0 < length segments.old }
@@ -67,7 +63,6 @@ pub(crate) fn read_relation<S: ByteSource>(
     requires most { size ≤ 131072 }
     requires whole { AreWholeButLast size (map S.told segments.old) }
     requires some { 0 < length pages.old }
-    requires room { 131072 ≤ length buffer.old }
     ensures few { IfOk result (λ n. n ≤ length pages.new) }
     ensures pages { IfOk result (λ n. IfAllTell (map S.told segments.old)
         (λ bytes. ReadsBlocks (joined size bytes) first n pages.new)) }
@@ -84,7 +79,7 @@ pub(crate) fn read_relation<S: ByteSource>(
     }
     let index = segment_of(size, segments.len(), first);
     let inside = first - blocks_before(size, index) as u32;
-    match read_blocks(&mut segments[index], inside, buffer, &mut pages[..room]) {
+    match read_blocks(&mut segments[index], inside, &mut pages[..room]) {
         Ok(count) => Ok(count),
         Err(fault) => Err(fault),
     }

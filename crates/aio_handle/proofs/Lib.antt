@@ -32,7 +32,6 @@ pub mod Remembering
 pub mod RememberingLives
 pub mod FreeHandles
 pub mod Recalling
-pub mod Trying
 pub mod Balance
 pub mod Kept
 pub mod Claiming

@@ -14,6 +14,5 @@ pub mod Closing
 pub mod Taking
 pub mod Executing
 pub mod Tried
-pub mod Trials
 pub mod Kept
 pub mod Held

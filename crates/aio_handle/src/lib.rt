@@ -36,8 +36,6 @@ mod rule;
 mod sleepers;
 mod steps;
 mod table;
-#[cfg(test)]
-mod tests;
 mod tokens;
 
 pub use actor::{AcquireRefusal, Actor};

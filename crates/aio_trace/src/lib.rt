@@ -11,6 +11,3 @@ mod text;
 
 pub use replays::{ReplayAnswer, replay};
 pub use text::{numbers_text, totals_text};
-
-#[cfg(test)]
-mod tests;

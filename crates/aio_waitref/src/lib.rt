@@ -19,8 +19,6 @@
 #![tactic(auto)]
 
 mod own;
-#[cfg(test)]
-mod tests;
 mod waits;
 
 pub use own::wait_own;

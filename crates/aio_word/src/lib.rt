@@ -20,8 +20,6 @@ use std::collections::LinkedList;
 
 mod encoding;
 mod laws;
-#[cfg(test)]
-mod tests;
 
 pub use encoding::{done, pack, place, unpack};
 pub use laws::{

@@ -8,10 +8,8 @@ ghost use Rattle.aioscan_cmd.specs.Cutting.{HasMap, IsAsked, request_list_for, r
 ghost use Rattle.aioscan_cmd.specs.Cutting.{settings_for};
 ghost use Rattle.aioscan_cmd.specs.ErrorLine.{Warns, error_stream};
 ghost use Rattle.aioscan_cmd.specs.Reading.{Lists, HasWritten, way_by};
-ghost use Rattle.aioscan_cmd.specs.Scanning.{scan_in};
 ghost use Rattle.aioscan_cmd.specs.Sums.{HasSums};
 
-use crate::any_scan::AnyScan;
 use crate::cutter::Asked;
 use crate::error_line::write_warnings;
 use crate::in_rounds::list_rounds;
@@ -20,6 +18,7 @@ use crate::{Line, Outcome};
 use aio_disk::{Disk, Sink};
 use heap_scan::PageSums;
 use page_check::World;
+use scan_rounds::Scan;
 use std::alloc::Global;
 use std::sync::Wait;
 use std::thread::Threads;
@@ -32,32 +31,32 @@ const MAP: u32 = 1;
 fn list_by_map<W: World + Send + Sync, D: Disk, O: Sink, E: Sink, R: Threads + Wait + Sync>(
     rt: &R,
     alloc: Global,
-    scan: &mut AnyScan<W, D>,
+    scan: &mut Scan<W, D>,
     asked: Asked<'_, '_>,
     skip: Skip,
     out: &mut O,
     err: &mut E,
 ) -> (Outcome, Line, PageSums)
     requires scan { IsScan (meter D.told D.relations D.reads D.faults) W.told W.relations
-        (scan_in scan.old) }
-    requires room { 2 ^ 37 + 65 ≤ (scan_in scan.old).room }
+        scan.old }
+    requires room { 2 ^ 37 + 65 ≤ scan.old.room }
     requires asked { IsAsked asked }
     requires map { HasMap asked skip }
-    requires manner { manner_in (scan_in scan.old) ≡ manner_by (settings_for asked) }
+    requires manner { manner_in scan.old ≡ manner_by (settings_for asked) }
     requires world { W.relations ≡ length asked.relations.now }
     ensures scan { IsScan (meter D.told D.relations D.reads D.faults) W.told W.relations
-        (scan_in scan.new) }
-    ensures same { IsSameScan (scan_in scan.old) (scan_in scan.new) }
+        scan.new }
+    ensures same { IsSameScan scan.old scan.new }
     ensures listed { (given : ℕ → List ℕ) × Warns (Lists (way_by asked.entry.command.now) W.told
         (request_list_for asked.entry W.told given) (O.written out.old) (O.written out.new)
         result.0)
         (error_stream Line.Whole (E.written err.old) (E.faults err.old))
         (error_stream result.1 (E.written err.new) (E.faults err.new))
-        × (taken_by (scan_in scan.new).backends.items
-        ≤ taken_by (scan_in scan.old).backends.items
+        × (taken_by scan.new.backends.items
+        ≤ taken_by scan.old.backends.items
         + length (request_list_for asked.entry W.told given)) }
     ensures writes { HasWritten (O.faults out.old) (O.faults out.new) result.0 }
-    ensures unread { (r b : ℕ) → result.0 ≡ Outcome.Unread r b → 0 < (scan_in scan.new).unread }
+    ensures unread { (r b : ℕ) → result.0 ≡ Outcome.Unread r b → 0 < scan.new.unread }
 {
     let Ok(mut map) = VisMap::open(alloc, asked.map_pages()) else {
         return (Outcome::NoMemory, Line::Whole, PageSums::default());
@@ -85,30 +84,30 @@ pub(crate) fn list_asked<
 >(
     rt: &R,
     alloc: Global,
-    scan: &mut AnyScan<W, D>,
+    scan: &mut Scan<W, D>,
     asked: Asked<'_, '_>,
     out: &mut O,
     err: &mut E,
 ) -> (Outcome, Line, PageSums)
     requires scan { IsScan (meter D.told D.relations D.reads D.faults) W.told W.relations
-        (scan_in scan.old) }
-    requires room { 2 ^ 37 + 65 ≤ (scan_in scan.old).room }
+        scan.old }
+    requires room { 2 ^ 37 + 65 ≤ scan.old.room }
     requires asked { IsAsked asked }
-    requires manner { manner_in (scan_in scan.old) ≡ manner_by (settings_for asked) }
+    requires manner { manner_in scan.old ≡ manner_by (settings_for asked) }
     requires world { W.relations ≡ length asked.relations.now }
     ensures scan { IsScan (meter D.told D.relations D.reads D.faults) W.told W.relations
-        (scan_in scan.new) }
-    ensures same { IsSameScan (scan_in scan.old) (scan_in scan.new) }
+        scan.new }
+    ensures same { IsSameScan scan.old scan.new }
     ensures listed { (given : ℕ → List ℕ) × Warns (Lists (way_by asked.entry.command.now) W.told
         (request_list_for asked.entry W.told given) (O.written out.old) (O.written out.new)
         result.0)
         (error_stream Line.Whole (E.written err.old) (E.faults err.old))
         (error_stream result.1 (E.written err.new) (E.faults err.new))
-        × (taken_by (scan_in scan.new).backends.items
-        ≤ taken_by (scan_in scan.old).backends.items
+        × (taken_by scan.new.backends.items
+        ≤ taken_by scan.old.backends.items
         + length (request_list_for asked.entry W.told given)) }
     ensures writes { HasWritten (O.faults out.old) (O.faults out.new) result.0 }
-    ensures unread { (r b : ℕ) → result.0 ≡ Outcome.Unread r b → 0 < (scan_in scan.new).unread }
+    ensures unread { (r b : ℕ) → result.0 ≡ Outcome.Unread r b → 0 < scan.new.unread }
     ensures sums { result.0 ≡ Outcome.Done → (asked.entry.command.now).map ≡ None
         → HasSums (manner_by (settings_for asked.entry)) W.told (requests_for asked.entry)
         result.2 }

@@ -1,5 +1,6 @@
 //! Lists by rounds what the FILE words ask for.
 ghost use Rattle.std.specs.Prelude.{◌≡◌, ◌<◌, ◌≤◌, ◌+◌, ◌^◌, ℕ, length};
+ghost use Rattle.scan_rounds.specs.Calls.{HasFollowed, MayFollow};
 ghost use Rattle.scan_rounds.specs.Hands.{meter};
 ghost use Rattle.scan_rounds.specs.Rounds.{taken_by};
 ghost use Rattle.scan_rounds.specs.Scans.{IsScan, IsSameScan, manner_in};
@@ -9,16 +10,15 @@ ghost use Rattle.aioscan_cmd.specs.Cutting.{IsAsked, requests_for, settings_for}
 ghost use Rattle.aioscan_cmd.specs.ErrorLine.{Warns, error_stream};
 ghost use Rattle.aioscan_cmd.specs.Listing.{skips_by_map};
 ghost use Rattle.aioscan_cmd.specs.Reading.{Lists, HasWritten, way_of};
-ghost use Rattle.aioscan_cmd.specs.Scanning.{scan_in};
 ghost use Rattle.aioscan_cmd.specs.Sums.{HasSums};
 
-use crate::any_scan::AnyScan;
 use crate::cutter::{Asked, Cutter};
 use crate::lister::{ByMap, Lister};
 use crate::{Line, Outcome};
 use aio_disk::{Disk, Sink};
 use heap_scan::PageSums;
 use page_check::World;
+use scan_rounds::{Agenda, Scan};
 use std::sync::Wait;
 use std::thread::Threads;
 
@@ -27,6 +27,25 @@ fn give_back<O: Sink>(out: &mut O)
     ensures { out.new ≡ out.old }
 {
     let _ = out;
+}
+
+// All rounds of an agenda, without the blocks that the map marks, where there is one.
+fn run_by<W: World + Send + Sync, D: Disk, R: Threads + Wait + Sync, A: Agenda<W>>(
+    rt: &R,
+    scan: &mut Scan<W, D>,
+    by_map: Option<ByMap<'_>>,
+    agenda: A,
+) -> A
+    requires may { MayFollow (meter D.told D.relations D.reads D.faults) W.told W.relations
+        A.left A.manner A.skips (skips_by_map by_map) scan.old agenda }
+    ensures followed { HasFollowed (meter D.told D.relations D.reads D.faults) W.told
+        W.relations A.left A.due A.unread A.manner A.skips A.follows A.is_over scan.old scan.new
+        agenda result }
+{
+    match by_map {
+        None => scan.run(rt, agenda),
+        Some(ByMap { map, skip }) => scan.run_filtered(rt, agenda, map, skip),
+    }
 }
 
 /// Lists by rounds what the FILE words ask for, without what the map leaves out.
@@ -38,7 +57,7 @@ pub(crate) fn list_rounds<
     R: Threads + Wait + Sync,
 >(
     rt: &R,
-    scan: &mut AnyScan<W, D>,
+    scan: &mut Scan<W, D>,
     asked: Asked<'_, '_>,
     by_map: Option<ByMap<'_>>,
     line: Line,
@@ -46,14 +65,14 @@ pub(crate) fn list_rounds<
     err: &mut E,
 ) -> (Outcome, Line, PageSums)
     requires scan { IsScan (meter D.told D.relations D.reads D.faults) W.told W.relations
-        (scan_in scan.old) }
-    requires room { 2 ^ 37 ≤ (scan_in scan.old).room }
+        scan.old }
+    requires room { 2 ^ 37 ≤ scan.old.room }
     requires asked { IsAsked asked }
-    requires manner { manner_in (scan_in scan.old) ≡ manner_by (settings_for asked) }
+    requires manner { manner_in scan.old ≡ manner_by (settings_for asked) }
     requires world { W.relations ≡ length asked.relations.now }
     ensures scan { IsScan (meter D.told D.relations D.reads D.faults) W.told W.relations
-        (scan_in scan.new) }
-    ensures same { IsSameScan (scan_in scan.old) (scan_in scan.new) }
+        scan.new }
+    ensures same { IsSameScan scan.old scan.new }
     ensures lists { Warns (Lists (way_of (manner_by (settings_for asked.entry))) W.told
         (kept_of (skips_by_map by_map.entry) (requests_for asked.entry)) (O.written out.old)
         (O.written out.new) result.0)
@@ -63,10 +82,10 @@ pub(crate) fn list_rounds<
     ensures sums { result.0 ≡ Outcome.Done
         → HasSums (manner_by (settings_for asked.entry)) W.told
         (kept_of (skips_by_map by_map.entry) (requests_for asked.entry)) result.2 }
-    ensures taken { taken_by (scan_in scan.new).backends.items
-        ≤ taken_by (scan_in scan.old).backends.items
+    ensures taken { taken_by scan.new.backends.items
+        ≤ taken_by scan.old.backends.items
         + length (kept_of (skips_by_map by_map.entry) (requests_for asked.entry)) }
-    ensures unread { (r b : ℕ) → result.0 ≡ Outcome.Unread r b → 0 < (scan_in scan.new).unread }
+    ensures unread { (r b : ℕ) → result.0 ≡ Outcome.Unread r b → 0 < scan.new.unread }
 {
     let blocks = Cutter::<W>::of(asked);
     let settings = asked.command.settings();
@@ -81,7 +100,7 @@ pub(crate) fn list_rounds<
         outcome: Outcome::Done,
         sums: PageSums::default(),
     };
-    let lister = scan.run_by(rt, by_map, lister);
+    let lister = run_by(rt, scan, by_map, lister);
     let Lister {
         out,
         err,

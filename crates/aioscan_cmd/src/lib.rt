@@ -1,13 +1,15 @@
 //! The command `aioscan`: lists the pages of relation files, by several backends and I/O workers.
 //!
-//! Its one call, `aioscan`, works over any shelf and any two sinks. Its contract says, over a shelf
+//! The top call, `aioscan`, works over any shelf and any two sinks. Its contract says, over a shelf
 //! that tells its contents, that the output grew by the listing which one thread's synchronous
 //! reads give, up to the first block that is invalid, missing or unread; why each status comes; and
 //! in which order the outside is called, as far as the outcome and the counts show it. Over a shelf
 //! that does not tell, less is known, and the contract says how much.
+//!
+//! `program::run` is a run of the program: the top call over the files of the system.
+//! `read_command` reads the words alone, for whoever wants to know what they ask for.
 #![tactic(auto)]
 
-mod any_scan;
 mod by_map;
 mod cutter;
 mod disks;
@@ -17,6 +19,8 @@ mod in_rounds;
 mod lengths;
 mod lister;
 mod made;
+mod opening;
+pub mod program;
 mod relation_files;
 mod relations;
 mod report;
@@ -26,6 +30,4 @@ mod words;
 
 pub use report::{Line, Outcome, Report};
 pub use run::aioscan;
-
-#[cfg(test)]
-mod tests;
+pub use words::{Command, MapOption, Refusal, read_command};

@@ -15,11 +15,11 @@ ghost use Rattle.aioscan_cmd.specs.ErrorLine.{Warns, error_stream};
 ghost use Rattle.aioscan_cmd.specs.Sums.{HasSums, HasSumsTold};
 ghost use Rattle.aioscan_cmd.specs.Totals.{AreCounted, AreOfScan};
 
-use crate::any_scan::AnyScan;
 use crate::by_map::list_asked;
 use crate::cutter::Asked;
 use crate::disks::{open_others, take_all_back};
 use crate::lengths::take_lengths;
+use crate::opening::open_scan;
 use crate::relations::Relations;
 use crate::report::{Numbers, RunEnd};
 use crate::words::Command;
@@ -63,7 +63,7 @@ fn list_disks<W: World + Send + Sync, D: Disk, O: Sink, E: Sink, R: Threads + Wa
         result.1.sums }
 {
     let settings = asked.settings();
-    let mut scan = match AnyScan::<W, D>::open(alloc, &settings, disks) {
+    let mut scan = match open_scan::<W, D>(alloc, &settings, disks) {
         Ok(scan) => scan,
         Err(disks) => return (disks, RunEnd::without_reads(Outcome::NoMemory)),
     };

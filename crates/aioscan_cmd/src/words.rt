@@ -16,7 +16,7 @@ mod values;
 
 use clap::ArgMatches;
 use clap::error::ErrorKind;
-pub(crate) use map_option::MapOption;
+pub use map_option::MapOption;
 use scan_rounds::ScanSettings;
 use std::alloc::Global;
 use std::marker::Model;
@@ -32,16 +32,16 @@ const MADE: [&str; 1] = ["made"];
 
 /// Why words gave no command.
 #[derive(Clone, Copy, Debug, PartialEq, Eq)]
-pub(crate) enum Refusal {
+pub enum Refusal {
     /// They are no command.
     Usage,
     /// Want of memory.
     NoMemory,
 }
 
-/// What the words of a command ask for, which is how contracts see it.
+/// What the words of a command ask for.
 #[derive(Drop)]
-pub(crate) struct Command<'a> {
+pub struct Command<'a> {
     matches: ArgMatches<'a>,
     from: Option<u32>,
     to: Option<u32>,
@@ -131,7 +131,7 @@ impl<'a> Command<'a> {
     }
 
     /// The FILE words, in their order.
-    pub(crate) fn files(&self) -> &[&'a str]
+    pub fn files(&self) -> &[&'a str]
         ensures files { map (λ file. file.now) result.now ≡ (self.now).files }
         ensures few { length result.now ≤ 1024 }
     {
@@ -142,7 +142,7 @@ impl<'a> Command<'a> {
     }
 
     /// How many pages are generated, where no files are listed.
-    pub(crate) fn made(&self) -> Option<u32>
+    pub fn made(&self) -> Option<u32>
         ensures pages { result ≡ (self.now).made }
         ensures is { IfSome result (λ n. IsMade n self.now) }
     {
@@ -150,7 +150,7 @@ impl<'a> Command<'a> {
     }
 
     /// The map of the one file, where it is given.
-    pub(crate) fn map(&self) -> Option<MapOption<'a>>
+    pub fn map(&self) -> Option<MapOption<'a>>
         ensures map { option_map map_seen result ≡ (self.now).map }
         ensures is { IfSome (option_map map_seen result) (IsMapOf (self.now).made self.now.files) }
     {
@@ -158,7 +158,7 @@ impl<'a> Command<'a> {
     }
 
     /// The first block of each file.
-    pub(crate) fn first_block(&self) -> u32
+    pub fn first_block(&self) -> u32
         ensures block { result ≡ first_block self.now }
         ensures below { result < number_limit }
     {
@@ -166,7 +166,7 @@ impl<'a> Command<'a> {
     }
 
     /// The last block of each file, where it is given.
-    pub(crate) fn last_block(&self) -> Option<u32>
+    pub fn last_block(&self) -> Option<u32>
         ensures block { result ≡ (self.now).to }
         ensures below { IsBelow result number_limit }
     {
@@ -174,7 +174,7 @@ impl<'a> Command<'a> {
     }
 
     /// How many blocks are asked for of a relation of this length.
-    pub(crate) fn asked_count(&self, length: u32) -> u32
+    pub fn asked_count(&self, length: u32) -> u32
         ensures count { result ≡ asked_count self.now length }
         ensures few { length ≤ number_limit → result ≤ number_limit }
         ensures end { length ≤ number_limit → 1 ≤ result
@@ -188,7 +188,7 @@ impl<'a> Command<'a> {
     }
 
     /// How the files are read, but for the segment size, which is that of the disks.
-    pub(crate) fn settings(&self) -> ScanSettings
+    pub fn settings(&self) -> ScanSettings
         ensures settings { result ≡ (self.now).settings }
         ensures within { AreSettings result }
     {
@@ -196,7 +196,7 @@ impl<'a> Command<'a> {
     }
 
     /// Whether the totals are told.
-    pub(crate) fn stats(&self) -> bool
+    pub fn stats(&self) -> bool
         ensures { result ≡ (self.now).stats }
     {
         self.stats
@@ -226,8 +226,15 @@ fn parse<'a>(alloc: Global, words: &'a [String]) -> Result<ArgMatches<'a>, Refus
     }
 }
 
-/// Reads the words of a command, without the program's name.
-pub(crate) fn read_command<'a>(alloc: Global, words: &'a [String]) -> Result<Command<'a>, Refusal>
+/// Reads the words of a command, without the program's name: what they ask for, before any file is
+/// opened. It takes the options of the program and 1 to 1024 FILE words, between and behind them;
+/// all words behind `--` are files.
+///
+/// Words are refused for an option that is unknown or stands twice, and for a value that is missing
+/// or outside its range. A number has 1 to 7 digits; a FILE word is not empty. `--make` goes with no
+/// FILE word and with none of `--from`, `--to`, `--tuples` and `--map`. `--map` goes with one FILE
+/// word, of another name, and `--skip` with `--map` alone.
+pub fn read_command<'a>(alloc: Global, words: &'a [String]) -> Result<Command<'a>, Refusal>
     ensures ok { IfOk result (λ c. command_of (map string_bytes words.now) ≡ Some c) }
     ensures err { IfErr result
         (λ e. e ≡ Refusal.Usage → command_of (map string_bytes words.now) ≡ None) }

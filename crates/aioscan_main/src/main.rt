@@ -4,5 +4,5 @@
 use std::process::ExitCode;
 
 fn main(rt: HostRuntime) -> ExitCode {
-    aioscan_run::run(&rt)
+    aioscan_cmd::program::run(&rt)
 }

@@ -17,6 +17,3 @@ pub use filters::{BlockTest, Filtered};
 pub use lists::Listed;
 pub use source::BlockSource;
 pub use strides::Stepped;
-
-#[cfg(test)]
-mod tests;

@@ -16,6 +16,6 @@ carries_tag None _ = false
 
 -- the page that a reader sees
 abbrev pub page_in : {W : Type 0} → Option (Option (CarriedPage W)) → List ℕ
-page_in (Some (Some carried)) = carried.page
+page_in (Some (Some carried)) = carried.memory
 page_in (Some None) = []
 page_in None = []

@@ -7,8 +7,8 @@
 //! `open`. [`Pool`] is the index behind a lock, with the memory of each frame: a page in place,
 //! which many may read or one may write, and which carries no tag or the tag whose told, valid page
 //! it is (`Carries` of `specs/Carried.antt`). The pool's contracts say what the values that it
-//! hands
-//! out show, whatever other threads do: a [`Pin`] shows the told, valid page of the tag that was
+//! hands out
+//! show, whatever other threads do: a [`Pin`] shows the told, valid page of the tag that was
 //! asked for, and the reference of a Busy is in range. Completed reads hand their pages to `&Pool`,
 //! by the trait `Places` of aio_callback. No call of the pool but `open` takes memory.
 #![tactic(auto)]
@@ -16,6 +16,7 @@
 mod carried;
 mod descriptor;
 mod index;
+mod memory;
 mod part;
 mod parts;
 mod pin;
@@ -28,8 +29,3 @@ pub use descriptor::{Descriptor, Tag};
 pub use index::{Begun, Look, PoolIndex};
 pub use pin::Pin;
 pub use pool::{Found, Pool};
-
-#[cfg(test)]
-mod sharing;
-#[cfg(test)]
-mod tests;

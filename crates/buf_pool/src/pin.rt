@@ -35,7 +35,10 @@ impl<'p, W: World> Pin<'p, W> {
             result.now }
     {
         match self.claim.get() {
-            Some(carried) => &carried.page,
+            Some(carried) => match carried.memory.page() {
+                Some(page) => page,
+                None => unreachable!(),
+            },
             None => unreachable!(),
         }
     }

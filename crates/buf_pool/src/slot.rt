@@ -7,6 +7,7 @@ ghost use Rattle.aio_callback.specs.Good.{IsGood};
 
 use crate::carried::CarriedPage;
 use crate::descriptor::Tag;
+use crate::memory::PageMemory;
 use crate::pin::Pin;
 use counted_slot::{Claim, Counted, FREE, MOST_READERS, ONE_READER, PRESENT, TAKEN};
 use page_check::{Page, World};
@@ -37,7 +38,7 @@ impl<W: World> PageSlot<W> {
     pub(crate) fn open(alloc: Global) -> Result<PageSlot<W>, AllocError> {
         let carried = CarriedPage {
             tag: None,
-            page: Page::zeroed(alloc)?,
+            memory: PageMemory::open(alloc)?,
             of: PhantomData,
         };
         let slot = PageSlot {
@@ -96,7 +97,7 @@ impl<W: World> PageSlot<W> {
     // Puts the page in; whether it did. It does where this caller took the page out, since nobody
     // else turns the word of an empty slot.
     fn put_in(&self, carried: CarriedPage<W>) -> bool
-        requires { Carries W.told carried.tag carried.page }
+        requires { Carries W.told carried.tag carried.memory }
     {
         let (found, claim) = self.inner.turn(FREE, TAKEN);
         if found != FREE {
@@ -114,7 +115,7 @@ impl<W: World> PageSlot<W> {
         let Some(mut carried) = self.take_out() else {
             return false;
         };
-        carried.page.copy_from(page);
+        carried.memory.write(page);
         carried.tag = Some(tag);
         self.put_in(carried)
     }

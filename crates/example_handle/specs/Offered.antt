@@ -6,7 +6,7 @@ use Rattle.aio_word.specs.Stands.{IsIn}
 use Rattle.aio_word.specs.Tokens.{IsInFlight}
 use Rattle.aio_handle.specs.Shown.{Named, Standing, IsOf}
 use Rattle.aio_handle.specs.Closing.{IsAtRest}
-use Rattle.aio_handle.specs.Trials.{IsLaunched}
+use Rattle.aio_fixtures.specs.Lives.{HasUnreclaimed}
 
 -- an actor of the table that has no token out
 abbrev pub IsIdle : Named → Standing → Type 0
@@ -21,5 +21,5 @@ pub record ArePair (table : Named) (backend runner : Standing) : Type 0 where
 -- the I/O is in flight, about this number, and the only token of its backend
 pub record IsOffered (t : WaitRef) (number : ℕ) (q : Known) : Type 0 where
   pub flight : IsInFlight q t
-  pub only : IsLaunched t q
+  pub only : HasUnreclaimed (t ∷ []) q
   pub about : IsIn (t, number ∷ []) q.aims

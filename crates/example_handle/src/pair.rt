@@ -3,6 +3,7 @@ ghost use Rattle.std.specs.Prelude.{◌≡◌, ◌+◌, IfOk};
 ghost use Rattle.example_handle.specs.Offered.{ArePair, IsIdle};
 
 use crate::note::Note;
+use aio_fixtures::{close_with_two, last_actor};
 use aio_handle::{Actor, Table, Totals};
 use page_check::World;
 use std::alloc::{AllocError, Global};
@@ -15,10 +16,10 @@ pub fn open_pair<W: World>(
     ensures { IfOk result (λ r. ArePair r.0 r.1 r.2) }
 {
     let (table, mut actors) = Table::<Note, W>::open(alloc, 1, 1, 1, 0)?;
-    let Some(runner) = actors.pop() else {
+    let Some(runner) = last_actor(&table, &mut actors) else {
         unreachable!()
     };
-    let Some(backend) = actors.pop() else {
+    let Some(backend) = last_actor(&table, &mut actors) else {
         unreachable!()
     };
     Ok((table, backend, runner))
@@ -36,6 +37,5 @@ pub fn close_pair<W: World>(
     requires two { (table.config.backends ≡ 1) × (table.config.runners ≡ 1) }
     ensures { IfOk result (λ t. t.incarnations ≡ t.by_backends + t.by_runners) }
 {
-    let actors = vec![in alloc; backend, runner]?;
-    Ok(table.close(actors))
+    close_with_two(alloc, table, backend, runner)
 }

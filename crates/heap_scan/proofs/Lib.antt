@@ -4,3 +4,6 @@ pub mod LineCounts
 pub mod FirstLines
 pub mod Jobs
 pub mod Summing
+pub mod SmallNumbers
+pub mod FixedPieces
+pub mod PartialTexts

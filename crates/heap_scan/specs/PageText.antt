@@ -1,6 +1,7 @@
 -- The text of a page: a line for the page, and a line for each of its line pointers.
-use Rattle.std.specs.Prelude.{◌≡◌, ℕ, ◌^◌, ◌<◌, ◌==◌, List, [], ◌∷◌, ◌++◌, codes, decimal, count_by}
-use Rattle.std.specs.List.{concat, flat_map, enumerate_from}
+use Rattle.std.specs.Prelude.{◌≡◌, ℕ, ◌+◌, ◌^◌, ◌<◌, ◌==◌, List, [], ◌∷◌, ◌++◌, map, codes, decimal}
+use Rattle.std.specs.Prelude.{count_by}
+use Rattle.std.specs.List.{concat, flat_map, enumerate_from, range_with_len}
 use Rattle.page_check.specs.declared.verdict.Verdict.{Verdict}
 use Rattle.page_check.specs.declared.verdict.Verdict.TheVariants.{Zero, Sane, Bad}
 use Rattle.page_check.specs.declared.fields.Kind.{Kind}
@@ -9,7 +10,7 @@ use Rattle.page_check.specs.declared.fields.LinePointer.{LinePointer}
 use Rattle.page_check.specs.declared.fields.PageHeader.{PageHeader}
 use Rattle.page_check.specs.Fields.{header_of}
 use Rattle.page_check.specs.Verdict.{verdict_of, IsValid}
-use Rattle.page_check.specs.LinePointers.{count_of, line_pointers_of}
+use Rattle.page_check.specs.LinePointers.{count_of, line_pointer_of, line_pointers_of}
 
 -- the word for a kind of line pointer
 abbrev pub word_of : Kind → List ℕ
@@ -27,6 +28,12 @@ item_line item =
 -- the lines of line pointers, which are numbered from 1 as in `ItemPointerData`
 unfoldable pub item_lines : List LinePointer → List ℕ
 item_lines pointers = flat_map item_line (enumerate_from 1 pointers)
+
+-- the lines of so many line pointers from the one at an index on
+unfoldable pub lines_from : (ℕ → LinePointer) → ℕ → ℕ → List ℕ
+lines_from pointer_at first many =
+    flat_map item_line
+    (enumerate_from (first + 1) (map pointer_at (range_with_len first many)))
 
 -- `page R B new`
 abbrev pub new_line : ℕ → ℕ → List ℕ
@@ -60,6 +67,11 @@ other_lines_by Bad page = []
 unfoldable pub page_text_of : ℕ → ℕ → List ℕ → List ℕ
 page_text_of relation block page =
     first_line relation block page ++ other_lines_by (verdict_of page) page
+
+-- that text up to the lines of so many line pointers
+unfoldable pub text_up_to : ℕ → ℕ → List ℕ → ℕ → List ℕ
+text_up_to relation block page items =
+    first_line relation block page ++ lines_from (line_pointer_of page) 0 items
 
 -- how many lines a text has, each of which ends in a newline
 abbrev pub line_count : List ℕ → ℕ

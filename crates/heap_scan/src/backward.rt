@@ -5,8 +5,10 @@
 ghost use Rattle.std.specs.Prelude.{◌≡◌, ◌++◌, ◌<◌, ◌≤◌, ◌+◌, ◌-◌, length, drop, decimal, codes};
 ghost use Rattle.heap_scan.specs.PageText.{word_of};
 
+use crate::numbers::DECIMALS;
 use itoa::write_digits;
 use page_check::Kind;
+use std::simd::prelude::*;
 
 /// Writes a piece so that it ends at `end`, and says where it starts. What stands behind it stays.
 #[inline]
@@ -21,6 +23,47 @@ pub fn put(buf: &mut [u8], end: usize, piece: &[u8]) -> usize
     start
 }
 
+// A number at the end of eight bytes, and how long it is.
+#[inline]
+fn padded_number(number: u16) -> (u8x8, usize)
+    requires { number < 10000 }
+    ensures size { (length result.0 ≡ 8) × (result.1 ≤ 4) }
+    ensures len { result.1 ≡ length (decimal number) }
+    ensures text { drop (8 - result.1) result.0 ≡ decimal number }
+{
+    let entry = DECIMALS[number as usize];
+    (
+        u64x1::splat(entry << 8).to_le_bytes(),
+        (entry % 256) as usize - 1,
+    )
+}
+
+// A number of at most four digits, by one copy of eight bytes: those before the digits are written
+// over later.
+#[inline]
+fn put_short_number(buf: &mut [u8], end: usize, number: u16) -> usize
+    requires short { number < 10000 }
+    requires room { 8 ≤ end }
+    requires within { end ≤ length buf.old }
+    ensures start { result + length (decimal number) ≡ end }
+    ensures written { drop result buf.new ≡ decimal number ++ drop end buf.old }
+{
+    let (text, len) = padded_number(number);
+    text.copy_to_slice(&mut buf[end - 8..]);
+    end - len
+}
+
+// A number of any length.
+#[inline(never)]
+fn put_long_number(buf: &mut [u8], end: usize, number: u32) -> usize
+    requires room { 10 ≤ end }
+    requires within { end ≤ length buf.old }
+    ensures start { result + length (decimal number) ≡ end }
+    ensures written { drop result buf.new ≡ decimal number ++ drop end buf.old }
+{
+    write_digits(u64::from(number), buf, end)
+}
+
 /// The same for a number in decimal: at most ten digits, and of one below 100000 at most five.
 #[inline]
 pub fn put_number(buf: &mut [u8], end: usize, number: u32) -> usize
@@ -31,34 +74,97 @@ pub fn put_number(buf: &mut [u8], end: usize, number: u32) -> usize
     ensures short { number < 100000 → length (decimal number) ≤ 5 }
     ensures written { drop result buf.new ≡ decimal number ++ drop end buf.old }
 {
-    write_digits(u64::from(number), buf, end)
-}
-
-// The word for a kind between two blanks, at the end of ten bytes, and how long that is.
-#[inline]
-fn padded_word(kind: Kind) -> (&'static [u8], usize)
-    ensures size { (length result.0.now ≡ 10) × (result.1 ≤ 10) }
-    ensures word { drop (10 - result.1) result.0.now ≡ codes " " ++ (word_of kind ++ codes " ") }
-{
-    match kind {
-        Kind::Unused => (b"   unused ", 8),
-        Kind::Normal => (b"   normal ", 8),
-        Kind::Redirect => (b" redirect ", 10),
-        Kind::Dead => (b"     dead ", 6),
+    if number < 10000 {
+        put_short_number(buf, end, number as u16)
+    } else {
+        put_long_number(buf, end, number)
     }
 }
 
-// The word for a kind between two blanks. Ten bytes are copied whatever the word, since a copy of
-// a fixed size is two moves; those before the word are written over later.
+// A number and a blank at the end of eight bytes, and how long they are.
+#[inline]
+fn padded_number_blank(number: u16) -> (u8x8, usize)
+    requires { number < 10000 }
+    ensures size { (length result.0 ≡ 8) × (result.1 ≤ 5) }
+    ensures len { result.1 ≡ length (decimal number) + 1 }
+    ensures text { drop (8 - result.1) result.0 ≡ decimal number ++ codes " " }
+{
+    let entry = DECIMALS[number as usize];
+    (u64x1::splat(entry).to_le_bytes(), (entry % 256) as usize)
+}
+
+/// Writes a number below 10000 and a blank behind it so that they end at `end`, by one copy of eight
+/// bytes: those before the digits are written over later.
+#[inline]
+pub(crate) fn put_short_number_blank(buf: &mut [u8], end: usize, number: u16) -> usize
+    requires short { number < 10000 }
+    requires room { 8 ≤ end }
+    requires within { end ≤ length buf.old }
+    ensures start { result + (length (decimal number) + 1) ≡ end }
+    ensures long { end ≤ result + 5 }
+    ensures written { drop result buf.new ≡ decimal number ++ (codes " " ++ drop end buf.old) }
+{
+    let (text, len) = padded_number_blank(number);
+    text.copy_to_slice(&mut buf[end - 8..]);
+    end - len
+}
+
+/// The same with the end of the line in place of the blank.
+#[inline]
+pub(crate) fn put_short_number_newline(buf: &mut [u8], end: usize, number: u16) -> usize
+    requires short { number < 10000 }
+    requires room { 8 ≤ end }
+    requires within { end ≤ length buf.old }
+    ensures start { (result ≤ end) × (end ≤ result + 5) }
+    ensures written { drop result buf.new ≡ decimal number ++ (codes "\n" ++ drop end buf.old) }
+{
+    let start = put_short_number_blank(buf, end, number);
+    buf[end - 1] = b'\n';
+    start
+}
+
+/// Writes `item ` so that it ends at `end`, by one copy of eight bytes: those before it are written
+/// over later.
+#[inline]
+pub(crate) fn put_item_word(buf: &mut [u8], end: usize) -> usize
+    requires room { 8 ≤ end }
+    requires within { end ≤ length buf.old }
+    ensures start { result + 5 ≡ end }
+    ensures written { drop result buf.new ≡ codes "item " ++ drop end buf.old }
+{
+    u8x8::from_array(*b"   item ").copy_to_slice(&mut buf[end - 8..]);
+    end - 5
+}
+
+// The words for the kinds and a blank, each at the end of 16 bytes, of which the first says how
+// long they are.
+static KIND_WORDS: [[u8; 16]; 4] = [
+    *b"\x07        unused ",
+    *b"\x07        normal ",
+    *b"\x09      redirect ",
+    *b"\x05          dead ",
+];
+
+// The word for a kind and a blank, and how long they are.
+#[inline]
+fn padded_word(kind: Kind) -> (u8x16, usize)
+    ensures size { (length result.0 ≡ 16) × (result.1 ≤ 9) }
+    ensures word { drop (16 - result.1) result.0 ≡ word_of kind ++ codes " " }
+{
+    let word = KIND_WORDS[kind as usize];
+    (u8x16::from_array(word), usize::from(word[0]))
+}
+
+// The word for a kind and a blank, by one copy of 16 bytes: those before the word are written over
+// later.
 #[inline]
 pub(crate) fn put_word(buf: &mut [u8], end: usize, kind: Kind) -> usize
-    requires room { 10 ≤ end }
+    requires room { 16 ≤ end }
     requires within { end ≤ length buf.old }
-    ensures start { (result ≤ end) × (end ≤ result + 10) }
-    ensures written { drop result buf.new ≡ codes " "
-        ++ (word_of kind ++ (codes " " ++ drop end buf.old)) }
+    ensures start { (result ≤ end) × (end ≤ result + 9) }
+    ensures written { drop result buf.new ≡ word_of kind ++ (codes " " ++ drop end buf.old) }
 {
     let (word, len) = padded_word(kind);
-    put(buf, end, word);
+    word.copy_to_slice(&mut buf[end - 16..]);
     end - len
 }

@@ -11,6 +11,7 @@
 pub mod backward;
 pub mod laws;
 mod lines;
+mod numbers;
 mod sums;
 mod text;
 mod warning;
@@ -19,6 +20,3 @@ pub use lines::{ITEM_ROOM, PAGE_ROOM, put_item, put_page_line};
 pub use sums::{PageSums, tally};
 pub use text::page_text;
 pub use warning::warning_text;
-
-#[cfg(test)]
-mod tests;

@@ -1,13 +1,15 @@
 //! The lines of a page's text, each written from its end to its start.
-ghost use Rattle.std.specs.Prelude.{◌≡◌, ◌++◌, ◌<◌, ◌≤◌, ◌+◌, ◌*◌, length, drop, codes, decimal};
+ghost use Rattle.std.specs.Prelude.{◌≡◌, ◌++◌, ◌<◌, ◌≤◌, ◌+◌, ◌-◌, ◌*◌, length, drop, codes, decimal};
 ghost use Rattle.page_check.specs.Fields.{header_of};
 ghost use Rattle.page_check.specs.Verdict.{IsValid};
-ghost use Rattle.page_check.specs.LinePointers.{count_of, line_pointers_of};
-ghost use Rattle.heap_scan.specs.PageText.{item_line, item_lines, page_line, new_line};
-ghost use Rattle.heap_scan.specs.PageText.{page_text_of};
+ghost use Rattle.page_check.specs.LinePointers.{count_of, line_pointer_of};
+ghost use Rattle.heap_scan.specs.PageText.{text_up_to, item_line, lines_from, page_line};
+ghost use Rattle.heap_scan.specs.PageText.{new_line};
 
-use crate::backward::{put, put_number, put_word};
-use page_check::{LinePointer, Page, count, header, line_pointer};
+use crate::backward::{
+    put, put_item_word, put_number, put_short_number_blank, put_short_number_newline, put_word,
+};
+use page_check::{LinePointer, Page, count, header, line_pointer_at};
 
 /// At most so many bytes has the line of a page.
 pub const PAGE_ROOM: usize = 96;
@@ -15,13 +17,31 @@ pub const PAGE_ROOM: usize = 96;
 /// At most so many bytes has the line of a line pointer.
 pub const ITEM_ROOM: usize = 32;
 
-/// Writes the line of a line pointer, whose number has at most five digits, so that it ends at
-/// `end`.
+// The line of a line pointer, where each number has at most four digits.
 #[inline]
-pub fn put_item(buf: &mut [u8], end: usize, number: u32, pointer: LinePointer) -> usize
+fn put_short_item(buf: &mut [u8], end: usize, number: u16, pointer: &LinePointer) -> usize
     requires room { 40 ≤ end }
     requires within { end ≤ length buf.old }
-    requires short { number < 100000 }
+    requires number { number < 10000 }
+    requires offset { pointer.now.offset < 10000 }
+    requires length { pointer.now.length < 10000 }
+    ensures start { (result ≤ end) × (end ≤ result + 32) }
+    ensures written { drop result buf.new ≡ item_line (number, pointer.now) ++ drop end buf.old }
+{
+    let at = put_short_number_newline(buf, end, pointer.length);
+    let at = put_short_number_blank(buf, at, pointer.offset);
+    let at = put_word(buf, at, pointer.kind);
+    let at = put_short_number_blank(buf, at, number);
+    put_item_word(buf, at)
+}
+
+// The same with any offset and length. On a page of 8192 bytes only a damaged one is so large.
+#[cold]
+#[inline(never)]
+fn put_long_item(buf: &mut [u8], end: usize, number: u16, pointer: LinePointer) -> usize
+    requires room { 40 ≤ end }
+    requires within { end ≤ length buf.old }
+    requires number { number < 10000 }
     ensures start { (result ≤ end) × (end ≤ result + 32) }
     ensures written { drop result buf.new ≡ item_line (number, pointer) ++ drop end buf.old }
 {
@@ -30,27 +50,82 @@ pub fn put_item(buf: &mut [u8], end: usize, number: u32, pointer: LinePointer) -
     let at = put(buf, at, b" ");
     let at = put_number(buf, at, u32::from(pointer.offset));
     let at = put_word(buf, at, pointer.kind);
-    let at = put_number(buf, at, number);
-    put(buf, at, b"item ")
+    let at = put_short_number_blank(buf, at, number);
+    put_item_word(buf, at)
 }
 
-// The lines of all line pointers, at the end of the buffer.
-fn put_items(buf: &mut [u8], page: &Page) -> usize
-    requires valid { IsValid page.now }
-    requires room { 96 + 32 * count_of page.now ≤ length buf.old }
-    ensures start { (96 ≤ result) × (result ≤ length buf.new) }
-    ensures written { drop result buf.new ≡ item_lines (line_pointers_of page.now) }
+/// Writes the line of a line pointer, whose number has at most four digits, so that it ends at
+/// `end`.
+#[inline]
+pub fn put_item(buf: &mut [u8], end: usize, number: u16, pointer: LinePointer) -> usize
+    requires room { 40 ≤ end }
+    requires within { end ≤ length buf.old }
+    requires short { number < 10000 }
+    ensures start { (result ≤ end) × (end ≤ result + 32) }
+    ensures written { drop result buf.new ≡ item_line (number, pointer) ++ drop end buf.old }
 {
-    let mut left = count(page);
+    if pointer.offset < 8192 && pointer.length < 8192 {
+        return put_short_item(buf, end, number, &pointer);
+    }
+    put_long_item(buf, end, number, pointer)
+}
+
+// The same with any offset and length of the line pointer at an index of a page's bytes. It is read
+// once more, so that other line pointers need not be kept for this call.
+#[cold]
+#[inline(never)]
+fn put_long_item_at(buf: &mut [u8], end: usize, bytes: &[u8], index: u16) -> usize
+    requires room { 40 ≤ end }
+    requires within { end ≤ length buf.old }
+    requires number { index < 9999 }
+    requires there { 28 + 4 * index ≤ length bytes.now }
+    ensures start { (result ≤ end) × (end ≤ result + 32) }
+    ensures written { drop result buf.new
+        ≡ item_line (index + 1, line_pointer_of bytes.now index) ++ drop end buf.old }
+{
+    put_long_item(buf, end, index + 1, line_pointer_at(bytes, index))
+}
+
+// The line of the line pointer at an index of a page's bytes.
+#[inline]
+fn put_item_at(buf: &mut [u8], end: usize, bytes: &[u8], index: u16) -> usize
+    requires room { 40 ≤ end }
+    requires within { end ≤ length buf.old }
+    requires number { index < 9999 }
+    requires there { 28 + 4 * index ≤ length bytes.now }
+    ensures start { (result ≤ end) × (end ≤ result + 32) }
+    ensures written { drop result buf.new
+        ≡ item_line (index + 1, line_pointer_of bytes.now index) ++ drop end buf.old }
+{
+    let pointer = line_pointer_at(bytes, index);
+    if pointer.offset < 8192 && pointer.length < 8192 {
+        return put_short_item(buf, end, index + 1, &pointer);
+    }
+    put_long_item_at(buf, end, bytes, index)
+}
+
+/// Writes the lines of the line pointers from one index up to another at the end of the buffer, and
+/// says where they start.
+pub(crate) fn put_items(buf: &mut [u8], page: &Page, from: u16, to: u16) -> usize
+    requires valid { IsValid page.now }
+    requires order { from ≤ to }
+    requires there { to ≤ count_of page.now }
+    requires room { 96 + 32 * (to - from) ≤ length buf.old }
+    ensures start { (96 ≤ result) × (result ≤ length buf.new) }
+    ensures written { drop result buf.new
+        ≡ lines_from (line_pointer_of page.now) from (to - from) }
+{
+    let bytes = page.bytes();
+    let mut left = to;
     let mut at = buf.len();
-    while left > 0 {
+    while left > from {
         left -= 1;
-        at = put_item(buf, at, u32::from(left) + 1, line_pointer(page, left));
+        at = put_item_at(buf, at, bytes, left);
     }
     at
 }
 
-// `page R B`, the begin of each first line.
+// `page R B`, with which each first line begins.
 fn put_place(buf: &mut [u8], end: usize, relation: u32, block: u32) -> usize
     requires room { 31 ≤ end }
     requires within { end ≤ length buf.old }
@@ -95,17 +170,25 @@ fn put_new_line(buf: &mut [u8], relation: u32, block: u32) -> usize
     put_place(buf, at, relation, block)
 }
 
-/// Writes the text of a valid page at the end of the buffer, and says where it starts. A valid page
-/// is new exactly where its upper is 0, so the check is not made again.
-pub(crate) fn put_page(buf: &mut [u8], relation: u32, block: u32, page: &Page) -> usize
+/// Writes the first line of a valid page and the lines of so many line pointers at the end of the
+/// buffer, and says where they start. A valid page is new exactly where its upper is 0, so the check
+/// is not made again.
+pub(crate) fn put_first_lines(
+    buf: &mut [u8],
+    relation: u32,
+    block: u32,
+    page: &Page,
+    items: u16,
+) -> usize
     requires valid { IsValid page.now }
-    requires room { 96 + 32 * count_of page.now ≤ length buf.old }
+    requires there { items ≤ count_of page.now }
+    requires room { 96 + 32 * items ≤ length buf.old }
     ensures start { result ≤ length buf.new }
-    ensures written { drop result buf.new ≡ page_text_of relation block page.now }
+    ensures written { drop result buf.new ≡ text_up_to relation block page.now items }
 {
     if header(page).upper == 0 {
         return put_new_line(buf, relation, block);
     }
-    let at = put_items(buf, page);
+    let at = put_items(buf, page, 0, items);
     put_page_line(buf, at, relation, block, page)
 }

@@ -1,20 +1,21 @@
 //! The text of a page.
-ghost use Rattle.std.specs.Prelude.{◌≡◌, ◌++◌, ◌+◌, ◌*◌, ◌≤◌, length, OnOk, OnErr};
+ghost use Rattle.std.specs.Prelude.{◌≡◌, ◌++◌, ◌+◌, length, take, OnOk, OnErr};
 ghost use Rattle.page_check.specs.Verdict.{IsValid, verdict_of};
 ghost use Rattle.page_check.specs.LinePointers.{count_of};
 ghost use Rattle.page_check.specs.declared.verdict.Verdict.TheVariants.{Zero};
 ghost use Rattle.heap_scan.specs.PageText.{page_text_of, line_count, IsTelling};
 
-use crate::lines::{ITEM_ROOM, PAGE_ROOM, put_page};
+use crate::lines::{ITEM_ROOM, PAGE_ROOM, put_first_lines, put_items};
 use page_check::{Page, count};
 use std::alloc::AllocError;
 
-// The pages of so many line pointers and fewer have a scratch on the stack.
-const FEW: u16 = 64;
+// So many line pointers are written into the scratch at a time.
+const ITEMS_AT_ONCE: u16 = 64;
 
-const FEW_ROOM: usize = PAGE_ROOM + ITEM_ROOM * FEW as usize;
+const SCRATCH_SIZE: usize = PAGE_ROOM + ITEM_ROOM * ITEMS_AT_ONCE as usize;
 
-// Writes the text into the scratch, and appends it.
+// Writes the text piece by piece into the scratch, and appends each. On an error the first pieces may
+// have been appended.
 fn append(
     scratch: &mut [u8],
     relation: u32,
@@ -23,20 +24,29 @@ fn append(
     out: &mut Vec<u8>,
 ) -> Result<(), AllocError>
     requires valid { IsValid page.now }
-    requires room { 96 + 32 * count_of page.now ≤ length scratch.old }
+    requires room { length scratch.old ≡ 2144 }
     ensures ok { OnOk result
         (out.new.items ≡ out.old.items ++ page_text_of relation block page.now) }
-    ensures err { OnErr result (out.new.items ≡ out.old.items) }
+    ensures kept { take (length out.old.items) out.new.items ≡ out.old.items }
 {
-    let start = put_page(scratch, relation, block, page);
-    out.extend_from_slice(&scratch[start..])
+    let count = count(page);
+    let mut done = count.min(ITEMS_AT_ONCE);
+    let start = put_first_lines(scratch, relation, block, page, done);
+    out.extend_from_slice(&scratch[start..])?;
+    while done < count {
+        let more = (count - done).min(ITEMS_AT_ONCE);
+        let first = put_items(scratch, page, done, done + more);
+        out.extend_from_slice(&scratch[first..])?;
+        done += more;
+    }
+    Ok(())
 }
 
 /// Appends the text of a valid page. On an error, which is want of memory, `out` holds what it
 /// held before.
 ///
-/// It takes what `out` has to grow by, and for a page of more than 64 line pointers a scratch of
-/// 96 bytes and 32 for each line pointer, which it gives back.
+/// It takes what `out` has to grow by, and no other memory. On the stack it has a scratch of 2144
+/// bytes, which it fills with zeros once.
 #[inline(never)]
 pub fn page_text(
     relation: u32,
@@ -56,11 +66,12 @@ pub fn page_text(
     ensures lines { line_count (page_text_of relation block page.now) ≡ 1 + count_of page.now }
     ensures telling { IsTelling relation block page.now }
 {
-    let count = count(page);
-    if count <= FEW {
-        return append(&mut [0; FEW_ROOM], relation, block, page, out);
+    let before = out.len();
+    match append(&mut [0; SCRATCH_SIZE], relation, block, page, out) {
+        Ok(()) => Ok(()),
+        Err(error) => {
+            out.truncate(before);
+            Err(error)
+        }
     }
-    let room = PAGE_ROOM + ITEM_ROOM * usize::from(count);
-    let mut scratch = vec![in *out.allocator(); 0u8; room]?;
-    append(scratch.as_mut_slice(), relation, block, page, out)
 }

@@ -65,6 +65,10 @@ item_text page block index =
     ++ tuple_part (line_pointer_of page index).kind
     (tuple_line (index + 1) (tuple_of page index) (step_of page block index))
 
+-- those of so many items from an index on, and of all
+unfoldable pub texts_from : List ℕ → ℕ → ℕ → ℕ → List ℕ
+texts_from page block first many = flat_map (item_text page block) (range_with_len first many)
+
 unfoldable pub item_texts : List ℕ → ℕ → List ℕ
 item_texts page block = flat_map (item_text page block) (range_with_len 0 (count_of page))
 
@@ -83,3 +87,8 @@ tuples_text_by Bad relation block page = []
 
 unfoldable pub tuples_text_of : ℕ → ℕ → List ℕ → List ℕ
 tuples_text_of relation block page = tuples_text_by (verdict_of page) relation block page
+
+-- the text of a page that is not new up to the lines of so many items
+unfoldable pub tuples_text_up_to : ℕ → ℕ → List ℕ → ℕ → List ℕ
+tuples_text_up_to relation block page items =
+    page_line relation block (header_of page) (count_of page) ++ texts_from page block 0 items

@@ -1,12 +1,10 @@
 //! The header of a tuple.
 ghost use Rattle.std.specs.Prelude.{◌≡◌, ◌<◌, ◌≤◌, ◌+◌, length};
-ghost use Rattle.page_check.specs.Fields.{u16_at, u32_at};
 ghost use Rattle.page_check.specs.Verdict.{IsValid};
 ghost use Rattle.page_check.specs.LinePointers.{count_of};
 ghost use Rattle.heap_tuple.specs.Tuples.{header_at, is_inside, tuple_of};
 
-use byteorder::{ByteOrder, LittleEndian};
-use page_check::{Kind, LinePointer, PAGE_SIZE, Page, line_pointer};
+use page_check::{Kind, LinePointer, PAGE_SIZE, Page, line_pointer, read_u16, read_u32};
 
 /// How many bytes a header has without its null bitmap (`SizeofHeapTupleHeader`).
 const HEADER_SIZE: u16 = 23;
@@ -33,22 +31,6 @@ pub struct TupleHeader {
     pub mask: u16,
     /// `t_hoff`: where the tuple's data begins.
     pub hoff: u8,
-}
-
-#[inline]
-fn read_u16(bytes: &[u8], offset: usize) -> u16
-    requires { offset + 2 ≤ length bytes.now }
-    ensures { result ≡ u16_at bytes.now offset }
-{
-    LittleEndian::read_u16(&bytes[offset..])
-}
-
-#[inline]
-fn read_u32(bytes: &[u8], offset: usize) -> u32
-    requires { offset + 4 ≤ length bytes.now }
-    ensures { result ≡ u32_at bytes.now offset }
-{
-    LittleEndian::read_u32(&bytes[offset..])
 }
 
 #[inline]

@@ -15,6 +15,3 @@ mod text;
 pub use header::{TupleHeader, tuple};
 pub use steps::step;
 pub use text::tuples_text;
-
-#[cfg(test)]
-mod tests;

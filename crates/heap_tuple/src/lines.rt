@@ -1,14 +1,12 @@
 //! The lines of a page's tuples, each written from its end to its start.
-ghost use Rattle.std.specs.Prelude.{◌≡◌, ◌≢◌, ◌++◌, ◌<◌, ◌≤◌, ◌+◌, ◌*◌, length, drop};
-ghost use Rattle.page_check.specs.Fields.{header_of};
+ghost use Rattle.std.specs.Prelude.{◌≡◌, ◌++◌, ◌<◌, ◌≤◌, ◌+◌, ◌-◌, ◌*◌, length, drop};
 ghost use Rattle.page_check.specs.Verdict.{IsValid};
 ghost use Rattle.page_check.specs.LinePointers.{count_of};
-ghost use Rattle.heap_tuple.specs.Chains.{longest_of, roots_of};
 ghost use Rattle.heap_tuple.specs.Tuples.{step_of, tuple_of};
-ghost use Rattle.heap_tuple.specs.TuplesText.{chains_line, ctid_part, inside_line, item_text};
-ghost use Rattle.heap_tuple.specs.TuplesText.{item_texts};
+ghost use Rattle.heap_tuple.specs.TuplesText.{tuples_text_up_to, chains_line, ctid_part};
+ghost use Rattle.heap_tuple.specs.TuplesText.{inside_line, item_text, texts_from};
 ghost use Rattle.heap_tuple.specs.TuplesText.{marks_part, outside_line, step_part, tuple_line};
-ghost use Rattle.heap_tuple.specs.TuplesText.{tuple_part, tuples_text_of, xids_part};
+ghost use Rattle.heap_tuple.specs.TuplesText.{tuple_part, xids_part};
 
 use crate::chains::Chains;
 use crate::{TupleHeader, step, tuple};
@@ -21,9 +19,6 @@ const TUPLE_ROOM: usize = 192;
 
 /// At most so many bytes have the lines of one item.
 pub(crate) const LINES_ROOM: usize = ITEM_ROOM + TUPLE_ROOM;
-
-/// At most so many bytes has the line of the chains.
-pub(crate) const CHAINS_ROOM: usize = 64;
 
 // ` step J`, or nothing.
 #[inline]
@@ -167,28 +162,30 @@ fn put_lines(buf: &mut [u8], end: usize, page: &Page, block: u32, index: u16) ->
 {
     let pointer = line_pointer(page, index);
     let at = put_part(buf, end, page, block, index, pointer.kind);
-    put_item(buf, at, u32::from(index) + 1, pointer)
+    put_item(buf, at, index + 1, pointer)
 }
 
-/// Writes the lines of all items, so that they end at `end`.
-pub(crate) fn put_all_lines(buf: &mut [u8], end: usize, page: &Page, block: u32) -> usize
+/// Writes the lines of the items from one index up to another at the end of the buffer, and says
+/// where they start.
+pub(crate) fn put_items(buf: &mut [u8], page: &Page, block: u32, from: u16, to: u16) -> usize
     requires valid { IsValid page.now }
-    requires room { 96 + 224 * count_of page.now ≤ end }
-    requires within { end ≤ length buf.old }
-    ensures start { (96 ≤ result) × (result ≤ end) }
-    ensures written { drop result buf.new ≡ item_texts page.now block ++ drop end buf.old }
+    requires order { from ≤ to }
+    requires there { to ≤ count_of page.now }
+    requires room { 96 + 224 * (to - from) ≤ length buf.old }
+    ensures start { (96 ≤ result) × (result ≤ length buf.new) }
+    ensures written { drop result buf.new ≡ texts_from page.now block from (to - from) }
 {
-    let mut left = count(page);
-    let mut at = end;
-    while left > 0 {
+    let mut left = to;
+    let mut at = buf.len();
+    while left > from {
         left -= 1;
         at = put_lines(buf, at, page, block, left);
     }
     at
 }
 
-// `chains N longest L`, at the end of the buffer.
-fn put_chains(buf: &mut [u8], chains: &Chains) -> usize
+/// Writes `chains N longest L` at the end of the buffer, and says where it starts.
+pub(crate) fn put_chains(buf: &mut [u8], chains: &Chains) -> usize
     requires { 64 ≤ length buf.old }
     ensures start { (result ≤ length buf.new) × (length buf.new ≤ result + 64) }
     ensures written { drop result buf.new ≡ chains_line chains.now.roots chains.now.longest }
@@ -200,23 +197,21 @@ fn put_chains(buf: &mut [u8], chains: &Chains) -> usize
     put(buf, at, b"chains ")
 }
 
-/// Writes the text of a page that is not new at the end of the buffer, and says where it starts.
-pub(crate) fn put_tuples(
+/// Writes the first line of a page that is not new and the lines of so many items at the end of the
+/// buffer, and says where they start.
+pub(crate) fn put_first_lines(
     buf: &mut [u8],
     relation: u32,
     block: u32,
     page: &Page,
-    chains: &Chains,
+    items: u16,
 ) -> usize
     requires valid { IsValid page.now }
-    requires used { (header_of page.now).upper ≢ 0 }
-    requires chains { (chains.now.roots ≡ length (roots_of page.now block))
-        × (chains.now.longest ≡ longest_of page.now block) }
-    requires room { 160 + 224 * count_of page.now ≤ length buf.old }
+    requires there { items ≤ count_of page.now }
+    requires room { 96 + 224 * items ≤ length buf.old }
     ensures start { result ≤ length buf.new }
-    ensures written { drop result buf.new ≡ tuples_text_of relation block page.now }
+    ensures written { drop result buf.new ≡ tuples_text_up_to relation block page.now items }
 {
-    let at = put_chains(buf, chains);
-    let at = put_all_lines(buf, at, page, block);
+    let at = put_items(buf, page, block, 0, items);
     put_page_line(buf, at, relation, block, page)
 }

@@ -1,8 +1,7 @@
-mod Looking
+pub mod Looking
 mod Found
 mod Joining
 mod Gathering
 mod Popping
 mod Completing
 mod Ended
-mod Trying

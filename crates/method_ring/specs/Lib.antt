@@ -4,4 +4,3 @@ pub mod Sim
 pub mod Holding
 pub mod Grouped
 pub mod Running
-pub mod Trials

@@ -26,11 +26,7 @@ mod listed;
 mod ring;
 mod room;
 mod runner;
-#[cfg(test)]
-mod runner_tests;
 mod sim_ring;
-#[cfg(test)]
-mod tests;
 
 pub use ring::{Entry, Ring};
 pub use room::RingRoom;

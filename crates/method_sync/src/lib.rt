@@ -12,8 +12,6 @@
 
 mod method;
 mod runner;
-#[cfg(test)]
-mod tests;
 
 pub use method::SyncMethod;
 pub use runner::Runner;

@@ -22,12 +22,8 @@ mod log;
 mod method;
 mod queue;
 mod rule;
-#[cfg(test)]
-mod tests;
 mod words;
 mod worker;
-#[cfg(test)]
-mod worker_tests;
 
 pub use method::WorkerMethod;
 pub use queue::{Pop, QueueFull, QueueSeat, SubmitQueue};

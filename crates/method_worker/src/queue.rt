@@ -213,12 +213,6 @@ impl<W: World> SubmitQueue<W> {
         open_under(&self.words, &mut seat.chair, self.reopened);
     }
 
-    /// How many workers are about to sleep, or asleep.
-    #[cfg(test)]
-    pub(crate) fn sleepers(&self) -> u64 {
-        self.sleepers.load(Ordering::SeqCst)
-    }
-
     /// The bell, which each push and each close raises.
     pub(crate) fn bell(&self) -> u64 {
         heard(&self.words)

@@ -1,5 +1,3 @@
-pub mod Bytes
-pub mod Content
 pub mod Zeros
 pub mod ValidPages
 pub mod SynchronousReads
@@ -10,3 +8,4 @@ pub mod AnswersOfLists
 pub mod AnswersOfBlocks
 pub mod Segments
 pub mod Rows
+mod PageRow

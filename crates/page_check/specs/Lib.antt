@@ -1,7 +1,6 @@
 pub mod Fields
 pub mod Verdict
 pub mod LinePointers
-pub mod Content
 pub mod Told
 pub mod SynchronousAnswer
 pub mod IsAnswer

@@ -54,14 +54,18 @@ pub struct LinePointer {
     pub length: u16,
 }
 
-fn read_u16(bytes: &[u8], offset: usize) -> u16
+/// The number that two bytes at an offset have, the lowest byte first.
+#[inline]
+pub fn read_u16(bytes: &[u8], offset: usize) -> u16
     requires { offset + 2 ≤ length bytes.now }
     ensures { result ≡ u16_at bytes.now offset }
 {
     LittleEndian::read_u16(&bytes[offset..])
 }
 
-fn read_u32(bytes: &[u8], offset: usize) -> u32
+/// The number that four bytes at an offset have, the lowest byte first.
+#[inline]
+pub fn read_u32(bytes: &[u8], offset: usize) -> u32
     requires { offset + 4 ≤ length bytes.now }
     ensures { result ≡ u32_at bytes.now offset }
 {
@@ -94,6 +98,7 @@ pub fn count(page: &Page) -> u16
     read_u16(page.bytes(), 12).saturating_sub(HEADER_SIZE) / 4
 }
 
+#[inline]
 fn kind_from(flags: u32) -> Kind
     requires { flags < 4 }
     ensures { result ≡ kind_of flags }
@@ -106,17 +111,27 @@ fn kind_from(flags: u32) -> Kind
     }
 }
 
-/// The line pointer at an index, the first at 0 (`PageGetItemId`, whose numbers begin at 1).
+/// The line pointer at an index of a page's bytes, for a loop that asks the page for them once.
+#[inline]
 #[tactic(auto, unfolding(crate::specs::LinePointers::line_pointer_of))]
-pub fn line_pointer(page: &Page, index: u16) -> LinePointer
-    requires valid { IsValid page.now }
-    requires index { index < count_of page.now }
-    ensures { result ≡ line_pointer_of page.now index }
+pub fn line_pointer_at(bytes: &[u8], index: u16) -> LinePointer
+    requires { 28 + 4 * index ≤ length bytes.now }
+    ensures { result ≡ line_pointer_of bytes.now index }
 {
-    let number = read_u32(page.bytes(), 24 + 4 * index as usize);
+    let number = read_u32(bytes, 24 + 4 * index as usize);
     LinePointer {
         offset: (number & 0x7fff) as u16,
         kind: kind_from(number >> 15 & 3),
         length: (number >> 17) as u16,
     }
+}
+
+/// The line pointer at an index, the first at 0 (`PageGetItemId`, whose numbers begin at 1).
+#[inline]
+pub fn line_pointer(page: &Page, index: u16) -> LinePointer
+    requires valid { IsValid page.now }
+    requires index { index < count_of page.now }
+    ensures { result ≡ line_pointer_of page.now index }
+{
+    line_pointer_at(page.bytes(), index)
 }

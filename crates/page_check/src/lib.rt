@@ -13,10 +13,9 @@ mod page;
 mod verdict;
 mod world;
 
-pub use fields::{Kind, LinePointer, PageHeader, count, header, line_pointer};
-pub use page::{PAGE_SIZE, Page};
+pub use fields::{
+    Kind, LinePointer, PageHeader, count, header, line_pointer, line_pointer_at, read_u16, read_u32,
+};
+pub use page::{PAGE_SIZE, Page, split_bytes};
 pub use verdict::{Verdict, check};
 pub use world::World;
-
-#[cfg(test)]
-mod tests;

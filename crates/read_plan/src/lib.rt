@@ -15,6 +15,3 @@ mod runs;
 
 pub use plan::Plan;
 pub use runs::{Offer, Run};
-
-#[cfg(test)]
-mod tests;

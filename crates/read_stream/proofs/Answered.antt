@@ -41,6 +41,7 @@ failed_read c told relations p io taken b first failed = record {
   relation_is = taken.aimed.relation;
   first = first;
   failed = failed;
+  submitted = taken.submitted;
   taken = subst (λ (z : Class). IsSince (was_known c) p (mark_at (reference_in io) (kind.Local z)))
       failed taken.local;
   alone = λ one. subst

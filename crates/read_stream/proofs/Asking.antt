@@ -1,6 +1,6 @@
 -- A block is taken from the source, or the source has none.
 use Rattle.std.proofs.Common.{◌≡◌, ℕ, ◌+◌, ◌<◌, List, [], ◌∷◌, ◌++◌, length, map, drop, ap, sym}
-use Rattle.std.proofs.Common.{subst, arith, ◌∙◌, true, append_assoc, length-append}
+use Rattle.std.proofs.Common.{subst, arith, ◌∙◌, append_assoc, length-append}
 use Rattle.std.specs.Prelude.{Option}
 use Rattle.std.proofs.lemmas.List.{append-nil, map-append}
 use Rattle.page_check.specs.Told.{Told}
@@ -26,7 +26,6 @@ use Rattle.read_stream.proofs.Flown.{are-for-later}
 use Rattle.read_stream.proofs.Going.{went_nothing}
 use Rattle.read_stream.proofs.Moving.{more-credit}
 use Rattle.read_stream.proofs.Steady.{Same, current_kept, steady_moved}
-use Rattle.read_stream.proofs.Beside.{going_beside, steady_beside}
 use Rattle.read_stream.proofs.Hands.{rest_kept}
 
 module _ {W S P : Type 0} (left : S → List (ℕ × P)) (told : Option Told)
@@ -167,16 +166,3 @@ module _ {W S P : Type 0} (left : S → List (ℕ × P)) (told : Option Told)
           most = let z = g.most in omega arith;
         };
       }
-
-module _ {W S P : Type 0} (left : S → List (ℕ × P)) (told : Option Told)
-    (relations handles : ℕ) (p : Known) (s : ReadStream W S P) where
-  -- the source has no further block
-  pub underway_over : (source : S) → left s.source ≡ [] → left source ≡ []
-      → Underway left told relations handles p s
-      → Underway left told relations handles p (record s { source = source; over = true })
-  underway_over source was now u = record {
-    steady = steady_beside left told relations handles p s
-        (record s { source = source; over = true }) u.steady;
-    going = going_beside left told relations handles p s s source true
-        (rest_of s.current s.step) [] 0 (now ∙ sym was) (λ o. now) u.going;
-  }

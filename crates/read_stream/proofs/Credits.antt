@@ -43,11 +43,6 @@ are_free c p s runs a none =
     let f = length-map s.batch (λ x. run_of x.1) in
     let h = fly-long c p s.flights.items a.flown a.flying in omega arith
 
--- where one block of the queue stands in no wanted run, one more I/O may be made
-pub credit_left : (queue credit runs hand pend behind : ℕ) → hand + runs + pend + behind ≤ queue
-    → queue ≤ credit + runs + 0 → 1 ≤ hand + pend + behind → 0 < credit
-credit_left queue credit runs hand pend behind some paid one = omega arith
-
 -- a pending run has at least one block
 pub some_pending : (combine : ℕ) (o : Option Run) (run : Run) → o ≡ Some run → IsRun combine run
     → 1 ≤ length (pending_in o)

@@ -1,7 +1,7 @@
 -- A stream gives a page.
 use Rattle.std.proofs.Common.{◌≡◌, ℕ, ◌+◌, ◌-◌, ◌≤◌, List, [], ◌∷◌, ◌++◌, length, map, drop, ap}
 use Rattle.std.proofs.Common.{sym, subst, arith, ◌∙◌}
-use Rattle.std.specs.Prelude.{Option, Some, None, IfSome, false, slice_get}
+use Rattle.std.specs.Prelude.{Option, Some, None, IfSome, IsSomeAnd, false, slice_get}
 use Rattle.page_check.specs.Told.{Told}
 use Rattle.page_check.specs.SynchronousAnswer.{read_count, reader_of}
 use Rattle.page_check.specs.IsAnswer.{IsNext, Stop as SaidStop}
@@ -250,6 +250,6 @@ module _ {W S P : Type 0} (left : S → List (ℕ × P)) (told : Option Told)
               (MayBeUnread n.scope.was.value p)
               (entries_of n.scope.relation (left n.source_was.value)) n.given
               (SaidStop (said_of e)))) (sym k.step) tt;
-          kept = subst (λ (z : Step P). IfStopped z (λ e. IfUnread e (λ b. IfSome n.current
+          kept = subst (λ (z : Step P). IfStopped z (λ e. IfUnread e (λ b. IsSomeAnd n.current
               (IsFailedRead n.scope.was.value p n.scope.relation b)))) (sym k.step) tt;
         }

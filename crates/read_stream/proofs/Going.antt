@@ -42,10 +42,10 @@ pays-nothing reads faults =
     record { read_each = λ _. omega arith; fault_each = λ _. omega arith }
 
 -- what the actor knows of aims, where it learnt no other, and where it learnt one
-aims-same : (p q : Known) → q.aims ≡ p.aims → (x : WaitRef × List ℕ) → IsIn x p.aims → IsIn x q.aims
+pub aims-same : (p q : Known) → q.aims ≡ p.aims → (x : WaitRef × List ℕ) → IsIn x p.aims → IsIn x q.aims
 aims-same p q e x i = subst (λ (z : List (WaitRef × List ℕ)). IsIn x z) (sym e) i
 
-aims-more : (p q : Known) (t : WaitRef × List ℕ) → q.aims ≡ p.aims ++ t ∷ []
+pub aims-more : (p q : Known) (t : WaitRef × List ℕ) → q.aims ≡ p.aims ++ t ∷ []
     → (x : WaitRef × List ℕ) → IsIn x p.aims → IsIn x q.aims
 aims-more p q t e x i =
     subst (λ (z : List (WaitRef × List ℕ)). IsIn x z) (sym e) (in-left x p.aims (t ∷ []) i)
@@ -182,13 +182,17 @@ went_made (event.Io class) h w w' aim p q reads faults own m = absurd own
 went_made event.Shared h w w' aim p q reads faults own m = absurd own
 
 -- a mark that stands stays
+pub since_grown : (was p q : Known) (m : Mark) (more : List Mark) → q.marks ≡ p.marks ++ more
+    → IsSince was p m → IsSince was q m
+since_grown was p q m more grown s = (
+  s.0 ++ more,
+  grown ∙ (ap (λ (z : List Mark). z ++ more) s.1 ∙ append_assoc was.marks s.0 more),
+  in-left m s.0 more s.2,
+)
+
 pub since_later : (was p q : Known) (m : Mark) (reads reads' faults faults' : ℕ)
     → IsSince was p m → Went p q reads reads' faults faults' → IsSince was q m
-since_later was p q m reads reads' faults faults' s w = (
-  s.0 ++ w.more,
-  w.marks ∙ (ap (λ (z : List Mark). z ++ w.more) s.1 ∙ append_assoc was.marks s.0 w.more),
-  in-left m s.0 w.more s.2,
-)
+since_later was p q m reads reads' faults faults' s w = since_grown was p q m w.more w.marks s
 
 -- one I/O of a batch was submitted
 pub went_submitting : {R : Type 0} (aim_in : R → List ℕ) (before after : List (WaitRef × R))

@@ -12,7 +12,8 @@ use Rattle.aio_word.specs.declared.Step.TheVariants as event
 use Rattle.aio_word.specs.declared.Word.{Word}
 use Rattle.aio_word.specs.declared.WaitRef.{WaitRef}
 use Rattle.aio_word.specs.Events.{order, mark_at, ref, lives, is_mark}
-use Rattle.aio_word.specs.Stands.{one_if}
+use Rattle.aio_word.specs.Stands.{one_if, IsIn}
+use Rattle.read_stream.proofs.Going.{aims-same, aims-more}
 use Rattle.aio_word.proofs.Frames.{spot, at-more, at-place}
 use Rattle.aio_handle.specs.Executing.{TakesUp}
 use Rattle.aio_handle.specs.Made.{Made, Looked}
@@ -77,6 +78,7 @@ pub record Idles (p q : Known) : Type 0 where
   pub lived : (h : ℕ) → lives h q.marks ≡ lives h p.marks
   pub more : List Mark
   pub grown : q.marks ≡ p.marks ++ more
+  pub aims : (e : WaitRef × List ℕ) → IsIn e p.aims → IsIn e q.aims
 
 pub idles-then : (p q r : Known) → Idles p q → Idles q r → Idles p r
 idles-then p q r a b = record {
@@ -89,13 +91,15 @@ idles-then p q r a b = record {
   more = a.more ++ b.more;
   grown = b.grown
       ∙ (ap (λ (z : List Mark). z ++ b.more) a.grown ∙ append_assoc p.marks a.more b.more);
+  aims = λ e j. b.aims e (a.aims e j);
 }
 
 idles-growing : (p q : Known) (more : List Mark) → q.number ≡ p.number → q.config ≡ p.config
     → q.marks ≡ p.marks ++ more
+    → ((e : WaitRef × List ℕ) → IsIn e p.aims → IsIn e q.aims)
     → ((t : WaitRef) → spot t 0 more ≡ 0) → ((t : WaitRef) → spot t 6 more ≡ 0)
     → ((t : WaitRef) → spot t 7 more ≡ 0) → Idles p q
-idles-growing p q more number config marks none0 none6 none7 = record {
+idles-growing p q more number config marks aims none0 none6 none7 = record {
   number = number;
   config = config;
   defined = λ t. ap (λ (z : List Mark). spot t 0 z) marks
@@ -108,43 +112,37 @@ idles-growing p q more number config marks none0 none6 none7 = record {
       ∙ (let a = lives-append h p.marks more in let b = no-lives h more none7 in omega arith);
   more = more;
   grown = marks;
+  aims = aims;
 }
 
 pub idles-taking-up : (p q : Known) (a b c d : ℕ) → TakesUp [] p q a b c d → Idles p q
 idles-taking-up p q a b c d k = idles-growing p q k.more k.grows.number k.grows.config k.grows.marks
+    k.grows.aims
     (λ t. let o = k.took.owners t in omega arith)
     (λ t. let o = k.took.owners t in omega arith)
     (λ t. let o = k.took.owners t in omega arith)
 
 idles-same : (p q : Known) → q.number ≡ p.number → q.config ≡ p.config → q.marks ≡ p.marks
-    → Idles p q
-idles-same p q number config marks = idles-growing p q [] number config
-    (marks ∙ sym (append-nil p.marks)) (λ t. refl) (λ t. refl) (λ t. refl)
+    → q.aims ≡ p.aims → Idles p q
+idles-same p q number config marks aims = idles-growing p q [] number config
+    (marks ∙ sym (append-nil p.marks)) (aims-same p q aims) (λ t. refl) (λ t. refl) (λ t. refl)
 
 pub idles-looking : (h : ℕ) (w : Word) (p q : Known) → Looked h w p q → Idles p q
 idles-looking h w p q l = idles-same p q (ap (λ (z : Known). z.number) l.is)
     (ap (λ (z : Known). z.config) l.is) (ap (λ (z : Known). z.marks) l.is)
-
-pub idles-handing : (h : ℕ) (w w' : Word) (aim : List ℕ) (p q : Known)
-    → Made event.HandOut h w w' aim p q → Idles p q
-idles-handing h w w' aim p q m = idles-same p q (ap (λ (z : Known). z.number) m.is)
-    (ap (λ (z : Known). z.config) m.is) (ap (λ (z : Known). z.marks) m.is)
+    (ap (λ (z : Known). z.aims) l.is)
 
 idles-mark : (t : WaitRef) (k : Kind) (p q : Known) → q.number ≡ p.number → q.config ≡ p.config
-    → q.marks ≡ p.marks ++ mark_at t k ∷ [] → order k ≢ 0 → order k ≢ 6 → order k ≢ 7 → Idles p q
-idles-mark t k p q number config marks no0 no6 no7 =
-    idles-growing p q (mark_at t k ∷ []) number config marks
+    → q.marks ≡ p.marks ++ mark_at t k ∷ []
+    → ((e : WaitRef × List ℕ) → IsIn e p.aims → IsIn e q.aims) → order k ≢ 0 → order k ≢ 6 → order k ≢ 7 → Idles p q
+idles-mark t k p q number config marks aims no0 no6 no7 =
+    idles-growing p q (mark_at t k ∷ []) number config marks aims
     (λ u. at-place u t 0 k [] no0 (omega arith)) (λ u. at-place u t 6 k [] no6 (omega arith))
     (λ u. at-place u t 7 k [] no7 (omega arith))
-
-pub idles-staging : (h : ℕ) (w w' : Word) (aim : List ℕ) (p q : Known)
-    → Made event.Stage h w w' aim p q → Idles p q
-idles-staging h w w' aim p q m = idles-mark (ref h w.generation) kind.Staged p q
-    (ap (λ (z : Known). z.number) m.is) (ap (λ (z : Known). z.config) m.is)
-    (ap (λ (z : Known). z.marks) m.is) (λ e. omega arith) (λ e. omega arith) (λ e. omega arith)
 
 pub idles-submitting : (h : ℕ) (w w' : Word) (aim : List ℕ) (p q : Known)
     → Made event.Submit h w w' aim p q → Idles p q
 idles-submitting h w w' aim p q m = idles-mark (ref h w.generation) kind.Submitted p q
     (ap (λ (z : Known). z.number) m.is) (ap (λ (z : Known). z.config) m.is)
-    (ap (λ (z : Known). z.marks) m.is) (λ e. omega arith) (λ e. omega arith) (λ e. omega arith)
+    (ap (λ (z : Known). z.marks) m.is)
+    (aims-more p q (ref h w.generation, aim) (ap (λ (z : Known). z.aims) m.is)) (λ e. omega arith) (λ e. omega arith) (λ e. omega arith)

@@ -179,7 +179,7 @@ module _ (p m q : Known) (t : WaitRef) (l : Label) (a b d e : ℕ) (class : Clas
             held = held-kept-but c s.batch flying i.held;
             staged = i.staged;
             flying = are-flying-kept c p q s.flights.items (λ u j. kept u (apart u j)) i.flying;
-            ended = λ x j. taken-grown c told relations p q more x grown (i.ended x j);
+            ended = λ x j. taken-grown c told relations p q more x grown went-settling.aims (i.ended x j);
             owed = λ x. ⊎_elim
                 (λ over. let f = same-defined t w.taken.class p.marks before.marks q.marks
                 marks-both idles.defined x in
@@ -249,6 +249,10 @@ module _ (p m q : Known) (t : WaitRef) (l : Label) (a b d e : ℕ) (class : Clas
               relation = ap (λ (v : Reading). v.relation) is ∙ (same.relation ∙ is-aimed.relation);
               room = ap (λ (v : Reading). length v.pages) is ∙ (same.room ∙ is-aimed.room);
             };
+            submitted = subst (λ (v : WaitRef). IsIn (v, aim_in y) q.aims) (sym named)
+                (subst (λ (v : List ℕ). IsIn (t, v) q.aims)
+                (sym (ap (λ (v : Reading). aim_in v) is ∙ aimed (aim_in z) flying.aimed.2))
+                (went-settling.aims (t, aim_in z) flying.aimed.2));
             local = subst
                 (λ (v : WaitRef). IsSince (was_known c) q (mark_at v (kind.Local y.label.ended)))
                 (sym named)

@@ -30,7 +30,7 @@ use Rattle.read_stream.specs.declared.scope.Scope.{Scope}
 use Rattle.read_stream.specs.Issued.{IssuedBut, Issued, HandedBy, references, was_known}
 use Rattle.read_stream.specs.Issued.{made_in, IsAimed}
 use Rattle.read_stream.specs.Went.{Went, local_marks}
-use Rattle.read_stream.proofs.Going.{went_then, went_nothing, went_made}
+use Rattle.read_stream.proofs.Going.{went_then, went_nothing, went_made, aims-same}
 use Rattle.read_stream.proofs.Idling.{locals-more}
 use Rattle.read_stream.proofs.TakenIn.{taken-grown}
 use Rattle.read_stream.proofs.Flying.{are-flying-kept, flying-in}
@@ -102,6 +102,9 @@ module _ {W : Type 0} (c : Scope W) (told : Option Told) (relations : ℕ) where
 
       pub went-staged : Went p q2 a b d e
       went-staged = went_then p q q2 a b b d e e (went-handed p q s t a b d e h) went-defined
+
+      aims-handed : (e : WaitRef × List ℕ) → IsIn e o.aims → IsIn e q.aims
+      aims-handed = aims-same o q (ap (λ (z : Known). z.aims) h.made.is)
 
       marks-o : q.marks ≡ o.marks
       marks-o = ap (λ (z : Known). z.marks) h.made.is
@@ -214,7 +217,8 @@ module _ {W : Type 0} (c : Scope W) (told : Option Told) (relations : ℕ) where
                 (flying-else u (flying-in c o s.flights.items u i.flying j).in_flight))
                 i.flying;
             ended = λ x j. taken-grown c told relations o q2
-                (mark_at t kind.Defined ∷ mark_at t kind.Staged ∷ []) x grown (i.ended x j);
+                (mark_at t kind.Defined ∷ mark_at t kind.Staged ∷ []) x grown
+                (λ e j'. went-defined.aims e (aims-handed e j')) (i.ended x j);
             owed = λ x. owed-staged x (i.owed x);
             most = omega arith;
             small = i.small;

@@ -103,24 +103,6 @@ stays_same s = record {
   given = refl;
 }
 
-pub moves_same : {W S P : Type 0} (s : ReadStream W S P) → Moves s s
-moves_same s = record {
-  keeps = keeps_same s;
-  settings = (refl, refl, refl, refl, refl, refl, refl);
-  source = refl;
-  over = refl;
-  queue = refl;
-  wants = refl;
-  step = refl;
-  given = refl;
-  ahead = refl;
-  pending = refl;
-  combine = refl;
-  max_ios = refl;
-  limit = refl;
-  made = refl;
-}
-
 pub stays_then : {W S P : Type 0} (a b d : ReadStream W S P) → Stays a b → Stays b d → Stays a d
 stays_then a b d x y = record {
   keeps = keeps_then a b d x.keeps y.keeps;
@@ -131,24 +113,6 @@ stays_then a b d x y = record {
   given = y.given ∙ x.given;
 }
 
-pub moves_then : {W S P : Type 0} (a b d : ReadStream W S P) → Moves a b → Moves b d → Moves a d
-moves_then a b d x y = record {
-  keeps = keeps_then a b d x.keeps y.keeps;
-  settings = desk-then a b d x.settings y.settings;
-  source = y.source ∙ x.source;
-  over = y.over ∙ x.over;
-  queue = y.queue ∙ x.queue;
-  wants = y.wants ∙ x.wants;
-  step = y.step ∙ x.step;
-  given = y.given ∙ x.given;
-  ahead = y.ahead ∙ x.ahead;
-  pending = y.pending ∙ x.pending;
-  combine = y.combine ∙ x.combine;
-  max_ios = y.max_ios ∙ x.max_ios;
-  limit = y.limit ∙ x.limit;
-  made = y.made ∙ x.made;
-}
-
 module _ {W S P : Type 0} (left : S → List (ℕ × P)) (told : Option Told)
     (relations handles : ℕ) where
   pub some_taken : (c : Scope W) (p q : Known) (a b d e : ℕ) (r : Option Reading)
@@ -156,7 +120,7 @@ module _ {W S P : Type 0} (left : S → List (ℕ × P)) (told : Option Told)
       → IfSome r (IsTakenIn c told relations q)
   some_taken c p q a b d e None w k = tt
   some_taken c p q a b d e (Some r) w k =
-      taken-grown c told relations p q w.more r w.marks k
+      taken-grown c told relations p q w.more r w.marks w.aims k
 
   module _ (p q : Known) (s n : ReadStream W S P) (e : Same s n) where
     -- the record whose pages are given is as it was

@@ -1,7 +1,7 @@
 -- A stream stops.
 use Rattle.std.proofs.Common.{◌≡◌, ℕ, List, [], ◌∷◌, ◌++◌, map, drop, refl, ap, sym, subst, arith}
 use Rattle.std.proofs.Common.{◌∙◌}
-use Rattle.std.specs.Prelude.{Option, Some, None, IfSome, slice_get}
+use Rattle.std.specs.Prelude.{Option, Some, None, IfSome, IsSomeAnd, slice_get}
 use Rattle.std.proofs.lemmas.List.{length-map}
 use Rattle.page_check.specs.Told.{Told}
 use Rattle.page_check.specs.SynchronousAnswer.{reader_of}
@@ -40,7 +40,7 @@ module _ {W S P : Type 0} (left : S → List (ℕ × P)) (told : Option Told)
       (e : Ending) → UnderwayBut left told relations handles hand behind paid p s
       → IsNext (reader_of s.scope.zero told) (MayBeUnread s.scope.was.value p)
       (entries_of s.scope.relation (left s.source_was.value)) s.given (SaidStop (said_of e))
-      → IfUnread e (λ b. IfSome s.current
+      → IfUnread e (λ b. IsSomeAnd s.current
       (IsFailedRead s.scope.was.value p s.scope.relation b))
       → IsBetween left told relations handles p (record s { step = step.Stop e })
   between_stopped p s hand behind paid e u next kept =
@@ -67,13 +67,13 @@ module _ {W S P : Type 0} (left : S → List (ℕ × P)) (told : Option Told)
   failed-kept : (p : Known) (s : ReadStream W S P) (io : Reading) (block : ℕ) (e : Ending)
       → s.current ≡ Some io → IsTakenIn s.scope told relations p io
       → IsPart told io block (part.Stop e)
-      → IfUnread e (λ b. IfSome s.current
+      → IfUnread e (λ b. IsSomeAnd s.current
       (IsFailedRead s.scope.was.value p s.scope.relation b))
   failed-kept p s io block ending.End now taken is = tt
   failed-kept p s io block (ending.Invalid b) now taken is = tt
   failed-kept p s io block (ending.PastEnd b) now taken is = tt
   failed-kept p s io block (ending.Unread b) now taken is =
-      subst (λ (z : Option Reading). IfSome z
+      subst (λ (z : Option Reading). IsSomeAnd z
       (IsFailedRead s.scope.was.value p s.scope.relation b)) (sym now)
       (failed_read s.scope told relations p io taken b (is.1 ∙ sym is.0) is.2)
 

@@ -9,7 +9,8 @@ use Rattle.aio_word.specs.declared.Kind.TheVariants as kind
 use Rattle.aio_word.specs.declared.Known.{Known}
 use Rattle.aio_word.specs.Events.{actors, mark_at}
 use Rattle.aio_handle.specs.Shown.{Standing}
-use Rattle.aio_callback.specs.Reading.{Reading}
+use Rattle.aio_callback.specs.Reading.{Reading, aim_in}
+use Rattle.aio_word.specs.Stands.{IsIn}
 use Rattle.aio_callback.specs.Finished.{reference_in}
 use Rattle.read_stream.specs.declared.answer.Next.{Next}
 use Rattle.read_stream.specs.declared.answer.Next.TheVariants as next
@@ -41,6 +42,8 @@ pub record IsFailedRead (was : Standing) (now : Known) (relation block : ℕ) (i
   pub relation_is : io.relation ≡ relation
   pub first : io.first ≡ block
   pub failed : io.label.ended ≡ Failed
+  -- it was submitted to read the block
+  pub submitted : IsIn (reference_in io, aim_in io) now.aims
   pub taken : IsSince was.known now (mark_at (reference_in io) (kind.Local Failed))
   pub alone : actors was.known.config ≡ 1
       → IsSince was.known now (mark_at (reference_in io) (kind.Io Failed))

@@ -76,6 +76,7 @@ module _ {W : Type 0} (c : Scope W) where
     pub fits : Fits told relations r
     pub ended : r.label.ended ≢ Unended
     pub aimed : IsAimed r
+    pub submitted : IsIn (reference_in r, aim_in r) p.aims
     pub local : IsSince was_known p (mark_at (reference_in r) (kind.Local r.label.ended))
     pub alone : actors c.was.value.known.config ≡ 1
         → IsSince was_known p (mark_at (reference_in r) (kind.Io r.label.ended))

@@ -1,6 +1,6 @@
 -- The state of a stream, between its calls and in the middle of one.
 use Rattle.std.specs.Prelude.{◌≡◌, ℕ, ◌+◌, ◌<◌, ◌≤◌, ◌++◌, List, [], length, map, drop, true}
-use Rattle.std.specs.Prelude.{Option, IfSome, ⊤}
+use Rattle.std.specs.Prelude.{Option, IfSome, IsSomeAnd, ⊤}
 use Rattle.page_check.specs.Told.{Told}
 use Rattle.page_check.specs.SynchronousAnswer.{Entry, read_count, reader_of}
 use Rattle.page_check.specs.IsAnswer.{Next as Said, Stop as SaidStop, IsNext}
@@ -86,7 +86,7 @@ module _ {W S P : Type 0} (left : S → List (ℕ × P)) (told : Option Told)
     pub lent : IsLent told s.scope.relation s.pin s.current s.step
     pub stopped : IfStopped s.step (λ e. IsNext (reader_of s.scope.zero told)
         (MayBeUnread s.scope.was.value p) (asked_for s) s.given (SaidStop (said_of e)))
-    pub kept : IfStopped s.step (λ e. IfUnread e (λ b. IfSome s.current
+    pub kept : IfStopped s.step (λ e. IfUnread e (λ b. IsSomeAnd s.current
         (IsFailedRead s.scope.was.value p s.scope.relation b)))
 
   pub record IsOpen (s : ReadStream W S P) : Type 0 where

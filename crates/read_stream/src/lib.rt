@@ -22,36 +22,20 @@ mod ahead;
 mod answer;
 mod crew;
 mod desk;
-#[cfg(test)]
-mod fault_tests;
 mod issuing;
 mod laws;
 mod lookup;
 mod parts;
 mod pending;
-#[cfg(test)]
-mod pool_tests;
 mod queue;
-#[cfg(test)]
-mod random_streams;
 mod reach;
 mod reading;
 mod reads;
 mod ring;
-#[cfg(test)]
-mod run_tests;
 mod scope;
 mod serve;
 mod stream;
 mod taking_in;
-#[cfg(test)]
-mod trial_answers;
-#[cfg(test)]
-mod trial_files;
-#[cfg(test)]
-mod trial_plans;
-#[cfg(test)]
-mod trials;
 
 pub use answer::Next;
 pub use desk::{Desk, Settings};

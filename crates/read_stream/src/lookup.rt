@@ -1,5 +1,6 @@
 //! How a stream has the page of a block by the pool.
 ghost use Rattle.std.specs.Prelude.{◌≡◌, ◌<◌, [], ◌∷◌, List, ℕ};
+ghost use Rattle.aio_word.specs.Tokens.{IsSeenDone};
 ghost use Rattle.read_stream.specs.Crews.{IsHanded, Serves};
 ghost use Rattle.read_stream.specs.Open.{Reaches, UnderwayBut};
 ghost use Rattle.read_stream.specs.Changes.{Moves, Stays};
@@ -89,6 +90,7 @@ impl<'d, 'p, W: World, S: BlockSource<P> + Drop, P: Copy> ReadStream<'d, 'p, W, 
             hand [] 0 crew.new.actor.now.known self.new }
         ensures stays { Stays self.old self.new }
         ensures moves { Moves self.old self.new }
+        ensures done { IsSeenDone crew.new.actor.now.known reference }
     {
         self.submit(rt, crew);
         wait(rt, crew.table, crew.actor, reference, crew.runner);

@@ -79,6 +79,7 @@ may_later was p q reads reads' faults faults' w e (io, f) = (
     relation_is = f.relation_is;
     first = f.first;
     failed = f.failed;
+    submitted = w.aims _ f.submitted;
     taken = since_later was.known p q _ reads reads' faults faults' f.taken w;
     alone = λ one. since_later was.known p q _ reads reads' faults faults' (f.alone one) w;
   },

@@ -33,29 +33,17 @@ mod common;
 mod consumer;
 mod course;
 mod finish;
-#[cfg(test)]
-mod gate;
 mod hand;
 mod job;
 mod lent;
 mod listing;
 mod loan;
-#[cfg(test)]
-mod manners;
 mod map_pages;
-#[cfg(test)]
-mod map_scans;
-#[cfg(test)]
-mod map_tests;
 mod memory;
 mod open;
 mod reading;
 mod ring;
 mod ring_scan;
-#[cfg(test)]
-mod ring_stream;
-#[cfg(test)]
-mod ring_tests;
 mod round;
 mod rounds;
 mod run;
@@ -64,14 +52,6 @@ mod settings;
 mod sharing;
 mod skipping;
 mod source;
-#[cfg(test)]
-mod test_files;
-#[cfg(test)]
-mod test_scans;
-#[cfg(test)]
-mod tests;
-#[cfg(test)]
-mod trials;
 mod turn;
 mod worker;
 

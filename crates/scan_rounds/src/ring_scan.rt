@@ -110,6 +110,13 @@ impl<W: World, D: Disk> RingScan<W, D> {
         }
     }
 
+    /// The same scan, for code that serves scans by any method. Its backends keep their rings.
+    pub fn into_scan(self) -> Scan<W, D>
+        ensures { result ≡ self }
+    {
+        self.scan
+    }
+
     /// The least room of its backends: how many more lives each of their handles can have.
     pub fn room(&self) -> u64
         ensures { result ≡ self.now.room }

@@ -1,5 +1,5 @@
 //! A scan: backends and workers over one table.
-ghost use Rattle.std.specs.Prelude.{◌≡◌};
+ghost use Rattle.std.specs.Prelude.{◌≡◌, length};
 
 use crate::backend::Backend;
 use crate::common::Common;
@@ -43,6 +43,13 @@ impl<W: World, D: Disk> Scan<W, D> {
         ensures { result ≡ self.now.room }
     {
         self.room
+    }
+
+    /// How many backends it has: one round takes at most so many jobs.
+    pub fn backend_count(&self) -> usize
+        ensures { result ≡ length self.now.backends.items }
+    {
+        self.backends.len()
     }
 
     /// How many jobs of its rounds so far have ended in Unread. It stays at its last value.

@@ -11,6 +11,3 @@ mod needed;
 
 pub use map::{Skip, VisMap};
 pub use needed::needed_pages;
-
-#[cfg(test)]
-mod tests;

@@ -6,7 +6,7 @@ ghost use Rattle.aio_word.specs.declared.Class.TheVariants.{Unended};
 ghost use Rattle.aio_callback.specs.Counting.{counted_of};
 ghost use Rattle.aio_callback.specs.Chain.{good_of};
 
-use super::ReadIo;
+use super::{ReadIo, fill_room};
 use crate::chain::{first_result, run_chain};
 use crate::counting::{Counts, run_local};
 use crate::places::Places;
@@ -21,7 +21,8 @@ impl ReadIo {
 
     // The page of a block, where it is good and was not zeroed.
     fn page_if(&self, index: u32, good: u32) -> Option<&Page>
-        requires { good ≤ length self.now.pages }
+        requires ended { self.now.label.ended ≢ Unended }
+        requires room { good ≤ length self.now.pages }
         ensures { option_map (λ p. p.now) result
             ≡ (if nat_lt index good && not (zeroed_in self.now index)
             then Some (page_in self.now index) else None) }
@@ -40,10 +41,12 @@ impl ReadIo {
         ensures room { (self.old.count ≤ length self.old.pages)
             × (self.new.count ≤ length self.new.pages) }
         ensures some { self.old.aimed ≡ true → 0 < self.old.count }
+        ensures ended { self.new.label.ended ≢ Unended }
     {
         let Some(answer) = self.raw else {
             unreachable!()
         };
+        fill_room(&mut self.pages, self.room);
         self.zeroed.fill(false);
         self.result = run_chain(
             &self.ids[..self.id_count],
@@ -58,6 +61,7 @@ impl ReadIo {
 
     // Hands each block over, with its page where it is good and was not zeroed.
     fn finish_all<W: World, P: Places<W>, T: Wait>(&self, rt: &T, places: &mut P)
+        requires ended { self.now.label.ended ≢ Unended }
         requires few { good_of self.now.ids self.now.result ≤ length self.now.pages }
         requires good { AllGood W.told self.now (good_of self.now.ids self.now.result) }
         ensures { Grew (P.finished places.old) (P.finished places.new) (finishes self.now) }

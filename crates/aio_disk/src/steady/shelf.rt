@@ -150,6 +150,3 @@ impl Shelf for SteadyShelf {
         SteadyShelf::take_back(self, disk);
     }
 }
-
-#[cfg(test)]
-mod tests;

@@ -10,9 +10,9 @@ use vis_map::Skip;
 
 /// A visibility map, and which blocks are left out by it.
 #[derive(Clone, Copy)]
-pub(crate) struct MapOption<'a> {
-    pub(crate) name: &'a str,
-    pub(crate) skip: Skip,
+pub struct MapOption<'a> {
+    pub name: &'a str,
+    pub skip: Skip,
 }
 
 fn skip(matches: &ArgMatches<'_>) -> Option<Skip>

@@ -1,4 +1,4 @@
-use Rattle.std.proofs.Common.{◌≡◌, ◌⊎◌, ◌-◌, ◌*◌, ◌<◌, length, map}
+use Rattle.std.proofs.Common.{◌≡◌, ◌-◌, ◌*◌, ◌<◌, length, map}
 use Rattle.std.proofs.Common.{arith, rules, subst, drop, refl, sym}
 use Rattle.std.specs.Prelude.{IfSome, Option}
 use Rattle.std.proofs.lemmas.List.{length-map}
@@ -59,7 +59,7 @@ returns-in-Ok-clause-called g c =
     called_at told segments c.segment_of-index.result
     (segment_of c.args.size (map told segments) c.args.first)
     c.read_blocks.new.source c.index-segments-index.result
-    (λ before now. NoneFailed before now ⊎ ((0 < c.in-Ok.count) × OneFailed before now))
+    (λ before now. NoneFailed before now)
     (omega (arith, c.segment_of-index.ensures, c.requires.segments))
     (omega (arith, c.segment_of-index.ensures, length-map segments told))
     c.in-Ok.ensures.pages.0

@@ -5,7 +5,6 @@ use Rattle.aioscan_cmd.specs.Cutting.{map_pages_of, request_list_for, settings_f
 use Rattle.aioscan_cmd.specs.Reading.{Lists, way_by}
 use Rattle.aioscan_cmd.specs.RequestList.{block_range}
 use Rattle.aioscan_cmd.specs.declared.report.Outcome.{Outcome}
-use Rattle.aioscan_cmd.specs.Scanning.{scan_in}
 use Rattle.aioscan_cmd.proofs.AskedByMap.{all_asked, map_added, map_followed, map_part, map_stopped}
 use Rattle.aioscan_cmd.proofs.AskedByMap.{pages_asked, unread_out}
 use Rattle.aioscan_cmd.proofs.ByMap.{way_with}
@@ -48,8 +47,8 @@ returns-in-Done-clause-listed g c =
     let count = ap (λ m. m.pages) c.in-Ok.ensures ∙ c.map_pages.ensures.pages in
     let some = c.requires.scan.some in
     let ended = ended_done 1 c.map-ending.result (sym c.outcome_of.ensures ∙ c.in-Done.is) in
-    let bs = (scan_in c.args.scan.now).backends.items in
-    let cs = (scan_in c.map-ending.new.self).backends.items in
+    let bs = c.args.scan.now.backends.items in
+    let cs = c.map-ending.new.self.backends.items in
     let known = map_added _ _ told bs cs _ _ found c.map-ending.new.warnings.items
     c.map-ending.result some c.requires.manner count read ended in
     let zero = all_of_zero c.args.asked by.of.file by.of.one_file in
@@ -80,8 +79,8 @@ returns g c =
     let given : ℕ → List ℕ = λ b. slice_index_or found.added b [] in
     let count = ap (λ m. m.pages) c.in-Ok.ensures ∙ c.map_pages.ensures.pages in
     let some = c.requires.scan.some in
-    let bs = (scan_in c.args.scan.now).backends.items in
-    let cs = (scan_in c.map-ending.new.self).backends.items in
+    let bs = c.args.scan.now.backends.items in
+    let cs = c.map-ending.new.self.backends.items in
     let few = pages_asked c.args.asked by.map by.given told given in
     record {
       scan = c.map-ending.ensures.mapped.scan;

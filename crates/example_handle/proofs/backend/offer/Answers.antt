@@ -1,9 +1,11 @@
-use Rattle.std.proofs.Common.{ℕ, List, [], ◌∷◌, ap, ◌∙◌, subst, arith}
+use Rattle.std.proofs.Common.{ℕ, List, [], ◌∷◌, sym, ap, ◌∙◌, subst, arith}
 use Rattle.aio_word.specs.declared.WaitRef.{WaitRef}
 use Rattle.aio_word.specs.declared.Known.{Known}
 use Rattle.aio_word.specs.declared.Step.TheVariants as event
 use Rattle.aio_word.specs.Stands.{IsIn}
-use Rattle.aio_handle.proofs.Trying.{amid, amid-then, begun, launches}
+use Rattle.aio_fixtures.specs.Lives.{HasUnreclaimed}
+use Rattle.aio_fixtures.proofs.Lives.{amid, amid-then, begun}
+use Rattle.aio_fixtures.proofs.Unreclaimed.{none-at-rest, submitted-unreclaimed}
 use Rattle.example_handle.specs.declared.note.Note.{Note}
 use Rattle.example_handle.proofs.backend.offer.Goals as goal
 
@@ -39,8 +41,9 @@ returns g c =
       ),
       record {
         flight = c.submit-token.ensures.token.1;
-        only = launches t c.submit-token.result p q r t.handle t.generation _
-            c.requires.idle.1.1 acquire begins out one;
+        only = subst (λ (x : WaitRef). HasUnreclaimed (x ∷ []) r) (sym one)
+            (submitted-unreclaimed t [] _ _ _ p q r acquire begins out
+            (none-at-rest p c.requires.idle.1));
         about = subst (λ (a : List ℕ). IsIn (c.submit-token.result, a) r.aims) about
             c.submit-token.ensures.token.2;
       },

@@ -1,14 +1,12 @@
-use Rattle.std.proofs.Common.{◌≡◌, ◌≢◌, ℕ, ◌+◌, ◌*◌, List, [], ◌∷◌, get_or, refl, sym, ap, ◌∙◌}
-use Rattle.std.proofs.Common.{subst, arith}
+use Rattle.std.proofs.Common.{◌≡◌, ◌≢◌, ℕ, ◌*◌, List, [], ◌∷◌, get_or, sym, ap, ◌∙◌}
+use Rattle.std.proofs.Common.{subst}
 use Rattle.aio_word.specs.declared.WaitRef.{WaitRef}
 use Rattle.aio_word.specs.declared.Known.{Known}
 use Rattle.aio_word.specs.declared.Class.{Class}
 use Rattle.aio_word.specs.declared.Class.TheVariants.{Unended}
 use Rattle.aio_word.specs.declared.Step.TheVariants as event
 use Rattle.aio_handle.specs.declared.record.Label.{Label}
-use Rattle.aio_handle.specs.LifeWords.{taken, idle}
-use Rattle.aio_handle.specs.Made.{Made}
-use Rattle.aio_handle.proofs.Trying.{amid, amid-then, amid-looked, ends, rests-launched}
+use Rattle.aio_fixtures.proofs.Unreclaimed.{reclaimed-unreclaimed, rests-with-none}
 use Rattle.example_handle.specs.declared.note.Note.{Note}
 use Rattle.example_handle.specs.Offered.{IsOffered}
 use Rattle.example_handle.proofs.Idle.{still-offered}
@@ -23,21 +21,13 @@ returns-in-Ready-clause-idle g c =
     let got = c.in-Ready.ensures.ready.2 in
     let back = c.reclaim-note.ensures.event in
     let one = c.try_take.ensures.same in
-    let two = c.reclaim-note.ensures.same in
-    let same : c.in-Ready.local.0 ≡ u = c.in-Ready.ensures.ready.0 in
-    let reclaimed = subst
-    (λ (x : WaitRef). Made event.Reclaim x.handle (taken back.0 x.generation)
-    (idle (x.generation + 1)) [] q r) same back.1 in
-    let middle = amid-then p got.between q (amid-looked _ _ p got.between got.looked)
-    (amid event.Local _ _ _ _ got.between q got.made (omega arith) (omega arith)) in
-    let ended = ends u back.0 [] p q r middle
-    (ap (λ (x : Known). x.out) got.made.is ∙ ap (λ (x : Known). x.out) got.looked.is)
-    reclaimed in (
+    let two = c.reclaim-note.ensures.same in (
       (
         two.0 ∙ (one.0 ∙ c.loop.invariant.table.0),
         two.1 ∙ (one.1 ∙ c.loop.invariant.table.1),
       ),
-      rests-launched u u p r c.loop.invariant.offered.only refl ended,
+      rests-with-none r (reclaimed-unreclaimed u c.in-Ready.local.0 [] back.0 _ p q r got
+          c.in-Ready.ensures.ready.0 back.1 c.loop.invariant.offered.only),
     )
 
 pub returns-in-Ready-clause-double : goal.returns-in-Ready-clause-double

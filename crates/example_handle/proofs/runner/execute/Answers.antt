@@ -2,7 +2,7 @@ use Rattle.std.proofs.Common.{ap, ◌∙◌, arith}
 use Rattle.aio_word.specs.declared.Known.{Known}
 use Rattle.aio_word.specs.declared.Class.TheVariants.{Whole}
 use Rattle.aio_word.specs.declared.Step.TheVariants as event
-use Rattle.aio_handle.proofs.Trying.{amid, amid-then, amid-looked, over-amid}
+use Rattle.aio_fixtures.proofs.Lives.{amid, amid-then, amid-looked, over-amid}
 use Rattle.example_handle.proofs.runner.execute.Goals as goal
 
 pub returns-in_default : goal.returns-in_default

@@ -1,20 +1,21 @@
-use Rattle.std.proofs.Common.{arith}
+use Rattle.std.proofs.Common.{◌<◌, ◌≤◌, ◌^◌, ℕ, length, decimal, arith}
 use Rattle.std.proofs.lemmas.Fmt.{length-decimal-le}
 use Rattle.heap_scan.proofs.backward.put_number.Goals as goal
 
-pub write_digits-requires : goal.write_digits-requires
-write_digits-requires c = (
-  omega (
-    arith,
-    length-decimal-le 10 c.from.result (omega arith) (omega (arith, c.from.ensures))
-        (omega (arith, c.from.ensures)),
-  ),
-  c.requires.within,
-)
+at_most_ten : (n : ℕ) → n < 2 ^ 32 → length (decimal n) ≤ 10
+at_most_ten n below = length-decimal-le 10 n (omega arith) (omega arith) (omega arith)
 
-pub returns-clause-long : goal.returns-clause-long
-returns-clause-long c = length-decimal-le 10 c.args.number (omega arith) (omega arith) (omega arith)
+at_most_five : (n : ℕ) → n < 100000 → length (decimal n) ≤ 5
+at_most_five n below = length-decimal-le 5 n (omega arith) (omega arith) (omega arith)
 
-pub returns-clause-short : goal.returns-clause-short
-returns-clause-short c =
-    λ small. length-decimal-le 5 c.args.number (omega arith) (omega arith) (omega arith)
+pub returns-then-number-lt10000-clause-long : goal.returns-then-number-lt10000-clause-long
+returns-then-number-lt10000-clause-long c = at_most_ten c.args.number (omega arith)
+
+pub returns-then-number-lt10000-clause-short : goal.returns-then-number-lt10000-clause-short
+returns-then-number-lt10000-clause-short c = at_most_five c.args.number
+
+pub returns-else-number-lt10000-clause-long : goal.returns-else-number-lt10000-clause-long
+returns-else-number-lt10000-clause-long c = at_most_ten c.args.number (omega arith)
+
+pub returns-else-number-lt10000-clause-short : goal.returns-else-number-lt10000-clause-short
+returns-else-number-lt10000-clause-short c = at_most_five c.args.number

@@ -17,8 +17,5 @@ returns-then-header-eq0-clause-longest c = longest_is_longest _ _
 pub returns-in_err-chains-clause-longest : goal.returns-in_err-chains-clause-longest
 returns-in_err-chains-clause-longest c = longest_is_longest _ _
 
-pub returns-in_err-text-clause-longest : goal.returns-in_err-text-clause-longest
-returns-in_err-text-clause-longest c = longest_is_longest _ _
-
 pub returns-clause-longest : goal.returns-clause-longest
 returns-clause-longest c = longest_is_longest _ _

@@ -1,9 +1,0 @@
-use Rattle.aio_handle.specs.Shown.{IsOf}
-use Rattle.aio_batch.specs.Held.{Held}
-use Rattle.aio_batch.proofs.tests.fill.submit_all.Given as goal
-
-abbrev pub invariant-loop-n : goal.invariant-loop-n
-invariant-loop-n g l = record {
-  table : IsOf l.table l.actor;
-  tokens : Held l.actor.known l.batch;
-}

@@ -1,5 +1,0 @@
-use Rattle.std.proofs.Common.{None}
-use Rattle.aio_batch.proofs.tests.keep.two_in_flight_are_both_kept.Given as goal
-
-abbrev pub ghosts-kept : goal.ghosts-kept
-ghosts-kept g a = record { told = None; handles = 2; relations = 0 }

@@ -1,6 +1,0 @@
-//! A batch that is filled, overfilled and submitted, and a caller that keeps what it submitted.
-
-mod fill;
-mod keep;
-mod listeners;
-mod push;

@@ -1,7 +1,0 @@
-use Rattle.aio_callback.proofs.Trying.{answered_untold}
-use Rattle.aio_callback.proofs.tests.reads.completed.Goals as goal
-
-pub complete_shared-requires-clause-answered : goal.complete_shared-requires-clause-answered
-complete_shared-requires-clause-answered g c =
-    answered_untold g.W.World.told c.args.io.now c.answer.new.self 4 c.args.answer
-    c.requires.told c.requires.awaited c.requires.answer c.answer.ensures

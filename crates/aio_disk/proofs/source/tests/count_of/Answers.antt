@@ -1,6 +1,0 @@
-use Rattle.std.proofs.Common.{refl}
-use Rattle.aio_disk.proofs.SourceSegments.{none_tell}
-use Rattle.aio_disk.proofs.source.tests.count_of.Goals as goal
-
-pub count_relation-requires-clause-whole : goal.count_relation-requires-clause-whole
-count_relation-requires-clause-whole c = none_tell _ 4 _ (λ segment. refl)

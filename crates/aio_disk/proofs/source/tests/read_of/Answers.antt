@@ -1,6 +1,0 @@
-use Rattle.std.proofs.Common.{refl}
-use Rattle.aio_disk.proofs.SourceSegments.{none_tell}
-use Rattle.aio_disk.proofs.source.tests.read_of.Goals as goal
-
-pub read_relation-requires-clause-whole : goal.read_relation-requires-clause-whole
-read_relation-requires-clause-whole c = none_tell _ 4 _ (λ segment. refl)

@@ -1,0 +1,4 @@
+pub mod Lives
+pub mod Unreclaimed
+mod ActorLists
+mod Claiming

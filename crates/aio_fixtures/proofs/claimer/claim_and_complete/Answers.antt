@@ -1,0 +1,50 @@
+use Rattle.std.proofs.Common.{[], ◌∷◌, refl, subst}
+use Rattle.aio_word.specs.declared.Known.{Known}
+use Rattle.aio_word.specs.declared.Kind.TheVariants as kind
+use Rattle.aio_word.specs.declared.WaitRef.{WaitRef}
+use Rattle.aio_word.specs.Tokens.{Grows, mark_at}
+use Rattle.aio_handle.proofs.Growing.{claim-grows, grows-then}
+use Rattle.aio_handle.proofs.Kept.{kept-taking-up}
+use Rattle.aio_fixtures.proofs.Claiming.{completed-takes-up, looked-takes-up}
+use Rattle.aio_fixtures.proofs.Unreclaimed.{taken-up-unreclaimed, taken-up-rests}
+use Rattle.aio_fixtures.proofs.claimer.claim_and_complete.Goals as goal
+
+marks : goal.returns-clause-marks
+marks g c _ =
+    let t : WaitRef = c.args.reference in
+    let before : Known = c.args.actor.now.known in
+    let claimed : Known = c.claim.new.actor.known in
+    let ended : Known = c.complete_as.new.actor.known in
+    grows-then before claimed ended (mark_at t kind.Claimed ∷ [])
+    (mark_at t (kind.Io c.args.class) ∷ mark_at t kind.Shared ∷ [])
+    (claim-grows t.handle t.generation _ before claimed c.in-Some.ensures.won.1)
+    (subst (λ (u : WaitRef). Grows claimed ended
+    (mark_at u (kind.Io c.args.class) ∷ mark_at u kind.Shared ∷ [])) c.in-Some.ensures.won.0
+    c.complete_as.ensures.marks)
+
+pub returns-clause-marks : goal.returns-clause-marks
+returns-clause-marks g c done = marks g c done
+
+pub returns-clause-kept : goal.returns-clause-kept
+returns-clause-kept g c u = kept-taking-up u [] _ _ _ _ _ _
+    (completed-takes-up c.args.reference c.args.class _ _ (marks g c refl))
+
+pub returns-clause-unreclaimed : goal.returns-clause-unreclaimed
+returns-clause-unreclaimed g c ts o = taken-up-unreclaimed ts _ _ _ _ _ _
+    (completed-takes-up c.args.reference c.args.class _ _ (marks g c refl)) o
+
+pub returns-clause-rests : goal.returns-clause-rests
+returns-clause-rests g c rests = taken-up-rests _ _ _ _ _ _
+    (completed-takes-up c.args.reference c.args.class _ _ (marks g c refl)) rests
+
+pub returns-in_default-clause-kept : goal.returns-in_default-clause-kept
+returns-in_default-clause-kept g c u = kept-taking-up u [] _ _ _ _ _ _
+    (looked-takes-up _ _ _ _ c.in_default.ensures.lost.1)
+
+pub returns-in_default-clause-unreclaimed : goal.returns-in_default-clause-unreclaimed
+returns-in_default-clause-unreclaimed g c ts o = taken-up-unreclaimed ts _ _ _ _ _ _
+    (looked-takes-up _ _ _ _ c.in_default.ensures.lost.1) o
+
+pub returns-in_default-clause-rests : goal.returns-in_default-clause-rests
+returns-in_default-clause-rests g c rests = taken-up-rests _ _ _ _ _ _
+    (looked-takes-up _ _ _ _ c.in_default.ensures.lost.1) rests

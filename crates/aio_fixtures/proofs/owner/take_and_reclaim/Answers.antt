@@ -1,0 +1,16 @@
+use Rattle.aio_fixtures.proofs.Unreclaimed.{reclaimed-unreclaimed, reclaimed-kept}
+use Rattle.aio_fixtures.proofs.owner.take_and_reclaim.Goals as goal
+
+pub returns-clause-unreclaimed : goal.returns-clause-unreclaimed
+returns-clause-unreclaimed g c _ ts o =
+    let back = c.reclaim.ensures.event in
+    reclaimed-unreclaimed c.args.token c.in-Ready.local.0 ts back.0 _ c.args.actor.now.known
+    c.try_take.new.actor.known c.reclaim.new.actor.known c.in-Ready.ensures.ready.2
+    c.in-Ready.ensures.ready.0 back.1 o
+
+pub returns-clause-kept : goal.returns-clause-kept
+returns-clause-kept g c u ne flies =
+    let back = c.reclaim.ensures.event in
+    reclaimed-kept u c.args.token c.in-Ready.local.0 back.0 _ c.args.actor.now.known
+    c.try_take.new.actor.known c.reclaim.new.actor.known c.in-Ready.ensures.ready.2
+    c.in-Ready.ensures.ready.0 back.1 ne flies

@@ -1,5 +1,0 @@
-use Rattle.std.proofs.Common.{None}
-use Rattle.aio_handle.proofs.tests.lives.a_record_is_bound_once_a_life.Given as goal
-
-abbrev pub ghosts-bound_in_a_life : goal.ghosts-bound_in_a_life
-ghosts-bound_in_a_life g a = record { told = None; handles = 1; relations = 0 }

@@ -1,5 +1,0 @@
-use Rattle.std.proofs.Common.{None}
-use Rattle.aio_handle.proofs.tests.lives.one_life_before_the_last_generation.Given as goal
-
-abbrev pub ghosts-lived_to_the_end : goal.ghosts-lived_to_the_end
-ghosts-lived_to_the_end g a = record { told = None; handles = 1; relations = 0 }

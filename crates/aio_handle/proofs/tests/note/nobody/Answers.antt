@@ -1,6 +1,0 @@
-use Rattle.std.proofs.Common.{refl}
-use Rattle.aio_handle.proofs.Trying.{none-handed-in}
-use Rattle.aio_handle.proofs.tests.note.nobody.Goals as goal
-
-pub returns-clause-all : goal.returns-clause-all
-returns-clause-all g c = none-handed-in c.args.table.now c.new.result.items c.new.ensures.items

@@ -1,5 +1,0 @@
-use Rattle.std.proofs.Common.{None}
-use Rattle.aio_handle.proofs.tests.races.one_of_two_claims_at_once_wins.Given as goal
-
-abbrev pub ghosts-race : goal.ghosts-race
-ghosts-race g a = record { told = None; handles = 8; relations = 0 }

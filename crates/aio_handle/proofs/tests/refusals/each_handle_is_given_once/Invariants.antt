@@ -1,5 +1,0 @@
-use Rattle.std.proofs.Common.{None}
-use Rattle.aio_handle.proofs.tests.refusals.each_handle_is_given_once.Given as goal
-
-abbrev pub ghosts-both_handles : goal.ghosts-both_handles
-ghosts-both_handles g a = record { told = None; handles = 2; relations = 0 }

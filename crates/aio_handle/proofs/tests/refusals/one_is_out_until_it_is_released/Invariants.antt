@@ -1,5 +1,0 @@
-use Rattle.std.proofs.Common.{None}
-use Rattle.aio_handle.proofs.tests.refusals.one_is_out_until_it_is_released.Given as goal
-
-abbrev pub ghosts-acquired_twice : goal.ghosts-acquired_twice
-ghosts-acquired_twice g a = record { told = None; handles = 1; relations = 0 }

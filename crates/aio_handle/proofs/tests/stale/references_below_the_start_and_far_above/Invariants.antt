@@ -1,5 +1,0 @@
-use Rattle.std.proofs.Common.{None}
-use Rattle.aio_handle.proofs.tests.stale.references_below_the_start_and_far_above.Given as goal
-
-abbrev pub ghosts-of_far_generations : goal.ghosts-of_far_generations
-ghosts-of_far_generations g a = record { told = None; handles = 1; relations = 0 }

@@ -1,5 +1,0 @@
-use Rattle.std.proofs.Common.{None}
-use Rattle.aio_handle.proofs.tests.stale.stale_reference.Given as goal
-
-abbrev pub ghosts-of_three_generations : goal.ghosts-of_three_generations
-ghosts-of_three_generations g a = record { told = None; handles = 1; relations = 0 }

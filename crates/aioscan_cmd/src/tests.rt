@@ -1,3 +1,0 @@
-//! The words of a command.
-mod map_words;
-mod words;

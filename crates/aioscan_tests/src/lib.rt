@@ -1,0 +1,51 @@
+//! Worked rows of the whole program: tests of `aioscan`, and no code besides.
+//!
+//! A row is one call of `aioscan` over disks in memory. What it writes to both streams, its status
+//! and, in some rows, its reads and counts are compared with what is to come. The rows know of
+//! `aioscan_cmd` what every caller knows, so its proof is not made again beside theirs.
+#![tactic(auto)]
+
+#[cfg(test)]
+mod cut_outputs;
+#[cfg(test)]
+mod failing;
+#[cfg(test)]
+mod gate;
+#[cfg(test)]
+mod made;
+#[cfg(test)]
+mod map_reads;
+#[cfg(test)]
+mod map_runs;
+#[cfg(test)]
+mod map_words;
+#[cfg(test)]
+mod outside;
+#[cfg(test)]
+mod plain;
+#[cfg(test)]
+mod random_maps;
+#[cfg(test)]
+mod reads;
+#[cfg(test)]
+mod refused_lengths;
+#[cfg(test)]
+mod refused_words;
+#[cfg(test)]
+mod rows;
+#[cfg(test)]
+mod segments;
+#[cfg(test)]
+mod settings;
+#[cfg(test)]
+mod slow;
+#[cfg(test)]
+mod statuses;
+#[cfg(test)]
+mod tuples;
+#[cfg(test)]
+mod untold;
+#[cfg(test)]
+mod words;
+#[cfg(test)]
+mod zero_damaged;

@@ -1,0 +1,77 @@
+//! Words that are no command.
+use crate::words::is_command;
+use std::test::Fail;
+
+const REFUSED: [&str; 63] = [
+    "",
+    "''",
+    "f ''",
+    "--full",
+    "--full --",
+    "--full --full f",
+    "--full=true f",
+    "--full= f",
+    "--from +1 f",
+    "--from -1 f",
+    "--from '' f",
+    "--from= f",
+    "--from 1x f",
+    "--from 00000001 f",
+    "--from f",
+    "f --from",
+    "--from 1 --from 1 f",
+    "--to=1 --to 1 f",
+    "--combine 0 f",
+    "--combine 129 f",
+    "--method other f",
+    "--method Sync f",
+    "--method rings f",
+    "--method= f",
+    "--comb 1 f",
+    "--make 10 f",
+    "--make 0",
+    "--make 4097",
+    "--make 10 --from 1",
+    "--make 10 --to 1",
+    "--make 10 --make 10",
+    "--make 10 --tuples",
+    "--make 3 --map m",
+    "--make 3 --map m f",
+    "--make 3 --skip frozen",
+    "--map m",
+    "--map m f f",
+    "--map m f g",
+    "--map f f",
+    "--map= f",
+    "--map '' f",
+    "--map f",
+    "--map m --map n f",
+    "--map m --skip none f",
+    "--map m --skip Frozen f",
+    "--map m --skip= f",
+    "--map m --skip visible --skip visible f",
+    "--skip visible f",
+    "--skip frozen f",
+    "--skip none f",
+    "--stats",
+    "--stats --stats f",
+    "--stats=true f",
+    "--tuples",
+    "--tuples --tuples f",
+    "--tuples=true f",
+    "--unknown f",
+    "-f",
+    "--help",
+    "--help f",
+    "-h f",
+    "--version f",
+    "-V f",
+];
+
+#[test]
+fn refused_words(rt: HostRuntime) -> Result<(), Fail> {
+    for line in REFUSED {
+        assert!(rt; !is_command(rt.alloc(), line)?, "{line}");
+    }
+    Ok(())
+}

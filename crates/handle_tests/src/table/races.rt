@@ -1,0 +1,167 @@
+//! Two threads at one table.
+ghost use Rattle.std.specs.Prelude.{◌≡◌, ◌<◌, IfSome};
+ghost use Rattle.aio_handle.specs.Closing.{IsAtRest};
+ghost use Rattle.aio_handle.specs.Shown.{IsOf};
+
+use crate::table::life::{close, live};
+use aio_fixtures::{
+    EmptyIo, add_actor, claim_and_complete, last_actor, no_actors, submit_io, take_and_reclaim,
+};
+use aio_handle::{Actor, Table};
+use aio_word::{Class, WaitRef};
+use page_check::World;
+use std::alloc::{AllocError, Global};
+use std::marker::Brand;
+use std::thread::{Threads, join};
+
+/// Claims the I/O and completes it, where nobody has claimed it before.
+fn claim_beside<W: World>(
+    table: &Table<EmptyIo, W>,
+    mut actor: Actor<EmptyIo, W>,
+    reference: WaitRef,
+) -> (Actor<EmptyIo, W>, bool)
+    requires table { IsOf table.now actor }
+    requires range { reference.handle < W.handles }
+    requires rests { IsAtRest actor.known }
+    ensures table { IsOf table.now result.0 }
+    ensures rests { IsAtRest result.0.known }
+{
+    let won = claim_and_complete(table, &mut actor, reference, Class::Whole);
+    (actor, won)
+}
+
+/// What came of one I/O that two actors tried to claim at once.
+#[derive(Drop)]
+struct Raced {
+    first: bool,
+    second: bool,
+    totals: (u128, u128, u128),
+}
+
+fn race<W: World + Send + Sync, T: Threads + Sync>(
+    rt: &T,
+    alloc: Global,
+) -> Result<Option<Raced>, AllocError>
+    requires { W.handles ≡ 8 }
+{
+    let (table, mut actors) = Table::<EmptyIo, W>::open(alloc, 2, 4, 1, 0)?;
+    let Some(runner) = last_actor(&table, &mut actors) else {
+        return Ok(None);
+    };
+    let Some(other) = last_actor(&table, &mut actors) else {
+        return Ok(None);
+    };
+    let Some(mut owner) = last_actor(&table, &mut actors) else {
+        return Ok(None);
+    };
+    let Some(token) = submit_io(&table, &mut owner, EmptyIo::new()) else {
+        return Ok(None);
+    };
+    let reference = token.reference();
+    let shared = &table;
+    let ((runner, first), (other, second)) = join(
+        rt,
+        || -> (Actor<EmptyIo, W>, bool)
+            requires { IsOf shared.now runner × IsAtRest runner.known
+                × (reference.handle < W.handles) }
+            ensures { IsOf shared.entry.now result.0 × IsAtRest result.0.known }
+        { claim_beside(shared, runner, reference) },
+        || -> (Actor<EmptyIo, W>, bool)
+            requires { IsOf shared.now other × IsAtRest other.known
+                × (reference.handle < W.handles) }
+            ensures { IsOf shared.entry.now result.0 × IsAtRest result.0.known }
+        { claim_beside(shared, other, reference) },
+    );
+    if !take_and_reclaim(&table, &mut owner, token) {
+        return Ok(None);
+    }
+    let mut all = no_actors(&table, alloc);
+    add_actor(&table, &mut all, owner)?;
+    add_actor(&table, &mut all, other)?;
+    add_actor(&table, &mut all, runner)?;
+    Ok(Some(Raced {
+        first,
+        second,
+        totals: close(table, all),
+    }))
+}
+
+#[test]
+fn one_of_two_claims_at_once_wins(rt: HostRuntime) -> Result<(), AllocError> {
+    let Some(raced) = race::<Brand, _>(&rt, rt.alloc())? else {
+        panic!(&rt; "a handle is free")
+    };
+    assert!(&rt; raced.first != raced.second);
+    assert!(&rt; raced.totals == (1, 0, 1) || raced.totals == (1, 1, 0));
+    Ok(())
+}
+
+/// So many whole lives of the actor's handles, one after the other.
+fn lives<W: World>(
+    table: &Table<EmptyIo, W>,
+    mut actor: Actor<EmptyIo, W>,
+    count: u32,
+) -> Option<Actor<EmptyIo, W>>
+    requires table { IsOf table.now actor }
+    requires backend { actor.known.number < table.now.config.backends }
+    requires rests { IsAtRest actor.known }
+    ensures table { IfSome result (λ a. IsOf table.now a) }
+    ensures rests { IfSome result (λ a. IsAtRest a.known) }
+{
+    for n in 0..count {
+        if !live(table, &mut actor) {
+            return None;
+        }
+    }
+    Some(actor)
+}
+
+/// Two backends that live so many lives each at once, and the totals.
+fn beside<W: World + Send + Sync, T: Threads + Sync>(
+    rt: &T,
+    alloc: Global,
+    count: u32,
+) -> Result<Option<(u128, u128, u128)>, AllocError>
+    requires { W.handles ≡ 8 }
+{
+    let (table, mut actors) = Table::<EmptyIo, W>::open(alloc, 2, 4, 0, 0)?;
+    let Some(other) = last_actor(&table, &mut actors) else {
+        return Ok(None);
+    };
+    let Some(one) = last_actor(&table, &mut actors) else {
+        return Ok(None);
+    };
+    let shared = &table;
+    let (one, other) = join(
+        rt,
+        || -> Option<Actor<EmptyIo, W>>
+            requires { IsOf shared.now one × (one.known.number < shared.now.config.backends)
+                × IsAtRest one.known }
+            ensures { IfSome result (λ a. IsOf shared.entry.now a × IsAtRest a.known) }
+        { lives(shared, one, count) },
+        || -> Option<Actor<EmptyIo, W>>
+            requires { IsOf shared.now other × (other.known.number < shared.now.config.backends)
+                × IsAtRest other.known }
+            ensures { IfSome result (λ a. IsOf shared.entry.now a × IsAtRest a.known) }
+        { lives(shared, other, count) },
+    );
+    let Some(one) = one else {
+        return Ok(None);
+    };
+    let Some(other) = other else {
+        return Ok(None);
+    };
+    let mut all = no_actors(&table, alloc);
+    add_actor(&table, &mut all, one)?;
+    add_actor(&table, &mut all, other)?;
+    Ok(Some(close(table, all)))
+}
+
+#[test]
+fn totals_are_exact_beside_each_other(rt: HostRuntime) -> Result<(), AllocError> {
+    let Some(totals) = beside::<Brand, _>(&rt, rt.alloc(), 10_000)? else {
+        panic!(&rt; "a handle is free")
+    };
+    assert!(&rt; totals == (20_000, 20_000, 0));
+    Ok(())
+}

@@ -1,0 +1,136 @@
+//! A run that goes wrong at its third event, and lines of totals, one of a table that was used.
+ghost use Rattle.std.specs.Prelude.{◌≡◌, ◌<◌, IsTrue};
+ghost use Rattle.aio_handle.specs.Closing.{IsAtRest};
+ghost use Rattle.aio_handle.specs.Shown.{IsOf, IsSame};
+
+use aio_core::StepRefusal;
+use aio_fixtures::{
+    EmptyIo, add_actor, claim_and_complete, last_actor, no_actors, submit_io, take_and_reclaim,
+};
+use aio_handle::{Actor, Table, Totals};
+use aio_trace::{ReplayAnswer, numbers_text, replay, totals_text};
+use aio_word::{Class, Event, Step};
+use page_check::World;
+use std::alloc::{AllocError, Global};
+use std::marker::Brand;
+use std::test::Fail;
+
+fn event(actor: u32, step: Step) -> Event {
+    Event {
+        actor,
+        handle: 0,
+        generation: 0,
+        step,
+    }
+}
+
+/// A claim of a handle that is defined and not submitted is the first bad event of its run; the
+/// two events before it are lawful, and the machine after them refuses the claim.
+#[test]
+fn a_claim_before_submit_is_bad(rt: HostRuntime) -> Result<(), Fail> {
+    let alloc = rt.alloc();
+    let claim = event(1, Step::Claim);
+    let events = [event(0, Step::HandOut), event(0, Step::Define), claim];
+    let whole = replay(alloc, 1, 1, 1, 0, &events);
+    assert!(rt; matches!(&whole, ReplayAnswer::FirstBad(2)));
+    let ReplayAnswer::Lawful(mut machine) = replay(alloc, 1, 1, 1, 0, &events[..2]) else {
+        panic!(rt; "the first two events are lawful")
+    };
+    let refused = StepRefusal::NotAllowed {
+        event: claim,
+        word: Some(2),
+    };
+    assert!(rt; machine.step(claim) == Err(refused));
+    Ok(())
+}
+
+#[test]
+fn numbers_of_up_to_39_digits(rt: HostRuntime) -> Result<(), Fail> {
+    let rows = [
+        (0, 0, 0, "incarnations 0 workers 0 backends 0\n"),
+        (28, 20, 8, "incarnations 28 workers 20 backends 8\n"),
+        (
+            18446744073709551616,
+            18446744073709551615,
+            1,
+            "incarnations 18446744073709551616 workers 18446744073709551615 backends 1\n",
+        ),
+        (
+            u128::MAX,
+            10,
+            340282366920938463463374607431768211445,
+            "incarnations 340282366920938463463374607431768211455 workers 10 \
+             backends 340282366920938463463374607431768211445\n",
+        ),
+    ];
+    for (incarnations, workers, backends, line) in rows {
+        let text = numbers_text(rt.alloc(), incarnations, workers, backends)?;
+        assert_eq!(rt; text.as_str(), line);
+    }
+    Ok(())
+}
+
+/// One life of a handle of the owner's, whose I/O the other actor executes.
+fn life<W: World>(
+    table: &Table<EmptyIo, W>,
+    owner: &mut Actor<EmptyIo, W>,
+    other: &mut Actor<EmptyIo, W>,
+) -> bool
+    requires table { IsOf table.now owner.old × IsOf table.now other.old }
+    requires backend { owner.old.known.number < table.now.config.backends }
+    requires owner { IsAtRest owner.old.known }
+    requires other { IsAtRest other.old.known }
+    ensures same { IsSame owner.old owner.new × IsSame other.old other.new }
+    ensures owner { IsTrue result → IsAtRest owner.new.known }
+    ensures other { IsAtRest other.new.known }
+{
+    let Some(token) = submit_io(table, owner, EmptyIo::new()) else {
+        return false;
+    };
+    claim_and_complete(table, other, token.reference(), Class::Whole)
+        && take_and_reclaim(table, owner, token)
+}
+
+/// The totals of three lives of a backend's handle, one executed by the runner and two by another
+/// backend.
+fn totals_of_three<W: World>(alloc: Global) -> Result<Option<Totals>, AllocError>
+    requires { W.handles ≡ 2 }
+{
+    let (table, mut actors) = Table::<EmptyIo, W>::open(alloc, 2, 1, 1, 0)?;
+    let Some(mut runner) = last_actor(&table, &mut actors) else {
+        return Ok(None);
+    };
+    let Some(mut other) = last_actor(&table, &mut actors) else {
+        return Ok(None);
+    };
+    let Some(mut owner) = last_actor(&table, &mut actors) else {
+        return Ok(None);
+    };
+    if !life(&table, &mut owner, &mut other) {
+        return Ok(None);
+    }
+    if !life(&table, &mut owner, &mut runner) {
+        return Ok(None);
+    }
+    if !life(&table, &mut owner, &mut other) {
+        return Ok(None);
+    }
+    let mut all = no_actors(&table, alloc);
+    add_actor(&table, &mut all, owner)?;
+    add_actor(&table, &mut all, other)?;
+    add_actor(&table, &mut all, runner)?;
+    Ok(Some(table.close(all)))
+}
+
+/// A worker is a runner, a backend is a backend, and the line stands behind what was there.
+#[test]
+fn a_runner_claims_one_of_three(rt: HostRuntime) -> Result<(), Fail> {
+    let Some(totals) = totals_of_three::<Brand>(rt.alloc())? else {
+        panic!(rt; "a handle is free")
+    };
+    let mut out = Vec::from_slice(rt.alloc(), b"before\n")?;
+    totals_text(&totals, &mut out)?;
+    let wanted = b"before\nincarnations 3 workers 1 backends 2\n";
+    assert_eq!(rt; out.as_slice(), wanted.as_slice());
+    Ok(())
+}

@@ -1,0 +1,8 @@
+use Rattle.method_worker.specs.Shown.{IsSeatOf, IsSameSeat}
+use Rattle.method_tests.proofs.worker.alone.push_times.Given as goal
+
+abbrev pub invariant-loop : goal.invariant-loop
+invariant-loop g l = record {
+  of : IsSeatOf l.queue l.seat;
+  same : IsSameSeat l.fn.seat l.seat;
+}

@@ -1,0 +1,5 @@
+use Rattle.std.proofs.Common.{None}
+use Rattle.method_tests.proofs.worker.three.worker_executes_three_reads.Given as goal
+
+abbrev pub ghosts-three_reads : goal.ghosts-three_reads
+ghosts-three_reads g a = record { told = None; handles = 4; relations = 1 }

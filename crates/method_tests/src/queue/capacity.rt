@@ -1,0 +1,92 @@
+//! How many entries a queue holds, and what it answers beyond them.
+ghost use Rattle.std.specs.Prelude.{◌≡◌};
+ghost use Rattle.method_worker.specs.Shown.{IsSeatOf, IsSameSeat};
+
+use crate::queue::entries::{last_seat, push_from, reference};
+use method_worker::{Pop, QueueFull, QueueSeat, SubmitQueue};
+use page_check::World;
+use std::alloc::{AllocError, Global};
+use std::marker::Brand;
+use std::sync::Wait;
+use std::test::Fail;
+
+/// So many pops.
+fn pop_times<W: World, T: Wait>(
+    rt: &T,
+    queue: &SubmitQueue<W>,
+    seat: &mut QueueSeat,
+    count: u32,
+    pops: &mut Vec<Pop>,
+) -> Result<(), AllocError>
+    requires queue { IsSeatOf queue.now seat.old }
+    ensures same { IsSameSeat seat.old seat.new }
+{
+    for _ in 0..count {
+        pops.push(queue.pop(rt, seat))?;
+    }
+    Ok(())
+}
+
+/// What a queue of one seat answered.
+#[derive(Drop)]
+struct Answers {
+    pushed: u32,
+    refused: Option<QueueFull>,
+    pops: Vec<Pop>,
+}
+
+/// 65 pushes and 65 pops, a pop after a close, one after a reopening, and two after a push and two
+/// closes.
+fn one_seat<W: World, T: Wait>(rt: &T, alloc: Global) -> Result<Option<Answers>, AllocError>
+    requires { W.handles ≡ 7 }
+{
+    let (mut queue, mut seats) = SubmitQueue::<W>::open(alloc, 1)?;
+    let Some(mut seat) = last_seat(&queue, &mut seats) else {
+        return Ok(None);
+    };
+    let mut pops = Vec::new(alloc);
+    let (pushed, refused) = push_from(rt, &queue, &mut seat, 0, 65);
+    pop_times(rt, &queue, &mut seat, 65, &mut pops)?;
+    queue.close(rt, &mut seat);
+    pop_times(rt, &queue, &mut seat, 1, &mut pops)?;
+    queue.reopen(&mut seat);
+    pop_times(rt, &queue, &mut seat, 1, &mut pops)?;
+    push_from(rt, &queue, &mut seat, 65, 1);
+    queue.close(rt, &mut seat);
+    queue.close(rt, &mut seat);
+    pop_times(rt, &queue, &mut seat, 2, &mut pops)?;
+    Ok(Some(Answers {
+        pushed,
+        refused,
+        pops,
+    }))
+}
+
+/// The pops of references of the numbers below 64, in their order.
+fn entries_in_order(alloc: Global) -> Result<Vec<Pop>, AllocError> {
+    let mut pops = Vec::new(alloc);
+    for number in 0..64 {
+        pops.push(Pop::Entry(reference(number)))?;
+    }
+    Ok(pops)
+}
+
+#[test]
+fn queue_of_64_entries(rt: HostRuntime) -> Result<(), Fail> {
+    let Some(answers) = one_seat::<Brand, _>(&rt, rt.alloc())? else {
+        panic!(&rt; "a queue has a seat")
+    };
+    assert_eq!(&rt; answers.pushed, 64);
+    assert_eq!(&rt; answers.refused, Some(QueueFull(reference(64))));
+    let mut wanted = entries_in_order(rt.alloc())?;
+    let rest = [
+        Pop::Empty,
+        Pop::Closed,
+        Pop::Empty,
+        Pop::Entry(reference(65)),
+        Pop::Closed,
+    ];
+    wanted.extend_from_slice(&rest)?;
+    assert_eq!(&rt; answers.pops.as_slice(), wanted.as_slice());
+    Ok(())
+}

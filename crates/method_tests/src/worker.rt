@@ -1,0 +1,7 @@
+//! Workers over tables of reads, by an executor that answers each read whole.
+
+mod alone;
+mod reads;
+mod sleepers;
+mod stale;
+mod three;

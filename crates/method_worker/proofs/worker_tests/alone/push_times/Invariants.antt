@@ -1,8 +1,0 @@
-use Rattle.method_worker.specs.Shown.{IsSeatOf, IsSameSeat}
-use Rattle.method_worker.proofs.worker_tests.alone.push_times.Given as goal
-
-abbrev pub invariant-loop : goal.invariant-loop
-invariant-loop g l = record {
-  of : IsSeatOf l.queue l.seat;
-  same : IsSameSeat l.fn.seat l.seat;
-}

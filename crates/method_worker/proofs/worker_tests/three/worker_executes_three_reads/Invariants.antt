@@ -1,5 +1,0 @@
-use Rattle.std.proofs.Common.{None}
-use Rattle.method_worker.proofs.worker_tests.three.worker_executes_three_reads.Given as goal
-
-abbrev pub ghosts-three_reads : goal.ghosts-three_reads
-ghosts-three_reads g a = record { told = None; handles = 4; relations = 1 }

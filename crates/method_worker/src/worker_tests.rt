@@ -1,6 +1,0 @@
-//! Workers over tables of reads, by an executor that answers each read whole.
-
-mod alone;
-mod reads;
-mod stale;
-mod three;

@@ -1,0 +1,105 @@
+//! As many reads as a pool has frames, and more pages than those.
+ghost use Rattle.std.specs.Prelude.{◌≡◌, ◌≤◌, None};
+
+use crate::pages::{LATER, MINE, SEVEN, visit};
+use buf_pool::{Begun, Found, Look, Pool, Tag};
+use page_check::World;
+use std::alloc::{AllocError, Global};
+use std::marker::Brand;
+use std::sync::Wait;
+
+/// Whether the pool says that the first I/O reads the block.
+fn is_mine<W: World, R: Wait>(rt: &R, pool: &Pool<W>, tag: Tag) -> bool {
+    match pool.lookup(rt, tag) {
+        Found::Hit(pin) => {
+            pool.unpin(rt, pin);
+            false
+        }
+        Found::Busy(reference) => reference == MINE,
+        Found::Absent => false,
+    }
+}
+
+/// What a pool answers where each of its frames awaits a page.
+#[derive(Clone, Copy)]
+struct Full {
+    /// Whether each of the neighbouring blocks had a frame.
+    taken: bool,
+    /// To one block more.
+    further: Begun,
+    /// To one of those blocks again.
+    again: Begun,
+    mine: bool,
+}
+
+/// Begins as many neighbouring blocks as the pool has frames, one more, and one again.
+fn fill_pool<W: World, R: Wait>(rt: &R, alloc: Global, frames: u32) -> Result<Full, AllocError>
+    requires handles { W.handles ≡ 2 }
+    requires frames { (16 ≤ frames) × (frames ≤ 16384) }
+{
+    let pool: Pool<W> = Pool::open(alloc, frames)?;
+    let mut taken = true;
+    for block in 0..frames {
+        let begun = pool.begin(rt, Tag { relation: 0, block }, MINE);
+        taken = taken && matches!(begun, Begun::Yes(_));
+    }
+    let further = Tag {
+        relation: 0,
+        block: frames,
+    };
+    Ok(Full {
+        taken,
+        further: pool.begin(rt, further, LATER),
+        again: pool.begin(rt, SEVEN, LATER),
+        mine: is_mine(rt, &pool, SEVEN),
+    })
+}
+
+#[test]
+fn as_many_blocks_are_begun_as_there_are_frames(rt: HostRuntime) -> Result<(), AllocError> {
+    // One part; one part with a frame more; 4 parts of 25; 8 and 128 parts of 16.
+    for frames in [16, 17, 100, 128, 2048] {
+        let full = fill_pool::<Brand, HostRuntime>(&rt, rt.alloc(), frames)?;
+        assert!(&rt; full.taken, "{frames} frames");
+        assert_eq!(rt; full.further, Begun::NoRoom, "{frames} frames");
+        assert_eq!(rt; full.again, Begun::Busy(MINE), "{frames} frames");
+        assert!(&rt; full.mine, "{frames} frames");
+    }
+    Ok(())
+}
+
+/// Reads forty blocks into the pool.
+fn read_forty<W: World, R: Wait>(rt: &R, alloc: Global, pool: &Pool<W>) -> Result<(), AllocError>
+    requires { (W.told ≡ None) × (W.handles ≡ 2) }
+{
+    for block in 10u8..50 {
+        visit(rt, alloc, pool, block, MINE)?;
+    }
+    Ok(())
+}
+
+/// Whether a page is there while it is pinned and forty others are read, and whether it is after
+/// forty more, without its pin.
+fn pin_and_let_go<W: World, R: Wait>(rt: &R, alloc: Global) -> Result<(bool, bool), AllocError>
+    requires { (W.told ≡ None) × (W.handles ≡ 2) }
+{
+    let pool: Pool<W> = Pool::open(alloc, 16)?;
+    visit(rt, alloc, &pool, 7, MINE)?;
+    let pin = match pool.lookup(rt, SEVEN) {
+        Found::Hit(pin) => pin,
+        Found::Busy(_) | Found::Absent => return Ok((false, true)),
+    };
+    let read = read_forty(rt, alloc, &pool);
+    let pinned = matches!(pool.peek(rt, SEVEN), Look::Hit(_));
+    pool.unpin(rt, pin);
+    read?;
+    read_forty(rt, alloc, &pool)?;
+    Ok((pinned, matches!(pool.peek(rt, SEVEN), Look::Hit(_))))
+}
+
+#[test]
+fn a_pinned_page_stays(rt: HostRuntime) -> Result<(), AllocError> {
+    let (pinned, after) = pin_and_let_go::<Brand, HostRuntime>(&rt, rt.alloc())?;
+    assert!(&rt; pinned && !after);
+    Ok(())
+}

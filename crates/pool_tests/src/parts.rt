@@ -1,0 +1,84 @@
+//! Pools of several parts, and pages of several relations.
+ghost use Rattle.std.specs.Prelude.{◌≡◌, ◌<◌, ◌≤◌, None};
+ghost use Rattle.page_check.specs.Verdict.{IsValid};
+
+use crate::pages::{page_of, read_into};
+use buf_pool::{Found, Look, Pool, Tag};
+use page_check::{Page, World};
+use std::alloc::{AllocError, Global};
+use std::marker::Brand;
+use std::sync::Wait;
+
+/// Whether the pool has the page of this tag, which is pinned and let go again.
+fn is_there<W: World, R: Wait>(rt: &R, pool: &Pool<W>, tag: Tag) -> bool {
+    let seen = matches!(pool.peek(rt, tag), Look::Hit(_));
+    match pool.lookup(rt, tag) {
+        Found::Hit(pin) => {
+            let right = pin.tag() == tag;
+            pool.unpin(rt, pin);
+            seen && right
+        }
+        Found::Busy(_) | Found::Absent => false,
+    }
+}
+
+/// Reads as many neighbouring blocks of a relation as the pool has frames: how many took a frame,
+/// and how many are there when all were read.
+fn fill_with<W: World, R: Wait>(
+    rt: &R,
+    pool: &Pool<W>,
+    relation: u32,
+    frames: u32,
+    page: &Page,
+) -> (u32, u32)
+    requires told { W.told ≡ None }
+    requires range { 1 < W.handles }
+    requires frames { frames ≤ 16384 }
+    requires valid { IsValid page.now }
+{
+    // Relation and first block are even together: the first part has the frame that is over.
+    let first = relation % 2;
+    let mut taken = 0u32;
+    for block in first..first + frames {
+        let tag = Tag { relation, block };
+        taken = taken.saturating_add(u32::from(read_into(rt, pool, tag, page)));
+    }
+    let mut there = 0u32;
+    for block in first..first + frames {
+        let tag = Tag { relation, block };
+        there = there.saturating_add(u32::from(is_there(rt, pool, tag)));
+    }
+    (taken, there)
+}
+
+/// Fills a pool with blocks of three relations in turn: what came of each.
+fn fill_in_turn<W: World, R: Wait>(
+    rt: &R,
+    alloc: Global,
+    frames: u32,
+) -> Result<Option<[(u32, u32); 3]>, AllocError>
+    requires told { W.told ≡ None }
+    requires handles { W.handles ≡ 2 }
+    requires frames { (16 ≤ frames) × (frames ≤ 16384) }
+{
+    let pool: Pool<W> = Pool::open(alloc, frames)?;
+    let Some(page) = page_of(alloc, 7)? else {
+        return Ok(None);
+    };
+    let zero = fill_with(rt, &pool, 0, frames, &page);
+    let one = fill_with(rt, &pool, 1, frames, &page);
+    let three = fill_with(rt, &pool, 3, frames, &page);
+    Ok(Some([zero, one, three]))
+}
+
+// Two parts of 17 and 16 frames, and four of 25. Pages that were pinned before are replaced.
+#[test]
+fn each_relation_has_all_frames_in_turn(rt: HostRuntime) -> Result<(), AllocError> {
+    for frames in [33, 100] {
+        let Some(filled) = fill_in_turn::<Brand, HostRuntime>(&rt, rt.alloc(), frames)? else {
+            panic!(&rt; "a page is sane")
+        };
+        assert_eq!(rt; filled, [(frames, frames); 3], "{frames} frames");
+    }
+    Ok(())
+}

@@ -1,9 +1,0 @@
-use Rattle.std.proofs.Common.{◌*◌, Some, length}
-use Rattle.read_stream.proofs.trials.run.Given as goal
-
-abbrev pub ghosts-read_all : goal.ghosts-read_all
-ghosts-read_all g a = record {
-  told = Some a.disk.steady.told;
-  handles = 2 * a.plan.now.handles;
-  relations = length a.disk.steady.told.relations;
-}

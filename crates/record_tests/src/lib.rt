@@ -1,0 +1,16 @@
+//! Tests of the records of reads and of their callbacks, and no code besides.
+//!
+//! They know of `aio_callback` what every caller knows, so its proof is not made again beside
+//! theirs.
+#![tactic(auto)]
+
+#[cfg(test)]
+mod answers;
+#[cfg(test)]
+mod counts;
+#[cfg(test)]
+mod disk;
+#[cfg(test)]
+mod reads;
+#[cfg(test)]
+mod zeroing;

@@ -1,0 +1,9 @@
+use Rattle.std.proofs.Common.{Some, length}
+use Rattle.scan_tests.proofs.ring_stream.pages_and_reads.Given as goal
+
+abbrev pub ghosts-pages_by_ring : goal.ghosts-pages_by_ring
+ghosts-pages_by_ring g a = record {
+  told = Some a.disk.steady.told;
+  handles = 16;
+  relations = length a.disk.steady.told.relations;
+}

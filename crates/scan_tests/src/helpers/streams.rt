@@ -1,0 +1,129 @@
+//! Streams over lists, and what they are opened over.
+ghost use Rattle.std.specs.Prelude.{◌≡◌, ◌<◌, IfSome};
+ghost use Rattle.std.specs.List.{All};
+ghost use Rattle.aio_handle.specs.Closing.{IsAtRest};
+ghost use Rattle.aio_handle.specs.Shown.{IsOf, IsSame};
+ghost use Rattle.method_worker.specs.Shown.{IsSeatOf};
+ghost use Rattle.read_stream.specs.Open.{IsOpen};
+
+use aio_batch::Method;
+use aio_callback::ReadIo;
+use aio_handle::{Actor, Execute, Table};
+use block_source::Listed;
+use buf_pool::Pool;
+use method_worker::{QueueSeat, SubmitQueue};
+use page_check::World;
+use read_stream::{Desk, Next, ReadStream, Settings};
+use std::alloc::{AllocError, Global};
+use std::sync::Wait;
+
+const SETTINGS: Settings = Settings {
+    combine: 16,
+    ios: 16,
+    limit: 64,
+    full: false,
+    batch: false,
+    segment: 131072,
+    zero: false,
+};
+
+/// A block, and what is noted beside it.
+pub(crate) type Noted = (u32, u32);
+
+// The pages that so many calls answer.
+fn take_pages<W: World, M: Method<ReadIo, W>, E: Execute<ReadIo, W>, T: Wait>(
+    rt: &T,
+    table: &Table<ReadIo, W>,
+    actor: &mut Actor<ReadIo, W>,
+    method: &mut M,
+    runner: &mut E,
+    stream: &mut ReadStream<'_, '_, W, Listed<u32>, u32>,
+    calls: u32,
+    pages: &mut Vec<Noted>,
+) -> Result<(), AllocError>
+    requires table { IsOf table.now actor.old }
+    requires told { (E.told runner.old ≡ W.told) × (E.relations runner.old ≡ W.relations) }
+    requires actor { actor.old ≡ stream.old.actor_is.value }
+    requires is_open { IsOpen (λ r. r) W.told W.relations W.handles stream.old }
+    ensures same { IsSame actor.old actor.new }
+    ensures told { (E.told runner.new ≡ W.told) × (E.relations runner.new ≡ W.relations) }
+    ensures stands_on { M.stands_on method.new ≡ M.stands_on method.old }
+    ensures actor { actor.new ≡ stream.new.actor_is.value }
+    ensures is_open { IsOpen (λ r. r) W.told W.relations W.handles stream.new }
+{
+    for _ in 0..calls {
+        if let Next::Page(_, block, note) = stream.next(rt, table, actor, method, runner) {
+            pages.push((block, *note))?;
+        }
+    }
+    Ok(())
+}
+
+/// The pages of a stream over the list.
+pub(crate) fn pages_of<W: World, M: Method<ReadIo, W>, E: Execute<ReadIo, W>, T: Wait>(
+    rt: &T,
+    alloc: Global,
+    pool: &Pool<W>,
+    table: &Table<ReadIo, W>,
+    actor: &mut Actor<ReadIo, W>,
+    method: &mut M,
+    runner: &mut E,
+    list: Vec<Noted>,
+) -> Result<Vec<Noted>, AllocError>
+    requires table { IsOf table.now actor.old }
+    requires told { (E.told runner.old ≡ W.told) × (E.relations runner.old ≡ W.relations) }
+    requires backend { actor.old.known.number < table.now.config.backends }
+    requires rest { IsAtRest actor.old.known }
+    requires some { 0 < W.relations }
+    ensures same { IsSame actor.old actor.new }
+    ensures told { (E.told runner.new ≡ W.told) × (E.relations runner.new ≡ W.relations) }
+    ensures rest { IsAtRest actor.new.known }
+    ensures stands_on { M.stands_on method.new ≡ M.stands_on method.old }
+{
+    let mut pages = Vec::new(alloc);
+    let mut desk = Desk::open(alloc, &SETTINGS)?;
+    let calls = list.len().min(1000) as u32;
+    let room = actor.room();
+    if list.len() as u64 > room {
+        return Ok(pages);
+    }
+    let mut stream = ReadStream::open(&mut desk, pool, actor, 0, Listed::new(list));
+    let pushed = take_pages(
+        rt,
+        table,
+        actor,
+        method,
+        runner,
+        &mut stream,
+        calls,
+        &mut pages,
+    );
+    stream.close(rt, table, actor, method, runner);
+    pushed?;
+    Ok(pages)
+}
+
+// The last of these seats.
+fn last_seat<W: World>(queue: &SubmitQueue<W>, seats: &mut Vec<QueueSeat>) -> Option<QueueSeat>
+    requires { All (IsSeatOf queue.now) seats.old.items }
+    ensures left { All (IsSeatOf queue.now) seats.new.items }
+    ensures seat { IfSome result (IsSeatOf queue.now) }
+{
+    match seats.pop() {
+        Some(seat) => Some(seat),
+        None => None,
+    }
+}
+
+/// The last two of these seats.
+pub(crate) fn two_seats<W: World>(
+    queue: &SubmitQueue<W>,
+    mut seats: Vec<QueueSeat>,
+) -> Option<(QueueSeat, QueueSeat)>
+    requires { All (IsSeatOf queue.now) seats.items }
+    ensures { IfSome result (λ r. IsSeatOf queue.now r.0 × IsSeatOf queue.now r.1) }
+{
+    let one = last_seat(queue, &mut seats)?;
+    let other = last_seat(queue, &mut seats)?;
+    Some((one, other))
+}

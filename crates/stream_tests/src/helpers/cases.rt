@@ -1,0 +1,110 @@
+//! What a stream reads, and how.
+ghost use Rattle.std.specs.Prelude.{◌≤◌, IsTrue};
+
+use page_fixtures::files::{Faults, STEADY};
+use read_stream::Settings;
+use std::alloc::{AllocError, Global};
+
+/// Blocks that are asked for, each with a number that is handed through beside it.
+#[derive(Clone, Copy)]
+pub(crate) enum Blocks<'a> {
+    /// So many neighbours, from the first on, each with ten times its number.
+    From(u32, u32),
+    /// Every other block from 0 on, so many of them.
+    EveryOther(u32),
+    These(&'a [(u32, u32)]),
+}
+
+impl Blocks<'_> {
+    pub(crate) fn list(&self, alloc: Global) -> Result<Vec<(u32, u32)>, AllocError> {
+        let mut list = Vec::new(alloc);
+        match self {
+            Blocks::From(first, count) => {
+                for index in 0..*count {
+                    let block = first.wrapping_add(index);
+                    list.push((block, block.wrapping_mul(10)))?;
+                }
+            }
+            Blocks::EveryOther(count) => {
+                for index in 0..*count {
+                    list.push((index.wrapping_mul(2), 0))?;
+                }
+            }
+            Blocks::These(these) => list.extend_from_slice(these)?,
+        }
+        Ok(list)
+    }
+}
+
+/// One stream over one file.
+#[derive(Clone, Copy)]
+pub(crate) struct Case<'a> {
+    /// How many blocks the file has, and which of them is damaged.
+    pub blocks: u32,
+    pub damaged: Option<u32>,
+    pub faults: Faults<'a>,
+    /// The relation that the file is, 0 or 1. The other one has a single page, which is damaged.
+    pub relation: u32,
+    pub handles: u32,
+    pub frames: u32,
+    pub settings: Settings,
+    /// What another backend has read before it submitted a read of block 0, which nobody has
+    /// claimed. Without it no other backend reads.
+    pub other: Option<Blocks<'a>>,
+    /// What an earlier stream reads.
+    pub first: Blocks<'a>,
+    pub list: Blocks<'a>,
+}
+
+pub(crate) const SETTINGS: Settings = Settings {
+    combine: 16,
+    ios: 16,
+    limit: 64,
+    full: false,
+    batch: false,
+    segment: 131072,
+    zero: false,
+};
+
+pub(crate) const FULL: Settings = Settings {
+    full: true,
+    ..SETTINGS
+};
+
+pub(crate) const CASE: Case<'static> = Case {
+    blocks: 0,
+    damaged: None,
+    faults: STEADY,
+    relation: 0,
+    handles: 16,
+    frames: 128,
+    settings: SETTINGS,
+    other: None,
+    first: Blocks::These(&[]),
+    list: Blocks::These(&[]),
+};
+
+/// Whether a table, a pool and a desk may be opened so.
+pub(crate) fn is_in_range(case: &Case<'_>) -> bool
+    ensures relation { IsTrue result → case.now.relation ≤ 1 }
+    ensures handles { IsTrue result → (1 ≤ case.now.handles) × (case.now.handles ≤ 64) }
+    ensures frames { IsTrue result → (16 ≤ case.now.frames) × (case.now.frames ≤ 16384) }
+    ensures combine { IsTrue result → (1 ≤ case.now.settings.combine)
+        × (case.now.settings.combine ≤ 128) }
+    ensures ios { IsTrue result → (1 ≤ case.now.settings.ios) × (case.now.settings.ios ≤ 64) }
+    ensures limit { IsTrue result → (1 ≤ case.now.settings.limit)
+        × (case.now.settings.limit ≤ 16384) }
+    ensures segment { IsTrue result → 1 ≤ case.now.settings.segment }
+{
+    let Case {
+        relation,
+        handles,
+        frames,
+        settings,
+        ..
+    } = *case;
+    let memory = 1 <= handles && handles <= 64 && 16 <= frames && frames <= 16384;
+    let reads = 1 <= settings.combine && settings.combine <= 128 && 1 <= settings.segment;
+    let ahead = 1 <= settings.limit && settings.limit <= 16384;
+    relation <= 1 && memory && reads && ahead && 1 <= settings.ios && settings.ios <= 64
+}

@@ -1,0 +1,133 @@
+//! Streams over one pool.
+ghost use Rattle.std.specs.Prelude.{◌≡◌, ◌<◌};
+ghost use Rattle.aio_handle.specs.Closing.{IsAtRest};
+ghost use Rattle.aio_handle.specs.Shown.{IsOf, IsSame};
+ghost use Rattle.read_stream.specs.Desks.{AreSettings};
+ghost use Rattle.read_stream.specs.Open.{IsOpen};
+
+use crate::helpers::answers::{Answer, answer_of};
+use crate::helpers::cases::Case;
+use crate::helpers::counting::CountingSync;
+use aio_callback::ReadIo;
+use aio_handle::{Actor, Execute, Table};
+use block_source::Listed;
+use buf_pool::Pool;
+use page_check::World;
+use read_stream::{Desk, ReadStream};
+use std::alloc::{AllocError, Global};
+use std::sync::Wait;
+
+// Takes the answers of so many calls.
+fn take_answers<W: World, E: Execute<ReadIo, W>, T: Wait>(
+    rt: &T,
+    table: &Table<ReadIo, W>,
+    actor: &mut Actor<ReadIo, W>,
+    method: &mut CountingSync,
+    runner: &mut E,
+    stream: &mut ReadStream<'_, '_, W, Listed<u32>, u32>,
+    calls: u32,
+    all: &mut Vec<Answer>,
+) -> Result<(), AllocError>
+    requires table { IsOf table.now actor.old }
+    requires told { (E.told runner.old ≡ W.told) × (E.relations runner.old ≡ W.relations) }
+    requires actor { actor.old ≡ stream.old.actor_is.value }
+    requires is_open { IsOpen (λ r. r) W.told W.relations W.handles stream.old }
+    ensures same { IsSame actor.old actor.new }
+    ensures told { (E.told runner.new ≡ W.told) × (E.relations runner.new ≡ W.relations) }
+    ensures actor { actor.new ≡ stream.new.actor_is.value }
+    ensures is_open { IsOpen (λ r. r) W.told W.relations W.handles stream.new }
+{
+    for _ in 0..calls {
+        all.push(answer_of(stream.next(rt, table, actor, method, runner)))?;
+    }
+    Ok(())
+}
+
+/// What the calls of a stream answered, how many I/Os it took in, and of how many its method heard.
+#[derive(Drop)]
+pub(crate) struct Streamed {
+    pub all: Vec<Answer>,
+    pub taken: u64,
+    pub heard: u64,
+}
+
+/// What the calls of a stream with a desk of its own answer.
+pub(crate) fn stream_over<W: World, E: Execute<ReadIo, W>, T: Wait>(
+    rt: &T,
+    alloc: Global,
+    case: &Case<'_>,
+    calls: u32,
+    pool: &Pool<W>,
+    table: &Table<ReadIo, W>,
+    actor: &mut Actor<ReadIo, W>,
+    runner: &mut E,
+    list: Vec<(u32, u32)>,
+) -> Result<Streamed, AllocError>
+    requires table { IsOf table.now actor.old }
+    requires told { (E.told runner.old ≡ W.told) × (E.relations runner.old ≡ W.relations) }
+    requires settings { AreSettings case.now.settings.combine case.now.settings.ios
+        case.now.settings.limit case.now.settings.segment }
+    requires backend { actor.old.known.number < table.now.config.backends }
+    requires rest { IsAtRest actor.old.known }
+    requires relation { case.now.relation < W.relations }
+    ensures same { IsSame actor.old actor.new }
+    ensures told { (E.told runner.new ≡ W.told) × (E.relations runner.new ≡ W.relations) }
+    ensures rest { IsAtRest actor.new.known }
+{
+    let mut all = Vec::new(alloc);
+    let mut method = CountingSync { heard: 0 };
+    let mut desk = Desk::open(alloc, &case.settings)?;
+    let room = actor.room();
+    if list.len() as u64 > room {
+        return Ok(Streamed {
+            all,
+            taken: 0,
+            heard: 0,
+        });
+    }
+    let blocks = Listed::new(list);
+    let mut stream = ReadStream::open(&mut desk, pool, actor, case.relation, blocks);
+    let pushed = take_answers(
+        rt,
+        table,
+        actor,
+        &mut method,
+        runner,
+        &mut stream,
+        calls,
+        &mut all,
+    );
+    let (taken, _) = stream.close(rt, table, actor, &mut method, runner);
+    pushed?;
+    Ok(Streamed {
+        all,
+        taken,
+        heard: method.heard,
+    })
+}
+
+/// What a stream answers over the list, behind a stream over the first list.
+pub(crate) fn two_streams<W: World, E: Execute<ReadIo, W>, T: Wait>(
+    rt: &T,
+    alloc: Global,
+    case: &Case<'_>,
+    calls: u32,
+    pool: &Pool<W>,
+    table: &Table<ReadIo, W>,
+    actor: &mut Actor<ReadIo, W>,
+    runner: &mut E,
+) -> Result<Streamed, AllocError>
+    requires table { IsOf table.now actor.old }
+    requires told { (E.told runner.old ≡ W.told) × (E.relations runner.old ≡ W.relations) }
+    requires settings { AreSettings case.now.settings.combine case.now.settings.ios
+        case.now.settings.limit case.now.settings.segment }
+    requires backend { actor.old.known.number < table.now.config.backends }
+    requires rest { IsAtRest actor.old.known }
+    requires relation { case.now.relation < W.relations }
+{
+    let first = case.first.list(alloc)?;
+    let before = first.len().min(1000) as u32;
+    stream_over(rt, alloc, case, before, pool, table, actor, runner, first)?;
+    let list = case.list.list(alloc)?;
+    stream_over(rt, alloc, case, calls, pool, table, actor, runner, list)
+}

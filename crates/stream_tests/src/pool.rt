@@ -1,0 +1,147 @@
+//! Blocks that the pool has, or that others read into it.
+
+use crate::helpers::cases::{Blocks, CASE, Case, FULL};
+use crate::helpers::rows::{ROW, Row, check_rows};
+use page_fixtures::files::{Faults, STEADY};
+use std::test::Fail;
+
+const NONE: Blocks<'static> = Blocks::These(&[]);
+
+const AGAIN: Case<'static> = Case {
+    blocks: 5,
+    list: Blocks::These(&[(3, 7), (3, 8), (4, 9), (0, 1)]),
+    ..CASE
+};
+
+const ROWS: [Row<'static>; 7] = [
+    Row {
+        name: "pages come from the pool again",
+        case: AGAIN,
+        pages: 4,
+        reads: Some(&[(3, 1), (4, 1), (0, 1)]),
+        taken: Some(3),
+        ..ROW
+    },
+    Row {
+        name: "pages of relation 1 come from the pool again",
+        case: Case {
+            relation: 1,
+            ..AGAIN
+        },
+        pages: 4,
+        reads: Some(&[(3, 1), (4, 1), (0, 1)]),
+        taken: Some(3),
+        ..ROW
+    },
+    Row {
+        name: "a join gives the page that another backend reads",
+        case: Case {
+            blocks: 3,
+            other: Some(NONE),
+            list: Blocks::From(0, 3),
+            ..CASE
+        },
+        pages: 3,
+        reads: Some(&[(0, 1), (1, 2)]),
+        taken: Some(1),
+        ..ROW
+    },
+    Row {
+        name: "a join waits for the generation of the other backend's read",
+        case: Case {
+            blocks: 3,
+            handles: 1,
+            other: Some(Blocks::From(2, 1)),
+            list: Blocks::From(0, 3),
+            ..CASE
+        },
+        pages: 3,
+        reads: Some(&[(2, 1), (0, 1), (1, 1)]),
+        taken: Some(1),
+        ..ROW
+    },
+    Row {
+        name: "a failed join is read again",
+        case: Case {
+            blocks: 3,
+            faults: Faults {
+                reads: &[(0, 1)],
+                ..STEADY
+            },
+            other: Some(NONE),
+            list: Blocks::From(0, 3),
+            ..CASE
+        },
+        pages: 3,
+        taken: Some(2),
+        ..ROW
+    },
+    Row {
+        name: "look-ahead over a pool with every other block",
+        case: Case {
+            blocks: 32,
+            settings: FULL,
+            first: Blocks::EveryOther(16),
+            list: Blocks::From(0, 32),
+            ..CASE
+        },
+        pages: 32,
+        reads: Some(&EVERY_OTHER),
+        taken: Some(16),
+        ..ROW
+    },
+    Row {
+        name: "blocks of the pool draw the distance in",
+        case: Case {
+            blocks: 32,
+            settings: FULL,
+            first: Blocks::From(0, 16),
+            list: Blocks::From(0, 32),
+            ..CASE
+        },
+        pages: 32,
+        reads: Some(&[(0, 16), (16, 1), (17, 2), (19, 4), (23, 8), (31, 1)]),
+        ..ROW
+    },
+];
+
+// The even blocks one by one, and then the odd ones.
+const EVERY_OTHER: [(u32, u32); 32] = [
+    (0, 1),
+    (2, 1),
+    (4, 1),
+    (6, 1),
+    (8, 1),
+    (10, 1),
+    (12, 1),
+    (14, 1),
+    (16, 1),
+    (18, 1),
+    (20, 1),
+    (22, 1),
+    (24, 1),
+    (26, 1),
+    (28, 1),
+    (30, 1),
+    (1, 1),
+    (3, 1),
+    (5, 1),
+    (7, 1),
+    (9, 1),
+    (11, 1),
+    (13, 1),
+    (15, 1),
+    (17, 1),
+    (19, 1),
+    (21, 1),
+    (23, 1),
+    (25, 1),
+    (27, 1),
+    (29, 1),
+    (31, 1),
+];
+
+#[test]
+fn blocks_that_the_pool_has_or_awaits(rt: HostRuntime) -> Result<(), Fail> {
+    check_rows(&rt, ROWS.as_slice())
+}
