@@ -12,10 +12,10 @@ use Rattle.aio_handle.specs.Made.{Made}
 use Rattle.aio_handle.proofs.Growing.{claim-grows}
 use Rattle.method_worker.specs.Shown.{Seating}
 use Rattle.method_worker.specs.Seats.{Reads}
-use Rattle.method_worker.specs.Working.{SeesTo}
 use Rattle.method_worker.proofs.Reading.{reads-nothing, reads-then}
-use Rattle.method_worker.proofs.Seeing.{each-later, each-then, each-of-none, each-of-one}
 use Rattle.method_ring.specs.Running.{Pops}
+use Rattle.method_ring.specs.Seeing.{SeesTo}
+use Rattle.method_ring.proofs.Seeing.{each-later, each-then, each-of-none, each-of-one}
 
 -- a claim that was won
 pub sees-won : (t : WaitRef) (aim : List ℕ) (p q : Known)

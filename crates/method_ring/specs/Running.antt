@@ -17,7 +17,7 @@ use Rattle.aio_callback.specs.Reading.{Reading, Completed, aim_in}
 use Rattle.aio_callback.specs.Finished.{Finish, Grew, finishes, reference_in}
 use Rattle.method_worker.specs.Shown.{Queue, Seating}
 use Rattle.method_worker.specs.Seats.{Reads}
-use Rattle.method_worker.specs.Working.{SeesTo}
+use Rattle.method_ring.specs.Seeing.{SeesTo}
 use Rattle.method_ring.specs.Holding.{Holding, AreHeld, AreBelow, claim_of}
 
 -- what contracts see of a runner

@@ -4,7 +4,7 @@ ghost use Rattle.aio_handle.specs.Shown.{IsOf, IsSame};
 ghost use Rattle.method_worker.specs.Shown.{IsSeatOf, IsSameSeat};
 ghost use Rattle.method_ring.specs.Holding.{AreHeld, AreBelow};
 ghost use Rattle.method_ring.specs.Running.{Gathers, Pops};
-ghost use Rattle.method_worker.specs.Working.{SeesTo};
+ghost use Rattle.method_ring.specs.Seeing.{SeesTo};
 
 use crate::group::Group;
 use crate::ring::Ring;

@@ -99,8 +99,9 @@ max_is a b =
     t.1 in inl (max-eq_left (omega (arith, less)))) (leb_tells a b)
 
 pub closes : {S : Type 0} (slots id number : ℕ) (me : Me S Notes)
-    → Allows IsKept slots id me 0 (λ n. max n (number * 2 + 1)) (λ n w. w
+    → Allows IsKept slots id me 0 (λ n. max n (number * 2 + 1)) (λ n w. (w
     ≡ (notes (me.0.closes ++ (number * 2 + 1) / 2 ∷ []) me.0.loads, me.1))
+    × ((number * 2 + 1) % 2 ≡ 1))
 closes slots id number me s kept homes at small =
     let n = slice_index s.words 0 in
     let k = number * 2 + 1 in
@@ -117,7 +118,7 @@ closes slots id number me s kept homes at small =
     let after : Odd (slice_index (set s.words 0 (max n k)) 0) vs =
     ⊎_elim (λ e. subst (λ j. Odd j vs) (sym e) larger) (λ e. subst (λ j. Odd j vs) (sym e) none)
     (word_set s.words (max n k)) in
-    (w, keeps, tt, after, refl)
+    (w, keeps, tt, after, (refl, omega arith))
 
 -- what stood in a list stands there when one more is put behind it
 before : {A : Type 0} (l : List A) (x : A) (i : ℕ) (v : A) → get_elem? l i ≡ some v

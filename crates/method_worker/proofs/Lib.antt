@@ -1,4 +1,4 @@
 mod Counting
 mod Keeping
 pub mod Reading
-pub mod Seeing
+mod Turning

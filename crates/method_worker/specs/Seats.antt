@@ -1,5 +1,5 @@
 -- What the calls of a queue do to a seat's lists, and what they tell.
-use Rattle.std.specs.Prelude.{ℕ, List, [], ◌∷◌, ◌++◌, ◌≡◌, ◌+◌, ◌<◌, ◌%◌, length}
+use Rattle.std.specs.Prelude.{ℕ, List, [], ◌∷◌, ◌++◌, ◌≡◌, ◌≢◌, ◌+◌, ◌*◌, ◌<◌, length}
 use Rattle.crossbeam_queue.specs.Fifo.{Held}
 use Rattle.aio_word.specs.declared.WaitRef.{WaitRef}
 use Rattle.method_worker.specs.Counted.{log, Allows}
@@ -43,17 +43,18 @@ pub record Closed (number : ℕ) (s s' : Seating) : Type 0 where
   pub loads : s'.loads ≡ s.loads
   pub closes : s'.closes ≡ s.closes ++ number ∷ []
 
--- the seat's last load read an odd word, some seat has closed the queue under that word's number,
--- and at a later moment of the call no entry stood in the queue
-pub record FoundClosed (handles : ℕ) (word : ℕ) (s : Seating) : Type 0 where
-  pub odd : word % 2 ≡ 1
+-- the seat's last load read the closing word of a queue that is closed under this number of
+-- reopenings, some seat has closed it so, and at a later moment of the call no entry stood there
+pub record FoundClosed (handles number word : ℕ) (s : Seating) : Type 0 where
+  pub under : word ≡ number * 2 + 1
   pub closed : IsClosedUnder (notes s.closes s.loads) word
   pub empty : WasEmpty handles s
 
 -- what a pop tells that has read this closing word before
-abbrev pub Popped : ℕ → ℕ → Seating → Seating → Pop → Type 0
-Popped handles word s s' (pop.Entry t) = Reads (t ∷ []) (word ∷ []) s s' × (t.handle < handles)
+abbrev pub Popped : ℕ → ℕ → ℕ → Seating → Seating → Pop → Type 0
+Popped handles number word s s' (pop.Entry t) = Reads (t ∷ []) (word ∷ []) s s' × (t.handle < handles)
     × ((items : List WaitRef) × MayHold handles s' items)
-Popped handles word s s' pop.Empty = Reads [] (word ∷ []) s s' × (word % 2 ≡ 0)
+Popped handles number word s s' pop.Empty = Reads [] (word ∷ []) s s' × (word ≢ number * 2 + 1)
     × WasEmpty handles s'
-Popped handles word s s' pop.Closed = Reads [] (word ∷ []) s s' × FoundClosed handles word s'
+Popped handles number word s s' pop.Closed = Reads [] (word ∷ []) s s'
+    × FoundClosed handles number word s'

@@ -1,52 +1,55 @@
 -- What a worker does with the references that it pops.
-use Rattle.std.specs.Prelude.{◌≡◌, ◌≢◌, ℕ, ◌⊎◌, Bool, true, false, List, [], ◌∷◌, ◌++◌}
-use Rattle.std.specs.List.{All}
+use Rattle.std.specs.Prelude.{◌≡◌, ℕ, ◌⊎◌, Bool, true, false, List, [], ◌∷◌}
 use Rattle.aio_word.specs.declared.Known.{Known}
-use Rattle.aio_word.specs.declared.Kind.TheVariants as kind
-use Rattle.aio_word.specs.declared.Look.{Look}
-use Rattle.aio_word.specs.declared.Mark.{Mark}
 use Rattle.aio_word.specs.declared.WaitRef.{WaitRef}
-use Rattle.aio_word.specs.declared.Word.{Word}
-use Rattle.aio_word.specs.Words.{IsLawful, packed}
-use Rattle.aio_word.specs.Stands.{IsIn}
-use Rattle.aio_word.specs.Tokens.{mark_at}
-use Rattle.aio_handle.specs.Changes.{look}
-use Rattle.aio_handle.specs.LifeWords.{unclaimed}
+use Rattle.aio_handle.specs.Tried.{Won, Lost}
 use Rattle.method_worker.specs.Shown.{Seating}
 use Rattle.method_worker.specs.Seats.{Reads, FoundClosed}
 
--- between p and q the actor appended the Claimed mark of the incarnation
-pub record Claims (t : WaitRef) (p q : Known) : Type 0 where
-  pub more : List Mark
-  pub marks : q.marks ≡ p.marks ++ more
-  pub claimed : IsIn (mark_at t kind.Claimed) more
+-- a moment of a worker: its seat, and what its actor knows
+pub record Moment : Type 0 where
+  pub seat : Seating
+  pub known : Known
 
--- between p and q a look of the actor at the handle found a word that was not Submitted, unclaimed,
--- of that generation
-pub record FindsTaken (t : WaitRef) (p q : Known) : Type 0 where
-  pub more : List Look
-  pub looks : q.looks ≡ p.looks ++ more
-  pub word : Word
-  pub lawful : IsLawful word
-  pub found : IsIn (look t.handle (packed word)) more
-  pub other : word ≢ unclaimed t.generation
+abbrev pub moment : Seating → Known → Moment
+moment s p = record { seat = s; known = p }
 
--- the actor claimed the incarnation, or found that it could not be claimed
-abbrev pub SeesTo : Known → Known → WaitRef → Type 0
-SeesTo p q t = Claims t p q ⊎ FindsTaken t p q
+-- the actor claimed the incarnation and executed it, or found that it could not be claimed, and did
+-- nothing else
+abbrev pub Tries : WaitRef → Known → Known → Type 0
+Tries t p q = ((reads : ℕ) × (reads' : ℕ) × (faults : ℕ) × (faults' : ℕ)
+    × Won t p q reads reads' faults faults') ⊎ Lost t p q
 
--- the seat popped references until it found the queue empty and closed, and the actor saw to each
-pub record Works (handles : ℕ) (s s' : Seating) (p q : Known) : Type 0 where
-  pub refs : List WaitRef
-  pub words : List ℕ
-  pub last : ℕ
-  pub read : Reads refs (words ++ last ∷ []) s s'
-  pub each : All (SeesTo p q) refs
-  pub closed : FoundClosed handles last s'
+-- the seat popped one reference, and then the actor tried it
+abbrev pub TriesOne : Moment → Moment → Type 0
+TriesOne m m' = (t : WaitRef) × (word : ℕ) × Reads (t ∷ []) (word ∷ []) m.seat m'.seat
+    × Tries t m.known m'.known
 
--- what one turn did: where there may be more, it popped some references, and the actor saw to each;
--- else it found the queue empty and closed
-abbrev pub Turned : ℕ → Seating → Seating → Known → Known → Bool → Type 0
-Turned handles s s' p q true = (refs : List WaitRef) × (words : List ℕ) × Reads refs words s s'
-    × All (SeesTo p q) refs
-Turned handles s s' p q false = (word : ℕ) × Reads [] (word ∷ []) s s' × FoundClosed handles word s'
+-- the seat found no entry, and the actor did nothing
+abbrev pub FindsNone : Moment → Moment → ℕ → Type 0
+FindsNone m m' word = Reads [] (word ∷ []) m.seat m'.seat × (m'.known ≡ m.known)
+
+-- one turn: where there may be more, it tried one reference or found none; else it found the queue
+-- empty and closed
+abbrev pub Turned : ℕ → ℕ → Moment → Moment → Bool → Type 0
+Turned handles number m m' true = TriesOne m m' ⊎ ((word : ℕ) × FindsNone m m' word)
+Turned handles number m m' false = (word : ℕ) × FindsNone m m' word
+    × FoundClosed handles number word m'.seat
+
+-- turns after which there may be more, from one moment to another: each begins where the one before
+-- it ended; the beginnings of all but the first, the last of them in front
+abbrev pub Turns : ℕ → ℕ → List Moment → Moment → Moment → Type 0
+Turns handles number [] m m' = Turned handles number m m' true
+Turns handles number (k ∷ before) m m' = Turns handles number before m k
+    × Turned handles number k m' true
+
+-- from one moment to another the worker made such turns, or none
+abbrev pub AtWork : ℕ → ℕ → Moment → Moment → Type 0
+AtWork handles number m m' = (m' ≡ m)
+    ⊎ ((turns : List Moment) × Turns handles number turns m m')
+
+-- the worker made turns, and in the last one found the queue empty and closed
+pub record Works (handles : ℕ) (number : ℕ) (m m' : Moment) : Type 0 where
+  pub last : Moment
+  pub before : AtWork handles number m last
+  pub ended : Turned handles number last m' false

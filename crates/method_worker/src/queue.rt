@@ -173,13 +173,13 @@ impl<W: World> SubmitQueue<W> {
     pub fn pop<T: Wait>(&self, rt: &T, seat: &mut QueueSeat) -> Pop
         requires queue { IsSeatOf self.now seat.old }
         ensures same { IsSameSeat seat.old seat.new }
-        ensures popped { (word : ℕ) × Popped W.handles word seat.old seat.new result }
+        ensures popped { (word : ℕ) × Popped W.handles self.now.reopened word seat.old seat.new result }
     {
         let word = load_closing(&self.words, &mut seat.chair);
         if let Some(reference) = self.line.pop_as::<Takes<W>, T>(rt, &mut seat.pass) {
             return Pop::Entry(reference);
         }
-        if word % 2 == 1 {
+        if word == self.reopened * 2 + 1 {
             return Pop::Closed;
         }
         Pop::Empty

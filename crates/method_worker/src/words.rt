@@ -38,14 +38,15 @@ impl Play<(), Notes> for Loads {
         × (n % 2 ≡ 1 → IsClosedUnder w.0 n) };
 }
 
-/// A close notes its number.
+/// A close notes its number, and writes an odd word.
 pub(crate) struct Closes;
 
 impl Play<(), Notes> for Closes {
-    ghost use Rattle.std.specs.Prelude.{◌≡◌, ◌++◌, ◌∷◌, [], ◌/◌};
+    ghost use Rattle.std.specs.Prelude.{◌≡◌, ◌++◌, ◌∷◌, [], ◌/◌, ◌%◌};
     ghost use Rattle.method_worker.specs.Words.{notes};
 
-    ghost then = { λ s v n w. w ≡ (notes (v.0.closes ++ s.first / 2 ∷ []) v.0.loads, v.1) };
+    ghost then = { λ s v n w. (w ≡ (notes (v.0.closes ++ s.first / 2 ∷ []) v.0.loads, v.1))
+        × (s.first % 2 ≡ 1) };
 }
 
 /// A reopening and a ring of the bell note nothing.

@@ -3,7 +3,7 @@ ghost use Rattle.std.specs.Prelude.{◌≡◌, []};
 ghost use Rattle.aio_handle.specs.Executing.{TakesUp};
 ghost use Rattle.aio_handle.specs.Shown.{IsOf, IsSame};
 ghost use Rattle.method_worker.specs.Shown.{IsSeatOf, IsSameSeat};
-ghost use Rattle.method_worker.specs.Working.{Turned, Works};
+ghost use Rattle.method_worker.specs.Working.{Turned, Works, moment};
 
 use crate::queue::{Pop, QueueSeat, SubmitQueue};
 use aio_callback::ReadIo;
@@ -30,7 +30,8 @@ fn turn<W: World, E: Execute<ReadIo, W>, T: Wait>(
         × (E.relations runner.new ≡ E.relations runner.old) }
     ensures marks { TakesUp [] actor.old.known actor.new.known (E.reads runner.old)
         (E.reads runner.new) (E.faults runner.old) (E.faults runner.new) }
-    ensures turned { Turned W.handles seat.old seat.new actor.old.known actor.new.known result }
+    ensures turned { Turned W.handles queue.now.reopened (moment seat.old actor.old.known)
+        (moment seat.new actor.new.known) result }
 {
     let bell = queue.bell();
     match queue.pop(rt, seat) {
@@ -68,7 +69,8 @@ pub fn work<W: World, E: Execute<ReadIo, W>, T: Wait>(
         × (E.relations runner.new ≡ E.relations runner.old) }
     ensures marks { TakesUp [] actor.old.known actor.new.known (E.reads runner.old)
         (E.reads runner.new) (E.faults runner.old) (E.faults runner.new) }
-    ensures works { Works W.handles seat.old seat.new actor.old.known actor.new.known }
+    ensures works { Works W.handles queue.now.reopened (moment seat.old actor.old.known)
+        (moment seat.new actor.new.known) }
 {
     for _ in rt.forever() {
         if !turn(rt, queue, seat, table, actor, runner) {

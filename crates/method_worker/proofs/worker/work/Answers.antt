@@ -1,8 +1,9 @@
-use Rattle.std.proofs.Common.{rules, ◌∙◌, refl}
+use Rattle.std.proofs.Common.{rules, ◌∙◌, refl, inl}
 use Rattle.aio_word.specs.declared.Known.{Known}
 use Rattle.aio_handle.proofs.TakingUp.{takes_then, takes_nothing}
 use Rattle.aio_handle.proofs.Growing.{grows-none}
-use Rattle.method_worker.proofs.Seeing.{turned-more, turned-last, begins-work}
+use Rattle.method_worker.specs.Working.{moment}
+use Rattle.method_worker.proofs.Turning.{turns-then, turns-last}
 use Rattle.method_worker.proofs.worker.work.Goals as goal
 
 pub loop-preserved : goal.loop-preserved
@@ -14,10 +15,6 @@ loop-preserved g c =
     let seat = c.turn.ensures.seat in
     let same = c.turn.ensures.same in
     let told = c.turn.ensures.told in
-    let more = turned-more g.W.World.handles c.args.seat.now c.loop.seat c.turn.new.seat p q r
-    i.takes.more c.turn.ensures.marks.more c.turn.result i.works i.takes.grows
-    c.turn.ensures.marks.grows c.turn.ensures.turned
-    (search rules) in
     record {
       can_next = tt;
       is_finite = tt;
@@ -27,7 +24,9 @@ loop-preserved g c =
       same = (same.0 ∙ i.same.0, same.1 ∙ i.same.1, same.2 ∙ i.same.2);
       told = (told.0 ∙ i.told.0, told.1 ∙ i.told.1);
       takes = takes_then p q r _ _ _ _ _ _ i.takes c.turn.ensures.marks;
-      works = more;
+      works = turns-then g.W.World.handles c.args.queue.now.reopened
+          (moment c.args.seat.now p) (moment c.loop.seat q) (moment c.turn.new.seat r)
+          c.turn.result i.works c.turn.ensures.turned (search rules);
     }
 
 pub loop-init : goal.loop-init
@@ -41,7 +40,7 @@ loop-init g c = record {
   told = c.requires.told;
   takes = takes_nothing c.args.actor.now.known c.args.actor.now.known _ _
       (grows-none c.args.actor.now.known);
-  works = begins-work c.args.seat.now c.args.actor.now.known;
+  works = inl refl;
 }
 
 pub returns-then-not-turn-clause-marks : goal.returns-then-not-turn-clause-marks
@@ -51,7 +50,7 @@ returns-then-not-turn-clause-marks g c =
 
 pub returns-then-not-turn-clause-works : goal.returns-then-not-turn-clause-works
 returns-then-not-turn-clause-works g c =
-    turned-last g.W.World.handles c.args.seat.now c.loop.seat c.turn.new.seat
-    c.args.actor.now.known c.loop.actor.known c.turn.new.actor.known c.turn.ensures.marks.more
-    c.turn.result c.loop.invariant.works c.turn.ensures.marks.grows c.turn.ensures.turned
-    (search rules)
+    turns-last g.W.World.handles c.args.queue.now.reopened
+    (moment c.args.seat.now c.args.actor.now.known) (moment c.loop.seat c.loop.actor.known)
+    (moment c.turn.new.seat c.turn.new.actor.known) c.turn.result c.loop.invariant.works
+    c.turn.ensures.turned (search rules)

@@ -2,7 +2,7 @@ use Rattle.std.proofs.Common.{◌≡◌, []}
 use Rattle.aio_handle.specs.Executing.{TakesUp}
 use Rattle.aio_handle.specs.Shown.{IsOf, IsSame}
 use Rattle.method_worker.specs.Shown.{IsSeatOf, IsSameSeat}
-use Rattle.method_worker.proofs.Seeing.{IsAtWork}
+use Rattle.method_worker.specs.Working.{AtWork, moment}
 use Rattle.method_worker.proofs.worker.work.Given as goal
 
 abbrev pub invariant-loop : goal.invariant-loop
@@ -18,5 +18,6 @@ invariant-loop g l = record {
   takes : TakesUp [] l.fn.actor.known l.actor.known (g.E.Execute.reads l.fn.runner)
       (g.E.Execute.reads l.runner)
       (g.E.Execute.faults l.fn.runner) (g.E.Execute.faults l.runner);
-  works : IsAtWork l.fn.seat l.seat l.fn.actor.known l.actor.known;
+  works : AtWork g.W.World.handles l.queue.reopened (moment l.fn.seat l.fn.actor.known)
+      (moment l.seat l.actor.known);
 }

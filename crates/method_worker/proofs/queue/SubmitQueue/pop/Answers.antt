@@ -1,4 +1,4 @@
-use Rattle.std.proofs.Common.{refl, ap, arith}
+use Rattle.std.proofs.Common.{refl, ap, arith, rules}
 use Rattle.crossbeam_queue.specs.Passes.{view}
 use Rattle.method_worker.proofs.Counting.{takes, learns, empty-again}
 use Rattle.method_worker.proofs.Reading.{read-none}
@@ -7,8 +7,8 @@ use Rattle.method_worker.proofs.queue.SubmitQueue.pop.Goals as goal
 pub pop_as-requires-clause-rule : goal.pop_as-requires-clause-rule
 pop_as-requires-clause-rule g c = (takes _ _ _ c.seat.invariant.1, learns _ _ _)
 
-pub returns-then-word-eq1-clause-popped : goal.returns-then-word-eq1-clause-popped
-returns-then-word-eq1-clause-popped g c =
+pub returns-then-word-self-clause-popped : goal.returns-then-word-self-clause-popped
+returns-then-word-self-clause-popped g c =
     let old = c.seat.inside in
     let chair = c.load_closing-word.new.chair in
     let pass = c.pop_as.new.pass in
@@ -20,8 +20,8 @@ returns-then-word-eq1-clause-popped g c =
             (view old.pass) (view pass) old.chair.me.0 chair.me.0 word c.seat.view_is r.0
             (ap (λ x. x.0) c.load_closing-word.ensures.noted),
         record {
-          odd = c.if-word-eq1.true;
-          closed = c.load_closing-word.ensures.closed c.if-word-eq1.true;
+          under = search rules;
+          closed = c.load_closing-word.ensures.closed (let e = c.if-word-self.true in omega (arith, e));
           empty = empty-again g.W.World.handles (view old.pass) (view pass) _ r.0 refl r.1;
         },
       ),
@@ -34,13 +34,13 @@ returns-clause-popped g c =
     let pass = c.pop_as.new.pass in
     let word = c.load_closing-word.result in
     let r = c.in_default.ensures.rule in
-    let odd = c.if-word-eq1.false in (
+    (
       word,
       (
         read-none c.args.seat.now old.pass.table_id old.chair.table_id pass.table_id chair.table_id
             (view old.pass) (view pass) old.chair.me.0 chair.me.0 word c.seat.view_is r.0
             (ap (λ x. x.0) c.load_closing-word.ensures.noted),
-        omega (arith, odd),
+        search rules,
         empty-again g.W.World.handles (view old.pass) (view pass) _ r.0 refl r.1,
       ),
     )

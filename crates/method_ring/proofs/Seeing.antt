@@ -1,0 +1,67 @@
+-- What an actor saw to stays so, whatever comes before or after.
+use Rattle.std.proofs.Common.{List, [], ◌∷◌, ◌++◌, ap, ◌∙◌, inl, inr, ⊎_elim, append_assoc}
+use Rattle.std.specs.List.{All}
+use Rattle.std.proofs.lemmas.List.Elements.{All-push, All-append, All-nil}
+use Rattle.aio_word.specs.declared.Known.{Known}
+use Rattle.aio_word.specs.declared.Kind.TheVariants as kind
+use Rattle.aio_word.specs.declared.Look.{Look}
+use Rattle.aio_word.specs.declared.Mark.{Mark}
+use Rattle.aio_word.specs.declared.WaitRef.{WaitRef}
+use Rattle.aio_word.specs.Words.{packed}
+use Rattle.aio_word.specs.Tokens.{Grows, mark_at}
+use Rattle.aio_word.proofs.Parts.{in-left, in-right}
+use Rattle.aio_handle.specs.Changes.{look}
+use Rattle.method_ring.specs.Seeing.{Claims, FindsTaken, SeesTo}
+
+sees-later : (t : WaitRef) (ms : List Mark) (p q r : Known) → SeesTo p q t → Grows q r ms
+    → SeesTo p r t
+sees-later t ms p q r s g = ⊎_elim
+    (λ (c : Claims t p q). inl (record {
+      more = c.more ++ ms;
+      marks = g.marks ∙ (ap (λ (l : List Mark). l ++ ms) c.marks ∙ append_assoc p.marks c.more ms);
+      claimed = in-left (mark_at t kind.Claimed) c.more ms c.claimed;
+    }))
+    (λ (f : FindsTaken t p q). inr (record {
+      more = f.more ++ g.looks.0;
+      looks = g.looks.1 ∙ (ap (λ (l : List Look). l ++ g.looks.0) f.looks
+          ∙ append_assoc p.looks f.more g.looks.0);
+      word = f.word;
+      lawful = f.lawful;
+      found = in-left (look t.handle (packed f.word)) f.more g.looks.0 f.found;
+      other = f.other;
+    })) s
+
+sees-earlier : (t : WaitRef) (ms : List Mark) (p q r : Known) → Grows p q ms → SeesTo q r t
+    → SeesTo p r t
+sees-earlier t ms p q r g s = ⊎_elim
+    (λ (c : Claims t q r). inl (record {
+      more = ms ++ c.more;
+      marks = c.marks ∙ (ap (λ (l : List Mark). l ++ c.more) g.marks
+          ∙ append_assoc p.marks ms c.more);
+      claimed = in-right (mark_at t kind.Claimed) ms c.more c.claimed;
+    }))
+    (λ (f : FindsTaken t q r). inr (record {
+      more = g.looks.0 ++ f.more;
+      looks = f.looks ∙ (ap (λ (l : List Look). l ++ f.more) g.looks.1
+          ∙ append_assoc p.looks g.looks.0 f.more);
+      word = f.word;
+      lawful = f.lawful;
+      found = in-right (look t.handle (packed f.word)) g.looks.0 f.more f.found;
+      other = f.other;
+    })) s
+
+pub each-later : (ts : List WaitRef) (ms : List Mark) (p q r : Known) → All (SeesTo p q) ts
+    → Grows q r ms → All (SeesTo p r) ts
+each-later ts ms p q r all g = λ k d lt. sees-later _ ms p q r (all k d lt) g
+
+pub each-of-none : (p q : Known) → All (SeesTo p q) []
+each-of-none p q = All-nil (SeesTo p q)
+
+pub each-of-one : (p q : Known) (t : WaitRef) → SeesTo p q t → All (SeesTo p q) (t ∷ [])
+each-of-one p q t s = All-push (SeesTo p q) [] t (each-of-none p q) s
+
+-- what was seen to before a turn, and in it
+pub each-then : (ts us : List WaitRef) (ms ns : List Mark) (p q r : Known) → All (SeesTo p q) ts
+    → Grows p q ms → Grows q r ns → All (SeesTo q r) us → All (SeesTo p r) (ts ++ us)
+each-then ts us ms ns p q r before grows more now = All-append (SeesTo p r) ts us
+    (each-later ts ns p q r before more) (λ k d lt. sees-earlier _ ms p q r grows (now k d lt))
