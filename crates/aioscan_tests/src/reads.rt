@@ -47,23 +47,23 @@ fn repeated_lines(alloc: Global, pages: u32, line: &str) -> Result<String, Fail>
 fn expect_reads<R: Abort + AllocGlobal + Threads + Wait + Sync>(
     rt: &R,
     name: &str,
-    pages: usize,
+    pages: u32,
     shorts: &[u32],
     line: &str,
     wanted: &[Read],
 ) -> Result<(), Fail> {
     let alloc = rt.alloc();
     let faults = Faults { shorts, ..STEADY };
-    let done = run_over(rt, empty_file(alloc, pages)?, faults, line)?;
+    let done = run_over(rt, empty_file(alloc, pages as usize)?, faults, line)?;
     let count = wanted.len();
     let totals = format!(in alloc; "incarnations {count} workers 0 backends {count}\n")?;
-    let text = repeated_lines(alloc, pages as u32, line)?;
+    let text = repeated_lines(alloc, pages, line)?;
     check_shown(rt, name, &done, (text.as_str(), totals.as_str(), 0));
     check_reads(rt, &done, name, wanted)
 }
 
 // How many pages the file has, what the first reads give at most, the line, and the reads.
-const ROWS: [(&str, usize, &[u32], &str, &[Read]); 10] = [
+const ROWS: [(&str, u32, &[u32], &str, &[Read]); 10] = [
     (
         "runs grow with the distance",
         8,

@@ -10,7 +10,7 @@ ghost use Rattle.method_worker.specs.Shown.{IsSeatOf};
 use crate::helpers::files::pages_shelf;
 use crate::helpers::streams::{Noted, pages_of, two_seats};
 use aio_callback::ReadIo;
-use aio_disk::{Disk, MemDisk};
+use aio_disk::{Disk, Shelf};
 use aio_handle::{Actor, Table};
 use buf_pool::Pool;
 use method_sync::Runner;
@@ -174,22 +174,38 @@ fn blocks_of(alloc: Global, first: u32, after: u32) -> Result<Vec<Noted>, AllocE
     Ok(blocks)
 }
 
+// The same over two disks of a shelf, which takes them back.
+fn list_over<S: Shelf, T: Wait>(
+    rt: &T,
+    alloc: Global,
+    shelf: &mut S,
+    names: &[String],
+    first: Vec<Noted>,
+    second: Vec<Noted>,
+) -> Result<(Vec<Noted>, Vec<Noted>), Fail>
+    requires { 0 < length names.now }
+{
+    let own = shelf.open(names).ok().ok_or("no disk")?;
+    let other = shelf.open(names).ok().ok_or("no disk")?;
+    let (pages, (own, other)) = list_twice::<Brand, S::Disk, T>(
+        rt, alloc, own, other, first, second,
+    )?;
+    shelf.take_back(own);
+    shelf.take_back(other);
+    Ok(pages)
+}
+
 // All pages come without the worker, whose disk is the second; what it finds in the queue was
 // executed before.
 #[test]
 fn a_backend_executes_what_no_worker_takes(rt: HostRuntime) -> Result<(), Fail> {
     let alloc = rt.alloc();
-    let mut shelf = pages_shelf(rt.alloc(), 100, None, &[])?;
-    let names = vec![in alloc; String::from_str(alloc, "f")?]?;
-    let own = shelf.open(names.as_slice()).ok().ok_or("no disk")?;
-    let other = shelf.open(names.as_slice()).ok().ok_or("no disk")?;
+    let mut shelf = pages_shelf(alloc, 100, None, &[])?;
+    let mut names = Vec::new(alloc);
+    names.push(String::from_str(alloc, "f")?)?;
     let (first, second) = (blocks_of(alloc, 0, 64)?, blocks_of(alloc, 64, 100)?);
     let wanted = (first.clone()?, second.clone()?);
-    let (pages, (own, other)) = list_twice::<Brand, MemDisk, HostRuntime>(
-        &rt, alloc, own, other, first, second,
-    )?;
-    shelf.take_back(own);
-    shelf.take_back(other);
+    let pages = list_over(&rt, alloc, &mut shelf, names.as_slice(), first, second)?;
     assert_eq!(&rt; pages.0.as_slice(), wanted.0.as_slice());
     assert_eq!(&rt; pages.1.as_slice(), wanted.1.as_slice());
     assert_eq!(&rt; shelf.log().len(), 14);

@@ -33,8 +33,7 @@ returns-clause-popped g c =
     let chair = c.load_closing-word.new.chair in
     let pass = c.pop_as.new.pass in
     let word = c.load_closing-word.result in
-    let r = c.in_default.ensures.rule in
-    (
+    let r = c.in_default.ensures.rule in (
       word,
       (
         read-none c.args.seat.now old.pass.table_id old.chair.table_id pass.table_id chair.table_id
