@@ -15,9 +15,14 @@ use crate::descriptor::{Descriptor, Tag};
 use crate::strategy::{Clock, FreeFrames, Wanted, find_round};
 use crate::table::{TagTable, find};
 use aio_word::WaitRef;
+use circular_buffer::HeapCircularBuffer;
 use page_check::World;
 use std::alloc::{AllocError, Global};
 use std::marker::{Model, PhantomData};
+
+// How many frames the ring of an index has. A part of the pool has at least 16 frames, so that the
+// rings of all parts have at most an eighth of the pool's, as in `GetAccessStrategyWithSize`.
+const RING_FRAMES: usize = 2;
 
 /// What the index has of a tag.
 #[derive(Clone, Copy, Debug, PartialEq, Eq)]
@@ -88,6 +93,7 @@ impl<W: World> PoolIndex<W> {
             clock: Clock {
                 used: Vec::from_elem(alloc, false, count)?,
                 hand: 0,
+                ring: HeapCircularBuffer::with_capacity(alloc, RING_FRAMES)?,
             },
             free: FreeFrames { count, start: 0 },
             of: PhantomData,
@@ -155,7 +161,6 @@ impl<W: World> PoolIndex<W> {
         self.free.note(at, &self.frames[at], &entry);
         self.frames[at] = entry;
         self.table.add(&self.frames, tag, frame);
-        self.clock.touch(at);
     }
 
     // A frame for a new entry.

@@ -5,6 +5,7 @@ ghost use Rattle.buf_pool.specs.Wanted.{is_wanted, IsSearchAnswer};
 ghost use Rattle.buf_pool.specs.Sound.{IsClock};
 
 use crate::descriptor::Descriptor;
+use circular_buffer::HeapCircularBuffer;
 
 /// What a search over the frames looks for.
 #[derive(Clone, Copy)]
@@ -70,16 +71,23 @@ impl FreeFrames {
     }
 }
 
-/// The hand of the clock sweep, after `BufferStrategyControl` of `freelist.c`, and a mark of each
-/// frame that was used since the hand passed it, where PostgreSQL counts up to 5.
+/// Which frame is taken where none is free, after `freelist.c`: the hand of the clock sweep, and a
+/// mark of each frame whose page was looked up since the hand passed it, where PostgreSQL counts up
+/// to 5.
+///
+/// All reads here are bulk reads, so they have a ring: a page that nobody has looked up gives its
+/// frame to the next read. A long scan then leaves the other frames as they are, and its own stay
+/// in the processor's cache.
 #[derive(Drop)]
 pub(crate) struct Clock {
     pub(crate) used: Vec<bool>,
     pub(crate) hand: usize,
+    /// The frames that reads took last in place of a page, the longest ago first.
+    pub(crate) ring: HeapCircularBuffer<u32>,
 }
 
 impl Clock {
-    /// Marks the frame as used. A mark that stands is not written again: the frames' marks share
+    /// Marks the frame, whose page was looked up. A mark that stands is not written again: the frames' marks share
     /// lines of the processors' caches.
     pub(crate) fn touch(&mut self, frame: usize)
         requires { frame < length self.old.used.items }
@@ -114,9 +122,27 @@ impl Clock {
         None
     }
 
-    /// A valid entry without pins: one that was not used for a round of the hand, else the first
-    /// from the hand on.
-    pub(crate) fn victim(&mut self, frames: &[Descriptor]) -> Option<u32>
+    // The oldest frame of a full ring, where nobody looked up its page, as `GetBufferFromRing`.
+    fn from_ring(&self, frames: &[Descriptor]) -> Option<u32>
+        requires clock { IsClock self.now.used.items self.now.hand frames.now }
+        ensures found { IfSome result
+            (λ f. (f < length frames.now) × (is_unpinned (descriptor_at frames.now f) ≡ true)) }
+    {
+        if !self.ring.is_full() {
+            return None;
+        }
+        let frame = *self.ring.front()?;
+        let at = frame as usize;
+        if at < frames.len() && frames[at].is_unpinned() && !self.used[at] {
+            Some(frame)
+        } else {
+            None
+        }
+    }
+
+    // A frame without pins whose page was not looked up for a round of the hand, else the first
+    // from the hand on.
+    fn from_sweep(&mut self, frames: &[Descriptor]) -> Option<u32>
         requires clock { IsClock self.old.used.items self.old.hand frames.now }
         requires size { length frames.now ≤ 16384 }
         ensures clock { IsClock self.new.used.items self.new.hand frames.now }
@@ -126,5 +152,21 @@ impl Clock {
             return Some(frame);
         }
         find_round(frames, self.hand, Wanted::UnpinnedFrame)
+    }
+
+    /// A frame with a page that has no pin: that of the ring, else that of the sweep, which then
+    /// takes the oldest place of the ring.
+    pub(crate) fn victim(&mut self, frames: &[Descriptor]) -> Option<u32>
+        requires clock { IsClock self.old.used.items self.old.hand frames.now }
+        requires size { length frames.now ≤ 16384 }
+        ensures clock { IsClock self.new.used.items self.new.hand frames.now }
+        ensures found { IsSearchAnswer is_unpinned frames.now result }
+    {
+        let frame = match self.from_ring(frames) {
+            Some(frame) => frame,
+            None => self.from_sweep(frames)?,
+        };
+        self.ring.push_back(frame);
+        Some(frame)
     }
 }

@@ -35,13 +35,14 @@ fn put_short_item(buf: &mut [u8], end: usize, number: u16, pointer: &LinePointer
     put_item_word(buf, at)
 }
 
-// The same with any offset and length. On a page of 8192 bytes only a damaged one is so large.
+// The same with a number of at most five digits, and any offset and length. On a page of 8192 bytes
+// only those of a damaged page are so large.
 #[cold]
 #[inline(never)]
-fn put_long_item(buf: &mut [u8], end: usize, number: u16, pointer: LinePointer) -> usize
+fn put_long_item(buf: &mut [u8], end: usize, number: u32, pointer: LinePointer) -> usize
     requires room { 40 ≤ end }
     requires within { end ≤ length buf.old }
-    requires number { number < 10000 }
+    requires number { number < 100000 }
     ensures start { (result ≤ end) × (end ≤ result + 32) }
     ensures written { drop result buf.new ≡ item_line (number, pointer) ++ drop end buf.old }
 {
@@ -50,22 +51,23 @@ fn put_long_item(buf: &mut [u8], end: usize, number: u16, pointer: LinePointer) 
     let at = put(buf, at, b" ");
     let at = put_number(buf, at, u32::from(pointer.offset));
     let at = put_word(buf, at, pointer.kind);
-    let at = put_short_number_blank(buf, at, number);
+    let at = put(buf, at, b" ");
+    let at = put_number(buf, at, number);
     put_item_word(buf, at)
 }
 
-/// Writes the line of a line pointer, whose number has at most four digits, so that it ends at
+/// Writes the line of a line pointer, whose number has at most five digits, so that it ends at
 /// `end`.
 #[inline]
-pub fn put_item(buf: &mut [u8], end: usize, number: u16, pointer: LinePointer) -> usize
+pub fn put_item(buf: &mut [u8], end: usize, number: u32, pointer: LinePointer) -> usize
     requires room { 40 ≤ end }
     requires within { end ≤ length buf.old }
-    requires short { number < 10000 }
+    requires short { number < 100000 }
     ensures start { (result ≤ end) × (end ≤ result + 32) }
     ensures written { drop result buf.new ≡ item_line (number, pointer) ++ drop end buf.old }
 {
-    if pointer.offset < 8192 && pointer.length < 8192 {
-        return put_short_item(buf, end, number, &pointer);
+    if number < 10000 && pointer.offset < 8192 && pointer.length < 8192 {
+        return put_short_item(buf, end, number as u16, &pointer);
     }
     put_long_item(buf, end, number, pointer)
 }
@@ -83,7 +85,12 @@ fn put_long_item_at(buf: &mut [u8], end: usize, bytes: &[u8], index: u16) -> usi
     ensures written { drop result buf.new
         ≡ item_line (index + 1, line_pointer_of bytes.now index) ++ drop end buf.old }
 {
-    put_long_item(buf, end, index + 1, line_pointer_at(bytes, index))
+    put_long_item(
+        buf,
+        end,
+        u32::from(index) + 1,
+        line_pointer_at(bytes, index),
+    )
 }
 
 // The line of the line pointer at an index of a page's bytes.

@@ -162,7 +162,7 @@ fn put_lines(buf: &mut [u8], end: usize, page: &Page, block: u32, index: u16) ->
 {
     let pointer = line_pointer(page, index);
     let at = put_part(buf, end, page, block, index, pointer.kind);
-    put_item(buf, at, index + 1, pointer)
+    put_item(buf, at, u32::from(index) + 1, pointer)
 }
 
 /// Writes the lines of the items from one index up to another at the end of the buffer, and says

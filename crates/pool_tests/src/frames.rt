@@ -78,8 +78,8 @@ fn read_forty<W: World, R: Wait>(rt: &R, alloc: Global, pool: &Pool<W>) -> Resul
     Ok(())
 }
 
-/// Whether a page is there while it is pinned and forty others are read, and whether it is after
-/// forty more, without its pin.
+/// Whether a page is there while it is pinned and forty others are read, and whether it is once its
+/// pin is gone and as many reads are under way as the pool has frames.
 fn pin_and_let_go<W: World, R: Wait>(rt: &R, alloc: Global) -> Result<(bool, bool), AllocError>
     requires { (W.told ≡ None) × (W.handles ≡ 2) }
 {
@@ -93,7 +93,9 @@ fn pin_and_let_go<W: World, R: Wait>(rt: &R, alloc: Global) -> Result<(bool, boo
     let pinned = matches!(pool.peek(rt, SEVEN), Look::Hit(_));
     pool.unpin(rt, pin);
     read?;
-    read_forty(rt, alloc, &pool)?;
+    for block in 100..116 {
+        let _ = pool.begin(rt, Tag { relation: 0, block }, MINE);
+    }
     Ok((pinned, matches!(pool.peek(rt, SEVEN), Look::Hit(_))))
 }
 

@@ -215,14 +215,17 @@ fn has<W: World>(index: &PoolIndex<W>, block: u32) -> bool {
     matches!(index.look(Tag { relation: 0, block }), Look::Hit(_))
 }
 
-/// Reads 16 blocks and two more, uses block 2, and reads another one. Which of the first four blocks
-/// are then there, where each had a frame.
+/// Reads 16 blocks and two more, uses these two and block 2, and reads another one. Which of the first
+/// four blocks are then there, where each had a frame.
 fn replace_three<W: World>(alloc: Global) -> Result<Option<[bool; 4]>, AllocError>
     requires { W.handles ≡ 2 }
 {
     let mut index: PoolIndex<W> = PoolIndex::open(alloc, 16)?;
-    let read = reads_all(&mut index, 0, 18) && uses(&mut index, 2) && reads_all(&mut index, 18, 1);
-    if !read {
+    let used = reads_all(&mut index, 0, 18)
+        && uses(&mut index, 16)
+        && uses(&mut index, 17)
+        && uses(&mut index, 2);
+    if !used || !reads_all(&mut index, 18, 1) {
         return Ok(None);
     }
     Ok(Some([
@@ -233,10 +236,38 @@ fn replace_three<W: World>(alloc: Global) -> Result<Option<[bool; 4]>, AllocErro
     ]))
 }
 
-// The hand of the clock has passed blocks 0 and 1. It takes block 3, since block 2 was used.
+// The frames of the ring are in use, and the hand of the clock has passed blocks 0 and 1. It takes
+// block 3, since block 2 was used.
 #[test]
 fn a_page_in_use_is_not_the_next_to_go(rt: HostRuntime) -> Result<(), AllocError> {
     let there = replace_three::<Brand>(rt.alloc())?;
     assert_eq!(rt; there, Some([false, false, true, false]));
+    Ok(())
+}
+
+/// Reads 16 blocks and four more: which of the first three and of the last three are then there.
+fn replace_by_ring<W: World>(alloc: Global) -> Result<Option<[bool; 6]>, AllocError>
+    requires { W.handles ≡ 2 }
+{
+    let mut index: PoolIndex<W> = PoolIndex::open(alloc, 16)?;
+    if !reads_all(&mut index, 0, 20) {
+        return Ok(None);
+    }
+    Ok(Some([
+        has(&index, 0),
+        has(&index, 1),
+        has(&index, 2),
+        has(&index, 17),
+        has(&index, 18),
+        has(&index, 19),
+    ]))
+}
+
+// Blocks 16 and 17 take the frames of 0 and 1, and these are the ring. Nobody looks them up, so 18
+// and 19 take their frames, and all others stay.
+#[test]
+fn a_page_that_nobody_looks_up_is_the_next_to_go(rt: HostRuntime) -> Result<(), AllocError> {
+    let there = replace_by_ring::<Brand>(rt.alloc())?;
+    assert_eq!(rt; there, Some([false, false, true, false, true, true]));
     Ok(())
 }

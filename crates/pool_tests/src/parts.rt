@@ -22,8 +22,8 @@ fn is_there<W: World, R: Wait>(rt: &R, pool: &Pool<W>, tag: Tag) -> bool {
     }
 }
 
-/// Reads as many neighbouring blocks of a relation as the pool has frames: how many took a frame,
-/// and how many are there when all were read.
+/// Reads as many neighbouring blocks of a relation as the pool has frames, and looks up each when it
+/// was read: how many took a frame, and how many are there when all were read.
 fn fill_with<W: World, R: Wait>(
     rt: &R,
     pool: &Pool<W>,
@@ -41,7 +41,8 @@ fn fill_with<W: World, R: Wait>(
     let mut taken = 0u32;
     for block in first..first + frames {
         let tag = Tag { relation, block };
-        taken = taken.saturating_add(u32::from(read_into(rt, pool, tag, page)));
+        let read = read_into(rt, pool, tag, page) && is_there(rt, pool, tag);
+        taken = taken.saturating_add(u32::from(read));
     }
     let mut there = 0u32;
     for block in first..first + frames {
@@ -71,7 +72,7 @@ fn fill_in_turn<W: World, R: Wait>(
     Ok(Some([zero, one, three]))
 }
 
-// Two parts of 17 and 16 frames, and four of 25. Pages that were pinned before are replaced.
+// Two parts of 17 and 16 frames, and four of 25. Pages that were looked up before are replaced.
 #[test]
 fn each_relation_has_all_frames_in_turn(rt: HostRuntime) -> Result<(), AllocError> {
     for frames in [33, 100] {
@@ -79,6 +80,43 @@ fn each_relation_has_all_frames_in_turn(rt: HostRuntime) -> Result<(), AllocErro
             panic!(&rt; "a page is sane")
         };
         assert_eq!(rt; filled, [(frames, frames); 3], "{frames} frames");
+    }
+    Ok(())
+}
+
+/// How many pages of relation 0, each of which was looked up, are still there after a read of 1,000
+/// blocks of relation 1 that nobody looks up.
+fn read_beside<W: World, R: Wait>(
+    rt: &R,
+    alloc: Global,
+    frames: u32,
+) -> Result<Option<u32>, AllocError>
+    requires told { W.told ≡ None }
+    requires handles { W.handles ≡ 2 }
+    requires frames { (16 ≤ frames) × (frames ≤ 16384) }
+{
+    let pool: Pool<W> = Pool::open(alloc, frames)?;
+    let Some(page) = page_of(alloc, 7)? else {
+        return Ok(None);
+    };
+    let _ = fill_with(rt, &pool, 0, frames, &page);
+    for block in 0..1000 {
+        let _ = read_into(rt, &pool, Tag { relation: 1, block }, &page);
+    }
+    let mut there = 0u32;
+    for block in 0..frames {
+        let tag = Tag { relation: 0, block };
+        there = there.saturating_add(u32::from(is_there(rt, &pool, tag)));
+    }
+    Ok(Some(there))
+}
+
+// Each read takes the frame of the one before it in its part, and so each part loses one page.
+#[test]
+fn a_long_read_leaves_the_pages_that_were_looked_up(rt: HostRuntime) -> Result<(), AllocError> {
+    for (frames, parts) in [(16, 1), (33, 2), (128, 8)] {
+        let there = read_beside::<Brand, HostRuntime>(&rt, rt.alloc(), frames)?;
+        assert_eq!(rt; there, Some(frames - parts), "{frames} frames");
     }
     Ok(())
 }

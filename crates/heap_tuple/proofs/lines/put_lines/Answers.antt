@@ -2,10 +2,6 @@ use Rattle.std.proofs.Common.{arith}
 use Rattle.heap_scan.proofs.Summing.{few_items}
 use Rattle.heap_tuple.proofs.lines.put_lines.Goals as goal
 
-pub overflow_add-index : goal.overflow_add-index
-overflow_add-index c =
-    omega (arith, few_items c.args.page.now c.requires.valid, c.requires.index)
-
 pub put_item-requires-clause-short : goal.put_item-requires-clause-short
 put_item-requires-clause-short c =
     omega (arith, few_items c.args.page.now c.requires.valid, c.requires.index)

@@ -1,9 +1,10 @@
-use Rattle.std.proofs.Common.{◌≡◌, ◌∙◌, ◌<◌, length, set, count_by}
-use Rattle.std.proofs.lemmas.List.{length-set, get_or_read}
+use Rattle.std.proofs.Common.{◌≡◌, ◌<◌, length, set, count_by}
+use Rattle.std.proofs.lemmas.List.{get_or_read}
 use Rattle.buf_pool.specs.declared.descriptor.Descriptor.TheVariants.{Free, InProgress}
 use Rattle.buf_pool.specs.Frames.{is_free}
 use Rattle.buf_pool.proofs.Counts.{counted_after}
 use Rattle.buf_pool.proofs.Changing.{Fits, absent_fits, lawful_set, frames_set}
+use Rattle.buf_pool.proofs.Changing.{clock_set}
 use Rattle.buf_pool.proofs.index.PoolIndex.place.Goals as goal
 
 pub invariant_of-self : goal.invariant_of-self
@@ -20,10 +21,7 @@ invariant_of-self g c =
       frames_set _ _ _ _ _ _ _ _ inside c.self.invariant.0 fits counted
           (c.note.ensures.start _ c.self.invariant.0.start inside),
       rw (← c.deref.ensures.value) c.add.ensures,
-      record {
-        size = rw length-set (c.touch.ensures.size ∙ c.self.invariant.2.size);
-        hand = rw (length-set, c.touch.ensures.hand) c.self.invariant.2.hand;
-      },
+      clock_set _ _ _ _ _ c.self.invariant.2,
     )
 
 pub returns-clause-lawful : goal.returns-clause-lawful
