@@ -27,7 +27,7 @@ use Rattle.aio_handle.specs.Made.{Looked}
 use Rattle.aio_handle.proofs.Finding.{Finds, stood-here, ruled-here, actor-here, before-here}
 use Rattle.aio_handle.proofs.Finding.{moment-here}
 
-same-length : (a b : List Known) (p p' : Known) → length (a ++ p' ∷ b) ≡ length (a ++ p ∷ b)
+pub same-length : (a b : List Known) (p p' : Known) → length (a ++ p' ∷ b) ≡ length (a ++ p ∷ b)
 same-length [] b p p' = refl
 same-length (x ∷ a) b p p' = ap suc (same-length a b p p')
 

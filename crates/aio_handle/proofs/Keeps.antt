@@ -15,21 +15,21 @@ use Rattle.aio_word.specs.declared.WaitRef.{WaitRef}
 use Rattle.aio_word.specs.declared.Word.{Word}
 use Rattle.aio_word.specs.declared.Known.{Known}
 use Rattle.aio_word.specs.Words.{packed, place_of, rank_of}
-use Rattle.aio_word.specs.Events.{next, handles, owner, times, ref, may, is_free}
-use Rattle.aio_word.specs.Stands.{IsIn, seen_of, IsMachine}
+use Rattle.aio_word.specs.Events.{handles, owner, times, ref, may}
+use Rattle.aio_word.specs.Stands.{IsIn, seen_of}
 use Rattle.aio_word.specs.Ranked.{HandleRanked}
 use Rattle.aio_word.proofs.Parts.{in-append, in-left, in-right, in-here}
 use Rattle.aio_word.proofs.Steps.{place-small, stood}
 use Rattle.aio_word.proofs.Noted.{in-others, others-in}
-use Rattle.aio_word.proofs.Same.{goes-along}
 use Rattle.aio_handle.specs.declared.record.Label.{Label}
-use Rattle.aio_handle.specs.Ruled.{joined, KnownStands, SlotStands, HandleRuled, IsActor, Ruled}
+use Rattle.aio_handle.specs.Ruled.{KnownStands, SlotStands, HandleRuled, IsActor, Ruled}
 use Rattle.aio_handle.specs.Changes.{changed}
 use Rattle.aio_handle.specs.Made.{Made, IsByOwner, generation_of}
 use Rattle.aio_handle.proofs.Finding.{Finds, stood-here, ruled-here, actor-here, others}
-use Rattle.aio_handle.proofs.Finding.{numbered-here, before-here, moment-here}
+use Rattle.aio_handle.proofs.Finding.{before-here}
 use Rattle.aio_handle.proofs.Effects.{Works, Does, Goes}
 use Rattle.aio_handle.proofs.Assembling.{assembled}
+use Rattle.aio_handle.proofs.Passing.{Passes, along, reached-now, passes}
 
 same-nat : (a b : ℕ) → (a == b) ≡ true → a ≡ b
 same-nat a b h = grind (arith, nat_tests)
@@ -222,26 +222,11 @@ module _ {R : Type 0} (label : R → Label) (aim_in : R → List ℕ) (Fits : R 
                 set s.views id (p1 ∷ []);
           }
       keeps homes' home' wide others' mine slot alone =
-          let now = f.lying.now in
-          let then : joined (set s.views id (p1 ∷ [])) ≡ front ++ p1 ∷ back = f.lying.then
-          (p1 ∷ []) in
-          let along = goes-along c r.machine r.ws front back p p1
-          record { actor = p.number; handle = h; generation = w.generation; step = e } w w'
-          (subst (λ (z : List Known). IsMachine c r.machine r.ws z) now r.is)
-          (numbered-here label aim_in Fits c s r id h p f)
-          refl refl refl f.word refl d.allowed
-          (ap (λ (z : List Word). is_free c p.number z e) r.is.words ∙ d.free) d.row in
+          let next = along label aim_in Fits c s r id h p f e w' a d.row d.allowed d.free in
           assembled label aim_in Fits c s r id h p f range homes' home' wide others' mine w' p1
           g.notes g.stands alone
-          record { aim = aim'; slot = slot; known = known-all } elsewhere actor-now along.0
-          (next r.machine
-          record {
-            actor = p.number;
-            handle = h;
-            generation = w.generation;
-            step =
-                e;
-          } along.0 r.reached along.1) along.2
+          record { aim = aim'; slot = slot; known = known-all } elsewhere actor-now next.0
+          (reached-now label aim_in Fits c s r id h p f e w' a d.row d.allowed d.free) next.2
 
       own-by-event : (x : Event) → may c p.number p.marks h w.generation x ≡ true → IsByOwner x
           → p.number ≡ owner c h
@@ -257,14 +242,18 @@ module _ {R : Type 0} (label : R → Label) (aim_in : R → List ℕ) (Fits : R 
       own-by-event event.Reclaim y o = same-nat p.number (owner c h) y
 
       pub made : Made e h w w' a p p1
-      made = record {
-        moment = moment-here label aim_in Fits c s r id h p f;
-        row = d.row;
-        is = refl;
-        before = before-here label aim_in Fits c s r id h p f;
-        now = g.now;
-        mine = λ o. subst (λ (z : Config). p.number ≡ owner z h) (sym actor.config)
-            (own-by-event e d.allowed o);
-        lived = subst (λ (z : Config). p.number ≡ owner z h → w.generation ≡ generation_of z p h)
-            (sym actor.config) (λ o. (ruled.known p (in-here front back p)).lived o);
-      }
+      made = let x : Passes p.config h w w' e p p1 = subst
+          (λ (z : Config). Passes z h w w' e p p1) (sym actor.config)
+          (passes label aim_in Fits c s r id h p f e w' a d.row d.allowed d.free g) in record {
+            moment = x.moment;
+            then = x.then;
+            is_step = x.is_step;
+            row = d.row;
+            is = refl;
+            before = before-here label aim_in Fits c s r id h p f;
+            now = g.now;
+            mine = λ o. subst (λ (z : Config). p.number ≡ owner z h) (sym actor.config)
+                (own-by-event e d.allowed o);
+            lived = subst (λ (z : Config). p.number ≡ owner z h → w.generation ≡ generation_of z p h)
+                (sym actor.config) (λ o. (ruled.known p (in-here front back p)).lived o);
+          }

@@ -4,6 +4,7 @@ pub mod LivesCounted
 pub mod Effects
 pub mod Assembling
 pub mod Marking
+pub mod Passing
 pub mod Keeps
 pub mod Away
 pub mod Where

@@ -14,7 +14,7 @@ use Rattle.aio_word.specs.declared.Class.{Class}
 use Rattle.aio_word.specs.declared.State.TheVariants.{CompletedShared}
 use Rattle.aio_word.specs.declared.Known.{Known}
 use Rattle.aio_word.specs.Words.{IsLawful, IsDone, rank_of}
-use Rattle.aio_word.specs.Events.{owner, lives, after, word_in, at, order, rank_of_mark}
+use Rattle.aio_word.specs.Events.{owner, lives, after, word_in, at, order, rank_of_mark, stepped}
 use Rattle.aio_word.specs.Stands.{IsIn, one_if, seen_of, stands, AtMoment}
 use Rattle.aio_handle.specs.declared.record.Label.{Label}
 use Rattle.aio_handle.specs.LifeWords.{taken}
@@ -34,7 +34,13 @@ IsByOwner _ = Unit {0}
 
 -- the actor that knew p made the event on the handle h, whose word was w, and now knows q
 pub record Made (e : Event) (h : ℕ) (w w' : Word) (aim : List ℕ) (p q : Known) : Type 0 where
+  -- the moments right before the event and right after it
   pub moment : AtMoment p.config p h w
+  pub then : AtMoment q.config q h w'
+  -- the event takes the machine of the one to that of the other
+  pub is_step : stepped p.config moment.machine
+      record { actor = p.number; handle = h; generation = w.generation; step = e }
+      ≡ Some then.machine
   pub row : after w e ≡ Some w'
   pub is : q ≡ changed e h w w' aim p
   pub before : seen_of p h ≤ rank_of w

@@ -12,8 +12,9 @@
 //! words, the greatest pair of generation and place that it has seen of each handle, the handle
 //! that it has handed out, and the aims of its I/Os. Each call says what it does to that, by one
 //! equation, and hands out the moment at which it did so: a state that the machine of handles
-//! reaches, for whose words the lists of all actors stand. A token says where its incarnation
-//! stands in its actor's list, and each call asks for that and gives it on.
+//! reaches, for whose words the lists of all actors stand. Where it makes an event, it hands out the
+//! moment after it too, and the event is the machine's step between the two. A token says where its
+//! incarnation stands in its actor's list, and each call asks for that and gives it on.
 //!
 //! The rule of the table (`Ruled` in `specs`) holds between any two steps of any threads, so what
 //! holds of every state of the machine holds there. Of the moment that a call hands out, its

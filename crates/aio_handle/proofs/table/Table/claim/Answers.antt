@@ -1,9 +1,11 @@
-use Rattle.std.proofs.Common.{ℕ, ◌<◌, ◌∷◌, sym, ap, ◌∙◌, subst}
+use Rattle.std.proofs.Common.{ℕ, ◌<◌, ◌∷◌, refl, sym, ap, ◌∙◌, subst}
 use Rattle.atomic_table.specs.Table.{rest}
 use Rattle.aio_word.specs.declared.Step.TheVariants as event
 use Rattle.aio_word.specs.Events.{handles}
 use Rattle.aio_handle.specs.Seats.{known_of}
+use Rattle.aio_word.specs.declared.Known.{Known}
 use Rattle.aio_handle.specs.LifeWords.{unclaimed, claimed}
+use Rattle.aio_handle.specs.Made.{Made}
 use Rattle.aio_handle.proofs.Answering.{below-last}
 use Rattle.aio_handle.proofs.ClaimSteps.{loads-at, claims}
 use Rattle.aio_handle.proofs.Tokening.{claimed-token, claim-notes}
@@ -115,4 +117,21 @@ returns-clause-token g c =
           (known_of c.exchange.new.seat.me.0) c.actor.invariant.0.keeps md.0,
       claim-notes c.args.reference.handle c.args.reference.generation (g.R.Record.aim c.in-Some.io)
           (known_of c.actor.inside.seat.me.0) (known_of c.exchange.new.seat.me.0) md.0,
+    )
+
+pub returns-clause-won : goal.returns-clause-won
+returns-clause-won g c =
+    let md = won-made g.R.Record.label g.R.Record.aim
+    (g.R.Record.fits g.W.World.told g.W.World.relations) c.self.inside.inner.shared.table_id.slots
+    c.args.reference.handle _ c.number_of-new.result _ c.actor.inside.seat.me
+    c.compare_exchange-found.new.seat.me c.compare_exchange-found.ensures.2
+    c.args.reference.generation c.if-found-old.false c.number_of-old.ensures c.in-Some.io
+    (c.exchange.ensures.2 ∙ ap
+    (λ z. (c.args.reference.handle, z) ∷ rest c.compare_exchange-found.new.seat.me.1) c.in-Some.is)
+    c.exchange.new.seat.me (ap (λ x. x.0) c.exchange.ensures.3) in (
+      refl,
+      subst (λ (z : Known). Made event.Claim c.args.reference.handle
+          (unclaimed c.args.reference.generation) (claimed c.args.reference.generation)
+          (g.R.Record.aim c.in-Some.io) z (known_of c.exchange.new.seat.me.0))
+          (ap (λ x. x.known) c.actor.view_is) md.0,
     )

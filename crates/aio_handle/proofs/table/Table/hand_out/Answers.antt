@@ -3,6 +3,8 @@ use Rattle.std.proofs.Common.{◌≡◌, ℕ, ◌+◌, ◌<◌, sym, ap, ◌∙�
 use Rattle.aio_word.specs.declared.Known.{Known}
 use Rattle.aio_word.specs.Events.{handles}
 use Rattle.aio_handle.specs.Seats.{known_of}
+use Rattle.aio_handle.specs.LifeWords.{idle, handed}
+use Rattle.aio_handle.specs.Made.{Made}
 use Rattle.aio_handle.specs.Free.{IsFree}
 use Rattle.aio_word.specs.Events.{owner, lives}
 use Rattle.aio_handle.proofs.HandOutSteps.{hands}
@@ -57,3 +59,12 @@ invariant_of-actor g c = (
       c.args.reference.generation _ [] (known_of c.actor.inside.seat.me.0)
       (known_of c.swap.new.seat.me.0) md (let lt = at.0 in omega arith) c.actor.invariant.2),
 )
+
+pub returns-clause-event : goal.returns-clause-event
+returns-clause-event g c =
+    subst (λ (z : Known). Made event.HandOut c.args.reference.handle
+    (idle c.args.reference.generation) (handed c.args.reference.generation) [] z
+    (known_of c.swap.new.seat.me.0)) (ap (λ x. x.known) c.actor.view_is)
+    (hands-made c.self.inside.inner.shared.table_id.slots c.args.reference.handle
+    c.args.reference.generation _ _ c.actor.inside.seat.me c.swap.new.seat.me
+    c.number_of-word.ensures c.swap.ensures.2)

@@ -4,7 +4,10 @@ use Rattle.aio_word.specs.declared.Step.TheVariants as event
 use Rattle.aio_word.specs.Events.{handles}
 use Rattle.aio_word.specs.Tokens.{IsLocal}
 use Rattle.aio_handle.specs.Seats.{known_of}
+use Rattle.aio_word.specs.declared.Known.{Known}
+use Rattle.aio_word.specs.declared.WaitRef.{WaitRef}
 use Rattle.aio_handle.specs.LifeWords.{idle, taken}
+use Rattle.aio_handle.specs.Made.{Made}
 use Rattle.aio_handle.proofs.Answering.{inward}
 use Rattle.aio_handle.proofs.ReclaimSteps.{reclaims}
 use Rattle.aio_handle.proofs.Tokening.{local-away}
@@ -92,3 +95,17 @@ remember-requires g c =
       some = c.actor.invariant.1.per_backend.0;
       range = at.0;
     }
+
+pub returns-clause-event : goal.returns-clause-event
+returns-clause-event g c = (
+  c.swap.ensures.2.0,
+  subst (λ (z : WaitRef × Known). Made event.Reclaim z.0.handle
+      (taken c.swap.ensures.2.0 z.0.generation) (idle (z.0.generation + 1)) [] z.1
+      (known_of c.swap.new.seat.me.0))
+      (λ k. ((c.token.view_is k).0, (c.actor.view_is k).known))
+      (returns-made c.self.inside.inner.shared.table_id.slots c.token.inside.reference.handle
+      c.token.inside.reference.generation _ _ c.actor.inside.seat.me c.bring.new.seat.me
+      c.swap.new.seat.me (ap (λ x. x.0) c.bring.ensures.2) (ap (λ x. rest x.1) c.bring.ensures.2)
+      event.Reclaim (taken c.swap.ensures.2.0) (λ x. idle (x + 1)) [] by-next
+      c.number_of-word.ensures c.swap.ensures.2.1),
+)
