@@ -19,6 +19,7 @@ pub mod Dealt
 pub mod Newcomers
 pub mod Opening
 pub mod Gathering
+pub mod Comparing
 pub mod Tokening
 pub mod Seating
 pub mod Calling

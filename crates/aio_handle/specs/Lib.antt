@@ -10,6 +10,7 @@ pub mod Front
 pub mod Seats
 pub mod Steps
 pub mod Shown
+pub mod Together
 pub mod Closing
 pub mod Taking
 pub mod Executing

@@ -1,9 +1,10 @@
 //! Laws on the lists of a table's actors, each the contract of a function that does nothing: what
-//! was executed, what an actor that holds several tokens keeps of those that it does not use, how
-//! what it does composes, and that a backend with room is served.
+//! was executed, that a claim has one winner, what an actor that holds several tokens keeps of those
+//! that it does not use, how what it does composes, and that a backend with room is served.
 ghost use Rattle.std.specs.Prelude.{◌≡◌, ◌≢◌, ℕ, ◌+◌, ◌<◌, ◌≤◌, List, [], ◌∷◌, ◌++◌, sum_by};
 ghost use Rattle.aio_word.specs.declared.Config.{Config};
 ghost use Rattle.aio_word.specs.declared.Class.{Class};
+ghost use Rattle.aio_word.specs.declared.Kind.{Kind};
 ghost use Rattle.aio_word.specs.declared.Kind.TheVariants as kind;
 ghost use Rattle.aio_word.specs.declared.Known.{Known};
 ghost use Rattle.aio_word.specs.declared.Mark.{Mark};
@@ -11,7 +12,7 @@ ghost use Rattle.aio_word.specs.declared.Step.{Step as Event};
 ghost use Rattle.aio_word.specs.declared.Step.TheVariants.{Define, Claim};
 ghost use Rattle.aio_word.specs.declared.WaitRef.{WaitRef};
 ghost use Rattle.aio_word.specs.declared.Word.{Word};
-ghost use Rattle.aio_word.specs.Events.{mark_at, ref, lives};
+ghost use Rattle.aio_word.specs.Events.{mark_at, ref, lives, at, owner};
 ghost use Rattle.aio_word.specs.Stands.{IsIn, Stands, seen_of};
 ghost use Rattle.aio_word.specs.Tokens.{Grows, Keeps, IsClaimed, io_marks, claimed_marks};
 ghost use Rattle.aio_word.specs.Tokens.{failed_marks, failed_results};
@@ -24,6 +25,7 @@ ghost use Rattle.aio_handle.specs.Held.{Place, StandsAt, IsKeptAt, AreHeld};
 ghost use Rattle.aio_handle.specs.Kept.{IsKept, IsClaimKept, UsesToken};
 ghost use Rattle.aio_handle.specs.LifeWords.{handed, defined, unclaimed, claimed};
 ghost use Rattle.aio_handle.specs.Made.{Made, Looked, IsByOwner};
+ghost use Rattle.aio_handle.specs.Together.{StandTogether};
 
 /// Once no token is out, each actor has executed as many I/Os as it has claimed.
 pub fn each_claim_was_executed()
@@ -37,6 +39,22 @@ pub fn each_result_was_executed()
     ensures { (c : Config) (words : List Word) (parts : List Known) → Stands c words parts
         → (p : Known) → IsIn p parts → (t : WaitRef) (class : Class)
         → IsIn (mark_at t (kind.Local class)) p.marks → IsExecutedIn parts t class }
+{}
+
+/// Of two actors of one table, at most one has won a claim of an incarnation; and so with every mark
+/// of a life. `Table::stand_together` gives the condition.
+pub fn one_claim_has_one_winner()
+    ensures won { (c : Config) (p q : Known) (t : WaitRef) → StandTogether c p q
+        → IsClaimed p t → IsClaimed q t → ⊥ }
+    ensures each { (c : Config) (p q : Known) (t : WaitRef) (k : Kind) → StandTogether c p q
+        → 0 < at t k p.marks → at t k q.marks ≡ 0 }
+{}
+
+/// What one actor has claimed its owner has submitted. `Table::stand_together` gives the condition.
+pub fn what_is_claimed_was_submitted()
+    ensures { (c : Config) (p q : Known) (t : WaitRef) → StandTogether c p q
+        → q.number ≡ owner c t.handle → 0 < at t kind.Claimed p.marks
+        → 0 < at t kind.Submitted q.marks }
 {}
 
 /// Whatever the actor takes up by an executor or a method, each of its tokens stays.

@@ -18,8 +18,8 @@
 //!
 //! The rule of the table (`Ruled` in `specs`) holds between any two steps of any threads, so what
 //! holds of every state of the machine holds there. Of the moment that a call hands out, its
-//! contract ties the handle's word and its own actor's list; `close` is the one call whose contract
-//! has the lists of all actors together.
+//! contract ties the handle's word and its own actor's list. `stand_together` has the lists of two
+//! actors at one moment, and `close` has those of all at the end.
 #![tactic(auto)]
 
 mod actor;
@@ -37,6 +37,7 @@ mod rule;
 mod sleepers;
 mod steps;
 mod table;
+mod together;
 mod tokens;
 
 pub use actor::{AcquireRefusal, Actor};

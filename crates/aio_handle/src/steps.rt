@@ -5,6 +5,7 @@ ghost use Rattle.aio_handle.specs.Steps.{Loads, Makes, Executes, Hands, Releases
 ghost use Rattle.aio_handle.specs.Steps.{Reclaims, Claims, Submits, Shares, Gets};
 ghost use Rattle.aio_handle.specs.LifeWords.{handed, defined, staged};
 ghost use Rattle.aio_handle.specs.Seats.{front_of, behind_of};
+ghost use Rattle.aio_handle.specs.Together.{Compares};
 
 use crate::record::Record;
 use crate::rule::View;
@@ -114,4 +115,11 @@ pub struct LookAt;
 
 impl<R> Play<Option<R>, View> for LookAt {
     ghost then = { Loads };
+}
+
+/// Two lists that lie in one seat stand together.
+pub struct CompareAt;
+
+impl<R> Play<Option<R>, View> for CompareAt {
+    ghost then = { Compares };
 }
