@@ -5,5 +5,6 @@ pub mod FirstLines
 pub mod Jobs
 pub mod Summing
 pub mod SmallNumbers
+pub mod NumbersByPairs
 pub mod FixedPieces
 pub mod PartialTexts

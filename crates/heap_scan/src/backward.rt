@@ -2,7 +2,8 @@
 //!
 //! Backward, a number needs no count of its digits before it is written. Each call writes one
 //! piece so that it ends at `end`, says where the piece starts, and leaves what stands behind it.
-ghost use Rattle.std.specs.Prelude.{◌≡◌, ◌++◌, ◌<◌, ◌≤◌, ◌+◌, ◌-◌, length, drop, decimal, codes};
+ghost use Rattle.std.specs.Prelude.{◌≡◌, ◌++◌, ◌∷◌, ◌<◌, ◌≤◌, ◌+◌, ◌-◌, ◌/◌, ◌%◌, length};
+ghost use Rattle.std.specs.Prelude.{drop, decimal, codes};
 ghost use Rattle.heap_scan.specs.PageText.{word_of};
 
 use crate::numbers::DECIMALS;
@@ -53,9 +54,57 @@ fn put_short_number(buf: &mut [u8], end: usize, number: u16) -> usize
     end - len
 }
 
-// A number of any length.
-#[inline(never)]
+// The two digits of a number below 100, by one copy of eight bytes: the digits of 100 more, of which
+// the first is written over later.
+#[inline]
+fn put_two_digits(buf: &mut [u8], end: usize, number: u16) -> usize
+    requires short { number < 100 }
+    requires room { 8 ≤ end }
+    requires within { end ≤ length buf.old }
+    ensures start { result + 2 ≡ end }
+    ensures written { drop result buf.new
+        ≡ (48 + number / 10) ∷ (48 + number % 10) ∷ drop end buf.old }
+{
+    let _ = put_short_number(buf, end, 100 + number);
+    end - 2
+}
+
+// The last four digits of a number of more than four.
+#[inline]
+fn put_last_digits(buf: &mut [u8], end: usize, number: u32) -> usize
+    requires long { 10000 ≤ number }
+    requires room { 10 ≤ end }
+    requires within { end ≤ length buf.old }
+    ensures start { result + 4 ≡ end }
+    ensures written { decimal (number / 10000) ++ drop result buf.new
+        ≡ decimal number ++ drop end buf.old }
+{
+    let at = put_two_digits(buf, end, (number % 100) as u16);
+    put_two_digits(buf, at, (number / 100 % 100) as u16)
+}
+
+// A number of more than four digits, where there is room for whole copies.
+#[inline]
 fn put_long_number(buf: &mut [u8], end: usize, number: u32) -> usize
+    requires long { 10000 ≤ number }
+    requires room { 16 ≤ end }
+    requires within { end ≤ length buf.old }
+    ensures start { result + length (decimal number) ≡ end }
+    ensures written { drop result buf.new ≡ decimal number ++ drop end buf.old }
+{
+    let at = put_last_digits(buf, end, number);
+    let front = number / 10000;
+    if front < 10000 {
+        return put_short_number(buf, at, front as u16);
+    }
+    let at = put_last_digits(buf, at, front);
+    put_short_number(buf, at, (front / 10000) as u16)
+}
+
+// A number of any length, where there is little room.
+#[cold]
+#[inline(never)]
+fn put_number_in_little_room(buf: &mut [u8], end: usize, number: u32) -> usize
     requires room { 10 ≤ end }
     requires within { end ≤ length buf.old }
     ensures start { result + length (decimal number) ≡ end }
@@ -76,6 +125,8 @@ pub fn put_number(buf: &mut [u8], end: usize, number: u32) -> usize
 {
     if number < 10000 {
         put_short_number(buf, end, number as u16)
+    } else if end < 16 {
+        put_number_in_little_room(buf, end, number)
     } else {
         put_long_number(buf, end, number)
     }

@@ -14,8 +14,14 @@ returns-then-number-lt10000-clause-long c = at_most_ten c.args.number (omega ari
 pub returns-then-number-lt10000-clause-short : goal.returns-then-number-lt10000-clause-short
 returns-then-number-lt10000-clause-short c = at_most_five c.args.number
 
-pub returns-else-number-lt10000-clause-long : goal.returns-else-number-lt10000-clause-long
-returns-else-number-lt10000-clause-long c = at_most_ten c.args.number (omega arith)
+pub returns-then-end-lt16-clause-long : goal.returns-then-end-lt16-clause-long
+returns-then-end-lt16-clause-long c = at_most_ten c.args.number (omega arith)
 
-pub returns-else-number-lt10000-clause-short : goal.returns-else-number-lt10000-clause-short
-returns-else-number-lt10000-clause-short c = at_most_five c.args.number
+pub returns-then-end-lt16-clause-short : goal.returns-then-end-lt16-clause-short
+returns-then-end-lt16-clause-short c = at_most_five c.args.number
+
+pub returns-else-end-lt16-clause-long : goal.returns-else-end-lt16-clause-long
+returns-else-end-lt16-clause-long c = at_most_ten c.args.number (omega arith)
+
+pub returns-else-end-lt16-clause-short : goal.returns-else-end-lt16-clause-short
+returns-else-end-lt16-clause-short c = at_most_five c.args.number
