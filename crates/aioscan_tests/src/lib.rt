@@ -10,6 +10,8 @@ mod cut_outputs;
 #[cfg(test)]
 mod failing;
 #[cfg(test)]
+mod frames;
+#[cfg(test)]
 mod gate;
 #[cfg(test)]
 mod made;

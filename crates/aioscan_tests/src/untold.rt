@@ -67,9 +67,12 @@ struct LongShelf {
     alloc: Global,
     length: u32,
     seen: u32,
+    // From this open on each fails so, where there is one.
+    refuses: Option<(u64, OpenFault)>,
     open_faults: u64,
     reads: u64,
     opens: u64,
+    taken_back: u64,
     lengths: u64,
     log: Vec<Read>,
 }
@@ -96,6 +99,16 @@ impl Shelf for LongShelf {
             self.open_faults = self.open_faults.saturating_add(1);
             return Err(OpenFault::Device);
         };
+        match self.refuses {
+            Some((open, OpenFault::Device)) if open <= self.opens => {
+                self.open_faults = self.open_faults.saturating_add(1);
+                return Err(OpenFault::Device);
+            }
+            Some((open, OpenFault::Memory)) if open <= self.opens => {
+                return Err(OpenFault::Memory);
+            }
+            _ => {}
+        }
         Ok(LongDisk {
             count,
             length: self.length,
@@ -108,6 +121,7 @@ impl Shelf for LongShelf {
     }
 
     fn take_back(&mut self, disk: LongDisk) {
+        self.taken_back = self.taken_back.saturating_add(1);
         self.reads = self.reads.saturating_add(disk.reads);
         self.lengths = self.lengths.saturating_add(disk.lengths);
         let _full = self.log.extend_from_slice(disk.log.as_slice());
@@ -120,9 +134,11 @@ fn long_shelf(alloc: Global, length: u32, seen: u32) -> LongShelf {
         alloc,
         length,
         seen,
+        refuses: None,
         open_faults: 0,
         reads: 0,
         opens: 0,
+        taken_back: 0,
         lengths: 0,
         log: Vec::new(alloc),
     }
@@ -144,8 +160,16 @@ fn run_long<R: Abort + AllocGlobal + Threads + Wait + Sync>(
     seen: u32,
     line: &str,
 ) -> Result<Long, Fail> {
+    run_over(rt, long_shelf(rt.alloc(), length, seen), line)
+}
+
+// A run over relations of this shelf.
+fn run_over<R: Abort + AllocGlobal + Threads + Wait + Sync>(
+    rt: &R,
+    mut shelf: LongShelf,
+    line: &str,
+) -> Result<Long, Fail> {
     let alloc = rt.alloc();
-    let mut shelf = long_shelf(alloc, length, seen);
     let words = words_of(alloc, line)?;
     let mut out = MemSink::make(alloc, Vec::new(alloc));
     let mut err = MemSink::make(alloc, Vec::new(alloc));
@@ -214,20 +238,45 @@ fn fewer_pages_than_its_length(rt: HostRuntime) -> Result<(), Fail> {
     Ok(())
 }
 
+// The length of each file, from which open on each fails and how, the line, the status, how often
+// the run opened a disk, and how many disks it gave back.
+const DISKS: [(u32, Option<(u64, OpenFault)>, &str, u8, (u64, u64)); 12] = [
+    (1, None, "f", 0, (5, 5)),
+    (1, None, "--method sync f", 0, (2, 2)),
+    (1, None, "--method ring --backends 3 f", 0, (3, 3)),
+    (1, None, "--workers 1 --backends 3 f", 0, (4, 4)),
+    (
+        1,
+        None,
+        "--method sync --workers 4 --backends 1 f",
+        0,
+        (1, 1),
+    ),
+    (0, None, "--workers 8 f g", 0, (10, 10)),
+    (1, None, "--from 1 --to 1 f", 6, (5, 5)),
+    (2097153, None, "f", 7, (1, 1)),
+    (1, Some((1, OpenFault::Device)), "f", 3, (1, 0)),
+    (1, Some((4, OpenFault::Device)), "f", 3, (4, 3)),
+    (1, Some((1, OpenFault::Memory)), "f", 5, (1, 0)),
+    (1, Some((4, OpenFault::Memory)), "f", 5, (4, 3)),
+];
+
+// A disk comes back even if nothing was read from it, and if the run is refused.
 #[test]
-fn a_disk_for_each_backend_and_each_worker(rt: HostRuntime) -> Result<(), Fail> {
-    let rows = [
-        ("f", 5),
-        ("--method sync f", 2),
-        ("--workers 1 --backends 3 f", 4),
-        ("--method sync --workers 4 --backends 1 f", 1),
-    ];
-    for (line, opens) in rows {
-        let done = run_long(&rt, 1, 1, line)?;
-        assert_eq!(rt;
-            (done.report.status, done.shelf.opens),
-            (0, opens),
-            "{line}"
+fn a_disk_for_each_backend_and_each_worker_comes_back(rt: HostRuntime) -> Result<(), Fail> {
+    for (length, refuses, line, status, disks) in DISKS {
+        let shelf = LongShelf {
+            refuses,
+            ..long_shelf(rt.alloc(), length, length)
+        };
+        let done = run_over(&rt, shelf, line)?;
+        assert_eq!(&rt;
+            (
+                done.report.status,
+                (done.shelf.opens, done.shelf.taken_back)
+            ),
+            (status, disks),
+            "{line}, {length} blocks, {refuses:?}"
         );
     }
     Ok(())

@@ -5,8 +5,8 @@ use crate::gate::SharedGate;
 use aio_disk::{DeviceFault, Disk};
 use page_check::Page;
 
-/// A disk whose relations have the same number of empty pages each, and whose reads wait at the gate
-/// of its shelf.
+/// A disk whose relations have the same number of empty pages each, and whose reads wait at the
+/// gates of its shelf.
 #[derive(Drop)]
 pub struct BlockingDisk {
     pub(crate) relations: u32,
@@ -38,9 +38,9 @@ impl Disk for BlockingDisk {
         Ok(self.blocks)
     }
 
-    fn read(&mut self, _relation: u32, first: u32, pages: &mut [Page]) -> Result<u32, DeviceFault> {
+    fn read(&mut self, relation: u32, first: u32, pages: &mut [Page]) -> Result<u32, DeviceFault> {
         self.reads = self.reads.saturating_add(1);
-        if first < self.blocks && self.gate.holds(first) && !self.gate.pass() {
+        if first < self.blocks && self.gate.holds(first) && !self.gate.pass(relation) {
             self.faults = self.faults.saturating_add(1);
             return Err(DeviceFault);
         }

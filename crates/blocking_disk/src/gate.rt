@@ -8,7 +8,10 @@ use std::thread::yield_now;
 /// What the number of reads under way is set to once there were enough: no read waits any more.
 const OPEN: u64 = 1 << 40;
 
-/// Which reads wait for each other, and how long.
+/// So many relations have a gate: the first ones. Reads of the others do not wait.
+const GATES: usize = 16;
+
+/// Which reads of a relation wait for each other, and how long.
 #[derive(Clone, Copy)]
 pub struct Gate {
     /// A read waits where its first block is this one or a later one,
@@ -21,22 +24,36 @@ pub struct Gate {
     pub turns: u32,
 }
 
-/// A gate that the disks of a shelf share.
+/// The gates of some relations, which the disks of a shelf share.
 #[derive(Drop)]
 pub(crate) struct SharedGate {
     gate: Gate,
-    under_way: Arc<AtomicU64, Global>,
+    // How many reads of each relation are under way that the gate holds.
+    under_way: Arc<Vec<AtomicU64>, Global>,
+}
+
+// Whether enough reads are under way, or were before.
+fn is_open(under_way: &AtomicU64, reads: u32) -> bool {
+    let open = under_way.load(Ordering::SeqCst) >= u64::from(reads);
+    if open {
+        under_way.store(OPEN, Ordering::SeqCst);
+    }
+    open
 }
 
 impl SharedGate {
     pub(crate) fn new(alloc: Global, gate: Gate) -> Result<SharedGate, AllocError> {
+        let mut under_way = Vec::new(alloc);
+        for _ in 0..GATES {
+            under_way.push(AtomicU64::new(0))?;
+        }
         Ok(SharedGate {
             gate,
-            under_way: Arc::new(alloc, AtomicU64::new(0))?,
+            under_way: Arc::new(alloc, under_way)?,
         })
     }
 
-    /// The same gate once more.
+    /// The same gates once more.
     pub(crate) fn share(&self) -> Result<SharedGate, AllocError> {
         Ok(SharedGate {
             gate: self.gate,
@@ -49,26 +66,20 @@ impl SharedGate {
         self.gate.from <= first && first < self.gate.after
     }
 
-    // Whether enough reads are under way, or were before.
-    fn is_open(&self) -> bool {
-        let open = self.under_way.load(Ordering::SeqCst) >= u64::from(self.gate.reads);
-        if open {
-            self.under_way.store(OPEN, Ordering::SeqCst);
-        }
-        open
-    }
-
-    /// Waits for the other reads; whether they came in time. A read that waited in vain is no longer
-    /// under way.
-    pub(crate) fn pass(&self) -> bool {
-        let _ = self.under_way.fetch_add(1, Ordering::SeqCst);
+    /// Waits for the other reads of the relation; whether they came in time. A read that waited in
+    /// vain is no longer under way.
+    pub(crate) fn pass(&self, relation: u32) -> bool {
+        let Some(under_way) = self.under_way.get(relation as usize) else {
+            return true;
+        };
+        let _ = under_way.fetch_add(1, Ordering::SeqCst);
         for _ in 0..self.gate.turns {
-            if self.is_open() {
+            if is_open(under_way, self.gate.reads) {
                 return true;
             }
             yield_now();
         }
-        let _ = self.under_way.fetch_sub(1, Ordering::SeqCst);
+        let _ = under_way.fetch_sub(1, Ordering::SeqCst);
         false
     }
 }

@@ -10,7 +10,7 @@ use std::alloc::{AllocError, Global};
 /// After so many turns a read of [`BlockingShelf::new`] fails.
 const TURNS: u32 = 1 << 24;
 
-/// A shelf whose disks have what names they are opened for, and one gate together.
+/// A shelf whose disks have what names they are opened for, and one gate for each of them together.
 #[derive(Drop)]
 pub struct BlockingShelf {
     blocks: u32,
@@ -36,7 +36,8 @@ impl BlockingShelf {
         BlockingShelf::with_gate(alloc, blocks, gate)
     }
 
-    /// A shelf of relations with so many blocks each, whose reads wait at this gate.
+    /// A shelf of relations with so many blocks each, whose reads wait at this gate: each of the
+    /// first 16 relations has one of its own.
     pub fn with_gate(alloc: Global, blocks: u32, gate: Gate) -> Result<BlockingShelf, AllocError>
         ensures { IfOk result (λ shelf. ⟦<BlockingShelf as Shelf>⟧.counts shelf
             ≡ record { open_faults = 0; length_faults = 0; faults = 0; reads = 0 }) }
