@@ -1,5 +1,5 @@
 //! Reads that wait for each other at disks of one shelf.
-use crate::outside::words_of;
+use crate::outside::{Shown, words_of};
 use aio_disk::MemSink;
 use aioscan_cmd::{Report, aioscan};
 use blocking_disk::{BlockingShelf, Gate};
@@ -23,22 +23,22 @@ fn lines_of(alloc: Global, relations: u32, blocks: u32) -> Result<String, Fail> 
     Ok(text)
 }
 
-// Lists relations of so many empty pages over the shelf. All of them come, and nothing is said.
-fn expect_all_pages<R: Abort + AllocGlobal + Threads + Wait + Sync>(
+// Runs over the shelf, and compares what is shown.
+fn expect<R: Abort + AllocGlobal + Threads + Wait + Sync>(
     rt: &R,
     name: &str,
     mut shelf: BlockingShelf,
-    (relations, blocks): (u32, u32),
     line: &str,
+    wanted: Shown<'_>,
 ) -> Result<Report, Fail> {
     let alloc = rt.alloc();
     let words = words_of(alloc, line)?;
     let mut out = MemSink::make(alloc, Vec::new(alloc));
     let mut err = MemSink::make(alloc, Vec::new(alloc));
     let report = aioscan(rt, alloc, words.as_slice(), &mut shelf, &mut out, &mut err);
-    let text = lines_of(alloc, relations, blocks)?;
-    assert_eq!(rt; (err.bytes().len(), report.status), (0, 0), "{name}");
-    assert_eq!(rt; out.bytes(), text.as_str().as_bytes(), "{name}");
+    assert_eq!(rt; err.bytes(), wanted.1.as_bytes(), "{name}");
+    assert_eq!(rt; out.bytes(), wanted.0.as_bytes(), "{name}");
+    assert_eq!(rt; report.status, wanted.2, "{name}");
     Ok(report)
 }
 
@@ -47,7 +47,8 @@ fn expect_all_pages<R: Abort + AllocGlobal + Threads + Wait + Sync>(
 fn a_worker_reads_at_the_same_time_as_another_actor(rt: HostRuntime) -> Result<(), Fail> {
     let shelf = BlockingShelf::new(rt.alloc(), 3)?;
     let line = "--workers 2 --backends 1 --combine 1 f";
-    let report = expect_all_pages(&rt, line, shelf, (1, 3), line)?;
+    let text = lines_of(rt.alloc(), 1, 3)?;
+    let report = expect(&rt, line, shelf, line, (text.as_str(), "", 0))?;
     assert!(&rt; report.by_workers >= 1 && report.by_backends >= 1);
     Ok(())
 }
@@ -116,15 +117,48 @@ const ROWS: [Row; 6] = [
 
 #[test]
 fn as_many_reads_at_the_same_time_as_actors(rt: HostRuntime) -> Result<(), Fail> {
+    let alloc = rt.alloc();
     for row in ROWS {
+        let (relations, blocks) = row.size;
         let gate = Gate {
             from: row.from,
-            after: row.size.1,
+            after: blocks,
             reads: row.reads,
             turns: 1 << 24,
         };
-        let shelf = BlockingShelf::with_gate(rt.alloc(), row.size.1, gate)?;
-        expect_all_pages(&rt, row.name, shelf, row.size, row.line)?;
+        let shelf = BlockingShelf::with_gate(alloc, blocks, gate)?;
+        let text = lines_of(alloc, relations, blocks)?;
+        expect(&rt, row.name, shelf, row.line, (text.as_str(), "", 0))?;
+    }
+    Ok(())
+}
+
+// The line, from which block of 64 on reads wait until how many are under way, and what is said. A
+// worker and a backend are two, and two backends read a relation each.
+const TOO_FEW: [(&str, u32, u32, &str); 3] = [
+    ("--method sync --backends 1 a", 0, 2, "unread page 0 0\n"),
+    ("--method sync --backends 2 a b", 0, 2, "unread page 0 0\n"),
+    (
+        "--workers 1 --backends 1 --combine 1 a",
+        3,
+        3,
+        "unread page 0 3\n",
+    ),
+];
+
+#[test]
+fn fewer_actors_than_reads_that_wait(rt: HostRuntime) -> Result<(), Fail> {
+    let alloc = rt.alloc();
+    for (line, from, reads, said) in TOO_FEW {
+        let gate = Gate {
+            from,
+            after: 64,
+            reads,
+            turns: 100,
+        };
+        let shelf = BlockingShelf::with_gate(alloc, 64, gate)?;
+        let text = lines_of(alloc, 1, from)?;
+        expect(&rt, line, shelf, line, (text.as_str(), said, 3))?;
     }
     Ok(())
 }
