@@ -16,7 +16,7 @@ const SIXTY_FOUR: [(u32, u32); 8] = [
     (63, 1),
 ];
 
-const ROWS: [Row<'static>; 5] = [
+const ROWS: [Row<'static>; 7] = [
     Row {
         name: "runs grow with the distance",
         case: Case {
@@ -83,6 +83,37 @@ const ROWS: [Row<'static>; 5] = [
         reads: Some(&[(0, 4), (4, 4), (8, 4), (12, 4)]),
         taken: Some(4),
         heard: Some(3),
+        ..ROW
+    },
+    Row {
+        name: "the method hears of a last read that is not yet known to be the last",
+        case: Case {
+            blocks: 2,
+            settings: Settings {
+                combine: 1,
+                ..SETTINGS
+            },
+            list: Blocks::From(0, 2),
+            ..CASE
+        },
+        pages: 2,
+        heard: Some(1),
+        ..ROW
+    },
+    Row {
+        name: "in a batch it is known by then, and the method does not hear of it",
+        case: Case {
+            blocks: 2,
+            settings: Settings {
+                combine: 1,
+                batch: true,
+                ..SETTINGS
+            },
+            list: Blocks::From(0, 2),
+            ..CASE
+        },
+        pages: 2,
+        heard: Some(0),
         ..ROW
     },
 ];
