@@ -154,7 +154,7 @@ fn fewer_actors_than_reads_that_wait(rt: HostRuntime) -> Result<(), Fail> {
             from,
             after: 64,
             reads,
-            turns: 100,
+            turns: 1 << 14,
         };
         let shelf = BlockingShelf::with_gate(alloc, 64, gate)?;
         let text = lines_of(alloc, 1, from)?;
