@@ -6,3 +6,4 @@ mod races;
 mod refusals;
 mod sleeps;
 mod stale;
+mod together;

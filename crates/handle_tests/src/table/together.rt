@@ -1,0 +1,66 @@
+//! Two actors of one table, compared between their calls.
+ghost use Rattle.std.specs.Prelude.{◌≡◌, ◌<◌, IfSome};
+ghost use Rattle.aio_handle.specs.Shown.{IsOf, IsSame};
+
+use aio_fixtures::{EmptyIo, last_actor, submit_io};
+use aio_handle::{Actor, Claimed, Record, Table, laws};
+use aio_word::WaitRef;
+use page_check::World;
+use std::alloc::{AllocError, Global};
+use std::marker::Brand;
+
+/// Two actors try to claim one I/O, one after the other. That not both have it is proved from what
+/// their calls say, whatever other actors do.
+fn claim_by_both<R: Record, W: World>(
+    table: &Table<R, W>,
+    one: &mut Actor<R, W>,
+    other: &mut Actor<R, W>,
+    reference: WaitRef,
+) -> (Option<Claimed<R, W>>, Option<Claimed<R, W>>)
+    requires table { IsOf table.now one.old × IsOf table.now other.old }
+    requires range { reference.handle < W.handles }
+    ensures same { IsSame one.old one.new × IsSame other.old other.new }
+    ensures one_winner { IfSome result.0 (λ a. IfSome result.1 (λ b. ⊥)) }
+{
+    let first = table.claim(one, reference);
+    let second = table.claim(other, reference);
+    table.stand_together(one, other);
+    laws::one_claim_has_one_winner();
+    (first, second)
+}
+
+/// Who has won the one claim, and whether the I/O has then ended for each of them.
+fn claims_and_checks<W: World>(alloc: Global) -> Result<Option<[bool; 4]>, AllocError>
+    requires { W.handles ≡ 1 }
+{
+    let (table, mut actors) = Table::<EmptyIo, W>::open(alloc, 1, 1, 2, 0)?;
+    let Some(mut other) = last_actor(&table, &mut actors) else {
+        return Ok(None);
+    };
+    let Some(mut one) = last_actor(&table, &mut actors) else {
+        return Ok(None);
+    };
+    let Some(mut backend) = last_actor(&table, &mut actors) else {
+        return Ok(None);
+    };
+    let Some(token) = submit_io(&table, &mut backend, EmptyIo::new()) else {
+        return Ok(None);
+    };
+    let reference = token.reference();
+    let (first, second) = claim_by_both(&table, &mut one, &mut other, reference);
+    Ok(Some([
+        first.is_some(),
+        second.is_some(),
+        table.check(&mut one, reference),
+        table.check(&mut other, reference),
+    ]))
+}
+
+#[test]
+fn one_of_two_claims_wins(rt: HostRuntime) -> Result<(), AllocError> {
+    let Some(found) = claims_and_checks::<Brand>(rt.alloc())? else {
+        panic!(&rt; "a handle is free")
+    };
+    assert!(&rt; found == [true, false, false, false]);
+    Ok(())
+}
