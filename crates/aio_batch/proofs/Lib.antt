@@ -1,2 +1,2 @@
-pub mod Holding
-pub mod Nexts
+pub mod StagedTokensKept
+pub mod NextSubmission

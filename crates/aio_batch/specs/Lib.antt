@@ -1,3 +1,3 @@
 pub mod Heard
-pub mod Held
-pub mod Next
+pub mod StagedTokens
+pub mod NextSubmission

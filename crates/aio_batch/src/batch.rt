@@ -1,9 +1,9 @@
 //! I/Os that are staged, in the order in which they were pushed.
 ghost use Rattle.std.specs.Prelude.{◌≡◌, ◌<◌, [], ◌∷◌, ◌++◌, length, IfOk, IfErr, IfSome, IfNone};
-ghost use Rattle.aio_handle.specs.Shown.{IsOf, IsSame};
-ghost use Rattle.aio_batch.specs.Heard.{Heard};
-ghost use Rattle.aio_batch.specs.Held.{Held};
-ghost use Rattle.aio_batch.specs.Next.{IsNext};
+ghost use Rattle.aio_handle.specs.ContractViews.{IsActorOf, IsSameActor};
+ghost use Rattle.aio_batch.specs.Heard.{AppendsHeard};
+ghost use Rattle.aio_batch.specs.StagedTokens.{AreStagedTokens};
+ghost use Rattle.aio_batch.specs.NextSubmission.{IsNextSubmission};
 
 use crate::method::Method;
 use aio_handle::{Actor, Execute, InFlight, Record, Staged, Table};
@@ -90,22 +90,23 @@ impl<R: Record, W: World> Batch<R, W> {
         method: &mut M,
         runner: &mut E,
     ) -> Option<InFlight<W>>
-        requires table { IsOf table.now actor.old }
+        requires table { IsActorOf table.now actor.old }
         requires told { (E.told runner.old ≡ W.told) × (E.relations runner.old ≡ W.relations) }
-        requires tokens { Held actor.old.known self.old }
-        ensures same { IsSame actor.old actor.new }
+        requires tokens { AreStagedTokens actor.old.known self.old }
+        ensures same { IsSameActor actor.old actor.new }
         ensures told { (E.told runner.new ≡ E.told runner.old)
             × (E.relations runner.new ≡ E.relations runner.old) }
         ensures next { IfSome result
-            (λ t. IsNext R.aim self.old self.new t actor.old.known actor.new.known
+            (λ t. IsNextSubmission R.aim self.old self.new t actor.old.known actor.new.known
             (E.reads runner.old) (E.reads runner.new) (E.faults runner.old) (E.faults runner.new)) }
-        ensures heard { IfSome result (λ t. Heard (M.heard method.old) (M.heard method.new) t) }
+        ensures heard { IfSome result (λ t. AppendsHeard (M.heard method.old)
+            (M.heard method.new) t) }
         ensures stands_on { M.stands_on method.new ≡ M.stands_on method.old }
         ensures none { IfNone result
             ((self.old ≡ []) × (self.new ≡ self.old) × (actor.new ≡ actor.old)
             × (M.heard method.new ≡ M.heard method.old) × (E.reads runner.new ≡ E.reads runner.old)
             × (E.faults runner.new ≡ E.faults runner.old)) }
-        ensures tokens { Held actor.new.known self.new }
+        ensures tokens { AreStagedTokens actor.new.known self.new }
     {
         let staged = self.tokens.pop_front()?;
         let token = table.submit(actor, staged);

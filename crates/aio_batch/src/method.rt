@@ -2,9 +2,9 @@
 ghost use Rattle.std.specs.Prelude.{◌≡◌, ◌<◌, List, [], Option};
 ghost use Rattle.atomic_table.specs.Seated.{TableId};
 ghost use Rattle.aio_word.specs.declared.WaitRef.{WaitRef};
-ghost use Rattle.aio_handle.specs.Shown.{IsOf, IsSame};
-ghost use Rattle.aio_handle.specs.Executing.{TakesUp};
-ghost use Rattle.aio_batch.specs.Heard.{Heard};
+ghost use Rattle.aio_handle.specs.ContractViews.{IsActorOf, IsSameActor};
+ghost use Rattle.aio_handle.specs.Execution.{ExecutesAll};
+ghost use Rattle.aio_batch.specs.Heard.{AppendsHeard};
 
 use aio_handle::{Actor, Execute, Record, Table};
 use aio_word::WaitRef;
@@ -33,14 +33,14 @@ pub trait Method<R: Record, W: World> {
         runner: &mut E,
         reference: WaitRef,
     )
-        requires table { IsOf table.now actor.old }
+        requires table { IsActorOf table.now actor.old }
         requires told { (E.told runner.old ≡ W.told) × (E.relations runner.old ≡ W.relations) }
         requires range { reference.handle < W.handles }
-        ensures same { IsSame actor.old actor.new }
+        ensures same { IsSameActor actor.old actor.new }
         ensures told { (E.told runner.new ≡ E.told runner.old)
             × (E.relations runner.new ≡ E.relations runner.old) }
-        ensures heard { Heard (heard self.old) (heard self.new) reference }
+        ensures heard { AppendsHeard (heard self.old) (heard self.new) reference }
         ensures stands_on { stands_on self.new ≡ stands_on self.old }
-        ensures marks { TakesUp [] actor.old.known actor.new.known (E.reads runner.old)
+        ensures marks { ExecutesAll [] actor.old.known actor.new.known (E.reads runner.old)
             (E.reads runner.new) (E.faults runner.old) (E.faults runner.new) };
 }

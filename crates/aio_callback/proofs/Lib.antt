@@ -1,11 +1,11 @@
-pub mod Below
-pub mod Changes
-pub mod Clean
-pub mod Completing
-pub mod SixWays
-pub mod Grown
-pub mod ReadInto
-pub mod Refilled
-pub mod Aims
-pub mod Zeroing
-mod Rows
+pub mod ChainLowersResult
+pub mod ChainChangesPages
+pub mod CheckedPages
+pub mod AnswerCompletes
+pub mod StreamReadEnds
+pub mod FinishesGrow
+pub mod FirstPagesRead
+pub mod ListRefill
+pub mod AimNamesRead
+pub mod BadPagesZeroed
+mod PageRow

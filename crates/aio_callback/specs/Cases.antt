@@ -11,17 +11,17 @@ use Rattle.aio_callback.specs.declared.chain.CallbackId.{CallbackId}
 use Rattle.aio_callback.specs.declared.chain.CallbackId.TheVariants.{File, Buffer, Count}
 use Rattle.aio_callback.specs.declared.chain.CallbackId.TheVariants.{ZeroBuffer}
 use Rattle.aio_callback.specs.declared.chain.Raw.TheVariants.{Read}
-use Rattle.aio_callback.specs.Chain.{result_of, number_in, class_of}
-use Rattle.aio_callback.specs.Reading.{Reading}
+use Rattle.aio_callback.specs.Chain.{result_of, natural_part, class_of}
+use Rattle.aio_callback.specs.ReadIoView.{ReadIoView}
 
 abbrev pub stream_ids : Bool → List CallbackId
 stream_ids zero = Count ∷ cond zero ZeroBuffer Buffer ∷ File ∷ []
 
 -- how many pages the owner gives
-abbrev pub given_of : AioResult → ℕ
-given_of p = number_in p.result
+abbrev pub given_count : AioResult → ℕ
+given_count p = natural_part p.result
 
-pub data IsOneOf (zero : Bool) (told : Option Told) (r : Reading) : Type 0 where
+pub data IsOneOf (zero : Bool) (told : Option Told) (r : ReadIoView) : Type 0 where
   -- all pages were read, and are good
   Whole : (r.result ≡ result_of 0 Good 0 (pos r.count)) → (r.label.ended ≡ class.Whole)
       → IsOneOf zero told r

@@ -25,9 +25,9 @@ result_of id status error number =
     record { id = id; status = status; error = error; result = number }
 
 -- the greater of 0 and the number
-abbrev pub number_in : ℤ → ℕ
-number_in (pos n) = n
-number_in (negsuc n) = 0
+abbrev pub natural_part : ℤ → ℕ
+natural_part (pos n) = n
+natural_part (negsuc n) = 0
 
 abbrev pub is_negative : ℤ → Bool
 is_negative (pos n) = false
@@ -38,9 +38,9 @@ is_error Error = true
 is_error _ = false
 
 -- the result before any callback
-abbrev pub first_of : Raw → AioResult
-first_of (Read n) = result_of 0 Good 0 (pos n)
-first_of Failed = result_of 0 Good 0 (negsuc 0)
+abbrev pub raw_result : Raw → AioResult
+raw_result (Read n) = result_of 0 Good 0 (pos n)
+raw_result Failed = result_of 0 Good 0 (negsuc 0)
 
 -- how the read of so many pages ended
 abbrev pub class_of : ℕ → Raw → Class
@@ -56,8 +56,8 @@ IsWithin count Failed = Unit {0}
 abbrev pub after_file : ℕ → AioResult → AioResult
 after_file count p =
     if is_negative p.result then result_of 1 Error 1 (pos 0)
-    else (if number_in p.result == 0 then result_of 1 Error 2 (pos 0)
-    else (if nat_lt (number_in p.result) count then result_of 1 Partial 0 p.result
+    else (if natural_part p.result == 0 then result_of 1 Error 2 (pos 0)
+    else (if nat_lt (natural_part p.result) count then result_of 1 Partial 0 p.result
     else p))
 
 abbrev pub is_bad_verdict : Verdict → Bool
@@ -78,7 +78,7 @@ stopped_at p (Some i) = result_of 2 Error i (pos i)
 -- an error stays; else the first bad page among those that were read is one
 unfoldable pub after_buffer : List (List ℕ) → AioResult → AioResult
 after_buffer pages p =
-    if is_error p.status then p else stopped_at p (first_bad (take (number_in p.result) pages))
+    if is_error p.status then p else stopped_at p (first_bad (take (natural_part p.result) pages))
 
 -- a result beside the pages that are then held, and which of them were set to zeros
 pub record Outcome : Type 0 where
@@ -94,8 +94,8 @@ abbrev pub none_zeroed : ℕ → List Bool
 none_zeroed room = replicate room false
 
 -- before any callback
-abbrev pub begun : Raw → List (List ℕ) → Outcome
-begun answer pages = outcome_of (first_of answer) pages (none_zeroed (length pages))
+abbrev pub chain_start : Raw → List (List ℕ) → Outcome
+chain_start answer pages = outcome_of (raw_result answer) pages (none_zeroed (length pages))
 
 -- zeros in place of a bad page
 abbrev pub zeros_if_bad : List ℕ → List ℕ
@@ -132,7 +132,7 @@ zeroed_first n o = record {
 -- an error stays; else the bad pages among those that were read become zeros
 unfoldable pub after_zero : Outcome → Outcome
 after_zero o =
-    if is_error o.result.status then o else zeroed_first (number_in o.result.result) o
+    if is_error o.result.status then o else zeroed_first (natural_part o.result.result) o
 
 -- what one callback makes of the outcome before it
 abbrev pub after_callback : ℕ → CallbackId → Outcome → Outcome
@@ -142,9 +142,9 @@ after_callback count Count o = o
 after_callback count ZeroBuffer o = after_zero o
 
 -- the callbacks run from the last registered to the first
-abbrev pub chain_of : ℕ → List CallbackId → Outcome → Outcome
-chain_of count [] o = o
-chain_of count (id ∷ ids) o = after_callback count id (chain_of count ids o)
+abbrev pub chain_result : ℕ → List CallbackId → Outcome → Outcome
+chain_result count [] o = o
+chain_result count (id ∷ ids) o = after_callback count id (chain_result count ids o)
 
 abbrev pub is_file : CallbackId → Bool
 is_file File = true
@@ -163,5 +163,5 @@ is_checked (File ∷ ids) = is_checked ids
 is_checked (Count ∷ ids) = is_checked ids
 
 -- how many pages are good
-abbrev pub good_of : List CallbackId → AioResult → ℕ
-good_of ids p = if is_checked ids then number_in p.result else 0
+abbrev pub good_count : List CallbackId → AioResult → ℕ
+good_count ids p = if is_checked ids then natural_part p.result else 0

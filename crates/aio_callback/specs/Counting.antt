@@ -5,19 +5,19 @@ use Rattle.aio_callback.specs.declared.chain.CallbackId.{CallbackId}
 use Rattle.aio_callback.specs.declared.chain.CallbackId.TheVariants.{File, Buffer, Count}
 use Rattle.aio_callback.specs.declared.chain.CallbackId.TheVariants.{ZeroBuffer}
 use Rattle.aio_callback.specs.declared.counting.Counts.{Counts}
-use Rattle.aio_callback.specs.Chain.{number_in}
+use Rattle.aio_callback.specs.Chain.{natural_part}
 
 -- one I/O more, and as many blocks as the result says; each number stays at its last value
-abbrev pub counted_once : AioResult → Counts → Counts
-counted_once r c = record {
+abbrev pub counts_after_callback : AioResult → Counts → Counts
+counts_after_callback r c = record {
   ios = min (c.ios + 1) (2 ^ 64 - 1);
-  blocks = min (c.blocks + number_in r.result) (2 ^ 64 - 1);
+  blocks = min (c.blocks + natural_part r.result) (2 ^ 64 - 1);
 }
 
 -- each registered Count counts
-abbrev pub counted_of : List CallbackId → AioResult → Counts → Counts
-counted_of [] r c = c
-counted_of (Count ∷ ids) r c = counted_of ids r (counted_once r c)
-counted_of (File ∷ ids) r c = counted_of ids r c
-counted_of (Buffer ∷ ids) r c = counted_of ids r c
-counted_of (ZeroBuffer ∷ ids) r c = counted_of ids r c
+abbrev pub counts_after : List CallbackId → AioResult → Counts → Counts
+counts_after [] r c = c
+counts_after (Count ∷ ids) r c = counts_after ids r (counts_after_callback r c)
+counts_after (File ∷ ids) r c = counts_after ids r c
+counts_after (Buffer ∷ ids) r c = counts_after ids r c
+counts_after (ZeroBuffer ∷ ids) r c = counts_after ids r c

@@ -1,8 +1,8 @@
 pub mod Good
 pub mod Chain
-pub mod Reading
-pub mod Finished
+pub mod ReadIoView
+pub mod Finishes
 pub mod Counting
 pub mod Cases
-pub mod Inside
+pub mod RecordInvariant
 pub mod Row

@@ -1,8 +1,8 @@
 //! The callbacks of a read, and the chain of them.
 ghost use Rattle.std.specs.Prelude.{◌≡◌, ◌≤◌, length, pos};
-ghost use Rattle.aio_callback.specs.Chain.{number_in, is_bad, first_bad, is_error, first_of};
+ghost use Rattle.aio_callback.specs.Chain.{natural_part, is_bad, first_bad, is_error, raw_result};
 ghost use Rattle.aio_callback.specs.Chain.{class_of, IsWithin, after_file, after_buffer};
-ghost use Rattle.aio_callback.specs.Chain.{outcome_of, after_zero, after_callback, chain_of};
+ghost use Rattle.aio_callback.specs.Chain.{outcome_of, after_zero, after_callback, chain_result};
 ghost use Rattle.aio_callback.specs.Chain.{zeros_if_bad, bad_among, zeros_for_bad, marks_for_bad};
 ghost use Rattle.aio_callback.specs.Chain.{has_file, is_checked};
 
@@ -49,7 +49,7 @@ impl Raw {
 
 // The greater of 0 and the number.
 pub(crate) fn number(value: i32) -> u32
-    ensures { result ≡ number_in value }
+    ensures { result ≡ natural_part value }
 {
     if value < 0 { 0 } else { value as u32 }
 }
@@ -57,7 +57,7 @@ pub(crate) fn number(value: i32) -> u32
 // The result before any callback.
 pub(crate) fn first_result(answer: Raw) -> AioResult
     requires { IsWithin 128 answer }
-    ensures { result ≡ first_of answer }
+    ensures { result ≡ raw_result answer }
 {
     let number = match answer {
         Raw::Read(count) => count as i32,
@@ -124,7 +124,7 @@ fn is_error_status(status: Status) -> bool
 #[tactic(auto, unfolding(crate::specs::Chain::after_buffer))]
 fn run_buffer(pages: &[Page], before: AioResult) -> AioResult
     requires many { length pages.now ≤ 128 }
-    requires within { number_in before.result ≤ length pages.now }
+    requires within { natural_part before.result ≤ length pages.now }
     ensures { result ≡ after_buffer pages.now before }
 {
     if is_error_status(before.status) {
@@ -176,7 +176,7 @@ fn zero_bad_pages(pages: &mut [Page], zeroed: &mut [bool]) -> u32
 fn run_zero(pages: &mut [Page], zeroed: &mut [bool], before: AioResult) -> AioResult
     requires many { length pages.old ≤ 128 }
     requires marks { length zeroed.old ≡ length pages.old }
-    requires within { number_in before.result ≤ length pages.old }
+    requires within { natural_part before.result ≤ length pages.old }
     ensures { outcome_of result pages.new zeroed.new
         ≡ after_zero (outcome_of before pages.old zeroed.old) }
 {
@@ -196,7 +196,7 @@ fn run_zero(pages: &mut [Page], zeroed: &mut [bool], before: AioResult) -> AioRe
     }
 }
 
-#[tactic(auto, using(crate::proofs::Below::file_below, crate::proofs::Below::buffer_below))]
+#[tactic(auto, using(crate::proofs::ChainLowersResult::file_below, crate::proofs::ChainLowersResult::buffer_below))]
 fn run_callback(
     id: CallbackId,
     count: u32,
@@ -206,10 +206,10 @@ fn run_callback(
 ) -> AioResult
     requires many { length pages.old ≤ 128 }
     requires marks { length zeroed.old ≡ length pages.old }
-    requires within { number_in before.result ≤ length pages.old }
+    requires within { natural_part before.result ≤ length pages.old }
     ensures value { outcome_of result pages.new zeroed.new
         ≡ after_callback count id (outcome_of before pages.old zeroed.old) }
-    ensures below { number_in result.result ≤ number_in before.result }
+    ensures below { natural_part result.result ≤ natural_part before.result }
     ensures room { (length pages.new ≡ length pages.old)
         × (length zeroed.new ≡ length zeroed.old) }
 {
@@ -231,10 +231,10 @@ pub(crate) fn run_chain(
 ) -> AioResult
     requires many { length pages.old ≤ 128 }
     requires marks { length zeroed.old ≡ length pages.old }
-    requires within { number_in first.result ≤ length pages.old }
+    requires within { natural_part first.result ≤ length pages.old }
     ensures value { outcome_of result pages.new zeroed.new
-        ≡ chain_of count ids.now (outcome_of first pages.old zeroed.old) }
-    ensures below { number_in result.result ≤ number_in first.result }
+        ≡ chain_result count ids.now (outcome_of first pages.old zeroed.old) }
+    ensures below { natural_part result.result ≤ natural_part first.result }
     ensures room { (length pages.new ≡ length pages.old)
         × (length zeroed.new ≡ length zeroed.old) }
 {

@@ -1,6 +1,6 @@
 //! What the owner of a read counts once it has the result.
 ghost use Rattle.std.specs.Prelude.{◌≡◌};
-ghost use Rattle.aio_callback.specs.Counting.{counted_of};
+ghost use Rattle.aio_callback.specs.Counting.{counts_after};
 
 use crate::chain::{CallbackId, number};
 use aio_result::AioResult;
@@ -15,7 +15,7 @@ pub struct Counts {
 
 // Runs the local callbacks, of which Count is the only one.
 pub(crate) fn run_local(ids: &[CallbackId], value: AioResult, counts: &mut Counts)
-    ensures { counts.new ≡ counted_of ids.now value counts.old }
+    ensures { counts.new ≡ counts_after ids.now value counts.old }
 {
     if let [id, others @ ..] = ids {
         if matches!(id, CallbackId::Count) {

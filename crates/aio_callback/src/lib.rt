@@ -7,7 +7,7 @@
 //!
 //! # What the contracts mean
 //!
-//! Contracts see a record as a `Reading`. A record that *fits* what is told of the relations and
+//! Contracts see a record as a `ReadIoView`. A record that *fits* what is told of the relations and
 //! has ended is *completed*: its result and its pages are what its callbacks, run from the last to
 //! the first, make of some raw answer and of the pages that were read, and its good pages are valid
 //! and those of their blocks, or zeros in place of bad ones. `specs/Chain.antt` says what each

@@ -1,7 +1,7 @@
 //! Where the pages of a completed read go.
 ghost use Rattle.std.specs.Prelude.{List, Option, [], ◌∷◌, IfSome, option_map};
 ghost use Rattle.aio_callback.specs.Good.{IsGood};
-ghost use Rattle.aio_callback.specs.Finished.{Finish, Grew};
+ghost use Rattle.aio_callback.specs.Finishes.{Finish, FinishesGrew};
 
 use aio_word::WaitRef;
 use page_check::{Page, World};
@@ -26,7 +26,7 @@ pub trait Places<W: World> {
         page: Option<&Page>,
     )
         requires page { IfSome page (λ p. IsGood W.told relation block p.now) }
-        ensures finished { Grew (finished self.old) (finished self.new) (record {
+        ensures finished { FinishesGrew (finished self.old) (finished self.new) (record {
           relation = relation;
           block = block;
           reference = reference;

@@ -7,8 +7,8 @@ ghost use Rattle.page_check.specs.Told.{Told};
 ghost use Rattle.page_check.specs.contracts.page.Page.{the_row as page_row};
 ghost use Rattle.aio_word.specs.declared.Class.TheVariants.{Unended};
 ghost use Rattle.aio_callback.specs.contracts.record.ReadIo.{the_row};
-ghost use Rattle.aio_handle.specs.Labels.{bound};
-ghost use Rattle.aio_callback.specs.Chain.{good_of, IsWithin};
+ghost use Rattle.aio_handle.specs.Labels.{bound_label};
+ghost use Rattle.aio_callback.specs.Chain.{good_count, IsWithin};
 ghost use Rattle.aio_callback.specs.Good.{IsGivenAs};
 
 use crate::chain::{CallbackId, Raw, checks, number};
@@ -27,7 +27,7 @@ mod complete;
 pub struct TooMany(pub usize);
 
 /// A read of neighbouring blocks of a relation, with the pages that it fills. Contracts see it as
-/// a `Reading`.
+/// a `ReadIoView`.
 ///
 /// `make` alone takes memory. A record belongs to whoever has it; nothing is shared.
 #[derive(Drop)]
@@ -50,13 +50,13 @@ pub struct ReadIo {
 }
 
 impl Model for ReadIo {
-    ghost use Rattle.aio_callback.specs.Reading.{Reading};
+    ghost use Rattle.aio_callback.specs.ReadIoView.{ReadIoView};
 
-    ghost Value = { Reading };
+    ghost Value = { ReadIoView };
 
     ghost use Rattle.std.specs.Prelude.{take};
     ghost use Rattle.aio_callback.specs.Row.{row_of};
-    ghost use Rattle.aio_callback.specs.Inside.{IsSound};
+    ghost use Rattle.aio_callback.specs.RecordInvariant.{RecordInvariant};
 
     ghost view = { λ r. record {
       label = r.label;
@@ -71,26 +71,26 @@ impl Model for ReadIo {
       zeroed = r.zeroed.items;
     } };
 
-    ghost invariant = { IsSound };
+    ghost invariant = { RecordInvariant };
 }
 
 impl Record for ReadIo {
-    ghost use Rattle.aio_handle.specs.Labels.{bound};
-    ghost use Rattle.aio_callback.specs.Reading.{aim_in, Fits, rebound};
+    ghost use Rattle.aio_handle.specs.Labels.{bound_label};
+    ghost use Rattle.aio_callback.specs.ReadIoView.{record_aim, ReadFits, with_handle};
 
     ghost label = { λ r. r.label };
 
-    ghost aim = { aim_in };
+    ghost aim = { record_aim };
 
-    ghost fits = { Fits };
+    ghost fits = { ReadFits };
 
     /// The record is for another I/O: no answer stands, and the rest of it stays.
     fn bind(&mut self, handle: u32, generation: u64)
-        ensures value { self.new ≡ rebound handle generation self.old }
-        ensures label { self.new.label ≡ bound handle generation }
-        ensures aim { aim_in self.new ≡ aim_in self.old }
-        ensures fits { (told : Option Told) (relations : ℕ) → Fits told relations self.old
-            → Fits told relations self.new }
+        ensures value { self.new ≡ with_handle handle generation self.old }
+        ensures label { self.new.label ≡ bound_label handle generation }
+        ensures aim { record_aim self.new ≡ record_aim self.old }
+        ensures fits { (told : Option Told) (relations : ℕ) → ReadFits told relations self.old
+            → ReadFits told relations self.new }
     {
         self.label = unended(handle, generation);
         self.raw = None;
@@ -115,7 +115,7 @@ impl Record for ReadIo {
 
 // The label of an I/O that has not ended.
 fn unended(handle: u32, generation: u64) -> Label
-    ensures { result ≡ bound handle generation }
+    ensures { result ≡ bound_label handle generation }
 {
     Label {
         handle,
@@ -141,15 +141,15 @@ fn fill_room(pages: &mut Vec<Page>, room: u32)
 }
 
 impl ReadIo {
-    ghost use Rattle.aio_callback.specs.Reading.{page_in, zeroed_in, Fits};
-    ghost use Rattle.aio_callback.specs.Reading.{made, aimed_at, with_pages};
+    ghost use Rattle.aio_callback.specs.ReadIoView.{record_page, record_zeroed, ReadFits};
+    ghost use Rattle.aio_callback.specs.ReadIoView.{new_record, with_aim, with_pages};
 
     /// A record with `room` pages of zeros, 1 to 128, which it keeps for good. It is not aimed yet.
     ///
     /// It takes the memory of the pages; an error leaves nothing taken.
     pub fn make(alloc: Global, room: u32) -> Result<ReadIo, AllocError>
         requires { (1 ≤ room) × (room ≤ 128) }
-        ensures { IfOk result (λ r. r ≡ made room) }
+        ensures { IfOk result (λ r. r ≡ new_record room) }
     {
         let pages = Vec::with_capacity(alloc, room as usize)?;
         let zeroed = vec![in alloc; false; room as usize]?;
@@ -190,7 +190,7 @@ impl ReadIo {
         requires room { count ≤ length self.old.pages }
         requires top { first + count ≤ 2 ^ 32 }
         ensures ok { IfOk result (λ _. (length ids.now ≤ 4)
-            × (self.new ≡ aimed_at relation first count ids.now self.old)) }
+            × (self.new ≡ with_aim relation first count ids.now self.old)) }
         ensures err { IfErr result (λ e. (e.0 ≡ length ids.now) × (4 < length ids.now)
             × (self.new ≡ self.old)) }
     {
@@ -265,7 +265,7 @@ impl ReadIo {
 
     /// How many pages are good, once the record has ended: 0 to `count`.
     pub fn good(&self) -> u32
-        ensures value { result ≡ good_of self.now.ids self.now.result }
+        ensures value { result ≡ good_count self.now.ids self.now.result }
         ensures few { self.now.label.ended ≢ Unended → result ≤ self.now.count }
     {
         if checks(&self.ids[..self.id_count]) {
@@ -279,11 +279,11 @@ impl ReadIo {
     /// [`ReadIo::zeroed`] says so.
     pub fn page(&self, index: u32) -> &Page
         requires ended { self.now.label.ended ≢ Unended }
-        requires good { index < good_of self.now.ids self.now.result }
-        ensures value { result.now ≡ page_in self.now index }
-        ensures given { (told : Option Told) (relations : ℕ) → Fits told relations self.now
+        requires good { index < good_count self.now.ids self.now.result }
+        ensures value { result.now ≡ record_page self.now index }
+        ensures given { (told : Option Told) (relations : ℕ) → ReadFits told relations self.now
             → IsGivenAs told self.now.relation (self.now.first + index) result.now
-            (zeroed_in self.now index) }
+            (record_zeroed self.now index) }
     {
         &self.pages[index as usize]
     }
@@ -292,8 +292,8 @@ impl ReadIo {
     /// [`CallbackId::ZeroBuffer`].
     pub fn zeroed(&self, index: u32) -> bool
         requires ended { self.now.label.ended ≢ Unended }
-        requires good { index < good_of self.now.ids self.now.result }
-        ensures { result ≡ zeroed_in self.now index }
+        requires good { index < good_count self.now.ids self.now.result }
+        ensures { result ≡ record_zeroed self.now index }
     {
         self.zeroed[index as usize]
     }

@@ -1,6 +1,6 @@
-mod Stepping
-mod Keeping
-mod Permitting
-mod Handing
-mod Opening
-mod Running
+mod StepIsMachineStep
+mod StepKeepsInvariant
+mod PermitsByClaimer
+mod HandedOutByOwnWords
+mod OpenedInvariant
+mod MachineAfterOneMore

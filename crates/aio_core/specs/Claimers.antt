@@ -8,9 +8,9 @@ use Rattle.aio_word.specs.declared.Mark.{Mark}
 use Rattle.aio_word.specs.declared.Step.{Step}
 use Rattle.aio_word.specs.declared.Step.TheVariants as step
 use Rattle.aio_word.specs.declared.Word.{Word}
-use Rattle.aio_word.specs.Words.{place_of}
-use Rattle.aio_word.specs.Events.{Machine, handles, has_claimed}
-use Rattle.aio_word.specs.Stands.{MachineStands}
+use Rattle.aio_word.specs.Words.{word_place}
+use Rattle.aio_word.specs.Events.{Machine, handle_count, has_claimed}
+use Rattle.aio_word.specs.Stands.{IsLawfulMachine}
 
 -- 1 to 16 backends with 1 to 64 handles each, at most 32 runners, and a first generation that the
 -- word has room for
@@ -23,24 +23,24 @@ pub record IsInBounds (c : Config) : Type 0 where
   pub start : c.start < 2 ^ 58
 
 -- the actor's list has the Claimed mark of the incarnation
-pub record HasClaimed (m : Machine) (actor handle generation : ℕ) : Type 0 where
+pub record IsClaimer (m : Machine) (actor handle generation : ℕ) : Type 0 where
   pub marks : List Mark
   pub list : slice_get m.lists actor ≡ Some marks
   pub claimed : has_claimed handle generation marks ≡ true
 
 -- the lists stand for the words, and where the word's incarnation is claimed, the handle's last
 -- claimer has claimed it
-pub record IsKept (c : Config) (m : Machine) (claimers : List ℕ) : Type 0 where
+pub record MachineInvariant (c : Config) (m : Machine) (claimers : List ℕ) : Type 0 where
   pub bounds : IsInBounds c
-  pub stands : MachineStands c m
-  pub wide : length claimers ≡ handles c
-  pub claimer : (h : ℕ) (w : Word) → slice_get m.words h ≡ Some w → 3 < place_of w
-      → HasClaimed m (slice_index_or claimers h 0) h w.generation
+  pub stands : IsLawfulMachine c m
+  pub wide : length claimers ≡ handle_count c
+  pub claimer : (h : ℕ) (w : Word) → slice_get m.words h ≡ Some w → 3 < word_place w
+      → IsClaimer m (slice_index_or claimers h 0) h w.generation
 
 -- the last claimers after the event
-abbrev pub claimers_by : Step → List ℕ → ℕ → ℕ → List ℕ
-claimers_by step.Claim claimers handle actor = slice_set claimers handle actor
-claimers_by _ claimers handle actor = claimers
+abbrev pub claimers_after_step : Step → List ℕ → ℕ → ℕ → List ℕ
+claimers_after_step step.Claim claimers handle actor = slice_set claimers handle actor
+claimers_after_step _ claimers handle actor = claimers
 
-abbrev pub claimers_after : List ℕ → Event → List ℕ
-claimers_after claimers e = claimers_by e.step claimers e.handle e.actor
+abbrev pub claimers_after_event : List ℕ → Event → List ℕ
+claimers_after_event claimers e = claimers_after_step e.step claimers e.handle e.actor

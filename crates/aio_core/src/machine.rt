@@ -2,13 +2,13 @@
 
 ghost use Rattle.std.specs.Prelude.{◌≡◌, ◌<◌, ◌≤◌, ◌^◌, IfOk, IfErr, IfSome, OnOk, Some};
 ghost use Rattle.std.specs.Prelude.{length, slice_get};
-ghost use Rattle.aio_word.specs.Events.{stepped, has_out_from};
-ghost use Rattle.aio_word.specs.Stands.{MachineStands};
-ghost use Rattle.aio_word.specs.Words.{IsLawful, packed};
-ghost use Rattle.aio_core.specs.Allowed.{permits, next_word_of, HasStep};
-ghost use Rattle.aio_core.specs.Causes.{IsCause, IsRunCause};
-ghost use Rattle.aio_core.specs.Claimers.{claimers_after};
-ghost use Rattle.aio_core.specs.Runs.{Running, opened, after_all};
+ghost use Rattle.aio_word.specs.Events.{machine_after, has_handed_out_from};
+ghost use Rattle.aio_word.specs.Stands.{IsLawfulMachine};
+ghost use Rattle.aio_word.specs.Words.{IsLawful, packed_word};
+ghost use Rattle.aio_core.specs.Allowed.{permits, allowed_next_word, HasStep};
+ghost use Rattle.aio_core.specs.Causes.{IsStepCause, IsRunCause};
+ghost use Rattle.aio_core.specs.Claimers.{claimers_after_event};
+ghost use Rattle.aio_core.specs.AfterEvents.{MachineView, opened_machine, machine_after_all};
 
 use crate::marks::{Marks, empty_lists, note};
 use crate::rows::{after, left_by};
@@ -31,17 +31,20 @@ pub struct Machine {
 }
 
 impl Model for Machine {
-    ghost use Rattle.aio_core.specs.Claimers.{IsKept};
-    ghost use Rattle.aio_core.specs.Runs.{Running};
+    ghost use Rattle.aio_core.specs.Claimers.{MachineInvariant};
+    ghost use Rattle.aio_core.specs.AfterEvents.{MachineView};
 
-    ghost Value = { Running };
+    ghost Value = { MachineView };
 
     ghost view = { λ m. record {
       config = m.config;
       machine = record { words = m.words.items; lists = m.lists.items };
     } };
 
-    ghost invariant = { λ m. IsKept m.config record { words = m.words.items; lists = m.lists.items }
+    ghost invariant = { λ m. MachineInvariant m.config record {
+      words = m.words.items;
+      lists = m.lists.items;
+    }
         m.last_claimers.items };
 }
 
@@ -59,8 +62,8 @@ impl Machine {
         requires per_backend { (0 < per_backend) × (per_backend ≤ 64) }
         requires runners { runners ≤ 32 }
         requires start { start < 2 ^ 58 }
-        ensures opened { IfOk result (λ m. m ≡ opened backends per_backend runners start) }
-        ensures stands { IfOk result (λ m. MachineStands m.config m.machine) }
+        ensures opened { IfOk result (λ m. m ≡ opened_machine backends per_backend runners start) }
+        ensures stands { IfOk result (λ m. IsLawfulMachine m.config m.machine) }
     {
         let config = Config {
             backends,
@@ -89,7 +92,7 @@ impl Machine {
     /// The packed word of the handle.
     pub fn word(&self, handle: u32) -> u64
         requires { handle < length self.now.machine.words }
-        ensures { IfSome (slice_get self.now.machine.words handle) (λ w. result ≡ packed w) }
+        ensures { IfSome (slice_get self.now.machine.words handle) (λ w. result ≡ packed_word w) }
     {
         pack(&self.words[handle as usize])
     }
@@ -98,10 +101,10 @@ impl Machine {
     pub fn step(&mut self, event: Event) -> Result<(), StepRefusal>
         ensures config { self.new.config ≡ self.old.config }
         ensures made { OnOk result
-            (stepped self.old.config self.old.machine event ≡ Some self.new.machine) }
-        ensures stands { MachineStands self.new.config self.new.machine }
+            (machine_after self.old.config self.old.machine event ≡ Some self.new.machine) }
+        ensures stands { IsLawfulMachine self.new.config self.new.machine }
         ensures refused { IfErr result (λ e. self.new ≡ self.old) }
-        ensures cause { IfErr result (λ e. IsCause self.old.config self.old.machine event e) }
+        ensures cause { IfErr result (λ e. IsStepCause self.old.config self.old.machine event e) }
     {
         let handle = event.handle as usize;
         if handle >= self.words.len() {
@@ -135,8 +138,9 @@ impl Machine {
     pub fn run(&mut self, events: &[Event]) -> Result<(), RunRefusal>
         ensures config { self.new.config ≡ self.old.config }
         ensures made { OnOk result
-            (after_all self.old.config self.old.machine events.now ≡ Some self.new.machine) }
-        ensures stands { MachineStands self.new.config self.new.machine }
+            (machine_after_all self.old.config self.old.machine events.now
+            ≡ Some self.new.machine) }
+        ensures stands { IsLawfulMachine self.new.config self.new.machine }
         ensures cause { IfErr result
             (IsRunCause self.old.config self.old.machine self.new.machine events.now) }
     {
@@ -151,7 +155,7 @@ impl Machine {
 
     /// The lists of a machine stand for its words.
     fn keeps(&self)
-        ensures { MachineStands self.now.config self.now.machine }
+        ensures { IsLawfulMachine self.now.config self.now.machine }
     {
         let config = self.config;
         let _ = config;
@@ -161,7 +165,7 @@ impl Machine {
     fn next_word(&self, word: &Word, event: Event) -> Option<Word>
         requires here { slice_get self.now.machine.words event.handle ≡ Some word.now }
         requires lawful { IsLawful word.now }
-        ensures { result ≡ next_word_of self.now.config self.now.machine event word.now }
+        ensures { result ≡ allowed_next_word self.now.config self.now.machine event word.now }
     {
         if word.generation != event.generation {
             return None;
@@ -196,7 +200,7 @@ impl Machine {
     /// Whether the backend has a handle that is handed out.
     fn has_handed_out(&self, backend: u32) -> bool
         requires { backend < self.now.config.backends }
-        ensures { result ≡ has_out_from self.now.config backend 0 self.now.machine.words }
+        ensures { result ≡ has_handed_out_from self.now.config backend 0 self.now.machine.words }
     {
         let first = (backend * self.config.per_backend) as usize;
         let end = first + self.config.per_backend as usize;
@@ -212,7 +216,7 @@ impl Machine {
 /// Keeps the actor of a claim as the last claimer of its handle.
 fn note_claimer(claimers: &mut [u32], event: &Event)
     requires { event.now.handle < length claimers.old }
-    ensures { claimers.new ≡ claimers_after claimers.old event.now }
+    ensures { claimers.new ≡ claimers_after_event claimers.old event.now }
 {
     if matches!(event.step, Step::Claim) {
         claimers[event.handle as usize] = event.actor;

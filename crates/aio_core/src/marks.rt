@@ -3,7 +3,7 @@
 ghost use Rattle.std.specs.Prelude.{◌≡◌, ◌<◌, List, [], ◌∷◌, ◌++◌, IfOk, OnOk, OnErr};
 ghost use Rattle.std.specs.Prelude.{length, replicate, slice_get};
 ghost use Rattle.aio_word.specs.declared.Mark.{Mark};
-ghost use Rattle.aio_core.specs.Allowed.{noted_in};
+ghost use Rattle.aio_core.specs.Allowed.{lists_with_mark};
 
 use aio_word::{Kind, Mark};
 use std::alloc::{AllocError, Global};
@@ -72,7 +72,7 @@ pub(crate) fn note(
     requires { actor < length lists.old }
     ensures ok { OnOk result
         (lists.new
-        ≡ noted_in lists.old actor handle generation kind (slice_get lists.old actor)) }
+        ≡ lists_with_mark lists.old actor handle generation kind (slice_get lists.old actor)) }
     ensures err { OnErr result (lists.new ≡ lists.old) }
 {
     match kind {

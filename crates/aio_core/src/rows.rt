@@ -1,7 +1,7 @@
 //! What each step does to a word, and which mark it leaves.
 
 ghost use Rattle.std.specs.Prelude.{◌≡◌, ◌<◌, ◌^◌};
-ghost use Rattle.aio_word.specs.Events.{after as word_after, leaves, word_in as plain_word};
+ghost use Rattle.aio_word.specs.Events.{word_after, kind_of_step, make_word};
 
 use aio_word::{Class, Kind, State, Step, Word};
 
@@ -54,7 +54,7 @@ pub(crate) fn after(word: &Word, step: Step) -> Option<Word>
 }
 
 fn word_in(state: State, claimed: bool, class: Class, generation: u64) -> Word
-    ensures { result ≡ plain_word state claimed class generation }
+    ensures { result ≡ make_word state claimed class generation }
 {
     Word {
         state,
@@ -66,7 +66,7 @@ fn word_in(state: State, claimed: bool, class: Class, generation: u64) -> Word
 
 /// The kind of the mark that the step leaves, where the word before has that class.
 pub(crate) fn left_by(class: Class, step: Step) -> Option<Kind>
-    ensures { result ≡ leaves class step }
+    ensures { result ≡ kind_of_step class step }
 {
     match step {
         Step::HandOut | Step::Release => None,

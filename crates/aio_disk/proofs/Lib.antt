@@ -1,7 +1,7 @@
 pub mod Logs
-pub mod Shorts
-pub mod Sources
-pub mod Names
-pub mod Runs
+pub mod ShortAnswers
+pub mod SourceCalls
+pub mod FileNames
+pub mod GivenPages
 pub mod SegmentBySegment
-pub mod SourceSegments
+pub mod OneSegmentCalled

@@ -7,18 +7,18 @@ abbrev pub raised_by : ℕ → ℕ → ℕ
 raised_by more before = max before (min (before + more) (2 ^ 64 - 1))
 
 -- the count has risen, or stands at its last value
-abbrev pub Rose : ℕ → ℕ → Type 0
-Rose before now = raised_by 1 before ≤ now
+abbrev pub CountRose : ℕ → ℕ → Type 0
+CountRose before now = raised_by 1 before ≤ now
 
 -- the count did not fall, and an error comes only where it rose
 pub record HasCause {T E : Type 0} (before now : ℕ) (result : Result T E) : Type 0 where
   pub later : before ≤ now
-  pub failed : OnErr result (Rose before now)
+  pub failed : OnErr result (CountRose before now)
 
 -- the count rose where another is above 0, and stayed where that is 0
 pub record RisesBy (other before now : ℕ) : Type 0 where
   pub later : before ≤ now
-  pub risen : 0 < other → Rose before now
+  pub risen : 0 < other → CountRose before now
   pub stays : other ≡ 0 → now ≡ before
 
 -- what a shelf counts: opens that failed; of the disks taken back, those that had failed at a

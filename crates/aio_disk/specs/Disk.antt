@@ -2,11 +2,12 @@
 use Rattle.std.specs.Prelude.{◌≡◌, ℕ, ◌-◌, ◌≤◌, ◌<◌, List, map, take, length, Option, Result}
 use Rattle.std.specs.Prelude.{IfSome, IfOk}
 use Rattle.std.specs.List.{range_with_len}
-use Rattle.page_check.specs.Told.{Told, relation_of, block_count, blocks_of, page_at}
+use Rattle.page_check.specs.Told.{Told, relation_bytes, block_count, relation_block_count}
+use Rattle.page_check.specs.Told.{block_contents}
 
 -- the first n of the pages are those of the blocks from `first` on
 abbrev pub HoldsBlocks : List ℕ → ℕ → ℕ → List (List ℕ) → Type 0
-HoldsBlocks bytes first n pages = take n pages ≡ map (page_at bytes) (range_with_len first n)
+HoldsBlocks bytes first n pages = take n pages ≡ map (block_contents bytes) (range_with_len first n)
 
 -- n blocks of these bytes were read, and n is 0 exactly where they end at or before `first`
 pub record ReadsBlocks (bytes : List ℕ) (first n : ℕ) (pages : List (List ℕ)) : Type 0 where
@@ -16,11 +17,12 @@ pub record ReadsBlocks (bytes : List ℕ) (first n : ℕ) (pages : List (List �
 
 -- n pages of a relation were read
 abbrev pub ReadsPages : Told → ℕ → ℕ → ℕ → List (List ℕ) → Type 0
-ReadsPages told relation first n pages = ReadsBlocks (relation_of told relation) first n pages
+ReadsPages told relation first n pages = ReadsBlocks (relation_bytes told relation) first n pages
 
 -- a length that was answered is the told one
 abbrev pub AnswersLength : {E : Type 0} → Option Told → ℕ → Result ℕ E → Type 0
-AnswersLength told relation result = IfOk result (λ n. IfSome told (λ t. n ≡ blocks_of t relation))
+AnswersLength told relation result = IfOk result
+    (λ n. IfSome told (λ t. n ≡ relation_block_count t relation))
 
 -- no more pages were read than asked for, and those that were are the told ones
 abbrev pub AnswersPages : {E : Type 0} → Option Told → ℕ → ℕ → Result ℕ E → List (List ℕ) → Type 0

@@ -9,8 +9,8 @@ pub record Log : Type 0 where
 
 -- a read of a disk: its relation and first block, how many pages were asked for, and how many were
 -- given
-abbrev pub entry_of : ℕ → ℕ → ℕ → ℕ → Option ℕ → ReadEntry
-entry_of disk relation first asked answered = record {
+abbrev pub read_entry : ℕ → ℕ → ℕ → ℕ → Option ℕ → ReadEntry
+read_entry disk relation first asked answered = record {
   disk = disk;
   relation = relation;
   first = first;

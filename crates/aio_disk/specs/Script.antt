@@ -42,6 +42,6 @@ abbrev pub has_positive_shorts : Script → Bool
 has_positive_shorts script = list_all (λ shorts. are_positive shorts.1.items) script.shorts.items
 
 -- the number, or the other where that is given and less
-abbrev pub at_most : Option ℕ → ℕ → ℕ
-at_most None n = n
-at_most (Some most) n = min most n
+abbrev pub capped_length : Option ℕ → ℕ → ℕ
+capped_length None n = n
+capped_length (Some most) n = min most n

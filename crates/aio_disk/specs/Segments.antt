@@ -3,7 +3,7 @@ use Rattle.std.specs.Prelude.{◌≡◌, ◌≢◌, ℕ, ◌-◌, ◌/◌, List,
 use Rattle.std.specs.Prelude.{Option, None, Some, IfSome, Result, MatchResult, slice_index_or}
 use Rattle.std.specs.Option.{option_map}
 use Rattle.page_check.specs.Told.{block_count}
-use Rattle.aio_disk.specs.Source.{Source, later, NoneFailed, OneFailed}
+use Rattle.aio_disk.specs.Source.{Source, with_failures, NoneFailed, OneFailed}
 
 -- each but the last one, where it tells its bytes, has exactly so many whole blocks
 abbrev pub AreWholeButLast : ℕ → List (Option Source) → Type 0
@@ -20,24 +20,24 @@ IfAllTell segments holds =
     → holds bytes
 
 -- what one of them tells
-abbrev pub told_at : List (Option Source) → ℕ → Option Source
-told_at segments index = slice_index_or segments index None
+abbrev pub segment_told : List (Option Source) → ℕ → Option Source
+segment_told segments index = slice_index_or segments index None
 
 -- the segment that a block is in: the last one has all blocks from its first one on
-abbrev pub segment_of : ℕ → List (Option Source) → ℕ → ℕ
-segment_of size segments block = min (block / size) (length segments - 1)
+abbrev pub segment_index : ℕ → List (Option Source) → ℕ → ℕ
+segment_index size segments block = min (block / size) (length segments - 1)
 
 -- no other one was called
 abbrev pub OthersStay : List (Option Source) → List (Option Source) → ℕ → Type 0
 OthersStay before now index =
-    (other : ℕ) → other ≢ index → told_at now other ≡ told_at before other
+    (other : ℕ) → other ≢ index → segment_told now other ≡ segment_told before other
 
 -- one of them, if any, was asked for its size, and failed where the answer is a fault
-abbrev pub AsksSize : {E : Type 0} → Option Source → Option Source → Result ℕ E → Type 0
-AsksSize before now result =
-    MatchResult result (λ _. now ≡ before) (λ _. now ≡ option_map (later 1 0) before)
+abbrev pub AsksOneSegment : {E : Type 0} → Option Source → Option Source → Result ℕ E → Type 0
+AsksOneSegment before now result =
+    MatchResult result (λ _. now ≡ before) (λ _. now ≡ option_map (with_failures 1 0) before)
 
 -- one of them, if any, was read, and failed where the answer is a fault
-abbrev pub Reads : {E : Type 0} → Option Source → Option Source → Result ℕ E → Type 0
-Reads before now result =
+abbrev pub ReadsOneSegment : {E : Type 0} → Option Source → Option Source → Result ℕ E → Type 0
+ReadsOneSegment before now result =
     MatchResult result (λ _. NoneFailed before now) (λ _. OneFailed before now)

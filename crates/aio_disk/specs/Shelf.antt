@@ -22,12 +22,12 @@ abbrev pub files_in : ℕ → NamedFiles → Files
 files_in segment named = record { named = named; segment = segment }
 
 -- the name and the bytes of a file as they are handed in
-abbrev pub file_of : String Global × Vec ℕ Global → List ℕ × List ℕ
-file_of file = (string_bytes file.0, file.1.items)
+abbrev pub named_file : String Global × Vec ℕ Global → List ℕ × List ℕ
+named_file file = (string_bytes file.0, file.1.items)
 
 -- the bytes under a name
-abbrev pub contents_of : NamedFiles → List ℕ → Option (List ℕ)
-contents_of named name =
+abbrev pub file_contents : NamedFiles → List ℕ → Option (List ℕ)
+file_contents named name =
     option_map (λ file. file.1) (find (λ file. bytes_eq file.0 name) named)
 
 -- the name of a segment of a relation: behind the first one, the relation's name with a dot and
@@ -43,29 +43,29 @@ up_to_gap (None ∷ later) = []
 up_to_gap (Some first ∷ later) = first ∷ up_to_gap later
 
 -- the bytes under the segments' names of a relation, 17 at most, as long as they are there
-abbrev pub segments_of : NamedFiles → List ℕ → List (List ℕ)
-segments_of named name =
-    up_to_gap (map (λ number. contents_of named (segment_name name number)) (range_with_len 0 17))
+abbrev pub file_segments : NamedFiles → List ℕ → List (List ℕ)
+file_segments named name =
+    up_to_gap (map (λ number. file_contents named (segment_name name number)) (range_with_len 0 17))
 
 -- what a disk over these names tells
-abbrev pub told_by : Files → List (List ℕ) → Told
-told_by files names = told_in files.segment (map (segments_of files.named) names)
+abbrev pub files_told : Files → List (List ℕ) → Told
+files_told files names = told_in files.segment (map (file_segments files.named) names)
 
 -- the same, where the files are told
-abbrev pub told_of : Option Files → List (List ℕ) → Option Told
-told_of files names = option_map (λ f. told_by f names) files
+abbrev pub shelf_told : Option Files → List (List ℕ) → Option Told
+shelf_told files names = option_map (λ f. files_told f names) files
 
 -- each of the names is there
 abbrev pub AllThere : NamedFiles → List (List ℕ) → Type 0
-AllThere named names = All (λ name. IsSome (contents_of named name)) names
+AllThere named names = All (λ name. IsSome (file_contents named name)) names
 
 -- the same, as a test
 abbrev pub are_there : NamedFiles → List (List ℕ) → Bool
-are_there named names = list_all (λ name. is_some (contents_of named name)) names
+are_there named names = list_all (λ name. is_some (file_contents named name)) names
 
 -- one of the names is not there
 abbrev pub OneMissing : NamedFiles → List (List ℕ) → Type 0
-OneMissing named names = Any (λ name. IsNone (contents_of named name)) names
+OneMissing named names = Any (λ name. IsNone (file_contents named name)) names
 
 -- each of the names is there, where that is told
 abbrev pub AllThereIfTold : Option Files → List (List ℕ) → Type 0

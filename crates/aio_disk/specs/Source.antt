@@ -13,24 +13,24 @@ pub record Source : Type 0 where
   pub interrupts : ℕ
 
 -- with so many faults and interrupted calls more
-abbrev pub later : ℕ → ℕ → Source → Source
-later faults interrupts source = record source {
+abbrev pub with_failures : ℕ → ℕ → Source → Source
+with_failures faults interrupts source = record source {
   faults = source.faults + faults;
   interrupts = source.interrupts + interrupts;
 }
 
 -- so many calls have failed, and at least so many were interrupted
-abbrev pub Passed : Option Source → Option Source → ℕ → ℕ → Type 0
-Passed before now faults interrupts =
-    (more : ℕ) × (now ≡ option_map (later faults (interrupts + more)) before)
+abbrev pub FailuresCounted : Option Source → Option Source → ℕ → ℕ → Type 0
+FailuresCounted before now faults interrupts =
+    (more : ℕ) × (now ≡ option_map (with_failures faults (interrupts + more)) before)
 
 -- no call failed
 abbrev pub NoneFailed : Option Source → Option Source → Type 0
-NoneFailed before now = Passed before now 0 0
+NoneFailed before now = FailuresCounted before now 0 0
 
 -- one call failed, or 2^64 - 1 calls were interrupted
 abbrev pub OneFailed : Option Source → Option Source → Type 0
-OneFailed before now = Passed before now 1 0 ⊎ Passed before now 0 (2 ^ 64 - 1)
+OneFailed before now = FailuresCounted before now 1 0 ⊎ FailuresCounted before now 0 (2 ^ 64 - 1)
 
 -- the first n bytes that were given are those from an offset on
 abbrev pub HoldsBytes : List ℕ → ℕ → ℕ → List ℕ → Type 0
@@ -50,14 +50,14 @@ pub record GivesBlock (bytes : List ℕ) (offset n : ℕ) (given : List ℕ) : T
 abbrev pub AnswersSize : {E : Type 0} → Option Source → Option Source → Result ℕ E → Type 0
 AnswersSize before now (Ok n) =
     (now ≡ before) × IfSome before (λ source. n ≡ length source.bytes)
-AnswersSize before now (Err fault) = now ≡ option_map (later 1 0) before
+AnswersSize before now (Err fault) = now ≡ option_map (with_failures 1 0) before
 
 -- some bytes, or a fault, or nothing since the call was interrupted
 abbrev pub AnswersBytes : Option Source → Option Source → ℕ → List ℕ → Result ℕ ReadFault → Type 0
 AnswersBytes before now offset given (Ok n) =
     (now ≡ before) × IfSome before (λ source. GivesBytes source.bytes offset n given)
-AnswersBytes before now offset given (Err Device) = now ≡ option_map (later 1 0) before
-AnswersBytes before now offset given (Err Interrupted) = now ≡ option_map (later 0 1) before
+AnswersBytes before now offset given (Err Device) = now ≡ option_map (with_failures 1 0) before
+AnswersBytes before now offset given (Err Interrupted) = now ≡ option_map (with_failures 0 1) before
 
 -- blocks: their pages, or a fault
 abbrev pub GivesBlocks : {E : Type 0} → Option Source → Option Source → ℕ → List (List ℕ)

@@ -1,9 +1,9 @@
 -- Shelves and disks in memory that do not fail.
 use Rattle.std.specs.Prelude.{ℕ, ◌+◌, ◌-◌, ◌^◌, List, min, Option}
 use Rattle.page_check.specs.Told.{Told}
-use Rattle.aio_disk.specs.Shelf.{Files, told_by}
+use Rattle.aio_disk.specs.Shelf.{Files, files_told}
 use Rattle.aio_disk.specs.Counts.{raised_by}
-use Rattle.aio_disk.specs.ReadLog.{Log, entry_of, empty_log, with_entry, with_entries}
+use Rattle.aio_disk.specs.ReadLog.{Log, read_entry, empty_log, with_entry, with_entries}
 
 -- a disk: its number in the order of opening, what it tells, how often it was read, and those
 -- reads
@@ -36,7 +36,7 @@ fresh_shelf files room = record {
 abbrev pub next_disk : SteadyShelfState → List (List ℕ) → SteadyDiskState
 next_disk shelf names = record {
   number = shelf.disks;
-  told = told_by shelf.files names;
+  told = files_told shelf.files names;
   reads = 0;
   log = empty_log shelf.log.room;
 }
@@ -50,7 +50,7 @@ with_disk shelf = record shelf { disks = min (shelf.disks + 1) (2 ^ 32 - 1) }
 abbrev pub with_read : SteadyDiskState → ℕ → ℕ → ℕ → Option ℕ → SteadyDiskState
 with_read disk relation first asked answered = record disk {
   reads = raised_by 1 disk.reads;
-  log = with_entry disk.log (entry_of disk.number relation first asked answered);
+  log = with_entry disk.log (read_entry disk.number relation first asked answered);
 }
 
 -- the shelf after an open that failed

@@ -1,6 +1,6 @@
 //! Blocks that are copied into pages.
 ghost use Rattle.std.specs.Prelude.{◌≡◌, ◌≤◌, ◌<◌, ◌-◌, ℕ, List, min, length};
-ghost use Rattle.page_check.specs.Told.{block_count, page_at};
+ghost use Rattle.page_check.specs.Told.{block_count, block_contents};
 ghost use Rattle.aio_disk.specs.Disk.{HoldsBlocks};
 
 use page_check::{PAGE_SIZE, Page};
@@ -17,7 +17,7 @@ pub(crate) trait Blocks {
     /// The bytes of one of them.
     fn block(&self, block: u32) -> &[u8]
         requires { block < block_count (bytes self.now) }
-        ensures page { result.now ≡ page_at (bytes self.now) block }
+        ensures page { result.now ≡ block_contents (bytes self.now) block }
         ensures size { length result.now ≡ 8192 };
 }
 
@@ -30,10 +30,10 @@ pub(crate) fn whole_blocks(bytes: &[u8]) -> u32
 }
 
 /// The bytes of a block.
-#[tactic(auto, unfolding(page_check::specs::Told::block_count, page_check::specs::Told::page_at))]
+#[tactic(auto, unfolding(page_check::specs::Told::block_count, page_check::specs::Told::block_contents))]
 pub(crate) fn block_bytes(bytes: &[u8], block: u32) -> &[u8]
     requires { block < block_count bytes.now }
-    ensures page { result.now ≡ page_at bytes.now block }
+    ensures page { result.now ≡ block_contents bytes.now block }
     ensures size { length result.now ≡ 8192 }
 {
     let start = PAGE_SIZE * block as usize;

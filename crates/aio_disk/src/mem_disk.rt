@@ -1,9 +1,9 @@
 //! Disks in memory that fail as a script says.
 ghost use Rattle.std.specs.Prelude.{◌≡◌, ◌≤◌, ◌<◌, ◌-◌, min, length, Some, IfOk, is_err, true};
-ghost use Rattle.page_check.specs.Told.{blocks_of, relation_of};
+ghost use Rattle.page_check.specs.Told.{relation_block_count, relation_bytes};
 ghost use Rattle.std.specs.Arc.{arc_value};
 ghost use Rattle.aio_disk.specs.Disk.{HoldsBlocks};
-ghost use Rattle.aio_disk.specs.Script.{at_most, has_positive_shorts};
+ghost use Rattle.aio_disk.specs.Script.{capped_length, has_positive_shorts};
 ghost use Rattle.aio_disk.specs.Scripted.{fresh_mem_disk, fails_next_length, fails_next_read};
 ghost use Rattle.aio_disk.specs.Scripted.{next_short_answer, with_length_call, with_scripted_read};
 
@@ -69,7 +69,7 @@ impl MemDisk {
         requires { relation < length self.old.steady.told.relations }
         ensures failed { is_err result ≡ fails_next_length self.old }
         ensures length { IfOk result (λ n.
-            n ≡ blocks_of self.old.steady.told relation) }
+            n ≡ relation_block_count self.old.steady.told relation) }
         ensures counted { self.new ≡ with_length_call self.old result }
     {
         self.length_count = self.length_count.saturating_add(1);
@@ -95,12 +95,12 @@ impl MemDisk {
         requires some { 0 < length pages.old }
         requires few { length pages.old ≤ 128 }
         ensures failed { is_err result ≡ fails_next_read self.old }
-        ensures count { IfOk result (λ n. n ≡ at_most (next_short_answer self.old)
-            (min (blocks_of self.old.steady.told relation - first)
+        ensures count { IfOk result (λ n. n ≡ capped_length (next_short_answer self.old)
+            (min (relation_block_count self.old.steady.told relation - first)
             (length pages.old))) }
         ensures pages { IfOk result (λ n.
-            HoldsBlocks (relation_of self.old.steady.told relation) first n pages.new) }
-        ensures some { first < blocks_of self.old.steady.told relation
+            HoldsBlocks (relation_bytes self.old.steady.told relation) first n pages.new) }
+        ensures some { first < relation_block_count self.old.steady.told relation
             → IfOk result (λ n. 0 < n) }
         ensures read { self.new
             ≡ with_scripted_read self.old relation first (length pages.old) result }

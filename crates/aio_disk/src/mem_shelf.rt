@@ -2,7 +2,7 @@
 ghost use Rattle.std.specs.Prelude.{◌≡◌, ◌⊎◌, ◌≤◌, map, IfOk, OnOk, IsErrOf};
 ghost use Rattle.std.specs.Prelude.{IsTrue, Some, true, false, string_bytes};
 ghost use Rattle.aio_disk.specs.declared.fault.OpenFault.TheVariants.{Device, Memory};
-ghost use Rattle.aio_disk.specs.Shelf.{file_of, files_in, has_name, have_distinct_names};
+ghost use Rattle.aio_disk.specs.Shelf.{named_file, files_in, has_name, have_distinct_names};
 ghost use Rattle.aio_disk.specs.Shelf.{AllThere, OneMissing};
 ghost use Rattle.aio_disk.specs.Script.{has_positive_shorts};
 ghost use Rattle.aio_disk.specs.Steady.{fresh_shelf};
@@ -17,7 +17,7 @@ use std::sync::Arc;
 
 // Whether one of the files has this name.
 fn has_name(files: &[(String, Vec<u8>)], name: &str) -> bool
-    ensures { result ≡ has_name (map file_of files.now) name.now }
+    ensures { result ≡ has_name (map named_file files.now) name.now }
 {
     for file in files {
         if file.0.as_str() == name {
@@ -30,7 +30,7 @@ fn has_name(files: &[(String, Vec<u8>)], name: &str) -> bool
 /// Whether no two of the files have one name, as a shelf in memory wants it. It compares each
 /// name with each.
 pub fn have_distinct_names(files: &[(String, Vec<u8>)]) -> bool
-    ensures { result ≡ have_distinct_names (map file_of files.now) }
+    ensures { result ≡ have_distinct_names (map named_file files.now) }
 {
     for index in 0..files.len() {
         if has_name(&files[index + 1..], files[index].0.as_str()) {
@@ -79,9 +79,9 @@ impl MemShelf {
         files: Vec<(String, Vec<u8>)>,
         log_room: usize,
     ) -> Result<SteadyShelf, AllocError>
-        requires distinct { IsTrue (have_distinct_names (map file_of files.items)) }
+        requires distinct { IsTrue (have_distinct_names (map named_file files.items)) }
         ensures fresh { IfOk result (λ shelf.
-            shelf ≡ fresh_shelf (files_in 131072 (map file_of files.items)) log_room) }
+            shelf ≡ fresh_shelf (files_in 131072 (map named_file files.items)) log_room) }
     {
         SteadyShelf::new(alloc, files, SEGMENT_SIZE, log_room)
     }
@@ -94,10 +94,11 @@ impl MemShelf {
         script: Script,
         log_room: usize,
     ) -> Result<MemShelf, AllocError>
-        requires distinct { IsTrue (have_distinct_names (map file_of files.items)) }
+        requires distinct { IsTrue (have_distinct_names (map named_file files.items)) }
         requires positive { IsTrue (has_positive_shorts script) }
         ensures fresh { IfOk result (λ shelf.
-            shelf ≡ fresh_mem_shelf (files_in 131072 (map file_of files.items)) script log_room) }
+            shelf ≡ fresh_mem_shelf (files_in 131072 (map named_file files.items)) script
+            log_room) }
     {
         MemShelf::make_segmented(alloc, files, SEGMENT_SIZE, script, log_room)
     }
@@ -111,12 +112,13 @@ impl MemShelf {
         script: Script,
         log_room: usize,
     ) -> Result<MemShelf, AllocError>
-        requires distinct { IsTrue (have_distinct_names (map file_of files.items)) }
+        requires distinct { IsTrue (have_distinct_names (map named_file files.items)) }
         requires positive { IsTrue (has_positive_shorts script) }
         requires least { 1 ≤ segment }
         requires most { segment ≤ 131072 }
         ensures fresh { IfOk result (λ shelf.
-            shelf ≡ fresh_mem_shelf (files_in segment (map file_of files.items)) script log_room) }
+            shelf ≡ fresh_mem_shelf (files_in segment (map named_file files.items)) script
+            log_room) }
     {
         Ok(MemShelf {
             shelf: SteadyShelf::new(alloc, files, segment, log_room)?,

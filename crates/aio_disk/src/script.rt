@@ -76,7 +76,7 @@ impl Script {
     }
 
     /// How many pages a read of the disk answers at most.
-    #[tactic(auto, using(crate::proofs::Shorts::most_positive))]
+    #[tactic(auto, using(crate::proofs::ShortAnswers::most_positive))]
     pub(crate) fn most_pages(&self, disk: u32, read: u64) -> u32
         requires { 0 < read }
         ensures most { result ≡ unwrap_or (short_answer self.now disk read) (2 ^ 32 - 1) }

@@ -1,6 +1,6 @@
 //! Relations in memory, cut into segments.
 ghost use Rattle.std.specs.Prelude.{◌≡◌, ◌≤◌, ◌<◌, IfOk, string_bytes};
-ghost use Rattle.aio_disk.specs.Shelf.{contents_of, segment_name, segments_of};
+ghost use Rattle.aio_disk.specs.Shelf.{file_contents, segment_name, file_segments};
 
 use crate::blocks::{Blocks, block_bytes, whole_blocks};
 use crate::shared::{NamedFile, SharedBytes, find_file};
@@ -51,9 +51,9 @@ pub(crate) struct Joined<'a> {
 }
 
 impl Blocks for Joined<'_> {
-    ghost use Rattle.page_check.specs.Told.{joined};
+    ghost use Rattle.page_check.specs.Told.{segments_joined};
 
-    ghost bytes = { λ blocks. joined blocks.size blocks.segments.now };
+    ghost bytes = { λ blocks. segments_joined blocks.size blocks.segments.now };
 
     fn count(&self) -> u32 {
         let mut count = 0u32;
@@ -98,7 +98,8 @@ fn find_segment(
     name: &str,
     number: u32,
 ) -> Result<Option<SharedBytes>, AllocError>
-    ensures { IfOk result (λ found. found ≡ contents_of files.now (segment_name name.now number)) }
+    ensures { IfOk result (λ found. found ≡ file_contents files.now
+        (segment_name name.now number)) }
 {
     let name = segment_name(alloc, name, number)?;
     match find_file(files, name.as_str()) {
@@ -113,7 +114,7 @@ pub(crate) fn find_segments(
     files: &[NamedFile],
     name: &str,
 ) -> Result<Segments, AllocError>
-    ensures { IfOk result (λ segments. segments ≡ segments_of files.now name.now) }
+    ensures { IfOk result (λ segments. segments ≡ file_segments files.now name.now) }
 {
     let mut found = Vec::new(alloc);
     for number in 0..MOST_SEGMENTS {

@@ -1,7 +1,8 @@
 //! Files in memory that disks share.
 ghost use Rattle.std.specs.Prelude.{◌≡◌, map, IfOk, IfSome, OnSome, IfNone, string_bytes};
 ghost use Rattle.std.specs.Option.{option_map};
-ghost use Rattle.aio_disk.specs.Shelf.{contents_of, segments_of, file_of, AllThere, OneMissing};
+ghost use Rattle.aio_disk.specs.Shelf.{file_contents, file_segments, named_file, AllThere};
+ghost use Rattle.aio_disk.specs.Shelf.{OneMissing};
 
 use crate::segments::{Segments, find_segments};
 use std::alloc::{AllocError, Global};
@@ -65,7 +66,7 @@ impl Model for NamedFile {
 
 /// The bytes of the file of this name.
 pub(crate) fn find_file<'a>(files: &'a [NamedFile], name: &str) -> Option<&'a SharedBytes>
-    ensures { option_map (λ found. found.now) result ≡ contents_of files.now name.now }
+    ensures { option_map (λ found. found.now) result ≡ file_contents files.now name.now }
 {
     files
         .iter()
@@ -80,7 +81,7 @@ pub(crate) fn find_relations(
     names: &[String],
 ) -> Result<Option<Vec<Segments>>, AllocError>
     ensures found { IfOk result (λ answer. IfSome answer (λ found.
-        found.items ≡ map (segments_of files.now) (map string_bytes names.now))) }
+        found.items ≡ map (file_segments files.now) (map string_bytes names.now))) }
     ensures all_there { IfOk result (λ answer.
         OnSome answer (AllThere files.now (map string_bytes names.now))) }
     ensures missing { IfOk result (λ answer.
@@ -101,7 +102,7 @@ pub(crate) fn share_files(
     alloc: Global,
     files: Vec<(String, Vec<u8>)>,
 ) -> Result<Vec<NamedFile>, AllocError>
-    ensures { IfOk result (λ shared. shared.items ≡ map file_of files.items) }
+    ensures { IfOk result (λ shared. shared.items ≡ map named_file files.items) }
 {
     let mut shared = Vec::new(alloc);
     for (name, bytes) in files {

@@ -2,8 +2,8 @@
 ghost use Rattle.std.specs.Prelude.{◌≡◌, ◌≤◌, ℕ, List, Bool, true, length, map, Option, IfOk, OnOk};
 ghost use Rattle.std.specs.Prelude.{IsErrOf, string_bytes};
 ghost use Rattle.aio_disk.specs.declared.fault.OpenFault.TheVariants.{Device, Memory};
-ghost use Rattle.aio_disk.specs.Counts.{ShelfCounts, Rose, RisesBy, raised_by};
-ghost use Rattle.aio_disk.specs.Shelf.{Files, AllThereIfTold, told_of};
+ghost use Rattle.aio_disk.specs.Counts.{ShelfCounts, CountRose, RisesBy, raised_by};
+ghost use Rattle.aio_disk.specs.Shelf.{Files, AllThereIfTold, shelf_told};
 
 use crate::{Disk, OpenFault};
 
@@ -36,7 +36,7 @@ pub trait Shelf {
             (AllThereIfTold (told self.old) (map string_bytes names.now)) }
         ensures relations { IfOk result (λ disk. Self.Disk.relations disk ≡ length names.now) }
         ensures contents { IfOk result (λ disk.
-            Self.Disk.told disk ≡ told_of (told self.old) (map string_bytes names.now)) }
+            Self.Disk.told disk ≡ shelf_told (told self.old) (map string_bytes names.now)) }
         ensures segments { IfOk result (λ disk. Self.Disk.segment disk ≡ segment self.old) }
         ensures no_faults { IfOk result (λ disk. Self.Disk.faults disk ≡ 0) }
         ensures no_length_faults { IfOk result (λ disk. Self.Disk.length_faults disk ≡ 0) }
@@ -44,7 +44,7 @@ pub trait Shelf {
 
         ensures later { (counts self.old).open_faults ≤ (counts self.new).open_faults }
         ensures device { IsErrOf result Device
-            → Rose (counts self.old).open_faults (counts self.new).open_faults }
+            → CountRose (counts self.old).open_faults (counts self.new).open_faults }
         ensures sure { surely_opens self.old (map string_bytes names.now) ≡ true
             → IsErrOf result Device → ⊥ }
         ensures memory { IsErrOf result Memory

@@ -1,7 +1,7 @@
 //! Sinks: where text goes.
 ghost use Rattle.std.specs.Prelude.{◌≤◌, ℕ, List, Option, IsErrOf};
 ghost use Rattle.aio_disk.specs.declared.fault.WriteFault.TheVariants.{Device};
-ghost use Rattle.aio_disk.specs.Counts.{Rose};
+ghost use Rattle.aio_disk.specs.Counts.{CountRose};
 ghost use Rattle.aio_disk.specs.Sink.{SinkTakes};
 
 use crate::WriteFault;
@@ -18,5 +18,5 @@ pub trait Sink {
     fn write(&mut self, bytes: &[u8]) -> Result<(), WriteFault>
         ensures bytes { SinkTakes (written self.old) (written self.new) result bytes.now }
         ensures later { faults self.old ≤ faults self.new }
-        ensures device { IsErrOf result Device → Rose (faults self.old) (faults self.new) };
+        ensures device { IsErrOf result Device → CountRose (faults self.old) (faults self.new) };
 }

@@ -3,7 +3,7 @@ ghost use Rattle.std.specs.Prelude.{◌≡◌, ◌≤◌, ◌<◌, ◌+◌, ◌*
 ghost use Rattle.std.specs.Prelude.{◌==◌, IfSome, Option, MatchResult};
 ghost use Rattle.std.specs.Option.{option_map};
 ghost use Rattle.page_check.specs.Told.{block_count};
-ghost use Rattle.aio_disk.specs.Source.{Source, later, NoneFailed, OneFailed, GivesBytes};
+ghost use Rattle.aio_disk.specs.Source.{Source, with_failures, NoneFailed, OneFailed, GivesBytes};
 ghost use Rattle.aio_disk.specs.Source.{GivesBlock};
 ghost use Rattle.aio_disk.specs.Source.{AnswersSize, AnswersBytes, GivesBlocks};
 
@@ -64,7 +64,7 @@ pub fn count_blocks<S: ByteSource>(source: &mut S) -> Result<u32, DeviceFault>
     ensures { MatchResult result
         (λ n. (S.told source.new ≡ S.told source.old)
         × IfSome (S.told source.old) (λ told. n ≡ block_count told.bytes))
-        (λ _. S.told source.new ≡ option_map (later 1 0) (S.told source.old)) }
+        (λ _. S.told source.new ≡ option_map (with_failures 1 0) (S.told source.old)) }
 {
     match source.size() {
         Ok(size) => Ok((size / PAGE_SIZE as u64).min(u64::from(u32::MAX)) as u32),
@@ -77,7 +77,7 @@ pub fn is_full<S: ByteSource>(source: &mut S, size: u32) -> Result<bool, DeviceF
     ensures { MatchResult result
         (λ full. (S.told source.new ≡ S.told source.old)
         × IfSome (S.told source.old) (λ told. full ≡ (block_count told.bytes == size)))
-        (λ _. S.told source.new ≡ option_map (later 1 0) (S.told source.old)) }
+        (λ _. S.told source.new ≡ option_map (with_failures 1 0) (S.told source.old)) }
 {
     match count_blocks(source) {
         Ok(count) => Ok(count == size),

@@ -1,10 +1,10 @@
 //! Relations whose segments are sources of bytes: how many blocks they have, and reads of them.
 ghost use Rattle.std.specs.Prelude.{◌≡◌, ◌≤◌, ◌<◌, ◌-◌, ◌*◌, ◌/◌, ◌^◌, min, length, map};
 ghost use Rattle.std.specs.Prelude.{IfOk};
-ghost use Rattle.page_check.specs.Told.{joined, block_count};
+ghost use Rattle.page_check.specs.Told.{segments_joined, block_count};
 ghost use Rattle.aio_disk.specs.Disk.{ReadsBlocks};
-ghost use Rattle.aio_disk.specs.Segments.{AreWholeButLast, IfAllTell, told_at, segment_of};
-ghost use Rattle.aio_disk.specs.Segments.{OthersStay, AsksSize, Reads};
+ghost use Rattle.aio_disk.specs.Segments.{AreWholeButLast, IfAllTell, segment_told, segment_index};
+ghost use Rattle.aio_disk.specs.Segments.{OthersStay, AsksOneSegment, ReadsOneSegment};
 
 use crate::DeviceFault;
 use crate::source::{ByteSource, count_blocks, read_blocks};
@@ -33,9 +33,10 @@ pub fn count_relation<S: ByteSource>(segments: &mut [S], size: u32) -> Result<u3
     requires size { size ≤ 131072 }
     requires whole { AreWholeButLast size (map S.told segments.old) }
     ensures blocks { IfOk result (λ n. IfAllTell (map S.told segments.old)
-        (λ bytes. n ≡ block_count (joined size bytes))) }
-    ensures called { AsksSize (told_at (map S.told segments.old) (length segments.old - 1))
-        (told_at (map S.told segments.new) (length segments.old - 1)) result }
+        (λ bytes. n ≡ block_count (segments_joined size bytes))) }
+    ensures called { AsksOneSegment
+        (segment_told (map S.told segments.old) (length segments.old - 1))
+        (segment_told (map S.told segments.new) (length segments.old - 1)) result }
     ensures others { OthersStay (map S.told segments.old) (map S.told segments.new)
         (length segments.old - 1) }
 {
@@ -65,13 +66,15 @@ pub fn read_relation<S: ByteSource>(
     requires some { 0 < length pages.old }
     ensures few { IfOk result (λ n. n ≤ length pages.new) }
     ensures pages { IfOk result (λ n. IfAllTell (map S.told segments.old)
-        (λ bytes. ReadsBlocks (joined size bytes) first n pages.new)) }
-    ensures called { Reads
-        (told_at (map S.told segments.old) (segment_of size (map S.told segments.old) first))
-        (told_at (map S.told segments.new) (segment_of size (map S.told segments.old) first))
+        (λ bytes. ReadsBlocks (segments_joined size bytes) first n pages.new)) }
+    ensures called { ReadsOneSegment
+        (segment_told (map S.told segments.old)
+        (segment_index size (map S.told segments.old) first))
+        (segment_told (map S.told segments.new)
+        (segment_index size (map S.told segments.old) first))
         result }
     ensures others { OthersStay (map S.told segments.old) (map S.told segments.new)
-        (segment_of size (map S.told segments.old) first) }
+        (segment_index size (map S.told segments.old) first) }
 {
     let room = pages.len().min((u32::MAX - first) as usize);
     if room == 0 {

@@ -1,6 +1,6 @@
 //! Disks in memory that do not fail, and their shelves.
 ghost use Rattle.std.specs.Prelude.{◌≡◌, ◌≤◌, ◌<◌, ◌-◌, min, length, Some, Ok, IfOk};
-ghost use Rattle.page_check.specs.Told.{blocks_of, relation_of};
+ghost use Rattle.page_check.specs.Told.{relation_block_count, relation_bytes};
 ghost use Rattle.aio_disk.specs.Counts.{raised_by};
 ghost use Rattle.aio_disk.specs.Disk.{HoldsBlocks};
 ghost use Rattle.aio_disk.specs.Steady.{with_read};
@@ -56,7 +56,7 @@ impl SteadyDisk {
     /// How many blocks the relation has, as [`Disk::blocks`] says it. It never fails.
     pub fn blocks(&mut self, relation: u32) -> Result<u32, DeviceFault>
         requires { relation < length self.old.told.relations }
-        ensures length { result ≡ Ok (blocks_of self.old.told relation) }
+        ensures length { result ≡ Ok (relation_block_count self.old.told relation) }
         ensures same { self.new ≡ self.old }
     {
         Ok(self.length(relation))
@@ -73,10 +73,10 @@ impl SteadyDisk {
         requires some { 0 < length pages.old }
         requires few { length pages.old ≤ 128 }
         ensures count { result
-            ≡ Ok (min (blocks_of self.old.told relation - first)
+            ≡ Ok (min (relation_block_count self.old.told relation - first)
             (length pages.old)) }
         ensures pages { IfOk result (λ n.
-            HoldsBlocks (relation_of self.old.told relation) first n pages.new) }
+            HoldsBlocks (relation_bytes self.old.told relation) first n pages.new) }
         ensures read { IfOk result (λ n.
             self.new ≡ with_read self.old relation first (length pages.old) (Some n)) }
     {
@@ -100,7 +100,7 @@ impl SteadyDisk {
     /// How many blocks the relation has.
     pub(crate) fn length(&self, relation: u32) -> u32
         requires { relation < length self.now.told.relations }
-        ensures { result ≡ blocks_of self.now.told relation }
+        ensures { result ≡ relation_block_count self.now.told relation }
     {
         self.relations[relation as usize]
             .joined(self.segment_size)
@@ -117,9 +117,9 @@ impl SteadyDisk {
     ) -> u32
         requires relation { relation < length self.old.told.relations }
         requires few { length pages.old ≤ 128 }
-        ensures count { result ≡ min (blocks_of self.old.told relation - first)
+        ensures count { result ≡ min (relation_block_count self.old.told relation - first)
             (min most (length pages.old)) }
-        ensures pages { HoldsBlocks (relation_of self.old.told relation) first result pages.new }
+        ensures pages { HoldsBlocks (relation_bytes self.old.told relation) first result pages.new }
         ensures read { self.new
             ≡ with_read self.old relation first (length pages.old) (Some result) }
     {

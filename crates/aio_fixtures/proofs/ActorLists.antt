@@ -5,32 +5,33 @@ use mathlib.Core.Logic.{dite}
 use native.Mathlib.Decide.{ℕ_discrete}
 use Rattle.aio_word.specs.declared.Known.{Known}
 use Rattle.aio_word.specs.Stands.{IsIn}
-use Rattle.aio_word.proofs.Parts.{in-append}
-use Rattle.aio_handle.specs.Closing.{IsAtRest}
-use Rattle.aio_handle.specs.Shown.{Named, Standing, IsOf, known_in}
-use Rattle.aio_handle.proofs.Opening.{push-old, push-last}
+use Rattle.aio_word.proofs.ReplacedElement.{in-append}
+use Rattle.aio_handle.specs.Closing.{HasNoTokens}
+use Rattle.aio_handle.specs.ContractViews.{TableView, ActorView, IsActorOf, actor_known}
+use Rattle.aio_handle.proofs.NewTableMeetsInvariant.{push-old, push-last}
 use Rattle.aio_fixtures.specs.Actors.{AreAtRest}
 
-known-push : (xs : List Standing) (x : Standing)
-    → map known_in (xs ++ x ∷ []) ≡ map known_in xs ++ known_in x ∷ []
+known-push : (xs : List ActorView) (x : ActorView)
+    → map actor_known (xs ++ x ∷ []) ≡ map actor_known xs ++ actor_known x ∷ []
 known-push [] x = refl
-known-push (y ∷ xs) x = ap (λ (z : List Known). known_in y ∷ z) (known-push xs x)
+known-push (y ∷ xs) x = ap (λ (z : List Known). actor_known y ∷ z) (known-push xs x)
 
-pub one-more-actor : (t : Named) (xs ys : List Standing) (x : Standing) → ys ≡ xs ++ x ∷ []
-    → AreAtRest t xs → IsOf t x → IsAtRest x.known → AreAtRest t ys
-one-more-actor t xs ys x e a of rest = subst (λ (z : List Standing). AreAtRest t z) (sym e) record {
-  of = λ k d lt. dite (ℕ_discrete k (length xs))
-      (λ here. subst (λ (z : ℕ). IsOf t (get_or (xs ++ x ∷ []) z d)) (sym here)
-      (subst (λ (z : Standing). IsOf t z) (sym (push-last xs x d)) of))
-      (λ ne. let before : k < length xs = omega (arith, length-append xs (x ∷ [])) in
-      subst (λ (z : Standing). IsOf t z) (sym (push-old xs x d k before)) (a.of k d before));
-  quiet = λ p i. ⊎_elim (λ old. a.quiet p old)
-      (λ new. ⊎_elim (λ same. subst (λ (z : Known). IsAtRest z) same rest)
-      (λ none. absurd none) new)
-      (in-append p (map known_in xs) (known_in x ∷ [])
-      (subst (λ (z : List Known). IsIn p z) (known-push xs x) i));
-}
+pub one-more-actor : (t : TableView) (xs ys : List ActorView) (x : ActorView) → ys ≡ xs ++ x ∷ []
+    → AreAtRest t xs → IsActorOf t x → HasNoTokens x.known → AreAtRest t ys
+one-more-actor t xs ys x e a of rest = subst
+    (λ (z : List ActorView). AreAtRest t z) (sym e) record {
+      of = λ k d lt. dite (ℕ_discrete k (length xs))
+          (λ here. subst (λ (z : ℕ). IsActorOf t (get_or (xs ++ x ∷ []) z d)) (sym here)
+          (subst (λ (z : ActorView). IsActorOf t z) (sym (push-last xs x d)) of))
+          (λ ne. let before : k < length xs = omega (arith, length-append xs (x ∷ [])) in
+          subst (λ (z : ActorView). IsActorOf t z) (sym (push-old xs x d k before)) (a.of k d before));
+      quiet = λ p i. ⊎_elim (λ old. a.quiet p old)
+          (λ new. ⊎_elim (λ same. subst (λ (z : Known). HasNoTokens z) same rest)
+          (λ none. absurd none) new)
+          (in-append p (map actor_known xs) (actor_known x ∷ [])
+          (subst (λ (z : List Known). IsIn p z) (known-push xs x) i));
+    }
 
-pub no-actors : (t : Named) (xs : List Standing) → xs ≡ [] → AreAtRest t xs
-no-actors t xs e = subst (λ (z : List Standing). AreAtRest t z) (sym e)
+pub no-actors : (t : TableView) (xs : List ActorView) → xs ≡ [] → AreAtRest t xs
+no-actors t xs e = subst (λ (z : List ActorView). AreAtRest t z) (sym e)
     record { of = λ k d lt. absurd (omega arith); quiet = λ p i. absurd i }

@@ -1,4 +1,4 @@
 pub mod Lives
-pub mod Unreclaimed
+pub mod UnreclaimedIos
 mod ActorLists
-mod Claiming
+mod ClaimOutcomes

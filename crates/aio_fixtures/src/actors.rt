@@ -1,9 +1,9 @@
 //! The actors of a table: taken out while it is new, and put together again to close it.
 ghost use Rattle.std.specs.Prelude.{◌≡◌, ◌<◌, ◌+◌, IfOk, IfSome, IsSome, length};
-ghost use Rattle.aio_word.specs.Events.{actors as actors_of};
-ghost use Rattle.aio_handle.specs.Closing.{IsAtRest};
-ghost use Rattle.aio_handle.specs.Ruled.{newcomer};
-ghost use Rattle.aio_handle.specs.Shown.{IsOf, AreNew};
+ghost use Rattle.aio_word.specs.Events.{actor_count};
+ghost use Rattle.aio_handle.specs.Closing.{HasNoTokens};
+ghost use Rattle.aio_handle.specs.TableInvariant.{initial_known};
+ghost use Rattle.aio_handle.specs.ContractViews.{IsActorOf, AreNewActors};
 ghost use Rattle.aio_fixtures.specs.Actors.{AreAtRest};
 
 use aio_handle::{Actor, Record, Table, Totals};
@@ -15,8 +15,8 @@ pub fn last_actor<R: Record, W: World>(
     table: &Table<R, W>,
     actors: &mut Vec<Actor<R, W>>,
 ) -> Option<Actor<R, W>>
-    requires { AreNew table.now 0 actors.old.items }
-    ensures left { AreNew table.now 0 actors.new.items }
+    requires { AreNewActors table.now 0 actors.old.items }
+    ensures left { AreNewActors table.now 0 actors.new.items }
     ensures number { 0 < length actors.old.items
         → length actors.new.items + 1 ≡ length actors.old.items }
     ensures some { 0 < length actors.old.items → IsSome result }
@@ -24,7 +24,7 @@ pub fn last_actor<R: Record, W: World>(
         (λ a. a ≡ record {
           table = table.now.table;
           known =
-              newcomer table.now.config (length actors.new.items);
+              initial_known table.now.config (length actors.new.items);
         }) }
 {
     match actors.pop() {
@@ -48,8 +48,8 @@ pub fn add_actor<R: Record, W: World>(
     actors: &mut Vec<Actor<R, W>>,
     actor: Actor<R, W>,
 ) -> Result<(), AllocError>
-    requires table { IsOf table.now actor }
-    requires rests { IsAtRest actor.known }
+    requires table { IsActorOf table.now actor }
+    requires rests { HasNoTokens actor.known }
     requires others { AreAtRest table.now actors.old.items }
     ensures all { IfOk result (λ _. AreAtRest table.now actors.new.items) }
     ensures count { IfOk result (λ _. length actors.new.items ≡ length actors.old.items + 1) }
@@ -65,9 +65,9 @@ pub fn close_with_two<R: Record, W: World>(
     first: Actor<R, W>,
     second: Actor<R, W>,
 ) -> Result<Totals, AllocError>
-    requires table { IsOf table first × IsOf table second }
-    requires rests { IsAtRest first.known × IsAtRest second.known }
-    requires count { actors_of table.config ≡ 2 }
+    requires table { IsActorOf table first × IsActorOf table second }
+    requires rests { HasNoTokens first.known × HasNoTokens second.known }
+    requires count { actor_count table.config ≡ 2 }
     ensures { IfOk result (λ t. t.incarnations ≡ t.by_backends + t.by_runners) }
 {
     let mut actors = no_actors(&table, alloc);

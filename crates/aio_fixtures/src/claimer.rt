@@ -5,15 +5,15 @@ ghost use Rattle.aio_word.specs.declared.Kind.TheVariants as kind;
 ghost use Rattle.aio_word.specs.declared.WaitRef.{WaitRef};
 ghost use Rattle.aio_word.specs.declared.Word.{Word};
 ghost use Rattle.aio_word.specs.Stands.{IsIn};
-ghost use Rattle.aio_word.specs.Tokens.{Grows, IsClaimed, mark_at};
-ghost use Rattle.aio_handle.specs.Closing.{IsAtRest};
-ghost use Rattle.aio_handle.specs.Kept.{IsKept};
-ghost use Rattle.aio_handle.specs.Labels.{bound};
-ghost use Rattle.aio_handle.specs.LifeWords.{unclaimed};
-ghost use Rattle.aio_handle.specs.Made.{Looked};
-ghost use Rattle.aio_handle.specs.Shown.{IsOf, IsSame};
+ghost use Rattle.aio_word.specs.Tokens.{AppendsMarks, IsClaimed, make_mark};
+ghost use Rattle.aio_handle.specs.Closing.{HasNoTokens};
+ghost use Rattle.aio_handle.specs.UnchangedTokens.{TokenUnchanged};
+ghost use Rattle.aio_handle.specs.Labels.{bound_label};
+ghost use Rattle.aio_handle.specs.LifeWords.{unclaimed_word};
+ghost use Rattle.aio_handle.specs.CallEvents.{WordLoaded};
+ghost use Rattle.aio_handle.specs.ContractViews.{IsActorOf, IsSameActor};
 ghost use Rattle.aio_fixtures.specs.Actors.{HasClaimed};
-ghost use Rattle.aio_fixtures.specs.Lives.{HasUnreclaimed, IsAmidLives};
+ghost use Rattle.aio_fixtures.specs.Lives.{HasUnreclaimed, KeepsLives};
 
 use crate::empty_io::EmptyIo;
 use aio_handle::{Actor, Claimed, Table};
@@ -26,7 +26,7 @@ pub fn claim_io<W: World>(
     actor: &mut Actor<EmptyIo, W>,
     reference: WaitRef,
 ) -> Option<Claimed<EmptyIo, W>>
-    requires table { IsOf table.now actor.old }
+    requires table { IsActorOf table.now actor.old }
     requires range { reference.handle < W.handles }
     ensures { IfSome result (λ t. HasClaimed table.now actor.new t.0 t.1.label) }
 {
@@ -43,15 +43,15 @@ pub fn complete_as<W: World>(
     mut claimed: Claimed<EmptyIo, W>,
     class: Class,
 )
-    requires table { IsOf table.now actor.old }
+    requires table { IsActorOf table.now actor.old }
     requires token { IsClaimed actor.old.known claimed.0
         × IsIn (claimed.0, []) actor.old.known.aims }
-    requires record { claimed.1.label ≡ bound claimed.0.handle claimed.0.generation }
+    requires record { claimed.1.label ≡ bound_label claimed.0.handle claimed.0.generation }
     requires class { class ≢ Unended }
-    ensures same { IsSame actor.old actor.new }
-    ensures marks { Grows actor.old.known actor.new.known
-        (mark_at claimed.0 (kind.Io class) ∷ mark_at claimed.0 kind.Shared ∷ []) }
-    ensures lives { IsAmidLives actor.old.known actor.new.known }
+    ensures same { IsSameActor actor.old actor.new }
+    ensures marks { AppendsMarks actor.old.known actor.new.known
+        (make_mark claimed.0 (kind.Io class) ∷ make_mark claimed.0 kind.Shared ∷ []) }
+    ensures lives { KeepsLives actor.old.known actor.new.known }
 {
     claimed.record_mut().label.ended = class;
     table.complete_io(actor, &mut claimed, class);
@@ -66,20 +66,20 @@ pub fn claim_and_complete<W: World>(
     reference: WaitRef,
     class: Class,
 ) -> bool
-    requires table { IsOf table.now actor.old }
+    requires table { IsActorOf table.now actor.old }
     requires range { reference.handle < W.handles }
     requires class { class ≢ Unended }
-    ensures same { IsSame actor.old actor.new }
-    ensures marks { IsTrue result → Grows actor.old.known actor.new.known
-        (mark_at reference kind.Claimed ∷ mark_at reference (kind.Io class)
-        ∷ mark_at reference kind.Shared ∷ []) }
-    ensures kept { (u : WaitRef) → IsKept u actor.old.known actor.new.known }
+    ensures same { IsSameActor actor.old actor.new }
+    ensures marks { IsTrue result → AppendsMarks actor.old.known actor.new.known
+        (make_mark reference kind.Claimed ∷ make_mark reference (kind.Io class)
+        ∷ make_mark reference kind.Shared ∷ []) }
+    ensures kept { (u : WaitRef) → TokenUnchanged u actor.old.known actor.new.known }
     ensures unreclaimed { (ts : List WaitRef) → HasUnreclaimed ts actor.old.known
         → HasUnreclaimed ts actor.new.known }
-    ensures rests { IsAtRest actor.old.known → IsAtRest actor.new.known }
+    ensures rests { HasNoTokens actor.old.known → HasNoTokens actor.new.known }
     ensures lost { IsFalse result → ((w : Word)
-        × Looked reference.handle w actor.old.known actor.new.known
-        × (w ≢ unclaimed reference.generation)) }
+        × WordLoaded reference.handle w actor.old.known actor.new.known
+        × (w ≢ unclaimed_word reference.generation)) }
 {
     let Some(claimed) = table.claim(actor, reference) else {
         return false;

@@ -1,6 +1,6 @@
 //! The record of an I/O that reads nothing.
 ghost use Rattle.std.specs.Prelude.{◌≡◌};
-ghost use Rattle.aio_handle.specs.Labels.{bound};
+ghost use Rattle.aio_handle.specs.Labels.{bound_label};
 
 use aio_handle::{Label, Record};
 use aio_word::Class;
@@ -15,7 +15,7 @@ pub struct EmptyIo {
 impl EmptyIo {
     /// A record for no handle yet.
     pub fn new() -> EmptyIo
-        ensures { result.label ≡ bound 0 0 }
+        ensures { result.label ≡ bound_label 0 0 }
     {
         EmptyIo {
             label: Label {

@@ -6,11 +6,11 @@ ghost use Rattle.aio_word.specs.declared.Word.{Word};
 ghost use Rattle.aio_word.specs.Stands.{IsIn};
 ghost use Rattle.aio_word.specs.Tokens.{IsInFlight};
 ghost use Rattle.aio_handle.specs.declared.actor.AcquireRefusal.{AcquireRefusal};
-ghost use Rattle.aio_handle.specs.Closing.{AreOver};
+ghost use Rattle.aio_handle.specs.Closing.{AllReclaimed};
 ghost use Rattle.aio_handle.specs.Free.{IsCause};
-ghost use Rattle.aio_handle.specs.Made.{Looked, IsCompleted};
-ghost use Rattle.aio_handle.specs.Shown.{IsOf, IsSame};
-ghost use Rattle.aio_fixtures.specs.Lives.{Begins, HasUnreclaimed, IsSubmitted};
+ghost use Rattle.aio_handle.specs.CallEvents.{WordLoaded, IsCompleted};
+ghost use Rattle.aio_handle.specs.ContractViews.{IsActorOf, IsSameActor};
+ghost use Rattle.aio_fixtures.specs.Lives.{BeginsLife, HasUnreclaimed, IsSubmitted};
 
 use crate::empty_io::EmptyIo;
 use aio_handle::{Actor, HandedOut, InFlight, Record, Table, Take, laws};
@@ -23,22 +23,22 @@ pub fn submit_acquired<R: Record, W: World>(
     token: HandedOut<W>,
     io: R,
 ) -> InFlight<W>
-    requires table { IsOf table.now actor.old }
+    requires table { IsActorOf table.now actor.old }
     requires token { actor.old.known.out ≡ Some token }
     requires fits { R.fits W.told W.relations io }
-    ensures same { IsSame actor.old actor.new }
+    ensures same { IsSameActor actor.old actor.new }
     ensures token { (result ≡ token) × IsInFlight actor.new.known result }
     ensures out { actor.new.known.out ≡ None }
     ensures aim { IsIn (result, R.aim io) actor.new.known.aims }
-    ensures begins { Begins token actor.old.known actor.new.known }
+    ensures begins { BeginsLife token actor.old.known actor.new.known }
     ensures kept { (u : WaitRef) → IsInFlight actor.old.known u
         → (u ≢ result) × IsInFlight actor.new.known u }
-    ensures unreclaimed { AreOver actor.old.known
+    ensures unreclaimed { AllReclaimed actor.old.known
         → HasUnreclaimed (result ∷ []) actor.new.known }
 {
-    laws::defining_keeps_tokens();
+    laws::define_keeps_tokens();
     laws::events_keep_other_tokens();
-    actor.keeps();
+    actor.has_seen_its_marks();
     let token = table.define(actor, token, io);
     let token = table.stage(actor, token);
     table.submit(actor, token)
@@ -51,10 +51,10 @@ pub fn submit_io<R: Record, W: World>(
     actor: &mut Actor<R, W>,
     io: R,
 ) -> Option<InFlight<W>>
-    requires table { IsOf table.now actor.old }
+    requires table { IsActorOf table.now actor.old }
     requires backend { actor.old.known.number < table.now.config.backends }
     requires fits { R.fits W.told W.relations io }
-    ensures same { IsSame actor.old actor.new }
+    ensures same { IsSameActor actor.old actor.new }
     ensures submitted { IfSome result (λ t. IsSubmitted t actor.old.known actor.new.known) }
     ensures aim { IfSome result (λ t. IsIn (t, R.aim io) actor.new.known.aims) }
     ensures refused { IfNone result ((actor.new ≡ actor.old)
@@ -74,15 +74,15 @@ pub fn take_and_reclaim<W: World>(
     actor: &mut Actor<EmptyIo, W>,
     token: InFlight<W>,
 ) -> bool
-    requires table { IsOf table.now actor.old }
+    requires table { IsActorOf table.now actor.old }
     requires token { IsInFlight actor.old.known token }
-    ensures same { IsSame actor.old actor.new }
+    ensures same { IsSameActor actor.old actor.new }
     ensures kept { (u : WaitRef) → u ≢ token → IsInFlight actor.old.known u
         → IsInFlight actor.new.known u }
     ensures unreclaimed { IsTrue result → (ts : List WaitRef)
         → HasUnreclaimed (token ∷ ts) actor.old.known → HasUnreclaimed ts actor.new.known }
     ensures not_yet { IsFalse result → IsInFlight actor.new.known token
-        × ((w : Word) × Looked token.handle w actor.old.known actor.new.known
+        × ((w : Word) × WordLoaded token.handle w actor.old.known actor.new.known
         × (IsCompleted w token.generation → ⊥)) }
 {
     let Take::Ready(mut local) = table.try_take(actor, token) else {

@@ -17,25 +17,26 @@ use Rattle.aio_word.specs.declared.Step.TheVariants as event
 use Rattle.aio_word.specs.declared.Kind.TheVariants as kind
 use Rattle.aio_word.specs.declared.Word.{Word}
 use Rattle.aio_word.specs.declared.Known.{Known}
-use Rattle.aio_word.specs.Words.{packed, number_of_state, number_of_class}
-use Rattle.aio_word.specs.Events.{handles, actors}
-use Rattle.aio_word.proofs.Packing.{class-bound, state-bound, bit-bound}
-use Rattle.aio_word.proofs.Conditions.{same-state}
-use Rattle.aio_word.proofs.Rows.{claim}
+use Rattle.aio_word.specs.Words.{packed_word, number_of_state, number_of_class}
+use Rattle.aio_word.specs.Events.{handle_count, actor_count}
+use Rattle.aio_word.proofs.PackIsInjective.{class-bound, state-bound, bit-bound}
+use Rattle.aio_word.proofs.RowConditions.{same-state}
+use Rattle.aio_word.proofs.EventRows.{claim}
 use Rattle.aio_handle.specs.declared.record.Label.{Label}
-use Rattle.aio_handle.specs.Ruled.{Holds, IsActor, Ruled}
-use Rattle.aio_handle.specs.Changes.{changed, looked}
-use Rattle.aio_handle.specs.Made.{Made}
-use Rattle.aio_handle.specs.LifeWords.{unclaimed, claimed}
-use Rattle.aio_handle.specs.Steps.{Claims, Loads}
-use Rattle.aio_handle.proofs.Views.{below}
-use Rattle.aio_handle.proofs.Finding.{same-number, word-is, Finds, finds, refined, stood-here}
-use Rattle.aio_handle.proofs.Finding.{ruled-here, knows, actor-here}
-use Rattle.aio_handle.proofs.Effects.{Does, Goes, still}
-use Rattle.aio_handle.proofs.LivesCounted.{lives-same}
-use Rattle.aio_handle.proofs.Marking.{marked}
-use Rattle.aio_handle.proofs.Keeps.{keeps, made}
-use Rattle.aio_handle.proofs.Assembling.{look-keeps, saw}
+use Rattle.aio_handle.specs.TableInvariant.{SlotHolds, IsActor, TableInvariant}
+use Rattle.aio_handle.specs.KnownChanges.{known_after, known_after_look}
+use Rattle.aio_handle.specs.CallEvents.{EventMade}
+use Rattle.aio_handle.specs.LifeWords.{unclaimed_word, claimed_word}
+use Rattle.aio_handle.specs.Steps.{Claims, LoadsWord}
+use Rattle.aio_handle.proofs.SeatLists.{index-below}
+use Rattle.aio_handle.proofs.StateAtStep.{same-number, word-is, StepFinds, step-finds, refined}
+use Rattle.aio_handle.proofs.StateAtStep.{stood-here}
+use Rattle.aio_handle.proofs.StateAtStep.{ruled-here, known-matches-word, actor-here}
+use Rattle.aio_handle.proofs.StepEffects.{NoteEffect, ListEffect, out-unchanged}
+use Rattle.aio_handle.proofs.LivesCounted.{lives_ended-same}
+use Rattle.aio_handle.proofs.MarkEffects.{effect-with-mark}
+use Rattle.aio_handle.proofs.StepKeepsInvariant.{invariant-kept, event-made}
+use Rattle.aio_handle.proofs.InvariantAfterStep.{look-keeps, word-loaded}
 
 bit-none : (b : Bool) → cond {A = ℕ} b 1 0 ≡ 0 → b ≡ false
 bit-none true e = absurd (omega arith)
@@ -48,8 +49,9 @@ none-class Short e = absurd (omega arith)
 none-class Failed e = absurd (omega arith)
 
 -- the word that packs as an unclaimed one is that
-unclaimed-word : (w : Word) (g : ℕ) → packed w ≡ packed (unclaimed g) → w ≡ unclaimed g
-unclaimed-word w g e =
+is-unclaimed_word : (w : Word) (g : ℕ) → packed_word w ≡ packed_word (unclaimed_word g)
+    → w ≡ unclaimed_word g
+is-unclaimed_word w g e =
     let a = state-bound w.state in let b = class-bound w.class in let d = bit-bound w.claimed in
     let st : number_of_state w.state ≡ 4 = omega arith in let cl : cond {A = ℕ} w.claimed 1 0 ≡ 0 =
     omega arith in let ge : w.generation ≡ g = omega arith in
@@ -62,117 +64,129 @@ less : (a b : ℕ) → a < b → nat_lt a b ≡ true
 less a b h = grind (arith, nat_tests)
 
 module _ {R : Type 0} (label : R → Label) (aim_in : R → List ℕ) (Fits : R → Type 0) (c : Config)
-    (s : State (Option R) (List Known)) (r : Ruled label aim_in Fits c s) (id h : ℕ) (p : Known)
-    (f0 : Finds label aim_in Fits c s r id h p) (range : h < handles c) (g : ℕ) where
+    (s : State (Option R) (List Known)) (r : TableInvariant label aim_in Fits c s) (id h : ℕ)
+    (p : Known)
+    (f0 : StepFinds label aim_in Fits c s r id h p) (range : h < handle_count c) (g : ℕ) where
   actor : IsActor c p
   actor = actor-here label aim_in Fits c s r id h p f0
 
-  module _ (free : f0.w ≡ unclaimed g) where
-    abbrev fu : Finds label aim_in Fits c s r id h p
-    fu = refined label aim_in Fits c s r id h p f0 (unclaimed g) free
+  module _ (free : f0.w ≡ unclaimed_word g) where
+    abbrev fu : StepFinds label aim_in Fits c s r id h p
+    fu = refined label aim_in Fits c s r id h p f0 (unclaimed_word g) free
 
-    pub claim-holds : Holds label aim_in Fits h (unclaimed g)
+    pub claim-holds : SlotHolds label aim_in Fits h (unclaimed_word g)
         (ruled-here label aim_in Fits c s r id h p fu).aim Unended f0.home
     claim-holds = (ruled-here label aim_in Fits c s r id h p fu).slot
 
     abbrev x : R
     x = claim-holds.0
 
-    claim-goes : Goes c h f0.lying.front f0.lying.back p
-        (changed event.Claim h (unclaimed g) (claimed g) (aim_in x) p) (unclaimed g) (claimed g)
+    claim-goes : ListEffect c h f0.lying.front f0.lying.back p
+        (known_after event.Claim h (unclaimed_word g) (claimed_word g) (aim_in x) p)
+        (unclaimed_word g) (claimed_word g)
     claim-goes = let y = stood-here label aim_in Fits c s r id h p fu in
-        marked label aim_in Fits c s r id h p fu range event.Claim (claimed g)
+        effect-with-mark label aim_in Fits c s r id h p fu range event.Claim (claimed_word g)
         (aim_in x) kind.Claimed refl
-        (claim (unclaimed g) (claimed g) record { lawful = y.lawful; last = y.last } refl).2
+        (claim (unclaimed_word g)
+        (claimed_word g) record { lawful = y.lawful; last = y.last } refl).2
         (λ y. absurd y) (λ lo hi. absurd (omega arith))
 
-    claim-does : Does c h r.ws (unclaimed g) (claimed g) event.Claim
+    claim-does : NoteEffect c h r.ws (unclaimed_word g) (claimed_word g) event.Claim
         (ruled-here label aim_in Fits c s r id h p fu).aim (aim_in x) p
-        (changed event.Claim h (unclaimed g) (claimed g) (aim_in x) p)
-    claim-does = let n = knows label aim_in Fits c s r id h p fu in record {
+        (known_after event.Claim h (unclaimed_word g) (claimed_word g) (aim_in x) p)
+    claim-does = let n = known-matches-word label aim_in Fits c s r id h p fu in record {
       row = refl;
-      allowed = less p.number (actors c) actor.number;
+      allowed = less p.number (actor_count c) actor.number;
       free = refl;
       who = inr record { was = λ y. cc; now = λ y. cc; generation = refl; place = omega arith };
-      out = still c h (unclaimed g) (claimed g) (ruled-here label aim_in Fits c s r id h p fu).aim p
-          (changed event.Claim h (unclaimed g) (claimed g) (aim_in x) p) refl (λ y. cc) (λ y. cc) n;
+      out = out-unchanged c h (unclaimed_word g) (claimed_word g)
+          (ruled-here label aim_in Fits c s r id h p fu).aim p
+          (known_after event.Claim h (unclaimed_word g) (claimed_word g) (aim_in x) p) refl
+          (λ y. cc) (λ y. cc) n;
       out_else = λ u ne. ((λ y. y), (λ y. y));
       is_out = actor.out;
       lived = λ o. n.lived o ∙ ap (λ (z : ℕ). c.start + z)
-          (sym (lives-same h h g kind.Claimed p.marks (λ y. omega arith)));
+          (sym (lives_ended-same h h g kind.Claimed p.marks (λ y. omega arith)));
       aims = inr (refl, refl, (let goal : 8 * g + 2 < 8 * g + 4 = omega arith in goal));
       same_aim = λ _ _. claim-holds.2.aimed;
     }
 
-    pub claim-keeps : Ruled label aim_in Fits c
+    pub claim-keeps : TableInvariant label aim_in Fits c
         record {
-          words = set s.words h (packed (claimed g));
+          words = set s.words h (packed_word (claimed_word g));
           homes = set s.homes h none;
           views =
-              set s.views id (changed event.Claim h (unclaimed g) (claimed g) (aim_in x) p ∷ []);
+              set s.views id
+              (known_after event.Claim h (unclaimed_word g) (claimed_word g) (aim_in x) p ∷ []);
         }
-    claim-keeps = keeps label aim_in Fits c s r id h p fu range event.Claim (claimed g) (aim_in x)
+    claim-keeps = invariant-kept label aim_in Fits c s r id h p fu range event.Claim
+        (claimed_word g) (aim_in x)
         (aim_in x) claim-goes claim-does (set s.homes h none) none (length-set s.homes h none)
         (λ i ne. set_else s.homes h i none ne)
-        (set_here s.homes h none (below s.homes h f0.home f0.home_is)) refl (λ y. absurd (cc))
+        (set_here s.homes h none (index-below s.homes h f0.home f0.home_is)) refl (λ y. absurd (cc))
 
-    pub claim-made : Made event.Claim h (unclaimed g) (claimed g) (aim_in x) p
-        (changed event.Claim h (unclaimed g) (claimed g) (aim_in x) p)
-    claim-made = made label aim_in Fits c s r id h p fu range event.Claim (claimed g) (aim_in x)
+    pub claim-made : EventMade event.Claim h (unclaimed_word g) (claimed_word g) (aim_in x) p
+        (known_after event.Claim h (unclaimed_word g) (claimed_word g) (aim_in x) p)
+    claim-made = event-made label aim_in Fits c s r id h p fu range event.Claim (claimed_word g)
+        (aim_in x)
         (aim_in x) claim-goes claim-does
 
 module _ {R : Type 0} (label : R → Label) (aim_in : R → List ℕ) (Fits : R → Type 0)
     (c : Config) where
   loads : (slots id h : ℕ) (me : Me (Option R) (List Known)) (p : Known) → me.0 ≡ p ∷ []
-      → h < handles c
-      → Allows (Ruled label aim_in Fits c) slots id me h (λ n. n) (Loads (step slots h 0 0 none) me)
+      → h < handle_count c
+      → Allows (TableInvariant label aim_in Fits c) slots id me h
+      (λ n. n) (LoadsWord (step slots h 0 0 none) me)
   loads slots id h me p mine range s r wide at _ =
       let seat : get_elem? s.views id ≡ some (p ∷ []) = at ∙ ap some mine in
-      let f = finds label aim_in Fits c s r id h p seat range in
-      let q : Known = looked h f.w p in (
+      let f = step-finds label aim_in Fits c s r id h p seat range in
+      let q : Known = known_after_look h f.w p in (
         q ∷ [],
         stays,
         tt,
-        subst (λ (z : ℕ). Ruled label aim_in Fits c
+        subst (λ (z : ℕ). TableInvariant label aim_in Fits c
             record { words = set s.words h z; homes = s.homes; views = set s.views id (q ∷ []) })
             (sym f.found) (look-keeps label aim_in Fits c s r id h p f range),
-        (p, q, mine, refl, (f.w, sym f.found, saw label aim_in Fits c s r id h p f range)),
+        (p, q, mine, refl, (f.w, sym f.found, word-loaded label aim_in Fits c s r id h p f range)),
       )
 
   -- what a call's load asks, where the numbers of the table are those of its configuration
-  pub loads-at : {X : Type 0} (config : Config) (words slots total id h : ℕ)
+  pub load-is-allowed : {X : Type 0} (config : Config) (words slots total id h : ℕ)
       (me : Me (Option R) (List Known)) (p : Known) → me.0 ≡ p ∷ [] → c ≡ config
-      → words ≡ handles config → handles config ≡ total → h < total → X
+      → words ≡ handle_count config → handle_count config ≡ total → h < total → X
       → X × (h < words)
-      × Allows (Ruled label aim_in Fits c) slots id me h (λ n. n) (Loads (step slots h 0 0 none) me)
-  loads-at config words slots total id h me p mine key sized all lt x =
-      let range : h < handles config = subst (λ (z : ℕ). h < z) (sym all) lt in (
+      × Allows (TableInvariant label aim_in Fits c) slots id me h
+      (λ n. n) (LoadsWord (step slots h 0 0 none) me)
+  load-is-allowed config words slots total id h me p mine key sized all lt x =
+      let range : h < handle_count config = subst (λ (z : ℕ). h < z) (sym all) lt in (
         x,
         subst (λ (z : ℕ). h < z) (sym sized) range,
-        loads slots id h me p mine (subst (λ (z : Config). h < handles z) (sym key) range),
+        loads slots id h me p mine (subst (λ (z : Config). h < handle_count z) (sym key) range),
       )
 
-  pub claims : (slots id h g old new : ℕ) (me : Me (Option R) (List Known)) (p : Known)
-      → old ≡ packed (unclaimed g) → new ≡ packed (claimed g) → me.0 ≡ p ∷ [] → h < handles c
-      → Allows (Ruled label aim_in Fits c) slots id me h (λ n. either (eqb n old) new n)
+  pub claim-is-allowed : (slots id h g old new : ℕ) (me : Me (Option R) (List Known)) (p : Known)
+      → old ≡ packed_word (unclaimed_word g) → new ≡ packed_word (claimed_word g) → me.0 ≡ p ∷ []
+      → h < handle_count c
+      → Allows (TableInvariant label aim_in Fits c) slots id me h (λ n. either (eqb n old) new n)
       (Claims label aim_in Fits (step slots h old new none) me)
-  claims slots id h g old new me p is_old is_new mine range s r wide at _ =
+  claim-is-allowed slots id h g old new me p is_old is_new mine range s r wide at _ =
       let seat : get_elem? s.views id ≡ some (p ∷ []) = at ∙ ap some mine in
-      let f = finds label aim_in Fits c s r id h p seat range in
+      let f = step-finds label aim_in Fits c s r id h p seat range in
       let n : ℕ = get_or s.words h 0 in
       let st = step {S = Option R} slots h old new none in
       exchanged n old new
       (λ (m : ℕ). (v : List Known) × (a : Act (Option R)) × Valid s.homes me.1 a
-      × Ruled label aim_in Fits c (stepped s h m id me.1 v a)
+      × TableInvariant label aim_in Fits c (stepped s h m id me.1 v a)
       × Claims label aim_in Fits st me n (v, carried_after me.1 a))
       (λ hit.
-      let free : f.w ≡ unclaimed g = unclaimed-word f.w g (sym f.found ∙ (hit ∙ is_old)) in
+      let free : f.w ≡ unclaimed_word g = is-unclaimed_word f.w g (sym f.found ∙ (hit ∙ is_old)) in
       let hold = claim-holds label aim_in Fits c s r id h p f range g free in
-      let q : Known = changed event.Claim h (unclaimed g) (claimed g) (aim_in hold.0) p in (
+      let q : Known = known_after event.Claim h (unclaimed_word g) (claimed_word g)
+      (aim_in hold.0) p in (
         q ∷ [],
         takes h (Some hold.0),
         f.home_is ∙ ap some hold.1,
-        subst (λ (z : ℕ). Ruled label aim_in Fits c
+        subst (λ (z : ℕ). TableInvariant label aim_in Fits c
             record {
               words = set s.words h z;
               homes = set s.homes h none;
@@ -199,11 +213,11 @@ module _ {R : Type 0} (label : R → Label) (aim_in : R → List ℕ) (Fits : R 
           (λ miss. absurd (miss hit)),
         ),
       ))
-      (λ miss. let q : Known = looked h f.w p in (
+      (λ miss. let q : Known = known_after_look h f.w p in (
         q ∷ [],
         stays,
         tt,
-        subst (λ (z : ℕ). Ruled label aim_in Fits c
+        subst (λ (z : ℕ). TableInvariant label aim_in Fits c
             record { words = set s.words h z; homes = s.homes; views = set s.views id (q ∷ []) })
             (sym f.found) (look-keeps label aim_in Fits c s r id h p f range),
         (
@@ -211,6 +225,6 @@ module _ {R : Type 0} (label : R → Label) (aim_in : R → List ℕ) (Fits : R 
           q,
           mine,
           (λ hit. absurd (miss hit)),
-          (λ _. (refl, (f.w, sym f.found, saw label aim_in Fits c s r id h p f range))),
+          (λ _. (refl, (f.w, sym f.found, word-loaded label aim_in Fits c s r id h p f range))),
         ),
       ))

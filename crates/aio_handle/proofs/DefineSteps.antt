@@ -11,59 +11,64 @@ use Rattle.aio_word.specs.declared.Step.TheVariants as event
 use Rattle.aio_word.specs.declared.Kind.TheVariants as kind
 use Rattle.aio_word.specs.declared.WaitRef.{WaitRef}
 use Rattle.aio_word.specs.declared.Known.{Known}
-use Rattle.aio_word.specs.Words.{packed}
-use Rattle.aio_word.specs.Events.{handles, owner, ref, is}
-use Rattle.aio_word.proofs.Rows.{Begun, release, define}
+use Rattle.aio_word.specs.Words.{packed_word}
+use Rattle.aio_word.specs.Events.{handle_count, owner, wait_ref, state_is}
+use Rattle.aio_word.proofs.EventRows.{LawfulAndIdleAtLast, release, define}
 use Rattle.aio_handle.specs.declared.record.Label.{Label}
-use Rattle.aio_handle.specs.Ruled.{IsActor, Ruled}
-use Rattle.aio_handle.specs.Changes.{changed}
-use Rattle.aio_handle.specs.Made.{Made}
-use Rattle.aio_handle.specs.LifeWords.{idle, handed, defined}
-use Rattle.aio_handle.specs.Steps.{Makes, Releases}
-use Rattle.aio_handle.proofs.Views.{below}
-use Rattle.aio_handle.proofs.Finding.{same-number, Finds, finds, refined, stood-here, ruled-here}
-use Rattle.aio_handle.proofs.Finding.{knows, actor-here}
-use Rattle.aio_handle.proofs.Where.{none-some, handed-word, some-same}
-use Rattle.aio_handle.proofs.Effects.{Does, Goes}
-use Rattle.aio_handle.proofs.LivesCounted.{lives-same}
-use Rattle.aio_handle.proofs.Marking.{marked, quiet}
-use Rattle.aio_handle.proofs.Keeps.{keeps, made}
-use Rattle.aio_handle.proofs.GivingBack.{gave, gone}
+use Rattle.aio_handle.specs.TableInvariant.{IsActor, TableInvariant}
+use Rattle.aio_handle.specs.KnownChanges.{known_after}
+use Rattle.aio_handle.specs.CallEvents.{EventMade}
+use Rattle.aio_handle.specs.LifeWords.{idle_word, handed_out_word, defined_word}
+use Rattle.aio_handle.specs.Steps.{MakesEvent, Releases}
+use Rattle.aio_handle.proofs.SeatLists.{index-below}
+use Rattle.aio_handle.proofs.StateAtStep.{same-number, StepFinds, step-finds, refined, stood-here}
+use Rattle.aio_handle.proofs.StateAtStep.{ruled-here}
+use Rattle.aio_handle.proofs.StateAtStep.{known-matches-word, actor-here}
+use Rattle.aio_handle.proofs.WordFromMarks.{none-some, is-handed_out_word, some-same}
+use Rattle.aio_handle.proofs.StepEffects.{NoteEffect, ListEffect}
+use Rattle.aio_handle.proofs.LivesCounted.{lives_ended-same}
+use Rattle.aio_handle.proofs.MarkEffects.{effect-with-mark, effect-without-mark}
+use Rattle.aio_handle.proofs.StepKeepsInvariant.{invariant-kept, event-made}
+use Rattle.aio_handle.proofs.SlotHomeAfterReturn.{slot-at-home, slot-out-with-nobody}
 
 module _ {R : Type 0} (label : R → Label) (aim_in : R → List ℕ) (Fits : R → Type 0) (c : Config)
-    (s : State (Option R) (List Known)) (r : Ruled label aim_in Fits c s) (id h : ℕ) (p : Known)
-    (f0 : Finds label aim_in Fits c s r id h p) (range : h < handles c) (g : ℕ) where
+    (s : State (Option R) (List Known)) (r : TableInvariant label aim_in Fits c s) (id h : ℕ)
+    (p : Known)
+    (f0 : StepFinds label aim_in Fits c s r id h p) (range : h < handle_count c) (g : ℕ) where
   actor : IsActor c p
   actor = actor-here label aim_in Fits c s r id h p f0
 
-  module _ (out : p.out ≡ Some (ref h g)) where
-    abbrev fo : Finds label aim_in Fits c s r id h p
-    fo = refined label aim_in Fits c s r id h p f0 (handed g)
-        (handed-word label aim_in Fits c s r id h p f0 g out)
+  module _ (out : p.out ≡ Some (wait_ref h g)) where
+    abbrev fo : StepFinds label aim_in Fits c s r id h p
+    fo = refined label aim_in Fits c s r id h p f0 (handed_out_word g)
+        (is-handed_out_word label aim_in Fits c s r id h p f0 g out)
 
     own : p.number ≡ owner c h
-    own = (actor.out (ref h g) out).1
+    own = (actor.out (wait_ref h g) out).1
 
-    begun-out : Begun (handed g)
+    begun-out : LawfulAndIdleAtLast (handed_out_word g)
     begun-out = let x = stood-here label aim_in Fits c s r id h p fo in
         record { lawful = x.lawful; last = x.last }
 
     out-else : (t : WaitRef) → t.handle ≢ h → (p.out ≡ Some t) ↔ (None ≡ Some t)
     out-else t ne = (
-      (λ e. absurd (ne (ap (λ (z : WaitRef). z.handle) (some-same t (ref h g) (sym e ∙ out))))),
+      (λ e. absurd (ne (ap (λ (z : WaitRef). z.handle) (some-same t (wait_ref h g) (sym e
+          ∙ out))))),
       (λ e. absurd (none-some t e)),
     )
 
-    define-goes : Goes c h f0.lying.front f0.lying.back p
-        (changed event.Define h (handed g) (defined g) [] p) (handed g) (defined g)
-    define-goes = marked label aim_in Fits c s r id h p fo range event.Define
-        (defined g) [] kind.Defined refl (define (handed g) (defined g) begun-out refl).1 (λ _. own)
+    define-goes : ListEffect c h f0.lying.front f0.lying.back p
+        (known_after event.Define h (handed_out_word g) (defined_word g) [] p) (handed_out_word g)
+        (defined_word g)
+    define-goes = effect-with-mark label aim_in Fits c s r id h p fo range event.Define
+        (defined_word g) [] kind.Defined refl
+        (define (handed_out_word g) (defined_word g) begun-out refl).1 (λ _. own)
         (λ lo hi. absurd (omega arith))
 
-    define-does : Does c h r.ws (handed g) (defined g) event.Define
+    define-does : NoteEffect c h r.ws (handed_out_word g) (defined_word g) event.Define
         (ruled-here label aim_in Fits c s r id h p fo).aim
         (ruled-here label aim_in Fits c s r id h p fo).aim p
-        (changed event.Define h (handed g) (defined g) [] p)
+        (known_after event.Define h (handed_out_word g) (defined_word g) [] p)
     define-does = record {
       row = refl;
       allowed = same-number p.number (owner c h) own;
@@ -71,42 +76,48 @@ module _ {R : Type 0} (label : R → Label) (aim_in : R → List ℕ) (Fits : R 
       who = inl own;
       out = λ _ n. (
         (λ x. absurd (let y : Defined ≡ HandedOut = x.0 in cc)),
-        (λ x. absurd (none-some (ref h n) x)),
+        (λ x. absurd (none-some (wait_ref h n) x)),
       );
       out_else = out-else;
       is_out = λ t x. absurd (none-some t x);
-      lived = λ o. (knows label aim_in Fits c s r id h p fo).lived o ∙ ap (λ (z : ℕ). c.start + z)
-          (sym (lives-same h h g kind.Defined p.marks (λ x. omega arith)));
+      lived = λ o. (known-matches-word label aim_in Fits c s r id h p fo).lived o ∙ ap
+          (λ (z : ℕ). c.start + z)
+          (sym (lives_ended-same h h g kind.Defined p.marks (λ x. omega arith)));
       aims = inl (refl, (λ x. omega arith), (λ x. omega arith));
       same_aim = λ _ _. refl;
     }
 
-    pub define-keeps : Ruled label aim_in Fits c
+    pub define-keeps : TableInvariant label aim_in Fits c
         record {
-          words = set s.words h (packed (defined g));
+          words = set s.words h (packed_word (defined_word g));
           homes = s.homes;
           views =
-              set s.views id (changed event.Define h (handed g) (defined g) [] p ∷ []);
+              set s.views id
+              (known_after event.Define h (handed_out_word g) (defined_word g) [] p ∷ []);
         }
-    define-keeps = keeps label aim_in Fits c s r id h p fo range event.Define (defined g) []
+    define-keeps = invariant-kept label aim_in Fits c s r id h p fo range event.Define
+        (defined_word g) []
         (ruled-here label aim_in Fits c s r id h p fo).aim define-goes define-does s.homes f0.home
         refl (λ i ne. refl) f0.home_is
         (ruled-here label aim_in Fits c s r id h p fo).slot (λ x. absurd (cc))
 
-    pub define-made : Made event.Define h (handed g) (defined g) [] p
-        (changed event.Define h (handed g) (defined g) [] p)
-    define-made = made label aim_in Fits c s r id h p fo range event.Define (defined g) []
+    pub define-made : EventMade event.Define h (handed_out_word g) (defined_word g) [] p
+        (known_after event.Define h (handed_out_word g) (defined_word g) [] p)
+    define-made = event-made label aim_in Fits c s r id h p fo range event.Define
+        (defined_word g) []
         (ruled-here label aim_in Fits c s r id h p fo).aim define-goes define-does
 
-    release-goes : Goes c h f0.lying.front f0.lying.back p
-        (changed event.Release h (handed g) (idle g) [] p) (handed g) (idle g)
-    release-goes = quiet label aim_in Fits c s r id h p fo range event.Release (idle g) [] refl
-        (release (handed g) (idle g) begun-out refl).1
+    release-goes : ListEffect c h f0.lying.front f0.lying.back p
+        (known_after event.Release h (handed_out_word g) (idle_word g) [] p) (handed_out_word g)
+        (idle_word g)
+    release-goes = effect-without-mark label aim_in Fits c s r id h p fo range event.Release
+        (idle_word g) [] refl
+        (release (handed_out_word g) (idle_word g) begun-out refl).1
 
-    release-does : Does c h r.ws (handed g) (idle g) event.Release
+    release-does : NoteEffect c h r.ws (handed_out_word g) (idle_word g) event.Release
         (ruled-here label aim_in Fits c s r id h p fo).aim
         (ruled-here label aim_in Fits c s r id h p fo).aim p
-        (changed event.Release h (handed g) (idle g) [] p)
+        (known_after event.Release h (handed_out_word g) (idle_word g) [] p)
     release-does = record {
       row = refl;
       allowed = same-number p.number (owner c h) own;
@@ -114,77 +125,83 @@ module _ {R : Type 0} (label : R → Label) (aim_in : R → List ℕ) (Fits : R 
       who = inl own;
       out = λ _ n. (
         (λ x. absurd (let y : Idle ≡ HandedOut = x.0 in cc)),
-        (λ x. absurd (none-some (ref h n) x)),
+        (λ x. absurd (none-some (wait_ref h n) x)),
       );
       out_else = out-else;
       is_out = λ t x. absurd (none-some t x);
-      lived = λ o. (knows label aim_in Fits c s r id h p fo).lived o;
+      lived = λ o. (known-matches-word label aim_in Fits c s r id h p fo).lived o;
       aims = inl (refl, (λ x. omega arith), (λ x. omega arith));
       same_aim = λ _ _. refl;
     }
 
-    pub release-keeps : Ruled label aim_in Fits c
+    pub release-keeps : TableInvariant label aim_in Fits c
         record {
-          words = set s.words h (packed (idle g));
+          words = set s.words h (packed_word (idle_word g));
           homes = set s.homes h (some None);
           views =
-              set s.views id (changed event.Release h (handed g) (idle g) [] p ∷ []);
+              set s.views id
+              (known_after event.Release h (handed_out_word g) (idle_word g) [] p ∷ []);
         }
-    release-keeps = keeps label aim_in Fits c s r id h p fo range event.Release (idle g) []
+    release-keeps = invariant-kept label aim_in Fits c s r id h p fo range event.Release
+        (idle_word g) []
         (ruled-here label aim_in Fits c s r id h p fo).aim release-goes release-does
         (set s.homes h (some None)) (some None) (length-set s.homes h (some None))
         (λ i ne. set_else s.homes h i (some None) ne)
-        (set_here s.homes h (some None) (below s.homes h f0.home f0.home_is)) refl
+        (set_here s.homes h (some None) (index-below s.homes h f0.home f0.home_is)) refl
         (λ x. absurd (cc))
 
-    pub release-made : Made event.Release h (handed g) (idle g) [] p
-        (changed event.Release h (handed g) (idle g) [] p)
-    release-made = made label aim_in Fits c s r id h p fo range event.Release (idle g) []
+    pub release-made : EventMade event.Release h (handed_out_word g) (idle_word g) [] p
+        (known_after event.Release h (handed_out_word g) (idle_word g) [] p)
+    release-made = event-made label aim_in Fits c s r id h p fo range event.Release (idle_word g) []
         (ruled-here label aim_in Fits c s r id h p fo).aim release-goes release-does
 
 module _ {R : Type 0} (label : R → Label) (aim_in : R → List ℕ) (Fits : R → Type 0)
     (c : Config) where
-  pub releases : (slots id h g new : ℕ) (me : Me (Option R) (List Known)) (p : Known)
-      → new ≡ packed (idle g) → me.0 ≡ p ∷ [] → me.1 ≡ (h, None) ∷ rest me.1 → h < handles c
-      → p.out ≡ Some (ref h g)
-      → Allows (Ruled label aim_in Fits c) slots id me h (λ _. new)
+  pub release-is-allowed : (slots id h g new : ℕ) (me : Me (Option R) (List Known)) (p : Known)
+      → new ≡ packed_word (idle_word g) → me.0 ≡ p ∷ [] → me.1 ≡ (h, None) ∷ rest me.1
+      → h < handle_count c
+      → p.out ≡ Some (wait_ref h g)
+      → Allows (TableInvariant label aim_in Fits c) slots id me h (λ _. new)
       (Releases (step slots h new 0 none) me)
-  releases slots id h g new me p is mine first range out s r wide at _ =
+  release-is-allowed slots id h g new me p is mine first range out s r wide at _ =
       let seat : get_elem? s.views id ≡ some (p ∷ []) = at ∙ ap some mine in
-      let f = finds label aim_in Fits c s r id h p seat range in
-      let q : Known = changed event.Release h (handed g) (idle g) [] p in
+      let f = step-finds label aim_in Fits c s r id h p seat range in
+      let q : Known = known_after event.Release h (handed_out_word g) (idle_word g) [] p in
       let keep = release-keeps label aim_in Fits c s r id h p f range g out in (
         q ∷ [],
         gives,
         tt,
-        gave label aim_in Fits c s id h (packed (idle g)) new p q me None seat (sym is) first keep,
+        slot-at-home label aim_in Fits c s id h (packed_word (idle_word g)) new p q me None seat
+            (sym is) first keep,
         (
           p,
           q,
           g,
           mine,
           refl,
-          f.found ∙ ap packed
-              (handed-word label aim_in Fits c s r id h p f g out),
+          f.found ∙ ap packed_word
+              (is-handed_out_word label aim_in Fits c s r id h p f g out),
           is,
           release-made label aim_in Fits c s r id h p f range g out,
-          gone label aim_in Fits c s id h (packed (idle g)) p q None seat range
-              (below s.homes h f.home f.home_is) keep,
+          slot-out-with-nobody label aim_in Fits c s id h
+              (packed_word (idle_word g)) p q None seat range
+              (index-below s.homes h f.home f.home_is) keep,
         ),
       )
 
-  pub defines : (slots id h g new : ℕ) (me : Me (Option R) (List Known)) (p : Known)
-      → new ≡ packed (defined g) → me.0 ≡ p ∷ [] → h < handles c → p.out ≡ Some (ref h g)
-      → Allows (Ruled label aim_in Fits c) slots id me h (λ _. new)
-      (Makes event.Define handed defined (step slots h new 0 none) me)
-  defines slots id h g new me p is mine range out s r wide at _ =
+  pub define-is-allowed : (slots id h g new : ℕ) (me : Me (Option R) (List Known)) (p : Known)
+      → new ≡ packed_word (defined_word g) → me.0 ≡ p ∷ [] → h < handle_count c
+      → p.out ≡ Some (wait_ref h g)
+      → Allows (TableInvariant label aim_in Fits c) slots id me h (λ _. new)
+      (MakesEvent event.Define handed_out_word defined_word (step slots h new 0 none) me)
+  define-is-allowed slots id h g new me p is mine range out s r wide at _ =
       let seat : get_elem? s.views id ≡ some (p ∷ []) = at ∙ ap some mine in
-      let f = finds label aim_in Fits c s r id h p seat range in
-      let q : Known = changed event.Define h (handed g) (defined g) [] p in (
+      let f = step-finds label aim_in Fits c s r id h p seat range in
+      let q : Known = known_after event.Define h (handed_out_word g) (defined_word g) [] p in (
         q ∷ [],
         stays,
         tt,
-        subst (λ (z : ℕ). Ruled label aim_in Fits c
+        subst (λ (z : ℕ). TableInvariant label aim_in Fits c
             record { words = set s.words h z; homes = s.homes; views = set s.views id (q ∷ []) })
             (sym is) (define-keeps label aim_in Fits c s r id h p f range g out),
         (
@@ -193,8 +210,8 @@ module _ {R : Type 0} (label : R → Label) (aim_in : R → List ℕ) (Fits : R 
           g,
           mine,
           refl,
-          f.found ∙ ap packed
-              (handed-word label aim_in Fits c s r id h p f g out),
+          f.found ∙ ap packed_word
+              (is-handed_out_word label aim_in Fits c s r id h p f g out),
           is,
           define-made label aim_in Fits c s r id h p f range g out,
         ),

@@ -9,15 +9,16 @@ use Rattle.aio_word.specs.declared.Config.{Config}
 use Rattle.aio_word.specs.declared.WaitRef.{WaitRef}
 use Rattle.aio_word.specs.declared.Known.{Known}
 use Rattle.aio_word.specs.Words.{last_generation}
-use Rattle.aio_word.specs.Events.{handles, times, ref}
+use Rattle.aio_word.specs.Events.{handle_count, count_at_rank, wait_ref}
 use Rattle.aio_handle.specs.declared.own.OwnHandle.{OwnHandle}
-use Rattle.aio_handle.specs.Made.{generation_of}
+use Rattle.aio_handle.specs.CallEvents.{generation_of}
 use Rattle.aio_handle.specs.Free.{IsFree, HasOneOut, HasNoneFree, IsRoom}
-use Rattle.aio_handle.specs.Closing.{IsAtRest}
+use Rattle.aio_handle.specs.Closing.{HasNoTokens}
 use Rattle.aio_handle.specs.Own.{own_at, IsFreeHandle, HasRoom}
-use Rattle.aio_handle.specs.Remembered.{own_handle, handle_at, Owns, AreUnspent}
+use Rattle.aio_handle.specs.OwnHandleCache.{own_handle, handle_at, MatchesOwnHandles}
+use Rattle.aio_handle.specs.OwnHandleCache.{OnlyPastReclaimed}
 use Rattle.aio_handle.proofs.OwnPlaces.{place-of, own-at-place}
-use Rattle.aio_handle.proofs.Remembering.{false-true}
+use Rattle.aio_handle.proofs.CacheAfterEvents.{false-true}
 
 out-cases : (o : Option WaitRef) → (o ≡ None) ⊎ ((t : WaitRef) × (o ≡ Some t))
 out-cases None = inl refl
@@ -34,9 +35,10 @@ below-nothing : (n : ℕ) → n ≡ 0 → nat_lt 0 n ≡ false
 below-nothing n e = grind (arith, nat_tests)
 
 -- a handle that is remembered as free is free
-pub tells-free : (c : Config) (own : List OwnHandle) (p : Known) (k : ℕ) → Owns c own p
+pub tells-free : (c : Config) (own : List OwnHandle) (p : Known) (k : ℕ) → MatchesOwnHandles c own p
     → k < length own → p.number < c.backends → IsFreeHandle (own_at own k)
-    → (handle_at c p k < handles c) × IsFree c p (ref (handle_at c p k) (own_at own k).generation)
+    → (handle_at c p k < handle_count c)
+    × IsFree c p (wait_ref (handle_at c p k) (own_at own k).generation)
 tells-free c own p k o lt backend (undefined, below) =
     let len = o.of_backend backend in
     let inside = own-at-place c p k (omega arith) backend in
@@ -44,21 +46,22 @@ tells-free c own p k o lt backend (undefined, below) =
     let is = o.each k lt in
     let same : (own_at own k).generation ≡ generation_of c p h = ap
     (λ (x : OwnHandle). x.generation) is in
-    let none : times h (8 * generation_of c p h + 0) p.marks ≡ 0 = nothing-below
-    (times h (8 * generation_of c p h + 0) p.marks)
+    let none : count_at_rank h (8 * generation_of c p h + 0) p.marks ≡ 0 = nothing-below
+    (count_at_rank h (8 * generation_of c p h + 0) p.marks)
     (sym (ap (λ (x : OwnHandle). x.is_defined) is) ∙ undefined) in (
       inside.0,
       record {
         own = sym inside.1;
         generation = same;
-        undefined = subst (λ (z : ℕ). times h (8 * z + 0) p.marks ≡ 0) (sym same) none;
+        undefined = subst (λ (z : ℕ). count_at_rank h (8 * z + 0) p.marks ≡ 0) (sym same) none;
         below = below;
       },
     )
 
 -- and a free handle is remembered so
-pub free-told : (c : Config) (own : List OwnHandle) (p : Known) (t : WaitRef) → Owns c own p
-    → t.handle < handles c → IsFree c p t → (t.handle % c.per_backend < length own)
+pub free-told : (c : Config) (own : List OwnHandle) (p : Known) (t : WaitRef)
+    → MatchesOwnHandles c own p
+    → t.handle < handle_count c → IsFree c p t → (t.handle % c.per_backend < length own)
     × IsFreeHandle (own_at own (t.handle % c.per_backend))
 free-told c own p t o lt f =
     let k : ℕ = t.handle % c.per_backend in
@@ -67,9 +70,10 @@ free-told c own p t o lt f =
     let lk : k < length own = omega arith in
     let is : own_at own k ≡ own_handle c p t.handle = o.each k lk ∙ ap (own_handle c p) (sym at) in
     let gen : generation_of c p t.handle ≡ t.generation = sym f.generation in
-    let undefined : nat_lt 0 (times t.handle (8 * generation_of c p t.handle + 0) p.marks) ≡ false =
-    below-nothing (times t.handle (8 * generation_of c p t.handle + 0) p.marks)
-    (subst (λ (z : ℕ). times t.handle (8 * z + 0) p.marks ≡ 0) (sym gen) f.undefined) in (
+    let undefined : nat_lt 0 (count_at_rank t.handle (8 * generation_of c p t.handle + 0) p.marks)
+    ≡ false =
+    below-nothing (count_at_rank t.handle (8 * generation_of c p t.handle + 0) p.marks)
+    (subst (λ (z : ℕ). count_at_rank t.handle (8 * z + 0) p.marks ≡ 0) (sym gen) f.undefined) in (
       lk,
       (
         ap (λ (x : OwnHandle). x.is_defined) is ∙ undefined,
@@ -79,14 +83,15 @@ free-told c own p t o lt f =
     )
 
 -- where no remembered handle is free, each is in the middle of a life or at the end
-pub none-told : (c : Config) (own : List OwnHandle) (p : Known) → Owns c own p → AreUnspent c p
+pub none-told : (c : Config) (own : List OwnHandle) (p : Known) → MatchesOwnHandles c own p
+    → OnlyPastReclaimed c p
     → ((k : ℕ) → k < length own → IsFreeHandle (own_at own k) → ⊥) → HasNoneFree c p
 none-told c own p o u none h lt own-h =
-    let t : WaitRef = ref h (generation_of c p h) in
-    let unspent : times h (8 * generation_of c p h + 7) p.marks ≡ 0 =
+    let t : WaitRef = wait_ref h (generation_of c p h) in
+    let unspent : count_at_rank h (8 * generation_of c p h + 7) p.marks ≡ 0 =
     u h (generation_of c p h) own-h (omega arith) in
     dite (dec_le last_generation (generation_of c p h)) (λ le. inl le)
-    (λ below. dite (dec_le (times h (8 * generation_of c p h + 0) p.marks) 0)
+    (λ below. dite (dec_le (count_at_rank h (8 * generation_of c p h + 0) p.marks) 0)
     (λ z. absurd
     (let (lk, free) = free-told c own p t o lt record {
       own = own-h;
@@ -98,7 +103,7 @@ none-told c own p o u none h lt own-h =
 
 -- the room of the remembered handles is that of the actor
 pub room-told : (c : Config) (own : List OwnHandle) (p : Known) (room : ℕ) → 0 < c.per_backend
-    → Owns c own p → HasRoom own room → IsRoom c p room
+    → MatchesOwnHandles c own p → HasRoom own room → IsRoom c p room
 room-told c own p room some' o r = record {
   of_runner = λ le. r.none (o.of_runner le);
   for_each = λ h lt own-h.
@@ -124,11 +129,11 @@ room-told c own p room some' o r = record {
 
 -- an actor at rest that has room is never refused: a handle of its own is free
 pub served-at-rest : (c : Config) (p : Known) (room : ℕ) → p.number < c.backends
-    → IsRoom c p (room + 1) → IsAtRest p → HasNoneFree c p → ⊥
+    → IsRoom c p (room + 1) → HasNoTokens p → HasNoneFree c p → ⊥
 served-at-rest c p room backend r rests none =
     let (h, lt, own-h, is) = r.exact backend in
     ⊎_elim (λ le. omega arith)
     (λ amid.
-    let over = rests.1 (ref h (generation_of c p h)) in
+    let over = rests.1 (wait_ref h (generation_of c p h)) in
     let one = amid.0 in
     let two = amid.1 in omega arith) (none h lt own-h)

@@ -9,13 +9,13 @@ use Rattle.aio_word.specs.declared.Config.{Config}
 use Rattle.aio_word.specs.declared.Step.{Step as Event}
 use Rattle.aio_word.specs.declared.Word.{Word}
 use Rattle.aio_word.specs.declared.Known.{Known}
-use Rattle.aio_word.specs.Events.{handles, owner}
+use Rattle.aio_word.specs.Events.{handle_count, owner}
 use Rattle.aio_handle.specs.declared.own.OwnHandle.{OwnHandle}
-use Rattle.aio_handle.specs.Made.{Made, IsByOwner}
-use Rattle.aio_handle.specs.Remembered.{handle_at, Owns}
+use Rattle.aio_handle.specs.CallEvents.{EventMade, IsByOwner}
+use Rattle.aio_handle.specs.OwnHandleCache.{handle_at, MatchesOwnHandles}
 
 -- the place of an own handle
-pub place-of : (c : Config) (p : Known) (h : ℕ) → p.number ≡ owner c h → h < handles c
+pub place-of : (c : Config) (p : Known) (h : ℕ) → p.number ≡ owner c h → h < handle_count c
     → (h % c.per_backend < c.per_backend) × (h ≡ handle_at c p (h % c.per_backend))
     × (p.number < c.backends)
 place-of c p h own lt =
@@ -33,8 +33,8 @@ place-of c p h own lt =
 
 -- an owner's event is at a place that it remembers
 pub owner-place : (c : Config) (own : List OwnHandle) (e : Event) (h : ℕ) (w w' : Word)
-    (aim : List ℕ) (p q : Known) → Made e h w w' aim p q → IsByOwner e → p.config ≡ c
-    → h < handles c → Owns c own p
+    (aim : List ℕ) (p q : Known) → EventMade e h w w' aim p q → IsByOwner e → p.config ≡ c
+    → h < handle_count c → MatchesOwnHandles c own p
     → (h % c.per_backend < length own) × (h ≡ handle_at c p (h % c.per_backend))
 owner-place c own e h w w' aim p q m by cf lt o =
     let (inside, at, backend) = place-of c p h
@@ -43,7 +43,7 @@ owner-place c own e h w w' aim p q m by cf lt o =
 
 -- and at each place of a backend there is an own handle
 pub own-at-place : (c : Config) (p : Known) (k : ℕ) → k < c.per_backend → p.number < c.backends
-    → (handle_at c p k < handles c) × (owner c (handle_at c p k) ≡ p.number)
+    → (handle_at c p k < handle_count c) × (owner c (handle_at c p k) ≡ p.number)
 own-at-place c p k lt backend =
     let most : (p.number + 1) * c.per_backend ≤ c.backends * c.per_backend =
     mul-le-mul_right c.per_backend (omega arith) in

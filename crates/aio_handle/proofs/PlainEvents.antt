@@ -7,9 +7,9 @@ use Rattle.aio_word.specs.declared.Kind.{Kind}
 use Rattle.aio_word.specs.declared.Kind.TheVariants as kind
 use Rattle.aio_word.specs.declared.Word.{Word}
 use Rattle.aio_word.specs.declared.Known.{Known}
-use Rattle.aio_word.specs.Events.{order, leaves}
-use Rattle.aio_word.proofs.Rows.{some-kind}
-use Rattle.aio_handle.specs.Made.{Made}
+use Rattle.aio_word.specs.Events.{kind_place, kind_of_step}
+use Rattle.aio_word.proofs.EventRows.{some-kind}
+use Rattle.aio_handle.specs.CallEvents.{EventMade}
 
 abbrev pub IsPlain : Event → Type 0
 IsPlain event.Stage = Unit {0}
@@ -21,12 +21,12 @@ IsPlain _ = ⊥
 
 -- a mark that neither begins nor ends a life, and is no claim
 abbrev IsBetween : Kind → Type 0
-IsBetween k = (0 < order k) × (order k < 7) × (order k ≢ 3)
+IsBetween k = (0 < kind_place k) × (kind_place k < 7) × (kind_place k ≢ 3)
 
 between-of : (k z : Kind) → k ≡ z → IsBetween k → IsBetween z
 between-of k z e = subst (λ (y : Kind). IsBetween y) e
 
-pub plain-kind : (e : Event) (class : Class) (k : Kind) → IsPlain e → leaves class e ≡ Some k
+pub plain-kind : (e : Event) (class : Class) (k : Kind) → IsPlain e → kind_of_step class e ≡ Some k
     → IsBetween k
 plain-kind event.HandOut class k pl lv = absurd pl
 plain-kind event.Release class k pl lv = absurd pl
@@ -45,7 +45,7 @@ plain-kind event.Local class k pl lv = between-of (kind.Local class) k
 plain-kind event.Reclaim class k pl lv = absurd pl
 
 pub plain-out : (e : Event) (h : ℕ) (w w' : Word) (aim : List ℕ) (p q : Known)
-    → Made e h w w' aim p q → IsPlain e → q.out ≡ p.out
+    → EventMade e h w w' aim p q → IsPlain e → q.out ≡ p.out
 plain-out event.HandOut h w w' aim p q m pl = absurd pl
 plain-out event.Release h w w' aim p q m pl = absurd pl
 plain-out event.Define h w w' aim p q m pl = absurd pl

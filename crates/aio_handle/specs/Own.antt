@@ -4,11 +4,11 @@ use Rattle.aio_word.specs.Words.{last_generation}
 use Rattle.aio_handle.specs.declared.own.OwnHandle.{OwnHandle}
 
 -- what is read at a place that is not there
-abbrev pub blank : OwnHandle
-blank = record { generation = 0; is_defined = false }
+abbrev pub no_handle : OwnHandle
+no_handle = record { generation = 0; is_defined = false }
 
 abbrev pub own_at : List OwnHandle → ℕ → OwnHandle
-own_at own place = slice_index_or own place blank
+own_at own place = slice_index_or own place no_handle
 
 -- the handle is not defined, and below the last generation
 abbrev pub IsFreeHandle : OwnHandle → Type 0

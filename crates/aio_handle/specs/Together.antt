@@ -3,18 +3,18 @@ use Rattle.std.specs.Prelude.{◌≡◌, ◌≢◌, ℕ, List, [], ◌∷◌, le
 use Rattle.atomic_table.specs.Table.{Me, Step}
 use Rattle.aio_word.specs.declared.Config.{Config}
 use Rattle.aio_word.specs.declared.Known.{Known}
-use Rattle.aio_word.specs.Events.{Machine, Reached, actors}
-use Rattle.aio_word.specs.Stands.{IsIn, IsMachine, Stands}
+use Rattle.aio_word.specs.Events.{Machine, IsReachable, actor_count}
+use Rattle.aio_word.specs.Stands.{IsIn, MachineHasParts, Stands}
 
 -- a moment at which one actor's knowledge is p and another one's is q: a state of the machine, for
 -- whose words the lists of all actors stand
 pub record StandTogether (c : Config) (p q : Known) : Type 0 where
   pub machine : Machine
   pub parts : List Known
-  pub reached : Reached c machine
-  pub is : IsMachine c machine machine.words parts
+  pub reached : IsReachable c machine
+  pub is : MachineHasParts c machine machine.words parts
   pub stands : Stands c machine.words parts
-  pub all : length parts ≡ actors c
+  pub all : length parts ≡ actor_count c
   pub one : IsIn p parts
   pub other : IsIn q parts
   pub apart : p.number ≢ q.number

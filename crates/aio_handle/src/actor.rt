@@ -1,9 +1,9 @@
 //! One actor of a table: a backend, which owns handles, or a runner.
 ghost use Rattle.std.specs.Prelude.{◌≡◌, ◌<◌, ◌-◌, ◌^◌, cond, nat_lt, min, IfSome, IfNone};
-ghost use Rattle.aio_word.specs.Events.{handles};
-ghost use Rattle.aio_word.specs.Stands.{seen_of};
-ghost use Rattle.aio_word.specs.Tokens.{Keeps, claimed_marks};
-ghost use Rattle.aio_handle.specs.Remembered.{AreUnspent};
+ghost use Rattle.aio_word.specs.Events.{handle_count};
+ghost use Rattle.aio_word.specs.Stands.{seen_rank};
+ghost use Rattle.aio_word.specs.Tokens.{MarksOnceAndSeen, claimed_marks};
+ghost use Rattle.aio_handle.specs.OwnHandleCache.{OnlyPastReclaimed};
 ghost use Rattle.aio_handle.specs.Free.{IsFree, HasNoneFree, IsRoom};
 
 use crate::own::{OwnHandle, next_free, room_of};
@@ -41,16 +41,16 @@ pub struct Actor<R: Record, W: World> {
 }
 
 impl<R: Record, W: World> Model for Actor<R, W> {
-    ghost use Rattle.aio_handle.specs.Shown.{Standing, IsConfig};
-    ghost use Rattle.aio_handle.specs.Seats.{IsSeated, known_of};
-    ghost use Rattle.aio_handle.specs.Remembered.{Remembers};
+    ghost use Rattle.aio_handle.specs.ContractViews.{ActorView, IsConfig};
+    ghost use Rattle.aio_handle.specs.Seats.{IsSeated, seat_known};
+    ghost use Rattle.aio_handle.specs.OwnHandleCache.{CachesOwnHandles};
 
-    ghost Value = { Standing };
+    ghost Value = { ActorView };
 
-    ghost view = { λ a. record { table = a.seat.table_id; known = known_of a.seat.me.0 } };
+    ghost view = { λ a. record { table = a.seat.table_id; known = seat_known a.seat.me.0 } };
 
     ghost invariant = { λ a. IsSeated a.config a.number a.seat.me × IsConfig a.config
-        × Remembers a.config a.own.items a.turn a.is_out a.claims (known_of a.seat.me.0) };
+        × CachesOwnHandles a.config a.own.items a.turn a.is_out a.claims (seat_known a.seat.me.0) };
 }
 
 impl<R: Record, W: World> Actor<R, W> {
@@ -70,8 +70,8 @@ impl<R: Record, W: World> Actor<R, W> {
     }
 
     /// Each mark of its list stands there once, and it has seen each. It does nothing when it runs.
-    pub fn keeps(&self)
-        ensures { Keeps (seen_of self.now.known) self.now.known.marks }
+    pub fn has_seen_its_marks(&self)
+        ensures { MarksOnceAndSeen (seen_rank self.now.known) self.now.known.marks }
     {
         let number = self.number;
         let _ = number;
@@ -79,8 +79,8 @@ impl<R: Record, W: World> Actor<R, W> {
 
     /// What it has reclaimed of a handle of its own lies below that handle's generation. It does
     /// nothing when it runs.
-    pub fn keeps_generations(&self)
-        ensures { AreUnspent self.now.known.config self.now.known }
+    pub fn has_reclaimed_only_past(&self)
+        ensures { OnlyPastReclaimed self.now.known.config self.now.known }
     {
         let number = self.number;
         let _ = number;
@@ -106,7 +106,7 @@ impl<R: Record, W: World> Actor<R, W> {
     pub(crate) fn free_handle(&self) -> Option<WaitRef>
         requires backend { self.now.known.number < self.now.known.config.backends }
         ensures some { IfSome result
-            (λ t. (t.handle < handles self.now.known.config)
+            (λ t. (t.handle < handle_count self.now.known.config)
             × IsFree self.now.known.config self.now.known t) }
         ensures none { IfNone result (HasNoneFree self.now.known.config self.now.known) }
     {

@@ -1,16 +1,16 @@
 //! The end of a table, and what its handles went through.
 ghost use Rattle.std.specs.Prelude.{◌≡◌, ◌<◌, ◌+◌, ◌^◌, ◌-◌, All, map, length, min};
 ghost use Rattle.std.specs.Mem.Slots.{IsFull};
-ghost use Rattle.aio_word.specs.Events.{actors as actors_of};
+ghost use Rattle.aio_word.specs.Events.{actor_count};
 ghost use Rattle.aio_word.specs.Totals.{by_backends as claimed_by_backends};
 ghost use Rattle.aio_word.specs.Totals.{by_runners as claimed_by_runners};
-ghost use Rattle.aio_handle.specs.Shown.{IsOf, known_in};
-ghost use Rattle.aio_handle.specs.Closing.{IsQuiet, Ends, AreTotals};
+ghost use Rattle.aio_handle.specs.ContractViews.{IsActorOf, actor_known};
+ghost use Rattle.aio_handle.specs.Closing.{NoneHasTokens, EndState, AreTotals};
 
 use crate::actor::Actor;
 use crate::record::Record;
 use crate::rule::View;
-use crate::steps::{Blank, CutOff, Merge};
+use crate::steps::{EmptySeat, JoinLists, SplitAll};
 use crate::table::Table;
 use aio_word::Config;
 use atomic_table::{Closed, Seat};
@@ -28,9 +28,9 @@ pub struct Totals {
 }
 
 impl Model for Totals {
-    ghost use Rattle.aio_handle.specs.Closing.{Tally};
+    ghost use Rattle.aio_handle.specs.Closing.{TotalsView};
 
-    ghost Value = { Tally };
+    ghost Value = { TotalsView };
 
     ghost view = { λ t.
         record {
@@ -67,9 +67,9 @@ impl Totals {
 
 /// How often the backends and the runners among these actors have claimed.
 fn count_claims<R: Record, W: World>(config: &Config, actors: &[Actor<R, W>]) -> (u128, u128)
-    ensures backends { result.0 ≡ min (claimed_by_backends config.now (map known_in actors.now))
+    ensures backends { result.0 ≡ min (claimed_by_backends config.now (map actor_known actors.now))
         (2 ^ 128 - 1) }
-    ensures runners { result.1 ≡ min (claimed_by_runners config.now (map known_in actors.now))
+    ensures runners { result.1 ≡ min (claimed_by_runners config.now (map actor_known actors.now))
         (2 ^ 128 - 1) }
 {
     let mut by_backends: u128 = 0;
@@ -96,10 +96,10 @@ impl<R: Record, W: World> Table<R, W> {
     /// Ends the table, where all its actors are handed in and no token is out: the lists then
     /// stand for words that are all Idle. It takes no memory.
     pub fn close(self, actors: Vec<Actor<R, W>>) -> Totals
-        requires table { All (IsOf self) actors.items }
-        requires all { length actors.items ≡ actors_of self.config }
-        requires quiet { IsQuiet (map known_in actors.items) }
-        ensures { AreTotals self.config (map known_in actors.items) result }
+        requires table { All (IsActorOf self) actors.items }
+        requires all { length actors.items ≡ actor_count self.config }
+        requires quiet { NoneHasTokens (map actor_known actors.items) }
+        ensures { AreTotals self.config (map actor_known actors.items) result }
     {
         let (by_backends, by_runners) = count_claims(&self.config, actors.as_slice());
         discard(self.end(actors));
@@ -112,14 +112,14 @@ impl<R: Record, W: World> Table<R, W> {
 
     // The words and slots at the end, with what the lists then say.
     fn end(self, actors: Vec<Actor<R, W>>) -> Closed<Option<R>, Global>
-        requires table { All (IsOf self) actors.items }
-        requires all { length actors.items ≡ actors_of self.config }
-        requires quiet { IsQuiet (map known_in actors.items) }
+        requires table { All (IsActorOf self) actors.items }
+        requires all { length actors.items ≡ actor_count self.config }
+        requires quiet { NoneHasTokens (map actor_known actors.items) }
         ensures slots { IsFull result.slots }
-        ensures ends { Ends self.config (map known_in actors.items) }
+        ensures ends { EndState self.config (map actor_known actors.items) }
         ensures small { claimed_by_backends self.config
-            (map known_in actors.items) + claimed_by_runners self.config
-            (map known_in actors.items) < 2 ^ 128 - 1 }
+            (map actor_known actors.items) + claimed_by_runners self.config
+            (map actor_known actors.items) < 2 ^ 128 - 1 }
     {
         let seat = self.gather(actors);
         let Table {
@@ -132,15 +132,15 @@ impl<R: Record, W: World> Table<R, W> {
 
     // One seat with the lists of all these actors, in their order.
     fn gather(&self, mut actors: Vec<Actor<R, W>>) -> Seat<Option<R>, View>
-        requires table { All (IsOf self.now) actors.items }
+        requires table { All (IsActorOf self.now) actors.items }
         ensures table { result.table_id ≡ self.now.table }
-        ensures lists { result.me.0 ≡ map known_in actors.items }
+        ensures lists { result.me.0 ≡ map actor_known actors.items }
     {
-        let mut all = self.inner.shared.load_new_seat::<Blank>(0).1;
+        let mut all = self.inner.shared.load_new_seat::<EmptySeat>(0).1;
         while let Some(actor) = actors.pop() {
             let Actor { mut seat, .. } = actor;
-            let lists = self.inner.shared.split_seat::<CutOff>(&mut seat);
-            self.inner.shared.join_seat::<Merge>(&mut all, lists);
+            let lists = self.inner.shared.split_seat::<SplitAll>(&mut seat);
+            self.inner.shared.join_seat::<JoinLists>(&mut all, lists);
         }
         all
     }

@@ -3,10 +3,10 @@ ghost use Rattle.std.specs.Prelude.{◌≡◌, ◌≢◌, ◌∷◌, [], ℕ, Op
 ghost use Rattle.page_check.specs.Told.{Told};
 ghost use Rattle.aio_word.specs.declared.Kind.TheVariants as kind;
 ghost use Rattle.aio_word.specs.Stands.{IsIn};
-ghost use Rattle.aio_word.specs.Tokens.{IsClaimed, mark_at};
-ghost use Rattle.aio_handle.specs.Labels.{bound};
-ghost use Rattle.aio_handle.specs.Shown.{IsOf, IsSame};
-ghost use Rattle.aio_handle.specs.Executing.{TakesUp};
+ghost use Rattle.aio_word.specs.Tokens.{IsClaimed, make_mark};
+ghost use Rattle.aio_handle.specs.Labels.{bound_label};
+ghost use Rattle.aio_handle.specs.ContractViews.{IsActorOf, IsSameActor};
+ghost use Rattle.aio_handle.specs.Execution.{ExecutesAll};
 
 use crate::actor::Actor;
 use crate::record::Record;
@@ -37,18 +37,19 @@ pub trait Execute<R: Record, W: World> {
         actor: &mut Actor<R, W>,
         claimed: &mut Option<Claimed<R, W>>,
     )
-        requires table { IsOf table.now actor.old }
+        requires table { IsActorOf table.now actor.old }
         requires told { (told self.old ≡ W.told) × (relations self.old ≡ W.relations) }
         requires given { claimed.old ≢ None }
         requires token { IfSome claimed.old
             (λ t. IsClaimed actor.old.known t.0 × IsIn (t.0, R.aim t.1) actor.old.known.aims) }
         requires record { IfSome claimed.old
-            (λ t. (R.label t.1 ≡ bound t.0.handle t.0.generation) × R.fits W.told W.relations t.1) }
+            (λ t. (R.label t.1 ≡ bound_label t.0.handle t.0.generation)
+            × R.fits W.told W.relations t.1) }
         ensures taken { claimed.new ≡ None }
-        ensures same { IsSame actor.old actor.new }
+        ensures same { IsSameActor actor.old actor.new }
         ensures told { (told self.new ≡ told self.old) × (relations self.new ≡ relations self.old) }
         ensures marks { IfSome claimed.old
-            (λ t. TakesUp (mark_at t.0 kind.Claimed ∷ []) actor.old.known actor.new.known
+            (λ t. ExecutesAll (make_mark t.0 kind.Claimed ∷ []) actor.old.known actor.new.known
             (reads self.old) (reads self.new) (faults self.old) (faults self.new)) };
 
     /// Ends the claimed incarnation: on return its Io and Shared marks stand in the actor's list.
@@ -61,16 +62,16 @@ pub trait Execute<R: Record, W: World> {
         actor: &mut Actor<R, W>,
         claimed: Claimed<R, W>,
     )
-        requires table { IsOf table.now actor.old }
+        requires table { IsActorOf table.now actor.old }
         requires told { (told self.old ≡ W.told) × (relations self.old ≡ W.relations) }
         requires token { IsClaimed actor.old.known claimed.0
             × IsIn (claimed.0, R.aim claimed.1) actor.old.known.aims }
-        requires record { (R.label claimed.1 ≡ bound claimed.0.handle claimed.0.generation)
+        requires record { (R.label claimed.1 ≡ bound_label claimed.0.handle claimed.0.generation)
             × R.fits W.told W.relations claimed.1 }
-        ensures same { IsSame actor.old actor.new }
+        ensures same { IsSameActor actor.old actor.new }
         ensures told { (told self.new ≡ told self.old) × (relations self.new ≡ relations self.old) }
-        ensures marks { TakesUp
-            (mark_at claimed.0 kind.Claimed ∷ []) actor.old.known actor.new.known (reads self.old)
+        ensures marks { ExecutesAll
+            (make_mark claimed.0 kind.Claimed ∷ []) actor.old.known actor.new.known (reads self.old)
             (reads self.new) (faults self.old) (faults self.new) }
     {
         let mut claimed = Some(claimed);

@@ -12,24 +12,27 @@ ghost use Rattle.aio_word.specs.declared.Step.{Step as Event};
 ghost use Rattle.aio_word.specs.declared.Step.TheVariants.{Define, Claim};
 ghost use Rattle.aio_word.specs.declared.WaitRef.{WaitRef};
 ghost use Rattle.aio_word.specs.declared.Word.{Word};
-ghost use Rattle.aio_word.specs.Events.{mark_at, ref, lives, at, owner};
-ghost use Rattle.aio_word.specs.Stands.{IsIn, Stands, seen_of};
-ghost use Rattle.aio_word.specs.Tokens.{Grows, Keeps, IsClaimed, io_marks, claimed_marks};
+ghost use Rattle.aio_word.specs.Events.{make_mark, wait_ref, lives_ended, mark_count, owner};
+ghost use Rattle.aio_word.specs.Stands.{IsIn, Stands, seen_rank};
+ghost use Rattle.aio_word.specs.Tokens.{AppendsMarks, MarksOnceAndSeen, IsClaimed, io_marks};
+ghost use Rattle.aio_word.specs.Tokens.{claimed_marks};
 ghost use Rattle.aio_word.specs.Tokens.{failed_marks, failed_results};
 ghost use Rattle.aio_word.specs.Words.{last_generation};
 ghost use Rattle.aio_handle.specs.declared.actor.AcquireRefusal.{AcquireRefusal};
-ghost use Rattle.aio_handle.specs.Closing.{Ends, IsExecutedIn, IsAtRest};
-ghost use Rattle.aio_handle.specs.Executing.{TakesUp};
+ghost use Rattle.aio_handle.specs.Closing.{EndState, IsExecutedIn, HasNoTokens};
+ghost use Rattle.aio_handle.specs.Execution.{ExecutesAll};
 ghost use Rattle.aio_handle.specs.Free.{IsRoom, IsCause};
-ghost use Rattle.aio_handle.specs.Held.{Place, StandsAt, IsKeptAt, AreHeld};
-ghost use Rattle.aio_handle.specs.Kept.{IsKept, IsClaimKept, UsesToken};
-ghost use Rattle.aio_handle.specs.LifeWords.{handed, defined, unclaimed, claimed};
-ghost use Rattle.aio_handle.specs.Made.{Made, Looked, IsByOwner};
+ghost use Rattle.aio_handle.specs.TokenLists.{Place, TokenIsAt, TokenUnchangedAt};
+ghost use Rattle.aio_handle.specs.TokenLists.{AreDistinctTokens};
+ghost use Rattle.aio_handle.specs.UnchangedTokens.{TokenUnchanged, ClaimUnchanged, UsesToken};
+ghost use Rattle.aio_handle.specs.LifeWords.{handed_out_word, defined_word, unclaimed_word};
+ghost use Rattle.aio_handle.specs.LifeWords.{claimed_word};
+ghost use Rattle.aio_handle.specs.CallEvents.{EventMade, WordLoaded, IsByOwner};
 ghost use Rattle.aio_handle.specs.Together.{StandTogether};
 
 /// Once no token is out, each actor has executed as many I/Os as it has claimed.
 pub fn each_claim_was_executed()
-    ensures { (c : Config) (parts : List Known) → Ends c parts → (p : Known) → IsIn p parts
+    ensures { (c : Config) (parts : List Known) → EndState c parts → (p : Known) → IsIn p parts
         → io_marks p.marks ≡ claimed_marks p.marks }
 {}
 
@@ -38,7 +41,7 @@ pub fn each_claim_was_executed()
 pub fn each_result_was_executed()
     ensures { (c : Config) (words : List Word) (parts : List Known) → Stands c words parts
         → (p : Known) → IsIn p parts → (t : WaitRef) (class : Class)
-        → IsIn (mark_at t (kind.Local class)) p.marks → IsExecutedIn parts t class }
+        → IsIn (make_mark t (kind.Local class)) p.marks → IsExecutedIn parts t class }
 {}
 
 /// Of two actors of one table, at most one has won a claim of an incarnation; and so with every mark
@@ -47,63 +50,70 @@ pub fn one_claim_has_one_winner()
     ensures won { (c : Config) (p q : Known) (t : WaitRef) → StandTogether c p q
         → IsClaimed p t → IsClaimed q t → ⊥ }
     ensures each { (c : Config) (p q : Known) (t : WaitRef) (k : Kind) → StandTogether c p q
-        → 0 < at t k p.marks → at t k q.marks ≡ 0 }
+        → 0 < mark_count t k p.marks → mark_count t k q.marks ≡ 0 }
 {}
 
 /// What one actor has claimed its owner has submitted. `Table::stand_together` gives the condition.
 pub fn what_is_claimed_was_submitted()
     ensures { (c : Config) (p q : Known) (t : WaitRef) → StandTogether c p q
-        → q.number ≡ owner c t.handle → 0 < at t kind.Claimed p.marks
-        → 0 < at t kind.Submitted q.marks }
+        → q.number ≡ owner c t.handle → 0 < mark_count t kind.Claimed p.marks
+        → 0 < mark_count t kind.Submitted q.marks }
 {}
 
-/// Whatever the actor takes up by an executor or a method, each of its tokens stays.
-pub fn taking_up_keeps_tokens()
+/// Whatever the actor executes by an executor or a method, each of its tokens stays.
+pub fn execution_keeps_tokens()
     ensures { (t : WaitRef) (held : List Mark) (p q : Known) (reads reads' faults faults' : ℕ)
-        → TakesUp held p q reads reads' faults faults' → IsKept t p q }
+        → ExecutesAll held p q reads reads' faults faults' → TokenUnchanged t p q }
 {}
 
 /// A look keeps each token.
-pub fn looking_keeps_tokens()
-    ensures { (t : WaitRef) (h : ℕ) (w : Word) (p q : Known) → Looked h w p q → IsKept t p q }
+pub fn look_keeps_tokens()
+    ensures { (t : WaitRef) (h : ℕ) (w : Word) (p q : Known) → WordLoaded h w p q
+        → TokenUnchanged t p q }
 {}
 
 /// An event keeps the tokens of other incarnations, and one that uses no token keeps each.
 pub fn events_keep_other_tokens()
     ensures elsewhere { (t : WaitRef) (e : Event) (h : ℕ) (w after : Word) (aim : List ℕ)
-        (p q : Known) → Made e h w after aim p q → t ≢ ref h w.generation → IsKept t p q }
+        (p q : Known) → EventMade e h w after aim p q → t ≢ wait_ref h w.generation
+        → TokenUnchanged t p q }
     ensures unused { (t : WaitRef) (e : Event) (h : ℕ) (w after : Word) (aim : List ℕ)
-        (p q : Known) → Made e h w after aim p q → (UsesToken e → ⊥) → IsKept t p q }
+        (p q : Known) → EventMade e h w after aim p q → (UsesToken e → ⊥) → TokenUnchanged t p q }
 {}
 
-/// What is defined is a new incarnation: each token stays. `Actor::keeps` gives the condition.
-pub fn defining_keeps_tokens()
-    ensures { (t : WaitRef) (h g : ℕ) (aim : List ℕ) (p q : Known) → Keeps (seen_of p) p.marks
-        → Made Define h (handed g) (defined g) aim p q → IsKept t p q }
+/// What is defined is a new incarnation: each token stays. `Actor::has_seen_its_marks` gives the
+/// condition.
+pub fn define_keeps_tokens()
+    ensures { (t : WaitRef) (h g : ℕ) (aim : List ℕ) (p q : Known)
+        → MarksOnceAndSeen (seen_rank p) p.marks
+        → EventMade Define h (handed_out_word g) (defined_word g) aim p q → TokenUnchanged t p q }
 {}
 
 /// A look keeps each I/O that the actor has claimed.
-pub fn looking_keeps_claims()
-    ensures { (t : WaitRef) (h : ℕ) (w : Word) (p q : Known) → Looked h w p q
-        → IsClaimKept t p q }
+pub fn look_keeps_claims()
+    ensures { (t : WaitRef) (h : ℕ) (w : Word) (p q : Known) → WordLoaded h w p q
+        → ClaimUnchanged t p q }
 {}
 
 /// An event keeps the claimed I/Os of other incarnations, and an owner's event keeps each.
 pub fn events_keep_other_claims()
     ensures elsewhere { (t : WaitRef) (e : Event) (h : ℕ) (w after : Word) (aim : List ℕ)
-        (p q : Known) → Made e h w after aim p q → t ≢ ref h w.generation → IsClaimKept t p q }
+        (p q : Known) → EventMade e h w after aim p q → t ≢ wait_ref h w.generation
+        → ClaimUnchanged t p q }
     ensures owners { (t : WaitRef) (e : Event) (h : ℕ) (w after : Word) (aim : List ℕ)
-        (p q : Known) → Made e h w after aim p q → IsByOwner e → IsClaimKept t p q }
+        (p q : Known) → EventMade e h w after aim p q → IsByOwner e → ClaimUnchanged t p q }
 {}
 
 /// What is claimed was not claimed by this actor before: each of its claimed I/Os is another one,
-/// and stays. `Actor::keeps` gives the condition.
-pub fn claiming_keeps_claims()
-    ensures kept { (t : WaitRef) (h g : ℕ) (aim : List ℕ) (p q : Known) → Keeps (seen_of p) p.marks
-        → Made Claim h (unclaimed g) (claimed g) aim p q → IsClaimKept t p q }
+/// and stays. `Actor::has_seen_its_marks` gives the condition.
+pub fn claim_keeps_claims()
+    ensures kept { (t : WaitRef) (h g : ℕ) (aim : List ℕ) (p q : Known)
+        → MarksOnceAndSeen (seen_rank p) p.marks
+        → EventMade Claim h (unclaimed_word g) (claimed_word g) aim p q → ClaimUnchanged t p q }
     ensures other { (t : WaitRef) (h g : ℕ) (aim : List ℕ) (p q : Known)
-        → Keeps (seen_of p) p.marks → Made Claim h (unclaimed g) (claimed g) aim p q
-        → IsClaimed p t → t ≢ ref h g }
+        → MarksOnceAndSeen (seen_rank p) p.marks → EventMade Claim h (unclaimed_word g)
+        (claimed_word g) aim p q
+        → IsClaimed p t → t ≢ wait_ref h g }
 {}
 
 /// At every moment, at most as many results of failed I/Os were taken as executions failed: each
@@ -120,7 +130,7 @@ pub fn failed_results_are_failed_executions()
 pub fn a_backend_at_rest_with_room_is_served()
     ensures { (c : Config) (p q : Known) (room ended : ℕ) (why : AcquireRefusal)
         → p.number < c.backends → IsRoom c p room → ended < room → q.number ≡ p.number
-        → ((h : ℕ) → lives h q.marks ≤ lives h p.marks + ended) → IsAtRest q
+        → ((h : ℕ) → lives_ended h q.marks ≤ lives_ended h p.marks + ended) → HasNoTokens q
         → IsCause c q why → ⊥ }
 {}
 
@@ -133,47 +143,49 @@ pub fn the_room_is_one_number()
 {}
 
 /// An actor that does nothing, or looks, goes on by no marks, and two ways to go on are one.
-pub fn going_on_composes()
-    ensures nothing { (p : Known) → Grows p p [] }
-    ensures look { (h : ℕ) (w : Word) (p q : Known) → Looked h w p q → Grows p q [] }
-    ensures both { (p q r : Known) (xs ys : List Mark) → Grows p q xs → Grows q r ys
-        → Grows p r (xs ++ ys) }
+pub fn growth_composes()
+    ensures nothing { (p : Known) → AppendsMarks p p [] }
+    ensures look { (h : ℕ) (w : Word) (p q : Known) → WordLoaded h w p q → AppendsMarks p q [] }
+    ensures both { (p q r : Known) (xs ys : List Mark) → AppendsMarks p q xs → AppendsMarks q r ys
+        → AppendsMarks p r (xs ++ ys) }
 {}
 
-/// An actor that goes on by no marks has taken up nothing, and two calls that take up are one.
-pub fn taking_up_composes()
-    ensures nothing { (p q : Known) (reads faults : ℕ) → Grows p q []
-        → TakesUp [] p q reads reads faults faults }
+/// An actor that goes on by no marks has executed nothing, and two calls that execute are one.
+pub fn executions_compose()
+    ensures nothing { (p q : Known) (reads faults : ℕ) → AppendsMarks p q []
+        → ExecutesAll [] p q reads reads faults faults }
     ensures both { (held : List Mark) (p q r : Known)
         (reads reads' reads'' faults faults' faults'' : ℕ)
-        → TakesUp held p q reads reads' faults faults'
-        → TakesUp [] q r reads' reads'' faults' faults''
-        → TakesUp held p r reads reads'' faults faults'' }
+        → ExecutesAll held p q reads reads' faults faults'
+        → ExecutesAll [] q r reads' reads'' faults' faults''
+        → ExecutesAll held p r reads reads'' faults faults'' }
 {}
 
 /// Tokens that stand at one place, no two of one incarnation, stay so where each is kept, and go
 /// together to another place where each goes there.
-pub fn held_tokens_stay_together<A>()
+pub fn distinct_tokens_stay<A>()
     ensures kept { (place : Place) (of : A → WaitRef) (p q : Known) (ts : List A)
-        → ((t : A) → IsIn t ts → IsKeptAt place (of t) p q) → AreHeld of (StandsAt place) p ts
-        → AreHeld of (StandsAt place) q ts }
+        → ((t : A) → IsIn t ts → TokenUnchangedAt place (of t) p q)
+        → AreDistinctTokens of (TokenIsAt place) p ts
+        → AreDistinctTokens of (TokenIsAt place) q ts }
     ensures moved { (from to : Place) (of : A → WaitRef) (p q : Known) (ts : List A)
-        → ((t : A) → IsIn t ts → StandsAt from p (of t) → StandsAt to q (of t))
-        → AreHeld of (StandsAt from) p ts → AreHeld of (StandsAt to) q ts }
+        → ((t : A) → IsIn t ts → TokenIsAt from p (of t) → TokenIsAt to q (of t))
+        → AreDistinctTokens of (TokenIsAt from) p ts → AreDistinctTokens of (TokenIsAt to) q ts }
     ensures each { (place : Place) (of : A → WaitRef) (p : Known) (ts : List A) (t : A)
-        → AreHeld of (StandsAt place) p ts → IsIn t ts → StandsAt place p (of t) }
+        → AreDistinctTokens of (TokenIsAt place) p ts → IsIn t ts → TokenIsAt place p (of t) }
 {}
 
 /// A token of another incarnation may come to them, and one of them may go: the others are of other
 /// incarnations.
-pub fn held_tokens_come_and_go<A>()
+pub fn distinct_tokens_change<A>()
     ensures comes { (place : Place) (of : A → WaitRef) (p : Known) (ts : List A) (t : A)
-        → AreHeld of (StandsAt place) p ts → StandsAt place p (of t)
-        → ((u : A) → IsIn u ts → of u ≢ of t) → AreHeld of (StandsAt place) p (ts ++ t ∷ []) }
+        → AreDistinctTokens of (TokenIsAt place) p ts → TokenIsAt place p (of t)
+        → ((u : A) → IsIn u ts → of u ≢ of t)
+        → AreDistinctTokens of (TokenIsAt place) p (ts ++ t ∷ []) }
     ensures goes { (place : Place) (of : A → WaitRef) (p : Known) (front back : List A) (t : A)
-        → AreHeld of (StandsAt place) p (front ++ t ∷ back)
-        → AreHeld of (StandsAt place) p (front ++ back) }
+        → AreDistinctTokens of (TokenIsAt place) p (front ++ t ∷ back)
+        → AreDistinctTokens of (TokenIsAt place) p (front ++ back) }
     ensures apart { (place : Place) (of : A → WaitRef) (p : Known) (front back : List A) (t u : A)
-        → AreHeld of (StandsAt place) p (front ++ t ∷ back) → IsIn u (front ++ back)
+        → AreDistinctTokens of (TokenIsAt place) p (front ++ t ∷ back) → IsIn u (front ++ back)
         → of u ≢ of t }
 {}

@@ -16,7 +16,7 @@
 //! moment after it too, and the event is the machine's step between the two. A token says where its
 //! incarnation stands in its actor's list, and each call asks for that and gives it on.
 //!
-//! The rule of the table (`Ruled` in `specs`) holds between any two steps of any threads, so what
+//! The rule of the table (`TableInvariant` in `specs`) holds between any two steps of any threads, so what
 //! holds of every state of the machine holds there. Of the moment that a call hands out, its
 //! contract ties the handle's word and its own actor's list. `stand_together` has the lists of two
 //! actors at one moment, and `close` has those of all at the end.

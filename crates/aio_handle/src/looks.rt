@@ -1,32 +1,32 @@
 //! Whether an incarnation is done.
 ghost use Rattle.std.specs.Prelude.{◌<◌, IsTrue};
 ghost use Rattle.aio_word.specs.declared.Word.{Word};
-ghost use Rattle.aio_word.specs.Tokens.{IsSeenDone};
-ghost use Rattle.aio_handle.specs.Made.{Looked, Checked};
+ghost use Rattle.aio_word.specs.Tokens.{HasSeenDone};
+ghost use Rattle.aio_handle.specs.CallEvents.{WordLoaded, CheckAnswer};
 
 use crate::actor::Actor;
 use crate::record::Record;
-use crate::steps::LookAt;
+use crate::steps::LookStep;
 use crate::table::Table;
 use aio_word::{WaitRef, done, unpack};
 use page_check::World;
 use std::sync::Wait;
 
 impl<R: Record, W: World> Table<R, W> {
-    ghost use Rattle.aio_handle.specs.Shown.{IsOf, IsSame};
+    ghost use Rattle.aio_handle.specs.ContractViews.{IsActorOf, IsSameActor};
 
     /// Whether the incarnation of the reference has ended. It looks once.
     pub fn check(&self, actor: &mut Actor<R, W>, reference: WaitRef) -> bool
-        requires table { IsOf self.now actor.old }
+        requires table { IsActorOf self.now actor.old }
         requires range { reference.handle < W.handles }
-        ensures same { IsSame actor.old actor.new }
-        ensures look { Checked reference result actor.old.known actor.new.known }
-        ensures seen { IsSeenDone actor.old.known reference → IsTrue result }
+        ensures same { IsSameActor actor.old actor.new }
+        ensures look { CheckAnswer reference result actor.old.known actor.new.known }
+        ensures seen { HasSeenDone actor.old.known reference → IsTrue result }
     {
         let number = self
             .inner
             .shared
-            .load::<LookAt>(&mut actor.seat, reference.handle as usize);
+            .load::<LookStep>(&mut actor.seat, reference.handle as usize);
         match unpack(number) {
             Ok(word) => done(&word, reference),
             Err(_) => unreachable!(),
@@ -35,13 +35,13 @@ impl<R: Record, W: World> Table<R, W> {
 
     /// Returns at once where its look finds the incarnation done, else sleeps until a wake.
     pub fn rest<T: Wait>(&self, rt: &T, actor: &mut Actor<R, W>, reference: WaitRef)
-        requires table { IsOf self.now actor.old }
+        requires table { IsActorOf self.now actor.old }
         requires range { reference.handle < W.handles }
-        ensures same { IsSame actor.old actor.new }
-        ensures look { (w : Word) × Looked reference.handle w actor.old.known actor.new.known }
+        ensures same { IsSameActor actor.old actor.new }
+        ensures look { (w : Word) × WordLoaded reference.handle w actor.old.known actor.new.known }
     {
         let handle = reference.handle as usize;
-        let found = self.inner.shared.load::<LookAt>(&mut actor.seat, handle);
+        let found = self.inner.shared.load::<LookStep>(&mut actor.seat, handle);
         let Ok(word) = unpack(found) else {
             unreachable!()
         };

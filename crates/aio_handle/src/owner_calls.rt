@@ -6,19 +6,23 @@ ghost use Rattle.aio_word.specs.declared.Class.TheVariants.{Unended};
 ghost use Rattle.aio_word.specs.declared.Step.TheVariants.{HandOut, Release, Define, Stage};
 ghost use Rattle.aio_word.specs.declared.Step.TheVariants.{Submit, Local, Reclaim};
 ghost use Rattle.aio_word.specs.declared.Word.{Word};
-ghost use Rattle.aio_word.specs.Events.{handles, actors as actors_of};
+ghost use Rattle.aio_word.specs.Events.{handle_count, actor_count};
 ghost use Rattle.aio_word.specs.Stands.{IsIn};
 ghost use Rattle.aio_word.specs.Tokens.{IsDefined, IsStaged, IsInFlight, IsLocal};
-ghost use Rattle.aio_handle.specs.LifeWords.{idle, handed, defined, staged, unclaimed, taken};
-ghost use Rattle.aio_handle.specs.Made.{Made, Looked, IsCompleted, TakesOut, LivedAlone};
+ghost use Rattle.aio_handle.specs.LifeWords.{idle_word, handed_out_word, defined_word, staged_word};
+ghost use Rattle.aio_handle.specs.LifeWords.{unclaimed_word, taken_word};
+ghost use Rattle.aio_handle.specs.CallEvents.{EventMade, WordLoaded, IsCompleted, TakesResult};
+ghost use Rattle.aio_handle.specs.CallEvents.{HasWholeLife};
 ghost use Rattle.aio_handle.specs.Free.{IsFree, IsCause};
-ghost use Rattle.aio_handle.specs.Taking.{IfReady, IfNotYet};
+ghost use Rattle.aio_handle.specs.TakeAnswer.{IfReady, IfNotYet};
 
 use crate::actor::{AcquireRefusal, Actor};
-use crate::front::bring;
+use crate::front::move_slot_to_front;
 use crate::own::{OwnHandle, place_of, remember};
 use crate::record::Record;
-use crate::steps::{Defines, GetIt, HandIt, LookAt, ReclaimIt, ReleaseIt, Stages, SubmitIt};
+use crate::steps::{
+    DefineStep, HandOutStep, LookStep, ReclaimStep, ReleaseStep, StageStep, SubmitStep, TakeStep,
+};
 use crate::table::{Table, number_of};
 use crate::tokens::{Defined, HandedOut, InFlight, Local, Staged, Take};
 use aio_word::{Class, State, WaitRef, Word, unpack};
@@ -32,19 +36,19 @@ fn is_completed(word: &Word, generation: u64) -> bool
 }
 
 impl<R: Record, W: World> Table<R, W> {
-    ghost use Rattle.aio_handle.specs.Shown.{IsOf, IsSame};
+    ghost use Rattle.aio_handle.specs.ContractViews.{IsActorOf, IsSameActor};
 
     /// Hands out one of the backend's handles that is Idle below the last generation.
     ///
     /// It looks into the actor's own memory, from the place after the one that it gave last, and
     /// makes no step where it refuses.
     pub fn acquire(&self, actor: &mut Actor<R, W>) -> Result<HandedOut<W>, AcquireRefusal>
-        requires table { IsOf self.now actor.old }
+        requires table { IsActorOf self.now actor.old }
         requires backend { actor.old.known.number < self.now.config.backends }
-        ensures same { IsSame actor.old actor.new }
+        ensures same { IsSameActor actor.old actor.new }
         ensures event { IfOk result
-            (λ t. Made HandOut t.handle (idle t.generation)
-            (handed t.generation) [] actor.old.known actor.new.known) }
+            (λ t. EventMade HandOut t.handle (idle_word t.generation)
+            (handed_out_word t.generation) [] actor.old.known actor.new.known) }
         ensures token { IfOk result (λ t. actor.new.known.out ≡ Some t) }
         ensures free { IfOk result
             (λ t. (actor.old.known.out ≡ None) × IsFree self.now.config actor.old.known t) }
@@ -62,13 +66,13 @@ impl<R: Record, W: World> Table<R, W> {
 
     // Hands out this handle, of which the actor's marks say that it is free.
     fn hand_out(&self, actor: &mut Actor<R, W>, reference: WaitRef) -> HandedOut<W>
-        requires table { IsOf self.now actor.old }
-        requires range { reference.handle < handles self.now.config }
+        requires table { IsActorOf self.now actor.old }
+        requires range { reference.handle < handle_count self.now.config }
         requires free { (actor.old.known.out ≡ None)
             × IsFree self.now.config actor.old.known reference }
-        ensures same { IsSame actor.old actor.new }
-        ensures event { Made HandOut reference.handle (idle reference.generation)
-            (handed reference.generation) [] actor.old.known actor.new.known }
+        ensures same { IsSameActor actor.old actor.new }
+        ensures event { EventMade HandOut reference.handle (idle_word reference.generation)
+            (handed_out_word reference.generation) [] actor.old.known actor.new.known }
         ensures token { (result ≡ reference) × (actor.new.known.out ≡ Some result) }
     {
         let word = number_of(
@@ -79,7 +83,7 @@ impl<R: Record, W: World> Table<R, W> {
         );
         self.inner
             .shared
-            .swap::<HandIt>(&mut actor.seat, reference.handle as usize, word);
+            .swap::<HandOutStep>(&mut actor.seat, reference.handle as usize, word);
         actor.is_out = true;
         actor.turn = place_of(actor.config.per_backend, reference.handle) + 1;
         HandedOut {
@@ -90,30 +94,30 @@ impl<R: Record, W: World> Table<R, W> {
 
     /// Gives the handle back, which is Idle under the same generation.
     pub fn release(&self, actor: &mut Actor<R, W>, token: HandedOut<W>)
-        requires table { IsOf self.now actor.old }
+        requires table { IsActorOf self.now actor.old }
         requires token { actor.old.known.out ≡ Some token }
-        ensures same { IsSame actor.old actor.new }
-        ensures event { Made Release token.handle (handed token.generation)
-            (idle token.generation) [] actor.old.known actor.new.known }
+        ensures same { IsSameActor actor.old actor.new }
+        ensures event { EventMade Release token.handle (handed_out_word token.generation)
+            (idle_word token.generation) [] actor.old.known actor.new.known }
     {
         let HandedOut { reference, of: _ } = token;
         let handle = reference.handle as usize;
         let word = number_of(State::Idle, false, Class::Unended, reference.generation);
-        bring(&mut actor.seat, handle);
+        move_slot_to_front(&mut actor.seat, handle);
         self.inner
             .shared
-            .swap::<ReleaseIt>(&mut actor.seat, handle, word);
+            .swap::<ReleaseStep>(&mut actor.seat, handle, word);
         actor.is_out = false;
     }
 
     /// Binds the record to the handle that the actor has handed out.
     pub fn define(&self, actor: &mut Actor<R, W>, token: HandedOut<W>, mut io: R) -> Defined<R, W>
-        requires table { IsOf self.now actor.old }
+        requires table { IsActorOf self.now actor.old }
         requires token { actor.old.known.out ≡ Some token }
         requires fits { R.fits W.told W.relations io }
-        ensures same { IsSame actor.old actor.new }
-        ensures event { Made Define token.handle (handed token.generation)
-            (defined token.generation) [] actor.old.known actor.new.known }
+        ensures same { IsSameActor actor.old actor.new }
+        ensures event { EventMade Define token.handle (handed_out_word token.generation)
+            (defined_word token.generation) [] actor.old.known actor.new.known }
         ensures token { (result.0 ≡ token) × (R.aim result.1 ≡ R.aim io)
             × IsDefined actor.new.known result.0 }
     {
@@ -122,7 +126,7 @@ impl<R: Record, W: World> Table<R, W> {
         let word = number_of(State::Defined, false, Class::Unended, reference.generation);
         self.inner
             .shared
-            .swap::<Defines>(&mut actor.seat, reference.handle as usize, word);
+            .swap::<DefineStep>(&mut actor.seat, reference.handle as usize, word);
         let life = OwnHandle {
             generation: reference.generation,
             is_defined: true,
@@ -143,11 +147,11 @@ impl<R: Record, W: World> Table<R, W> {
 
     /// The I/O may be submitted.
     pub fn stage(&self, actor: &mut Actor<R, W>, token: Defined<R, W>) -> Staged<R, W>
-        requires table { IsOf self.now actor.old }
+        requires table { IsActorOf self.now actor.old }
         requires token { IsDefined actor.old.known token.0 }
-        ensures same { IsSame actor.old actor.new }
-        ensures event { Made Stage token.0.handle (defined token.0.generation)
-            (staged token.0.generation) [] actor.old.known actor.new.known }
+        ensures same { IsSameActor actor.old actor.new }
+        ensures event { EventMade Stage token.0.handle (defined_word token.0.generation)
+            (staged_word token.0.generation) [] actor.old.known actor.new.known }
         ensures token { (result ≡ token) × IsStaged actor.new.known result.0 }
     {
         let Defined {
@@ -158,7 +162,7 @@ impl<R: Record, W: World> Table<R, W> {
         let word = number_of(State::Staged, false, Class::Unended, reference.generation);
         self.inner
             .shared
-            .swap::<Stages>(&mut actor.seat, reference.handle as usize, word);
+            .swap::<StageStep>(&mut actor.seat, reference.handle as usize, word);
         Staged {
             reference,
             io,
@@ -168,11 +172,11 @@ impl<R: Record, W: World> Table<R, W> {
 
     /// Lays the record into the handle's slot, where anybody may claim it.
     pub fn submit(&self, actor: &mut Actor<R, W>, token: Staged<R, W>) -> InFlight<W>
-        requires table { IsOf self.now actor.old }
+        requires table { IsActorOf self.now actor.old }
         requires token { IsStaged actor.old.known token.0 }
-        ensures same { IsSame actor.old actor.new }
-        ensures event { Made Submit token.0.handle (staged token.0.generation)
-            (unclaimed token.0.generation) (R.aim token.1) actor.old.known actor.new.known }
+        ensures same { IsSameActor actor.old actor.new }
+        ensures event { EventMade Submit token.0.handle (staged_word token.0.generation)
+            (unclaimed_word token.0.generation) (R.aim token.1) actor.old.known actor.new.known }
         ensures token { (result ≡ token.0) × IsInFlight actor.new.known result
             × IsIn (result, R.aim token.1) actor.new.known.aims }
     {
@@ -188,13 +192,13 @@ impl<R: Record, W: World> Table<R, W> {
             Class::Unended,
             reference.generation,
         );
-        bring(&mut actor.seat, handle);
+        move_slot_to_front(&mut actor.seat, handle);
         self.inner
             .shared
             .exchange(&mut actor.seat, handle, Some(io));
         self.inner
             .shared
-            .swap::<SubmitIt>(&mut actor.seat, handle, word);
+            .swap::<SubmitStep>(&mut actor.seat, handle, word);
         InFlight {
             reference,
             of: PhantomData,
@@ -203,26 +207,26 @@ impl<R: Record, W: World> Table<R, W> {
 
     /// Takes the result of one's own I/O, where it has ended.
     pub fn try_take(&self, actor: &mut Actor<R, W>, token: InFlight<W>) -> Take<R, W>
-        requires table { IsOf self.now actor.old }
+        requires table { IsActorOf self.now actor.old }
         requires token { IsInFlight actor.old.known token }
-        ensures same { IsSame actor.old actor.new }
+        ensures same { IsSameActor actor.old actor.new }
         ensures not_yet { IfNotYet result
             (λ t. (t ≡ token) × IsInFlight actor.new.known t
-            × ((w : Word) × Looked token.handle w actor.old.known actor.new.known
+            × ((w : Word) × WordLoaded token.handle w actor.old.known actor.new.known
             × (IsCompleted w token.generation → ⊥))) }
         ensures ready { IfReady result
             (λ t. (t.0 ≡ token) × IsLocal actor.new.known t.0
-            × TakesOut token actor.old.known actor.new.known (R.label t.1)) }
+            × TakesResult token actor.old.known actor.new.known (R.label t.1)) }
         ensures alone { IfReady result
-            (λ t. actors_of self.now.config ≡ 1
-            → LivedAlone t.0 (R.label t.1).ended actor.new.known) }
+            (λ t. actor_count self.now.config ≡ 1
+            → HasWholeLife t.0 (R.label t.1).ended actor.new.known) }
         ensures record { IfReady result
             (λ t. R.fits W.told W.relations t.1
             × ((aim : List ℕ) → IsIn (token, aim) actor.old.known.aims → R.aim t.1 ≡ aim)) }
     {
         let InFlight { reference, of: _ } = token;
         let handle = reference.handle as usize;
-        let found = self.inner.shared.load::<LookAt>(&mut actor.seat, handle);
+        let found = self.inner.shared.load::<LookStep>(&mut actor.seat, handle);
         let Ok(word) = unpack(found) else {
             unreachable!()
         };
@@ -234,7 +238,7 @@ impl<R: Record, W: World> Table<R, W> {
         }
         self.inner
             .shared
-            .fetch_add::<GetIt<W>>(&mut actor.seat, handle, 1);
+            .fetch_add::<TakeStep<W>>(&mut actor.seat, handle, 1);
         match self.inner.shared.exchange(&mut actor.seat, handle, None) {
             Some(io) => Take::Ready(Local {
                 reference,
@@ -247,13 +251,13 @@ impl<R: Record, W: World> Table<R, W> {
 
     /// Gives the record back, and the handle is Idle under the next generation.
     pub fn reclaim(&self, actor: &mut Actor<R, W>, token: Local<R, W>) -> R
-        requires table { IsOf self.now actor.old }
+        requires table { IsActorOf self.now actor.old }
         requires token { IsLocal actor.old.known token.0 }
         requires settled { (R.label token.1).settled ≡ true }
-        ensures same { IsSame actor.old actor.new }
+        ensures same { IsSameActor actor.old actor.new }
         ensures event { (class : Class)
-            × Made Reclaim token.0.handle (taken class token.0.generation)
-            (idle (token.0.generation + 1)) [] actor.old.known actor.new.known }
+            × EventMade Reclaim token.0.handle (taken_word class token.0.generation)
+            (idle_word (token.0.generation + 1)) [] actor.old.known actor.new.known }
         ensures record { result ≡ token.1 }
     {
         let Local {
@@ -262,11 +266,11 @@ impl<R: Record, W: World> Table<R, W> {
             of: _,
         } = token;
         let handle = reference.handle as usize;
-        bring(&mut actor.seat, handle);
+        move_slot_to_front(&mut actor.seat, handle);
         let word = number_of(State::Idle, false, Class::Unended, reference.generation + 1);
         self.inner
             .shared
-            .swap::<ReclaimIt>(&mut actor.seat, handle, word);
+            .swap::<ReclaimStep>(&mut actor.seat, handle, word);
         let life = OwnHandle {
             generation: reference.generation + 1,
             is_defined: false,

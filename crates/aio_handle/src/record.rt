@@ -2,7 +2,7 @@
 ghost use Rattle.std.specs.Prelude.{◌≡◌, ℕ, List, Option};
 ghost use Rattle.page_check.specs.Told.{Told};
 ghost use Rattle.aio_handle.specs.declared.record.Label.{Label};
-ghost use Rattle.aio_handle.specs.Labels.{bound};
+ghost use Rattle.aio_handle.specs.Labels.{bound_label};
 
 use aio_word::Class;
 
@@ -25,7 +25,7 @@ pub trait Record: Send + Drop {
     ghost fits: { Option Told → ℕ → Self → Type 0 };
 
     fn bind(&mut self, handle: u32, generation: u64)
-        ensures label { label self.new ≡ bound handle generation }
+        ensures label { label self.new ≡ bound_label handle generation }
         ensures aim { aim self.new ≡ aim self.old }
         ensures fits { (told : Option Told) (relations : ℕ) → fits told relations self.old
             → fits told relations self.new };

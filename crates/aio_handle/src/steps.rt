@@ -1,10 +1,10 @@
 //! What each step tells. These types are for the proofs alone.
 ghost use Rattle.std.specs.Prelude.{◌≡◌, [], ◌++◌};
 ghost use Rattle.aio_word.specs.declared.Step.TheVariants.{Define, Stage};
-ghost use Rattle.aio_handle.specs.Steps.{Loads, Makes, Executes, Hands, Releases};
-ghost use Rattle.aio_handle.specs.Steps.{Reclaims, Claims, Submits, Shares, Gets};
-ghost use Rattle.aio_handle.specs.LifeWords.{handed, defined, staged};
-ghost use Rattle.aio_handle.specs.Seats.{front_of, behind_of};
+ghost use Rattle.aio_handle.specs.Steps.{LoadsWord, MakesEvent, Executes, HandsOut, Releases};
+ghost use Rattle.aio_handle.specs.Steps.{Reclaims, Claims, Submits, Shares, TakesCompleted};
+ghost use Rattle.aio_handle.specs.LifeWords.{handed_out_word, defined_word, staged_word};
+ghost use Rattle.aio_handle.specs.Seats.{front_of, rest_of};
 ghost use Rattle.aio_handle.specs.Together.{Compares};
 
 use crate::record::Record;
@@ -14,107 +14,107 @@ use page_check::World;
 use std::marker::PhantomData;
 
 /// The first of a seat's lists goes to a new seat.
-pub struct Deal;
+pub struct SplitFirst;
 
-impl Split<View> for Deal {
-    ghost left = { behind_of };
+impl Split<View> for SplitFirst {
+    ghost left = { rest_of };
 
     ghost right = { front_of };
 }
 
 /// All lists of a seat go to a new seat.
-pub struct CutOff;
+pub struct SplitAll;
 
-impl Split<View> for CutOff {
+impl Split<View> for SplitAll {
     ghost left = { λ v. [] };
 
     ghost right = { λ v. v };
 }
 
 /// Two seats' lists, the other's first.
-pub struct Merge;
+pub struct JoinLists;
 
-impl Join<View> for Merge {
+impl Join<View> for JoinLists {
     ghost both = { λ v w. w ++ v };
 
     ghost spent = { [] };
 }
 
 /// A new seat carries no list.
-pub struct Blank;
+pub struct EmptySeat;
 
-impl<R> Play<Option<R>, View> for Blank {
+impl<R> Play<Option<R>, View> for EmptySeat {
     ghost then = { λ st m n m'. m'.0 ≡ [] };
 }
 
-pub struct HandIt;
+pub struct HandOutStep;
 
-impl<R> Play<Option<R>, View> for HandIt {
-    ghost then = { Hands };
+impl<R> Play<Option<R>, View> for HandOutStep {
+    ghost then = { HandsOut };
 }
 
-pub struct ReleaseIt;
+pub struct ReleaseStep;
 
-impl<R> Play<Option<R>, View> for ReleaseIt {
+impl<R> Play<Option<R>, View> for ReleaseStep {
     ghost then = { Releases };
 }
 
-pub struct Defines;
+pub struct DefineStep;
 
-impl<R> Play<Option<R>, View> for Defines {
-    ghost then = { Makes Define handed defined };
+impl<R> Play<Option<R>, View> for DefineStep {
+    ghost then = { MakesEvent Define handed_out_word defined_word };
 }
 
-pub struct Stages;
+pub struct StageStep;
 
-impl<R> Play<Option<R>, View> for Stages {
-    ghost then = { Makes Stage defined staged };
+impl<R> Play<Option<R>, View> for StageStep {
+    ghost then = { MakesEvent Stage defined_word staged_word };
 }
 
-pub struct SubmitIt;
+pub struct SubmitStep;
 
-impl<R: Record> Play<Option<R>, View> for SubmitIt {
+impl<R: Record> Play<Option<R>, View> for SubmitStep {
     ghost then = { Submits R.aim };
 }
 
-pub struct ClaimIt<W> {
+pub struct ClaimStep<W> {
     of: PhantomData<W>,
 }
 
-impl<R: Record, W: World> Play<Option<R>, View> for ClaimIt<W> {
+impl<R: Record, W: World> Play<Option<R>, View> for ClaimStep<W> {
     ghost then = { Claims R.label R.aim (R.fits W.told W.relations) };
 }
 
-pub struct ExecuteIt;
+pub struct ExecuteStep;
 
-impl<R> Play<Option<R>, View> for ExecuteIt {
+impl<R> Play<Option<R>, View> for ExecuteStep {
     ghost then = { Executes };
 }
 
-pub struct ShareIt;
+pub struct ShareStep;
 
-impl<R> Play<Option<R>, View> for ShareIt {
+impl<R> Play<Option<R>, View> for ShareStep {
     ghost then = { Shares };
 }
 
-pub struct GetIt<W> {
+pub struct TakeStep<W> {
     of: PhantomData<W>,
 }
 
-impl<R: Record, W: World> Play<Option<R>, View> for GetIt<W> {
-    ghost then = { Gets R.label R.aim (R.fits W.told W.relations) };
+impl<R: Record, W: World> Play<Option<R>, View> for TakeStep<W> {
+    ghost then = { TakesCompleted R.label R.aim (R.fits W.told W.relations) };
 }
 
-pub struct ReclaimIt;
+pub struct ReclaimStep;
 
-impl<R> Play<Option<R>, View> for ReclaimIt {
+impl<R> Play<Option<R>, View> for ReclaimStep {
     ghost then = { Reclaims };
 }
 
-pub struct LookAt;
+pub struct LookStep;
 
-impl<R> Play<Option<R>, View> for LookAt {
-    ghost then = { Loads };
+impl<R> Play<Option<R>, View> for LookStep {
+    ghost then = { LoadsWord };
 }
 
 /// Two lists that lie in one seat stand together.

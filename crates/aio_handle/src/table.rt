@@ -4,16 +4,16 @@ ghost use Rattle.std.specs.Prelude.{length};
 ghost use Rattle.aio_word.specs.declared.Class.{Class};
 ghost use Rattle.aio_word.specs.declared.Word.{Word};
 ghost use Rattle.aio_word.specs.declared.Known.{Known};
-ghost use Rattle.aio_word.specs.Words.{IsLawful, packed};
-ghost use Rattle.aio_word.specs.Events.{handles, actors as actors_of, word_in};
-ghost use Rattle.aio_handle.specs.Ruled.{newcomer};
+ghost use Rattle.aio_word.specs.Words.{IsLawful, packed_word};
+ghost use Rattle.aio_word.specs.Events.{handle_count, actor_count, make_word};
+ghost use Rattle.aio_handle.specs.TableInvariant.{initial_known};
 
 use crate::actor::Actor;
 use crate::own::OwnHandle;
 use crate::record::Record;
 use crate::rule::{Handles, View};
 use crate::sleepers::Sleepers;
-use crate::steps::Deal;
+use crate::steps::SplitFirst;
 use aio_word::{Class, Config, State, Word, pack};
 use atomic_table::Seat;
 use page_check::World;
@@ -24,7 +24,7 @@ use std::marker::{Model, PhantomData};
 ///
 /// Each handle has one word and one slot. Whatever calls are in the middle, the words and all
 /// actors' lists are at every moment a state that the machine of handles can reach: that is the
-/// rule of its `atomic_table::Table` (`Ruled` in `specs`).
+/// rule of its `atomic_table::Table` (`TableInvariant` in `specs`).
 #[derive(Drop)]
 pub struct Table<R: Record, W: World> {
     pub(crate) inner: atomic_table::Table<Option<R>, View, Config, Handles<R, W>, Global>,
@@ -34,23 +34,24 @@ pub struct Table<R: Record, W: World> {
 
 impl<R: Record, W: World> Model for Table<R, W> {
     ghost use Rattle.std.specs.Prelude.{◌≡◌};
-    ghost use Rattle.aio_word.specs.Events.{handles};
-    ghost use Rattle.aio_handle.specs.Shown.{Named, IsConfig};
+    ghost use Rattle.aio_word.specs.Events.{handle_count};
+    ghost use Rattle.aio_handle.specs.ContractViews.{TableView, IsConfig};
 
-    ghost Value = { Named };
+    ghost Value = { TableView };
 
     ghost view = { λ t. record { table = t.inner.shared.table_id; config = t.config } };
 
     ghost invariant = { λ t. (t.inner.shared.key ≡ t.config)
-        × (t.inner.shared.table_id.words ≡ handles t.config)
-        × (t.inner.shared.table_id.slots ≡ handles t.config) × (handles t.config ≡ W.handles)
-        × IsConfig t.config × (t.sleepers ≡ handles t.config) };
+        × (t.inner.shared.table_id.words ≡ handle_count t.config)
+        × (t.inner.shared.table_id.slots ≡ handle_count t.config)
+        × (handle_count t.config ≡ W.handles)
+        × IsConfig t.config × (t.sleepers ≡ handle_count t.config) };
 }
 
 /// The number that the word with these fields packs to.
 pub(crate) fn number_of(state: State, claimed: bool, class: Class, generation: u64) -> u64
-    requires { IsLawful (word_in state claimed class generation) }
-    ensures { result ≡ packed (word_in state claimed class generation) }
+    requires { IsLawful (make_word state claimed class generation) }
+    ensures { result ≡ packed_word (make_word state claimed class generation) }
 {
     pack(&Word {
         state,
@@ -73,8 +74,8 @@ fn own_count(config: &Config, number: u32) -> usize
 }
 
 impl<R: Record, W: World> Table<R, W> {
-    ghost use Rattle.aio_handle.specs.Shown.{AreNew};
-    ghost use Rattle.aio_handle.specs.Seats.{behind_of};
+    ghost use Rattle.aio_handle.specs.ContractViews.{AreNewActors};
+    ghost use Rattle.aio_handle.specs.Seats.{rest_of};
 
     /// A table whose handles are all Idle at generation `start`, and its actors in the order of
     /// their numbers, the backends first: backend `b` owns the handles from `b * per_backend` to
@@ -103,7 +104,7 @@ impl<R: Record, W: World> Table<R, W> {
                   start;
             }) }
         ensures count { IfOk result (λ t. length t.1.items ≡ backends + runners) }
-        ensures actors { IfOk result (λ t. AreNew t.0 0 t.1.items) }
+        ensures actors { IfOk result (λ t. AreNewActors t.0 0 t.1.items) }
     {
         let config = Config {
             backends,
@@ -142,17 +143,17 @@ impl<R: Record, W: World> Table<R, W> {
         number: u32,
     ) -> Result<Actor<R, W>, AllocError>
         requires table { seat.old.table_id ≡ self.now.table }
-        requires number { number < actors_of self.now.config }
+        requires number { number < actor_count self.now.config }
         requires view { (ps : List Known)
-            × (seat.old.me ≡ (newcomer self.now.config number ∷ ps, [])) }
+            × (seat.old.me ≡ (initial_known self.now.config number ∷ ps, [])) }
         ensures seat { IfOk result
             (λ _. (seat.new.table_id ≡ seat.old.table_id)
-            × (seat.new.me ≡ (behind_of seat.old.me.0, []))) }
+            × (seat.new.me ≡ (rest_of seat.old.me.0, []))) }
         ensures actor { IfOk result
             (λ a. a ≡ record {
               table = self.now.table;
               known =
-                  newcomer self.now.config number;
+                  initial_known self.now.config number;
             }) }
     {
         let first = OwnHandle {
@@ -162,7 +163,7 @@ impl<R: Record, W: World> Table<R, W> {
         let count = own_count(&self.config, number);
         let own = Vec::from_elem(alloc, first, count)?;
         Ok(Actor {
-            seat: self.inner.shared.split_seat::<Deal>(seat),
+            seat: self.inner.shared.split_seat::<SplitFirst>(seat),
             number,
             config: self.config,
             own,

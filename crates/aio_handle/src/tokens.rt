@@ -33,14 +33,14 @@ pub struct Defined<R: Record, W: World> {
 impl<R: Record, W: World> Model for Defined<R, W> {
     ghost use Rattle.std.specs.Prelude.{◌≡◌};
     ghost use Rattle.aio_word.specs.declared.WaitRef.{WaitRef};
-    ghost use Rattle.aio_handle.specs.Labels.{bound, InRange};
+    ghost use Rattle.aio_handle.specs.Labels.{bound_label, InRange};
 
     ghost Value = { WaitRef × R };
 
     ghost view = { λ d. (d.reference, d.io) };
 
     ghost invariant = { λ d. InRange W.handles d.reference
-        × (R.label d.io ≡ bound d.reference.handle d.reference.generation)
+        × (R.label d.io ≡ bound_label d.reference.handle d.reference.generation)
         × R.fits W.told W.relations d.io };
 }
 
@@ -55,14 +55,14 @@ pub struct Staged<R: Record, W: World> {
 impl<R: Record, W: World> Model for Staged<R, W> {
     ghost use Rattle.std.specs.Prelude.{◌≡◌};
     ghost use Rattle.aio_word.specs.declared.WaitRef.{WaitRef};
-    ghost use Rattle.aio_handle.specs.Labels.{bound, InRange};
+    ghost use Rattle.aio_handle.specs.Labels.{bound_label, InRange};
 
     ghost Value = { WaitRef × R };
 
     ghost view = { λ d. (d.reference, d.io) };
 
     ghost invariant = { λ d. InRange W.handles d.reference
-        × (R.label d.io ≡ bound d.reference.handle d.reference.generation)
+        × (R.label d.io ≡ bound_label d.reference.handle d.reference.generation)
         × R.fits W.told W.relations d.io };
 }
 

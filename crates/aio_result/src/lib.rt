@@ -6,7 +6,8 @@
 #![tactic(auto)]
 
 ghost use Rattle.std.specs.Prelude.{◌≡◌, ◌↔◌, ◌^◌, ◌<◌, IfOk, IfErr, IsErr};
-ghost use Rattle.aio_result.specs.Encoded.{encoded, status_bits, IsInRange, StatusOf};
+ghost use Rattle.aio_result.specs.EncodedResult.{encoded_result, status_bits, IsInRange};
+ghost use Rattle.aio_result.specs.EncodedResult.{BitsAreStatus};
 
 /// How an I/O ended (`PgAioResultStatus`).
 #[derive(Clone, Copy, Debug, PartialEq, Eq)]
@@ -44,7 +45,7 @@ pub struct BadStatus(pub u8);
 pub fn encode(value: &AioResult) -> u64
     requires id { value.now.id < 64 }
     requires error { value.now.error < 2 ^ 23 }
-    ensures { result ≡ encoded value.now }
+    ensures { result ≡ encoded_result value.now }
 {
     let high = value.result.cast_unsigned() as u64;
     let low = value.id as u64 + ((value.status as u64) << 6) + ((value.error as u64) << 9);
@@ -52,7 +53,7 @@ pub fn encode(value: &AioResult) -> u64
 }
 
 fn status_of(bits: u8) -> Option<Status>
-    ensures { StatusOf bits result }
+    ensures { BitsAreStatus bits result }
 {
     match bits {
         0 => Some(Status::Unknown),
@@ -67,9 +68,9 @@ fn status_of(bits: u8) -> Option<Status>
 /// The result with this number, or the number's status bits where they are no status. It takes no
 /// memory.
 pub fn decode(number: u64) -> Result<AioResult, BadStatus>
-    ensures number { IfOk result (λ r. IsInRange r × (encoded r ≡ number)) }
+    ensures number { IfOk result (λ r. IsInRange r × (encoded_result r ≡ number)) }
     // So what was encoded is decoded: this is the only result with the number.
-    ensures only { (r : AioResult) → IsInRange r → encoded r ≡ number → result ≡ Ok r }
+    ensures only { (r : AioResult) → IsInRange r → encoded_result r ≡ number → result ≡ Ok r }
 
     ensures bad_status { IsErr result ↔ (4 < status_bits number) }
     ensures bits { IfErr result (λ bad. bad.0 ≡ status_bits number) }

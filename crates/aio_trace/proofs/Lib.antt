@@ -1,1 +1,1 @@
-pub mod Replaying
+pub mod OneAnswer

@@ -1,8 +1,8 @@
 //! The checker of one given run.
 ghost use Rattle.std.specs.Prelude.{◌<◌, ◌≤◌, ◌^◌, ℕ};
-ghost use Rattle.aio_core.specs.Runs.{Running, opened};
+ghost use Rattle.aio_core.specs.AfterEvents.{MachineView, opened_machine};
 ghost use Rattle.aio_trace.specs.declared.replays.ReplayAnswer.TheVariants.{Lawful, FirstBad};
-ghost use Rattle.aio_trace.specs.Replay.{IsReplay, IsFirstBad, IsAfterAll, IsUnlessNoMemory};
+ghost use Rattle.aio_trace.specs.Replay.{IsReplay, IsFirstBad, IsAfterAll, AgreesUnlessNoMemory};
 
 use aio_core::{Machine, RunRefusal, StepRefusal};
 use aio_word::Event;
@@ -21,7 +21,7 @@ pub enum ReplayAnswer {
 
 /// Makes the events of a run, in order, on a machine whose handles are all Idle at generation
 /// `start`: of `backends` backends with `per_backend` handles each, and of `runners` runners.
-#[tactic(auto, using(crate::proofs::Replaying::lawful_alone, crate::proofs::Replaying::bad_alone))]
+#[tactic(auto, using(crate::proofs::OneAnswer::lawful_alone, crate::proofs::OneAnswer::bad_alone))]
 pub fn replay(
     alloc: Global,
     backends: u32,
@@ -34,15 +34,16 @@ pub fn replay(
     requires per_backend { (0 < per_backend) × (per_backend ≤ 64) }
     requires runners { runners ≤ 32 }
     requires start { start < 2 ^ 58 }
-    ensures answer { IsReplay (opened backends per_backend runners start) events.now result }
+    ensures answer { IsReplay (opened_machine backends per_backend runners start) events.now
+        result }
 
     // Each answer comes exactly where it says so, but for want of memory.
-    ensures lawful { (end : Running)
-        → IsAfterAll (opened backends per_backend runners start) events.now end
-        → IsUnlessNoMemory result (Lawful end) }
+    ensures lawful { (end : MachineView)
+        → IsAfterAll (opened_machine backends per_backend runners start) events.now end
+        → AgreesUnlessNoMemory result (Lawful end) }
     ensures first_bad { (i : ℕ)
-        → IsFirstBad (opened backends per_backend runners start) events.now i
-        → IsUnlessNoMemory result (FirstBad i) }
+        → IsFirstBad (opened_machine backends per_backend runners start) events.now i
+        → AgreesUnlessNoMemory result (FirstBad i) }
 {
     match Machine::open(alloc, backends, per_backend, runners, start) {
         Ok(machine) => replay_on(machine, events),

@@ -1,6 +1,6 @@
 //! The line of totals.
 ghost use Rattle.std.specs.Prelude.{◌≡◌, ◌++◌, OnOk, OnErr, IfOk, string_bytes};
-ghost use Rattle.aio_trace.specs.TotalsText.{line_of, totals_line};
+ghost use Rattle.aio_trace.specs.TotalsText.{numbers_line, totals_line};
 
 use aio_handle::Totals;
 use std::alloc::{AllocError, Global};
@@ -12,7 +12,7 @@ pub fn numbers_text(
     workers: u128,
     backends: u128,
 ) -> Result<String, AllocError>
-    ensures { IfOk result (λ text. string_bytes text ≡ line_of incarnations workers backends) }
+    ensures { IfOk result (λ text. string_bytes text ≡ numbers_line incarnations workers backends) }
 {
     format!(in alloc; "incarnations {incarnations} workers {workers} backends {backends}\n")
 }

@@ -1,2 +1,2 @@
-pub mod Seeing
-pub mod InFlight
+pub mod SeenDone
+pub mod WaitKeepsInFlight

@@ -1,10 +1,10 @@
 //! Waiting for one's own I/O, and its result.
 ghost use Rattle.std.specs.Prelude.{◌≡◌, ℕ, List};
-ghost use Rattle.aio_word.specs.Events.{actors as actors_of};
+ghost use Rattle.aio_word.specs.Events.{actor_count};
 ghost use Rattle.aio_word.specs.Stands.{IsIn};
 ghost use Rattle.aio_word.specs.Tokens.{IsInFlight, IsLocal};
-ghost use Rattle.aio_handle.specs.Made.{LivedAlone};
-ghost use Rattle.aio_handle.specs.Shown.{IsOf, IsSame};
+ghost use Rattle.aio_handle.specs.CallEvents.{HasWholeLife};
+ghost use Rattle.aio_handle.specs.ContractViews.{IsActorOf, IsSameActor};
 ghost use Rattle.aio_waitref.specs.Waiting.{WaitsAndTakes};
 
 use crate::waits::wait;
@@ -25,18 +25,18 @@ pub fn wait_own<R: Record, W: World, E: Execute<R, W>, T: Wait>(
     token: InFlight<W>,
     runner: &mut E,
 ) -> Local<R, W>
-    requires table { IsOf table.now actor.old }
+    requires table { IsActorOf table.now actor.old }
     requires told { (E.told runner.old ≡ W.told) × (E.relations runner.old ≡ W.relations) }
     requires token { IsInFlight actor.old.known token }
-    ensures same { IsSame actor.old actor.new }
+    ensures same { IsSameActor actor.old actor.new }
     ensures told { (E.told runner.new ≡ E.told runner.old)
         × (E.relations runner.new ≡ E.relations runner.old) }
     ensures token { (result.0 ≡ token) × IsLocal actor.new.known result.0 }
     ensures taken { WaitsAndTakes token actor.old.known actor.new.known
         (E.reads runner.old) (E.reads runner.new)
         (E.faults runner.old) (E.faults runner.new) (R.label result.1) }
-    ensures alone { actors_of table.now.config ≡ 1
-        → LivedAlone result.0 (R.label result.1).ended actor.new.known }
+    ensures alone { actor_count table.now.config ≡ 1
+        → HasWholeLife result.0 (R.label result.1).ended actor.new.known }
     ensures record { R.fits W.told W.relations result.1
         × ((aim : List ℕ) → IsIn (token, aim) actor.old.known.aims → R.aim result.1 ≡ aim) }
 {

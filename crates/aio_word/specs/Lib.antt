@@ -1,6 +1,6 @@
 pub mod Words
 pub mod Events
 pub mod Stands
-pub mod Ranked
+pub mod StandsByRank
 pub mod Tokens
 pub mod Totals

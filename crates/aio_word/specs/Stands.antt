@@ -21,9 +21,10 @@ use Rattle.aio_word.specs.declared.Config.{Config}
 use Rattle.aio_word.specs.declared.Mark.{Mark}
 use Rattle.aio_word.specs.declared.Known.{Known}
 use Rattle.aio_word.specs.declared.WaitRef.{WaitRef}
-use Rattle.aio_word.specs.Words.{IsLawful, IsNotAbove, last_generation, place_of}
-use Rattle.aio_word.specs.Events.{Machine, Reached, handles, actors, owner}
-use Rattle.aio_word.specs.Events.{order, rank_of_mark, times, at, an_io, ref, mark_at}
+use Rattle.aio_word.specs.Words.{IsLawful, IsNotAbove, last_generation, word_place}
+use Rattle.aio_word.specs.Events.{Machine, IsReachable, handle_count, actor_count, owner}
+use Rattle.aio_word.specs.Events.{kind_place, mark_rank, count_at_rank, mark_count, any_io}
+use Rattle.aio_word.specs.Events.{wait_ref, make_mark}
 
 -- 1 where the test holds, else 0
 abbrev pub one_if : Bool → ℕ
@@ -35,77 +36,80 @@ IsIn x [] = ⊥
 IsIn x (y ∷ ys) = (y ≡ x) ⊎ IsIn x ys
 
 -- the claimer makes these, and the owner the others
-abbrev pub IsOwners : Kind → Type 0
-IsOwners kind.Claimed = ⊥
-IsOwners (kind.Io class) = ⊥
-IsOwners kind.Shared = ⊥
-IsOwners _ = Unit {0}
+abbrev pub IsOwnerKind : Kind → Type 0
+IsOwnerKind kind.Claimed = ⊥
+IsOwnerKind (kind.Io class) = ⊥
+IsOwnerKind kind.Shared = ⊥
+IsOwnerKind _ = Unit {0}
 
 -- how often the mark of this handle at this rank stands in all lists
-abbrev pub total : ℕ → ℕ → List Known → ℕ
-total handle rank parts = sum_by (λ p. times handle rank p.marks) parts
+abbrev pub total_at_rank : ℕ → ℕ → List Known → ℕ
+total_at_rank handle rank parts = sum_by (λ p. count_at_rank handle rank p.marks) parts
 
 -- the greatest pair that the actor has seen of the handle, as a rank
-abbrev pub seen_of : Known → ℕ → ℕ
-seen_of p handle = slice_index_or p.seen handle 0
+abbrev pub seen_rank : Known → ℕ → ℕ
+seen_rank p handle = slice_index_or p.seen handle 0
 
 -- how often the mark of this kind of an incarnation stands over all lists
-abbrev pub stands : WaitRef → Kind → List Known → ℕ
-stands t k parts = sum_by (λ p. at t k p.marks) parts
+abbrev pub mark_total : WaitRef → Kind → List Known → ℕ
+mark_total t k parts = sum_by (λ p. mark_count t k p.marks) parts
 
 -- the lists stand for the word of one handle: what (a), (b), (c), (d) and (f) say of it
-pub record HandleStands (c : Config) (parts : List Known) (handle : ℕ) (w : Word) : Type 0 where
+pub record StandsForHandle (c : Config) (parts : List Known) (handle : ℕ) (w : Word) : Type 0 where
   -- (a) the word is lawful and not below the first generation, and Idle at the last
   pub lawful : IsLawful w
   pub begun : c.start ≤ w.generation
   pub last : w.generation ≡ last_generation → w.state ≡ Idle
   -- (b) each generation that is over has each mark of a life once
   pub over : (g : ℕ) → c.start ≤ g → g < w.generation
-      → (k : Kind) → stands (ref handle g) k parts ≡ 1
+      → (k : Kind) → mark_total (wait_ref handle g) k parts ≡ 1
   -- (b) the word's generation has the first marks once each, as many as the place says
   pub now : (k : Kind)
-      → stands (ref handle w.generation) k parts ≡ one_if (nat_lt (order k) (place_of w))
+      → mark_total (wait_ref handle w.generation) k parts
+      ≡ one_if (nat_lt (kind_place k) (word_place w))
   -- (b) no other generation has a mark
   pub none : (g : ℕ) → (g < c.start) ⊎ (w.generation < g)
-      → (k : Kind) → stands (ref handle g) k parts ≡ 0
+      → (k : Kind) → mark_total (wait_ref handle g) k parts ≡ 0
   -- (c) Claimed, Io and Shared of one incarnation stand in one list
   pub claimed : (p : Known) → IsIn p parts → (g : ℕ)
-      → (at (ref handle g) an_io p.marks ≤ at (ref handle g) kind.Claimed p.marks)
-      × (at (ref handle g) kind.Shared p.marks ≤ at (ref handle g) kind.Claimed p.marks)
+      → (mark_count (wait_ref handle g) any_io p.marks ≤ mark_count
+      (wait_ref handle g) kind.Claimed p.marks)
+      × (mark_count (wait_ref handle g) kind.Shared p.marks
+      ≤ mark_count (wait_ref handle g) kind.Claimed p.marks)
   -- (d) the class of an Io mark of the word's generation is the word's
   pub classed : (p : Known) → IsIn p parts → (class : Class)
-      → IsIn (mark_at (ref handle w.generation) (kind.Io class)) p.marks → class ≡ w.class
+      → IsIn (make_mark (wait_ref handle w.generation) (kind.Io class)) p.marks → class ≡ w.class
   -- (d) the class of a Local mark is that of its incarnation's Io mark
   pub agreed : (p q : Known) → IsIn p parts → IsIn q parts → (g : ℕ) (ended taken : Class)
-      → IsIn (mark_at (ref handle g) (kind.Io ended)) p.marks
-      → IsIn (mark_at (ref handle g) (kind.Local taken)) q.marks → ended ≡ taken
+      → IsIn (make_mark (wait_ref handle g) (kind.Io ended)) p.marks
+      → IsIn (make_mark (wait_ref handle g) (kind.Local taken)) q.marks → ended ≡ taken
   -- (f) the pair that an actor has seen is not above the word's
   pub seen : (p : Known) → IsIn p parts
-      → IsNotAbove (seen_of p handle / 8) (seen_of p handle % 8) w.generation (place_of w)
+      → IsNotAbove (seen_rank p handle / 8) (seen_rank p handle % 8) w.generation (word_place w)
 
 -- one list by itself: what (b) and (c) say of it
-pub record ListStands (c : Config) (p : Known) : Type 0 where
+pub record IsLawfulList (c : Config) (p : Known) : Type 0 where
   -- (b) no handle out of range has a mark
-  pub in_range : (m : Mark) → IsIn m p.marks → m.handle < handles c
+  pub in_range : (m : Mark) → IsIn m p.marks → m.handle < handle_count c
   -- (c) an owner's marks stand in the owner's list
-  pub owned : (m : Mark) → IsIn m p.marks → IsOwners m.kind → p.number ≡ owner c m.handle
+  pub owned : (m : Mark) → IsIn m p.marks → IsOwnerKind m.kind → p.number ≡ owner c m.handle
   -- (c) the marks of a handle stand in the order of its lives
-  pub ordered : AllPairs (λ m n. m.handle ≡ n.handle → rank_of_mark m < rank_of_mark n) p.marks
+  pub ordered : AllPairs (λ m n. m.handle ≡ n.handle → mark_rank m < mark_rank n) p.marks
 
 -- the lists stand for the words
 pub record Stands (c : Config) (words : List Word) (parts : List Known) : Type 0 where
-  pub wide : length words ≡ handles c
+  pub wide : length words ≡ handle_count c
   -- (a) no two actors have one number
   pub numbered : (n : ℕ) → sum_by (λ (p : Known). one_if (p.number == n)) parts ≤ 1
-  pub each_handle : (h : ℕ) (w : Word) → get_elem? words h ≡ some w → HandleStands c parts h w
-  pub each_list : (p : Known) → IsIn p parts → ListStands c p
+  pub each_handle : (h : ℕ) (w : Word) → get_elem? words h ≡ some w → StandsForHandle c parts h w
+  pub each_list : (p : Known) → IsIn p parts → IsLawfulList c p
   -- (e) no owner has two handles handed out
   pub one_out : (h i : ℕ) (v w : Word) → get_elem? words h ≡ some v → get_elem? words i ≡ some w
       → v.state ≡ HandedOut → w.state ≡ HandedOut → owner c h ≡ owner c i → h ≡ i
 
--- an actor of the machine, which keeps no record of what it has seen
-abbrev pub known_by : Config → ℕ → List Mark → Known
-known_by c n marks = record {
+-- what an actor of the machine knows: its marks; the machine keeps no record of what it has seen
+abbrev pub known_with_marks : Config → ℕ → List Mark → Known
+known_with_marks c n marks = record {
   config = c;
   number = n;
   marks = marks;
@@ -116,29 +120,30 @@ known_by c n marks = record {
 }
 
 -- the lists of the machine under the numbers of their actors
-abbrev pub numbered_from : Config → ℕ → List (List Mark) → List Known
-numbered_from c n [] = []
-numbered_from c n (marks ∷ lists) = known_by c n marks ∷ numbered_from c (n + 1) lists
+abbrev pub machine_parts : Config → ℕ → List (List Mark) → List Known
+machine_parts c n [] = []
+machine_parts c n (marks ∷ lists) = known_with_marks c n marks ∷ machine_parts c (n + 1) lists
 
 -- the lists of the machine stand for its words
-pub record MachineStands (c : Config) (m : Machine) : Type 0 where
-  pub stands : Stands c m.words (numbered_from c 0 m.lists)
-  pub all : length m.lists ≡ actors c
+pub record IsLawfulMachine (c : Config) (m : Machine) : Type 0 where
+  pub stands : Stands c m.words (machine_parts c 0 m.lists)
+  pub all : length m.lists ≡ actor_count c
 
 -- a state of the machine has these words and, under each actor's number, its list
-pub record IsMachine (c : Config) (m : Machine) (ws : List Word) (parts : List Known) : Type 0 where
+pub record MachineHasParts (c : Config) (m : Machine) (ws : List Word)
+    (parts : List Known) : Type 0 where
   pub words : m.words ≡ ws
   pub lists : (p : Known) → IsIn p parts → slice_get m.lists p.number ≡ Some p.marks
-  pub all : length m.lists ≡ actors c
+  pub all : length m.lists ≡ actor_count c
 
 -- a moment at which the actor's knowledge is p and the word of the handle is w: a state of the
 -- machine, for whose words the lists stand
 pub record AtMoment (c : Config) (p : Known) (h : ℕ) (w : Word) : Type 0 where
   pub machine : Machine
   pub parts : List Known
-  pub reached : Reached c machine
-  pub is : IsMachine c machine machine.words parts
+  pub reached : IsReachable c machine
+  pub is : MachineHasParts c machine machine.words parts
   pub stands : Stands c machine.words parts
   pub here : IsIn p parts
-  pub all : length parts ≡ actors c
+  pub all : length parts ≡ actor_count c
   pub word : slice_get machine.words h ≡ Some w

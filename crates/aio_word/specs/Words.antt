@@ -51,33 +51,33 @@ pub record IsLawful (w : Word) : Type 0 where
 
 -- the word as a number: state in bits 0 to 2, claim in bit 3, class in bits 4 and 5, generation
 -- from bit 6 on; this packing is the project's own
-abbrev pub packed : Word → ℕ
-packed w =
+abbrev pub packed_word : Word → ℕ
+packed_word w =
     number_of_state w.state + 8 * cond w.claimed 1 0 + 16 * number_of_class w.class
     + 64 * w.generation
 
 -- no lawful word packs to the number
-abbrev pub IsOfNoWord : ℕ → Type 0
-IsOfNoWord number = (w : Word) → IsLawful w → packed w ≢ number
+abbrev pub IsNoPackedWord : ℕ → Type 0
+IsNoPackedWord number = (w : Word) → IsLawful w → packed_word w ≢ number
 
 -- how many marks of a life an incarnation has in this state
-abbrev pub place_in : State → Bool → ℕ
-place_in Idle claimed = 0
-place_in HandedOut claimed = 0
-place_in Defined claimed = 1
-place_in Staged claimed = 2
-place_in Submitted claimed = cond claimed 4 3
-place_in CompletedIo claimed = 5
-place_in CompletedShared claimed = 6
-place_in CompletedLocal claimed = 7
+abbrev pub state_place : State → Bool → ℕ
+state_place Idle claimed = 0
+state_place HandedOut claimed = 0
+state_place Defined claimed = 1
+state_place Staged claimed = 2
+state_place Submitted claimed = cond claimed 4 3
+state_place CompletedIo claimed = 5
+state_place CompletedShared claimed = 6
+state_place CompletedLocal claimed = 7
 
 -- how many marks of a life the word's generation has
-abbrev pub place_of : Word → ℕ
-place_of w = place_in w.state w.claimed
+abbrev pub word_place : Word → ℕ
+word_place w = state_place w.state w.claimed
 
 -- the pair of generation and place, as one number that grows as the pair does
-abbrev pub rank_of : Word → ℕ
-rank_of w = 8 * w.generation + place_of w
+abbrev pub word_rank : Word → ℕ
+word_rank w = 8 * w.generation + word_place w
 
 -- a pair of generation and place is not above another one: the generation is compared first
 abbrev pub IsNotAbove : ℕ → ℕ → ℕ → ℕ → Type 0

@@ -3,8 +3,9 @@
 
 ghost use Rattle.std.specs.Prelude.{◌≡◌, ◌<◌, ◌^◌, IfOk, IfErr, IsTrue, ◌↔◌};
 ghost use Rattle.aio_word.specs.declared.Word.{Word};
-ghost use Rattle.aio_word.specs.Words.{IsLawful, ClaimFits, ClassFits, packed, place_of, IsDone};
-ghost use Rattle.aio_word.specs.Words.{IsOfNoWord, number_of_state, number_of_class};
+ghost use Rattle.aio_word.specs.Words.{IsLawful, ClaimFits, ClassFits, packed_word, word_place};
+ghost use Rattle.aio_word.specs.Words.{IsDone};
+ghost use Rattle.aio_word.specs.Words.{IsNoPackedWord, number_of_state, number_of_class};
 
 use crate::{BadWord, Class, State, WaitRef, Word};
 
@@ -37,7 +38,7 @@ fn class_number(class: Class) -> u64
 /// The word as a number: state + 8 * claimed + 16 * class + 64 * generation.
 pub fn pack(word: &Word) -> u64
     requires { IsLawful word.now }
-    ensures { result ≡ packed word.now }
+    ensures { result ≡ packed_word word.now }
 {
     state_number(word.state)
         + 8 * word.claimed as u64
@@ -48,7 +49,7 @@ pub fn pack(word: &Word) -> u64
 /// How many marks of a life the word's generation has, from 0 in Idle to 7 in CompletedLocal.
 pub fn place(word: &Word) -> u8
     requires { IsLawful word.now }
-    ensures { result ≡ place_of word.now }
+    ensures { result ≡ word_place word.now }
 {
     match word.state {
         State::Idle | State::HandedOut => 0,
@@ -121,7 +122,7 @@ fn class_fits(state: State, class: Class) -> bool
 }
 
 fn parts_of(number: u64) -> Word
-    ensures { (packed result ≡ number) × (result.generation < 2 ^ 58) }
+    ensures { (packed_word result ≡ number) × (result.generation < 2 ^ 58) }
 {
     Word {
         state: state_at(number % 8),
@@ -134,9 +135,9 @@ fn parts_of(number: u64) -> Word
 /// The lawful word that packs to the number. It is the only one: [`pack`] gives no two words one
 /// number.
 pub fn unpack(number: u64) -> Result<Word, BadWord>
-    ensures ok { IfOk result (λ w. IsLawful w × (packed w ≡ number)) }
-    ensures only { IfOk result (λ w. (v : Word) → IsLawful v → packed v ≡ number → v ≡ w) }
-    ensures err { IfErr result (λ e. (e.0 ≡ number) × IsOfNoWord number) }
+    ensures ok { IfOk result (λ w. IsLawful w × (packed_word w ≡ number)) }
+    ensures only { IfOk result (λ w. (v : Word) → IsLawful v → packed_word v ≡ number → v ≡ w) }
+    ensures err { IfErr result (λ e. (e.0 ≡ number) × IsNoPackedWord number) }
 {
     let word = parts_of(number);
     if claim_fits(word.state, word.claimed) && class_fits(word.state, word.class) {

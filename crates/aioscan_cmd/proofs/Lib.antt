@@ -1,38 +1,38 @@
-pub mod Adding
-pub mod Making
-pub mod MadePages
+pub mod GrammarRulesAppend
+pub mod GeneratedBytesAppend
+pub mod GeneratedPagesValid
 pub mod Digits
 pub mod FileWords
 pub mod MapWords
-pub mod Parsed
-pub mod Names
-pub mod MoreLengths
-pub mod Growing
-pub mod Lists
-mod OneRelation
-mod OneJob
-mod OnePages
-mod KeptParts
-mod MapBlocks
-mod ByMap
-mod AskedByMap
-pub mod Causing
-pub mod Files
-mod NothingListed
-mod BlocksListed
-mod SumsTold
-mod ToldRuns
+pub mod ParseClauses
+pub mod DistinctNames
+pub mod LengthsAppend
+pub mod SinkTextsAppend
+pub mod OutputsAppend
+mod BlocksOfOneRelation
+mod JobTextOutput
+mod PagesOfOneRelation
+mod UnskippedBlocksAppend
+mod MapPageCount
+mod MapPagesThenBlocks
+mod MapCommandOutput
+pub mod WriteFaultsCompose
+pub mod FileRequestsAppend
+mod RefusedRuns
+mod ListedRuns
+mod SumsOverTold
+mod RunsOverTold
 mod ExactOutcomes
 pub mod TopClauses
-mod MadeReads
-mod MadeCauses
-pub mod MadeRuns
-mod MadeScans
-pub mod Rows
-pub mod Telling
-pub mod Cutting
-pub mod Jobs
-pub mod Returned
-pub mod Totals
-pub mod Rounds
-pub mod EndOfScan
+mod GeneratedPageReads
+mod GeneratedRunCauses
+pub mod GeneratedRuns
+mod GeneratedScans
+pub mod CommandExamples
+pub mod ErrorTextsAppend
+pub mod RemainingRequestsStep
+pub mod JobTextsAppend
+pub mod DiskCountsAdd
+pub mod JobSumsAdd
+pub mod ListerRoundsCompose
+pub mod ScanCountsAtEnd

@@ -5,7 +5,8 @@ use Rattle.std.specs.Str.{bytes_eq}
 use Rattle.clap.specs.Words.{Row, Text, all_of}
 use Rattle.vis_map.specs.declared.map.Skip.{Skip}
 use Rattle.aioscan_cmd.specs.Command.{IsMapOf, MapOption}
-use Rattle.aioscan_cmd.specs.Words.{Source, files_by, is_map_of, is_name, map_in, map_of, map_with}
+use Rattle.aioscan_cmd.specs.Words.{Source, source_files, is_map_of, is_name, parsed_map, map_of}
+use Rattle.aioscan_cmd.specs.Words.{map_with}
 use Rattle.aioscan_cmd.specs.Words.{skip_of, source_of}
 
 -- a command that has a map has one file, whose name is another
@@ -51,23 +52,26 @@ one_file (Some name) skip (Some []) map is = absurd (cc)
 one_file (Some name) skip (Some (file ∷ other ∷ files)) map is = absurd (cc)
 
 -- no pages are generated where there are FILE words
-not_made : (from to : Option ℕ) (tuples : Bool) (made : Option ℕ) (words : List Text) (s : Source)
-    → source_of from to tuples made (Some words) ≡ Some s → made ≡ None
-not_made from to tuples None words s is = refl
-not_made (Some from) to tuples (Some n) words s is = absurd (cc)
-not_made None (Some to) tuples (Some n) words s is = absurd (cc)
-not_made None None true (Some n) words s is = absurd (cc)
-not_made None None false (Some n) words s is = absurd (cc)
+none_generated : (from to : Option ℕ) (tuples : Bool) (generated : Option ℕ)
+    (words : List Text) (s : Source)
+    → source_of from to tuples generated (Some words) ≡ Some s → generated ≡ None
+none_generated from to tuples None words s is = refl
+none_generated (Some from) to tuples (Some n) words s is = absurd (cc)
+none_generated None (Some to) tuples (Some n) words s is = absurd (cc)
+none_generated None None true (Some n) words s is = absurd (cc)
+none_generated None None false (Some n) words s is = absurd (cc)
 
-of_files : (rows : List Row) (from to : Option ℕ) (tuples : Bool) (made : Option ℕ) (s : Source)
-    (map : Option MapOption) → source_of from to tuples made (all_of (codes "FILE") rows) ≡ Some s
+of_files : (rows : List Row) (from to : Option ℕ) (tuples : Bool)
+    (generated : Option ℕ) (s : Source)
+    (map : Option MapOption) → source_of from to tuples generated
+    (all_of (codes "FILE") rows) ≡ Some s
     → IfSome map (IsOfOne (all_of (codes "FILE") rows))
-    → IfSome map (IsMapOf made (files_by made rows))
-of_files rows from to tuples made s None source of = tt
-of_files rows from to tuples made s (Some map) source of =
-    let P : Option (List Text) → Type 0 = λ w. source_of from to tuples made w ≡ Some s in
-    let none = not_made from to tuples made _ s (subst P of.one source) in
-    let Q : Option ℕ → Type 0 = λ m. files_by m rows ≡ of.file ∷ [] in
+    → IfSome map (IsMapOf generated (source_files generated rows))
+of_files rows from to tuples generated s None source of = tt
+of_files rows from to tuples generated s (Some map) source of =
+    let P : Option (List Text) → Type 0 = λ w. source_of from to tuples generated w ≡ Some s in
+    let none = none_generated from to tuples generated _ s (subst P of.one source) in
+    let Q : Option ℕ → Type 0 = λ m. source_files m rows ≡ of.file ∷ [] in
     let here : Q None = rw (of.one) refl in
     record {
       file = of.file;
@@ -77,11 +81,12 @@ of_files rows from to tuples made s (Some map) source of =
     }
 
 -- words that are taken, and what they say of a map
-pub map_of_words : (rows : List Row) (from to : Option ℕ) (tuples : Bool) (made : Option ℕ)
+pub map_of_words : (rows : List Row) (from to : Option ℕ) (tuples : Bool) (generated : Option ℕ)
     (s : Source) (right : Bool) (map : Option MapOption)
-    → source_of from to tuples made (all_of (codes "FILE") rows)
+    → source_of from to tuples generated (all_of (codes "FILE") rows)
     ≡ (if right then Some s else None)
-    → right ≡ true → map_in rows ≡ Some map → IfSome map (IsMapOf made (files_by made rows))
-map_of_words rows from to tuples made s true map source taken is =
-    of_files rows from to tuples made s map source (one_file _ _ _ map is)
-map_of_words rows from to tuples made s false map source taken is = absurd (cc)
+    → right ≡ true → parsed_map rows ≡ Some map
+    → IfSome map (IsMapOf generated (source_files generated rows))
+map_of_words rows from to tuples generated s true map source taken is =
+    of_files rows from to tuples generated s map source (one_file _ _ _ map is)
+map_of_words rows from to tuples generated s false map source taken is = absurd (cc)

@@ -3,45 +3,46 @@ use Rattle.std.proofs.Common.{◌≡◌, ◌≢◌, ℕ, List, length, refl, inl
 use Rattle.std.specs.Prelude.{Bool, Option, Some, None, IfSome}
 use Rattle.page_check.specs.Told.{Told}
 use Rattle.aio_disk.specs.Counts.{ShelfCounts}
-use Rattle.aio_disk.specs.Shelf.{Files, told_of}
+use Rattle.aio_disk.specs.Shelf.{Files, shelf_told}
 use Rattle.aioscan_cmd.specs.Command.{Command, relations_of}
 use Rattle.aioscan_cmd.specs.Outcomes.{is_refused}
-use Rattle.aioscan_cmd.specs.Reading.{Seen}
-use Rattle.aioscan_cmd.specs.Run.{SynchronousRun, run_of, made_run, OnTold, OnSource, RanOn, RanBy}
-use Rattle.aioscan_cmd.specs.Run.{Ran, RanMade, EndsMade, IsWarned, Writes}
+use Rattle.aioscan_cmd.specs.Output.{ObservedState}
+use Rattle.aioscan_cmd.specs.Run.{SynchronousRun, file_run, generated_run, HoldsForRun}
+use Rattle.aioscan_cmd.specs.Run.{HoldsForSource, IsCommandRun, IsSourceRun}
+use Rattle.aioscan_cmd.specs.Run.{IsFileRun, IsGeneratedRun, IsGeneratedOutcome, IsWarned, Writes}
 use Rattle.aioscan_cmd.specs.Causes.{HasCauses, IsExact, IsComplete}
 use Rattle.aioscan_cmd.specs.declared.report.Outcome.{Outcome}
 use Rattle.aioscan_cmd.specs.declared.report.Outcome.TheVariants.{Done, Usage, CannotWrite}
 use Rattle.aioscan_cmd.specs.declared.report.Outcome.TheVariants.{NoMemory}
 use Rattle.aioscan_cmd.proofs.ExactOutcomes.{exact, complete}
-use Rattle.aioscan_cmd.proofs.ToldRuns.{writes, warned, untouched_same}
+use Rattle.aioscan_cmd.proofs.RunsOverTold.{writes, warned, untouched_same}
 
 -- over a shelf that tells, what holds of each run holds of this one
-told_by : (told : Option Told) (c : Command) (b a : Seen) (o : Outcome) (w : List ℕ)
+told_by : (told : Option Told) (c : Command) (b a : ObservedState) (o : Outcome) (w : List ℕ)
     (P : SynchronousRun → Type 0)
-    → ((t : Told) → Ran (Some t) (length (relations_of c)) c b a o w → P (run_of t c))
-    → Ran told (length (relations_of c)) c b a o w → IfSome told (λ t. P (run_of t c))
+    → ((t : Told) → IsFileRun (Some t) (length (relations_of c)) c b a o w → P (file_run t c))
+    → IsFileRun told (length (relations_of c)) c b a o w → IfSome told (λ t. P (file_run t c))
 told_by None c b a o w P each ran = tt
 told_by (Some t) c b a o w P each ran = each t ran
 
-on_source : (files : Option Files) (c : Command) (made : Option ℕ) (b a : Seen) (o : Outcome)
-    (w : List ℕ) (P : SynchronousRun → Type 0)
-    → ((t : Told) → Ran (Some t) (length (relations_of c)) c b a o w → P (run_of t c))
-    → ((z : Bool) (n : ℕ) → RanMade z n b a o w → P (made_run z n))
-    → RanBy files c made b a o w → OnSource files c made P
+on_source : (files : Option Files) (c : Command) (generated : Option ℕ)
+    (b a : ObservedState) (o : Outcome) (w : List ℕ) (P : SynchronousRun → Type 0)
+    → ((t : Told) → IsFileRun (Some t) (length (relations_of c)) c b a o w → P (file_run t c))
+    → ((z : Bool) (n : ℕ) → IsGeneratedRun z n b a o w → P (generated_run z n))
+    → IsSourceRun files c generated b a o w → HoldsForSource files c generated P
 on_source files c None b a o w P each each_made ran =
-    told_by (told_of files (relations_of c)) c b a o w P each ran
+    told_by (shelf_told files (relations_of c)) c b a o w P each ran
 on_source files c (Some n) b a o w P each each_made ran = each_made c.settings.zero n ran
 
-pub on_told : (files : Option Files) (command : Option Command) (b a : Seen) (o : Outcome)
+pub on_told : (files : Option Files) (command : Option Command) (b a : ObservedState) (o : Outcome)
     (w : List ℕ) (P : SynchronousRun → Type 0)
     → ((t : Told) (c : Command) → command ≡ Some c
-    → Ran (Some t) (length (relations_of c)) c b a o w → P (run_of t c))
-    → ((z : Bool) (n : ℕ) → command ≢ None → RanMade z n b a o w → P (made_run z n))
-    → RanOn files command b a o w → OnTold files command P
+    → IsFileRun (Some t) (length (relations_of c)) c b a o w → P (file_run t c))
+    → ((z : Bool) (n : ℕ) → command ≢ None → IsGeneratedRun z n b a o w → P (generated_run z n))
+    → IsCommandRun files command b a o w → HoldsForRun files command P
 on_told files None b a o w P each each_made ran = tt
 on_told files (Some c) b a o w P each each_made ran =
-    on_source files c c.made b a o w P (λ t r. each t c refl r)
+    on_source files c c.generated b a o w P (λ t r. each t c refl r)
     (λ z n r. each_made z n (λ none. absurd (cc)) r) ran
 
 -- words that are a command do not end in Usage
@@ -49,41 +50,41 @@ not_usage : (command : Option Command) (c : Command) (o : Outcome)
     → (o ≡ Usage → command ≡ None) → command ≡ Some c → o ≢ Usage
 not_usage command c o usage some = λ is. (let none = usage is in cc)
 
-module _ (files : Option Files) (command : Option Command) (b a : Seen) (o : Outcome)
-    (w : List ℕ) (ran : RanOn files command b a o w) where
-  pub told_writes : OnTold files command (λ run. Writes run b.written a.written o)
+module _ (files : Option Files) (command : Option Command) (b a : ObservedState) (o : Outcome)
+    (w : List ℕ) (ran : IsCommandRun files command b a o w) where
+  pub told_writes : HoldsForRun files command (λ run. Writes run b.written a.written o)
   told_writes =
       on_told files command b a o w (λ run. Writes run b.written a.written o)
       (λ t c some r. writes t (length (relations_of c)) c b a o w r)
       (λ z n some r. r.writes) ran
 
-  pub told_warned : OnTold files command (λ run. IsWarned run b.written a.written o w)
+  pub told_warned : HoldsForRun files command (λ run. IsWarned run b.written a.written o w)
   told_warned =
       on_told files command b a o w (λ run. IsWarned run b.written a.written o w)
       (λ t c some r. warned t (length (relations_of c)) c b a o w r)
       (λ z n some r. r.warned) ran
 
-  pub told_exact : OnTold files command (λ run. IsExact run o)
+  pub told_exact : HoldsForRun files command (λ run. IsExact run o)
   told_exact =
       on_told files command b a o w (λ run. IsExact run o)
-      (λ t c some r. exact (run_of t c) o r.in_order)
-      (λ z n some r. exact (made_run z n) o r.in_order) ran
+      (λ t c some r. exact (file_run t c) o r.in_order)
+      (λ z n some r. exact (generated_run z n) o r.in_order) ran
 
   pub told_complete : (before now : ShelfCounts) (wb wn : ℕ) → (o ≡ Usage → command ≡ None)
       → HasCauses before now wb wn o
-      → OnTold files command (λ run. IsComplete run before now wb wn o)
+      → HoldsForRun files command (λ run. IsComplete run before now wb wn o)
   told_complete before now wb wn usage causes =
       on_told files command b a o w (λ run. IsComplete run before now wb wn o)
       (λ t c some r.
-      complete (run_of t c) before now wb wn b.written a.written o
+      complete (file_run t c) before now wb wn b.written a.written o
       (not_usage command c o usage some) causes r.in_order
       (writes t (length (relations_of c)) c b a o w r))
       (λ z n some r.
-      complete (made_run z n) before now wb wn b.written a.written o (λ is. some (usage is)) causes
-      r.in_order r.writes) ran
+      complete (generated_run z n) before now wb wn b.written a.written o
+      (λ is. some (usage is)) causes r.in_order r.writes) ran
 
-made_not_refused : (o : Outcome) → EndsMade o → is_refused o ≡ true → ⊥
-made_not_refused o ends refused =
+generated_not_refused : (o : Outcome) → IsGeneratedOutcome o → is_refused o ≡ true → ⊥
+generated_not_refused o ends refused =
     let P : Outcome → Type 0 = λ x. is_refused x ≡ true in elim ends [
       | inl done ↦ let is : is_refused Done ≡ true = subst P done refused in cc
       | inr other ↦ elim other [
@@ -92,14 +93,17 @@ made_not_refused o ends refused =
       ]
     ]
 
-untouched_by : (files : Option Files) (c : Command) (made : Option ℕ) (b a : Seen) (o : Outcome)
-    (w : List ℕ) → RanBy files c made b a o w → is_refused o ≡ true → a.written ≡ b.written
+untouched_by : (files : Option Files) (c : Command) (generated : Option ℕ)
+    (b a : ObservedState) (o : Outcome)
+    (w : List ℕ) → IsSourceRun files c generated b a o w
+    → is_refused o ≡ true → a.written ≡ b.written
 untouched_by files c None b a o w ran refused = untouched_same b a (ran.untouched refused).0
-untouched_by files c (Some n) b a o w ran refused = absurd (made_not_refused o ran.ends refused)
+untouched_by files c (Some n) b a o w ran refused =
+    absurd (generated_not_refused o ran.ends refused)
 
-pub any_untouched : (files : Option Files) (command : Option Command) (b a : Seen) (o : Outcome)
-    (w : List ℕ) → (command ≡ None → a.written ≡ b.written)
-    → RanOn files command b a o w → is_refused o ≡ true → a.written ≡ b.written
+pub any_untouched : (files : Option Files) (command : Option Command)
+    (b a : ObservedState) (o : Outcome) (w : List ℕ) → (command ≡ None → a.written ≡ b.written)
+    → IsCommandRun files command b a o w → is_refused o ≡ true → a.written ≡ b.written
 any_untouched files None b a o w unread ran refused = unread refl
 any_untouched files (Some c) b a o w unread ran refused =
-    untouched_by files c c.made b a o w ran refused
+    untouched_by files c c.generated b a o w ran refused

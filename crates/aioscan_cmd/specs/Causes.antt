@@ -1,19 +1,19 @@
 -- Why a run ended as it did, and in which order it calls the outside, seen by what it counts.
 use Rattle.std.specs.Prelude.{◌≡◌, ◌≢◌, ◌⊎◌, ℕ, ◌<◌, ◌≤◌, List, [], Option, true}
 use Rattle.page_check.specs.Told.{Told}
-use Rattle.aio_disk.specs.Counts.{Rose, ShelfCounts}
-use Rattle.aioscan_cmd.specs.Cutting.{request_list_for}
+use Rattle.aio_disk.specs.Counts.{CountRose, ShelfCounts}
+use Rattle.aioscan_cmd.specs.RemainingRequests.{resolved_request_list}
 use Rattle.aioscan_cmd.specs.Outcomes.{is_refused}
-use Rattle.aioscan_cmd.specs.Reading.{Lists, way_by}
+use Rattle.aioscan_cmd.specs.Output.{IsOutput, command_format}
 use Rattle.aioscan_cmd.specs.Run.{SynchronousRun, EarlierFit}
-use Rattle.aioscan_cmd.specs.declared.cutter.Asked.{Asked}
+use Rattle.aioscan_cmd.specs.declared.cutter.ResolvedCommand.{ResolvedCommand}
 use Rattle.aioscan_cmd.specs.declared.report.Outcome.{Outcome}
 use Rattle.aioscan_cmd.specs.declared.report.Outcome.TheVariants.{Usage, CannotOpen, NoLength}
 use Rattle.aioscan_cmd.specs.declared.report.Outcome.TheVariants.{Unread, CannotWrite, NoMemory}
 use Rattle.aioscan_cmd.specs.declared.report.Outcome.TheVariants.{TooLong}
 
 -- no count fell
-pub record NoneFell (before now : ShelfCounts) : Type 0 where
+pub record CountsNotReduced (before now : ShelfCounts) : Type 0 where
   pub open_faults : before.open_faults ≤ now.open_faults
   pub length_faults : before.length_faults ≤ now.length_faults
   pub faults : before.faults ≤ now.faults
@@ -22,24 +22,24 @@ pub record NoneFell (before now : ShelfCounts) : Type 0 where
 -- each fault of the outside is named only where its own count rose
 pub record HasCauses (before now : ShelfCounts) (write_faults_before write_faults_now : ℕ)
     (outcome : Outcome) : Type 0 where
-  pub later : NoneFell before now
+  pub later : CountsNotReduced before now
   pub later_writes : write_faults_before ≤ write_faults_now
-  pub cannot_open : outcome ≡ CannotOpen → Rose before.open_faults now.open_faults
-  pub no_length : (r : ℕ) → outcome ≡ NoLength r → Rose before.length_faults now.length_faults
-  pub unread : (r b : ℕ) → outcome ≡ Unread r b → Rose before.faults now.faults
-  pub cannot_write : outcome ≡ CannotWrite → Rose write_faults_before write_faults_now
+  pub cannot_open : outcome ≡ CannotOpen → CountRose before.open_faults now.open_faults
+  pub no_length : (r : ℕ) → outcome ≡ NoLength r → CountRose before.length_faults now.length_faults
+  pub unread : (r b : ℕ) → outcome ≡ Unread r b → CountRose before.faults now.faults
+  pub cannot_write : outcome ≡ CannotWrite → CountRose write_faults_before write_faults_now
 
 -- how a scan ended whose map has given these pages, and whose disks have counted so many faults and
 -- reads: a disk that could not be opened is the only refusal
-pub record HasScanned (asked : Asked) (given : ℕ → List ℕ) (told : Option Told)
+pub record HasScanned (asked : ResolvedCommand) (given : ℕ → List ℕ) (told : Option Told)
     (written now_written : Option (List ℕ)) (before now : ShelfCounts) (faults reads : ℕ)
     (outcome : Outcome) (warnings : List ℕ) : Type 0 where
   pub opens : before.open_faults ≤ now.open_faults
   pub others : (now.length_faults ≡ before.length_faults) × (now.faults ≡ before.faults)
       × (now.reads ≡ before.reads)
-  pub lists : outcome ≢ CannotOpen → Lists (way_by asked.command.now) told
-      (request_list_for asked told given) written now_written outcome warnings
-  pub cannot_open : outcome ≡ CannotOpen → Rose before.open_faults now.open_faults
+  pub lists : outcome ≢ CannotOpen → IsOutput (command_format asked.command.now) told
+      (resolved_request_list asked told given) written now_written outcome warnings
+  pub cannot_open : outcome ≡ CannotOpen → CountRose before.open_faults now.open_faults
       × (now_written ≡ written) × (faults ≡ 0) × (reads ≡ 0) × (warnings ≡ [])
   pub unread : (r b : ℕ) → outcome ≡ Unread r b → 0 < faults
 
@@ -61,8 +61,9 @@ IsExact run outcome =
 -- reads, or want of memory
 abbrev pub IsComplete : SynchronousRun → ShelfCounts → ShelfCounts → ℕ → ℕ → Outcome → Type 0
 IsComplete run before now write_faults_before write_faults_now outcome =
-    ¬ Rose before.open_faults now.open_faults → ¬ Rose before.length_faults now.length_faults
-    → ¬ Rose before.faults now.faults → ¬ Rose write_faults_before write_faults_now
+    ¬ CountRose before.open_faults now.open_faults
+    → ¬ CountRose before.length_faults now.length_faults
+    → ¬ CountRose before.faults now.faults → ¬ CountRose write_faults_before write_faults_now
     → EarlierFit run.limit run.lengths run.relations
     → (outcome ≡ run.outcome) ⊎ (outcome ≡ NoMemory)
 

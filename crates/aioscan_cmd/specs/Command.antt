@@ -1,11 +1,11 @@
 -- What the words of a command ask for.
 use Rattle.std.specs.Prelude.{ℕ, List, [], ◌∷◌, ◌≡◌, ◌≤◌, Option, Some, None, IfSome, ◌+◌, ◌-◌, ◌<◌}
 use Rattle.std.specs.Prelude.{Bool, false, not, unwrap_or, ◌*◌, ◌++◌}
-use Rattle.aioscan_cmd.specs.Generated.{made_name}
+use Rattle.aioscan_cmd.specs.GeneratedPages.{generated_file_name}
 use Rattle.std.specs.List.{filter, position_or_len}
 use Rattle.std.specs.Option.{option_map_or}
 use Rattle.std.specs.Str.{bytes_eq}
-use Rattle.scan_rounds.specs.Manners.{Manner, manner}
+use Rattle.scan_rounds.specs.ListOptions.{ListOptions, list_options}
 use Rattle.scan_rounds.specs.declared.settings.ScanSettings.{ScanSettings}
 use Rattle.vis_map.specs.declared.map.Skip.{Skip}
 
@@ -22,14 +22,14 @@ pub record Command : Type 0 where
   pub from : Option ℕ
   pub to : Option ℕ
   pub files : List (List ℕ)
-  pub made : Option ℕ
+  pub generated : Option ℕ
   pub map : Option MapOption
   pub settings : ScanSettings
   pub stats : Bool
 
--- the manner in which pages are listed by these settings
-abbrev pub manner_by : ScanSettings → Manner
-manner_by settings = manner settings.zero settings.tuples
+-- the options of a listing by these settings
+abbrev pub options_of_settings : ScanSettings → ListOptions
+options_of_settings settings = list_options settings.zero settings.tuples
 
 -- the numbers of blocks that `--from` and `--to` may give end below this: 16 segments of the
 -- greatest size
@@ -41,30 +41,30 @@ abbrev pub length_limit : ℕ → ℕ
 length_limit segment = 16 * segment
 
 -- so many pages may be generated
-abbrev pub made_limit : ℕ
-made_limit = 4096
+abbrev pub generated_page_limit : ℕ
+generated_page_limit = 4096
 
 -- of generated pages all blocks are asked for
 abbrev pub HasNoRange : Option ℕ → Option ℕ → Option ℕ → Type 0
 HasNoRange None from to = Unit {0}
-HasNoRange (Some n) from to = (1 ≤ n) × (n ≤ made_limit) × (from ≡ None) × (to ≡ None)
+HasNoRange (Some n) from to = (1 ≤ n) × (n ≤ generated_page_limit) × (from ≡ None) × (to ≡ None)
 
 -- the command asks for all blocks of so many generated pages
-abbrev pub IsMade : ℕ → Command → Type 0
-IsMade n command =
-    (command.files ≡ made_name ∷ []) × (command.from ≡ None) × (command.to ≡ None)
-    × (n ≤ made_limit) × (command.map ≡ None)
+abbrev pub AsksForGeneratedPages : ℕ → Command → Type 0
+AsksForGeneratedPages n command =
+    (command.files ≡ generated_file_name ∷ []) × (command.from ≡ None) × (command.to ≡ None)
+    × (n ≤ generated_page_limit) × (command.map ≡ None)
 
 -- the map is that of the one file, which has another name, and no pages are generated
-pub record IsMapOf (made : Option ℕ) (files : List (List ℕ)) (map : MapOption) : Type 0 where
+pub record IsMapOf (generated : Option ℕ) (files : List (List ℕ)) (map : MapOption) : Type 0 where
   pub file : List ℕ
   pub one_file : files ≡ file ∷ []
   pub other_name : bytes_eq map.name file ≡ false
-  pub none_made : made ≡ None
+  pub none_made : generated ≡ None
 
 -- a block number that is given is below the limit
-abbrev pub IsBelow : Option ℕ → ℕ → Type 0
-IsBelow given limit = IfSome given (λ n. n < limit)
+abbrev pub IsBelowIfGiven : Option ℕ → ℕ → Type 0
+IsBelowIfGiven given limit = IfSome given (λ n. n < limit)
 
 -- the distinct ones of some names, each where it stands first
 abbrev pub distinct : List (List ℕ) → List (List ℕ)

@@ -1,14 +1,14 @@
 -- What a run leaves on the error stream.
 use Rattle.std.specs.Prelude.{◌≡◌, ◌≤◌, ◌&&◌, ◌++◌, ℕ, List, [], Option, Some, None, Bool, true}
 use Rattle.std.specs.Prelude.{false}
-use Rattle.aio_disk.specs.Counts.{Rose}
+use Rattle.aio_disk.specs.Counts.{CountRose}
 use Rattle.aio_disk.specs.Shelf.{Files}
-use Rattle.aio_disk.specs.Sink.{Grew, GrewByPrefix}
-use Rattle.aio_trace.specs.TotalsText.{line_of as totals_text}
+use Rattle.aio_disk.specs.Sink.{SinkGrew, SinkGrewByPrefix}
+use Rattle.aio_trace.specs.TotalsText.{numbers_line as totals_text}
 use Rattle.aioscan_cmd.specs.Command.{Command}
 use Rattle.aioscan_cmd.specs.Outcomes.{line_of, has_totals}
-use Rattle.aioscan_cmd.specs.Reading.{Seen}
-use Rattle.aioscan_cmd.specs.Run.{IsWarned, OnTold, RanOn}
+use Rattle.aioscan_cmd.specs.Output.{ObservedState}
+use Rattle.aioscan_cmd.specs.Run.{IsWarned, HoldsForRun, IsCommandRun}
 use Rattle.aioscan_cmd.specs.declared.report.Line.{Line}
 use Rattle.aioscan_cmd.specs.declared.report.Line.TheVariants.{Whole, Cut, NoMemory as NoRoom}
 use Rattle.aioscan_cmd.specs.declared.report.Numbers.{Numbers}
@@ -41,9 +41,9 @@ lines_of command outcome numbers =
 -- written
 pub record IsToldOnErr (text : List ℕ) (line : Line) (before after : Option (List ℕ))
     (faults_before faults_now : ℕ) : Type 0 where
-  pub whole : line ≡ Whole → Grew before after text
-  pub cut : line ≡ Cut → GrewByPrefix before after text × Rose faults_before faults_now
-  pub no_memory : line ≡ NoRoom → GrewByPrefix before after text
+  pub whole : line ≡ Whole → SinkGrew before after text
+  pub cut : line ≡ Cut → SinkGrewByPrefix before after text × CountRose faults_before faults_now
+  pub no_memory : line ≡ NoRoom → SinkGrewByPrefix before after text
   pub silent : text ≡ [] → (line ≡ Whole) × (after ≡ before) × (faults_now ≡ faults_before)
 
 -- the error stream of a run: how much reached it of what was told so far, what it holds, where it
@@ -73,14 +73,14 @@ pub record Warns (Are : List ℕ → Type 0) (before now : ErrorStream) : Type 0
 
 -- what is on the error stream at the end: the warnings of the pages that were listed, and then the
 -- lines of the end
-pub record IsToldBy (files : Option Files) (command : Option Command) (before now : Seen)
+pub record IsToldBy (files : Option Files) (command : Option Command) (before now : ObservedState)
     (outcome : Outcome) (numbers : Numbers) (line : Line) (err_before err_after : Option (List ℕ))
     (faults_before faults_now : ℕ) : Type 0 where
   pub warnings : List ℕ
   pub told : IsToldOnErr (warnings ++ lines_of command outcome numbers) line err_before err_after
       faults_before faults_now
-  pub ran : RanOn files command before now outcome warnings
-  pub warned : OnTold files command
+  pub ran : IsCommandRun files command before now outcome warnings
+  pub warned : HoldsForRun files command
       (λ run. IsWarned run before.written now.written outcome warnings)
 
 -- the line of this outcome has numbers

@@ -52,17 +52,17 @@ is_refused CannotWrite = false
 is_refused NoMemory = false
 
 -- a text may not have been written whole
-abbrev pub is_cut : Outcome → Bool
-is_cut CannotWrite = true
-is_cut NoMemory = true
-is_cut Done = false
-is_cut (Invalid r b) = false
-is_cut (Missing r b) = false
-is_cut (Unread r b) = false
-is_cut Usage = false
-is_cut CannotOpen = false
-is_cut (NoLength r) = false
-is_cut (TooLong r) = false
+abbrev pub is_output_cut_off : Outcome → Bool
+is_output_cut_off CannotWrite = true
+is_output_cut_off NoMemory = true
+is_output_cut_off Done = false
+is_output_cut_off (Invalid r b) = false
+is_output_cut_off (Missing r b) = false
+is_output_cut_off (Unread r b) = false
+is_output_cut_off Usage = false
+is_output_cut_off CannotOpen = false
+is_output_cut_off (NoLength r) = false
+is_output_cut_off (TooLong r) = false
 
 -- the run was not refused and found memory: with `--stats` its totals are told
 abbrev pub has_totals : Outcome → Bool
@@ -78,17 +78,17 @@ has_totals NoMemory = false
 has_totals (TooLong r) = false
 
 -- the block that an outcome names
-abbrev pub stopped_at : Outcome → Option Request
-stopped_at (Invalid r b) = Some (request r b)
-stopped_at (Missing r b) = Some (request r b)
-stopped_at (Unread r b) = Some (request r b)
-stopped_at Done = None
-stopped_at Usage = None
-stopped_at CannotOpen = None
-stopped_at (NoLength r) = None
-stopped_at CannotWrite = None
-stopped_at NoMemory = None
-stopped_at (TooLong r) = None
+abbrev pub named_block : Outcome → Option Request
+named_block (Invalid r b) = Some (request r b)
+named_block (Missing r b) = Some (request r b)
+named_block (Unread r b) = Some (request r b)
+named_block Done = None
+named_block Usage = None
+named_block CannotOpen = None
+named_block (NoLength r) = None
+named_block CannotWrite = None
+named_block NoMemory = None
+named_block (TooLong r) = None
 
 -- how the request list was answered by then
 abbrev pub ending_of : Outcome → Option Ending

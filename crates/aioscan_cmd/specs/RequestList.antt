@@ -24,14 +24,14 @@ abbrev pub block_range : ℕ → ℕ → ℕ → List Request
 block_range r first count = job_entries r first count
 
 -- the blocks that one FILE word adds
-abbrev pub requests_of_file : (ℕ → ℕ) → Command → List ℕ → List Request
-requests_of_file lengths command name =
+abbrev pub one_file_requests : (ℕ → ℕ) → Command → List ℕ → List Request
+one_file_requests lengths command name =
     let r = relation_number name (relations_of command) in
     block_range r (first_block command) (asked_count command (lengths r))
 
 -- those of all FILE words, by the length of each relation
-unfoldable pub requests_of : (ℕ → ℕ) → Command → List Request
-requests_of lengths command = flat_map (requests_of_file lengths command) command.files
+unfoldable pub all_file_requests : (ℕ → ℕ) → Command → List Request
+all_file_requests lengths command = flat_map (one_file_requests lengths command) command.files
 
 -- the pages of the map, which is relation 1 and gives these, and then the blocks that it does not
 -- mark
@@ -43,10 +43,10 @@ with_map (Some map) lengths map_page requests =
 -- all blocks that are asked for, by the length of each relation and the pages of the map
 abbrev pub request_list : (ℕ → ℕ) → (ℕ → List ℕ) → Command → List Request
 request_list lengths map_page command =
-    with_map command.map lengths map_page (requests_of lengths command)
+    with_map command.map lengths map_page (all_file_requests lengths command)
 
 -- the listing leaves out the pages of a map
-abbrev pub but_for_map : Option MapOption → TextOf → TextOf
-but_for_map None text_of = text_of
-but_for_map (Some map) text_of =
+abbrev pub without_map_pages : Option MapOption → TextOf → TextOf
+without_map_pages None text_of = text_of
+without_map_pages (Some map) text_of =
     λ relation block page. if relation == 1 then [] else text_of relation block page

@@ -1,38 +1,38 @@
 -- What a run asks for, and what one thread's synchronous reads of it give.
 use Rattle.std.specs.Prelude.{◌≡◌, ◌⊎◌, ℕ, ◌+◌, ◌<◌, ◌≤◌, List, length, take, slice_get, Option}
 use Rattle.std.specs.Prelude.{◌++◌, [], Bool, Some, None, IfSome, false, true}
-use Rattle.page_check.specs.Told.{Told, blocks_of}
+use Rattle.page_check.specs.Told.{Told, relation_block_count}
 use Rattle.page_check.specs.SynchronousAnswer.{Found, Page as FoundPage, Zeroed, Damaged, Absent}
-use Rattle.page_check.specs.SynchronousAnswer.{found_for, page_in, zeroing}
-use Rattle.page_check.specs.SynchronousAnswer.{Reader, found_at, pages_of, stop_of}
+use Rattle.page_check.specs.SynchronousAnswer.{entry_found, found_page, zeroing}
+use Rattle.page_check.specs.SynchronousAnswer.{Reader, found_at, readable_pages, first_stop}
 use Rattle.heap_scan.specs.Listing.{TextOf, listing}
 use Rattle.heap_scan.specs.Sums.{sums_of}
 use Rattle.heap_scan.specs.Warnings.{warnings_of}
 use Rattle.heap_tuple.specs.Listing.{text_with}
-use Rattle.aio_disk.specs.Shelf.{AllThereIfTold, Files, told_of}
-use Rattle.aio_disk.specs.Sink.{Grew, GrewByPrefix}
-use Rattle.aio_handle.specs.Executing.{last_count}
+use Rattle.aio_disk.specs.Shelf.{AllThereIfTold, Files, shelf_told}
+use Rattle.aio_disk.specs.Sink.{SinkGrew, SinkGrewByPrefix}
+use Rattle.aio_handle.specs.Execution.{last_count}
 use Rattle.aioscan_cmd.specs.Command.{Command, length_limit, relations_of}
-use Rattle.aioscan_cmd.specs.Generated.{made_told, summary_of}
-use Rattle.aioscan_cmd.specs.RequestList.{Request, Page, block_range, but_for_map, request}
+use Rattle.aioscan_cmd.specs.GeneratedPages.{generated_told, summary_line}
+use Rattle.aioscan_cmd.specs.RequestList.{Request, Page, block_range, without_map_pages, request}
 use Rattle.aioscan_cmd.specs.RequestList.{request_list}
 use Rattle.aioscan_cmd.specs.Outcomes.{is_refused}
-use Rattle.aioscan_cmd.specs.Reading.{Seen, Lists, map_pages_known, way_by}
+use Rattle.aioscan_cmd.specs.Output.{ObservedState, IsOutput, map_pages_known, command_format}
 use Rattle.aioscan_cmd.specs.declared.report.Outcome.{Outcome}
 use Rattle.aioscan_cmd.specs.declared.report.Outcome.TheVariants.{Done, Invalid, Usage, CannotOpen}
 use Rattle.aioscan_cmd.specs.declared.report.Outcome.TheVariants.{NoLength, Unread, CannotWrite}
 use Rattle.aioscan_cmd.specs.declared.report.Outcome.TheVariants.{NoMemory, Missing, TooLong}
 
 -- the outcome where nothing but the pages ends a run
-abbrev pub outcome_by : Found → ℕ → ℕ → Outcome
-outcome_by (FoundPage bytes) r b = Done
-outcome_by Zeroed r b = Done
-outcome_by Damaged r b = Invalid r b
-outcome_by Absent r b = Missing r b
+abbrev pub outcome_of_found : Found → ℕ → ℕ → Outcome
+outcome_of_found (FoundPage bytes) r b = Done
+outcome_of_found Zeroed r b = Done
+outcome_of_found Damaged r b = Invalid r b
+outcome_of_found Absent r b = Missing r b
 
-abbrev pub outcome_at : Reader → Option Request → Outcome
-outcome_at found None = Done
-outcome_at found (Some e) = outcome_by (found_for found e) e.relation e.block
+abbrev pub outcome_of_stop : Reader → Option Request → Outcome
+outcome_of_stop found None = Done
+outcome_of_stop found (Some e) = outcome_of_found (entry_found found e) e.relation e.block
 
 -- over contents that are told: how many relations there are, how many blocks each has and may have,
 -- the blocks that are asked for, their pages, how that ends, by what text each page is listed, and
@@ -47,73 +47,75 @@ pub record SynchronousRun : Type 0 where
   pub text_of : TextOf
   pub text : List ℕ
 
-abbrev pub run_of : Told → Command → SynchronousRun
-run_of told command =
+abbrev pub file_run : Told → Command → SynchronousRun
+file_run told command =
     let found = zeroing command.settings.zero (found_at told) in
-    let requests = request_list (blocks_of told) (λ block. page_in (found 1 block)) command in
-    let pages = pages_of found requests in
-    let text_of = but_for_map command.map (text_with command.settings.tuples) in record {
+    let requests = request_list (relation_block_count told) (λ block. found_page (found 1 block))
+    command in
+    let pages = readable_pages found requests in
+    let text_of = without_map_pages command.map (text_with command.settings.tuples) in record {
       relations = length (relations_of command);
-      lengths = blocks_of told;
+      lengths = relation_block_count told;
       limit = length_limit told.segment;
       requests = requests;
       pages = pages;
-      outcome = outcome_at found (stop_of found requests);
+      outcome = outcome_of_stop found (first_stop found requests);
       text_of = text_of;
       text = listing text_of pages;
     }
 
 -- over so many generated pages: all blocks of their relation, and the line of the sums of the pages
-abbrev pub made_run : Bool → ℕ → SynchronousRun
-made_run zero n =
-    let found = zeroing zero (found_at (made_told n)) in
+abbrev pub generated_run : Bool → ℕ → SynchronousRun
+generated_run zero n =
+    let found = zeroing zero (found_at (generated_told n)) in
     let requests = block_range 0 0 n in
-    let pages = pages_of found requests in record {
+    let pages = readable_pages found requests in record {
       relations = 1;
-      lengths = blocks_of (made_told n);
-      limit = length_limit (made_told n).segment;
+      lengths = relation_block_count (generated_told n);
+      limit = length_limit (generated_told n).segment;
       requests = requests;
       pages = pages;
-      outcome = outcome_at found (stop_of found requests);
+      outcome = outcome_of_stop found (first_stop found requests);
       text_of = text_with false;
-      text = summary_of (sums_of pages);
+      text = summary_line (sums_of pages);
     }
 
 -- a fact about the run of a command over these files, where they are told; over generated pages
 -- whether or not
-abbrev pub OnSource : Option Files → Command → Option ℕ → (SynchronousRun → Type 0) → Type 0
-OnSource files c None P = IfSome (told_of files (relations_of c)) (λ told. P (run_of told c))
-OnSource files c (Some n) P = P (made_run c.settings.zero n)
+abbrev pub HoldsForSource : Option Files → Command → Option ℕ → (SynchronousRun → Type 0) → Type 0
+HoldsForSource files c None P =
+    IfSome (shelf_told files (relations_of c)) (λ told. P (file_run told c))
+HoldsForSource files c (Some n) P = P (generated_run c.settings.zero n)
 
 -- where the words are a command
-abbrev pub OnTold : Option Files → Option Command → (SynchronousRun → Type 0) → Type 0
-OnTold files command P = IfSome command (λ c. OnSource files c c.made P)
+abbrev pub HoldsForRun : Option Files → Option Command → (SynchronousRun → Type 0) → Type 0
+HoldsForRun files command P = IfSome command (λ c. HoldsForSource files c c.generated P)
 
 -- each file of a command is there, where that is told; generated pages are no files
-abbrev pub IsThereBy : Option Files → Command → Option ℕ → Type 0
-IsThereBy files c None = AllThereIfTold files (relations_of c)
-IsThereBy files c (Some n) = Unit {0}
+abbrev pub SourceFilesExist : Option Files → Command → Option ℕ → Type 0
+SourceFilesExist files c None = AllThereIfTold files (relations_of c)
+SourceFilesExist files c (Some n) = Unit {0}
 
-abbrev pub IsThere : Option Files → Option Command → Type 0
-IsThere files command = IfSome command (λ c. IsThereBy files c c.made)
+abbrev pub CommandFilesExist : Option Files → Option Command → Type 0
+CommandFilesExist files command = IfSome command (λ c. SourceFilesExist files c c.generated)
 
 -- a block could not be read, and the pages before it were listed
 pub record IsCutAt (run : SynchronousRun) (before after : Option (List ℕ)) (r b : ℕ) : Type 0 where
   pub k : ℕ
   pub here : slice_get run.requests k ≡ Some (request r b)
   pub among : k ≤ length run.pages
-  pub grew : Grew before after (listing run.text_of (take k run.pages))
+  pub grew : SinkGrew before after (listing run.text_of (take k run.pages))
 
 -- what a run with this outcome has written
 abbrev pub Writes : SynchronousRun → Option (List ℕ) → Option (List ℕ) → Outcome → Type 0
-Writes run before after Done = (run.outcome ≡ Done) × Grew before after run.text
+Writes run before after Done = (run.outcome ≡ Done) × SinkGrew before after run.text
 Writes run before after (Invalid r b) =
-    (run.outcome ≡ Invalid r b) × Grew before after run.text
+    (run.outcome ≡ Invalid r b) × SinkGrew before after run.text
 Writes run before after (Missing r b) =
-    (run.outcome ≡ Missing r b) × Grew before after run.text
+    (run.outcome ≡ Missing r b) × SinkGrew before after run.text
 Writes run before after (Unread r b) = IsCutAt run before after r b
-Writes run before after CannotWrite = GrewByPrefix before after run.text
-Writes run before after NoMemory = GrewByPrefix before after run.text
+Writes run before after CannotWrite = SinkGrewByPrefix before after run.text
+Writes run before after NoMemory = SinkGrewByPrefix before after run.text
 Writes run before after Usage = after ≡ before
 Writes run before after CannotOpen = after ≡ before
 Writes run before after (NoLength r) = after ≡ before
@@ -125,7 +127,7 @@ pub record IsWarnedUpTo (run : SynchronousRun) (before after : Option (List ℕ)
   pub k : ℕ
   pub among : k ≤ length run.pages
   pub reached : (more : List ℕ)
-      × Grew before after (listing run.text_of (take k run.pages) ++ more)
+      × SinkGrew before after (listing run.text_of (take k run.pages) ++ more)
   pub are : warnings ≡ warnings_of (take k run.pages)
 
 -- what a run with this outcome has warned of: of the pages that it has listed
@@ -164,7 +166,7 @@ FitsInOrder limit lengths relations CannotOpen = Unit {0}
 
 -- the lengths that are told, or else those that were answered
 abbrev pub lengths_known : Option Told → (ℕ → ℕ) → ℕ → ℕ
-lengths_known (Some told) answered = blocks_of told
+lengths_known (Some told) answered = relation_block_count told
 lengths_known None answered = answered
 
 -- the most blocks of a relation by the segment size that is told, or else by that of the disks
@@ -173,15 +175,15 @@ limit_known (Some told) segment = length_limit told.segment
 limit_known None segment = length_limit segment
 
 -- what is known of a run, and of its warnings, whether or not its contents are told
-pub record Ran (told : Option Told) (relations : ℕ) (command : Command) (before now : Seen)
-    (outcome : Outcome) (warnings : List ℕ) : Type 0 where
+pub record IsFileRun (told : Option Told) (relations : ℕ) (command : Command)
+    (before now : ObservedState) (outcome : Outcome) (warnings : List ℕ) : Type 0 where
   pub answered : ℕ → ℕ
   pub map_page : ℕ → List ℕ
   pub segment : ℕ
   pub in_order : FitsInOrder (limit_known told segment) (lengths_known told answered) relations
       outcome
   pub lists : is_refused outcome ≡ false
-      → Lists (way_by command) told
+      → IsOutput (command_format command) told
       (request_list (lengths_known told answered)
       (map_pages_known told command.settings.zero map_page) command) before.written now.written
       outcome warnings
@@ -192,29 +194,33 @@ pub record Ran (told : Option Told) (relations : ℕ) (command : Command) (befor
   pub untouched : is_refused outcome ≡ true → (now ≡ before) × (warnings ≡ [])
 
 -- how a run over generated pages may end
-abbrev pub EndsMade : Outcome → Type 0
-EndsMade outcome = (outcome ≡ Done) ⊎ ((outcome ≡ CannotWrite) ⊎ (outcome ≡ NoMemory))
+abbrev pub IsGeneratedOutcome : Outcome → Type 0
+IsGeneratedOutcome outcome = (outcome ≡ Done) ⊎ ((outcome ≡ CannotWrite) ⊎ (outcome ≡ NoMemory))
 
 -- what is known of a run over so many generated pages: the shelf that was handed in is not read,
 -- and there is nothing to warn of
-pub record RanMade (zero : Bool) (n : ℕ) (before now : Seen) (outcome : Outcome)
+pub record IsGeneratedRun (zero : Bool) (n : ℕ) (before now : ObservedState) (outcome : Outcome)
     (warnings : List ℕ) : Type 0 where
-  pub ends : EndsMade outcome
-  pub in_order : FitsInOrder (length_limit (made_told n).segment) (blocks_of (made_told n)) 1
+  pub ends : IsGeneratedOutcome outcome
+  pub in_order : FitsInOrder (length_limit (generated_told n).segment)
+      (relation_block_count (generated_told n)) 1
       outcome
-  pub writes : Writes (made_run zero n) before.written now.written outcome
+  pub writes : Writes (generated_run zero n) before.written now.written outcome
   pub reads : now.reads ≡ before.reads
   pub quiet : warnings ≡ []
-  pub warned : IsWarned (made_run zero n) before.written now.written outcome warnings
+  pub warned : IsWarned (generated_run zero n) before.written now.written outcome warnings
 
-abbrev pub RanBy : Option Files → Command → Option ℕ → Seen → Seen → Outcome → List ℕ → Type 0
-RanBy files c None before now outcome warnings =
-    Ran (told_of files (relations_of c)) (length (relations_of c)) c before now outcome warnings
-RanBy files c (Some n) before now outcome warnings =
-    RanMade c.settings.zero n before now outcome warnings
+abbrev pub IsSourceRun : Option Files → Command → Option ℕ → ObservedState → ObservedState
+    → Outcome → List ℕ → Type 0
+IsSourceRun files c None before now outcome warnings =
+    IsFileRun (shelf_told files (relations_of c)) (length (relations_of c)) c
+    before now outcome warnings
+IsSourceRun files c (Some n) before now outcome warnings =
+    IsGeneratedRun c.settings.zero n before now outcome warnings
 
 -- words that are no command have nothing to warn of
-abbrev pub RanOn : Option Files → Option Command → Seen → Seen → Outcome → List ℕ → Type 0
-RanOn files None before now outcome warnings = warnings ≡ []
-RanOn files (Some c) before now outcome warnings =
-    RanBy files c c.made before now outcome warnings
+abbrev pub IsCommandRun : Option Files → Option Command → ObservedState → ObservedState
+    → Outcome → List ℕ → Type 0
+IsCommandRun files None before now outcome warnings = warnings ≡ []
+IsCommandRun files (Some c) before now outcome warnings =
+    IsSourceRun files c c.generated before now outcome warnings

@@ -4,19 +4,19 @@ use Rattle.std.specs.Prelude.{IfSome, true}
 use Rattle.std.specs.List.{All}
 use Rattle.page_check.specs.Told.{Told}
 use Rattle.aio_disk.specs.Counts.{ShelfCounts}
-use Rattle.aio_handle.specs.Executing.{last_count}
+use Rattle.aio_handle.specs.Execution.{last_count}
 use Rattle.scan_rounds.specs.declared.settings.MethodKind.TheVariants as method
 use Rattle.aioscan_cmd.specs.Command.{Command}
-use Rattle.aioscan_cmd.specs.Cutting.{request_list_for}
+use Rattle.aioscan_cmd.specs.RemainingRequests.{resolved_request_list}
 use Rattle.aioscan_cmd.specs.Outcomes.{is_refused}
-use Rattle.aioscan_cmd.specs.declared.cutter.Asked.{Asked}
+use Rattle.aioscan_cmd.specs.declared.cutter.ResolvedCommand.{ResolvedCommand}
 use Rattle.aioscan_cmd.specs.declared.report.Outcome.{Outcome}
 use Rattle.aioscan_cmd.specs.declared.report.Numbers.{Numbers}
 use Rattle.aioscan_cmd.specs.declared.report.Report.{Report}
 
 -- those that are reported
-abbrev pub numbers_in : Report → Numbers
-numbers_in r = record {
+abbrev pub report_numbers : Report → Numbers
+report_numbers r = record {
   incarnations = r.incarnations;
   by_workers = r.by_workers;
   by_backends = r.by_backends;
@@ -24,21 +24,21 @@ numbers_in r = record {
 
 -- each was one read of a disk, as far as the count goes; generated pages are read from a shelf of
 -- their own, and the counts of the one that was handed in stay
-abbrev pub AreReads : Option ℕ → ShelfCounts → ShelfCounts → ℕ → Type 0
-AreReads None before now incarnations =
+abbrev pub NumbersAreReads : Option ℕ → ShelfCounts → ShelfCounts → ℕ → Type 0
+NumbersAreReads None before now incarnations =
     now.reads < last_count → now.reads ≡ before.reads + incarnations
-AreReads (Some n) before now incarnations = now ≡ before
+NumbersAreReads (Some n) before now incarnations = now ≡ before
 
--- whose counts these are: of files, or of generated pages
-abbrev pub made_by : Option Command → Option ℕ
-made_by None = None
-made_by (Some c) = c.made
+-- how many pages are generated, where no files are listed
+abbrev pub generated_page_count : Option Command → Option ℕ
+generated_page_count None = None
+generated_page_count (Some c) = c.generated
 
-pub record AreCounted (made : Option ℕ) (command : Option Command) (before now : ShelfCounts)
-    (outcome : Outcome) (numbers : Numbers) : Type 0 where
+pub record AreRunNumbers (generated : Option ℕ) (command : Option Command)
+    (before now : ShelfCounts) (outcome : Outcome) (numbers : Numbers) : Type 0 where
   -- each was executed once, by a worker or by a backend
   pub sum : numbers.incarnations ≡ numbers.by_workers + numbers.by_backends
-  pub reads : AreReads made before now numbers.incarnations
+  pub reads : NumbersAreReads generated before now numbers.incarnations
   pub no_workers : IfSome command
       (λ c. c.settings.method ≢ method.Worker → numbers.by_workers ≡ 0)
   pub none : is_refused outcome ≡ true
@@ -46,10 +46,10 @@ pub record AreCounted (made : Option ℕ) (command : Option Command) (before now
 
 -- the numbers of a scan whose map has given these pages, over disks that were not read before,
 -- which have counted so many reads by now
-pub record AreOfScan {D : Type 0} (asked : Asked) (told : Option Told) (given : ℕ → List ℕ)
-    (reads : D → ℕ) (disks : List D) (numbers : Numbers) : Type 0 where
+pub record AreScanNumbers {D : Type 0} (asked : ResolvedCommand) (told : Option Told) (given : ℕ
+    → List ℕ) (reads : D → ℕ) (disks : List D) (numbers : Numbers) : Type 0 where
   pub sum : numbers.incarnations ≡ numbers.by_workers + numbers.by_backends
   pub reads_are : All (λ d. reads d < last_count) disks
       → numbers.incarnations ≡ sum_by reads disks
-  pub few : numbers.incarnations ≤ length (request_list_for asked told given)
+  pub few : numbers.incarnations ≤ length (resolved_request_list asked told given)
   pub no_workers : (asked.command.now).settings.method ≢ method.Worker → numbers.by_workers ≡ 0

@@ -9,7 +9,7 @@ use Rattle.std.specs.Str.Parse.{digits_value}
 use Rattle.clap.specs.Words.{Row, Text, fault_of, matches_of, first_of, all_of}
 use Rattle.aioscan_cmd.specs.Grammar.{the_command}
 use Rattle.aioscan_cmd.specs.Command.{Command, MapOption}
-use Rattle.aioscan_cmd.specs.Generated.{made_name}
+use Rattle.aioscan_cmd.specs.GeneratedPages.{generated_file_name}
 use Rattle.aioscan_cmd.specs.declared.words.map_option.MapOption.{MapOption as MapOfWords}
 use Rattle.scan_rounds.specs.declared.settings.MethodKind.{MethodKind}
 use Rattle.scan_rounds.specs.declared.settings.MethodKind.TheVariants as method
@@ -65,23 +65,23 @@ abbrev pub is_name : Text → Bool
 is_name word = nat_le 1 (length word)
 
 -- 1 to 1024 names of files
-abbrev pub files_of : Option (List Text) → Option (List Text)
-files_of None = None
-files_of (Some words) =
+abbrev pub valid_file_names : Option (List Text) → Option (List Text)
+valid_file_names None = None
+valid_file_names (Some words) =
     if is_count (length words) 1024 && list_all is_name words then Some words else None
 
 -- the FILE words
-abbrev pub files_in : List Row → List Text
-files_in rows = unwrap_or (all_of (codes "FILE") rows) []
+abbrev pub file_words : List Row → List Text
+file_words rows = unwrap_or (all_of (codes "FILE") rows) []
 
 -- there are 1 to 1024 FILE words, none of them empty
 abbrev pub NamesFiles : List Row → Type 0
-NamesFiles rows = files_of (all_of (codes "FILE") rows) ≡ Some (files_in rows)
+NamesFiles rows = valid_file_names (all_of (codes "FILE") rows) ≡ Some (file_words rows)
 
 -- the files that are listed
-abbrev pub files_by : Option ℕ → List Row → List Text
-files_by None rows = files_in rows
-files_by (Some n) rows = made_name ∷ []
+abbrev pub source_files : Option ℕ → List Row → List Text
+source_files None rows = file_words rows
+source_files (Some n) rows = generated_file_name ∷ []
 
 -- there are right FILE words, where no pages are generated
 abbrev pub NamesSource : Option ℕ → List Row → Type 0
@@ -114,18 +114,18 @@ pub record Source : Type 0 where
   pub from : Option ℕ
   pub to : Option ℕ
   pub files : List Text
-  pub made : Option ℕ
+  pub generated : Option ℕ
 
-abbrev pub named : Option ℕ → Option ℕ → Option (List Text) → Option Source
-named from to None = None
-named from to (Some files) =
-    Some (record { from = from; to = to; files = files; made = None })
+abbrev pub source_of_names : Option ℕ → Option ℕ → Option (List Text) → Option Source
+source_of_names from to None = None
+source_of_names from to (Some files) =
+    Some (record { from = from; to = to; files = files; generated = None })
 
 -- either FILE words or `--make`, and `--make` with none of `--from`, `--to` and `--tuples`
 abbrev pub source_of : Option ℕ → Option ℕ → Bool → Option ℕ → Option (List Text) → Option Source
-source_of from to tuples None words = named from to (files_of words)
+source_of from to tuples None words = source_of_names from to (valid_file_names words)
 source_of None None false (Some n) None =
-    Some (record { from = None; to = None; files = made_name ∷ []; made = Some n })
+    Some (record { from = None; to = None; files = generated_file_name ∷ []; generated = Some n })
 source_of (Some from) to tuples (Some n) words = None
 source_of None (Some to) tuples (Some n) words = None
 source_of None None true (Some n) words = None
@@ -133,12 +133,13 @@ source_of None None false (Some n) (Some words) = None
 
 abbrev pub source_with : Option (Option ℕ) → Option (Option ℕ) → Bool → Option (Option ℕ)
     → Option (List Text) → Option Source
-source_with (Some from) (Some to) tuples (Some made) words = source_of from to tuples made words
+source_with (Some from) (Some to) tuples (Some generated) words =
+    source_of from to tuples generated words
 source_with _ _ _ _ _ = None
 
 -- the option that the code keeps, as contracts see it
-abbrev pub map_seen : MapOfWords → MapOption
-map_seen map = record { name = map.name.now; skip = map.skip }
+abbrev pub map_option_view : MapOfWords → MapOption
+map_option_view map = record { name = map.name.now; skip = map.skip }
 
 -- a map has a name, which is not that of its file
 abbrev pub is_map_of : Text → Text → Bool
@@ -163,7 +164,7 @@ command_with (Some source) (Some map) (Some settings) stats =
       from = source.from;
       to = source.to;
       files = source.files;
-      made = source.made;
+      generated = source.generated;
       map = map;
       settings = settings;
       stats = stats;
@@ -175,8 +176,8 @@ module _ (rows : List Row) where
   abbrev pub text_of : Text → Option Text
   text_of name = first_of name rows
 
-  abbrev pub settings_in : Option ScanSettings
-  settings_in = settings_with
+  abbrev pub parsed_settings : Option ScanSettings
+  parsed_settings = settings_with
       (method_of (text_of (codes "method")))
       (number_or 1 32 3 (text_of (codes "workers")))
       (number_or 1 16 2 (text_of (codes "backends")))
@@ -189,26 +190,28 @@ module _ (rows : List Row) where
       (is_set (text_of (codes "zero-damaged")))
       (is_set (text_of (codes "tuples")))
 
-  abbrev pub map_in : Option (Option MapOption)
-  map_in = map_with (text_of (codes "map")) (text_of (codes "skip")) (all_of (codes "FILE") rows)
+  abbrev pub parsed_map : Option (Option MapOption)
+  parsed_map = map_with (text_of (codes "map")) (text_of (codes "skip"))
+      (all_of (codes "FILE") rows)
 
-  abbrev pub command_in : Option Command
-  command_in = command_with
+  abbrev pub parsed_command : Option Command
+  parsed_command = command_with
       (source_with
       (number_if_given 0 2097151 (text_of (codes "from")))
       (number_if_given 0 2097151 (text_of (codes "to")))
       (is_set (text_of (codes "tuples")))
       (number_if_given 1 4096 (text_of (codes "make")))
       (all_of (codes "FILE") rows))
-      map_in
-      settings_in
+      parsed_map
+      parsed_settings
       (is_set (text_of (codes "stats")))
 
 -- what was found, where `clap` has no fault to find in the words
-abbrev pub if_taken : {F X : Type 0} → List F → Option X → Option X
-if_taken [] found = found
-if_taken (fault ∷ faults) found = None
+abbrev pub if_accepted : {F X : Type 0} → List F → Option X → Option X
+if_accepted [] found = found
+if_accepted (fault ∷ faults) found = None
 
 -- what the words ask for, or None where they are no command
 abbrev pub command_of : List Text → Option Command
-command_of words = if_taken (fault_of the_command words) (command_in (matches_of the_command words))
+command_of words = if_accepted (fault_of the_command words)
+    (parsed_command (matches_of the_command words))

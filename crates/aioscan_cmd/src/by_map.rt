@@ -1,19 +1,20 @@
 //! Lists what is asked for, by the map where there is one.
 ghost use Rattle.std.specs.Prelude.{◌≡◌, ◌<◌, ◌≤◌, ◌+◌, ◌^◌, ℕ, List, length, None};
-ghost use Rattle.scan_rounds.specs.Hands.{meter};
-ghost use Rattle.scan_rounds.specs.Rounds.{taken_by};
-ghost use Rattle.scan_rounds.specs.Scans.{IsScan, IsSameScan, manner_in};
-ghost use Rattle.aioscan_cmd.specs.Command.{manner_by};
-ghost use Rattle.aioscan_cmd.specs.Cutting.{HasMap, IsAsked, request_list_for, requests_for};
-ghost use Rattle.aioscan_cmd.specs.Cutting.{settings_for};
+ghost use Rattle.scan_rounds.specs.DiskActors.{disk_ghosts};
+ghost use Rattle.scan_rounds.specs.Rounds.{results_taken};
+ghost use Rattle.scan_rounds.specs.Scans.{IsScan, IsSameScan, scan_options};
+ghost use Rattle.aioscan_cmd.specs.Command.{options_of_settings};
+ghost use Rattle.aioscan_cmd.specs.RemainingRequests.{HasMap, IsResolved, resolved_request_list};
+ghost use Rattle.aioscan_cmd.specs.RemainingRequests.{resolved_requests};
+ghost use Rattle.aioscan_cmd.specs.RemainingRequests.{resolved_settings};
 ghost use Rattle.aioscan_cmd.specs.ErrorLine.{Warns, error_stream};
-ghost use Rattle.aioscan_cmd.specs.Reading.{Lists, HasWritten, way_by};
+ghost use Rattle.aioscan_cmd.specs.Output.{IsOutput, WriteFaultsCounted, command_format};
 ghost use Rattle.aioscan_cmd.specs.Sums.{HasSums};
 
-use crate::cutter::Asked;
+use crate::cutter::ResolvedCommand;
 use crate::error_line::write_warnings;
 use crate::in_rounds::list_rounds;
-use crate::lister::{ByMap, outcome_of};
+use crate::lister::{MapFilter, outcome_of};
 use crate::{Line, Outcome};
 use aio_disk::{Disk, Sink};
 use heap_scan::PageSums;
@@ -32,30 +33,31 @@ fn list_by_map<W: World + Send + Sync, D: Disk, O: Sink, E: Sink, R: Threads + W
     rt: &R,
     alloc: Global,
     scan: &mut Scan<W, D>,
-    asked: Asked<'_, '_>,
+    asked: ResolvedCommand<'_, '_>,
     skip: Skip,
     out: &mut O,
     err: &mut E,
 ) -> (Outcome, Line, PageSums)
-    requires scan { IsScan (meter D.told D.relations D.reads D.faults) W.told W.relations
+    requires scan { IsScan (disk_ghosts D.told D.relations D.reads D.faults) W.told W.relations
         scan.old }
     requires room { 2 ^ 37 + 65 ≤ scan.old.room }
-    requires asked { IsAsked asked }
+    requires asked { IsResolved asked }
     requires map { HasMap asked skip }
-    requires manner { manner_in scan.old ≡ manner_by (settings_for asked) }
+    requires manner { scan_options scan.old ≡ options_of_settings (resolved_settings asked) }
     requires world { W.relations ≡ length asked.relations.now }
-    ensures scan { IsScan (meter D.told D.relations D.reads D.faults) W.told W.relations
+    ensures scan { IsScan (disk_ghosts D.told D.relations D.reads D.faults) W.told W.relations
         scan.new }
     ensures same { IsSameScan scan.old scan.new }
-    ensures listed { (given : ℕ → List ℕ) × Warns (Lists (way_by asked.entry.command.now) W.told
-        (request_list_for asked.entry W.told given) (O.written out.old) (O.written out.new)
+    ensures listed { (given : ℕ → List ℕ)
+        × Warns (IsOutput (command_format asked.entry.command.now) W.told
+        (resolved_request_list asked.entry W.told given) (O.written out.old) (O.written out.new)
         result.0)
         (error_stream Line.Whole (E.written err.old) (E.faults err.old))
         (error_stream result.1 (E.written err.new) (E.faults err.new))
-        × (taken_by scan.new.backends.items
-        ≤ taken_by scan.old.backends.items
-        + length (request_list_for asked.entry W.told given)) }
-    ensures writes { HasWritten (O.faults out.old) (O.faults out.new) result.0 }
+        × (results_taken scan.new.backends.items
+        ≤ results_taken scan.old.backends.items
+        + length (resolved_request_list asked.entry W.told given)) }
+    ensures writes { WriteFaultsCounted (O.faults out.old) (O.faults out.new) result.0 }
     ensures unread { (r b : ℕ) → result.0 ≡ Outcome.Unread r b → 0 < scan.new.unread }
 {
     let Ok(mut map) = VisMap::open(alloc, asked.map_pages()) else {
@@ -66,7 +68,7 @@ fn list_by_map<W: World + Send + Sync, D: Disk, O: Sink, E: Sink, R: Threads + W
     let line = write_warnings(Line::Whole, warnings.as_slice(), err);
     match outcome_of(MAP, ending) {
         Outcome::Done => {
-            let by_map = Some(ByMap { map: &map, skip });
+            let by_map = Some(MapFilter { map: &map, skip });
             list_rounds(rt, scan, asked, by_map, line, out, err)
         }
         outcome => (outcome, line, PageSums::default()),
@@ -85,32 +87,33 @@ pub(crate) fn list_asked<
     rt: &R,
     alloc: Global,
     scan: &mut Scan<W, D>,
-    asked: Asked<'_, '_>,
+    asked: ResolvedCommand<'_, '_>,
     out: &mut O,
     err: &mut E,
 ) -> (Outcome, Line, PageSums)
-    requires scan { IsScan (meter D.told D.relations D.reads D.faults) W.told W.relations
+    requires scan { IsScan (disk_ghosts D.told D.relations D.reads D.faults) W.told W.relations
         scan.old }
     requires room { 2 ^ 37 + 65 ≤ scan.old.room }
-    requires asked { IsAsked asked }
-    requires manner { manner_in scan.old ≡ manner_by (settings_for asked) }
+    requires asked { IsResolved asked }
+    requires manner { scan_options scan.old ≡ options_of_settings (resolved_settings asked) }
     requires world { W.relations ≡ length asked.relations.now }
-    ensures scan { IsScan (meter D.told D.relations D.reads D.faults) W.told W.relations
+    ensures scan { IsScan (disk_ghosts D.told D.relations D.reads D.faults) W.told W.relations
         scan.new }
     ensures same { IsSameScan scan.old scan.new }
-    ensures listed { (given : ℕ → List ℕ) × Warns (Lists (way_by asked.entry.command.now) W.told
-        (request_list_for asked.entry W.told given) (O.written out.old) (O.written out.new)
+    ensures listed { (given : ℕ → List ℕ)
+        × Warns (IsOutput (command_format asked.entry.command.now) W.told
+        (resolved_request_list asked.entry W.told given) (O.written out.old) (O.written out.new)
         result.0)
         (error_stream Line.Whole (E.written err.old) (E.faults err.old))
         (error_stream result.1 (E.written err.new) (E.faults err.new))
-        × (taken_by scan.new.backends.items
-        ≤ taken_by scan.old.backends.items
-        + length (request_list_for asked.entry W.told given)) }
-    ensures writes { HasWritten (O.faults out.old) (O.faults out.new) result.0 }
+        × (results_taken scan.new.backends.items
+        ≤ results_taken scan.old.backends.items
+        + length (resolved_request_list asked.entry W.told given)) }
+    ensures writes { WriteFaultsCounted (O.faults out.old) (O.faults out.new) result.0 }
     ensures unread { (r b : ℕ) → result.0 ≡ Outcome.Unread r b → 0 < scan.new.unread }
     ensures sums { result.0 ≡ Outcome.Done → (asked.entry.command.now).map ≡ None
-        → HasSums (manner_by (settings_for asked.entry)) W.told (requests_for asked.entry)
-        result.2 }
+        → HasSums (options_of_settings (resolved_settings asked.entry)) W.told
+        (resolved_requests asked.entry) result.2 }
 {
     match asked.command.map() {
         None => list_rounds(rt, scan, asked, None, Line::Whole, out, err),

@@ -2,11 +2,13 @@
 ghost use Rattle.std.specs.Prelude.{◌≡◌, ◌≤◌, ◌<◌, ◌+◌, ◌++◌, ◌^◌, [], length};
 ghost use Rattle.std.specs.Prelude.{IfSome, IfNone};
 ghost use Rattle.aioscan_cmd.specs.Command.{number_limit};
-ghost use Rattle.scan_rounds.specs.Opening.{AreSettings};
+ghost use Rattle.scan_rounds.specs.OpenedScan.{AreSettings};
 ghost use Rattle.aioscan_cmd.specs.RequestList.{block_range};
-ghost use Rattle.aioscan_cmd.specs.Cutting.{IsAsked, IsJobRange, left_at, left_here, name_at};
-ghost use Rattle.aioscan_cmd.specs.Cutting.{HasMap, greatest_in, map_pages_of, requests_for};
-ghost use Rattle.aioscan_cmd.specs.Cutting.{settings_for};
+ghost use Rattle.aioscan_cmd.specs.RemainingRequests.{IsResolved, IsJobRange, remaining_requests};
+ghost use Rattle.aioscan_cmd.specs.RemainingRequests.{remaining_of_file, file_name_of_place};
+ghost use Rattle.aioscan_cmd.specs.RemainingRequests.{HasMap, greatest_requested_block};
+ghost use Rattle.aioscan_cmd.specs.RemainingRequests.{map_page_count, resolved_requests};
+ghost use Rattle.aioscan_cmd.specs.RemainingRequests.{resolved_settings};
 ghost use Rattle.vis_map.specs.declared.map.Skip.{Skip};
 
 use crate::relations::Relations;
@@ -19,21 +21,20 @@ use vis_map::needed_pages;
 // At most so many blocks has a job.
 const JOB_BLOCKS: u32 = 64;
 
-/// What a run asks for: a command, its relations, the length of each, and the segment size of the
-/// disks in blocks.
+/// A command with its relations, the length of each, and the segment size of the disks in blocks.
 #[derive(Clone, Copy)]
-pub(crate) struct Asked<'a, 'w> {
+pub(crate) struct ResolvedCommand<'a, 'w> {
     pub(crate) command: &'a Command<'w>,
     pub(crate) relations: &'a Relations,
     pub(crate) lengths: &'a [u32],
     pub(crate) segment: u32,
 }
 
-impl Asked<'_, '_> {
+impl ResolvedCommand<'_, '_> {
     /// How the files are read.
     pub(crate) fn settings(&self) -> ScanSettings
         requires { 1 ≤ self.now.segment }
-        ensures settings { result ≡ settings_for self.now }
+        ensures settings { result ≡ resolved_settings self.now }
         ensures within { AreSettings result }
     {
         ScanSettings {
@@ -44,9 +45,9 @@ impl Asked<'_, '_> {
 
     // The greatest block that the one file of a map asks for.
     fn greatest(&self) -> Option<u32>
-        requires asked { IsAsked self.now }
+        requires asked { IsResolved self.now }
         requires map { (skip : Skip) × HasMap self.now skip }
-        ensures block { result ≡ greatest_in self.now }
+        ensures block { result ≡ greatest_requested_block self.now }
         ensures below { IfSome result (λ block. block < number_limit) }
     {
         let relation = self.relations.number_of(self.command.files()[0]);
@@ -60,9 +61,9 @@ impl Asked<'_, '_> {
 
     /// How many pages of the map are read: those that have bits of blocks that are asked for.
     pub(crate) fn map_pages(&self) -> u32
-        requires asked { IsAsked self.now }
+        requires asked { IsResolved self.now }
         requires map { (skip : Skip) × HasMap self.now skip }
-        ensures pages { result ≡ map_pages_of self.now }
+        ensures pages { result ≡ map_page_count self.now }
         ensures few { result ≤ 65 }
     {
         needed_pages(self.lengths[1], self.greatest())
@@ -71,7 +72,7 @@ impl Asked<'_, '_> {
 
 /// The blocks of a job: so many of a relation, from one on.
 #[derive(Clone, Copy)]
-pub(crate) struct Cut {
+pub(crate) struct JobRange {
     pub(crate) relation: u32,
     pub(crate) first: u32,
     pub(crate) count: u32,
@@ -85,18 +86,20 @@ struct Place {
 }
 
 // The next of a FILE word's blocks, of which so many were cut off.
-fn cut_off(asked: Asked<'_, '_>, place: Place) -> Option<Cut>
-    requires asked { IsAsked asked }
+fn cut_off(asked: ResolvedCommand<'_, '_>, place: Place) -> Option<JobRange>
+    requires asked { IsResolved asked }
     requires file { place.file < length (asked.command.now).files }
     ensures some { IfSome result (λ c.
-        (left_here asked.entry (name_at asked.entry place.file) place.done
+        (remaining_of_file asked.entry (file_name_of_place asked.entry place.file) place.done
         ≡ block_range c.relation c.first c.count
-        ++ left_here asked.entry (name_at asked.entry place.file) (place.done + c.count))
+        ++ remaining_of_file asked.entry
+        (file_name_of_place asked.entry place.file) (place.done + c.count))
         × IsJobRange (length asked.entry.relations.now) c × (place.done + c.count ≤ number_limit)) }
     ensures none { IfNone result
-        (left_here asked.entry (name_at asked.entry place.file) place.done ≡ []) }
+        (remaining_of_file asked.entry (file_name_of_place asked.entry place.file) place.done
+        ≡ []) }
 {
-    let Asked {
+    let ResolvedCommand {
         command,
         relations,
         lengths,
@@ -107,7 +110,7 @@ fn cut_off(asked: Asked<'_, '_>, place: Place) -> Option<Cut>
     if count <= place.done {
         return None;
     }
-    Some(Cut {
+    Some(JobRange {
         relation,
         first: command.first_block() + place.done,
         count: JOB_BLOCKS.min(count - place.done),
@@ -115,13 +118,14 @@ fn cut_off(asked: Asked<'_, '_>, place: Place) -> Option<Cut>
 }
 
 // The next blocks, and where cutting stands behind them.
-fn cut_next(asked: Asked<'_, '_>, place: Place) -> Option<(Place, Cut)>
-    requires asked { IsAsked asked }
+fn cut_next(asked: ResolvedCommand<'_, '_>, place: Place) -> Option<(Place, JobRange)>
+    requires asked { IsResolved asked }
     ensures some { IfSome result (λ c.
-        (left_at asked.entry place.file place.done
-        ≡ block_range c.1.relation c.1.first c.1.count ++ left_at asked.entry c.0.file c.0.done)
+        (remaining_requests asked.entry place.file place.done
+        ≡ block_range c.1.relation c.1.first c.1.count ++ remaining_requests
+        asked.entry c.0.file c.0.done)
         × IsJobRange (length asked.entry.relations.now) c.1) }
-    ensures none { IfNone result (left_at asked.entry place.file place.done ≡ []) }
+    ensures none { IfNone result (remaining_requests asked.entry place.file place.done ≡ []) }
 {
     let mut done = place.done;
     for file in place.file..asked.command.files().len() {
@@ -138,7 +142,7 @@ fn cut_next(asked: Asked<'_, '_>, place: Place) -> Option<(Place, Cut)>
 /// it.
 #[derive(Drop)]
 pub(crate) struct Cutter<'a, 'w, W: World> {
-    asked: Asked<'a, 'w>,
+    asked: ResolvedCommand<'a, 'w>,
     place: Place,
     world: PhantomData<W>,
 }
@@ -146,21 +150,21 @@ pub(crate) struct Cutter<'a, 'w, W: World> {
 impl<'a, 'w, W: World> Model for Cutter<'a, 'w, W> {
     ghost use Rattle.std.specs.Prelude.{List};
     ghost use Rattle.aioscan_cmd.specs.RequestList.{Request};
-    ghost use Rattle.aioscan_cmd.specs.Cutting.{left_at, IsAskedOf};
+    ghost use Rattle.aioscan_cmd.specs.RemainingRequests.{remaining_requests, ResolvesRelations};
 
     ghost Value = { List Request };
 
-    ghost view = { λ c. left_at c.asked c.place.file c.place.done };
+    ghost view = { λ c. remaining_requests c.asked c.place.file c.place.done };
 
-    ghost invariant = { λ c. IsAskedOf W.relations c.asked };
+    ghost invariant = { λ c. ResolvesRelations W.relations c.asked };
 }
 
 impl<'a, 'w, W: World> Cutter<'a, 'w, W> {
     /// All blocks that are asked for.
-    pub(crate) fn of(asked: Asked<'a, 'w>) -> Cutter<'a, 'w, W>
-        requires asked { IsAsked asked }
+    pub(crate) fn of(asked: ResolvedCommand<'a, 'w>) -> Cutter<'a, 'w, W>
+        requires asked { IsResolved asked }
         requires world { W.relations ≡ length asked.relations.now }
-        ensures all { result ≡ requests_for asked.entry }
+        ensures all { result ≡ resolved_requests asked.entry }
         ensures few { length result ≤ 2 ^ 31 }
     {
         // No more than 1024 files of 2097152 blocks.
@@ -174,7 +178,7 @@ impl<'a, 'w, W: World> Cutter<'a, 'w, W> {
     }
 
     /// Cuts off the next blocks: at most 64, of one FILE word. None where no block is left.
-    pub(crate) fn next(&mut self) -> Option<Cut>
+    pub(crate) fn next(&mut self) -> Option<JobRange>
         ensures some { IfSome result (λ c.
             (self.old ≡ block_range c.relation c.first c.count ++ self.new)
             × IsJobRange W.relations c) }

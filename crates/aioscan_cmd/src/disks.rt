@@ -2,10 +2,10 @@
 ghost use Rattle.std.specs.Prelude.{◌≡◌, ◌≤◌, ◌<◌, length, map, string_bytes, sum_by, OnOk};
 ghost use Rattle.std.specs.Prelude.{IsErrOf, true, vec_capacity, vec_len};
 ghost use Rattle.std.specs.List.{All};
-ghost use Rattle.aio_disk.specs.Counts.{RisesBy, Rose, raised_by};
-ghost use Rattle.aio_disk.specs.Shelf.{told_of};
+ghost use Rattle.aio_disk.specs.Counts.{RisesBy, CountRose, raised_by};
+ghost use Rattle.aio_disk.specs.Shelf.{shelf_told};
 ghost use Rattle.aio_disk.specs.declared.fault.OpenFault.TheVariants.{Device};
-ghost use Rattle.aioscan_cmd.specs.Disks.{IsUnread};
+ghost use Rattle.aioscan_cmd.specs.Disks.{IsUnreadDisk};
 
 use aio_disk::{Disk, OpenFault, Shelf};
 
@@ -18,16 +18,16 @@ pub(crate) fn open_others<S: Shelf>(
     count: usize,
 ) -> Result<(), OpenFault>
     requires room { (vec_len disks.old ≤ count) × (count ≤ vec_capacity disks.old) }
-    requires unread { All (IsUnread S.Disk.told S.Disk.relations S.Disk.segment S.Disk.faults
-        S.Disk.reads (told_of (S.told shelf.old) (map string_bytes names.now)) (length names.now)
+    requires unread { All (IsUnreadDisk S.Disk.told S.Disk.relations S.Disk.segment S.Disk.faults
+        S.Disk.reads (shelf_told (S.told shelf.old) (map string_bytes names.now)) (length names.now)
         (S.segment shelf.old)) disks.old.items }
     ensures all { OnOk result (length disks.new.items ≡ count) }
-    ensures unread { All (IsUnread S.Disk.told S.Disk.relations S.Disk.segment S.Disk.faults
-        S.Disk.reads (told_of (S.told shelf.old) (map string_bytes names.now)) (length names.now)
+    ensures unread { All (IsUnreadDisk S.Disk.told S.Disk.relations S.Disk.segment S.Disk.faults
+        S.Disk.reads (shelf_told (S.told shelf.old) (map string_bytes names.now)) (length names.now)
         (S.segment shelf.old)) disks.new.items }
     ensures later { (S.counts shelf.old).open_faults ≤ (S.counts shelf.new).open_faults }
     ensures device { IsErrOf result Device
-        → Rose (S.counts shelf.old).open_faults (S.counts shelf.new).open_faults }
+        → CountRose (S.counts shelf.old).open_faults (S.counts shelf.new).open_faults }
     ensures sure { S.surely_opens shelf.old (map string_bytes names.now) ≡ true
         → IsErrOf result Device → ⊥ }
     ensures told { S.told shelf.new ≡ S.told shelf.old }

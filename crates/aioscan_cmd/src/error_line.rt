@@ -4,7 +4,7 @@ ghost use Rattle.aioscan_cmd.specs.Outcomes.{line_of};
 ghost use Rattle.aioscan_cmd.specs.ErrorLine.{IsToldOnErr, HasNumbers, Tells, error_stream};
 ghost use Rattle.aioscan_cmd.specs.ErrorLine.{totals_line};
 
-use crate::report::{Ended, Numbers};
+use crate::report::{Numbers, ReportedEnd};
 use crate::{Line, Outcome};
 use aio_disk::{Sink, WriteFault};
 use aio_trace::numbers_text;
@@ -94,7 +94,7 @@ fn write_totals<E: Sink>(alloc: Global, numbers: Numbers, err: &mut E) -> Line
 
 // Writes the line of an outcome, and that of the totals behind it where it is shown. What cuts the
 // first off ends writing.
-fn write_lines<E: Sink>(alloc: Global, ended: Ended, err: &mut E) -> Line
+fn write_lines<E: Sink>(alloc: Global, ended: ReportedEnd, err: &mut E) -> Line
     ensures told { IsToldOnErr
         (line_of ended.end.outcome ++ totals_line ended.shows_totals ended.end.numbers) result
         (E.written err.old) (E.written err.new) (E.faults err.old) (E.faults err.new) }
@@ -123,7 +123,7 @@ pub(crate) fn write_warnings<E: Sink>(line: Line, warnings: &[u8], err: &mut E) 
 }
 
 /// Writes the lines of a run's end behind what was told so far, where nothing was cut off.
-pub(crate) fn write_end<E: Sink>(alloc: Global, ended: Ended, err: &mut E) -> Line
+pub(crate) fn write_end<E: Sink>(alloc: Global, ended: ReportedEnd, err: &mut E) -> Line
     ensures { Tells
         (line_of ended.end.outcome ++ totals_line ended.shows_totals ended.end.numbers)
         (error_stream ended.end.line (E.written err.old) (E.faults err.old))

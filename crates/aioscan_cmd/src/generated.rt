@@ -1,8 +1,9 @@
 //! Generated pages, as input that needs no file.
 ghost use Rattle.std.specs.Prelude.{◌≡◌, ◌++◌, ◌<◌, ◌≤◌, OnOk, IfOk, replicate};
-ghost use Rattle.aioscan_cmd.specs.Generated.{four_bytes, made_file, made_header, made_page};
-ghost use Rattle.aioscan_cmd.specs.Generated.{made_pointers};
-ghost use Rattle.aioscan_cmd.specs.Generated.{page_with, two_bytes};
+ghost use Rattle.aioscan_cmd.specs.GeneratedPages.{four_bytes, generated_file, generated_header};
+ghost use Rattle.aioscan_cmd.specs.GeneratedPages.{generated_page};
+ghost use Rattle.aioscan_cmd.specs.GeneratedPages.{generated_pointer_bytes};
+ghost use Rattle.aioscan_cmd.specs.GeneratedPages.{page_with_items, two_bytes};
 
 use page_check::Page;
 use std::alloc::{AllocError, Global};
@@ -40,7 +41,7 @@ fn put_u32(out: &mut Vec<u8>, number: u32) -> Result<(), AllocError>
 fn put_header(out: &mut Vec<u8>, zeros: &Page, items: u16) -> Result<(), AllocError>
     requires zeros { zeros.now ≡ replicate 8192 0 }
     requires items { items < 5 }
-    ensures { OnOk result (out.new.items ≡ out.old.items ++ made_header items) }
+    ensures { OnOk result (out.new.items ≡ out.old.items ++ generated_header items) }
 {
     put_zeros(out, zeros, 12)?;
     put_u16(out, 24 + 4 * items)?;
@@ -53,7 +54,7 @@ fn put_header(out: &mut Vec<u8>, zeros: &Page, items: u16) -> Result<(), AllocEr
 // The line pointers: normal items of 32 bytes from the end of the page on.
 fn put_pointers(out: &mut Vec<u8>, items: u16) -> Result<(), AllocError>
     requires { items < 5 }
-    ensures { OnOk result (out.new.items ≡ out.old.items ++ made_pointers items) }
+    ensures { OnOk result (out.new.items ≡ out.old.items ++ generated_pointer_bytes items) }
 {
     for index in 0..items {
         let offset = 8192 - 32 * (u32::from(index) + 1);
@@ -65,7 +66,7 @@ fn put_pointers(out: &mut Vec<u8>, items: u16) -> Result<(), AllocError>
 fn put_page(out: &mut Vec<u8>, zeros: &Page, items: u16) -> Result<(), AllocError>
     requires zeros { zeros.now ≡ replicate 8192 0 }
     requires items { items < 5 }
-    ensures { OnOk result (out.new.items ≡ out.old.items ++ page_with items) }
+    ensures { OnOk result (out.new.items ≡ out.old.items ++ page_with_items items) }
 {
     put_header(out, zeros, items)?;
     put_pointers(out, items)?;
@@ -73,10 +74,10 @@ fn put_page(out: &mut Vec<u8>, zeros: &Page, items: u16) -> Result<(), AllocErro
 }
 
 // The page of a block.
-#[tactic(auto, unfolding(crate::specs::Generated::made_page))]
+#[tactic(auto, unfolding(crate::specs::GeneratedPages::generated_page))]
 fn put_block(out: &mut Vec<u8>, zeros: &Page, block: u32) -> Result<(), AllocError>
     requires { zeros.now ≡ replicate 8192 0 }
-    ensures { OnOk result (out.new.items ≡ out.old.items ++ made_page block) }
+    ensures { OnOk result (out.new.items ≡ out.old.items ++ generated_page block) }
 {
     if block % 7 == 6 {
         put_zeros(out, zeros, 8192)
@@ -89,7 +90,7 @@ fn put_block(out: &mut Vec<u8>, zeros: &Page, block: u32) -> Result<(), AllocErr
 /// modulo 7 is all zeros; another has as many items as its block modulo 5.
 pub(crate) fn make_file(alloc: Global, pages: u32) -> Result<Vec<u8>, AllocError>
     requires { pages ≤ 4096 }
-    ensures { IfOk result (λ file. file.items ≡ made_file pages) }
+    ensures { IfOk result (λ file. file.items ≡ generated_file pages) }
 {
     let zeros = Page::zeroed(alloc)?;
     let mut file = Vec::with_capacity(alloc, 8192 * pages as usize)?;

@@ -1,6 +1,6 @@
 //! The lengths of the relations, taken before any block is read.
 ghost use Rattle.std.specs.Prelude.{◌≡◌, ◌<◌, ◌≤◌, ℕ, IsErrOf, MatchResult};
-ghost use Rattle.aio_disk.specs.Counts.{Rose};
+ghost use Rattle.aio_disk.specs.Counts.{CountRose};
 ghost use Rattle.aioscan_cmd.specs.Lengths.{HasLengths, HasNoLengths};
 
 use crate::Outcome;
@@ -22,7 +22,7 @@ pub(crate) fn take_lengths<D: Disk>(
         (λ outcome. HasNoLengths (D.told disk.old) (D.segment disk.old) relations outcome) }
     ensures later { D.length_faults disk.old ≤ D.length_faults disk.new }
     ensures no_length { (r : ℕ) → IsErrOf result (Outcome.NoLength r)
-        → Rose (D.length_faults disk.old) (D.length_faults disk.new) }
+        → CountRose (D.length_faults disk.old) (D.length_faults disk.new) }
     ensures told { D.told disk.new ≡ D.told disk.old }
     ensures relations { D.relations disk.new ≡ D.relations disk.old }
     ensures segment { D.segment disk.new ≡ D.segment disk.old }

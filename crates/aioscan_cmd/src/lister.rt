@@ -3,15 +3,16 @@ ghost use Rattle.std.specs.Prelude.{◌≡◌, ◌≢◌, ◌≤◌, ◌++◌, �
 ghost use Rattle.std.specs.Prelude.{IsErrOf};
 ghost use Rattle.std.specs.List.{All};
 ghost use Rattle.scan_rounds.specs.Jobs.{IsFresh, unread_among};
-ghost use Rattle.aioscan_cmd.specs.Reading.{HasWritten};
-ghost use Rattle.aioscan_cmd.specs.Listing.{requests_in, unread_count, outcome_for};
-ghost use Rattle.aioscan_cmd.specs.Listing.{IsListedBy, AreListedBy};
+ghost use Rattle.aioscan_cmd.specs.Output.{WriteFaultsCounted};
+ghost use Rattle.aioscan_cmd.specs.ListerState.{unskipped_job_requests, unread_count};
+ghost use Rattle.aioscan_cmd.specs.ListerState.{outcome_of_ending};
+ghost use Rattle.aioscan_cmd.specs.ListerState.{JobTextWritten, AllJobTextsWritten};
 ghost use Rattle.aioscan_cmd.specs.ErrorLine.{Warns, error_stream};
-ghost use Rattle.aio_disk.specs.Counts.{Rose};
+ghost use Rattle.aio_disk.specs.Counts.{CountRose};
 ghost use Rattle.aio_disk.specs.Sink.{SinkTakes};
 ghost use Rattle.aio_disk.specs.declared.fault.WriteFault.TheVariants.{Device};
-ghost use Rattle.aioscan_cmd.specs.Sums.{GaveAll, kept_sums, total_of};
-ghost use Rattle.heap_scan.specs.Sums.{joined};
+ghost use Rattle.aioscan_cmd.specs.Sums.{AllPagesGiven, saturated_sums, total_of_jobs};
+ghost use Rattle.heap_scan.specs.Sums.{sums_joined};
 
 use crate::cutter::Cutter;
 use crate::error_line::write_warnings;
@@ -19,12 +20,12 @@ use crate::{Line, Outcome};
 use aio_disk::{Sink, WriteFault};
 use heap_scan::PageSums;
 use page_check::World;
-use scan_rounds::{Agenda, Ending, Job};
+use scan_rounds::{Ending, Job, JobSource};
 use vis_map::{Skip, VisMap};
 
 /// A map in memory, and which of the blocks that it marks are left out.
 #[derive(Clone, Copy)]
-pub(crate) struct ByMap<'m> {
+pub(crate) struct MapFilter<'m> {
     pub(crate) map: &'m VisMap,
     pub(crate) skip: Skip,
 }
@@ -34,7 +35,7 @@ pub(crate) struct ByMap<'m> {
 pub(crate) struct Lister<'a, 'e, 'm, 'w, W: World, O: Sink, E: Sink> {
     pub(crate) blocks: Cutter<'a, 'w, W>,
     /// The map by which blocks are left out, where there is one.
-    pub(crate) by_map: Option<ByMap<'m>>,
+    pub(crate) by_map: Option<MapFilter<'m>>,
     pub(crate) out: &'a mut O,
     pub(crate) err: &'e mut E,
     /// How much of the warnings so far reached the error stream.
@@ -53,7 +54,7 @@ pub(crate) struct Lister<'a, 'e, 'm, 'w, W: World, O: Sink, E: Sink> {
 fn fill<W: World>(blocks: &mut Cutter<'_, '_, W>, jobs: &mut [Job]) -> usize
     ensures few { (result ≤ length jobs.new) × (length jobs.new ≡ length jobs.old) }
     ensures fresh { All (IsFresh W.relations) (take result jobs.new) }
-    ensures cut { blocks.old ≡ requests_in None (take result jobs.new) ++ blocks.new }
+    ensures cut { blocks.old ≡ unskipped_job_requests None (take result jobs.new) ++ blocks.new }
     ensures none { 1 ≤ length jobs.old → result ≡ 0 → blocks.new ≡ [] }
 {
     for place in 0..jobs.len() {
@@ -67,7 +68,7 @@ fn fill<W: World>(blocks: &mut Cutter<'_, '_, W>, jobs: &mut [Job]) -> usize
 
 /// The outcome where blocks of this relation ended so.
 pub(crate) fn outcome_of(relation: u32, ending: Ending) -> Outcome
-    ensures { result ≡ outcome_for relation ending }
+    ensures { result ≡ outcome_of_ending relation ending }
 {
     match ending {
         Ending::Pages => Outcome::Done,
@@ -82,7 +83,7 @@ pub(crate) fn outcome_of(relation: u32, ending: Ending) -> Outcome
 fn write_text<O: Sink>(text: &[u8], out: &mut O) -> Result<(), WriteFault>
     ensures takes { SinkTakes (O.written out.old) (O.written out.new) result text.now }
     ensures later { O.faults out.old ≤ O.faults out.new }
-    ensures device { IsErrOf result Device → Rose (O.faults out.old) (O.faults out.new) }
+    ensures device { IsErrOf result Device → CountRose (O.faults out.old) (O.faults out.new) }
 {
     if text.is_empty() {
         return Ok(());
@@ -92,12 +93,12 @@ fn write_text<O: Sink>(text: &[u8], out: &mut O) -> Result<(), WriteFault>
 
 // Writes a job's text, and its warnings where that was written whole.
 fn write_job<O: Sink, E: Sink>(job: &Job, out: &mut O, line: Line, err: &mut E) -> (Outcome, Line)
-    ensures lists { Warns (IsListedBy job.now (O.written out.old) (O.written out.new) result.0)
+    ensures lists { Warns (JobTextWritten job.now (O.written out.old) (O.written out.new) result.0)
         (error_stream line (E.written err.old) (E.faults err.old))
         (error_stream result.1 (E.written err.new) (E.faults err.new)) }
-    ensures writes { HasWritten (O.faults out.old) (O.faults out.new) result.0 }
+    ensures writes { WriteFaultsCounted (O.faults out.old) (O.faults out.new) result.0 }
     ensures unread { unread_count result.0 ≤ unread_among (job.now ∷ []) }
-    ensures gave { result.0 ≡ Outcome.Done → GaveAll (job.now ∷ []) }
+    ensures gave { result.0 ≡ Outcome.Done → AllPagesGiven (job.now ∷ []) }
 {
     match write_text(job.text.as_slice(), out) {
         Ok(()) => (
@@ -116,12 +117,12 @@ fn write_jobs<O: Sink, E: Sink>(
     mut line: Line,
     err: &mut E,
 ) -> (Outcome, Line)
-    ensures lists { Warns (AreListedBy jobs.now (O.written out.old) (O.written out.new) result.0)
-        (error_stream line (E.written err.old) (E.faults err.old))
+    ensures lists { Warns (AllJobTextsWritten jobs.now (O.written out.old)
+        (O.written out.new) result.0) (error_stream line (E.written err.old) (E.faults err.old))
         (error_stream result.1 (E.written err.new) (E.faults err.new)) }
-    ensures writes { HasWritten (O.faults out.old) (O.faults out.new) result.0 }
+    ensures writes { WriteFaultsCounted (O.faults out.old) (O.faults out.new) result.0 }
     ensures unread { unread_count result.0 ≤ unread_among jobs.now }
-    ensures gave { result.0 ≡ Outcome.Done → GaveAll jobs.now }
+    ensures gave { result.0 ≡ Outcome.Done → AllPagesGiven jobs.now }
 {
     for job in jobs {
         let (outcome, reached) = write_job(job, out, line, err);
@@ -136,7 +137,7 @@ fn write_jobs<O: Sink, E: Sink>(
 
 // Adds the sums of jobs to these.
 fn add_up(jobs: &[Job], sums: PageSums) -> PageSums
-    ensures { result ≡ kept_sums (joined sums (total_of jobs.now)) }
+    ensures { result ≡ saturated_sums (sums_joined sums (total_of_jobs jobs.now)) }
 {
     let PageSums {
         mut pages,
@@ -161,37 +162,37 @@ fn goes_on(outcome: Outcome) -> bool
     }
 }
 
-impl<'a, 'e, 'm, 'w, W: World, O: Sink, E: Sink> Agenda<W> for Lister<'a, 'e, 'm, 'w, W, O, E> {
+impl<'a, 'e, 'm, 'w, W: World, O: Sink, E: Sink> JobSource<W> for Lister<'a, 'e, 'm, 'w, W, O, E> {
     ghost use Rattle.std.specs.Prelude.{length};
     ghost use Rattle.std.proofs.Common.{refl, ◌∙◌};
-    ghost use Rattle.scan_rounds.specs.Skipping.{kept_of};
-    ghost use Rattle.aioscan_cmd.specs.Listing.{unread_count, manner_in, skips_in};
-    ghost use Rattle.aioscan_cmd.specs.Listing.{IsOver, Puts, Follows};
+    ghost use Rattle.scan_rounds.specs.BlockFilter.{unskipped_entries};
+    ghost use Rattle.aioscan_cmd.specs.ListerState.{unread_count, lister_options, lister_filter};
+    ghost use Rattle.aioscan_cmd.specs.ListerState.{IsOver, CutsOffJobs, PreservesListing};
 
-    ghost left = { λ l. length l.blocks };
+    ghost blocks_left = { λ l. length l.blocks };
 
-    ghost due = { λ l. length (kept_of (skips_in l) l.blocks) };
+    ghost unskipped_left = { λ l. length (unskipped_entries (lister_filter l) l.blocks) };
 
-    ghost skips = { skips_in };
+    ghost block_filter = { lister_filter };
 
     ghost unread = { λ l. unread_count l.outcome };
 
-    ghost puts = { Puts };
+    ghost puts = { CutsOffJobs };
 
-    ghost follows = { Follows W.told O.written O.faults E.written E.faults };
+    ghost follows = { PreservesListing W.told O.written O.faults E.written E.faults };
 
-    ghost manner = { manner_in };
+    ghost options = { lister_options };
 
     ghost is_over = { IsOver };
 
-    fn put(&mut self, jobs: &mut [Job]) -> usize {
+    fn next_jobs(&mut self, jobs: &mut [Job]) -> usize {
         match self.outcome {
             Outcome::Done => fill(&mut self.blocks, jobs),
             _ => 0,
         }
     }
 
-    fn end(&mut self, jobs: &[Job]) -> bool {
+    fn finish_jobs(&mut self, jobs: &[Job]) -> bool {
         match self.outcome {
             Outcome::Done => {
                 let (outcome, line) = write_jobs(jobs, self.out, self.line, self.err);

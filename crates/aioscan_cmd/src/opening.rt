@@ -1,9 +1,9 @@
 //! Opens a scan by any method.
 ghost use Rattle.std.specs.Prelude.{◌≡◌, ◌≢◌, ◌+◌, ◌*◌, length, IfErr, IfOk};
 ghost use Rattle.std.specs.List.{All};
-ghost use Rattle.scan_rounds.specs.Hands.{meter};
-ghost use Rattle.scan_rounds.specs.Opening.{AreSettings, workers_in};
-ghost use Rattle.aioscan_cmd.specs.Scanning.{IsNewScan};
+ghost use Rattle.scan_rounds.specs.DiskActors.{disk_ghosts};
+ghost use Rattle.scan_rounds.specs.OpenedScan.{AreSettings, workers_of_settings};
+ghost use Rattle.aioscan_cmd.specs.NewScan.{IsNewScan};
 
 use aio_disk::Disk;
 use page_check::World;
@@ -11,19 +11,19 @@ use scan_rounds::{MethodKind, RingScan, Scan, ScanSettings};
 use std::alloc::Global;
 
 // A scan by the sync method or by workers.
-fn open_plain<W: World, D: Disk>(
+fn open_without_rings<W: World, D: Disk>(
     alloc: Global,
     settings: &ScanSettings,
     disks: Vec<D>,
 ) -> Result<Scan<W, D>, Vec<D>>
     requires settings { AreSettings settings.now }
     requires method { settings.now.method ≢ MethodKind.Ring }
-    requires disks { length disks.items ≡ settings.now.backends + workers_in settings.now }
+    requires disks { length disks.items ≡ settings.now.backends + workers_of_settings settings.now }
     requires tell { All (λ d. (D.told d ≡ W.told) × (D.relations d ≡ W.relations)) disks.items }
     requires segments { All (λ d. D.segment d ≡ settings.now.segment) disks.items }
     requires handles { settings.now.backends * settings.now.handles ≡ W.handles }
-    ensures new { IfOk result (λ s. IsNewScan (meter D.told D.relations D.reads D.faults) W.told
-        W.relations settings.now disks.items s) }
+    ensures new { IfOk result (λ s. IsNewScan (disk_ghosts D.told D.relations D.reads D.faults)
+        W.told W.relations settings.now disks.items s) }
     ensures back { IfErr result (λ d. d ≡ disks) }
 {
     match Scan::open(alloc, settings, disks) {
@@ -40,12 +40,12 @@ fn open_rings<W: World, D: Disk>(
 ) -> Result<Scan<W, D>, Vec<D>>
     requires settings { AreSettings settings.now }
     requires method { settings.now.method ≡ MethodKind.Ring }
-    requires disks { length disks.items ≡ settings.now.backends + workers_in settings.now }
+    requires disks { length disks.items ≡ settings.now.backends + workers_of_settings settings.now }
     requires tell { All (λ d. (D.told d ≡ W.told) × (D.relations d ≡ W.relations)) disks.items }
     requires segments { All (λ d. D.segment d ≡ settings.now.segment) disks.items }
     requires handles { settings.now.backends * settings.now.handles ≡ W.handles }
-    ensures new { IfOk result (λ s. IsNewScan (meter D.told D.relations D.reads D.faults) W.told
-        W.relations settings.now disks.items s) }
+    ensures new { IfOk result (λ s. IsNewScan (disk_ghosts D.told D.relations D.reads D.faults)
+        W.told W.relations settings.now disks.items s) }
     ensures back { IfErr result (λ d. d ≡ disks) }
 {
     match RingScan::open(alloc, settings, disks) {
@@ -62,17 +62,17 @@ pub(crate) fn open_scan<W: World, D: Disk>(
     disks: Vec<D>,
 ) -> Result<Scan<W, D>, Vec<D>>
     requires settings { AreSettings settings.now }
-    requires disks { length disks.items ≡ settings.now.backends + workers_in settings.now }
+    requires disks { length disks.items ≡ settings.now.backends + workers_of_settings settings.now }
     requires tell { All (λ d. (D.told d ≡ W.told) × (D.relations d ≡ W.relations)) disks.items }
     requires segments { All (λ d. D.segment d ≡ settings.now.segment) disks.items }
     requires handles { settings.now.backends * settings.now.handles ≡ W.handles }
-    ensures new { IfOk result (λ s. IsNewScan (meter D.told D.relations D.reads D.faults)
+    ensures new { IfOk result (λ s. IsNewScan (disk_ghosts D.told D.relations D.reads D.faults)
         W.told W.relations settings.now disks.items s) }
     ensures back { IfErr result (λ d. d ≡ disks) }
 {
     match settings.method {
-        MethodKind::Sync => open_plain(alloc, settings, disks),
-        MethodKind::Worker => open_plain(alloc, settings, disks),
+        MethodKind::Sync => open_without_rings(alloc, settings, disks),
+        MethodKind::Worker => open_without_rings(alloc, settings, disks),
         MethodKind::Ring => open_rings(alloc, settings, disks),
     }
 }

@@ -1,13 +1,13 @@
 //! Scans relation files.
 ghost use Rattle.std.specs.Prelude.{◌≡◌, ◌≢◌, length, None, Some, true};
-ghost use Rattle.aio_disk.specs.Shelf.{AllThereIfTold, told_of};
+ghost use Rattle.aio_disk.specs.Shelf.{AllThereIfTold, shelf_told};
 ghost use Rattle.aioscan_cmd.specs.Command.{relations_of};
-ghost use Rattle.aioscan_cmd.specs.Reading.{seen};
-ghost use Rattle.aioscan_cmd.specs.Run.{Ran};
+ghost use Rattle.aioscan_cmd.specs.Output.{observed_state};
+ghost use Rattle.aioscan_cmd.specs.Run.{IsFileRun};
 ghost use Rattle.aioscan_cmd.specs.Causes.{HasCauses, CallsInOrder, IsOpened};
 ghost use Rattle.aioscan_cmd.specs.ErrorLine.{Warns, error_stream};
 ghost use Rattle.aioscan_cmd.specs.Sums.{HasSumsTold};
-ghost use Rattle.aioscan_cmd.specs.Totals.{AreCounted};
+ghost use Rattle.aioscan_cmd.specs.Totals.{AreRunNumbers};
 
 use crate::relations::Relations;
 use crate::report::RunEnd;
@@ -28,18 +28,19 @@ pub(crate) fn list_files<S: Shelf, O: Sink, E: Sink, R: Threads + Wait + Sync>(
     out: &mut O,
     err: &mut E,
 ) -> RunEnd
-    ensures ran { Warns (Ran (told_of (S.told shelf.old) (relations_of command.now))
+    ensures ran { Warns (IsFileRun (shelf_told (S.told shelf.old) (relations_of command.now))
         (length (relations_of command.now)) command.now
-        (seen (O.written out.old) (S.counts shelf.old).reads)
-        (seen (O.written out.new) (S.counts shelf.new).reads) result.outcome)
+        (observed_state (O.written out.old) (S.counts shelf.old).reads)
+        (observed_state (O.written out.new) (S.counts shelf.new).reads) result.outcome)
         (error_stream Line.Whole (E.written err.old) (E.faults err.old))
         (error_stream result.line (E.written err.new) (E.faults err.new)) }
     ensures causes { HasCauses (S.counts shelf.old) (S.counts shelf.new) (O.faults out.old)
         (O.faults out.new) result.outcome }
     ensures order { CallsInOrder (S.counts shelf.old) (S.counts shelf.new) result.outcome }
-    ensures counted { AreCounted None (Some command.now) (S.counts shelf.old) (S.counts shelf.new)
-        result.outcome result.numbers }
-    ensures sums { HasSumsTold (told_of (S.told shelf.old) (relations_of command.now)) command.now
+    ensures counted { AreRunNumbers None (Some command.now)
+        (S.counts shelf.old) (S.counts shelf.new) result.outcome result.numbers }
+    ensures sums { HasSumsTold (shelf_told (S.told shelf.old) (relations_of command.now))
+        command.now
         result.outcome result.sums }
     ensures sure { S.surely_opens shelf.old (relations_of command.now) ≡ true
         → result.outcome ≢ Outcome.CannotOpen }

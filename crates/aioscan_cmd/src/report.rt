@@ -99,18 +99,18 @@ impl RunEnd {
 
 /// The end of a run, and whether the line of its totals follows that of its outcome.
 #[derive(Clone, Copy)]
-pub(crate) struct Ended {
+pub(crate) struct ReportedEnd {
     pub(crate) end: RunEnd,
     pub(crate) shows_totals: bool,
 }
 
-impl Ended {
+impl ReportedEnd {
     /// The end of a run that was asked for its totals, or was not.
-    pub(crate) fn of(end: RunEnd, stats: bool) -> Ended
+    pub(crate) fn of(end: RunEnd, stats: bool) -> ReportedEnd
         ensures end { result.end ≡ end }
         ensures shows { result.shows_totals ≡ (totals_known end.outcome && stats) }
     {
-        Ended {
+        ReportedEnd {
             end,
             shows_totals: has_totals(end.outcome) && stats,
         }

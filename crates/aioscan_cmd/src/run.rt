@@ -3,16 +3,16 @@ ghost use Rattle.std.specs.Prelude.{◌≡◌, ◌≢◌, ◌<◌, ◌≤◌, �
 ghost use Rattle.std.specs.Prelude.{true, string_bytes};
 ghost use Rattle.aioscan_cmd.specs.Words.{command_of};
 ghost use Rattle.aioscan_cmd.specs.Outcomes.{status_of, is_refused};
-ghost use Rattle.aioscan_cmd.specs.Reading.{seen};
-ghost use Rattle.aioscan_cmd.specs.Run.{RanOn, OnTold, IsThere, Writes};
+ghost use Rattle.aioscan_cmd.specs.Output.{observed_state};
+ghost use Rattle.aioscan_cmd.specs.Run.{IsCommandRun, HoldsForRun, CommandFilesExist, Writes};
 ghost use Rattle.aioscan_cmd.specs.Causes.{HasCauses, CallsInOrder, IsExact, IsComplete, IsOpened};
 ghost use Rattle.aioscan_cmd.specs.ErrorLine.{IsToldBy, Warns, error_stream, shows_totals};
-ghost use Rattle.aioscan_cmd.specs.Totals.{AreCounted, made_by, numbers_in};
+ghost use Rattle.aioscan_cmd.specs.Totals.{AreRunNumbers, generated_page_count, report_numbers};
 
 use crate::error_line::write_end;
-use crate::made::list_made;
+use crate::generated_scan::list_generated;
 use crate::relation_files::list_files;
-use crate::report::{Ended, RunEnd};
+use crate::report::{ReportedEnd, RunEnd};
 use crate::words::{Command, Refusal, read_command};
 use crate::{Line, Outcome, Report};
 use aio_disk::{Shelf, Sink};
@@ -29,24 +29,24 @@ fn run_command<S: Shelf, O: Sink, E: Sink, R: Threads + Wait + Sync>(
     out: &mut O,
     err: &mut E,
 ) -> RunEnd
-    ensures ran { Warns (RanOn (S.told shelf.old) (Some command.now)
-        (seen (O.written out.old) (S.counts shelf.old).reads)
-        (seen (O.written out.new) (S.counts shelf.new).reads) result.outcome)
+    ensures ran { Warns (IsCommandRun (S.told shelf.old) (Some command.now)
+        (observed_state (O.written out.old) (S.counts shelf.old).reads)
+        (observed_state (O.written out.new) (S.counts shelf.new).reads) result.outcome)
         (error_stream Line.Whole (E.written err.old) (E.faults err.old))
         (error_stream result.line (E.written err.new) (E.faults err.new)) }
     ensures causes { HasCauses (S.counts shelf.old) (S.counts shelf.new) (O.faults out.old)
         (O.faults out.new) result.outcome }
     ensures order { CallsInOrder (S.counts shelf.old) (S.counts shelf.new) result.outcome }
-    ensures counted { AreCounted (made_by (Some command.now)) (Some command.now)
+    ensures counted { AreRunNumbers (generated_page_count (Some command.now)) (Some command.now)
         (S.counts shelf.old) (S.counts shelf.new) result.outcome result.numbers }
     ensures told { S.told shelf.new ≡ S.told shelf.old }
     ensures opened { IsOpened result.outcome
-        → IsThere (S.told shelf.old) (Some command.now) }
+        → CommandFilesExist (S.told shelf.old) (Some command.now) }
     ensures words { result.outcome ≢ Outcome.Usage }
 {
-    match command.made() {
+    match command.generated() {
         None => list_files(rt, alloc, command, shelf, out, err),
-        Some(pages) => list_made(rt, alloc, command, pages, out, err),
+        Some(pages) => list_generated(rt, alloc, command, pages, out, err),
     }
 }
 
@@ -58,37 +58,37 @@ fn run<S: Shelf, O: Sink, E: Sink, R: Threads + Wait + Sync>(
     shelf: &mut S,
     out: &mut O,
     err: &mut E,
-) -> Ended
+) -> ReportedEnd
     ensures usage { result.end.outcome ≡ Outcome.Usage
         → command_of (map string_bytes words.now) ≡ None }
     ensures refused { command_of (map string_bytes words.now) ≡ None
         → (result.end.outcome ≡ Outcome.Usage) ⊎ (result.end.outcome ≡ Outcome.NoMemory) }
     ensures unread { command_of (map string_bytes words.now) ≡ None
         → (O.written out.new ≡ O.written out.old) × (S.counts shelf.new ≡ S.counts shelf.old) }
-    ensures ran { Warns (RanOn (S.told shelf.old) (command_of (map string_bytes words.now))
-        (seen (O.written out.old) (S.counts shelf.old).reads)
-        (seen (O.written out.new) (S.counts shelf.new).reads) result.end.outcome)
+    ensures ran { Warns (IsCommandRun (S.told shelf.old) (command_of (map string_bytes words.now))
+        (observed_state (O.written out.old) (S.counts shelf.old).reads)
+        (observed_state (O.written out.new) (S.counts shelf.new).reads) result.end.outcome)
         (error_stream Line.Whole (E.written err.old) (E.faults err.old))
         (error_stream result.end.line (E.written err.new) (E.faults err.new)) }
     ensures causes { HasCauses (S.counts shelf.old) (S.counts shelf.new) (O.faults out.old)
         (O.faults out.new) result.end.outcome }
     ensures order { CallsInOrder (S.counts shelf.old) (S.counts shelf.new) result.end.outcome }
-    ensures counted { AreCounted (made_by (command_of (map string_bytes words.now)))
+    ensures counted { AreRunNumbers (generated_page_count (command_of (map string_bytes words.now)))
         (command_of (map string_bytes words.now)) (S.counts shelf.old)
         (S.counts shelf.new) result.end.outcome result.end.numbers }
     ensures told { S.told shelf.new ≡ S.told shelf.old }
     ensures opened { IsOpened result.end.outcome
-        → IsThere (S.told shelf.old) (command_of (map string_bytes words.now)) }
+        → CommandFilesExist (S.told shelf.old) (command_of (map string_bytes words.now)) }
     ensures shows { result.shows_totals
         ≡ shows_totals (command_of (map string_bytes words.now)) result.end.outcome }
 {
     match read_command(alloc, words) {
         Ok(command) => {
             let end = run_command(rt, alloc, &command, shelf, out, err);
-            Ended::of(end, command.stats())
+            ReportedEnd::of(end, command.stats())
         }
-        Err(Refusal::Usage) => Ended::of(RunEnd::without_reads(Outcome::Usage), false),
-        Err(Refusal::NoMemory) => Ended::of(RunEnd::without_reads(Outcome::NoMemory), false),
+        Err(Refusal::Usage) => ReportedEnd::of(RunEnd::without_reads(Outcome::Usage), false),
+        Err(Refusal::NoMemory) => ReportedEnd::of(RunEnd::without_reads(Outcome::NoMemory), false),
     }
 }
 
@@ -131,35 +131,38 @@ pub fn aioscan<S: Shelf, O: Sink, E: Sink, R: Threads + Wait + Sync>(
         → (O.written out.new ≡ O.written out.old) × (S.counts shelf.new ≡ S.counts shelf.old) }
 
     // What became of the run: over any shelf, and as synchronous reads give it, where it tells.
-    ensures ran { (warnings : List ℕ) × RanOn (S.told shelf.old)
+    ensures ran { (warnings : List ℕ) × IsCommandRun (S.told shelf.old)
         (command_of (map string_bytes words.now))
-        (seen (O.written out.old) (S.counts shelf.old).reads)
-        (seen (O.written out.new) (S.counts shelf.new).reads) result.outcome warnings }
-    ensures writes { OnTold (S.told shelf.old) (command_of (map string_bytes words.now)) (λ run.
+        (observed_state (O.written out.old) (S.counts shelf.old).reads)
+        (observed_state (O.written out.new) (S.counts shelf.new).reads) result.outcome warnings }
+    ensures writes { HoldsForRun (S.told shelf.old)
+        (command_of (map string_bytes words.now)) (λ run.
         Writes run (O.written out.old) (O.written out.new) result.outcome) }
     ensures untouched { is_refused result.outcome ≡ true → O.written out.new ≡ O.written out.old }
     ensures told_on_err { IsToldBy (S.told shelf.old) (command_of (map string_bytes words.now))
-        (seen (O.written out.old) (S.counts shelf.old).reads)
-        (seen (O.written out.new) (S.counts shelf.new).reads) result.outcome (numbers_in result)
+        (observed_state (O.written out.old) (S.counts shelf.old).reads)
+        (observed_state (O.written out.new) (S.counts shelf.new).reads)
+        result.outcome (report_numbers result)
         result.line (E.written err.old) (E.written err.new) (E.faults err.old) (E.faults err.new) }
 
     // Why each outcome comes, and in which order the outside is called.
     ensures causes { HasCauses (S.counts shelf.old) (S.counts shelf.new) (O.faults out.old)
         (O.faults out.new) result.outcome }
     ensures order { CallsInOrder (S.counts shelf.old) (S.counts shelf.new) result.outcome }
-    ensures exact { OnTold (S.told shelf.old) (command_of (map string_bytes words.now)) (λ run.
+    ensures exact { HoldsForRun (S.told shelf.old) (command_of (map string_bytes words.now)) (λ run.
         IsExact run result.outcome) }
-    ensures complete { OnTold (S.told shelf.old) (command_of (map string_bytes words.now)) (λ run.
+    ensures complete { HoldsForRun (S.told shelf.old)
+        (command_of (map string_bytes words.now)) (λ run.
         IsComplete run (S.counts shelf.old) (S.counts shelf.new) (O.faults out.old)
         (O.faults out.new) result.outcome) }
     ensures there { IsOpened result.outcome
-        → IsThere (S.told shelf.old) (command_of (map string_bytes words.now)) }
+        → CommandFilesExist (S.told shelf.old) (command_of (map string_bytes words.now)) }
 
     ensures contents { S.told shelf.new ≡ S.told shelf.old }
     ensures later { E.faults err.old ≤ E.faults err.new }
-    ensures totals { AreCounted (made_by (command_of (map string_bytes words.now)))
+    ensures totals { AreRunNumbers (generated_page_count (command_of (map string_bytes words.now)))
         (command_of (map string_bytes words.now)) (S.counts shelf.old)
-        (S.counts shelf.new) result.outcome (numbers_in result) }
+        (S.counts shelf.new) result.outcome (report_numbers result) }
 {
     let ended = run(rt, alloc, words, shelf, out, err);
     let line = write_end(alloc, ended, err);

@@ -2,21 +2,23 @@
 ghost use Rattle.std.specs.Prelude.{◌≡◌, ◌≢◌, ◌<◌, ◌≤◌, ◌+◌, ◌*◌, ℕ, List, length, sum_by};
 ghost use Rattle.std.specs.Prelude.{None, Some, true, vec_len, vec_capacity};
 ghost use Rattle.std.specs.List.{All};
-ghost use Rattle.aio_disk.specs.Shelf.{told_of};
-ghost use Rattle.scan_rounds.specs.Opening.{AreSettings};
-ghost use Rattle.aioscan_cmd.specs.Command.{manner_by, relations_of};
-ghost use Rattle.aioscan_cmd.specs.Cutting.{IsAsked, request_list_for, requests_for, settings_for};
-ghost use Rattle.aioscan_cmd.specs.Disks.{IsUnread, disks_of};
+ghost use Rattle.aio_disk.specs.Shelf.{shelf_told};
+ghost use Rattle.scan_rounds.specs.OpenedScan.{AreSettings};
+ghost use Rattle.aioscan_cmd.specs.Command.{options_of_settings, relations_of};
+ghost use Rattle.aioscan_cmd.specs.RemainingRequests.{IsResolved, resolved_request_list};
+ghost use Rattle.aioscan_cmd.specs.RemainingRequests.{resolved_requests, resolved_settings};
+ghost use Rattle.aioscan_cmd.specs.Disks.{IsUnreadDisk, required_disks};
 ghost use Rattle.aioscan_cmd.specs.Lengths.{HasLengths};
-ghost use Rattle.aioscan_cmd.specs.Reading.{Lists, HasWritten, seen, way_by};
-ghost use Rattle.aioscan_cmd.specs.Run.{Ran};
+ghost use Rattle.aioscan_cmd.specs.Output.{IsOutput, WriteFaultsCounted, observed_state};
+ghost use Rattle.aioscan_cmd.specs.Output.{command_format};
+ghost use Rattle.aioscan_cmd.specs.Run.{IsFileRun};
 ghost use Rattle.aioscan_cmd.specs.Causes.{HasScanned, HasCauses, CallsInOrder};
 ghost use Rattle.aioscan_cmd.specs.ErrorLine.{Warns, error_stream};
 ghost use Rattle.aioscan_cmd.specs.Sums.{HasSums, HasSumsTold};
-ghost use Rattle.aioscan_cmd.specs.Totals.{AreCounted, AreOfScan};
+ghost use Rattle.aioscan_cmd.specs.Totals.{AreRunNumbers, AreScanNumbers};
 
 use crate::by_map::list_asked;
-use crate::cutter::Asked;
+use crate::cutter::ResolvedCommand;
 use crate::disks::{open_others, take_all_back};
 use crate::lengths::take_lengths;
 use crate::opening::open_scan;
@@ -37,30 +39,31 @@ use std::thread::Threads;
 fn list_disks<W: World + Send + Sync, D: Disk, O: Sink, E: Sink, R: Threads + Wait + Sync>(
     rt: &R,
     alloc: Global,
-    asked: Asked<'_, '_>,
+    asked: ResolvedCommand<'_, '_>,
     disks: Vec<D>,
     out: &mut O,
     err: &mut E,
 ) -> (Vec<D>, RunEnd)
-    requires asked { IsAsked asked }
+    requires asked { IsResolved asked }
     requires world { W.relations ≡ length asked.relations.now }
-    requires disks { length disks.items ≡ disks_of (settings_for asked) }
-    requires unread { All (IsUnread D.told D.relations D.segment D.faults D.reads W.told
+    requires disks { length disks.items ≡ required_disks (resolved_settings asked) }
+    requires unread { All (IsUnreadDisk D.told D.relations D.segment D.faults D.reads W.told
         W.relations asked.segment) disks.items }
-    requires handles { (settings_for asked).backends * (settings_for asked).handles
+    requires handles { (resolved_settings asked).backends * (resolved_settings asked).handles
         ≡ W.handles }
-    ensures listed { (given : ℕ → List ℕ) × Warns (Lists (way_by asked.entry.command.now) W.told
-        (request_list_for asked.entry W.told given) (O.written out.old) (O.written out.new)
+    ensures listed { (given : ℕ → List ℕ)
+        × Warns (IsOutput (command_format asked.entry.command.now) W.told
+        (resolved_request_list asked.entry W.told given) (O.written out.old) (O.written out.new)
         result.1.outcome)
         (error_stream Line.Whole (E.written err.old) (E.faults err.old))
         (error_stream result.1.line (E.written err.new) (E.faults err.new))
-        × AreOfScan asked.entry W.told given D.reads result.0.items result.1.numbers }
-    ensures writes { HasWritten (O.faults out.old) (O.faults out.new) result.1.outcome }
+        × AreScanNumbers asked.entry W.told given D.reads result.0.items result.1.numbers }
+    ensures writes { WriteFaultsCounted (O.faults out.old) (O.faults out.new) result.1.outcome }
     ensures unread { (r b : ℕ) → result.1.outcome ≡ Outcome.Unread r b
         → 0 < sum_by D.faults result.0.items }
     ensures sums { result.1.outcome ≡ Outcome.Done → (asked.entry.command.now).map ≡ None
-        → HasSums (manner_by (settings_for asked.entry)) W.told (requests_for asked.entry)
-        result.1.sums }
+        → HasSums (options_of_settings (resolved_settings asked.entry)) W.told
+        (resolved_requests asked.entry) result.1.sums }
 {
     let settings = asked.settings();
     let mut scan = match open_scan::<W, D>(alloc, &settings, disks) {
@@ -86,7 +89,7 @@ fn list_disks<W: World + Send + Sync, D: Disk, O: Sink, E: Sink, R: Threads + Wa
 // How many disks a scan with these settings has: one for each backend and for each worker.
 fn disk_count(settings: &ScanSettings) -> usize
     requires { (settings.now.backends ≤ 16) × (settings.now.workers ≤ 32) }
-    ensures { result ≡ disks_of settings.now }
+    ensures { result ≡ required_disks settings.now }
 {
     let workers = match settings.method {
         MethodKind::Sync => 0,
@@ -100,21 +103,21 @@ fn disk_count(settings: &ScanSettings) -> usize
 fn open_and_list<W: World + Send + Sync, S: Shelf, O: Sink, E: Sink, R: Threads + Wait + Sync>(
     rt: &R,
     alloc: Global,
-    asked: Asked<'_, '_>,
+    asked: ResolvedCommand<'_, '_>,
     mut disks: Vec<S::Disk>,
     shelf: &mut S,
     out: &mut O,
     err: &mut E,
 ) -> (Vec<S::Disk>, RunEnd)
-    requires asked { IsAsked asked }
-    requires told { told_of (S.told shelf.old) asked.relations.now ≡ W.told }
+    requires asked { IsResolved asked }
+    requires told { shelf_told (S.told shelf.old) asked.relations.now ≡ W.told }
     requires world { W.relations ≡ length asked.relations.now }
     requires segment { S.segment shelf.old ≡ asked.segment }
-    requires handles { (settings_for asked).backends * (settings_for asked).handles
+    requires handles { (resolved_settings asked).backends * (resolved_settings asked).handles
         ≡ W.handles }
-    requires unread { All (IsUnread S.Disk.told S.Disk.relations S.Disk.segment S.Disk.faults
+    requires unread { All (IsUnreadDisk S.Disk.told S.Disk.relations S.Disk.segment S.Disk.faults
         S.Disk.reads W.told W.relations asked.segment) disks.items }
-    requires room { (vec_len disks ≤ 1) × (disks_of (settings_for asked)
+    requires room { (vec_len disks ≤ 1) × (required_disks (resolved_settings asked)
         ≤ vec_capacity disks) }
     ensures scanned { (given : ℕ → List ℕ) × Warns (HasScanned asked.entry given W.told
         (O.written out.old) (O.written out.new) (S.counts shelf.old) (S.counts shelf.new)
@@ -122,11 +125,11 @@ fn open_and_list<W: World + Send + Sync, S: Shelf, O: Sink, E: Sink, R: Threads 
         result.1.outcome)
         (error_stream Line.Whole (E.written err.old) (E.faults err.old))
         (error_stream result.1.line (E.written err.new) (E.faults err.new))
-        × AreOfScan asked.entry W.told given S.Disk.reads result.0.items result.1.numbers }
-    ensures writes { HasWritten (O.faults out.old) (O.faults out.new) result.1.outcome }
+        × AreScanNumbers asked.entry W.told given S.Disk.reads result.0.items result.1.numbers }
+    ensures writes { WriteFaultsCounted (O.faults out.old) (O.faults out.new) result.1.outcome }
     ensures sums { result.1.outcome ≡ Outcome.Done → (asked.entry.command.now).map ≡ None
-        → HasSums (manner_by (settings_for asked.entry)) W.told (requests_for asked.entry)
-        result.1.sums }
+        → HasSums (options_of_settings (resolved_settings asked.entry)) W.told
+        (resolved_requests asked.entry) result.1.sums }
     ensures sure { S.surely_opens shelf.old asked.entry.relations.now ≡ true
         → result.1.outcome ≢ Outcome.CannotOpen }
     ensures told { S.told shelf.new ≡ S.told shelf.old }
@@ -144,34 +147,34 @@ fn open_and_list<W: World + Send + Sync, S: Shelf, O: Sink, E: Sink, R: Threads 
 fn run_scan<W: World + Send + Sync, S: Shelf, O: Sink, E: Sink, R: Threads + Wait + Sync>(
     rt: &R,
     alloc: Global,
-    asked: Asked<'_, '_>,
+    asked: ResolvedCommand<'_, '_>,
     settings: &ScanSettings,
     first: S::Disk,
     shelf: &mut S,
     out: &mut O,
     err: &mut E,
 ) -> RunEnd
-    requires asked { IsAsked asked }
-    requires settings { (settings.now ≡ settings_for asked) × AreSettings settings.now }
+    requires asked { IsResolved asked }
+    requires settings { (settings.now ≡ resolved_settings asked) × AreSettings settings.now }
     requires segment { (S.Disk.segment first ≡ asked.segment)
         × (S.segment shelf.old ≡ asked.segment) }
     requires told { (S.Disk.told first ≡ W.told)
-        × (told_of (S.told shelf.old) asked.relations.now ≡ W.told) }
+        × (shelf_told (S.told shelf.old) asked.relations.now ≡ W.told) }
     requires relations { (S.Disk.relations first ≡ W.relations)
         × (W.relations ≡ length asked.relations.now) }
     requires handles { settings.now.backends * settings.now.handles ≡ W.handles }
     requires unread { (S.Disk.faults first ≡ 0) × (S.Disk.reads first ≡ 0) }
     requires lengths { HasLengths (S.Disk.told first) asked.segment (length asked.relations.now)
         asked.lengths.now }
-    ensures ran { Warns (Ran (S.Disk.told first) (length asked.entry.relations.now)
-        asked.entry.command.now (seen (O.written out.old) (S.counts shelf.old).reads)
-        (seen (O.written out.new) (S.counts shelf.new).reads) result.outcome)
+    ensures ran { Warns (IsFileRun (S.Disk.told first) (length asked.entry.relations.now)
+        asked.entry.command.now (observed_state (O.written out.old) (S.counts shelf.old).reads)
+        (observed_state (O.written out.new) (S.counts shelf.new).reads) result.outcome)
         (error_stream Line.Whole (E.written err.old) (E.faults err.old))
         (error_stream result.line (E.written err.new) (E.faults err.new)) }
     ensures causes { HasCauses (S.counts shelf.old) (S.counts shelf.new) (O.faults out.old)
         (O.faults out.new) result.outcome }
     ensures order { CallsInOrder (S.counts shelf.old) (S.counts shelf.new) result.outcome }
-    ensures counted { AreCounted None (Some asked.entry.command.now) (S.counts shelf.old)
+    ensures counted { AreRunNumbers None (Some asked.entry.command.now) (S.counts shelf.old)
         (S.counts shelf.new) result.outcome result.numbers }
     ensures sums { HasSumsTold (S.Disk.told first) asked.entry.command.now result.outcome
         result.sums }
@@ -203,21 +206,21 @@ pub(crate) fn scan_disk<S: Shelf, O: Sink, E: Sink, R: Threads + Wait + Sync>(
     err: &mut E,
 ) -> RunEnd
     requires relations { relations.now ≡ relations_of command.now }
-    requires told { S.Disk.told disk ≡ told_of (S.told shelf.old) relations.now }
+    requires told { S.Disk.told disk ≡ shelf_told (S.told shelf.old) relations.now }
     requires segment { S.Disk.segment disk ≡ S.segment shelf.old }
     requires disk { S.Disk.relations disk ≡ length relations.now }
     requires unread { (S.Disk.length_faults disk ≡ 0) × (S.Disk.faults disk ≡ 0)
         × (S.Disk.reads disk ≡ 0) }
-    ensures ran { Warns (Ran (S.Disk.told disk) (length relations.now) command.now
-        (seen (O.written out.old) (S.counts shelf.old).reads)
-        (seen (O.written out.new) (S.counts shelf.new).reads) result.outcome)
+    ensures ran { Warns (IsFileRun (S.Disk.told disk) (length relations.now) command.now
+        (observed_state (O.written out.old) (S.counts shelf.old).reads)
+        (observed_state (O.written out.new) (S.counts shelf.new).reads) result.outcome)
         (error_stream Line.Whole (E.written err.old) (E.faults err.old))
         (error_stream result.line (E.written err.new) (E.faults err.new)) }
     ensures causes { HasCauses (S.counts shelf.old) (S.counts shelf.new) (O.faults out.old)
         (O.faults out.new) result.outcome }
     ensures order { CallsInOrder (S.counts shelf.old) (S.counts shelf.new) result.outcome }
-    ensures counted { AreCounted None (Some command.now) (S.counts shelf.old) (S.counts shelf.new)
-        result.outcome result.numbers }
+    ensures counted { AreRunNumbers None (Some command.now)
+        (S.counts shelf.old) (S.counts shelf.new) result.outcome result.numbers }
     ensures sums { HasSumsTold (S.Disk.told disk) command.now result.outcome result.sums }
     ensures sure { S.surely_opens shelf.old relations.now ≡ true
         → result.outcome ≢ Outcome.CannotOpen }
@@ -226,7 +229,7 @@ pub(crate) fn scan_disk<S: Shelf, O: Sink, E: Sink, R: Threads + Wait + Sync>(
 {
     match take_lengths(alloc, &mut disk, relations.count()) {
         Ok(lengths) => {
-            let asked = Asked {
+            let asked = ResolvedCommand {
                 command,
                 relations,
                 lengths: lengths.as_slice(),

@@ -4,11 +4,13 @@ ghost use Rattle.std.specs.Prelude.{string_bytes, codes, true, IfSome, if◌then
 ghost use Rattle.std.specs.Option.{option_map};
 ghost use Rattle.clap.specs.Words.{rows_of, found_of, all_of};
 ghost use Rattle.aioscan_cmd.specs.Command.{number_limit, first_block, asked_count};
-ghost use Rattle.aioscan_cmd.specs.Command.{IsBelow};
-ghost use Rattle.aioscan_cmd.specs.Command.{HasNoRange, IsMade, IsMapOf, made_limit};
-ghost use Rattle.aioscan_cmd.specs.Words.{command_in, command_of, files_by, source_of, NamesSource};
-ghost use Rattle.aioscan_cmd.specs.Words.{map_seen};
-ghost use Rattle.scan_rounds.specs.Opening.{AreSettings};
+ghost use Rattle.aioscan_cmd.specs.Command.{IsBelowIfGiven};
+ghost use Rattle.aioscan_cmd.specs.Command.{HasNoRange, AsksForGeneratedPages, IsMapOf};
+ghost use Rattle.aioscan_cmd.specs.Command.{generated_page_limit};
+ghost use Rattle.aioscan_cmd.specs.Words.{parsed_command, command_of, source_files, source_of};
+ghost use Rattle.aioscan_cmd.specs.Words.{NamesSource};
+ghost use Rattle.aioscan_cmd.specs.Words.{map_option_view};
+ghost use Rattle.scan_rounds.specs.OpenedScan.{AreSettings};
 
 mod grammar;
 mod map_option;
@@ -25,10 +27,10 @@ use std::marker::Model;
 const LAST_BLOCK: u32 = 2097151;
 
 // At most so many pages are generated.
-const MOST_MADE: u32 = 4096;
+const MOST_GENERATED: u32 = 4096;
 
 // The file of generated pages.
-const MADE: [&str; 1] = ["made"];
+const GENERATED_NAMES: [&str; 1] = ["made"];
 
 /// Why words gave no command.
 #[derive(Clone, Copy, Debug, PartialEq, Eq)]
@@ -45,7 +47,7 @@ pub struct Command<'a> {
     matches: ArgMatches<'a>,
     from: Option<u32>,
     to: Option<u32>,
-    made: Option<u32>,
+    generated: Option<u32>,
     map: Option<MapOption<'a>>,
     settings: ScanSettings,
     stats: bool,
@@ -55,28 +57,29 @@ impl<'a> Model for Command<'a> {
     ghost use Rattle.std.specs.Option.{option_map};
     ghost use Rattle.std.specs.Prelude.{IfSome};
     ghost use Rattle.clap.specs.Words.{rows_of, found_of};
-    ghost use Rattle.aioscan_cmd.specs.Command.{Command, HasNoRange, IsBelow, IsMapOf};
+    ghost use Rattle.aioscan_cmd.specs.Command.{Command, HasNoRange, IsBelowIfGiven, IsMapOf};
     ghost use Rattle.aioscan_cmd.specs.Command.{number_limit};
-    ghost use Rattle.aioscan_cmd.specs.Words.{NamesSource, files_by, map_seen};
-    ghost use Rattle.scan_rounds.specs.Opening.{AreSettings};
+    ghost use Rattle.aioscan_cmd.specs.Words.{NamesSource, source_files, map_option_view};
+    ghost use Rattle.scan_rounds.specs.OpenedScan.{AreSettings};
 
     ghost Value = { Command };
 
     ghost view = { λ c. record {
       from = c.from;
       to = c.to;
-      files = files_by c.made (rows_of (found_of c.matches));
-      made = c.made;
-      map = option_map map_seen c.map;
+      files = source_files c.generated (rows_of (found_of c.matches));
+      generated = c.generated;
+      map = option_map map_option_view c.map;
       settings = c.settings;
       stats = c.stats;
     } };
 
-    ghost invariant = { λ c. IsBelow c.from number_limit × IsBelow c.to number_limit
-        × NamesSource c.made (rows_of (found_of c.matches)) × HasNoRange c.made c.from c.to
+    ghost invariant = { λ c. IsBelowIfGiven c.from number_limit × IsBelowIfGiven c.to number_limit
+        × NamesSource c.generated (rows_of (found_of c.matches))
+        × HasNoRange c.generated c.from c.to
         × AreSettings c.settings
-        × IfSome (option_map map_seen c.map) (IsMapOf c.made
-        (files_by c.made (rows_of (found_of c.matches)))) };
+        × IfSome (option_map map_option_view c.map) (IsMapOf c.generated
+        (source_files c.generated (rows_of (found_of c.matches)))) };
 }
 
 // Whether FILE words are listed, or generated pages, all of them.
@@ -85,20 +88,20 @@ fn is_source(
     from: Option<u32>,
     to: Option<u32>,
     tuples: bool,
-    made: Option<u32>,
+    generated: Option<u32>,
 ) -> bool
-    ensures source { source_of from to tuples made
+    ensures source { source_of from to tuples generated
         (all_of (codes "FILE") (rows_of (found_of matches.now)))
         ≡ (if result then Some (record {
           from = from;
           to = to;
-          files = files_by made (rows_of (found_of matches.now));
-          made = made;
+          files = source_files generated (rows_of (found_of matches.now));
+          generated = generated;
         }) else None) }
-    ensures within { IfSome made (λ n. (1 ≤ n) × (n ≤ made_limit)) → result ≡ true
-        → NamesSource made (rows_of (found_of matches.now)) × HasNoRange made from to }
+    ensures within { IfSome generated (λ n. (1 ≤ n) × (n ≤ generated_page_limit)) → result ≡ true
+        → NamesSource generated (rows_of (found_of matches.now)) × HasNoRange generated from to }
 {
-    match made {
+    match generated {
         None => values::names_files(matches),
         Some(_) => from.is_none() && to.is_none() && !tuples && !values::has_files(matches),
     }
@@ -107,13 +110,13 @@ fn is_source(
 impl<'a> Command<'a> {
     // What the values ask for that were found in the words.
     fn of(matches: ArgMatches<'a>) -> Option<Command<'a>>
-        ensures { result ≡ command_in (rows_of (found_of matches.entry)) }
+        ensures { result ≡ parsed_command (rows_of (found_of matches.entry)) }
     {
         let from = values::number_given(&matches, "from", 0, LAST_BLOCK)?;
         let to = values::number_given(&matches, "to", 0, LAST_BLOCK)?;
-        let made = values::number_given(&matches, "make", 1, MOST_MADE)?;
+        let generated = values::number_given(&matches, "make", 1, MOST_GENERATED)?;
         let tuples = values::flag(&matches, "tuples");
-        if !is_source(&matches, from, to, tuples, made) {
+        if !is_source(&matches, from, to, tuples, generated) {
             return None;
         }
         let map = map_option::map_given(&matches)?;
@@ -123,7 +126,7 @@ impl<'a> Command<'a> {
             matches,
             from,
             to,
-            made,
+            generated,
             map,
             settings,
             stats,
@@ -135,24 +138,25 @@ impl<'a> Command<'a> {
         ensures files { map (λ file. file.now) result.now ≡ (self.now).files }
         ensures few { length result.now ≤ 1024 }
     {
-        match self.made {
+        match self.generated {
             None => values::files(&self.matches),
-            Some(_) => &MADE,
+            Some(_) => &GENERATED_NAMES,
         }
     }
 
     /// How many pages are generated, where no files are listed.
-    pub fn made(&self) -> Option<u32>
-        ensures pages { result ≡ (self.now).made }
-        ensures is { IfSome result (λ n. IsMade n self.now) }
+    pub fn generated(&self) -> Option<u32>
+        ensures pages { result ≡ (self.now).generated }
+        ensures is { IfSome result (λ n. AsksForGeneratedPages n self.now) }
     {
-        self.made
+        self.generated
     }
 
     /// The map of the one file, where it is given.
     pub fn map(&self) -> Option<MapOption<'a>>
-        ensures map { option_map map_seen result ≡ (self.now).map }
-        ensures is { IfSome (option_map map_seen result) (IsMapOf (self.now).made self.now.files) }
+        ensures map { option_map map_option_view result ≡ (self.now).map }
+        ensures is { IfSome (option_map map_option_view result)
+            (IsMapOf (self.now).generated self.now.files) }
     {
         self.map
     }
@@ -168,7 +172,7 @@ impl<'a> Command<'a> {
     /// The last block of each file, where it is given.
     pub fn last_block(&self) -> Option<u32>
         ensures block { result ≡ (self.now).to }
-        ensures below { IsBelow result number_limit }
+        ensures below { IsBelowIfGiven result number_limit }
     {
         self.to
     }
@@ -206,7 +210,7 @@ impl<'a> Command<'a> {
 // What `clap` finds in the words.
 fn parse<'a>(alloc: Global, words: &'a [String]) -> Result<ArgMatches<'a>, Refusal>
     ensures ok { IfOk result (λ m. command_of (map string_bytes words.entry.now)
-        ≡ command_in (rows_of (found_of m))) }
+        ≡ parsed_command (rows_of (found_of m))) }
     ensures err { IfErr result
         (λ e. e ≡ Refusal.Usage → command_of (map string_bytes words.entry.now) ≡ None) }
 {
@@ -231,9 +235,9 @@ fn parse<'a>(alloc: Global, words: &'a [String]) -> Result<ArgMatches<'a>, Refus
 /// all words behind `--` are files.
 ///
 /// Words are refused for an option that is unknown or stands twice, and for a value that is missing
-/// or outside its range. A number has 1 to 7 digits; a FILE word is not empty. `--make` goes with no
-/// FILE word and with none of `--from`, `--to`, `--tuples` and `--map`. `--map` goes with one FILE
-/// word, of another name, and `--skip` with `--map` alone.
+/// or outside its range. A number has 1 to 7 digits; a FILE word is not empty. `--make` goes with
+/// no FILE word and with none of `--from`, `--to`, `--tuples` and `--map`. `--map` goes with one
+/// FILE word, of another name, and `--skip` with `--map` alone.
 pub fn read_command<'a>(alloc: Global, words: &'a [String]) -> Result<Command<'a>, Refusal>
     ensures ok { IfOk result (λ c. command_of (map string_bytes words.now) ≡ Some c) }
     ensures err { IfErr result

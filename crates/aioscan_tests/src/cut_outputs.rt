@@ -1,7 +1,7 @@
 //! Outputs that fail, and what was said before.
 ghost use Rattle.std.specs.Prelude.{None};
 
-use crate::outside::{check_shown, empty_file, empty_lines, run, two_files, words_of};
+use crate::helpers::{check_outcome, empty_file, empty_lines, run, two_files, words_of};
 use aio_disk::{MemSink, Sink, WriteFault};
 use aioscan_cmd::{Line, aioscan};
 use page_fixtures::files::{Files, STEADY, shelf_of};
@@ -108,7 +108,7 @@ fn outputs_that_fail(rt: HostRuntime) -> Result<(), Fail> {
         let cuts: (&[(u64, u64)], &[(u64, u64)]) = (&[row.cut], &[]);
         let done = run(&rt, files_of(rt.alloc(), &row)?, STEADY, row.line, cuts)?;
         let text = text_of(rt.alloc(), &row)?;
-        check_shown(&rt, row.name, &done, (text.as_str(), row.said, row.status));
+        check_outcome(&rt, row.name, &done, (text.as_str(), row.said, row.status));
         assert_eq!(&rt; done.report.line, Line::Whole, "{}", row.name);
     }
     Ok(())

@@ -1,5 +1,5 @@
 //! Reads that fail or are short, and what is listed before them.
-use crate::outside::{Ended, check_shown, empty_file, empty_lines, run, run_over};
+use crate::helpers::{FinishedRun, check_outcome, empty_file, empty_lines, run, run_over};
 use aioscan_cmd::Outcome;
 use page_fixtures::files::{Faults, STEADY, one_file};
 use std::process::Abort;
@@ -29,7 +29,7 @@ fn faults_of(fails: Fails) -> Faults<'static> {
 
 // How many of eight empty pages one backend lists, what is said of it, and the status, for each of
 // these.
-const SHOWN: [(u32, &str, u8); 6] = [
+const OUTCOMES: [(u32, &str, u8); 6] = [
     (
         0,
         "unread page 0 0\nincarnations 1 workers 0 backends 1\n",
@@ -66,20 +66,20 @@ fn check_listed<R: Abort + AllocGlobal + Threads + Wait + Sync>(
     let line = "--method sync --backends 1 --stats f";
     let done = run_over(rt, empty_file(rt.alloc(), 8)?, faults_of(fails), line)?;
     let text = empty_lines(rt.alloc(), 0, listed)?;
-    check_shown(rt, lines, &done, (text.as_str(), lines, status));
+    check_outcome(rt, lines, &done, (text.as_str(), lines, status));
     Ok(())
 }
 
 #[test]
 fn reads_of_one_backend_that_fail(rt: HostRuntime) -> Result<(), Fail> {
-    for (fails, shown) in SCRIPTS.iter().zip(SHOWN) {
+    for (fails, shown) in SCRIPTS.iter().zip(OUTCOMES) {
         check_listed(&rt, *fails, shown)?;
     }
     Ok(())
 }
 
 // Whether eight pages are listed, or those before the one that could not be read.
-fn is_listed_so_far<R: AllocGlobal>(rt: &R, done: &Ended) -> Result<bool, Fail> {
+fn is_listed_so_far<R: AllocGlobal>(rt: &R, done: &FinishedRun) -> Result<bool, Fail> {
     let listed = match done.report.outcome {
         Outcome::Done => 8,
         Outcome::Unread(0, block) => block,

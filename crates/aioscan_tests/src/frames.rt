@@ -1,5 +1,5 @@
 //! How many pages the pool holds.
-use crate::outside::{check_over, empty_file, empty_lines};
+use crate::helpers::{check_over, empty_file, empty_lines};
 use page_fixtures::files::STEADY;
 use std::test::Fail;
 

@@ -6,15 +6,17 @@
 #![tactic(auto)]
 
 #[cfg(test)]
+mod blocked_reads;
+#[cfg(test)]
 mod cut_outputs;
 #[cfg(test)]
 mod failing;
 #[cfg(test)]
 mod frames;
 #[cfg(test)]
-mod gate;
+mod generated_pages;
 #[cfg(test)]
-mod made;
+mod helpers;
 #[cfg(test)]
 mod map_reads;
 #[cfg(test)]
@@ -22,11 +24,13 @@ mod map_runs;
 #[cfg(test)]
 mod map_words;
 #[cfg(test)]
-mod outside;
+mod one_file_runs;
 #[cfg(test)]
-mod plain;
+mod plain_lister;
 #[cfg(test)]
 mod random_maps;
+#[cfg(test)]
+mod random_requests;
 #[cfg(test)]
 mod reads;
 #[cfg(test)]
@@ -34,19 +38,15 @@ mod refused_lengths;
 #[cfg(test)]
 mod refused_words;
 #[cfg(test)]
-mod rows;
-#[cfg(test)]
 mod segments;
 #[cfg(test)]
 mod settings;
-#[cfg(test)]
-mod slow;
 #[cfg(test)]
 mod statuses;
 #[cfg(test)]
 mod tuples;
 #[cfg(test)]
-mod untold;
+mod untold_contents;
 #[cfg(test)]
 mod words;
 #[cfg(test)]

@@ -1,5 +1,5 @@
 //! The reads of scans that leave out the blocks that a visibility map marks.
-use crate::outside::{Ended, check_shown, empty_file, run, two_files};
+use crate::helpers::{FinishedRun, check_outcome, empty_file, run, two_files};
 use page_fixtures::files::{Faults, STEADY};
 use page_fixtures::pages::{DAMAGED, EMPTY, Parts, ZEROS, bytes_of};
 use std::alloc::Global;
@@ -42,7 +42,10 @@ pub(crate) fn lines_of(alloc: Global, blocks: &[u32]) -> Result<String, Fail> {
 }
 
 // The reads of a run, in their order.
-fn reads_by_relation<R: Abort + AllocGlobal>(rt: &R, run: &Ended) -> Result<Vec<MapRead>, Fail> {
+fn reads_by_relation<R: Abort + AllocGlobal>(
+    rt: &R,
+    run: &FinishedRun,
+) -> Result<Vec<MapRead>, Fail> {
     let mut reads = Vec::new(rt.alloc());
     for entry in run.shelf.log() {
         reads.push((entry.relation, entry.first, entry.asked))?;
@@ -57,7 +60,7 @@ pub(crate) fn run_by_map<R: Abort + AllocGlobal + Threads + Wait + Sync>(
     map: Vec<u8>,
     faults: Faults<'_>,
     line: &str,
-) -> Result<Ended, Fail> {
+) -> Result<FinishedRun, Fail> {
     let files = two_files(rt.alloc(), ("f", file), ("m", map))?;
     run(rt, files, faults, line, (&[], &[]))
 }
@@ -81,7 +84,7 @@ fn expect_reads<R: Abort + AllocGlobal + Threads + Wait + Sync>(
         "{}incarnations {count} workers 0 backends {count}\n",
         wanted.1
     )?;
-    check_shown(rt, words, &done, (text.as_str(), told.as_str(), wanted.2));
+    check_outcome(rt, words, &done, (text.as_str(), told.as_str(), wanted.2));
     let made = reads_by_relation(rt, &done)?;
     assert_eq!(rt; made.as_slice(), reads, "{words}");
     Ok(())

@@ -1,6 +1,6 @@
 //! Whole runs by a visibility map: each method, damaged pages, tuples, and what fails.
+use crate::helpers::{TestOutcome, check_outcome, empty_file, empty_lines, run, two_files};
 use crate::map_reads::{FLAGGED, HEADER, MARKED, lines_of, run_by_map};
-use crate::outside::{Shown, check_shown, empty_file, empty_lines, run, two_files};
 use aioscan_cmd::Line;
 use page_fixtures::files::{Faults, STEADY, one_file};
 use page_fixtures::pages::{DAMAGED, EMPTY, Parts, ZEROS, bytes_of};
@@ -40,11 +40,11 @@ fn check_by_map<R: Abort + AllocGlobal + Threads + Wait + Sync>(
     (file, map): (&[Parts<'_>], &[Parts<'_>]),
     faults: Faults<'_>,
     line: &str,
-    wanted: Shown<'_>,
+    wanted: TestOutcome<'_>,
 ) -> Result<(), Fail> {
     let (file, map) = (bytes_of(rt.alloc(), file)?, bytes_of(rt.alloc(), map)?);
     let done = run_by_map(rt, file, map, faults, line)?;
-    check_shown(rt, line, &done, wanted);
+    check_outcome(rt, line, &done, wanted);
     Ok(())
 }
 
@@ -54,7 +54,7 @@ fn expect<R: Abort + AllocGlobal + Threads + Wait + Sync>(
     file: &[Parts<'_>],
     map: &[Parts<'_>],
     words: &str,
-    wanted: Shown<'_>,
+    wanted: TestOutcome<'_>,
 ) -> Result<(), Fail> {
     for method in ["sync", "worker", "ring"] {
         let line = format!(in rt.alloc(); "--method {method} --backends 2 --map m {words} f")?;
@@ -70,7 +70,7 @@ fn the_same_by_each_method(rt: HostRuntime) -> Result<(), Fail> {
     let frozen = lines_of(alloc, &[0, 1, 2, 3, 5, 6, 7])?;
     let all = empty_lines(alloc, 0, 8)?;
     let zeroed = "zeroed page 1 0\n";
-    let rows: [(&[Parts<'_>], &str, Shown<'_>); 6] = [
+    let rows: [(&[Parts<'_>], &str, TestOutcome<'_>); 6] = [
         (&[MARKED], "", (visible.as_str(), "", 0)),
         (&[MARKED], "--skip visible", (visible.as_str(), "", 0)),
         (&[MARKED], "--skip frozen", (frozen.as_str(), "", 0)),
@@ -158,7 +158,7 @@ fn a_map_that_is_missing(rt: HostRuntime) -> Result<(), Fail> {
     let files = one_file(rt.alloc(), "f", empty_file(rt.alloc(), 8)?)?;
     let line = "--stats --map m f";
     let done = run(&rt, files, STEADY, line, (&[], &[]))?;
-    check_shown(&rt, line, &done, ("", "cannot open\n", 3));
+    check_outcome(&rt, line, &done, ("", "cannot open\n", 3));
     Ok(())
 }
 
@@ -171,7 +171,7 @@ fn an_error_stream_that_fails_at_the_warning_of_a_map(rt: HostRuntime) -> Result
     let done = run(&rt, files, STEADY, line, (&[], &[(1, 5)]))?;
     let mut text = empty_lines(alloc, 0, 1)?;
     text.push_str("page 0 1 new\n")?;
-    check_shown(&rt, line, &done, (text.as_str(), "zeroe", 0));
+    check_outcome(&rt, line, &done, (text.as_str(), "zeroe", 0));
     assert_eq!(&rt; done.report.line, Line::Cut);
     Ok(())
 }

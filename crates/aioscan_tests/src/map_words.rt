@@ -1,5 +1,5 @@
 //! Words that name a map.
-use crate::outside::words_of;
+use crate::helpers::words_of;
 use crate::words::joined;
 use aioscan_cmd::read_command;
 use std::test::Fail;

@@ -1,8 +1,8 @@
 //! Random maps and requests, beside a plain lister of the blocks that a map does not mark.
 use crate::map_reads::HEADER;
-use crate::plain::{Asked, list_page, slow_run};
+use crate::plain_lister::{RandomRequest, list_page, reference_run};
+use crate::random_requests::{expect_outcome, line_of, pick, random_block, random_file};
 use crate::settings::random_settings;
-use crate::slow::{expect_shown, line_of, pick, random_block, random_file};
 use page_fixtures::pages::{DAMAGED, Parts, ZEROS, bytes_of};
 use std::alloc::{AllocError, Global};
 use std::process::Abort;
@@ -24,7 +24,7 @@ fn is_marked(page: &[u8], frozen: bool, block: u32) -> bool {
 }
 
 // The first block that is asked for of a file of so many bytes, and the one after the last.
-fn range_of(asked: &Asked, bytes: usize) -> (u32, u32) {
+fn range_of(asked: &RandomRequest, bytes: usize) -> (u32, u32) {
     let blocks = (bytes / 8192).min(1000) as u32;
     let after = asked.to.map_or(blocks, |last| last.saturating_add(1));
     (asked.from.unwrap_or(0), after)
@@ -32,7 +32,7 @@ fn range_of(asked: &Asked, bytes: usize) -> (u32, u32) {
 
 // The listing, what is said and the status for those blocks of the file `a` that this page of a
 // map does not mark, each listed alone.
-fn slow_left(
+fn reference_unmarked(
     alloc: Global,
     (from, after): (u32, u32),
     zero: bool,
@@ -44,13 +44,13 @@ fn slow_left(
         if is_marked(page, frozen, block) {
             continue;
         }
-        let alone = Asked {
+        let alone = RandomRequest {
             from: Some(block),
             to: Some(block),
             files: vec![in alloc; 0usize]?,
             zero,
         };
-        let (listed, told, status) = slow_run(alloc, &alone, contents)?;
+        let (listed, told, status) = reference_run(alloc, &alone, contents)?;
         text.push_str(listed.as_str())?;
         said.push_str(told.as_str())?;
         if status != 0 {
@@ -68,9 +68,9 @@ fn is_valid(alloc: Global, page: &[u8]) -> Result<bool, Fail> {
 
 // The same for the file `a` by the map `b`, whose first page is read where it is there and blocks
 // are asked for.
-fn slow_run_by_map(
+fn reference_run_by_map(
     alloc: Global,
-    asked: &Asked,
+    asked: &RandomRequest,
     frozen: bool,
     contents: &[Vec<u8>],
 ) -> Result<(String, String, u8), Fail> {
@@ -78,13 +78,13 @@ fn slow_run_by_map(
     let range = range_of(asked, contents.first().unwrap_or(&empty).len());
     let page = contents.get(1).unwrap_or(&empty).as_slice();
     if range.0 >= range.1 || page.is_empty() || is_valid(alloc, page)? {
-        return slow_left(alloc, range, asked.zero, contents, (page, frozen));
+        return reference_unmarked(alloc, range, asked.zero, contents, (page, frozen));
     }
     if !asked.zero {
         let said = String::from_str(alloc, "invalid page 1 0\n")?;
         return Ok((String::new(alloc), said, 1));
     }
-    let (text, told, status) = slow_left(alloc, range, true, contents, (&[], frozen))?;
+    let (text, told, status) = reference_unmarked(alloc, range, true, contents, (&[], frozen))?;
     let mut said = String::from_str(alloc, "zeroed page 1 0\n")?;
     said.push_str(told.as_str())?;
     Ok((text, said, status))
@@ -111,7 +111,7 @@ fn compare_by_map<R: Abort + AllocGlobal + Threads + Wait + Sync>(
     let alloc = rt.alloc();
     let (a, b) = (random_file(alloc, state)?, random_map(alloc, state)?);
     let contents = vec![in alloc; a.clone()?, b.clone()?]?;
-    let asked = Asked {
+    let asked = RandomRequest {
         from: random_block(state),
         to: random_block(state),
         files: vec![in alloc; 0usize]?,
@@ -122,9 +122,9 @@ fn compare_by_map<R: Abort + AllocGlobal + Threads + Wait + Sync>(
     settings.push_str(" --map b --skip ")?;
     settings.push_str(if frozen { "frozen" } else { "visible" })?;
     let line = line_of(alloc, &asked, settings.as_str())?;
-    let (text, said, status) = slow_run_by_map(alloc, &asked, frozen, contents.as_slice())?;
+    let (text, said, status) = reference_run_by_map(alloc, &asked, frozen, contents.as_slice())?;
     let wanted = (text.as_str(), said.as_str(), status);
-    expect_shown(rt, request, line.as_str(), (a, b), wanted)
+    expect_outcome(rt, request, line.as_str(), (a, b), wanted)
 }
 
 // Compares 1,000 random requests by random maps, under random settings.

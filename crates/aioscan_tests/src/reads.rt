@@ -1,5 +1,5 @@
 //! Which reads a run makes, and what its report counts.
-use crate::outside::{Ended, check_over, check_shown, empty_file, empty_lines, run_over};
+use crate::helpers::{FinishedRun, check_outcome, check_over, empty_file, empty_lines, run_over};
 use page_fixtures::files::{Faults, STEADY};
 use page_fixtures::pages::{EMPTY, Parts, bytes_of};
 use std::alloc::Global;
@@ -12,7 +12,7 @@ use std::thread::Threads;
 pub(crate) type Read = (u32, u32, Option<u32>);
 
 // The reads of a run, in their order.
-fn reads_of(alloc: Global, run: &Ended) -> Result<Vec<Read>, Fail> {
+fn reads_of(alloc: Global, run: &FinishedRun) -> Result<Vec<Read>, Fail> {
     let mut reads = Vec::new(alloc);
     for entry in run.shelf.log() {
         reads.push((entry.first, entry.asked, entry.answered))?;
@@ -23,7 +23,7 @@ fn reads_of(alloc: Global, run: &Ended) -> Result<Vec<Read>, Fail> {
 /// Compares the reads of a run.
 pub(crate) fn check_reads<R: Abort + AllocGlobal>(
     rt: &R,
-    done: &Ended,
+    done: &FinishedRun,
     name: &str,
     wanted: &[Read],
 ) -> Result<(), Fail> {
@@ -58,7 +58,7 @@ fn expect_reads<R: Abort + AllocGlobal + Threads + Wait + Sync>(
     let count = wanted.len();
     let totals = format!(in alloc; "incarnations {count} workers 0 backends {count}\n")?;
     let text = repeated_lines(alloc, pages, line)?;
-    check_shown(rt, name, &done, (text.as_str(), totals.as_str(), 0));
+    check_outcome(rt, name, &done, (text.as_str(), totals.as_str(), 0));
     check_reads(rt, &done, name, wanted)
 }
 
@@ -233,7 +233,7 @@ fn an_invalid_page_behind_one_read(rt: HostRuntime) -> Result<(), Fail> {
 }
 
 // Compares how many I/Os there were, of workers and of backends.
-fn check_counts<R: Abort>(rt: &R, done: &Ended, line: &str, wanted: (u128, u128, u128)) {
+fn check_counts<R: Abort>(rt: &R, done: &FinishedRun, line: &str, wanted: (u128, u128, u128)) {
     let report = &done.report;
     let counts = (report.incarnations, report.by_workers, report.by_backends);
     assert_eq!(rt; counts, wanted, "{line}");
@@ -310,7 +310,7 @@ fn check_28<R: Abort + AllocGlobal + Threads + Wait + Sync>(
     let done = run_over(rt, file, STEADY, line)?;
     let (workers, backends) = (done.report.by_workers, done.report.by_backends);
     let totals = format!(in rt.alloc(); "incarnations 28 workers {workers} backends {backends}\n")?;
-    check_shown(rt, line, &done, (text, totals.as_str(), 0));
+    check_outcome(rt, line, &done, (text, totals.as_str(), 0));
     assert_eq!(rt; workers.saturating_add(backends), 28, "{line}");
     assert!(rt; workers <= by_workers, "{line}");
     Ok(())

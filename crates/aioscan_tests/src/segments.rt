@@ -1,5 +1,5 @@
 //! Relations of several segments.
-use crate::outside::{Ended, check_shown, empty_file, empty_lines, run_segmented};
+use crate::helpers::{FinishedRun, check_outcome, empty_file, empty_lines, run_segmented};
 use aioscan_cmd::Line;
 use page_fixtures::files::STEADY;
 use std::alloc::{AllocError, Global};
@@ -105,18 +105,18 @@ const ROWS: [Row<'static>; 6] = [
 fn check_row<R: Abort + AllocGlobal + Threads + Wait + Sync>(
     rt: &R,
     row: &Row<'_>,
-) -> Result<Ended, Fail> {
+) -> Result<FinishedRun, Fail> {
     let files = segments(rt.alloc(), row.files)?;
     let line = "--method sync --backends 1 --full f";
     let done = run_segmented(rt, files, row.segment, STEADY, line, (&[], &[]))?;
     let text = empty_lines(rt.alloc(), 0, row.pages)?;
-    check_shown(rt, row.name, &done, (text.as_str(), row.line, row.status));
+    check_outcome(rt, row.name, &done, (text.as_str(), row.line, row.status));
     assert_eq!(rt; done.report.line, Line::Whole, "{}", row.name);
     Ok(done)
 }
 
 // The first block and the number of blocks of each read.
-fn reads_of(alloc: Global, done: &Ended) -> Result<Vec<(u32, u32)>, AllocError> {
+fn reads_of(alloc: Global, done: &FinishedRun) -> Result<Vec<(u32, u32)>, AllocError> {
     let mut reads = Vec::new(alloc);
     for entry in done.shelf.log() {
         reads.push((entry.first, entry.asked))?;
@@ -148,7 +148,7 @@ fn blocks_across_a_border(rt: HostRuntime) -> Result<(), Fail> {
     ] {
         let files = segments(alloc, &[(4, 0), (4, 0), (2, 0)])?;
         let done = run_segmented(&rt, files, 4, STEADY, line, (&[], &[]))?;
-        check_shown(&rt, line, &done, (text.as_str(), "", 0));
+        check_outcome(&rt, line, &done, (text.as_str(), "", 0));
     }
     Ok(())
 }

@@ -1,6 +1,6 @@
 //! The same bytes by all settings.
-use crate::outside::{Ended, run_over};
-use crate::slow::pick;
+use crate::helpers::{FinishedRun, run_over};
+use crate::random_requests::pick;
 use page_fixtures::files::STEADY;
 use page_fixtures::pages::{DAMAGED, EMPTY, Parts, ZEROS, bytes_of};
 use std::alloc::Global;
@@ -56,7 +56,7 @@ fn check_same<R: Abort + AllocGlobal + Threads + Wait + Sync>(
     rt: &R,
     file: Vec<u8>,
     line: &str,
-    first: &Ended,
+    first: &FinishedRun,
 ) -> Result<(), Fail> {
     let done = run_over(rt, file, STEADY, line)?;
     assert_eq!(rt; done.out.bytes(), first.out.bytes(), "{line}");

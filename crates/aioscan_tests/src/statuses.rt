@@ -1,6 +1,6 @@
 //! Each status, by files that are damaged or missing, and opens, lengths and reads that fail.
-use crate::outside::Shown;
-use crate::rows::{E_LINE, expect};
+use crate::helpers::TestOutcome;
+use crate::one_file_runs::{E_LINE, expect};
 use page_fixtures::files::{Faults, STEADY};
 use page_fixtures::pages::{DAMAGED, EMPTY, Parts};
 use std::test::Fail;
@@ -59,7 +59,7 @@ const RUNS: [(
     &[Parts<'static>],
     Faults<'static>,
     &str,
-    Shown<'static>,
+    TestOutcome<'static>,
 ); 14] = [
     (
         "a second file that is damaged",

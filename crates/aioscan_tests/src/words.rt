@@ -1,5 +1,5 @@
 //! Words that are a command, and what they ask for.
-use crate::outside::words_of;
+use crate::helpers::words_of;
 use aioscan_cmd::{Refusal, read_command};
 use scan_rounds::{MethodKind, ScanSettings};
 use std::alloc::Global;

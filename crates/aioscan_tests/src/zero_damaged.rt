@@ -1,7 +1,9 @@
 //! Invalid pages that are listed as zeros, with a warning each.
-use crate::outside::{Ended, Shown, check_over, check_shown, empty_file, empty_lines, run};
+use crate::helpers::{
+    FinishedRun, TestOutcome, check_outcome, check_over, empty_file, empty_lines, run,
+};
+use crate::random_requests::{check_damaged_files, check_requests};
 use crate::reads::check_reads;
-use crate::slow::{check_damaged_files, check_requests};
 use aioscan_cmd::Line;
 use page_fixtures::files::{STEADY, one_file};
 use page_fixtures::pages::{DAMAGED, EMPTY, Parts, ZEROS, bytes_of};
@@ -32,8 +34,8 @@ fn expect<R: Abort + AllocGlobal + Threads + Wait + Sync>(
     rt: &R,
     file: Vec<u8>,
     line: &str,
-    wanted: Shown<'_>,
-) -> Result<Ended, Fail> {
+    wanted: TestOutcome<'_>,
+) -> Result<FinishedRun, Fail> {
     let done = check_over(rt, file, STEADY, line, wanted)?;
     assert_eq!(rt; done.report.line, Line::Whole, "{line}");
     Ok(done)
@@ -101,7 +103,7 @@ fn an_error_stream_that_fails_at_the_first_warning(rt: HostRuntime) -> Result<()
         text.push_str("page 0 0 new\n")?;
         text.push_str(empty_lines(alloc, 1, 2)?.as_str())?;
     }
-    check_shown(&rt, line, &done, (text.as_str(), "zeroe", 0));
+    check_outcome(&rt, line, &done, (text.as_str(), "zeroe", 0));
     assert_eq!(&rt; done.report.line, Line::Cut);
     Ok(())
 }

@@ -1,2 +1,2 @@
-pub mod Filtering
-pub mod Stepping
+pub mod FilteredBlocks
+pub mod StridedBlocks

@@ -1,6 +1,6 @@
 //! Blocks one after the other.
 ghost use Rattle.std.specs.Prelude.{◌≡◌, ◌+◌, ◌^◌, ◌≤◌};
-ghost use Rattle.block_source.specs.Left.{consecutive};
+ghost use Rattle.block_source.specs.BlocksLeft.{consecutive_blocks};
 
 use crate::source::BlockSource;
 use std::marker::Model;
@@ -15,11 +15,11 @@ pub struct Range {
 
 impl Model for Range {
     ghost use Rattle.std.specs.Prelude.{ℕ, List, ◌+◌, ◌^◌, ◌≤◌};
-    ghost use Rattle.block_source.specs.Left.{consecutive};
+    ghost use Rattle.block_source.specs.BlocksLeft.{consecutive_blocks};
 
     ghost Value = { List (ℕ × Unit {0}) };
 
-    ghost view = { λ range. consecutive range.next range.count };
+    ghost view = { λ range. consecutive_blocks range.next range.count };
 
     ghost invariant = { λ range. range.next + range.count ≤ 2 ^ 32 };
 }
@@ -28,7 +28,7 @@ impl Range {
     /// A source of `count` blocks from `first` on.
     pub fn new(first: u32, count: u32) -> Range
         requires { first + count ≤ 2 ^ 32 }
-        ensures { result ≡ consecutive first count }
+        ensures { result ≡ consecutive_blocks first count }
     {
         Range {
             next: first as u64,

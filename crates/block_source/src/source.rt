@@ -1,6 +1,6 @@
 //! The trait of all sources.
 ghost use Rattle.std.specs.Prelude.{List, ℕ};
-ghost use Rattle.block_source.specs.Left.{TakesFirst};
+ghost use Rattle.block_source.specs.BlocksLeft.{TakesFirst};
 
 /// Gives the blocks to read, one by one, each with data of the caller's (the block number callback
 /// of `read_stream.h` and its `per_buffer_data`). It may be asked at any time, and again after it

@@ -1,6 +1,6 @@
 //! Blocks at equal distances.
 ghost use Rattle.std.specs.Prelude.{◌≡◌, ℕ, ◌+◌, ◌*◌, ◌^◌, ◌<◌};
-ghost use Rattle.block_source.specs.Left.{stepped};
+ghost use Rattle.block_source.specs.BlocksLeft.{strided_blocks};
 
 use crate::source::BlockSource;
 use std::marker::Model;
@@ -16,11 +16,11 @@ pub struct Stepped {
 
 impl Model for Stepped {
     ghost use Rattle.std.specs.Prelude.{ℕ, List, ◌+◌, ◌*◌, ◌^◌, ◌<◌};
-    ghost use Rattle.block_source.specs.Left.{stepped};
+    ghost use Rattle.block_source.specs.BlocksLeft.{strided_blocks};
 
     ghost Value = { List (ℕ × Unit {0}) };
 
-    ghost view = { λ s. stepped s.next s.step s.count };
+    ghost view = { λ s. strided_blocks s.next s.step s.count };
 
     ghost invariant = { λ s. (i : ℕ) → i < s.count → s.next + i * s.step < 2 ^ 32 };
 }
@@ -29,7 +29,7 @@ impl Stepped {
     /// A source of `count` blocks from `first` on, `step` apart.
     pub fn new(first: u32, step: u32, count: u32) -> Stepped
         requires { (i : ℕ) → i < count → first + i * step < 2 ^ 32 }
-        ensures { result ≡ stepped first step count }
+        ensures { result ≡ strided_blocks first step count }
     {
         Stepped {
             next: first as u64,

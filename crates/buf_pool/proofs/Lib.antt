@@ -1,5 +1,5 @@
-pub mod Rounds
-pub mod Counts
-pub mod Reaching
-pub mod Changing
-pub mod Taking
+pub mod CircularSteps
+pub mod ElementCounts
+pub mod TableSearch
+pub mod FrameChanges
+pub mod VictimFrames

@@ -9,7 +9,7 @@ use Rattle.buf_pool.specs.declared.index.Look.{Look}
 use Rattle.buf_pool.specs.declared.index.Look.TheVariants as look
 use Rattle.buf_pool.specs.declared.index.Begun.{Begun}
 use Rattle.buf_pool.specs.declared.index.Begun.TheVariants as begun
-use Rattle.buf_pool.specs.Frames.{descriptor_at, is_free, IsHeld, IsAbsent, repinned}
+use Rattle.buf_pool.specs.Frames.{descriptor_at, is_free, IsInUse, IsAbsent, frames_with_pins}
 
 -- the entry of the tag is valid, at this frame
 abbrev pub IsValidAt : List Descriptor → Tag → ℕ → Type 0
@@ -26,47 +26,47 @@ IsNotInProgress frames tag reference = (f : ℕ) → descriptor_at frames f ≡ 
     → ⊥
 
 -- what the entry of the tag says
-abbrev pub IsLook : List Descriptor → Tag → Look → Type 0
-IsLook frames tag (look.Hit f) = IsValidAt frames tag f
-IsLook frames tag (look.Busy reference) = IsInProgressWith frames tag reference
-IsLook frames tag look.Absent = IsAbsent frames tag
+abbrev pub LookAnswers : List Descriptor → Tag → Look → Type 0
+LookAnswers frames tag (look.Hit f) = IsValidAt frames tag f
+LookAnswers frames tag (look.Busy reference) = IsInProgressWith frames tag reference
+LookAnswers frames tag look.Absent = IsAbsent frames tag
 
 -- each frame is in progress or pinned
 abbrev pub IsFull : List Descriptor → Type 0
-IsFull frames = (f : ℕ) → f < length frames → IsHeld (descriptor_at frames f)
+IsFull frames = (f : ℕ) → f < length frames → IsInUse (descriptor_at frames f)
 
 -- no frame is without an entry
 abbrev pub HasNoFree : List Descriptor → Type 0
 HasNoFree frames = (f : ℕ) → f < length frames → is_free (descriptor_at frames f) ≡ false
 
 -- a new entry may take this place: nothing, or an unpinned valid entry where no frame is free
-abbrev pub MayBeTaken : List Descriptor → Descriptor → Type 0
-MayBeTaken _ Free = ⊤
-MayBeTaken _ (InProgress _ _) = ⊥
-MayBeTaken frames (Valid _ pins) = (pins ≡ 0) × HasNoFree frames
+abbrev pub IsReplaceable : List Descriptor → Descriptor → Type 0
+IsReplaceable _ Free = ⊤
+IsReplaceable _ (InProgress _ _) = ⊥
+IsReplaceable frames (Valid _ pins) = (pins ≡ 0) × HasNoFree frames
 
 -- a new entry may be put at this frame
-abbrev pub IsTakeable : List Descriptor → ℕ → Type 0
-IsTakeable frames f = (f < length frames) × MayBeTaken frames (descriptor_at frames f)
+abbrev pub IsVictim : List Descriptor → ℕ → Type 0
+IsVictim frames f = (f < length frames) × IsReplaceable frames (descriptor_at frames f)
 
 -- what `begin` answers, and the frames that it leaves
-abbrev pub HasBegun : List Descriptor → List Descriptor → Tag → WaitRef → Begun → Type 0
-HasBegun old new tag reference (begun.Yes f) =
-    IsAbsent old tag × IsTakeable old f × (new ≡ slice_set old f (InProgress tag reference))
-HasBegun old new tag _ (begun.Busy holder) = IsInProgressWith old tag holder × (new ≡ old)
-HasBegun old new tag _ (begun.Hit f) = IsValidAt old tag f × (new ≡ old)
-HasBegun old new tag _ begun.NoRoom = IsAbsent old tag × IsFull old × (new ≡ old)
+abbrev pub BeginAnswers : List Descriptor → List Descriptor → Tag → WaitRef → Begun → Type 0
+BeginAnswers old new tag reference (begun.Yes f) =
+    IsAbsent old tag × IsVictim old f × (new ≡ slice_set old f (InProgress tag reference))
+BeginAnswers old new tag _ (begun.Busy holder) = IsInProgressWith old tag holder × (new ≡ old)
+BeginAnswers old new tag _ (begun.Hit f) = IsValidAt old tag f × (new ≡ old)
+BeginAnswers old new tag _ begun.NoRoom = IsAbsent old tag × IsFull old × (new ≡ old)
 
 -- the page of the tag has as many pins as can be counted
 abbrev pub IsPinnedFully : List Descriptor → Tag → Type 0
 IsPinnedFully frames tag = (f : ℕ) × (descriptor_at frames f ≡ Valid tag (2 ^ 32 - 1))
 
 -- what a look that pins answers, and the frames that it leaves
-abbrev pub HasPinned : List Descriptor → List Descriptor → Tag → Look → Type 0
-HasPinned old new tag (look.Hit f) =
-    (pins : ℕ) × (descriptor_at old f ≡ Valid tag pins) × (new ≡ repinned old f (pins + 1))
-HasPinned old new tag (look.Busy reference) = IsInProgressWith old tag reference × (new ≡ old)
-HasPinned old new tag look.Absent = (IsAbsent old tag ⊎ IsPinnedFully old tag) × (new ≡ old)
+abbrev pub PinAnswers : List Descriptor → List Descriptor → Tag → Look → Type 0
+PinAnswers old new tag (look.Hit f) =
+    (pins : ℕ) × (descriptor_at old f ≡ Valid tag pins) × (new ≡ frames_with_pins old f (pins + 1))
+PinAnswers old new tag (look.Busy reference) = IsInProgressWith old tag reference × (new ≡ old)
+PinAnswers old new tag look.Absent = (IsAbsent old tag ⊎ IsPinnedFully old tag) × (new ≡ old)
 
 -- no page is there, or one without pins
 abbrev pub HasNoPin : Option ℕ → Type 0
@@ -74,6 +74,6 @@ HasNoPin None = ⊤
 HasNoPin (Some pins) = pins ≡ 0
 
 -- the entry after its I/O ended: valid without pins, or dropped
-abbrev pub ended : Tag → Bool → Descriptor
-ended tag true = Valid tag 0
-ended tag false = Free
+abbrev pub entry_after_io : Tag → Bool → Descriptor
+entry_after_io tag true = Valid tag 0
+entry_after_io tag false = Free

@@ -10,7 +10,7 @@ use Rattle.buf_pool.specs.declared.pin.Pin.{Pin}
 use Rattle.buf_pool.specs.declared.pool.Found.{Found}
 use Rattle.buf_pool.specs.declared.pool.Found.TheVariants as found
 use Rattle.aio_callback.specs.Good.{IsGood}
-use Rattle.buf_pool.specs.Pinned.{page_in}
+use Rattle.buf_pool.specs.Pinned.{carried_page}
 
 -- the tag that a pin was asked for
 abbrev pub pinned_tag : {W : Type 0} → Pin W → Tag
@@ -18,7 +18,7 @@ pinned_tag pin = pin.tag
 
 -- the page that a pin shows
 abbrev pub pinned_page : {W : Type 0} → Pin W → List ℕ
-pinned_page pin = page_in pin.claim.value
+pinned_page pin = carried_page pin.claim.value
 
 -- a pin shows a good page of the tag, and the reference of an I/O is in range
 abbrev pub IsFound : {W : Type 0} → Option Told → ℕ → Tag → Found W → Type 0

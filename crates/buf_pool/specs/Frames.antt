@@ -36,8 +36,8 @@ with_pins (InProgress tag reference) _ = InProgress tag reference
 with_pins (Valid tag _) pins = Valid tag pins
 
 -- the frames where the valid entry at this frame has this many pins
-abbrev pub repinned : List Descriptor → ℕ → ℕ → List Descriptor
-repinned frames f pins = slice_set frames f (with_pins (descriptor_at frames f) pins)
+abbrev pub frames_with_pins : List Descriptor → ℕ → ℕ → List Descriptor
+frames_with_pins frames f pins = slice_set frames f (with_pins (descriptor_at frames f) pins)
 
 -- no entry is there
 abbrev pub is_free : Descriptor → Bool
@@ -52,10 +52,10 @@ is_unpinned (InProgress _ _) = false
 is_unpinned (Valid _ pins) = pins == 0
 
 -- the entry is in progress or pinned
-abbrev pub IsHeld : Descriptor → Type 0
-IsHeld Free = ⊥
-IsHeld (InProgress _ _) = ⊤
-IsHeld (Valid _ pins) = 0 < pins
+abbrev pub IsInUse : Descriptor → Type 0
+IsInUse Free = ⊥
+IsInUse (InProgress _ _) = ⊤
+IsInUse (Valid _ pins) = 0 < pins
 
 -- no frame has an entry of the tag
 abbrev pub IsAbsent : List Descriptor → Tag → Type 0

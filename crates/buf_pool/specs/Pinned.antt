@@ -15,7 +15,7 @@ carries_tag (Some None) _ = false
 carries_tag None _ = false
 
 -- the page that a reader sees
-abbrev pub page_in : {W : Type 0} → Option (Option (CarriedPage W)) → List ℕ
-page_in (Some (Some carried)) = carried.memory
-page_in (Some None) = []
-page_in None = []
+abbrev pub carried_page : {W : Type 0} → Option (Option (CarriedPage W)) → List ℕ
+carried_page (Some (Some carried)) = carried.memory
+carried_page (Some None) = []
+carried_page None = []

@@ -12,32 +12,32 @@ abbrev pub slot_at : List (Option ℕ) → ℕ → Option ℕ
 slot_at slots k = slice_index_or slots k None
 
 -- the hash of the tag: the high half of a product of 64 bits (Fibonacci hashing)
-unfoldable pub hash_of : Tag → ℕ
-hash_of tag = (tag.relation * 2 ^ 32 + tag.block) * 0x9E37_79B9_7F4A_7C15 % 2 ^ 64 / 2 ^ 32
+unfoldable pub tag_hash : Tag → ℕ
+tag_hash tag = (tag.relation * 2 ^ 32 + tag.block) * 0x9E37_79B9_7F4A_7C15 % 2 ^ 64 / 2 ^ 32
 
 -- the slot at which the search for the tag begins: the hash, scaled to the size of the table
-unfoldable pub home_of : Tag → ℕ → ℕ
-home_of tag size = hash_of tag * size / 2 ^ 32
+unfoldable pub home_slot : Tag → ℕ → ℕ
+home_slot tag size = tag_hash tag * size / 2 ^ 32
 
 -- the slot that the search for the tag looks at after this many steps
 abbrev pub probe : List (Option ℕ) → Tag → ℕ → Option ℕ
-probe slots tag step = slot_at slots ((home_of tag (length slots) + step) % length slots)
+probe slots tag step = slot_at slots ((home_slot tag (length slots) + step) % length slots)
 
 -- the search for the tag comes to this frame before it comes to an empty slot
-pub record Reaches (slots : List (Option ℕ)) (tag : Tag) (f : ℕ) : Type 0 where
+pub record ProbesFind (slots : List (Option ℕ)) (tag : Tag) (f : ℕ) : Type 0 where
   pub steps : ℕ
   pub within : steps < length slots
   pub there : probe slots tag steps ≡ Some f
   pub before : (k : ℕ) → k < steps → probe slots tag k ≡ None → ⊥
 
 -- each slot that was taken is as before
-pub record KeepsTaken (old new : List (Option ℕ)) : Type 0 where
+pub record KeepsFullSlots (old new : List (Option ℕ)) : Type 0 where
   pub size : length new ≡ length old
   pub taken : (k : ℕ) (f : ℕ) → slot_at old k ≡ Some f → slot_at new k ≡ Some f
 
 -- the search for the tag of each entry comes to its frame
 abbrev pub IsIndexed : List (Option ℕ) → List Descriptor → Type 0
-IsIndexed slots frames = (f : ℕ) (tag : Tag) → tag_at frames f ≡ Some tag → Reaches slots tag f
+IsIndexed slots frames = (f : ℕ) (tag : Tag) → tag_at frames f ≡ Some tag → ProbesFind slots tag f
 
 -- how many slots are empty
 abbrev pub empty_slots : List (Option ℕ) → ℕ

@@ -7,7 +7,8 @@ ghost use Rattle.aio_word.specs.declared.WaitRef.{WaitRef};
 ghost use Rattle.buf_pool.specs.declared.descriptor.Tag.{Tag};
 ghost use Rattle.buf_pool.specs.declared.descriptor.Descriptor.{Descriptor};
 ghost use Rattle.buf_pool.specs.declared.descriptor.Descriptor.TheVariants.{Free, InProgress};
-ghost use Rattle.buf_pool.specs.Frames.{descriptor_at, tag_of, tag_at, pins_at, repinned, is_free};
+ghost use Rattle.buf_pool.specs.Frames.{descriptor_at, tag_of, tag_at, pins_at, frames_with_pins};
+ghost use Rattle.buf_pool.specs.Frames.{is_free};
 ghost use Rattle.buf_pool.specs.Frames.{IsAbsent, IsFrameOf};
 ghost use Rattle.buf_pool.specs.Lawful.{PoolLawful};
 
@@ -74,8 +75,9 @@ impl<W: World> Model for PoolIndex<W> {
 }
 
 impl<W: World> PoolIndex<W> {
-    ghost use Rattle.buf_pool.specs.Answers.{IsNotInProgress, IsLook, IsFull, IsTakeable, HasBegun};
-    ghost use Rattle.buf_pool.specs.Answers.{ended, HasPinned, HasNoPin};
+    ghost use Rattle.buf_pool.specs.Answers.{IsNotInProgress, LookAnswers, IsFull, IsVictim};
+    ghost use Rattle.buf_pool.specs.Answers.{BeginAnswers};
+    ghost use Rattle.buf_pool.specs.Answers.{entry_after_io, PinAnswers, HasNoPin};
 
     /// An index of so many frames, 16 to 16384, all of them free. All memory of the index is taken
     /// here.
@@ -111,7 +113,7 @@ impl<W: World> PoolIndex<W> {
 
     /// What the entry of the tag says.
     pub fn look(&self, tag: Tag) -> Look
-        ensures answer { IsLook self.now tag result }
+        ensures answer { LookAnswers self.now tag result }
         ensures lawful { PoolLawful W.handles self.now }
     {
         let Some(frame) = self.find(tag) else {
@@ -167,7 +169,7 @@ impl<W: World> PoolIndex<W> {
     fn choose(&mut self) -> Option<u32>
         ensures frames { self.new ≡ self.old }
         ensures lawful { PoolLawful W.handles self.new }
-        ensures found { MatchOption result (IsFull self.old) (λ f. IsTakeable self.old f) }
+        ensures found { MatchOption result (IsFull self.old) (λ f. IsVictim self.old f) }
     {
         if self.free.count == 0 {
             self.clock.victim(&self.frames)
@@ -180,7 +182,7 @@ impl<W: World> PoolIndex<W> {
     pub fn pin(&mut self, frame: u32)
         requires { IsSomeAnd (pins_at self.old frame) (λ pins. pins < 2 ^ 32 - 1) }
         ensures frames { IfSome (pins_at self.old frame)
-            (λ pins. self.new ≡ repinned self.old frame (pins + 1)) }
+            (λ pins. self.new ≡ frames_with_pins self.old frame (pins + 1)) }
         ensures lawful { PoolLawful W.handles self.new }
     {
         if let Some(Descriptor::Valid(tag, pins)) = self.frames.get(frame as usize).copied() {
@@ -193,7 +195,7 @@ impl<W: World> PoolIndex<W> {
     pub fn unpin(&mut self, frame: u32)
         requires { IsSomeAnd (pins_at self.old frame) (λ pins. 0 < pins) }
         ensures frames { IfSome (pins_at self.old frame)
-            (λ pins. self.new ≡ repinned self.old frame (pins - 1)) }
+            (λ pins. self.new ≡ frames_with_pins self.old frame (pins - 1)) }
         ensures lawful { PoolLawful W.handles self.new }
     {
         if let Some(Descriptor::Valid(tag, pins)) = self.frames.get(frame as usize).copied() {
@@ -204,7 +206,7 @@ impl<W: World> PoolIndex<W> {
     /// What the entry of the tag says, with one pin more where it is a page. Absent also where the
     /// page has as many pins as can be counted.
     pub(crate) fn look_and_pin(&mut self, tag: Tag) -> Look
-        ensures answer { HasPinned self.old self.new tag result }
+        ensures answer { PinAnswers self.old self.new tag result }
         ensures lawful { PoolLawful W.handles self.new }
     {
         let look = self.look(tag);
@@ -220,7 +222,7 @@ impl<W: World> PoolIndex<W> {
     /// One pin less on the page in the frame, where there is one with a pin.
     pub(crate) fn unpin_one(&mut self, frame: u32)
         ensures one { (pins : ℕ) → pins_at self.old frame ≡ Some (pins + 1)
-            → self.new ≡ repinned self.old frame pins }
+            → self.new ≡ frames_with_pins self.old frame pins }
         ensures none { HasNoPin (pins_at self.old frame) → self.new ≡ self.old }
     {
         match self.pins(frame) {
@@ -233,7 +235,7 @@ impl<W: World> PoolIndex<W> {
     /// entry: then that stands. A free frame is taken, else one whose page has no pin.
     pub fn begin(&mut self, tag: Tag, reference: WaitRef) -> Begun
         requires range { reference.handle < W.handles }
-        ensures answer { HasBegun self.old self.new tag reference result }
+        ensures answer { BeginAnswers self.old self.new tag reference result }
         ensures lawful { PoolLawful W.handles self.new }
     {
         match self.look(tag) {
@@ -269,7 +271,7 @@ impl<W: World> PoolIndex<W> {
         ensures answer { MatchOption result
             (IsNotInProgress self.old tag reference × (self.new ≡ self.old))
             (λ f. (descriptor_at self.old f ≡ InProgress tag reference)
-            × (self.new ≡ slice_set self.old f (ended tag kept))) }
+            × (self.new ≡ slice_set self.old f (entry_after_io tag kept))) }
         ensures lawful { PoolLawful W.handles self.new }
     {
         let frame = self.frame(tag, reference)?;

@@ -3,7 +3,7 @@ ghost use Rattle.std.specs.Prelude.{◌≡◌, ◌≢◌, ℕ, ◌+◌, ◌*◌,
 ghost use Rattle.std.specs.Prelude.{◌↔◌};
 ghost use Rattle.buf_pool.specs.declared.descriptor.Tag.{Tag};
 ghost use Rattle.buf_pool.specs.Frames.{tag_at, IsFrameOf};
-ghost use Rattle.buf_pool.specs.Probes.{hash_of, home_of, Reaches, KeepsTaken, IsIndexed};
+ghost use Rattle.buf_pool.specs.Probes.{tag_hash, home_slot, ProbesFind, KeepsFullSlots, IsIndexed};
 ghost use Rattle.buf_pool.specs.Probes.{empty_slots};
 ghost use Rattle.buf_pool.specs.Sound.{IsTable};
 
@@ -12,7 +12,7 @@ use crate::descriptor::{Descriptor, Tag};
 // The hash of the tag. The high bits of the product depend on each bit of the tag, so that blocks
 // at equal distances, as every 64th, do not come to one slot.
 fn hash(tag: Tag) -> u64
-    ensures hash { result ≡ hash_of tag }
+    ensures hash { result ≡ tag_hash tag }
     ensures range { result < 2 ^ 32 }
 {
     let key = u64::from(tag.relation) * (1 << 32) + u64::from(tag.block);
@@ -22,7 +22,7 @@ fn hash(tag: Tag) -> u64
 // The slot at which the search for the tag begins.
 fn home(tag: Tag, size: usize) -> usize
     requires { (0 < size) × (size ≤ 65536) }
-    ensures home { result ≡ home_of tag size }
+    ensures home { result ≡ home_slot tag size }
     ensures range { result < size }
 {
     (hash(tag) * size as u64 / (1 << 32)) as usize
@@ -64,8 +64,8 @@ pub(crate) fn find(slots: &[Option<u32>], frames: &[Descriptor], tag: Tag) -> Op
 fn insert(slots: &mut [Option<u32>], tag: Tag, frame: u32)
     requires size { length slots.old ≤ 65536 }
     requires room { 0 < empty_slots slots.old }
-    ensures kept { KeepsTaken slots.old slots.new }
-    ensures reached { Reaches slots.new tag frame }
+    ensures kept { KeepsFullSlots slots.old slots.new }
+    ensures reached { ProbesFind slots.new tag frame }
     ensures room { empty_slots slots.old ≤ empty_slots slots.new + 1 }
 {
     let size = slots.len();
@@ -113,7 +113,7 @@ impl TagTable {
         requires left { self.old.left ≤ empty_slots self.old.slots.items }
         requires entry { tag_at frames.now frame ≡ Some tag }
         requires others { (f : ℕ) (t : Tag) → f ≢ frame → tag_at frames.now f ≡ Some t
-            → Reaches self.old.slots.items t f }
+            → ProbesFind self.old.slots.items t f }
         ensures { IsTable self.new.slots.items self.new.left frames.now }
     {
         let size = self.slots.len();

@@ -4,19 +4,19 @@ use Rattle.std.proofs.Common.{subst, arith}
 use Rattle.aio_word.specs.declared.WaitRef.{WaitRef}
 use Rattle.aio_word.specs.declared.Word.{Word}
 use Rattle.aio_word.specs.declared.Known.{Known}
-use Rattle.aio_handle.specs.Made.{Looked}
-use Rattle.aio_handle.specs.Ruled.{newcomer}
-use Rattle.aio_handle.specs.Shown.{Named, Standing}
+use Rattle.aio_handle.specs.CallEvents.{WordLoaded}
+use Rattle.aio_handle.specs.TableInvariant.{initial_known}
+use Rattle.aio_handle.specs.ContractViews.{TableView, ActorView}
 use Rattle.example_handle.specs.Offered.{IsIdle, IsOffered}
 
 -- an actor of a new table has no token out
-pub idle-new : (t : Named) (n : ℕ) (x : Standing)
-    → x ≡ record { table = t.table; known = newcomer t.config n } → IsIdle t x
-idle-new t n x e = subst (λ (z : Standing). IsIdle t z) (sym e)
+pub idle-new : (t : TableView) (n : ℕ) (x : ActorView)
+    → x ≡ record { table = t.table; known = initial_known t.config n } → IsIdle t x
+idle-new t n x e = subst (λ (z : ActorView). IsIdle t z) (sym e)
     ((refl, refl), (refl, λ r. omega arith))
 
 -- a look leaves an I/O offered
-pub still-offered : (t : WaitRef) (n h : ℕ) (w : Word) (p q : Known) → Looked h w p q
+pub still-offered : (t : WaitRef) (n h : ℕ) (w : Word) (p q : Known) → WordLoaded h w p q
     → IsOffered t n p → IsOffered t n q
 still-offered t n h w p q l o = subst (λ (x : Known). IsOffered t n x) (sym l.is) record {
   flight = record { since = o.flight.since; until = o.flight.until };

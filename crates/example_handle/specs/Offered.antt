@@ -4,16 +4,16 @@ use Rattle.aio_word.specs.declared.WaitRef.{WaitRef}
 use Rattle.aio_word.specs.declared.Known.{Known}
 use Rattle.aio_word.specs.Stands.{IsIn}
 use Rattle.aio_word.specs.Tokens.{IsInFlight}
-use Rattle.aio_handle.specs.Shown.{Named, Standing, IsOf}
-use Rattle.aio_handle.specs.Closing.{IsAtRest}
+use Rattle.aio_handle.specs.ContractViews.{TableView, ActorView, IsActorOf}
+use Rattle.aio_handle.specs.Closing.{HasNoTokens}
 use Rattle.aio_fixtures.specs.Lives.{HasUnreclaimed}
 
 -- an actor of the table that has no token out
-abbrev pub IsIdle : Named → Standing → Type 0
-IsIdle table actor = IsOf table actor × IsAtRest actor.known
+abbrev pub IsIdle : TableView → ActorView → Type 0
+IsIdle table actor = IsActorOf table actor × HasNoTokens actor.known
 
 -- the table has these two actors and no other: a backend, which is number 0, and a runner
-pub record ArePair (table : Named) (backend runner : Standing) : Type 0 where
+pub record ArePair (table : TableView) (backend runner : ActorView) : Type 0 where
   pub idle : IsIdle table backend × IsIdle table runner
   pub numbers : (table.config.backends ≡ 1) × (table.config.runners ≡ 1)
   pub first : backend.known.number ≡ 0

@@ -3,7 +3,7 @@
 #![tactic(auto)]
 
 ghost use Rattle.std.specs.Prelude.{◌≡◌, ◌<◌, IfOk, IfSome};
-ghost use Rattle.aio_handle.specs.Shown.{IsOf};
+ghost use Rattle.aio_handle.specs.ContractViews.{IsActorOf};
 ghost use Rattle.example_handle.specs.Offered.{IsOffered, IsIdle};
 
 mod backend;
@@ -45,7 +45,7 @@ fn live<W: World + Send + Sync, T: Threads + Wait + Sync>(
             ensures { IsIdle shared.entry.now result }
         { execute(shared, runner, reference) },
         || -> (Actor<Note, W>, u64)
-            requires { IsOf shared.now backend × IsOffered token 21 backend.known }
+            requires { IsActorOf shared.now backend × IsOffered token 21 backend.known }
             ensures { IsIdle shared.entry.now result.0 × (result.1 ≡ 42) }
         { take_in(rt, shared, backend, token) },
     );

@@ -1,6 +1,6 @@
 //! What lies in the slot of the handle.
 ghost use Rattle.std.specs.Prelude.{◌≡◌};
-ghost use Rattle.aio_handle.specs.Labels.{bound};
+ghost use Rattle.aio_handle.specs.Labels.{bound_label};
 
 use aio_handle::{Label, Record};
 use aio_word::Class;
@@ -16,7 +16,7 @@ pub struct Note {
 impl Note {
     /// A note about this number, for no handle yet.
     pub fn about(number: u32) -> Note
-        ensures { (result.label ≡ bound 0 0) × (result.number ≡ number) }
+        ensures { (result.label ≡ bound_label 0 0) × (result.number ≡ number) }
     {
         Note {
             label: Label {

@@ -1,7 +1,7 @@
 //! What the stream answers.
 ghost use Rattle.std.specs.Prelude.{◌≡◌};
-ghost use Rattle.aio_handle.specs.Shown.{IsOf};
-ghost use Rattle.read_stream.specs.Open.{IsOpen};
+ghost use Rattle.aio_handle.specs.ContractViews.{IsActorOf};
+ghost use Rattle.read_stream.specs.StreamState.{IsOpen};
 
 use aio_callback::ReadIo;
 use aio_handle::{Actor, Execute, Table};
@@ -33,11 +33,11 @@ pub fn take_all<W: World, E: Execute<ReadIo, W>, R: Wait + Print>(
     runner: &mut E,
     stream: &mut ReadStream<'_, '_, W, Range, ()>,
 ) -> io::Result<()>
-    requires table { IsOf table.now actor.old }
+    requires table { IsActorOf table.now actor.old }
     requires told { (E.told runner.old ≡ W.told) × (E.relations runner.old ≡ W.relations) }
     requires actor { actor.old ≡ stream.old.actor_is.value }
     requires is_open { IsOpen (λ r. r) W.told W.relations W.handles stream.old }
-    ensures table { IsOf table.now actor.new }
+    ensures table { IsActorOf table.now actor.new }
     ensures told { (E.told runner.new ≡ W.told) × (E.relations runner.new ≡ W.relations) }
     ensures actor { actor.new ≡ stream.new.actor_is.value }
     ensures is_open { IsOpen (λ r. r) W.told W.relations W.handles stream.new }

@@ -1,7 +1,7 @@
 //! An I/O of a backend's second handle.
 ghost use Rattle.std.specs.Prelude.{◌<◌, IfSome};
 ghost use Rattle.aio_word.specs.Tokens.{IsInFlight};
-ghost use Rattle.aio_handle.specs.Shown.{IsOf, IsSame};
+ghost use Rattle.aio_handle.specs.ContractViews.{IsActorOf, IsSameActor};
 
 use aio_fixtures::{EmptyIo, submit_io};
 use aio_handle::{Actor, InFlight, Table};
@@ -12,9 +12,9 @@ pub(crate) fn submit_second<W: World>(
     table: &Table<EmptyIo, W>,
     actor: &mut Actor<EmptyIo, W>,
 ) -> Option<InFlight<W>>
-    requires table { IsOf table.now actor.old }
+    requires table { IsActorOf table.now actor.old }
     requires backend { actor.old.known.number < table.now.config.backends }
-    ensures same { IsSame actor.old actor.new }
+    ensures same { IsSameActor actor.old actor.new }
     ensures token { IfSome result (λ t. IsInFlight actor.new.known t) }
 {
     submit_io(table, actor, EmptyIo::new())?;

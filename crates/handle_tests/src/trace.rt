@@ -1,7 +1,7 @@
 //! A run that goes wrong at its third event, and lines of totals, one of a table that was used.
 ghost use Rattle.std.specs.Prelude.{◌≡◌, ◌<◌, IsTrue};
-ghost use Rattle.aio_handle.specs.Closing.{IsAtRest};
-ghost use Rattle.aio_handle.specs.Shown.{IsOf, IsSame};
+ghost use Rattle.aio_handle.specs.Closing.{HasNoTokens};
+ghost use Rattle.aio_handle.specs.ContractViews.{IsActorOf, IsSameActor};
 
 use aio_core::StepRefusal;
 use aio_fixtures::{
@@ -76,13 +76,13 @@ fn life<W: World>(
     owner: &mut Actor<EmptyIo, W>,
     other: &mut Actor<EmptyIo, W>,
 ) -> bool
-    requires table { IsOf table.now owner.old × IsOf table.now other.old }
+    requires table { IsActorOf table.now owner.old × IsActorOf table.now other.old }
     requires backend { owner.old.known.number < table.now.config.backends }
-    requires owner { IsAtRest owner.old.known }
-    requires other { IsAtRest other.old.known }
-    ensures same { IsSame owner.old owner.new × IsSame other.old other.new }
-    ensures owner { IsTrue result → IsAtRest owner.new.known }
-    ensures other { IsAtRest other.new.known }
+    requires owner { HasNoTokens owner.old.known }
+    requires other { HasNoTokens other.old.known }
+    ensures same { IsSameActor owner.old owner.new × IsSameActor other.old other.new }
+    ensures owner { IsTrue result → HasNoTokens owner.new.known }
+    ensures other { HasNoTokens other.new.known }
 {
     let Some(token) = submit_io(table, owner, EmptyIo::new()) else {
         return false;

@@ -8,10 +8,10 @@ use Rattle.page_check.specs.declared.verdict.Verdict.{Verdict}
 use Rattle.page_check.specs.declared.verdict.Verdict.TheVariants.{Zero, Sane, Bad}
 use Rattle.page_check.specs.Fields.{header_of}
 use Rattle.page_check.specs.Verdict.{verdict_of, IsValid}
-use Rattle.page_check.specs.LinePointers.{count_of}
+use Rattle.page_check.specs.LinePointers.{line_pointer_count}
 use Rattle.page_check.proofs.ValidPages.{is_all_zero-verdict, is_sane-verdict, header_of-zero}
 use Rattle.page_check.proofs.ValidPages.{sane_bounds}
-use Rattle.heap_scan.specs.PageText.{first_line, new_line, page_line, PrintsSame, IsTelling}
+use Rattle.heap_scan.specs.PageText.{first_line, new_line, page_line, PrintsSame, FirstLineTells}
 use Rattle.heap_scan.proofs.Texts.{first_line-new, first_line-used}
 
 -- each byte is above 47, as digits are and a blank is not
@@ -153,18 +153,21 @@ telling_by Zero Zero relation block page r b other is other_is r0 b0 r1 b1 valid
 telling_by Zero Sane relation block page r b other is other_is r0 b0 r1 b1 valid other_valid same =
     let lines = sym (first_line-new relation block page is) ∙ sym same
     ∙ first_line-used r b other other_is in
-    absurd (new_and_used relation block r b (header_of other) (count_of other) r0 b0 r1 b1 lines)
+    absurd (new_and_used relation block r b (header_of other) (line_pointer_count other) r0 b0 r1 b1
+    lines)
 telling_by Sane Zero relation block page r b other is other_is r0 b0 r1 b1 valid other_valid same =
     let lines = sym (first_line-new r b other other_is) ∙ same
     ∙ first_line-used relation block page is in
-    absurd (new_and_used r b relation block (header_of page) (count_of page) r1 b1 r0 b0 lines)
+    absurd (new_and_used r b relation block (header_of page) (line_pointer_count page) r1 b1 r0 b0
+    lines)
 telling_by Sane Sane relation block page r b other is other_is r0 b0 r1 b1 valid other_valid same =
     let lines = sym (first_line-used r b other other_is) ∙ same
     ∙ first_line-used relation block page is in
     let bounds = sane_bounds (header_of page) (is_sane-verdict page is) in
     let other_bounds = sane_bounds (header_of other) (is_sane-verdict other other_is) in
-    let place = used_lines r b relation block (header_of other) (header_of page) (count_of other)
-    (count_of page) r1 b1 r0 b0 other_bounds bounds lines in (
+    let place = used_lines r b relation block (header_of other) (header_of page)
+    (line_pointer_count other)
+    (line_pointer_count page) r1 b1 r0 b0 other_bounds bounds lines in (
       place.0,
       place.1,
       record {
@@ -177,7 +180,7 @@ telling_by Sane Sane relation block page r b other is other_is r0 b0 r1 b1 valid
 
 -- the first line of a valid page tells its place and its header
 pub telling_of_valid : (relation block : ℕ) (page : List ℕ) → relation < 2 ^ 32 → block < 2 ^ 32
-    → IsValid page → IsTelling relation block page
+    → IsValid page → FirstLineTells relation block page
 telling_of_valid relation block page r0 b0 valid =
     λ r b other r1 b1 other_valid same. telling_by (verdict_of page)
     (verdict_of other) relation block page r b other refl refl r0 b0 r1 b1 valid other_valid same

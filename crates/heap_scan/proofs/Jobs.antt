@@ -8,9 +8,9 @@ use Rattle.page_check.proofs.AnswersOfLists.{answered_append, answered_more}
 use Rattle.heap_scan.specs.Listing.{TextOf, listing, text_for}
 use Rattle.heap_scan.specs.Warnings.{warning_for, warnings_of}
 use Rattle.heap_scan.specs.Job.{endings_of, IsJobAnswer}
-use Rattle.heap_scan.specs.Sums.{joined}
+use Rattle.heap_scan.specs.Sums.{sums_joined}
 use Rattle.heap_scan.specs.declared.sums.PageSums.{PageSums}
-use Rattle.heap_scan.proofs.Summing.{sums_of-append}
+use Rattle.heap_scan.proofs.SumsOverPages.{sums_of-append}
 
 -- the end of a job that did not reach the end of its blocks
 abbrev pub IsEarly : Option Ending → Type 0
@@ -34,7 +34,7 @@ module _ {P : Type 0} where
       → IsJobAnswer text_of found may xs front early some (Some End)
       → IsJobAnswer text_of found may ys back late more end
       → IsJobAnswer text_of found may (xs ++ ys) (front ++ back) (early ++ late)
-      (joined some more) end
+      (sums_joined some more) end
   job_append text_of found may xs ys front back early late some more end first second = record {
     pages = first.pages ++ second.pages;
     text_is = (let one = first.text_is in let two = second.text_is in

@@ -3,7 +3,7 @@ pub mod Texts
 pub mod LineCounts
 pub mod FirstLines
 pub mod Jobs
-pub mod Summing
+pub mod SumsOverPages
 pub mod SmallNumbers
 pub mod NumbersByPairs
 pub mod FixedPieces

@@ -16,9 +16,9 @@ use Rattle.page_check.specs.declared.verdict.Verdict.{Verdict}
 use Rattle.page_check.specs.declared.verdict.Verdict.TheVariants.{Zero, Sane, Bad}
 use Rattle.page_check.specs.Fields.{header_of}
 use Rattle.page_check.specs.Verdict.{verdict_of, IsValid}
-use Rattle.page_check.proofs.ValidPages.{count_of-zero, is_all_zero-verdict}
-use Rattle.page_check.specs.LinePointers.{count_of, line_pointers_of, line_pointer_of}
-use Rattle.heap_scan.specs.PageText.{word_of, item_line, item_lines, new_line, page_line}
+use Rattle.page_check.proofs.ValidPages.{line_pointer_count-zero, is_all_zero-verdict}
+use Rattle.page_check.specs.LinePointers.{line_pointer_count, line_pointers_of, line_pointer_of}
+use Rattle.heap_scan.specs.PageText.{kind_word, item_line, item_lines, new_line, page_line}
 use Rattle.heap_scan.specs.PageText.{line_count, page_text_of}
 use Rattle.heap_scan.proofs.Texts.{page_text_of-new, page_text_of-used}
 
@@ -65,7 +65,7 @@ unfolding digits
 line_count-decimal n = digits_add_none 64 n []
 
 -- what this says of a kind's word, an item's line and the two first lines
-line_count-word : (kind : Kind) → line_count (word_of kind) ≡ 0
+line_count-word : (kind : Kind) → line_count (kind_word kind) ≡ 0
 line_count-word Unused = refl
 line_count-word Normal = refl
 line_count-word Redirect = refl
@@ -74,7 +74,7 @@ line_count-word Dead = refl
 pub line_count-item_line : (item : ℕ × LinePointer) → line_count (item_line item) ≡ 1
 line_count-item_line item =
     let pieces : List (List ℕ) =
-    codes "item " ∷ decimal item.0 ∷ codes " " ∷ word_of item.1.kind ∷ codes " "
+    codes "item " ∷ decimal item.0 ∷ codes " " ∷ kind_word item.1.kind ∷ codes " "
     ∷ decimal item.1.offset ∷ codes " " ∷ decimal item.1.length ∷ codes "\n" ∷ [] in
     omega (
       arith,
@@ -126,10 +126,11 @@ pub line_count-item_lines : (pointers : List LinePointer)
 unfolding item_lines
 line_count-item_lines pointers = items_from 1 pointers
 
-length-line_pointers_of : (page : List ℕ) → length (line_pointers_of page) ≡ count_of page
+length-line_pointers_of : (page : List ℕ) → length (line_pointers_of page) ≡ line_pointer_count page
 unfolding line_pointers_of
-length-line_pointers_of page = length-map (range_with_len 0 (count_of page)) (line_pointer_of page)
-    ∙ length-range_with_len 0 (count_of page)
+length-line_pointers_of page = length-map (range_with_len 0 (line_pointer_count page))
+    (line_pointer_of page)
+    ∙ length-range_with_len 0 (line_pointer_count page)
 
 -- a new page has one line
 pub new_is_one_line : (relation block : ℕ) (page : List ℕ) → verdict_of page ≡ Zero
@@ -138,32 +139,32 @@ new_is_one_line relation block page new =
     ap line_count (page_text_of-new relation block page new) ∙ line_count-new_line relation block
 
 used_lines : (relation block : ℕ) (page : List ℕ) → verdict_of page ≡ Sane
-    → line_count (page_text_of relation block page) ≡ 1 + count_of page
+    → line_count (page_text_of relation block page) ≡ 1 + line_pointer_count page
 used_lines relation block page used =
-    let first = page_line relation block (header_of page) (count_of page) in
+    let first = page_line relation block (header_of page) (line_pointer_count page) in
     let items = item_lines (line_pointers_of page) in
     ap line_count (page_text_of-used relation block page used)
     ∙ omega (
       arith,
       line_count-append first items,
-      line_count-page_line relation block (header_of page) (count_of page),
+      line_count-page_line relation block (header_of page) (line_pointer_count page),
       line_count-item_lines (line_pointers_of page),
       length-line_pointers_of page,
     )
 
 lines_by : (verdict : Verdict) (relation block : ℕ) (page : List ℕ) → verdict_of page ≡ verdict
     → IsValid page
-    → line_count (page_text_of relation block page) ≡ 1 + count_of page
+    → line_count (page_text_of relation block page) ≡ 1 + line_pointer_count page
 lines_by Zero relation block page is valid =
     omega (
       arith,
       new_is_one_line relation block page is,
-      count_of-zero page (is_all_zero-verdict page is),
+      line_pointer_count-zero page (is_all_zero-verdict page is),
     )
 lines_by Sane relation block page is valid = used_lines relation block page is
 lines_by Bad relation block page is valid = absurd (valid is)
 
 -- any valid page has one line, and one more for each line pointer
 pub lines_of_valid : (relation block : ℕ) (page : List ℕ) → IsValid page
-    → line_count (page_text_of relation block page) ≡ 1 + count_of page
+    → line_count (page_text_of relation block page) ≡ 1 + line_pointer_count page
 lines_of_valid relation block page valid = lines_by (verdict_of page) relation block page refl valid

@@ -1,12 +1,12 @@
 -- A page's text up to one of its line pointers.
 use Rattle.std.proofs.Common.{◌≡◌, ℕ, ◌+◌, ◌-◌, ◌≤◌, List, [], ◌++◌, refl, ap, ◌∙◌, sym, arith}
 use Rattle.std.proofs.Common.{append-nil, append_assoc}
-use Rattle.page_check.proofs.ValidPages.{count_of-zero, is_all_zero-verdict}
+use Rattle.page_check.proofs.ValidPages.{line_pointer_count-zero, is_all_zero-verdict}
 use Rattle.page_check.specs.declared.fields.LinePointer.{LinePointer}
 use Rattle.page_check.specs.declared.verdict.Verdict.{Verdict}
 use Rattle.page_check.specs.declared.verdict.Verdict.TheVariants.{Zero, Sane, Bad}
 use Rattle.page_check.specs.Fields.{header_of}
-use Rattle.page_check.specs.LinePointers.{count_of, line_pointer_of, line_pointers_of}
+use Rattle.page_check.specs.LinePointers.{line_pointer_count, line_pointer_of, line_pointers_of}
 use Rattle.page_check.specs.Verdict.{IsValid, verdict_of}
 use Rattle.heap_scan.specs.PageText.{text_up_to, first_line, lines_from, new_line}
 use Rattle.heap_scan.specs.PageText.{page_line, page_text_of}
@@ -19,18 +19,19 @@ unfolding lines_from
 no_lines f n none = ap (λ (many : ℕ). lines_from f 0 many) none
 
 pub text_up_to-new : (relation block items : ℕ) (page : List ℕ) → verdict_of page ≡ Zero
-    → items ≤ count_of page
+    → items ≤ line_pointer_count page
     → text_up_to relation block page items ≡ new_line relation block
 unfolding text_up_to
 text_up_to-new relation block items page new few =
-    let zero : items ≡ 0 = omega (arith, count_of-zero page (is_all_zero-verdict page new)) in
+    let zero : items ≡ 0 = omega
+    (arith, line_pointer_count-zero page (is_all_zero-verdict page new)) in
     let none = no_lines (line_pointer_of page) items zero in
     ap (λ (lines : List ℕ). first_line relation block page ++ lines) none
     ∙ append-nil (first_line relation block page) ∙ first_line-new relation block page new
 
 pub text_up_to-used : (relation block items : ℕ) (page : List ℕ) → verdict_of page ≡ Sane
     → text_up_to relation block page items
-    ≡ page_line relation block (header_of page) (count_of page)
+    ≡ page_line relation block (header_of page) (line_pointer_count page)
     ++ lines_from (line_pointer_of page) 0 items
 unfolding text_up_to
 text_up_to-used relation block items page used =
@@ -52,16 +53,16 @@ text_up_to-more relation block some more page =
 
 whole_by : (verdict : Verdict) (relation block : ℕ) (page : List ℕ) → verdict_of page ≡ verdict
     → IsValid page
-    → text_up_to relation block page (count_of page) ≡ page_text_of relation block page
+    → text_up_to relation block page (line_pointer_count page) ≡ page_text_of relation block page
 unfolding line_pointers_of
 whole_by Zero relation block page is valid =
-    text_up_to-new relation block (count_of page) page is (omega arith)
+    text_up_to-new relation block (line_pointer_count page) page is (omega arith)
     ∙ sym (page_text_of-new relation block page is)
 whole_by Sane relation block page is valid =
-    let first = page_line relation block (header_of page) (count_of page) in
-    let all = lines_from-all (line_pointer_of page) (count_of page) in
-    let same : count_of page ≡ count_of page - 0 = omega arith in
-    text_up_to-used relation block (count_of page) page is
+    let first = page_line relation block (header_of page) (line_pointer_count page) in
+    let all = lines_from-all (line_pointer_of page) (line_pointer_count page) in
+    let same : line_pointer_count page ≡ line_pointer_count page - 0 = omega arith in
+    text_up_to-used relation block (line_pointer_count page) page is
     ∙ ap (λ (n : ℕ). first ++ lines_from (line_pointer_of page) 0 n) same
     ∙ ap (λ (lines : List ℕ). first ++ lines) all
     ∙ sym (page_text_of-used relation block page is)
@@ -69,7 +70,7 @@ whole_by Bad relation block page is valid = absurd (valid is)
 
 -- with all of them it is the whole text
 pub text_up_to-all : (relation block items : ℕ) (page : List ℕ) → IsValid page
-    → items ≡ count_of page
+    → items ≡ line_pointer_count page
     → text_up_to relation block page items ≡ page_text_of relation block page
 text_up_to-all relation block items page valid all =
     ap (λ (n : ℕ). text_up_to relation block page n) all

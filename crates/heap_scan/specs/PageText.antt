@@ -10,19 +10,19 @@ use Rattle.page_check.specs.declared.fields.LinePointer.{LinePointer}
 use Rattle.page_check.specs.declared.fields.PageHeader.{PageHeader}
 use Rattle.page_check.specs.Fields.{header_of}
 use Rattle.page_check.specs.Verdict.{verdict_of, IsValid}
-use Rattle.page_check.specs.LinePointers.{count_of, line_pointer_of, line_pointers_of}
+use Rattle.page_check.specs.LinePointers.{line_pointer_count, line_pointer_of, line_pointers_of}
 
 -- the word for a kind of line pointer
-abbrev pub word_of : Kind → List ℕ
-word_of Unused = codes "unused"
-word_of Normal = codes "normal"
-word_of Redirect = codes "redirect"
-word_of Dead = codes "dead"
+abbrev pub kind_word : Kind → List ℕ
+kind_word Unused = codes "unused"
+kind_word Normal = codes "normal"
+kind_word Redirect = codes "redirect"
+kind_word Dead = codes "dead"
 
 -- `item I WORD OFFSET LENGTH`, for a line pointer with its number
 abbrev pub item_line : ℕ × LinePointer → List ℕ
 item_line item =
-    concat (codes "item " ∷ decimal item.0 ∷ codes " " ∷ word_of item.1.kind
+    concat (codes "item " ∷ decimal item.0 ∷ codes " " ∷ kind_word item.1.kind
     ∷ codes " " ∷ decimal item.1.offset ∷ codes " " ∷ decimal item.1.length ∷ codes "\n" ∷ [])
 
 -- the lines of line pointers, which are numbered from 1 as in `ItemPointerData`
@@ -51,7 +51,8 @@ page_line relation block header items =
 -- the first line: by the verdict, that the page is new, or its header
 abbrev pub first_line_by : Verdict → ℕ → ℕ → List ℕ → List ℕ
 first_line_by Zero relation block page = new_line relation block
-first_line_by Sane relation block page = page_line relation block (header_of page) (count_of page)
+first_line_by Sane relation block page = page_line relation block (header_of page)
+    (line_pointer_count page)
 first_line_by Bad relation block page = []
 
 unfoldable pub first_line : ℕ → ℕ → List ℕ → List ℕ
@@ -86,8 +87,8 @@ pub record PrintsSame (page other : List ℕ) : Type 0 where
 
 -- the first line tells the place and the header: no other place and no valid page with another
 -- header has it
-abbrev pub IsTelling : ℕ → ℕ → List ℕ → Type 0
-IsTelling relation block page =
+abbrev pub FirstLineTells : ℕ → ℕ → List ℕ → Type 0
+FirstLineTells relation block page =
     (r b : ℕ) (other : List ℕ) → r < 2 ^ 32 → b < 2 ^ 32 → IsValid other
     → first_line r b other ≡ first_line relation block page
     → (r ≡ relation) × (b ≡ block) × PrintsSame page other

@@ -4,35 +4,35 @@ use Rattle.std.specs.Prelude.{ℕ, ◌+◌, ◌<◌, ◌^◌, List, length, sum_
 use Rattle.page_check.specs.declared.verdict.Verdict.{Verdict}
 use Rattle.page_check.specs.declared.verdict.Verdict.TheVariants.{Zero, Sane, Bad}
 use Rattle.page_check.specs.Verdict.{verdict_of}
-use Rattle.page_check.specs.LinePointers.{count_of}
+use Rattle.page_check.specs.LinePointers.{line_pointer_count}
 use Rattle.page_check.specs.SynchronousAnswer.{Given}
 use Rattle.heap_scan.specs.declared.sums.PageSums.{PageSums}
 
 -- 1 for a page of zeros
-abbrev pub zeros_by : Verdict → ℕ
-zeros_by Zero = 1
-zeros_by Sane = 0
-zeros_by Bad = 0
+abbrev pub zero_page_count : Verdict → ℕ
+zero_page_count Zero = 1
+zero_page_count Sane = 0
+zero_page_count Bad = 0
 
 -- over pages that were given
 unfoldable pub sums_of : {P : Type 0} → List (Given P) → PageSums
 sums_of given = record {
   pages = length given;
-  zero = sum_by (λ g. zeros_by (verdict_of g.page)) given;
-  items = sum_by (λ g. count_of g.page) given;
+  zero = sum_by (λ g. zero_page_count (verdict_of g.page)) given;
+  items = sum_by (λ g. line_pointer_count g.page) given;
 }
 
 -- with one page more
-abbrev pub tallied : PageSums → List ℕ → PageSums
-tallied sums page = record {
+abbrev pub sums_with_page : PageSums → List ℕ → PageSums
+sums_with_page sums page = record {
   pages = sums.pages + 1;
-  zero = sums.zero + zeros_by (verdict_of page);
-  items = sums.items + count_of page;
+  zero = sums.zero + zero_page_count (verdict_of page);
+  items = sums.items + line_pointer_count page;
 }
 
 -- of two lists together
-abbrev pub joined : PageSums → PageSums → PageSums
-joined front back = record {
+abbrev pub sums_joined : PageSums → PageSums → PageSums
+sums_joined front back = record {
   pages = front.pages + back.pages;
   zero = front.zero + back.zero;
   items = front.items + back.items;

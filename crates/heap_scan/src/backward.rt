@@ -4,7 +4,7 @@
 //! piece so that it ends at `end`, says where the piece starts, and leaves what stands behind it.
 ghost use Rattle.std.specs.Prelude.{◌≡◌, ◌++◌, ◌∷◌, ◌<◌, ◌≤◌, ◌+◌, ◌-◌, ◌/◌, ◌%◌, length};
 ghost use Rattle.std.specs.Prelude.{drop, decimal, codes};
-ghost use Rattle.heap_scan.specs.PageText.{word_of};
+ghost use Rattle.heap_scan.specs.PageText.{kind_word};
 
 use crate::numbers::DECIMALS;
 use itoa::write_digits;
@@ -200,7 +200,7 @@ static KIND_WORDS: [[u8; 16]; 4] = [
 #[inline]
 fn padded_word(kind: Kind) -> (u8x16, usize)
     ensures size { (length result.0 ≡ 16) × (result.1 ≤ 9) }
-    ensures word { drop (16 - result.1) result.0 ≡ word_of kind ++ codes " " }
+    ensures word { drop (16 - result.1) result.0 ≡ kind_word kind ++ codes " " }
 {
     let word = KIND_WORDS[kind as usize];
     (u8x16::from_array(word), usize::from(word[0]))
@@ -213,7 +213,7 @@ pub(crate) fn put_word(buf: &mut [u8], end: usize, kind: Kind) -> usize
     requires room { 16 ≤ end }
     requires within { end ≤ length buf.old }
     ensures start { (result ≤ end) × (end ≤ result + 9) }
-    ensures written { drop result buf.new ≡ word_of kind ++ (codes " " ++ drop end buf.old) }
+    ensures written { drop result buf.new ≡ kind_word kind ++ (codes " " ++ drop end buf.old) }
 {
     let (word, len) = padded_word(kind);
     word.copy_to_slice(&mut buf[end - 16..]);

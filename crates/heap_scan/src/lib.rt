@@ -4,8 +4,8 @@
 //! pointers and decimal numbers, and two laws of that text stand beside it. `listing` is the text
 //! of many pages, by this or another text of a page. `warning_text` appends the line that warns of
 //! a page given as zeros, `warnings_of` are those of many pages. `tally` adds a page to sums over
-//! pages, the definition `tallied`. What writes the pieces of a line is public, for texts that say
-//! more of a page.
+//! pages, the definition `sums_with_page`. What writes the pieces of a line is public, for texts
+//! that say more of a page.
 #![tactic(auto)]
 
 pub mod backward;

@@ -2,7 +2,7 @@
 ghost use Rattle.std.specs.Prelude.{◌≡◌, ◌++◌, ◌<◌, ◌≤◌, ◌+◌, ◌-◌, ◌*◌, length, drop, codes, decimal};
 ghost use Rattle.page_check.specs.Fields.{header_of};
 ghost use Rattle.page_check.specs.Verdict.{IsValid};
-ghost use Rattle.page_check.specs.LinePointers.{count_of, line_pointer_of};
+ghost use Rattle.page_check.specs.LinePointers.{line_pointer_count, line_pointer_of};
 ghost use Rattle.heap_scan.specs.PageText.{text_up_to, item_line, lines_from, page_line};
 ghost use Rattle.heap_scan.specs.PageText.{new_line};
 
@@ -116,7 +116,7 @@ fn put_item_at(buf: &mut [u8], end: usize, bytes: &[u8], index: u16) -> usize
 pub(crate) fn put_items(buf: &mut [u8], page: &Page, from: u16, to: u16) -> usize
     requires valid { IsValid page.now }
     requires order { from ≤ to }
-    requires there { to ≤ count_of page.now }
+    requires there { to ≤ line_pointer_count page.now }
     requires room { 96 + 32 * (to - from) ≤ length buf.old }
     ensures start { (96 ≤ result) × (result ≤ length buf.new) }
     ensures written { drop result buf.new
@@ -152,7 +152,8 @@ pub fn put_page_line(buf: &mut [u8], end: usize, relation: u32, block: u32, page
     requires within { end ≤ length buf.old }
     ensures start { result ≤ end }
     ensures written { drop result buf.new ≡
-        page_line relation block (header_of page.now) (count_of page.now) ++ drop end buf.old }
+        page_line relation block (header_of page.now) (line_pointer_count page.now)
+        ++ drop end buf.old }
 {
     let header = header(page);
     let at = put(buf, end, b"\n");
@@ -188,7 +189,7 @@ pub(crate) fn put_first_lines(
     items: u16,
 ) -> usize
     requires valid { IsValid page.now }
-    requires there { items ≤ count_of page.now }
+    requires there { items ≤ line_pointer_count page.now }
     requires room { 96 + 32 * items ≤ length buf.old }
     ensures start { result ≤ length buf.new }
     ensures written { drop result buf.new ≡ text_up_to relation block page.now items }

@@ -1,7 +1,7 @@
 //! Sums over pages.
 ghost use Rattle.std.specs.Prelude.{◌≡◌};
 ghost use Rattle.page_check.specs.Verdict.{IsValid, verdict_of};
-ghost use Rattle.heap_scan.specs.Sums.{FitSums, tallied, zeros_by};
+ghost use Rattle.heap_scan.specs.Sums.{FitSums, sums_with_page, zero_page_count};
 
 use page_check::{Page, count, header};
 
@@ -21,7 +21,7 @@ pub struct PageSums {
 // check is not made again.
 fn zeros_of(page: &Page) -> u64
     requires { IsValid page.now }
-    ensures { result ≡ zeros_by (verdict_of page.now) }
+    ensures { result ≡ zero_page_count (verdict_of page.now) }
 {
     if header(page).upper == 0 { 1 } else { 0 }
 }
@@ -29,8 +29,8 @@ fn zeros_of(page: &Page) -> u64
 /// Adds a valid page to the sums. It takes no memory.
 pub fn tally(page: &Page, sums: &mut PageSums)
     requires valid { IsValid page.now }
-    requires fit { FitSums (tallied sums.old page.now) }
-    ensures { sums.new ≡ tallied sums.old page.now }
+    requires fit { FitSums (sums_with_page sums.old page.now) }
+    ensures { sums.new ≡ sums_with_page sums.old page.now }
 {
     sums.pages += 1;
     sums.zero += zeros_of(page);

@@ -1,9 +1,9 @@
 //! The text of a page.
 ghost use Rattle.std.specs.Prelude.{◌≡◌, ◌++◌, ◌+◌, length, take, OnOk, OnErr};
 ghost use Rattle.page_check.specs.Verdict.{IsValid, verdict_of};
-ghost use Rattle.page_check.specs.LinePointers.{count_of};
+ghost use Rattle.page_check.specs.LinePointers.{line_pointer_count};
 ghost use Rattle.page_check.specs.declared.verdict.Verdict.TheVariants.{Zero};
-ghost use Rattle.heap_scan.specs.PageText.{page_text_of, line_count, IsTelling};
+ghost use Rattle.heap_scan.specs.PageText.{page_text_of, line_count, FirstLineTells};
 
 use crate::lines::{ITEM_ROOM, PAGE_ROOM, put_first_lines, put_items};
 use page_check::{Page, count};
@@ -63,8 +63,9 @@ pub fn page_text(
     // and the first line tells the place and the header.
     ensures new { verdict_of page.now ≡ Zero
         → line_count (page_text_of relation block page.now) ≡ 1 }
-    ensures lines { line_count (page_text_of relation block page.now) ≡ 1 + count_of page.now }
-    ensures telling { IsTelling relation block page.now }
+    ensures lines { line_count (page_text_of relation block page.now) ≡ 1
+        + line_pointer_count page.now }
+    ensures telling { FirstLineTells relation block page.now }
 {
     let before = out.len();
     match append(&mut [0; SCRATCH_SIZE], relation, block, page, out) {

@@ -13,25 +13,25 @@ use Rattle.std.proofs.lemmas.List.Sorted.{IsPermutation-append_comm, list_any-Is
 use Rattle.std.proofs.lemmas.List.Sorted.{length_permutation}
 use Rattle.std.proofs.lemmas.Map.Keys.{IsDistinct-head, IsDistinct-tail, IsDistinct-cons}
 use Rattle.std.proofs.lemmas.Map.Keys.{IsDistinct-IsPermutation}
-use Rattle.heap_tuple.specs.Chains.{has}
+use Rattle.heap_tuple.specs.Chains.{contains}
 
-absent : (x : ℕ) (xs : List ℕ) → AllByRecursion (λ y. nat_eq x y ≡ false) xs → has xs x ≡ false
+absent : (x : ℕ) (xs : List ℕ) → AllByRecursion (λ y. nat_eq x y ≡ false) xs → contains xs x ≡ false
 absent x [] each = refl
-absent x (y ∷ ys) each = or_from (x == y) (has ys x) each.0 (absent x ys each.1)
+absent x (y ∷ ys) each = or_from (x == y) (contains ys x) each.0 (absent x ys each.1)
 
-apart : (x : ℕ) (xs : List ℕ) → has xs x ≡ false → AllByRecursion (λ y. nat_eq x y ≡ false) xs
+apart : (x : ℕ) (xs : List ℕ) → contains xs x ≡ false → AllByRecursion (λ y. nat_eq x y ≡ false) xs
 apart x [] none = tt
 apart x (y ∷ ys) none =
-    let parts = or_parts (x == y) (has ys x) none in
+    let parts = or_parts (x == y) (contains ys x) none in
     (parts.0, apart x ys parts.1)
 
-pub distinct-head : (x : ℕ) (xs : List ℕ) → IsDistinct nat_eq (x ∷ xs) → has xs x ≡ false
+pub distinct-head : (x : ℕ) (xs : List ℕ) → IsDistinct nat_eq (x ∷ xs) → contains xs x ≡ false
 distinct-head x xs distinct = absent x xs (IsDistinct-head nat_eq x xs distinct)
 
 pub distinct-tail : (x : ℕ) (xs : List ℕ) → IsDistinct nat_eq (x ∷ xs) → IsDistinct nat_eq xs
 distinct-tail x xs distinct = IsDistinct-tail nat_eq x xs distinct
 
-pub distinct-cons : (x : ℕ) (xs : List ℕ) → has xs x ≡ false → IsDistinct nat_eq xs
+pub distinct-cons : (x : ℕ) (xs : List ℕ) → contains xs x ≡ false → IsDistinct nat_eq xs
     → IsDistinct nat_eq (x ∷ xs)
 distinct-cons x xs none distinct = IsDistinct-cons nat_eq x xs (apart x xs none) distinct
 
@@ -39,8 +39,9 @@ pub distinct-none : IsDistinct nat_eq []
 unfolding IsDistinct
 distinct-none = tt
 
-pub has-append : (xs ys : List ℕ) (x : ℕ) → has (xs ++ ys) x ≡ (has xs x || has ys x)
-has-append xs ys x = list_any-append (λ y. x == y) xs ys
+pub contains-append : (xs ys : List ℕ) (x : ℕ)
+    → contains (xs ++ ys) x ≡ (contains xs x || contains ys x)
+contains-append xs ys x = list_any-append (λ y. x == y) xs ys
 
 eqb_flips : (x y : ℕ) → nat_eq x y ≡ nat_eq y x
 eqb_flips x y = elim (cases_Bool (nat_eq y x)) [
@@ -56,8 +57,8 @@ distinct-turned xs ys distinct =
     IsDistinct-IsPermutation nat_eq eqb_flips (xs ++ ys) (ys ++ xs)
     (IsPermutation-append_comm xs ys) distinct
 
-pub has-turned : (xs ys : List ℕ) (x : ℕ) → has (xs ++ ys) x ≡ has (ys ++ xs) x
-has-turned xs ys x =
+pub contains-turned : (xs ys : List ℕ) (x : ℕ) → contains (xs ++ ys) x ≡ contains (ys ++ xs) x
+contains-turned xs ys x =
     list_any-IsPermutation (λ y. x == y) (xs ++ ys) (ys ++ xs) (IsPermutation-append_comm xs ys)
 
 pub length-turned : (xs ys : List ℕ) → length (ys ++ xs) ≡ length (xs ++ ys)
@@ -65,12 +66,12 @@ length-turned xs ys = length_permutation (xs ++ ys) (ys ++ xs) (IsPermutation-ap
 
 -- a list of distinct numbers without its last one, which does not stand in the others
 pub distinct-last : (xs : List ℕ) (x : ℕ) → IsDistinct nat_eq (xs ++ x ∷ [])
-    → (has xs x ≡ false) × IsDistinct nat_eq xs
+    → (contains xs x ≡ false) × IsDistinct nat_eq xs
 distinct-last xs x distinct =
     let turned : IsDistinct nat_eq (x ∷ xs) = distinct-turned xs (x ∷ []) distinct in
     (distinct-head x xs turned, distinct-tail x xs turned)
 
-pub distinct-pushed : (xs : List ℕ) (x : ℕ) → has xs x ≡ false → IsDistinct nat_eq xs
+pub distinct-pushed : (xs : List ℕ) (x : ℕ) → contains xs x ≡ false → IsDistinct nat_eq xs
     → IsDistinct nat_eq (xs ++ x ∷ [])
 distinct-pushed xs x none distinct = distinct-turned (x ∷ []) xs (distinct-cons x xs none distinct)
 
@@ -79,62 +80,65 @@ pub distinct-behind : (xs ys : List ℕ) → IsDistinct nat_eq (xs ++ ys) → Is
 distinct-behind [] ys distinct = distinct
 distinct-behind (x ∷ xs) ys distinct = distinct-behind xs ys (distinct-tail x (xs ++ ys) distinct)
 
-pub has-first : (x : ℕ) (xs : List ℕ) → has (x ∷ xs) x ≡ true
-has-first x xs = or_left (x == x) (has xs x) (eq-eqb x x refl)
+pub contains-first : (x : ℕ) (xs : List ℕ) → contains (x ∷ xs) x ≡ true
+contains-first x xs = or_left (x == x) (contains xs x) (eq-eqb x x refl)
 
-pub has-left : (xs ys : List ℕ) (x : ℕ) → has xs x ≡ true → has (xs ++ ys) x ≡ true
-has-left xs ys x here = has-append xs ys x ∙ or_left (has xs x) (has ys x) here
+pub contains-left : (xs ys : List ℕ) (x : ℕ) → contains xs x ≡ true → contains (xs ++ ys) x ≡ true
+contains-left xs ys x here = contains-append xs ys x ∙ or_left (contains xs x) (contains ys x) here
 
-pub has-right : (xs ys : List ℕ) (x : ℕ) → has ys x ≡ true → has (xs ++ ys) x ≡ true
-has-right xs ys x here = has-append xs ys x ∙ or_right (has xs x) (has ys x) here
+pub contains-right : (xs ys : List ℕ) (x : ℕ) → contains ys x ≡ true → contains (xs ++ ys) x ≡ true
+contains-right xs ys x here = contains-append xs ys x
+    ∙ or_right (contains xs x) (contains ys x) here
 
-pub has-either : (xs ys : List ℕ) (x : ℕ) → has (xs ++ ys) x ≡ true
-    → (has xs x ≡ true) ⊎ (has ys x ≡ true)
-has-either xs ys x here = or_cases (has xs x) (has ys x) (sym (has-append xs ys x) ∙ here)
+pub contains-either : (xs ys : List ℕ) (x : ℕ) → contains (xs ++ ys) x ≡ true
+    → (contains xs x ≡ true) ⊎ (contains ys x ≡ true)
+contains-either xs ys x here = or_cases (contains xs x) (contains ys x)
+    (sym (contains-append xs ys x) ∙ here)
 
-pub has-one : (x y : ℕ) → has (x ∷ []) y ≡ true → y ≡ x
-has-one x y here = elim (or_cases (y == x) false here) [
+pub contains-one : (x y : ℕ) → contains (x ∷ []) y ≡ true → y ≡ x
+contains-one x y here = elim (or_cases (y == x) false here) [
   | inl same ↦ eqb-true y x same
   | inr none ↦ absurd (both_ways false refl none)
 ]
 
 -- where x stands in a list
 split_at : (same : Bool) (y x : ℕ) (ys : List ℕ) → (x == y) ≡ same
-    → (has ys x ≡ true → (before behind : List ℕ) × (ys ≡ before ++ x ∷ behind))
-    → has (y ∷ ys) x ≡ true → (before behind : List ℕ) × (y ∷ ys ≡ before ++ x ∷ behind)
+    → (contains ys x ≡ true → (before behind : List ℕ) × (ys ≡ before ++ x ∷ behind))
+    → contains (y ∷ ys) x ≡ true → (before behind : List ℕ) × (y ∷ ys ≡ before ++ x ∷ behind)
 split_at true y x ys is rest here =
     ([], ys, ap (λ (z : ℕ). z ∷ ys) (sym (eqb-true x y is)))
 split_at false y x ys is rest here =
-    let there : has ys x ≡ true = elim (or_cases (x == y) (has ys x) here) [
+    let there : contains ys x ≡ true = elim (or_cases (x == y) (contains ys x) here) [
       | inl same ↦ absurd (both_ways (x == y) is same)
       | inr there ↦ there
     ] in
     let further = rest there in
     (y ∷ further.0, further.1, ap (λ (zs : List ℕ). y ∷ zs) further.2)
 
-pub place_of : (xs : List ℕ) (x : ℕ) → has xs x ≡ true
+pub place_of : (xs : List ℕ) (x : ℕ) → contains xs x ≡ true
     → (before behind : List ℕ) × (xs ≡ before ++ x ∷ behind)
 place_of [] x here = absurd (both_ways false refl here)
 place_of (y ∷ ys) x here = split_at (x == y) y x ys refl (place_of ys x) here
 
 -- where no place has it, it does not stand there
 pub has_no_place : (xs : List ℕ) (x : ℕ) → ((k : ℕ) → k < length xs → get_or xs k 0 ≡ x → ⊥)
-    → has xs x ≡ false
+    → contains xs x ≡ false
 has_no_place [] x none = refl
 has_no_place (y ∷ ys) x none =
-    or_from (x == y) (has ys x)
+    or_from (x == y) (contains ys x)
     (false_from_ne_true (x == y) (λ same. none 0 (omega arith) (sym (eqb-true x y same))))
     (has_no_place ys x (λ k below is. none (suc k) (omega arith) is))
 
 -- the first k + 1 of a list
 pub has_more : (xs : List ℕ) (k x : ℕ) → k < length xs
-    → has (take (k + 1) xs) x ≡ (has (take k xs) x || (x == get_or xs k 0))
+    → contains (take (k + 1) xs) x ≡ (contains (take k xs) x || (x == get_or xs k 0))
 has_more xs k x below = list_any_more (λ y. x == y) xs k 0 below
 
-pub has_at : (xs : List ℕ) (k x : ℕ) → k < length xs → x ≡ get_or xs k 0 → has xs x ≡ true
+pub has_at : (xs : List ℕ) (k x : ℕ) → k < length xs → x ≡ get_or xs k 0 → contains xs x ≡ true
 has_at [] k x below is = absurd (omega arith)
-has_at (y ∷ ys) zero x below is = or_left (x == y) (has ys x) (eq-eqb x y is)
-has_at (y ∷ ys) (suc k) x below is = or_right (x == y) (has ys x) (has_at ys k x (omega arith) is)
+has_at (y ∷ ys) zero x below is = or_left (x == y) (contains ys x) (eq-eqb x y is)
+has_at (y ∷ ys) (suc k) x below is = or_right (x == y) (contains ys x)
+    (has_at ys k x (omega arith) is)
 
 -- at a place, a list is what stands before it, the item there and what stands behind it
 pub split_there : (xs : List ℕ) (k x : ℕ) → k < length xs → get_or xs k 0 ≡ x
@@ -148,14 +152,15 @@ split_there (y ∷ ys) (suc k) x below is =
     (further.0, further.1, ap (λ (zs : List ℕ). y ∷ zs) further.2)
 
 -- two parts of a list of distinct numbers have nothing in common
-pub distinct-apart : (xs ys : List ℕ) → IsDistinct nat_eq (xs ++ ys) → (x : ℕ) → has xs x ≡ true
-    → has ys x ≡ false
+pub distinct-apart : (xs ys : List ℕ) → IsDistinct nat_eq (xs ++ ys) → (x : ℕ)
+    → contains xs x ≡ true
+    → contains ys x ≡ false
 distinct-apart [] ys distinct x here = absurd (both_ways false refl here)
-distinct-apart (z ∷ zs) ys distinct x here = elim (or_cases (x == z) (has zs x) here) [
+distinct-apart (z ∷ zs) ys distinct x here = elim (or_cases (x == z) (contains zs x) here) [
   | inl same ↦
       rw (eqb-true x z same)
-      ((or_parts (has zs z) (has ys z)
-      (sym (has-append zs ys z) ∙ distinct-head z (zs ++ ys) distinct)).1)
+      ((or_parts (contains zs z) (contains ys z)
+      (sym (contains-append zs ys z) ∙ distinct-head z (zs ++ ys) distinct)).1)
   | inr there ↦ distinct-apart zs ys (distinct-tail z (zs ++ ys) distinct) x there
 ]
 

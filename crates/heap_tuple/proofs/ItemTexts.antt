@@ -1,7 +1,7 @@
 -- The lines of the items from one on.
 use Rattle.std.proofs.Common.{◌≡◌, ℕ, zero, suc, ◌+◌, ◌-◌, ◌<◌, List, [], ◌++◌, arith, ap, sym, ◌∙◌}
 use Rattle.std.proofs.Common.{append_assoc}
-use Rattle.page_check.specs.LinePointers.{count_of}
+use Rattle.page_check.specs.LinePointers.{line_pointer_count}
 use Rattle.heap_tuple.specs.TuplesText.{item_text, item_texts, texts_from}
 
 pub texts_from-none : (page : List ℕ) (block k n : ℕ) → n ≡ k → texts_from page block k (n - k) ≡ []
@@ -19,10 +19,10 @@ texts_from-more page block k n below =
     ap (λ (more : ℕ). texts_from page block k more) one
 
 pub texts_from-all : (page : List ℕ) (block : ℕ)
-    → texts_from page block 0 (count_of page - 0) ≡ item_texts page block
+    → texts_from page block 0 (line_pointer_count page - 0) ≡ item_texts page block
 unfolding texts_from item_texts
 texts_from-all page block =
-    let same : count_of page - 0 ≡ count_of page = omega arith in
+    let same : line_pointer_count page - 0 ≡ line_pointer_count page = omega arith in
     ap (λ (more : ℕ). texts_from page block 0 more) same
 
 -- the lines of some items, and then of more

@@ -3,31 +3,32 @@ use Rattle.std.proofs.Common.{◌≡◌, ℕ, ◌-◌, ◌<◌, Bool, true, fals
 use Rattle.std.specs.Prelude.{Option, Some, None, IfSome, nat_le}
 use Rattle.std.proofs.lemmas.Bool.{leb-true}
 use Rattle.std.proofs.lemmas.Bool.Decides.{nat_tests}
-use Rattle.page_check.specs.LinePointers.{count_of}
+use Rattle.page_check.specs.LinePointers.{line_pointer_count}
 use Rattle.heap_tuple.specs.declared.header.TupleHeader.{TupleHeader}
 use Rattle.heap_tuple.specs.Tuples.{tuple_of, step_of, step_by, is_stepping}
 
 by_test : (b : Bool) (page : List ℕ) (block x : ℕ) (updated : TupleHeader)
     → is_stepping page block x updated ≡ b
-    → IfSome (cond b (Some (updated.position - 1)) None) (λ y. y < count_of page)
+    → IfSome (cond b (Some (updated.position - 1)) None) (λ y. y < line_pointer_count page)
 by_test false page block x updated is = tt
 by_test true page block x updated is =
     let lower : nat_le 1 updated.position ≡ true = grind (arith, nat_tests) in
-    let upper : nat_le updated.position (count_of page) ≡ true = grind (arith, nat_tests) in
+    let upper : nat_le updated.position (line_pointer_count page) ≡ true = grind (arith, nat_tests)
+    in
     omega (
       arith,
       leb-true 1 updated.position lower,
       leb-true updated.position
-          (count_of page) upper,
+          (line_pointer_count page) upper,
     )
 
 by_header : (page : List ℕ) (block x : ℕ) (header : Option TupleHeader)
-    → IfSome (step_by page block x header) (λ y. y < count_of page)
+    → IfSome (step_by page block x header) (λ y. y < line_pointer_count page)
 by_header page block x None = tt
 by_header page block x (Some updated) =
     by_test (is_stepping page block x updated) page block x updated refl
 
 pub step_of-below : (page : List ℕ) (block x : ℕ)
-    → IfSome (step_of page block x) (λ y. y < count_of page)
+    → IfSome (step_of page block x) (λ y. y < line_pointer_count page)
 unfolding step_of
 step_of-below page block x = by_header page block x (tuple_of page x)

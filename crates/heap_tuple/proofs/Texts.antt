@@ -3,7 +3,7 @@ use Rattle.std.proofs.Common.{◌≡◌, ℕ, ◌+◌, ◌-◌, List, ◌++◌, 
 use Rattle.page_check.specs.declared.verdict.Verdict.TheVariants.{Zero, Sane}
 use Rattle.page_check.specs.Fields.{header_of}
 use Rattle.page_check.specs.Verdict.{verdict_of}
-use Rattle.page_check.specs.LinePointers.{count_of}
+use Rattle.page_check.specs.LinePointers.{line_pointer_count}
 use Rattle.heap_scan.specs.PageText.{page_text_of, page_line}
 use Rattle.heap_tuple.specs.Chains.{roots_of, longest_of}
 use Rattle.heap_tuple.specs.TuplesText.{tuples_text_up_to, chains_line, item_texts, texts_from}
@@ -17,7 +17,7 @@ tuples_text_of-new relation block page new = rw new refl
 
 pub tuples_text_of-used : (relation block : ℕ) (page : List ℕ) → verdict_of page ≡ Sane
     → tuples_text_of relation block page
-    ≡ page_line relation block (header_of page) (count_of page)
+    ≡ page_line relation block (header_of page) (line_pointer_count page)
     ++ (item_texts page block ++ chains_line (length (roots_of page block)) (longest_of page block))
 unfolding tuples_text_of
 tuples_text_of-used relation block page used = rw used refl
@@ -28,7 +28,7 @@ pub tuples_text_up_to-more : (relation block some more : ℕ) (page : List ℕ)
     ≡ tuples_text_up_to relation block page (some + more)
 unfolding tuples_text_up_to
 tuples_text_up_to-more relation block some more page =
-    let first = page_line relation block (header_of page) (count_of page) in
+    let first = page_line relation block (header_of page) (line_pointer_count page) in
     let front = texts_from page block 0 some in
     let from : some ≡ 0 + some = omega arith in
     append_assoc first front (texts_from page block some more)
@@ -37,14 +37,15 @@ tuples_text_up_to-more relation block some more page =
 
 -- the whole text: up to the last item, and the line of the chains
 pub tuples_text_up_to-all : (relation block items roots longest : ℕ) (page : List ℕ) → verdict_of page ≡ Sane
-    → items ≡ count_of page → roots ≡ length (roots_of page block) → longest ≡ longest_of page block
+    → items ≡ line_pointer_count page → roots ≡ length (roots_of page block)
+    → longest ≡ longest_of page block
     → tuples_text_up_to relation block page items ++ chains_line roots longest
     ≡ tuples_text_of relation block page
 unfolding tuples_text_up_to
 tuples_text_up_to-all relation block items roots longest page used all many most =
-    let first = page_line relation block (header_of page) (count_of page) in
+    let first = page_line relation block (header_of page) (line_pointer_count page) in
     let chains = chains_line roots longest in
-    let same : items ≡ count_of page - 0 = omega arith in
+    let same : items ≡ line_pointer_count page - 0 = omega arith in
     append_assoc first (texts_from page block 0 items) chains
     ∙ ap (λ (n : ℕ). first ++ (texts_from page block 0 n ++ chains)) same
     ∙ ap (λ (lines : List ℕ). first ++ (lines ++ chains)) (texts_from-all page block)

@@ -6,7 +6,7 @@ use Rattle.page_check.specs.declared.fields.Kind.{Kind}
 use Rattle.page_check.specs.declared.fields.Kind.TheVariants.{Unused, Normal, Redirect, Dead}
 use Rattle.page_check.specs.declared.fields.LinePointer.{LinePointer}
 use Rattle.page_check.specs.Fields.{u16_at, u32_at}
-use Rattle.page_check.specs.LinePointers.{count_of, line_pointer_of}
+use Rattle.page_check.specs.LinePointers.{line_pointer_count, line_pointer_of}
 use Rattle.heap_tuple.specs.declared.header.TupleHeader.{TupleHeader}
 
 abbrev pub is_normal : Kind → Bool
@@ -46,7 +46,7 @@ tuple_of page index = tuple_at page (line_pointer_of page index)
 -- Item i steps to item j, as `heap_prune_chain` follows an update chain: i's `t_ctid` names j,
 -- another item of the same block, and what updated i is what made j.
 pub record Steps (page : List ℕ) (block i j : ℕ) : Type 0 where
-  pub below : j < count_of page
+  pub below : j < line_pointer_count page
   pub other : i ≢ j
   pub updated : TupleHeader
   pub updated_is : tuple_of page i ≡ Some updated
@@ -56,16 +56,16 @@ pub record Steps (page : List ℕ) (block i j : ℕ) : Type 0 where
   pub tied : made.xmin ≡ updated.xmax
 
 -- the tuple was made by this transaction
-abbrev pub is_made_by : Option TupleHeader → ℕ → Bool
-is_made_by None xid = false
-is_made_by (Some made) xid = made.xmin == xid
+abbrev pub has_xmin : Option TupleHeader → ℕ → Bool
+has_xmin None xid = false
+has_xmin (Some made) xid = made.xmin == xid
 
 -- the item at this index steps to the one that its header's `t_ctid` names
 abbrev pub is_stepping : List ℕ → ℕ → ℕ → TupleHeader → Bool
 is_stepping page block index updated =
     updated.block == block && nat_le 1 updated.position
-    && nat_le updated.position (count_of page) && not (updated.position == index + 1)
-    && is_made_by (tuple_of page (updated.position - 1)) updated.xmax
+    && nat_le updated.position (line_pointer_count page) && not (updated.position == index + 1)
+    && has_xmin (tuple_of page (updated.position - 1)) updated.xmax
 
 abbrev pub step_by : List ℕ → ℕ → ℕ → Option TupleHeader → Option ℕ
 step_by page block index None = None

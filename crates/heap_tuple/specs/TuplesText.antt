@@ -9,7 +9,7 @@ use Rattle.page_check.specs.declared.verdict.Verdict.{Verdict}
 use Rattle.page_check.specs.declared.verdict.Verdict.TheVariants.{Zero, Sane, Bad}
 use Rattle.page_check.specs.Fields.{header_of}
 use Rattle.page_check.specs.Verdict.{verdict_of}
-use Rattle.page_check.specs.LinePointers.{count_of, line_pointer_of}
+use Rattle.page_check.specs.LinePointers.{line_pointer_count, line_pointer_of}
 use Rattle.heap_scan.specs.PageText.{item_line, page_line, page_text_of}
 use Rattle.heap_tuple.specs.declared.header.TupleHeader.{TupleHeader}
 use Rattle.heap_tuple.specs.Tuples.{tuple_of, step_of}
@@ -70,7 +70,7 @@ unfoldable pub texts_from : List ℕ → ℕ → ℕ → ℕ → List ℕ
 texts_from page block first many = flat_map (item_text page block) (range_with_len first many)
 
 unfoldable pub item_texts : List ℕ → ℕ → List ℕ
-item_texts page block = flat_map (item_text page block) (range_with_len 0 (count_of page))
+item_texts page block = flat_map (item_text page block) (range_with_len 0 (line_pointer_count page))
 
 -- `chains N longest L`
 abbrev pub chains_line : ℕ → ℕ → List ℕ
@@ -81,7 +81,7 @@ chains_line roots longest =
 abbrev pub tuples_text_by : Verdict → ℕ → ℕ → List ℕ → List ℕ
 tuples_text_by Zero relation block page = page_text_of relation block page
 tuples_text_by Sane relation block page =
-    page_line relation block (header_of page) (count_of page)
+    page_line relation block (header_of page) (line_pointer_count page)
     ++ (item_texts page block ++ chains_line (length (roots_of page block)) (longest_of page block))
 tuples_text_by Bad relation block page = []
 
@@ -91,4 +91,5 @@ tuples_text_of relation block page = tuples_text_by (verdict_of page) relation b
 -- the text of a page that is not new up to the lines of so many items
 unfoldable pub tuples_text_up_to : ℕ → ℕ → List ℕ → ℕ → List ℕ
 tuples_text_up_to relation block page items =
-    page_line relation block (header_of page) (count_of page) ++ texts_from page block 0 items
+    page_line relation block (header_of page) (line_pointer_count page)
+    ++ texts_from page block 0 items

@@ -6,10 +6,11 @@
 ghost use Rattle.std.specs.Prelude.{◌≡◌, ℕ, ◌≤◌, ◌<◌, ◌+◌, [], true, false, length, OnOk};
 ghost use Rattle.std.specs.Prelude.{IfOk, IfSome, Some, slice_index, slice_index_or, ◌==◌};
 ghost use Rattle.page_check.specs.Verdict.{IsValid};
-ghost use Rattle.page_check.specs.LinePointers.{count_of};
+ghost use Rattle.page_check.specs.LinePointers.{line_pointer_count};
 ghost use Rattle.heap_tuple.specs.Tuples.{step_of};
-ghost use Rattle.heap_tuple.specs.Chains.{Passes, has, is_root, roots_of, longest_of, chain_of};
-ghost use Rattle.heap_tuple.specs.Following.{AreLengths, IsPath, AreMarked, IsClosed};
+ghost use Rattle.heap_tuple.specs.Chains.{StepsPass, contains, is_root, roots_of, longest_of};
+ghost use Rattle.heap_tuple.specs.Chains.{chain_of};
+ghost use Rattle.heap_tuple.specs.Following.{AreLengths, IsPath, AreMarked, ClosesCircle};
 ghost use Rattle.heap_tuple.specs.Following.{AreReached};
 
 use crate::{step, tuple};
@@ -26,13 +27,13 @@ fn pass(
     first: u16,
 ) -> Result<Option<u16>, AllocError>
     requires valid { IsValid page.now }
-    requires size { length passed.old ≡ count_of page.now }
-    requires first { first < count_of page.now }
+    requires size { length passed.old ≡ line_pointer_count page.now }
+    requires first { first < line_pointer_count page.now }
     requires empty { path.old.items ≡ [] }
     ensures size { length passed.new ≡ length passed.old }
     ensures path { OnOk result (IsPath passed.old passed.new path.new.items) }
     ensures steps { IfOk result (λ at.
-        Passes (step_of page.now block) (Some first) path.new.items at) }
+        StepsPass (step_of page.now block) (Some first) path.new.items at) }
     ensures stop { IfOk result (λ at. IfSome at (λ x. slice_index_or passed.new x false ≡ true)) }
 {
     let mut item = first;
@@ -49,10 +50,10 @@ fn pass(
 
 // Writes down one number at all these items.
 fn write_down(lengths: &mut [u16], items: &[u16], chain: u16)
-    requires inside { (x : ℕ) → has items.now x ≡ true → x < length lengths.old }
+    requires inside { (x : ℕ) → contains items.now x ≡ true → x < length lengths.old }
     ensures size { length lengths.new ≡ length lengths.old }
-    ensures there { (x : ℕ) → has items.now x ≡ true → slice_index lengths.new x ≡ chain }
-    ensures elsewhere { (x : ℕ) → has items.now x ≡ false
+    ensures there { (x : ℕ) → contains items.now x ≡ true → slice_index lengths.new x ≡ chain }
+    ensures elsewhere { (x : ℕ) → contains items.now x ≡ false
         → slice_index lengths.new x ≡ slice_index lengths.old x }
 {
     for item in items {
@@ -62,7 +63,7 @@ fn write_down(lengths: &mut [u16], items: &[u16], chain: u16)
 
 // Where an item stands.
 fn place_of(items: &[u16], item: u16) -> usize
-    ensures { has items.now item ≡ true
+    ensures { contains items.now item ≡ true
         → (result < length items.now) × (slice_index items.now result ≡ item) }
 {
     for (place, other) in items.iter().enumerate() {
@@ -78,10 +79,11 @@ fn place_of(items: &[u16], item: u16) -> usize
 fn close(lengths: &mut [u16], path: &mut Vec<u16>, item: u16) -> u16
     requires few { length lengths.old ≤ 2042 }
     requires path { length path.old.items ≤ length lengths.old }
-    requires inside { (x : ℕ) → has path.old.items x ≡ true → x < length lengths.old }
-    requires back { has path.old.items item ≡ true }
+    requires inside { (x : ℕ) → contains path.old.items x ≡ true → x < length lengths.old }
+    requires back { contains path.old.items item ≡ true }
     ensures size { length lengths.new ≡ length lengths.old }
-    ensures circle { IsClosed lengths.old lengths.new path.old.items path.new.items item result }
+    ensures circle { ClosesCircle lengths.old lengths.new path.old.items path.new.items item
+        result }
 {
     let start = place_of(path, item);
     let chain = (path.len() - start) as u16;
@@ -100,9 +102,9 @@ fn follow(
     first: u16,
 ) -> Result<u16, AllocError>
     requires valid { IsValid page.now }
-    requires lengths { length lengths.old ≡ count_of page.now }
-    requires passed { length passed.old ≡ count_of page.now }
-    requires first { first < count_of page.now }
+    requires lengths { length lengths.old ≡ line_pointer_count page.now }
+    requires passed { length passed.old ≡ line_pointer_count page.now }
+    requires first { first < line_pointer_count page.now }
     requires empty { path.old.items ≡ [] }
     requires known { AreLengths (step_of page.now block) lengths.old }
     requires marked { AreMarked passed.old lengths.old }
@@ -135,9 +137,9 @@ fn follow(
 // Which items others step to.
 fn reached_items(alloc: Global, page: &Page, block: u32) -> Result<Vec<bool>, AllocError>
     requires valid { IsValid page.now }
-    ensures size { IfOk result (λ reached. length reached.items ≡ count_of page.now) }
+    ensures size { IfOk result (λ reached. length reached.items ≡ line_pointer_count page.now) }
     ensures marks { IfOk result (λ reached.
-        AreReached page.now block (count_of page.now) reached.items) }
+        AreReached page.now block (line_pointer_count page.now) reached.items) }
 {
     let items = count(page);
     let mut reached = vec![in alloc; false; usize::from(items)]?;
@@ -152,9 +154,9 @@ fn reached_items(alloc: Global, page: &Page, block: u32) -> Result<Vec<bool>, Al
 // Whether an item begins a chain: it is inside the page, and no item steps to it.
 fn is_first(page: &Page, reached: &[bool], index: u16) -> bool
     requires valid { IsValid page.now }
-    requires index { index < count_of page.now }
-    requires size { length reached.now ≡ count_of page.now }
-    ensures { (block : ℕ) → AreReached page.now block (count_of page.now) reached.now
+    requires index { index < line_pointer_count page.now }
+    requires size { length reached.now ≡ line_pointer_count page.now }
+    ensures { (block : ℕ) → AreReached page.now block (line_pointer_count page.now) reached.now
         → result ≡ is_root page.now block index }
 {
     tuple(page, index).is_some() && !reached[usize::from(index)]
@@ -179,10 +181,10 @@ fn follow_all(
     path: &mut Vec<u16>,
 ) -> Result<Chains, AllocError>
     requires valid { IsValid page.now }
-    requires reached { length reached.now ≡ count_of page.now }
-    requires marks { AreReached page.now block (count_of page.now) reached.now }
-    requires lengths { length lengths.old ≡ count_of page.now }
-    requires passed { length passed.old ≡ count_of page.now }
+    requires reached { length reached.now ≡ line_pointer_count page.now }
+    requires marks { AreReached page.now block (line_pointer_count page.now) reached.now }
+    requires lengths { length lengths.old ≡ line_pointer_count page.now }
+    requires passed { length passed.old ≡ line_pointer_count page.now }
     requires empty { path.old.items ≡ [] }
     requires known { AreLengths (step_of page.now block) lengths.old }
     requires marked { AreMarked passed.old lengths.old }

@@ -1,7 +1,7 @@
 //! The header of a tuple.
 ghost use Rattle.std.specs.Prelude.{◌≡◌, ◌<◌, ◌≤◌, ◌+◌, length};
 ghost use Rattle.page_check.specs.Verdict.{IsValid};
-ghost use Rattle.page_check.specs.LinePointers.{count_of};
+ghost use Rattle.page_check.specs.LinePointers.{line_pointer_count};
 ghost use Rattle.heap_tuple.specs.Tuples.{header_at, is_inside, tuple_of};
 
 use page_check::{Kind, LinePointer, PAGE_SIZE, Page, line_pointer, read_u16, read_u32};
@@ -67,7 +67,7 @@ fn has_header(pointer: LinePointer) -> bool
 #[tactic(auto, unfolding(crate::specs::Tuples::tuple_of))]
 pub fn tuple(page: &Page, index: u16) -> Option<TupleHeader>
     requires valid { IsValid page.now }
-    requires index { index < count_of page.now }
+    requires index { index < line_pointer_count page.now }
     ensures { result ≡ tuple_of page.now index }
 {
     let pointer = line_pointer(page, index);

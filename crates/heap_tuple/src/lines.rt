@@ -1,7 +1,7 @@
 //! The lines of a page's tuples, each written from its end to its start.
 ghost use Rattle.std.specs.Prelude.{◌≡◌, ◌++◌, ◌<◌, ◌≤◌, ◌+◌, ◌-◌, ◌*◌, length, drop};
 ghost use Rattle.page_check.specs.Verdict.{IsValid};
-ghost use Rattle.page_check.specs.LinePointers.{count_of};
+ghost use Rattle.page_check.specs.LinePointers.{line_pointer_count};
 ghost use Rattle.heap_tuple.specs.Tuples.{step_of, tuple_of};
 ghost use Rattle.heap_tuple.specs.TuplesText.{tuples_text_up_to, chains_line, ctid_part};
 ghost use Rattle.heap_tuple.specs.TuplesText.{inside_line, item_text, texts_from};
@@ -117,7 +117,7 @@ fn put_outside(buf: &mut [u8], end: usize, number: u32) -> usize
 // The line of the tuple at an index.
 fn put_tuple(buf: &mut [u8], end: usize, page: &Page, block: u32, index: u16) -> usize
     requires valid { IsValid page.now }
-    requires index { index < count_of page.now }
+    requires index { index < line_pointer_count page.now }
     requires room { 192 ≤ end }
     requires within { end ≤ length buf.old }
     ensures start { (result ≤ end) × (end ≤ result + 192) }
@@ -135,7 +135,7 @@ fn put_tuple(buf: &mut [u8], end: usize, page: &Page, block: u32, index: u16) ->
 // The line of the tuple at an index, where the item is normal.
 fn put_part(buf: &mut [u8], end: usize, page: &Page, block: u32, index: u16, kind: Kind) -> usize
     requires valid { IsValid page.now }
-    requires index { index < count_of page.now }
+    requires index { index < line_pointer_count page.now }
     requires room { 192 ≤ end }
     requires within { end ≤ length buf.old }
     ensures start { (result ≤ end) × (end ≤ result + 192) }
@@ -154,7 +154,7 @@ fn put_part(buf: &mut [u8], end: usize, page: &Page, block: u32, index: u16, kin
 #[tactic(auto, unfolding(crate::specs::TuplesText::item_text))]
 fn put_lines(buf: &mut [u8], end: usize, page: &Page, block: u32, index: u16) -> usize
     requires valid { IsValid page.now }
-    requires index { index < count_of page.now }
+    requires index { index < line_pointer_count page.now }
     requires room { 240 ≤ end }
     requires within { end ≤ length buf.old }
     ensures start { (result ≤ end) × (end ≤ result + 224) }
@@ -170,7 +170,7 @@ fn put_lines(buf: &mut [u8], end: usize, page: &Page, block: u32, index: u16) ->
 pub(crate) fn put_items(buf: &mut [u8], page: &Page, block: u32, from: u16, to: u16) -> usize
     requires valid { IsValid page.now }
     requires order { from ≤ to }
-    requires there { to ≤ count_of page.now }
+    requires there { to ≤ line_pointer_count page.now }
     requires room { 96 + 224 * (to - from) ≤ length buf.old }
     ensures start { (96 ≤ result) × (result ≤ length buf.new) }
     ensures written { drop result buf.new ≡ texts_from page.now block from (to - from) }
@@ -207,7 +207,7 @@ pub(crate) fn put_first_lines(
     items: u16,
 ) -> usize
     requires valid { IsValid page.now }
-    requires there { items ≤ count_of page.now }
+    requires there { items ≤ line_pointer_count page.now }
     requires room { 96 + 224 * items ≤ length buf.old }
     ensures start { result ≤ length buf.new }
     ensures written { drop result buf.new ≡ tuples_text_up_to relation block page.now items }

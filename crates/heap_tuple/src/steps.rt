@@ -1,14 +1,14 @@
 //! The steps of update chains.
 ghost use Rattle.std.specs.Prelude.{◌≡◌, ℕ, ◌<◌, ◌+◌, MatchOption, IfSome};
 ghost use Rattle.page_check.specs.Verdict.{IsValid};
-ghost use Rattle.page_check.specs.LinePointers.{count_of};
-ghost use Rattle.heap_tuple.specs.Tuples.{Steps, step_of, is_made_by};
+ghost use Rattle.page_check.specs.LinePointers.{line_pointer_count};
+ghost use Rattle.heap_tuple.specs.Tuples.{Steps, step_of, has_xmin};
 
 use crate::{TupleHeader, tuple};
 use page_check::{Page, count};
 
 fn was_made_by(header: Option<TupleHeader>, xid: u32) -> bool
-    ensures { result ≡ is_made_by header xid }
+    ensures { result ≡ has_xmin header xid }
 {
     match header {
         Some(made) => made.xmin == xid,
@@ -22,11 +22,11 @@ fn was_made_by(header: Option<TupleHeader>, xid: u32) -> bool
 #[tactic(auto, unfolding(crate::specs::Tuples::step_of))]
 pub fn step(page: &Page, block: u32, index: u16) -> Option<u16>
     requires valid { IsValid page.now }
-    requires index { index < count_of page.now }
+    requires index { index < line_pointer_count page.now }
     ensures value { result ≡ step_of page.now block index }
     ensures step { MatchOption result ((next : ℕ) → Steps page.now block index next → ⊥)
         (λ next. Steps page.now block index next) }
-    ensures below { IfSome result (λ next. next < count_of page.now) }
+    ensures below { IfSome result (λ next. next < line_pointer_count page.now) }
 {
     let updated = tuple(page, index)?;
     let named = updated.position;

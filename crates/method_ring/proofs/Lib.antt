@@ -1,8 +1,8 @@
-pub mod Looking
-mod Found
-mod Joining
-mod Gathering
-mod Seeing
-mod Popping
-mod Completing
-mod Ended
+pub mod NumberedLookup
+mod NumberedSearch
+mod GroupHoldsPending
+mod GroupClaims
+mod ClaimAttempts
+mod PoppedReferences
+mod CompletionEndsIo
+mod GroupMarks

@@ -1,7 +1,7 @@
 pub mod Numbered
 pub mod Pending
-pub mod Sim
-pub mod Holding
-pub mod Grouped
-pub mod Seeing
-pub mod Running
+pub mod SimRing
+pub mod ClaimedIos
+pub mod Group
+pub mod ClaimAttempts
+pub mod RingRunner

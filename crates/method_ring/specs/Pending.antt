@@ -7,16 +7,16 @@ abbrev pub entry : ℕ → ℕ → ℕ → ℕ → Entry
 entry user relation first count =
     record { user = user; relation = relation; first = first; count = count }
 
-abbrev pub user_in : Entry → ℕ
-user_in e = e.user
+abbrev pub entry_user : Entry → ℕ
+entry_user e = e.user
 
 -- the entry with this number
-abbrev pub entry_of : ℕ → List Entry → Option Entry
-entry_of user entries = first_by user_in user entries
+abbrev pub pending_entry : ℕ → List Entry → Option Entry
+pending_entry user entries = first_by entry_user user entries
 
 -- the others
 abbrev pub without_entry : ℕ → List Entry → List Entry
-without_entry user entries = without user_in user entries
+without_entry user entries = without entry_user user entries
 
 -- there is such an entry, and it reads as many pages as this
 abbrev pub IsFilledBy : Option Entry → ℕ → Type 0

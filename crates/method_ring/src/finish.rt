@@ -3,13 +3,13 @@ ghost use Rattle.std.specs.Prelude.{◌≡◌, ◌≢◌, ◌<◌, [], true, Som
 ghost use Rattle.aio_word.specs.declared.WaitRef.{WaitRef};
 ghost use Rattle.aio_word.specs.Stands.{IsIn};
 ghost use Rattle.aio_word.specs.Tokens.{IsClaimed};
-ghost use Rattle.aio_handle.specs.Labels.{bound};
-ghost use Rattle.aio_handle.specs.Kept.{IsClaimKept};
-ghost use Rattle.aio_handle.specs.Shown.{IsOf, IsSame};
+ghost use Rattle.aio_handle.specs.Labels.{bound_label};
+ghost use Rattle.aio_handle.specs.UnchangedTokens.{ClaimUnchanged};
+ghost use Rattle.aio_handle.specs.ContractViews.{IsActorOf, IsSameActor};
 ghost use Rattle.aio_callback.specs.Chain.{class_of};
-ghost use Rattle.aio_callback.specs.Reading.{Answered, aim_in};
-ghost use Rattle.method_ring.specs.Holding.{AreHeld};
-ghost use Rattle.method_ring.specs.Running.{IsEndedAs, Finishes};
+ghost use Rattle.aio_callback.specs.ReadIoView.{HasAnswer, record_aim};
+ghost use Rattle.method_ring.specs.ClaimedIos.{AreClaimedIos};
+ghost use Rattle.method_ring.specs.RingRunner.{IsEndedAs, EndsGroup};
 
 use crate::group::Group;
 use crate::ring::Ring;
@@ -27,18 +27,18 @@ fn complete<W: World, P: Places<W>, T: Wait>(
     mut claimed: Claimed<ReadIo, W>,
     raw: Raw,
 )
-    requires table { IsOf table.now actor.old }
+    requires table { IsActorOf table.now actor.old }
     requires token { IsClaimed actor.old.known claimed.0
-        × IsIn (claimed.0, aim_in claimed.1) actor.old.known.aims }
-    requires label { claimed.1.label ≡ bound claimed.0.handle claimed.0.generation }
+        × IsIn (claimed.0, record_aim claimed.1) actor.old.known.aims }
+    requires label { claimed.1.label ≡ bound_label claimed.0.handle claimed.0.generation }
     requires aimed { (claimed.1.aimed ≡ true) × (claimed.1.relation < W.relations) }
     requires raw { claimed.1.raw ≡ Some raw }
-    requires answered { Answered W.told claimed.1 }
-    ensures same { IsSame actor.old actor.new }
-    ensures ended { IsEndedAs W.told claimed.0 (aim_in claimed.1) (class_of claimed.1.count raw)
+    requires answered { HasAnswer W.told claimed.1 }
+    ensures same { IsSameActor actor.old actor.new }
+    ensures ended { IsEndedAs W.told claimed.0 (record_aim claimed.1) (class_of claimed.1.count raw)
         actor.old.known actor.new.known (P.finished places.old) (P.finished places.new) }
     ensures kept { (t : WaitRef) → t ≢ claimed.0
-        → IsClaimKept t actor.old.known actor.new.known }
+        → ClaimUnchanged t actor.old.known actor.new.known }
 {
     aio_handle::laws::events_keep_other_claims();
     let count = claimed.record().count();
@@ -55,16 +55,16 @@ pub(crate) fn finish<W: World, G: Ring, P: Places<W>, T: Wait>(
     places: &mut P,
     group: &mut Group<G, W>,
 )
-    requires table { IsOf table.now actor.old }
+    requires table { IsActorOf table.now actor.old }
     requires told { (G.told group.old.ring ≡ W.told)
         × (G.relations group.old.ring ≡ W.relations) }
-    requires held { AreHeld W.told W.relations actor.old.known group.old.held }
+    requires held { AreClaimedIos W.told W.relations actor.old.known group.old.held }
     ensures empty { group.new.held ≡ [] }
     ensures pending { G.pending group.new.ring ≡ [] }
-    ensures same { IsSame actor.old actor.new }
+    ensures same { IsSameActor actor.old actor.new }
     ensures told { (G.told group.new.ring ≡ G.told group.old.ring)
         × (G.relations group.new.ring ≡ G.relations group.old.ring) }
-    ensures finishes { Finishes W.told group.old.held [] actor.old.known actor.new.known
+    ensures finishes { EndsGroup W.told group.old.held [] actor.old.known actor.new.known
         (P.finished places.old) (P.finished places.new) (G.reads group.old.ring)
         (G.reads group.new.ring) (G.faults group.old.ring) (G.faults group.new.ring) }
 {

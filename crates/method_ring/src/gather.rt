@@ -1,10 +1,10 @@
 //! Further I/Os for a group, from the submission queue.
 ghost use Rattle.std.specs.Prelude.{◌≡◌, ◌<◌, length};
-ghost use Rattle.aio_handle.specs.Shown.{IsOf, IsSame};
-ghost use Rattle.method_worker.specs.Shown.{IsSeatOf, IsSameSeat};
-ghost use Rattle.method_ring.specs.Holding.{AreHeld, AreBelow};
-ghost use Rattle.method_ring.specs.Running.{Gathers, Pops};
-ghost use Rattle.method_ring.specs.Seeing.{SeesTo};
+ghost use Rattle.aio_handle.specs.ContractViews.{IsActorOf, IsSameActor};
+ghost use Rattle.method_worker.specs.QueueViews.{IsSeatOf, IsSameSeat};
+ghost use Rattle.method_ring.specs.ClaimedIos.{AreClaimedIos, AreBelow};
+ghost use Rattle.method_ring.specs.RingRunner.{GathersIos, PopsReferences};
+ghost use Rattle.method_ring.specs.ClaimAttempts.{ClaimsOrFindsTaken};
 
 use crate::group::Group;
 use crate::ring::Ring;
@@ -22,23 +22,23 @@ fn join<W: World, G: Ring>(
     group: &mut Group<G, W>,
     reference: WaitRef,
 )
-    requires table { IsOf table.now actor.old }
+    requires table { IsActorOf table.now actor.old }
     requires told { (G.told group.old.ring ≡ W.told)
         × (G.relations group.old.ring ≡ W.relations) }
     requires range { reference.handle < W.handles }
     requires room { length group.old.held < 8 }
     requires numbers { AreBelow (length group.old.held) group.old.held }
-    requires held { AreHeld W.told W.relations actor.old.known group.old.held }
-    ensures same { IsSame actor.old actor.new }
+    requires held { AreClaimedIos W.told W.relations actor.old.known group.old.held }
+    ensures same { IsSameActor actor.old actor.new }
     ensures told { (G.told group.new.ring ≡ G.told group.old.ring)
         × (G.relations group.new.ring ≡ G.relations group.old.ring) }
     ensures counts { (G.reads group.new.ring ≡ G.reads group.old.ring)
         × (G.faults group.new.ring ≡ G.faults group.old.ring) }
-    ensures gathers { Gathers W.told W.relations 1 actor.old.known actor.new.known group.old.held
+    ensures gathers { GathersIos W.told W.relations 1 actor.old.known actor.new.known group.old.held
         group.new.held }
-    ensures sees { SeesTo actor.old.known actor.new.known reference }
+    ensures sees { ClaimsOrFindsTaken actor.old.known actor.new.known reference }
 {
-    actor.keeps();
+    actor.has_seen_its_marks();
     if let Some(claimed) = table.claim(actor, reference) {
         group.enter(claimed);
     }
@@ -54,21 +54,21 @@ pub(crate) fn gather<W: World, G: Ring, T: Wait>(
     group: &mut Group<G, W>,
 )
     requires queue { IsSeatOf queue.now seat.old }
-    requires table { IsOf table.now actor.old }
+    requires table { IsActorOf table.now actor.old }
     requires told { (G.told group.old.ring ≡ W.told)
         × (G.relations group.old.ring ≡ W.relations) }
     requires one { length group.old.held ≡ 1 }
     requires numbers { AreBelow 1 group.old.held }
-    requires held { AreHeld W.told W.relations actor.old.known group.old.held }
+    requires held { AreClaimedIos W.told W.relations actor.old.known group.old.held }
     ensures seat { IsSameSeat seat.old seat.new }
-    ensures same { IsSame actor.old actor.new }
+    ensures same { IsSameActor actor.old actor.new }
     ensures told { (G.told group.new.ring ≡ G.told group.old.ring)
         × (G.relations group.new.ring ≡ G.relations group.old.ring) }
     ensures counts { (G.reads group.new.ring ≡ G.reads group.old.ring)
         × (G.faults group.new.ring ≡ G.faults group.old.ring) }
-    ensures gathers { Gathers W.told W.relations 7 actor.old.known actor.new.known group.old.held
+    ensures gathers { GathersIos W.told W.relations 7 actor.old.known actor.new.known group.old.held
         group.new.held }
-    ensures pops { Pops 7 seat.old seat.new actor.old.known actor.new.known }
+    ensures pops { PopsReferences 7 seat.old seat.new actor.old.known actor.new.known }
 {
     for popped in 0..7u32 {
         match queue.pop(rt, seat) {

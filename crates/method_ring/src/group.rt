@@ -1,7 +1,7 @@
 //! A ring, and the claimed I/Os whose reads are in it.
 ghost use Rattle.std.specs.Prelude.{◌≡◌, ◌<◌, ◌++◌, ◌∷◌, [], length, IfSome, IfNone};
-ghost use Rattle.method_ring.specs.Holding.{IsUnread, AreBelow};
-ghost use Rattle.method_ring.specs.Grouped.{PickedFrom, raw_of};
+ghost use Rattle.method_ring.specs.ClaimedIos.{IsUnread, AreBelow};
+ghost use Rattle.method_ring.specs.Group.{PickedFrom, raw_answer};
 
 use crate::ring::Ring;
 use crate::room::RingRoom;
@@ -13,7 +13,7 @@ use std::marker::Model;
 
 /// What a read answered.
 fn answer_of(read: Result<u32, DeviceFault>) -> Raw
-    ensures { result ≡ raw_of read }
+    ensures { result ≡ raw_answer read }
 {
     match read {
         Ok(count) => Raw::Read(count),
@@ -30,13 +30,13 @@ pub(crate) struct Group<G: Ring, W: World> {
 }
 
 impl<G: Ring, W: World> Model for Group<G, W> {
-    ghost use Rattle.method_ring.specs.Grouped.{Grouped, IsJoined};
+    ghost use Rattle.method_ring.specs.Group.{GroupView, HoldsPending};
 
-    ghost Value = { Grouped G };
+    ghost Value = { GroupView G };
 
     ghost view = { λ g. record { ring = g.ring; held = g.room } };
 
-    ghost invariant = { λ g. IsJoined (G.pending g.ring) (G.relations g.ring) g.room };
+    ghost invariant = { λ g. HoldsPending (G.pending g.ring) (G.relations g.ring) g.room };
 }
 
 impl<G: Ring, W: World> Group<G, W> {

@@ -5,7 +5,7 @@ ghost use Rattle.page_check.specs.Told.{Told};
 ghost use Rattle.aio_disk.specs.Counts.{HasCause, raised_by};
 ghost use Rattle.aio_disk.specs.Disk.{AnswersPages};
 ghost use Rattle.method_ring.specs.declared.ring.Entry.{Entry};
-ghost use Rattle.method_ring.specs.Pending.{entry, entry_of, without_entry, IsFilledBy};
+ghost use Rattle.method_ring.specs.Pending.{entry, pending_entry, without_entry, IsFilledBy};
 
 use aio_disk::DeviceFault;
 use page_check::Page;
@@ -48,7 +48,7 @@ pub trait Ring: Drop {
     /// `io_uring_submit`).
     fn submit(&mut self, user: u32, relation: u32, first: u32, count: u32)
         requires room { length (pending self.old) < 8 }
-        requires new { entry_of user (pending self.old) ≡ None }
+        requires new { pending_entry user (pending self.old) ≡ None }
         requires count { (1 ≤ count) × (count ≤ 128) }
         requires relation { relation < relations self.old }
         ensures pending { pending self.new
@@ -60,7 +60,7 @@ pub trait Ring: Drop {
     /// The number of a read that is completed (`io_uring_peek_batch_cqe`). None exactly where
     /// nothing is pending.
     fn pick(&mut self) -> Option<u32>
-        ensures some { IfSome result (λ user. (entry_of user (pending self.old) ≢ None)
+        ensures some { IfSome result (λ user. (pending_entry user (pending self.old) ≢ None)
             × (picked self.new ≡ Some user)) }
         ensures none { IfNone result ((pending self.old ≡ [])
             × (picked self.new ≡ picked self.old)) }
@@ -73,8 +73,8 @@ pub trait Ring: Drop {
     /// makes it.
     fn fill(&mut self, user: u32, pages: &mut [Page]) -> Result<u32, DeviceFault>
         requires picked { picked self.old ≡ Some user }
-        requires entry { IsFilledBy (entry_of user (pending self.old)) (length pages.old) }
-        ensures pages { IfSome (entry_of user (pending self.old))
+        requires entry { IsFilledBy (pending_entry user (pending self.old)) (length pages.old) }
+        ensures pages { IfSome (pending_entry user (pending self.old))
             (λ e. AnswersPages (told self.old) e.relation e.first result pages.new) }
         ensures cause { HasCause (faults self.old) (faults self.new) result }
         ensures pending { pending self.new ≡ without_entry user (pending self.old) }

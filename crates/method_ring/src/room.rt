@@ -1,6 +1,6 @@
 //! Room for the I/Os of a group.
 ghost use Rattle.std.specs.Prelude.{◌≡◌, ◌<◌, ◌++◌, ◌∷◌, [], length, IfOk};
-ghost use Rattle.method_ring.specs.Holding.{number_in, held_of, without_held};
+ghost use Rattle.method_ring.specs.ClaimedIos.{claimed_number, claimed_with, without_claimed};
 
 use crate::listed::{Numbered, take_out};
 use aio_callback::ReadIo;
@@ -21,15 +21,15 @@ pub(crate) struct Held<W: World> {
 }
 
 impl<W: World> Model for Held<W> {
-    ghost use Rattle.method_ring.specs.Holding.{Holding};
+    ghost use Rattle.method_ring.specs.ClaimedIos.{ClaimedIo};
 
-    ghost Value = { Holding };
+    ghost Value = { ClaimedIo };
 
     ghost view = { λ h. (h.user, h.claimed) };
 }
 
 impl<W: World> Numbered for Held<W> {
-    ghost number = { number_in };
+    ghost number = { claimed_number };
 
     fn user(&self) -> u32 {
         self.user
@@ -45,9 +45,9 @@ pub struct RingRoom<W: World> {
 
 impl<W: World> Model for RingRoom<W> {
     ghost use Rattle.std.specs.Prelude.{List, ◌≤◌, vec_capacity};
-    ghost use Rattle.method_ring.specs.Holding.{Holding};
+    ghost use Rattle.method_ring.specs.ClaimedIos.{ClaimedIo};
 
-    ghost Value = { List Holding };
+    ghost Value = { List ClaimedIo };
 
     ghost view = { λ r. r.held.items };
 
@@ -81,8 +81,8 @@ impl<W: World> RingRoom<W> {
 
     /// Takes the I/O with this number out.
     pub(crate) fn take(&mut self, user: u32) -> Option<Held<W>>
-        ensures taken { result ≡ held_of user self.old }
-        ensures others { self.new ≡ without_held user self.old }
+        ensures taken { result ≡ claimed_with user self.old }
+        ensures others { self.new ≡ without_claimed user self.old }
     {
         take_out(&mut self.held, user)
     }

@@ -2,13 +2,13 @@
 ghost use Rattle.std.specs.Prelude.{◌≡◌, ◌≢◌, ◌∷◌, [], None, IfSome};
 ghost use Rattle.aio_word.specs.declared.Kind.TheVariants as kind;
 ghost use Rattle.aio_word.specs.Stands.{IsIn};
-ghost use Rattle.aio_word.specs.Tokens.{IsClaimed, mark_at};
-ghost use Rattle.aio_handle.specs.Labels.{bound};
-ghost use Rattle.aio_handle.specs.Shown.{IsOf, IsSame};
-ghost use Rattle.aio_handle.specs.Executing.{TakesUp};
-ghost use Rattle.aio_callback.specs.Reading.{aim_in, Fits};
-ghost use Rattle.method_worker.specs.Shown.{IsSeatOf, IsSameSeat};
-ghost use Rattle.method_ring.specs.Running.{Pops, RunsGroup};
+ghost use Rattle.aio_word.specs.Tokens.{IsClaimed, make_mark};
+ghost use Rattle.aio_handle.specs.Labels.{bound_label};
+ghost use Rattle.aio_handle.specs.ContractViews.{IsActorOf, IsSameActor};
+ghost use Rattle.aio_handle.specs.Execution.{ExecutesAll};
+ghost use Rattle.aio_callback.specs.ReadIoView.{record_aim, ReadFits};
+ghost use Rattle.method_worker.specs.QueueViews.{IsSeatOf, IsSameSeat};
+ghost use Rattle.method_ring.specs.RingRunner.{PopsReferences, RunsGroup};
 
 use crate::finish::finish;
 use crate::gather::gather;
@@ -38,10 +38,10 @@ pub struct RingRunner<'q, G: Ring, P, W: World> {
 
 impl<'q, G: Ring, P, W: World> Model for RingRunner<'q, G, P, W> {
     ghost use Rattle.std.specs.Prelude.{◌≡◌, []};
-    ghost use Rattle.method_worker.specs.Shown.{IsSeatOf};
-    ghost use Rattle.method_ring.specs.Running.{RingRun};
+    ghost use Rattle.method_worker.specs.QueueViews.{IsSeatOf};
+    ghost use Rattle.method_ring.specs.RingRunner.{RingRunnerView};
 
-    ghost Value = { RingRun G P };
+    ghost Value = { RingRunnerView G P };
 
     ghost view = { λ r. record {
       ring = r.group.ring;
@@ -111,25 +111,26 @@ impl<'q, W: World, G: Ring, P: Places<W>> Execute<ReadIo, W> for RingRunner<'q, 
         actor: &mut Actor<ReadIo, W>,
         claimed: &mut Option<Claimed<ReadIo, W>>,
     )
-        requires table { IsOf table.now actor.old }
+        requires table { IsActorOf table.now actor.old }
         requires told { (G.told self.old.ring ≡ W.told)
             × (G.relations self.old.ring ≡ W.relations) }
         requires given { claimed.old ≢ None }
         requires token { IfSome claimed.old
-            (λ t. IsClaimed actor.old.known t.0 × IsIn (t.0, aim_in t.1) actor.old.known.aims) }
+            (λ t. IsClaimed actor.old.known t.0 × IsIn (t.0, record_aim t.1) actor.old.known.aims) }
         requires record { IfSome claimed.old
-            (λ t. (t.1.label ≡ bound t.0.handle t.0.generation)
-            × Fits W.told W.relations t.1) }
+            (λ t. (t.1.label ≡ bound_label t.0.handle t.0.generation)
+            × ReadFits W.told W.relations t.1) }
         ensures taken { claimed.new ≡ None }
-        ensures same { IsSame actor.old actor.new }
+        ensures same { IsSameActor actor.old actor.new }
         ensures told { (G.told self.new.ring ≡ G.told self.old.ring)
             × (G.relations self.new.ring ≡ G.relations self.old.ring) }
         ensures pending { G.pending self.new.ring ≡ [] }
         ensures seat { (self.new.queue ≡ self.old.queue)
             × IsSameSeat self.old.seat self.new.seat }
-        ensures pops { Pops 7 self.old.seat self.new.seat actor.old.known actor.new.known }
+        ensures pops { PopsReferences 7 self.old.seat self.new.seat actor.old.known
+            actor.new.known }
         ensures marks { IfSome claimed.old
-            (λ t. TakesUp (mark_at t.0 kind.Claimed ∷ []) actor.old.known actor.new.known
+            (λ t. ExecutesAll (make_mark t.0 kind.Claimed ∷ []) actor.old.known actor.new.known
             (G.reads self.old.ring) (G.reads self.new.ring) (G.faults self.old.ring)
             (G.faults self.new.ring)) }
         ensures group { IfSome claimed.old

@@ -3,9 +3,11 @@ ghost use Rattle.std.specs.Prelude.{◌≡◌, ◌≢◌, ◌≤◌, ◌<◌, �
 ghost use Rattle.std.specs.Prelude.{Some, None, IfOk, IfErr, IfSome, IfNone};
 ghost use Rattle.aio_disk.specs.Counts.{HasCause, raised_by};
 ghost use Rattle.aio_disk.specs.Disk.{AnswersPages};
-ghost use Rattle.method_ring.specs.Pending.{entry, user_in, entry_of, without_entry, IsFilledBy};
-ghost use Rattle.method_ring.specs.Sim.{from_start, opened, place_in, turn_after, picked_from};
-ghost use Rattle.method_ring.specs.Sim.{with_pick};
+ghost use Rattle.method_ring.specs.Pending.{entry, entry_user, pending_entry, without_entry};
+ghost use Rattle.method_ring.specs.Pending.{IsFilledBy};
+ghost use Rattle.method_ring.specs.SimRing.{new_idle_ring, new_sim_ring, place_of_turn, turn_after};
+ghost use Rattle.method_ring.specs.SimRing.{number_picked};
+ghost use Rattle.method_ring.specs.SimRing.{with_pick};
 
 use crate::listed::{Numbered, take_out};
 use crate::ring::{Entry, Ring};
@@ -18,7 +20,7 @@ use std::marker::Model;
 const ROOM: usize = 8;
 
 impl Numbered for Entry {
-    ghost number = { user_in };
+    ghost number = { entry_user };
 
     fn user(&self) -> u32 {
         self.user
@@ -37,9 +39,9 @@ pub struct IdleRing {
 
 impl Model for IdleRing {
     ghost use Rattle.std.specs.Prelude.{◌≡◌, ◌≤◌, ◌<◌, [], length, vec_capacity};
-    ghost use Rattle.method_ring.specs.Sim.{Idle};
+    ghost use Rattle.method_ring.specs.SimRing.{IdleRingView};
 
-    ghost Value = { Idle };
+    ghost Value = { IdleRingView };
 
     ghost view = { λ s. record { order = s.order.items; turn = s.turn } };
 
@@ -50,7 +52,7 @@ impl Model for IdleRing {
 impl IdleRing {
     /// A ring that begins with the first number of its order.
     pub fn open(alloc: Global, order: Vec<u32>) -> Result<IdleRing, AllocError>
-        ensures { IfOk result (λ r. r ≡ from_start order.items) }
+        ensures { IfOk result (λ r. r ≡ new_idle_ring order.items) }
     {
         Ok(IdleRing {
             order,
@@ -94,9 +96,9 @@ pub struct SimRing<D: Disk> {
 
 impl<D: Disk> Model for SimRing<D> {
     ghost use Rattle.std.specs.Prelude.{◌≡◌, ◌≤◌, ◌<◌, [], length, vec_capacity};
-    ghost use Rattle.method_ring.specs.Sim.{Sim, AreReads};
+    ghost use Rattle.method_ring.specs.SimRing.{SimRingView, AreReads};
 
-    ghost Value = { Sim D };
+    ghost Value = { SimRingView D };
 
     ghost view = { λ s. record {
       disk = s.disk;
@@ -115,7 +117,7 @@ impl<D: Disk> SimRing<D> {
     /// A ring with nothing pending. Where there is no memory the disk comes back. It takes all the
     /// memory that the ring ever takes.
     pub fn open(alloc: Global, disk: D, order: Vec<u32>) -> Result<SimRing<D>, D>
-        ensures ok { IfOk result (λ r. r ≡ opened disk order.items) }
+        ensures ok { IfOk result (λ r. r ≡ new_sim_ring disk order.items) }
         ensures err { IfErr result (λ d. d ≡ disk) }
     {
         match IdleRing::open(alloc, order) {
@@ -151,7 +153,7 @@ impl<D: Disk> SimRing<D> {
 fn next_place(order: &[u32], turn: usize, count: usize) -> (usize, usize)
     requires some { 0 < count }
     requires turn { 0 < length order.now → turn < length order.now }
-    ensures place { result.0 ≡ place_in order.now turn count }
+    ensures place { result.0 ≡ place_of_turn order.now turn count }
     ensures within { result.0 < count }
     ensures turn { result.1 ≡ turn_after order.now turn }
     ensures inside { 0 < length order.now → result.1 < length order.now }
@@ -179,7 +181,7 @@ impl<D: Disk> Ring for SimRing<D> {
     /// Neither the order nor its turn changes, nor the disk.
     fn submit(&mut self, user: u32, relation: u32, first: u32, count: u32)
         requires room { length self.old.pending < 8 }
-        requires new { entry_of user self.old.pending ≡ None }
+        requires new { pending_entry user self.old.pending ≡ None }
         requires count { (1 ≤ count) × (count ≤ 128) }
         requires relation { relation < D.relations self.old.disk }
         ensures state { self.new ≡ record self.old {
@@ -204,9 +206,9 @@ impl<D: Disk> Ring for SimRing<D> {
 
     /// The number of the read that comes next in the order.
     fn pick(&mut self) -> Option<u32>
-        ensures value { result ≡ picked_from self.old }
+        ensures value { result ≡ number_picked self.old }
         ensures state { self.new ≡ with_pick self.old }
-        ensures some { IfSome result (λ user. (entry_of user self.old.pending ≢ None)
+        ensures some { IfSome result (λ user. (pending_entry user self.old.pending ≢ None)
             × (self.new.picked ≡ Some user)) }
         ensures none { IfNone result ((self.old.pending ≡ [])
             × (self.new.picked ≡ self.old.picked)) }
@@ -230,9 +232,9 @@ impl<D: Disk> Ring for SimRing<D> {
     /// Reads the disk. Neither the order nor its turn changes.
     fn fill(&mut self, user: u32, pages: &mut [Page]) -> Result<u32, DeviceFault>
         requires picked { self.old.picked ≡ Some user }
-        requires entry { IsFilledBy (entry_of user self.old.pending) (length pages.old) }
+        requires entry { IsFilledBy (pending_entry user self.old.pending) (length pages.old) }
         ensures order { (self.new.order ≡ self.old.order) × (self.new.turn ≡ self.old.turn) }
-        ensures pages { IfSome (entry_of user self.old.pending)
+        ensures pages { IfSome (pending_entry user self.old.pending)
             (λ e. AnswersPages (D.told self.old.disk) e.relation e.first result pages.new) }
         ensures cause { HasCause (D.faults self.old.disk) (D.faults self.new.disk) result }
         ensures pending { self.new.pending ≡ without_entry user self.old.pending }

@@ -1,8 +1,8 @@
 //! The method that executes at once.
 ghost use Rattle.std.specs.Prelude.{◌≡◌, ◌<◌, [], None};
-ghost use Rattle.aio_handle.specs.Executing.{TakesUp};
-ghost use Rattle.aio_handle.specs.Shown.{IsOf, IsSame};
-ghost use Rattle.aio_handle.specs.Tried.{SeesClaim};
+ghost use Rattle.aio_handle.specs.Execution.{ExecutesAll};
+ghost use Rattle.aio_handle.specs.ContractViews.{IsActorOf, IsSameActor};
+ghost use Rattle.aio_handle.specs.ClaimAttempt.{OwnerKnowsClaimed};
 
 use aio_batch::Method;
 use aio_callback::ReadIo;
@@ -31,15 +31,15 @@ impl<W: World> Method<ReadIo, W> for SyncMethod {
         runner: &mut E,
         reference: WaitRef,
     )
-        requires table { IsOf table.now actor.old }
+        requires table { IsActorOf table.now actor.old }
         requires told { (E.told runner.old ≡ W.told) × (E.relations runner.old ≡ W.relations) }
         requires range { reference.handle < W.handles }
-        ensures same { IsSame actor.old actor.new }
+        ensures same { IsSameActor actor.old actor.new }
         ensures told { (E.told runner.new ≡ E.told runner.old)
             × (E.relations runner.new ≡ E.relations runner.old) }
-        ensures marks { TakesUp [] actor.old.known actor.new.known (E.reads runner.old)
+        ensures marks { ExecutesAll [] actor.old.known actor.new.known (E.reads runner.old)
             (E.reads runner.new) (E.faults runner.old) (E.faults runner.new) }
-        ensures sees { SeesClaim reference actor.old.known actor.new.known }
+        ensures sees { OwnerKnowsClaimed reference actor.old.known actor.new.known }
     {
         table.try_execute(rt, actor, reference, runner);
     }

@@ -3,11 +3,11 @@ ghost use Rattle.std.specs.Prelude.{◌≡◌, ◌≢◌, ◌∷◌, [], None, I
 ghost use Rattle.aio_disk.specs.Counts.{raised_by};
 ghost use Rattle.aio_word.specs.declared.Kind.TheVariants as kind;
 ghost use Rattle.aio_word.specs.Stands.{IsIn};
-ghost use Rattle.aio_word.specs.Tokens.{IsClaimed, mark_at};
-ghost use Rattle.aio_handle.specs.Labels.{bound};
-ghost use Rattle.aio_handle.specs.Shown.{IsOf, IsSame};
-ghost use Rattle.aio_handle.specs.Executing.{TakesUp};
-ghost use Rattle.aio_callback.specs.Reading.{aim_in, Fits};
+ghost use Rattle.aio_word.specs.Tokens.{IsClaimed, make_mark};
+ghost use Rattle.aio_handle.specs.Labels.{bound_label};
+ghost use Rattle.aio_handle.specs.ContractViews.{IsActorOf, IsSameActor};
+ghost use Rattle.aio_handle.specs.Execution.{ExecutesAll};
+ghost use Rattle.aio_callback.specs.ReadIoView.{record_aim, ReadFits};
 ghost use Rattle.method_sync.specs.Executed.{IsExecutedAs};
 
 use aio_callback::{Places, Raw, ReadIo};
@@ -42,26 +42,26 @@ impl<W: World, D: Disk, P: Places<W>> Execute<ReadIo, W> for Runner<D, P> {
         actor: &mut Actor<ReadIo, W>,
         claimed: &mut Option<Claimed<ReadIo, W>>,
     )
-        requires table { IsOf table.now actor.old }
+        requires table { IsActorOf table.now actor.old }
         requires told { (D.told self.old.disk ≡ W.told)
             × (D.relations self.old.disk ≡ W.relations) }
         requires given { claimed.old ≢ None }
         requires token { IfSome claimed.old
-            (λ t. IsClaimed actor.old.known t.0 × IsIn (t.0, aim_in t.1) actor.old.known.aims) }
+            (λ t. IsClaimed actor.old.known t.0 × IsIn (t.0, record_aim t.1) actor.old.known.aims) }
         requires record { IfSome claimed.old
-            (λ t. (t.1.label ≡ bound t.0.handle t.0.generation)
-            × Fits W.told W.relations t.1) }
+            (λ t. (t.1.label ≡ bound_label t.0.handle t.0.generation)
+            × ReadFits W.told W.relations t.1) }
         ensures taken { claimed.new ≡ None }
-        ensures same { IsSame actor.old actor.new }
+        ensures same { IsSameActor actor.old actor.new }
         ensures told { (D.told self.new.disk ≡ D.told self.old.disk)
             × (D.relations self.new.disk ≡ D.relations self.old.disk) }
         ensures reads { D.reads self.new.disk ≡ raised_by 1 (D.reads self.old.disk) }
         ensures marks { IfSome claimed.old
-            (λ t. TakesUp (mark_at t.0 kind.Claimed ∷ []) actor.old.known actor.new.known
+            (λ t. ExecutesAll (make_mark t.0 kind.Claimed ∷ []) actor.old.known actor.new.known
             (D.reads self.old.disk) (D.reads self.new.disk) (D.faults self.old.disk)
             (D.faults self.new.disk)) }
         ensures executed { IfSome claimed.old
-            (λ t. IsExecutedAs W.told t.0 (aim_in t.1) actor.old.known actor.new.known
+            (λ t. IsExecutedAs W.told t.0 (record_aim t.1) actor.old.known actor.new.known
             (P.finished self.old.places) (P.finished self.new.places) (D.faults self.old.disk)
             (D.faults self.new.disk)) }
     {

@@ -1,6 +1,6 @@
 //! Reads that are executed in place, over disks in memory.
 ghost use Rattle.std.specs.Prelude.{◌≡◌, ◌+◌, ◌<◌, ◌≤◌, ◌^◌, [], IfSome, length};
-ghost use Rattle.aio_handle.specs.Shown.{IsOf, IsSame};
+ghost use Rattle.aio_handle.specs.ContractViews.{IsActorOf, IsSameActor};
 
 use aio_batch::Batch;
 use aio_callback::{CallbackId, Counts, NoPlaces, ReadIo, laws};
@@ -57,7 +57,7 @@ fn read_four<W: World, D: Disk, T: Wait>(
     mut io: ReadIo,
     first: u32,
 ) -> Option<ReadIo>
-    requires table { IsOf table.now actor.old }
+    requires table { IsActorOf table.now actor.old }
     requires backend { actor.old.known.number < table.now.config.backends }
     requires empty { batch.old ≡ [] }
     requires told { (D.told runner.old.disk ≡ W.told)
@@ -65,7 +65,7 @@ fn read_four<W: World, D: Disk, T: Wait>(
     requires some { 0 < W.relations }
     requires room { 4 ≤ length io.pages }
     requires first { first + 4 ≤ 2 ^ 32 }
-    ensures same { IsSame actor.old actor.new }
+    ensures same { IsSameActor actor.old actor.new }
     ensures told { (D.told runner.new.disk ≡ D.told runner.old.disk)
         × (D.relations runner.new.disk ≡ D.relations runner.old.disk) }
     ensures empty { IfSome result (λ _. batch.new ≡ []) }
@@ -96,7 +96,7 @@ fn read_each<W: World, D: Disk, T: Wait>(
     runner: &mut Runner<D, NoPlaces>,
     firsts: &[u32],
 ) -> Result<Vec<Ended>, AllocError>
-    requires table { IsOf table.now actor.old }
+    requires table { IsActorOf table.now actor.old }
     requires backend { actor.old.known.number < table.now.config.backends }
     requires told { (D.told runner.old.disk ≡ W.told)
         × (D.relations runner.old.disk ≡ W.relations) }

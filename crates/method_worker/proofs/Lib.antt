@@ -1,4 +1,4 @@
-mod Counting
-mod Keeping
-pub mod Reading
-mod Turning
+mod StepsKeepBalance
+mod StepsKeepClosingWord
+pub mod SeatPopsInOrder
+mod WorkerStepsInOrder

@@ -1,6 +1,6 @@
-pub mod Counted
-pub mod Words
-pub mod Shown
-pub mod Seats
-pub mod Began
-pub mod Working
+pub mod QueueRule
+pub mod ClosingWord
+pub mod QueueViews
+pub mod SeatCalls
+pub mod Submission
+pub mod WorkerSteps

@@ -1,9 +1,9 @@
 //! The method that hands I/Os to workers.
 ghost use Rattle.std.specs.Prelude.{◌≡◌, ◌<◌, [], ◌∷◌, None};
-ghost use Rattle.aio_handle.specs.Executing.{TakesUp};
-ghost use Rattle.aio_handle.specs.Shown.{IsOf, IsSame};
-ghost use Rattle.method_worker.specs.Began.{Begins};
-ghost use Rattle.method_worker.specs.Shown.{IsSeatOf, IsSameSeat};
+ghost use Rattle.aio_handle.specs.Execution.{ExecutesAll};
+ghost use Rattle.aio_handle.specs.ContractViews.{IsActorOf, IsSameActor};
+ghost use Rattle.method_worker.specs.Submission.{PushesOrExecutes};
+ghost use Rattle.method_worker.specs.QueueViews.{IsSeatOf, IsSameSeat};
 
 use crate::queue::{QueueFull, QueueSeat, SubmitQueue};
 use aio_batch::Method;
@@ -26,7 +26,7 @@ pub struct WorkerMethod<'q, W: World> {
 impl<'q, W: World> Method<ReadIo, W> for WorkerMethod<'q, W> {
     ghost heard = { λ _. None };
 
-    ghost stands_on = { λ m. m.queue.now.line ∷ m.queue.now.words ∷ [] };
+    ghost stands_on = { λ m. m.queue.now.entries ∷ m.queue.now.words ∷ [] };
 
     fn begun<E: Execute<ReadIo, W>, T: Wait>(
         &mut self,
@@ -36,17 +36,18 @@ impl<'q, W: World> Method<ReadIo, W> for WorkerMethod<'q, W> {
         runner: &mut E,
         reference: WaitRef,
     )
-        requires table { IsOf table.now actor.old }
+        requires table { IsActorOf table.now actor.old }
         requires told { (E.told runner.old ≡ W.told) × (E.relations runner.old ≡ W.relations) }
         requires range { reference.handle < W.handles }
-        ensures same { IsSame actor.old actor.new }
+        ensures same { IsSameActor actor.old actor.new }
         ensures told { (E.told runner.new ≡ E.told runner.old)
             × (E.relations runner.new ≡ E.relations runner.old) }
-        ensures marks { TakesUp [] actor.old.known actor.new.known (E.reads runner.old)
+        ensures marks { ExecutesAll [] actor.old.known actor.new.known (E.reads runner.old)
             (E.reads runner.new) (E.faults runner.old) (E.faults runner.new) }
         ensures queue { self.new.queue.now ≡ self.old.queue.now }
         ensures seat { IsSameSeat self.old.seat self.new.seat }
-        ensures begun { Begins W.handles reference self.old.seat self.new.seat actor.old.known
+        ensures begun { PushesOrExecutes W.handles reference self.old.seat self.new.seat
+            actor.old.known
             actor.new.known }
     {
         if let Err(QueueFull(reference)) = self.queue.push(rt, &mut self.seat, reference) {

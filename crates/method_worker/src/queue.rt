@@ -3,14 +3,15 @@ ghost use Rattle.std.specs.Prelude.{◌≡◌, ◌≤◌, ◌<◌, ◌+◌, ◌-
 ghost use Rattle.std.specs.Prelude.{length, IfOk, IfErr, OnOk};
 ghost use Rattle.aio_word.specs.declared.WaitRef.{WaitRef};
 ghost use Rattle.std.specs.List.{All};
-ghost use Rattle.method_worker.specs.Shown.{IsNew, IsSeatOf, IsSameSeat};
-ghost use Rattle.method_worker.specs.Seats.{MayHold, WasFull, Pushed, Popped, Closed};
+ghost use Rattle.method_worker.specs.QueueViews.{IsNew, IsSeatOf, IsSameSeat};
+ghost use Rattle.method_worker.specs.SeatCalls.{RuleAllows, WasFull, SeatPushes, PopAnswers};
+ghost use Rattle.method_worker.specs.SeatCalls.{SeatCloses};
 
 use crate::log::{Log, Notes};
-use crate::rule::{Cut, Line, LinePass, Puts, Takes};
+use crate::rule::{PopStep, PushStep, QueuePass, RuledQueue, SeatSplit};
 use crate::words::{
-    Chair, Words, another_chair, close_under, heard, load_closing, open_under, open_words, ring,
-    sleep, wake_all, wake_one,
+    WordSeat, Words, close_under, heard, load_closing, open_under, open_words, ring, sleep,
+    split_word_seat, wake_all, wake_one,
 };
 use aio_word::WaitRef;
 use page_check::World;
@@ -45,7 +46,7 @@ pub struct QueueFull(pub WaitRef);
 /// it was opened again.
 #[derive(Drop)]
 pub struct SubmitQueue<W: World> {
-    line: Line<W>,
+    entries: RuledQueue<W>,
     words: Words,
     reopened: u64,
     // How many workers are about to sleep on the bell, or asleep.
@@ -55,17 +56,17 @@ pub struct SubmitQueue<W: World> {
 impl<W: World> Model for SubmitQueue<W> {
     ghost use Rattle.std.specs.Prelude.{◌≡◌, ◌<◌, ◌^◌};
     ghost use Rattle.crossbeam_queue.specs.Passes.{ruled_capacity};
-    ghost use Rattle.method_worker.specs.Shown.{Queue};
+    ghost use Rattle.method_worker.specs.QueueViews.{QueueView};
 
-    ghost Value = { Queue };
+    ghost Value = { QueueView };
 
     ghost view = { λ q. record {
-      line = q.line.table.shared.table_id;
+      entries = q.entries.table.shared.table_id;
       words = q.words.shared.table_id;
       reopened = q.reopened;
     } };
 
-    ghost invariant = { λ q. (ruled_capacity q.line ≡ 64) × (q.words.shared.table_id.words ≡ 2)
+    ghost invariant = { λ q. (ruled_capacity q.entries ≡ 64) × (q.words.shared.table_id.words ≡ 2)
         × (q.reopened < 2 ^ 63) };
 }
 
@@ -74,20 +75,21 @@ impl<W: World> Model for SubmitQueue<W> {
 /// closed the queue.
 #[derive(Drop)]
 pub struct QueueSeat {
-    pass: LinePass,
-    chair: Chair,
+    pass: QueuePass,
+    word_seat: WordSeat,
 }
 
 impl Model for QueueSeat {
     ghost use Rattle.std.specs.Prelude.{◌≡◌, ◌<◌, []};
-    ghost use Rattle.method_worker.specs.Shown.{Seating, seating};
+    ghost use Rattle.method_worker.specs.QueueViews.{SeatView, seat_view};
 
-    ghost Value = { Seating };
+    ghost Value = { SeatView };
 
-    ghost view = { λ s. seating s.pass.table_id s.chair.table_id s.pass.me.0.client s.chair.me.0 };
+    ghost view = { λ s. seat_view s.pass.table_id s.word_seat.table_id s.pass.me.0.client
+        s.word_seat.me.0 };
 
     ghost invariant = { λ s. (s.pass.me.1 ≡ []) × (0 < s.pass.me.0.client.parts)
-        × (s.chair.me.1 ≡ []) };
+        × (s.word_seat.me.1 ≡ []) };
 }
 
 impl<W: World> SubmitQueue<W> {
@@ -100,15 +102,15 @@ impl<W: World> SubmitQueue<W> {
         ensures seats { IfOk result (λ q. All (IsNew q.0 seats) q.1.items) }
     {
         let mut all = Vec::with_capacity(alloc, seats as usize)?;
-        let (line, pass) = Line::ruled(alloc, ROOM)?;
-        let (words, chair) = open_words(alloc)?;
+        let (entries, pass) = RuledQueue::ruled(alloc, ROOM)?;
+        let (words, word_seat) = open_words(alloc)?;
         let queue = SubmitQueue {
-            line,
+            entries,
             words,
             reopened: 0,
             sleepers: AtomicU64::new(0),
         };
-        let mut first = QueueSeat { pass, chair };
+        let mut first = QueueSeat { pass, word_seat };
         for _ in 1..seats {
             let seat = queue.seat(&mut first);
             all.push_reserved(seat);
@@ -128,12 +130,12 @@ impl<W: World> SubmitQueue<W> {
         ensures new { IsNew self.now 2 result }
     {
         QueueSeat {
-            pass: self.line.another::<Cut>(&mut first.pass),
-            chair: another_chair(&self.words, &mut first.chair),
+            pass: self.entries.another::<SeatSplit>(&mut first.pass),
+            word_seat: split_word_seat(&self.words, &mut first.word_seat),
         }
     }
 
-    /// Puts the reference at the back (`pgaio_worker_submission_queue_insert`), and wakes one
+    /// PushStep the reference at the back (`pgaio_worker_submission_queue_insert`), and wakes one
     /// worker that sleeps. It makes a system call only where one sleeps.
     ///
     /// `QueueFull` comes only where at some moment of the call 64 entries stood in the queue; it
@@ -147,36 +149,37 @@ impl<W: World> SubmitQueue<W> {
         requires queue { IsSeatOf self.now seat.old }
         requires range { reference.handle < W.handles }
         ensures same { IsSameSeat seat.old seat.new }
-        ensures pushed { OnOk result (Pushed reference seat.old seat.new) }
+        ensures pushed { OnOk result (SeatPushes reference seat.old seat.new) }
         ensures moment { OnOk result ((items : List WaitRef)
-            × MayHold W.handles seat.new (items ++ reference ∷ [])) }
+            × RuleAllows W.handles seat.new (items ++ reference ∷ [])) }
         ensures full { IfErr result
             (λ e. (e.0 ≡ reference) × (seat.new ≡ seat.old) × WasFull W.handles seat.old) }
     {
         if let Err(reference) = self
-            .line
-            .push_as::<Puts<W>, T>(rt, &mut seat.pass, reference)
+            .entries
+            .push_as::<PushStep<W>, T>(rt, &mut seat.pass, reference)
         {
             return Err(QueueFull(reference));
         }
-        ring(&self.words, &mut seat.chair);
+        ring(&self.words, &mut seat.word_seat);
         if self.sleepers.load(Ordering::SeqCst) > 0 {
             wake_one(&self.words);
         }
         Ok(())
     }
 
-    /// Takes the oldest entry (`pgaio_worker_submission_queue_consume`).
+    /// PopStep the oldest entry (`pgaio_worker_submission_queue_consume`).
     ///
     /// It reads the closing word first. Where it then finds no entry at some moment of the call,
     /// the answer is `Closed` after a word that said so, and else `Empty`.
     pub fn pop<T: Wait>(&self, rt: &T, seat: &mut QueueSeat) -> Pop
         requires queue { IsSeatOf self.now seat.old }
         ensures same { IsSameSeat seat.old seat.new }
-        ensures popped { (word : ℕ) × Popped W.handles self.now.reopened word seat.old seat.new result }
+        ensures popped { (word : ℕ)
+            × PopAnswers W.handles self.now.reopened word seat.old seat.new result }
     {
-        let word = load_closing(&self.words, &mut seat.chair);
-        if let Some(reference) = self.line.pop_as::<Takes<W>, T>(rt, &mut seat.pass) {
+        let word = load_closing(&self.words, &mut seat.word_seat);
+        if let Some(reference) = self.entries.pop_as::<PopStep<W>, T>(rt, &mut seat.pass) {
             return Pop::Entry(reference);
         }
         if word == self.reopened * 2 + 1 {
@@ -190,11 +193,11 @@ impl<W: World> SubmitQueue<W> {
     pub fn close<T: Wait>(&self, rt: &T, seat: &mut QueueSeat)
         requires queue { IsSeatOf self.now seat.old }
         ensures same { IsSameSeat seat.old seat.new }
-        ensures closed { Closed self.now.reopened seat.old seat.new }
+        ensures closed { SeatCloses self.now.reopened seat.old seat.new }
     {
         let _ = rt;
-        close_under(&self.words, &mut seat.chair, self.reopened);
-        ring(&self.words, &mut seat.chair);
+        close_under(&self.words, &mut seat.word_seat, self.reopened);
+        ring(&self.words, &mut seat.word_seat);
         if self.sleepers.load(Ordering::SeqCst) > 0 {
             wake_all(&self.words);
         }
@@ -203,14 +206,14 @@ impl<W: World> SubmitQueue<W> {
     /// Opens the queue again. Its entries stay. Reopenings are counted up to 2^63 - 1.
     pub fn reopen(&mut self, seat: &mut QueueSeat)
         requires queue { IsSeatOf self.old seat.old }
-        ensures queue { (self.new.line ≡ self.old.line) × (self.new.words ≡ self.old.words) }
+        ensures queue { (self.new.entries ≡ self.old.entries) × (self.new.words ≡ self.old.words) }
         ensures number { self.new.reopened ≡ min (self.old.reopened + 1) (2 ^ 63 - 1) }
         ensures seat { seat.new ≡ seat.old }
     {
         if self.reopened < LAST_REOPENING {
             self.reopened += 1;
         }
-        open_under(&self.words, &mut seat.chair, self.reopened);
+        open_under(&self.words, &mut seat.word_seat, self.reopened);
     }
 
     /// The bell, which each push and each close raises.

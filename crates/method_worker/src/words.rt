@@ -1,6 +1,6 @@
 //! The closing word and the bell.
 ghost use Rattle.std.specs.Prelude.{◌≡◌, ◌<◌, ◌^◌, ◌/◌, ◌%◌, ◌++◌, ◌∷◌, [], IfOk};
-ghost use Rattle.method_worker.specs.Words.{notes, IsClosedUnder};
+ghost use Rattle.method_worker.specs.ClosingWord.{word_notes, IsClosedUnder};
 
 use crate::log::Notes;
 use atomic_table::{Play, Seat, Split, Table, TableRule};
@@ -16,125 +16,125 @@ const BELL: usize = 1;
 const FIRST: [u64; 2] = [0, 0];
 
 /// The closing word is odd only where some seat has closed the queue under its number.
-pub(crate) struct Law;
+pub(crate) struct ClosingRule;
 
-impl TableRule<(), Notes, ()> for Law {
+impl TableRule<(), Notes, ()> for ClosingRule {
     ghost use Rattle.std.specs.Prelude.{[]};
-    ghost use Rattle.method_worker.specs.Words.{notes, IsKept};
+    ghost use Rattle.method_worker.specs.ClosingWord.{word_notes, ClosingWordIsLawful};
 
-    ghost holds = { λ _ s. IsKept s };
+    ghost holds = { λ _ s. ClosingWordIsLawful s };
 
-    ghost first = { λ _. notes [] [] };
+    ghost first = { λ _. word_notes [] [] };
 }
 
 /// A load notes what it found.
-pub(crate) struct Loads;
+pub(crate) struct LoadStep;
 
-impl Play<(), Notes> for Loads {
+impl Play<(), Notes> for LoadStep {
     ghost use Rattle.std.specs.Prelude.{◌≡◌, ◌++◌, ◌∷◌, [], ◌%◌};
-    ghost use Rattle.method_worker.specs.Words.{notes, IsClosedUnder};
+    ghost use Rattle.method_worker.specs.ClosingWord.{word_notes, IsClosedUnder};
 
-    ghost then = { λ s v n w. (w ≡ (notes v.0.closes (v.0.loads ++ n ∷ []), v.1))
+    ghost then = { λ s v n w. (w ≡ (word_notes v.0.closes (v.0.loads ++ n ∷ []), v.1))
         × (n % 2 ≡ 1 → IsClosedUnder w.0 n) };
 }
 
 /// A close notes its number, and writes an odd word.
-pub(crate) struct Closes;
+pub(crate) struct CloseStep;
 
-impl Play<(), Notes> for Closes {
+impl Play<(), Notes> for CloseStep {
     ghost use Rattle.std.specs.Prelude.{◌≡◌, ◌++◌, ◌∷◌, [], ◌/◌, ◌%◌};
-    ghost use Rattle.method_worker.specs.Words.{notes};
+    ghost use Rattle.method_worker.specs.ClosingWord.{word_notes};
 
-    ghost then = { λ s v n w. (w ≡ (notes (v.0.closes ++ s.first / 2 ∷ []) v.0.loads, v.1))
+    ghost then = { λ s v n w. (w ≡ (word_notes (v.0.closes ++ s.first / 2 ∷ []) v.0.loads, v.1))
         × (s.first % 2 ≡ 1) };
 }
 
 /// A reopening and a ring of the bell note nothing.
-pub(crate) struct Changes;
+pub(crate) struct SilentStep;
 
-impl Play<(), Notes> for Changes {
+impl Play<(), Notes> for SilentStep {
     ghost use Rattle.std.specs.Prelude.{◌≡◌};
 
     ghost then = { λ s v n w. w ≡ v };
 }
 
 /// A new seat has noted nothing.
-pub(crate) struct Fresh;
+pub(crate) struct NewSeat;
 
-impl Split<Notes> for Fresh {
+impl Split<Notes> for NewSeat {
     ghost use Rattle.std.specs.Prelude.{[]};
-    ghost use Rattle.method_worker.specs.Words.{notes};
+    ghost use Rattle.method_worker.specs.ClosingWord.{word_notes};
 
     ghost left = { λ v. v };
 
-    ghost right = { λ v. notes [] [] };
+    ghost right = { λ v. word_notes [] [] };
 }
 
-pub(crate) type Words = Table<(), Notes, (), Law, Global>;
+pub(crate) type Words = Table<(), Notes, (), ClosingRule, Global>;
 
-pub(crate) type Chair = Seat<(), Notes>;
+pub(crate) type WordSeat = Seat<(), Notes>;
 
-pub(crate) fn open_words(alloc: Global) -> Result<(Words, Chair), AllocError>
+pub(crate) fn open_words(alloc: Global) -> Result<(Words, WordSeat), AllocError>
     ensures { IfOk result
         (λ t. (t.1.table_id ≡ t.0.shared.table_id) × (t.0.shared.table_id.words ≡ 2)
-        × (t.1.me ≡ (notes [] [], []))) }
+        × (t.1.me ≡ (word_notes [] [], []))) }
 {
     Table::of_words(alloc, FIRST.as_slice(), &())
 }
 
 /// A further seat on the words.
-pub(crate) fn another_chair(words: &Words, chair: &mut Chair) -> Chair
-    requires fits { (chair.old.table_id ≡ words.now.shared.table_id)
+pub(crate) fn split_word_seat(words: &Words, seat: &mut WordSeat) -> WordSeat
+    requires fits { (seat.old.table_id ≡ words.now.shared.table_id)
         × (words.now.shared.table_id.words ≡ 2) }
-    ensures same { (chair.new.table_id ≡ chair.old.table_id) × (chair.new.me ≡ chair.old.me) }
-    ensures new { (result.table_id ≡ chair.old.table_id) × (result.me ≡ (notes [] [], [])) }
+    ensures same { (seat.new.table_id ≡ seat.old.table_id) × (seat.new.me ≡ seat.old.me) }
+    ensures new { (result.table_id ≡ seat.old.table_id) × (result.me ≡ (word_notes [] [], [])) }
 {
-    words.shared.split_seat::<Fresh>(chair)
+    words.shared.split_seat::<NewSeat>(seat)
 }
 
 /// The closing word.
-pub(crate) fn load_closing(words: &Words, chair: &mut Chair) -> u64
-    requires fits { (chair.old.table_id ≡ words.now.shared.table_id)
+pub(crate) fn load_closing(words: &Words, seat: &mut WordSeat) -> u64
+    requires fits { (seat.old.table_id ≡ words.now.shared.table_id)
         × (words.now.shared.table_id.words ≡ 2) }
-    ensures same { chair.new.table_id ≡ chair.old.table_id }
-    ensures noted { chair.new.me
-        ≡ (notes chair.old.me.0.closes (chair.old.me.0.loads ++ result ∷ []), chair.old.me.1) }
-    ensures closed { result % 2 ≡ 1 → IsClosedUnder chair.new.me.0 result }
+    ensures same { seat.new.table_id ≡ seat.old.table_id }
+    ensures noted { seat.new.me
+        ≡ (word_notes seat.old.me.0.closes (seat.old.me.0.loads ++ result ∷ []), seat.old.me.1) }
+    ensures closed { result % 2 ≡ 1 → IsClosedUnder seat.new.me.0 result }
 {
-    words.shared.load::<Loads>(chair, CLOSING)
+    words.shared.load::<LoadStep>(seat, CLOSING)
 }
 
-/// Closes under this number of reopenings.
-pub(crate) fn close_under(words: &Words, chair: &mut Chair, number: u64)
-    requires fits { (chair.old.table_id ≡ words.now.shared.table_id)
+/// CloseStep under this number of reopenings.
+pub(crate) fn close_under(words: &Words, seat: &mut WordSeat, number: u64)
+    requires fits { (seat.old.table_id ≡ words.now.shared.table_id)
         × (words.now.shared.table_id.words ≡ 2) }
     requires few { number < 2 ^ 63 }
-    ensures same { chair.new.table_id ≡ chair.old.table_id }
-    ensures noted { chair.new.me
-        ≡ (notes (chair.old.me.0.closes ++ number ∷ []) chair.old.me.0.loads, chair.old.me.1) }
+    ensures same { seat.new.table_id ≡ seat.old.table_id }
+    ensures noted { seat.new.me
+        ≡ (word_notes (seat.old.me.0.closes ++ number ∷ []) seat.old.me.0.loads, seat.old.me.1) }
 {
     words
         .shared
-        .fetch_max::<Closes>(chair, CLOSING, number * 2 + 1);
+        .fetch_max::<CloseStep>(seat, CLOSING, number * 2 + 1);
 }
 
 /// Opens under this number of reopenings.
-pub(crate) fn open_under(words: &Words, chair: &mut Chair, number: u64)
-    requires fits { (chair.old.table_id ≡ words.now.shared.table_id)
+pub(crate) fn open_under(words: &Words, seat: &mut WordSeat, number: u64)
+    requires fits { (seat.old.table_id ≡ words.now.shared.table_id)
         × (words.now.shared.table_id.words ≡ 2) }
     requires few { number < 2 ^ 63 }
-    ensures same { (chair.new.table_id ≡ chair.old.table_id) × (chair.new.me ≡ chair.old.me) }
+    ensures same { (seat.new.table_id ≡ seat.old.table_id) × (seat.new.me ≡ seat.old.me) }
 {
-    words.shared.store::<Changes>(chair, CLOSING, number * 2);
+    words.shared.store::<SilentStep>(seat, CLOSING, number * 2);
 }
 
 /// Raises the bell, wrapping.
-pub(crate) fn ring(words: &Words, chair: &mut Chair)
-    requires fits { (chair.old.table_id ≡ words.now.shared.table_id)
+pub(crate) fn ring(words: &Words, seat: &mut WordSeat)
+    requires fits { (seat.old.table_id ≡ words.now.shared.table_id)
         × (words.now.shared.table_id.words ≡ 2) }
-    ensures same { (chair.new.table_id ≡ chair.old.table_id) × (chair.new.me ≡ chair.old.me) }
+    ensures same { (seat.new.table_id ≡ seat.old.table_id) × (seat.new.me ≡ seat.old.me) }
 {
-    words.shared.fetch_add::<Changes>(chair, BELL, 1);
+    words.shared.fetch_add::<SilentStep>(seat, BELL, 1);
 }
 
 /// The bell.

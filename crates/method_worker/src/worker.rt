@@ -1,9 +1,9 @@
 //! The worker's loop.
 ghost use Rattle.std.specs.Prelude.{◌≡◌, []};
-ghost use Rattle.aio_handle.specs.Executing.{TakesUp};
-ghost use Rattle.aio_handle.specs.Shown.{IsOf, IsSame};
-ghost use Rattle.method_worker.specs.Shown.{IsSeatOf, IsSameSeat};
-ghost use Rattle.method_worker.specs.Working.{Turned, Works, moment};
+ghost use Rattle.aio_handle.specs.Execution.{ExecutesAll};
+ghost use Rattle.aio_handle.specs.ContractViews.{IsActorOf, IsSameActor};
+ghost use Rattle.method_worker.specs.QueueViews.{IsSeatOf, IsSameSeat};
+ghost use Rattle.method_worker.specs.WorkerSteps.{WorkerStep, WorksUntilClosed, worker_state};
 
 use crate::queue::{Pop, QueueSeat, SubmitQueue};
 use aio_callback::ReadIo;
@@ -22,16 +22,16 @@ fn turn<W: World, E: Execute<ReadIo, W>, T: Wait>(
     runner: &mut E,
 ) -> bool
     requires queue { IsSeatOf queue.now seat.old }
-    requires table { IsOf table.now actor.old }
+    requires table { IsActorOf table.now actor.old }
     requires told { (E.told runner.old ≡ W.told) × (E.relations runner.old ≡ W.relations) }
     ensures seat { IsSameSeat seat.old seat.new }
-    ensures same { IsSame actor.old actor.new }
+    ensures same { IsSameActor actor.old actor.new }
     ensures told { (E.told runner.new ≡ E.told runner.old)
         × (E.relations runner.new ≡ E.relations runner.old) }
-    ensures marks { TakesUp [] actor.old.known actor.new.known (E.reads runner.old)
+    ensures marks { ExecutesAll [] actor.old.known actor.new.known (E.reads runner.old)
         (E.reads runner.new) (E.faults runner.old) (E.faults runner.new) }
-    ensures turned { Turned W.handles queue.now.reopened (moment seat.old actor.old.known)
-        (moment seat.new actor.new.known) result }
+    ensures turned { WorkerStep W.handles queue.now.reopened (worker_state seat.old actor.old.known)
+        (worker_state seat.new actor.new.known) result }
 {
     let bell = queue.bell();
     match queue.pop(rt, seat) {
@@ -61,16 +61,17 @@ pub fn work<W: World, E: Execute<ReadIo, W>, T: Wait>(
     runner: &mut E,
 )
     requires queue { IsSeatOf queue.now seat.old }
-    requires table { IsOf table.now actor.old }
+    requires table { IsActorOf table.now actor.old }
     requires told { (E.told runner.old ≡ W.told) × (E.relations runner.old ≡ W.relations) }
     ensures seat { IsSameSeat seat.old seat.new }
-    ensures same { IsSame actor.old actor.new }
+    ensures same { IsSameActor actor.old actor.new }
     ensures told { (E.told runner.new ≡ E.told runner.old)
         × (E.relations runner.new ≡ E.relations runner.old) }
-    ensures marks { TakesUp [] actor.old.known actor.new.known (E.reads runner.old)
+    ensures marks { ExecutesAll [] actor.old.known actor.new.known (E.reads runner.old)
         (E.reads runner.new) (E.faults runner.old) (E.faults runner.new) }
-    ensures works { Works W.handles queue.now.reopened (moment seat.old actor.old.known)
-        (moment seat.new actor.new.known) }
+    ensures works { WorksUntilClosed W.handles queue.now.reopened
+        (worker_state seat.old actor.old.known)
+        (worker_state seat.new actor.new.known) }
 {
     for _ in rt.forever() {
         if !turn(rt, queue, seat, table, actor, runner) {

@@ -7,8 +7,8 @@ use Rattle.std.proofs.lemmas.List.{length-map, map-append}
 use Rattle.std.proofs.lemmas.List.Elements.{All-append}
 use Rattle.page_check.specs.SynchronousAnswer.{Entry, Given, Ending}
 use Rattle.page_check.specs.SynchronousAnswer.{Reader}
-use Rattle.page_check.specs.SynchronousAnswer.{pages_of}
-use Rattle.page_check.specs.IsAnswer.{Begins, AreFirst, IsGiven, IsAnswer}
+use Rattle.page_check.specs.SynchronousAnswer.{readable_pages}
+use Rattle.page_check.specs.IsAnswer.{IsPrefix, AreFirst, IsGiven, IsAnswer}
 use Rattle.page_check.specs.IsAnswer.{Next, Page, Stop, IsNextPage, IsNext, with_next}
 
 -- the element behind the first ones
@@ -18,8 +18,8 @@ at_seam [] [] x is = absurd (cc)
 at_seam [] (y ∷ ys) x is = (ys, cc)
 at_seam (z ∷ xs) ys x is = at_seam xs ys x is
 
-begins_next : {X : Type 0} (front xs : List X) (x : X) → Begins front xs
-    → slice_get xs (length front) ≡ Some x → Begins (front ++ x ∷ []) xs
+begins_next : {X : Type 0} (front xs : List X) (x : X) → IsPrefix front xs
+    → slice_get xs (length front) ≡ Some x → IsPrefix (front ++ x ∷ []) xs
 begins_next {X} front xs x begins is =
     let here : slice_get (front ++ begins.0) (length front) ≡ Some x =
     ap (λ (l : List X). slice_get l (length front)) (sym begins.1) ∙ is in
@@ -28,11 +28,12 @@ begins_next {X} front xs x begins is =
       begins.1 ∙ ap (λ (l : List X). front ++ l) seam.1 ∙ sym (append_assoc front (x ∷ []) seam.0),
     )
 
-pub begins_more : {X : Type 0} (front xs ys : List X) → Begins front xs → Begins front (xs ++ ys)
+pub begins_more : {X : Type 0} (front xs ys : List X) → IsPrefix front xs
+    → IsPrefix front (xs ++ ys)
 begins_more {X} front xs ys begins =
     (begins.0 ++ ys, ap (λ (l : List X). l ++ ys) begins.1 ∙ append_assoc front begins.0 ys)
 
-pub begins_all : {X : Type 0} (front xs : List X) → Begins front xs → length front ≡ length xs
+pub begins_all : {X : Type 0} (front xs : List X) → IsPrefix front xs → length front ≡ length xs
     → xs ≡ front
 begins_all [] [] begins same = refl
 begins_all [] (x ∷ xs) begins same = absurd (omega (arith, same))
@@ -63,7 +64,7 @@ no_others end = λ k d below. absurd (omega arith)
 module _ {P : Type 0} where
   pub first_none : (found : Option Reader) (entries : List (Entry P)) → AreFirst found entries []
   first_none None entries = (λ k d below. absurd (omega arith), (entries, refl))
-  first_none (Some f) entries = (pages_of f entries, refl)
+  first_none (Some f) entries = (readable_pages f entries, refl)
 
   one_given : (given : Given P) → IsGiven given → All IsGiven (given ∷ [])
   one_given given is = λ k d below. (let first : k ≡ 0 = omega arith in rw first is)
@@ -86,7 +87,7 @@ module _ {P : Type 0} where
         ),
       )
   first_next (Some f) entries pages given first next =
-      begins_next pages (pages_of f entries) given first next
+      begins_next pages (readable_pages f entries) given first next
 
   -- nothing was answered yet
   pub answered_none : (found : Option Reader) (may : Entry P → Type 0) (entries : List (Entry P))

@@ -4,7 +4,7 @@ use Rattle.std.specs.Prelude.{Option, Some, None}
 use Rattle.page_check.specs.SynchronousAnswer.{Entry, End, Reader}
 use Rattle.page_check.specs.IsAnswer.{IsAnswer, Stop}
 use Rattle.page_check.proofs.AnswersInOrder.{answered_none, answered_next}
-use Rattle.page_check.proofs.Nexts.{IsReached, next-end}
+use Rattle.page_check.proofs.NextAnswer.{IsReached, next-end}
 
 -- reading begins at the first entry
 reached_first : {P : Type 0} (found : Option Reader) (es : List (Entry P)) → IsReached found es 0

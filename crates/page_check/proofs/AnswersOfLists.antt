@@ -9,14 +9,17 @@ use Rattle.std.proofs.lemmas.List.{length-map, map-append}
 use Rattle.std.proofs.lemmas.List.Elements.{All-append}
 use Rattle.page_check.specs.SynchronousAnswer.{Entry, Given, Ending, End, Invalid, PastEnd, Unread}
 use Rattle.page_check.specs.SynchronousAnswer.{Found, Page, Zeroed, Damaged, Absent, Reader}
-use Rattle.page_check.specs.SynchronousAnswer.{given_for}
-use Rattle.page_check.specs.SynchronousAnswer.{found_for, is_page, can_read, pages_of, stop_of}
-use Rattle.page_check.specs.SynchronousAnswer.{ending_in, ending_at, ending_of}
-use Rattle.page_check.specs.IsAnswer.{Begins, IsGiven, AreFirst, StopsAt, EndsAt, IsEnding}
+use Rattle.page_check.specs.SynchronousAnswer.{entry_given}
+use Rattle.page_check.specs.SynchronousAnswer.{entry_found, is_page, can_read, readable_pages}
+use Rattle.page_check.specs.SynchronousAnswer.{first_stop}
+use Rattle.page_check.specs.SynchronousAnswer.{found_ending, stop_ending, list_ending}
+use Rattle.page_check.specs.IsAnswer.{IsPrefix, IsGiven, AreFirst, StopsAt, EndsAt, IsEnding}
 use Rattle.page_check.specs.IsAnswer.{IsAnswer, OneEnding}
-use Rattle.page_check.proofs.SynchronousReads.{pages_of-cons, stop_of-cons, pages_of-none}
-use Rattle.page_check.proofs.SynchronousReads.{pages_of-stop, stop_of-stop, stop_of-none}
-use Rattle.page_check.proofs.Places.{pages_of-length}
+use Rattle.page_check.proofs.SynchronousReads.{readable_pages-cons, first_stop-cons}
+use Rattle.page_check.proofs.SynchronousReads.{readable_pages-none}
+use Rattle.page_check.proofs.SynchronousReads.{readable_pages-stop, first_stop-stop}
+use Rattle.page_check.proofs.SynchronousReads.{first_stop-none}
+use Rattle.page_check.proofs.ListPlaces.{readable_pages-length}
 use Rattle.page_check.proofs.AnswersInOrder.{begins_more, begins_all, slice_get_front}
 use Rattle.page_check.proofs.AnswersInOrder.{slice_get_back}
 
@@ -27,7 +30,7 @@ gives_or_stops Zeroed = inl refl
 gives_or_stops Damaged = inr refl
 gives_or_stops Absent = inr refl
 
-not_end : (r : Found) (block : ℕ) → is_page r ≡ false → ending_in r block ≢ End
+not_end : (r : Found) (block : ℕ) → is_page r ≡ false → found_ending r block ≢ End
 not_end (Page bytes) block none is = absurd (cc)
 not_end Zeroed block none is = absurd (cc)
 not_end Damaged block none is = absurd (cc)
@@ -36,82 +39,84 @@ not_end Absent block none is = absurd (cc)
 module _ {P : Type 0} (f : Reader) where
   -- what a list that was given whole adds
   pub record IsWhole (xs ys : List (Entry P)) : Type 0 where
-    pub all : length (pages_of f xs) ≡ length xs
-    pub pages : pages_of f (xs ++ ys) ≡ pages_of f xs ++ pages_of f ys
-    pub stop : stop_of f (xs ++ ys) ≡ stop_of f ys
+    pub all : length (readable_pages f xs) ≡ length xs
+    pub pages : readable_pages f (xs ++ ys) ≡ readable_pages f xs ++ readable_pages f ys
+    pub stop : first_stop f (xs ++ ys) ≡ first_stop f ys
 
   whole_next : (x : Entry P) (xs ys : List (Entry P)) → can_read f x ≡ true → IsWhole xs ys
       → IsWhole (x ∷ xs) ys
   whole_next x xs ys can rest =
-      let g = given_for f x in
-      let here = pages_of-cons f x xs can in record {
+      let g = entry_given f x in
+      let here = readable_pages-cons f x xs can in record {
         all = omega (arith, ap length here, rest.all);
-        pages = pages_of-cons f x (xs ++ ys) can ∙ ap (λ (l : List (Given P)). g ∷ l) rest.pages
-            ∙ ap (λ (l : List (Given P)). l ++ pages_of f ys) (sym here);
-        stop = stop_of-cons f x (xs ++ ys) can ∙ rest.stop;
+        pages = readable_pages-cons f x (xs ++ ys) can
+            ∙ ap (λ (l : List (Given P)). g ∷ l) rest.pages
+            ∙ ap (λ (l : List (Given P)). l ++ readable_pages f ys) (sym here);
+        stop = first_stop-cons f x (xs ++ ys) can ∙ rest.stop;
       }
 
   ending_next : (x : Entry P) (xs : List (Entry P)) → can_read f x ≡ true
-      → ending_of f (x ∷ xs) ≡ ending_of f xs
-  ending_next x xs can = ap (ending_at f) (stop_of-cons f x xs can)
+      → list_ending f (x ∷ xs) ≡ list_ending f xs
+  ending_next x xs can = ap (stop_ending f) (first_stop-cons f x xs can)
 
   ending_here : (x : Entry P) (xs : List (Entry P)) → can_read f x ≡ false
-      → ending_of f (x ∷ xs) ≡ ending_in (found_for f x) x.block
-  ending_here x xs none = ap (ending_at f) (stop_of-stop f x xs none)
+      → list_ending f (x ∷ xs) ≡ found_ending (entry_found f x) x.block
+  ending_here x xs none = ap (stop_ending f) (first_stop-stop f x xs none)
 
-  pub whole : (xs ys : List (Entry P)) → ending_of f xs ≡ End → IsWhole xs ys
+  pub whole : (xs ys : List (Entry P)) → list_ending f xs ≡ End → IsWhole xs ys
   whole [] ys end = record {
-    all = ap length (pages_of-none f);
-    pages = ap (λ (l : List (Given P)). l ++ pages_of f ys) (sym (pages_of-none f));
+    all = ap length (readable_pages-none f);
+    pages = ap (λ (l : List (Given P)). l ++ readable_pages f ys) (sym (readable_pages-none f));
     stop = refl;
   }
-  whole (x ∷ xs) ys end = elim (gives_or_stops (found_for f x)) [
+  whole (x ∷ xs) ys end = elim (gives_or_stops (entry_found f x)) [
     | inl can ↦ whole_next x xs ys can (whole xs ys (sym (ending_next x xs can) ∙ end))
-    | inr none ↦ absurd (not_end (found_for f x) x.block none (sym (ending_here x xs none) ∙ end))
+    | inr none ↦ absurd (not_end (entry_found f x) x.block none (sym (ending_here x xs none) ∙ end))
   ]
 
   -- what stands behind the entry at which a list stopped adds nothing
   pub record IsStopped (xs ys : List (Entry P)) : Type 0 where
-    pub pages : pages_of f (xs ++ ys) ≡ pages_of f xs
-    pub stop : stop_of f (xs ++ ys) ≡ stop_of f xs
+    pub pages : readable_pages f (xs ++ ys) ≡ readable_pages f xs
+    pub stop : first_stop f (xs ++ ys) ≡ first_stop f xs
 
   stopped_next : (x : Entry P) (xs ys : List (Entry P)) → can_read f x ≡ true → IsStopped xs ys
       → IsStopped (x ∷ xs) ys
   stopped_next x xs ys can rest =
-      let g = given_for f x in record {
-        pages = pages_of-cons f x (xs ++ ys) can ∙ ap (λ (l : List (Given P)). g ∷ l) rest.pages
-            ∙ sym (pages_of-cons f x xs can);
-        stop = stop_of-cons f x (xs ++ ys) can ∙ rest.stop ∙ sym (stop_of-cons f x xs can);
+      let g = entry_given f x in record {
+        pages = readable_pages-cons f x (xs ++ ys) can
+            ∙ ap (λ (l : List (Given P)). g ∷ l) rest.pages
+            ∙ sym (readable_pages-cons f x xs can);
+        stop = first_stop-cons f x (xs ++ ys) can ∙ rest.stop ∙ sym (first_stop-cons f x xs can);
       }
 
-  pub stopped : (xs ys : List (Entry P)) → ending_of f xs ≢ End → IsStopped xs ys
-  stopped [] ys end = absurd (end (ap (ending_at {P = P} f) (stop_of-none f)))
-  stopped (x ∷ xs) ys end = elim (gives_or_stops (found_for f x)) [
+  pub stopped : (xs ys : List (Entry P)) → list_ending f xs ≢ End → IsStopped xs ys
+  stopped [] ys end = absurd (end (ap (stop_ending {P = P} f) (first_stop-none f)))
+  stopped (x ∷ xs) ys end = elim (gives_or_stops (entry_found f x)) [
     | inl can ↦ stopped_next x xs ys can (stopped xs ys (λ e. end (ending_next x xs can ∙ e)))
     | inr none ↦ record {
-      pages = pages_of-stop f x (xs ++ ys) none ∙ sym (pages_of-stop f x xs none);
-      stop = stop_of-stop f x (xs ++ ys) none ∙ sym (stop_of-stop f x xs none);
+      pages = readable_pages-stop f x (xs ++ ys) none ∙ sym (readable_pages-stop f x xs none);
+      stop = first_stop-stop f x (xs ++ ys) none ∙ sym (first_stop-stop f x xs none);
     }
   ]
 
-  begins_by : (end : Ending) (xs ys : List (Entry P)) → ending_of f xs ≡ end
-      → Begins (pages_of f xs) (pages_of f (xs ++ ys))
-  begins_by End xs ys is = (pages_of f ys, (whole xs ys is).pages)
+  begins_by : (end : Ending) (xs ys : List (Entry P)) → list_ending f xs ≡ end
+      → IsPrefix (readable_pages f xs) (readable_pages f (xs ++ ys))
+  begins_by End xs ys is = (readable_pages f ys, (whole xs ys is).pages)
   begins_by (Invalid b) xs ys is =
-      ([], (stopped xs ys (λ e. cc)).pages ∙ sym (append-nil (pages_of f xs)))
+      ([], (stopped xs ys (λ e. cc)).pages ∙ sym (append-nil (readable_pages f xs)))
   begins_by (PastEnd b) xs ys is =
-      ([], (stopped xs ys (λ e. cc)).pages ∙ sym (append-nil (pages_of f xs)))
+      ([], (stopped xs ys (λ e. cc)).pages ∙ sym (append-nil (readable_pages f xs)))
   begins_by (Unread b) xs ys is =
-      ([], (stopped xs ys (λ e. cc)).pages ∙ sym (append-nil (pages_of f xs)))
+      ([], (stopped xs ys (λ e. cc)).pages ∙ sym (append-nil (readable_pages f xs)))
 
-begins_trans : {X : Type 0} (xs ys zs : List X) → Begins xs ys → Begins ys zs → Begins xs zs
+begins_trans : {X : Type 0} (xs ys zs : List X) → IsPrefix xs ys → IsPrefix ys zs → IsPrefix xs zs
 begins_trans {X} xs ys zs first second = (
   first.0 ++ second.0,
   second.1 ∙ ap (λ (l : List X). l ++ second.0) first.1 ∙ append_assoc xs first.0 second.0,
 )
 
-begins_append : {X : Type 0} (front back more : List X) → Begins back more
-    → Begins (front ++ back) (front ++ more)
+begins_append : {X : Type 0} (front back more : List X) → IsPrefix back more
+    → IsPrefix (front ++ back) (front ++ more)
 begins_append {X} front back more begins = (
   begins.0,
   ap (λ (l : List X). front ++ l) begins.1 ∙ sym (append_assoc front back begins.0),
@@ -124,8 +129,8 @@ module _ {P : Type 0} where
   first_more None xs ys pages first =
       (first.0, begins_more (map (λ (g : Given P). g.entry) pages) xs ys first.1)
   first_more (Some f) xs ys pages first =
-      begins_trans pages (pages_of f xs) (pages_of f (xs ++ ys)) first
-      (begins_by f (ending_of f xs) xs ys refl)
+      begins_trans pages (readable_pages f xs) (readable_pages f (xs ++ ys)) first
+      (begins_by f (list_ending f xs) xs ys refl)
 
   stops_more : (may : Entry P → Type 0) (xs ys : List (Entry P)) (k b : ℕ) → StopsAt may xs k b
       → StopsAt may (xs ++ ys) k b
@@ -140,7 +145,7 @@ module _ {P : Type 0} where
       → EndsAt (Some f) xs k end → EndsAt (Some f) (xs ++ ys) k end
   ends_more_told f xs ys k end more ends =
       let same = stopped f xs ys (λ e. more (sym ends.1 ∙ e)) in
-      (ends.0 ∙ ap length (sym same.pages), ap (ending_at f) same.stop ∙ ends.1)
+      (ends.0 ∙ ap length (sym same.pages), ap (stop_ending f) same.stop ∙ ends.1)
 
   ending_more : (found : Option Reader) (may : Entry P → Type 0) (xs ys : List (Entry P)) (k : ℕ)
       (end : Ending) → end ≢ End → IsEnding found may xs k end → IsEnding found may (xs ++ ys) k end
@@ -186,10 +191,10 @@ module _ {P : Type 0} where
         ),
       )
   first_append (Some f) xs ys front back first end second =
-      let all : pages_of f xs ≡ front = begins_all front (pages_of f xs) first end.0 in
-      let begins = begins_append front back (pages_of f ys) second in (
+      let all : readable_pages f xs ≡ front = begins_all front (readable_pages f xs) first end.0 in
+      let begins = begins_append front back (readable_pages f ys) second in (
         begins.0,
-        (whole f xs ys end.1).pages ∙ ap (λ (l : List (Given P)). l ++ pages_of f ys) all
+        (whole f xs ys end.1).pages ∙ ap (λ (l : List (Given P)). l ++ readable_pages f ys) all
             ∙ begins.1,
       )
 
@@ -223,9 +228,9 @@ module _ {P : Type 0} where
           all.0,
           ends.0,
           ap length both.pages,
-          length-append (pages_of f xs) (pages_of f ys),
+          length-append (readable_pages f xs) (readable_pages f ys),
         ),
-        ap (ending_at f) both.stop ∙ ends.1,
+        ap (stop_ending f) both.stop ∙ ends.1,
       )
 
   ending_append : (found : Option Reader) (may : Entry P → Type 0) (xs ys : List (Entry P))
@@ -266,21 +271,21 @@ module _ {P : Type 0} where
 module _ {P : Type 0} where
   -- all pages of synchronous reads were given
   pub all_given : (f : Reader) (entries : List (Entry P)) (pages : List (Given P))
-      → AreFirst (Some f) entries pages → length pages ≡ length (pages_of f entries)
-      → pages_of f entries ≡ pages
-  all_given f entries pages first same = begins_all pages (pages_of f entries) first same
+      → AreFirst (Some f) entries pages → length pages ≡ length (readable_pages f entries)
+      → readable_pages f entries ≡ pages
+  all_given f entries pages first same = begins_all pages (readable_pages f entries) first same
 
   -- reading stops at the entry behind the pages
-  pub stop_of-length : (f : Reader) (entries : List (Entry P))
-      → stop_of f entries ≡ slice_get entries (length (pages_of f entries))
-  stop_of-length f entries = ap (slice_get entries) (sym (pages_of-length f entries))
+  pub first_stop-length : (f : Reader) (entries : List (Entry P))
+      → first_stop f entries ≡ slice_get entries (length (readable_pages f entries))
+  first_stop-length f entries = ap (slice_get entries) (sym (readable_pages-length f entries))
 
   -- how the answers ended: as synchronous reads do, with all their pages, or at an entry that was
   -- not read
   pub ended_as_told : (f : Reader) (may : Entry P → Type 0) (entries : List (Entry P))
       (pages : List (Given P)) (end : Ending) (more : List Ending)
       → IsAnswer (Some f) may entries (record { pages = pages; endings = end ∷ more })
-      → ((pages_of f entries ≡ pages) × (ending_of f entries ≡ end))
+      → ((readable_pages f entries ≡ pages) × (list_ending f entries ≡ end))
       ⊎ ((b : ℕ) × (end ≡ Unread b))
   ended_as_told f may entries pages (Unread b) more answer = inr (b, refl)
   ended_as_told f may entries pages End more answer =

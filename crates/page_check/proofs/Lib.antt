@@ -1,11 +1,11 @@
 pub mod Zeros
 pub mod ValidPages
 pub mod SynchronousReads
-pub mod Places
-pub mod Nexts
+pub mod ListPlaces
+pub mod NextAnswer
 pub mod AnswersInOrder
 pub mod AnswersOfLists
 pub mod AnswersOfBlocks
 pub mod Segments
-pub mod Rows
+pub mod WorkedPages
 mod PageRow

@@ -6,40 +6,45 @@ use Rattle.std.proofs.lemmas.Bool.Decides.{nat_tests}
 use Rattle.page_check.specs.declared.verdict.Verdict.{Verdict}
 use Rattle.page_check.specs.declared.verdict.Verdict.TheVariants.{Zero, Sane, Bad}
 use Rattle.page_check.specs.Verdict.{verdict_of, IsValid}
-use Rattle.page_check.specs.Told.{Told, blocks_of, page_of}
+use Rattle.page_check.specs.Told.{Told, relation_block_count, relation_page}
 use Rattle.page_check.specs.SynchronousAnswer.{Entry, Page, Damaged, Absent, Reader}
-use Rattle.page_check.specs.SynchronousAnswer.{found_at, found_by}
+use Rattle.page_check.specs.SynchronousAnswer.{found_at, found_by_verdict}
 use Rattle.page_check.specs.SynchronousAnswer.{can_read}
-use Rattle.page_check.specs.SynchronousAnswer.{given_for, read_count, pages_of, stop_of}
+use Rattle.page_check.specs.SynchronousAnswer.{entry_given, read_count, readable_pages, first_stop}
 
-found_valid : (v : Verdict) (page : List ℕ) → v ≢ Bad → found_by v page ≡ Page page
+found_valid : (v : Verdict) (page : List ℕ) → v ≢ Bad → found_by_verdict v page ≡ Page page
 found_valid Bad page valid = absurd (valid refl)
 found_valid Zero page valid = refl
 found_valid Sane page valid = refl
 
 -- a valid page of a block that the relation has is found
-pub found_at-page : (told : Told) (relation block : ℕ) → block < blocks_of told relation
-    → IsValid (page_of told relation block)
-    → found_at told relation block ≡ Page (page_of told relation block)
+pub found_at-page : (told : Told) (relation block : ℕ) → block < relation_block_count told relation
+    → IsValid (relation_page told relation block)
+    → found_at told relation block ≡ Page (relation_page told relation block)
 unfolding found_at
 found_at-page told relation block below valid =
-    let here : nat_le (blocks_of told relation) block ≡ false = grind (arith, nat_tests) in
-    rw here (found_valid (verdict_of (page_of told relation block))
-    (page_of told relation block) valid)
+    let here : nat_le (relation_block_count told relation) block ≡ false = grind (arith, nat_tests)
+    in
+    rw here (found_valid (verdict_of (relation_page told relation block))
+    (relation_page told relation block) valid)
 
-pub found_at-damaged : (told : Told) (relation block : ℕ) → block < blocks_of told relation
-    → verdict_of (page_of told relation block) ≡ Bad
+pub found_at-damaged : (told : Told) (relation block : ℕ)
+    → block < relation_block_count told relation
+    → verdict_of (relation_page told relation block) ≡ Bad
     → found_at told relation block ≡ Damaged
 unfolding found_at
 found_at-damaged told relation block below bad =
-    let here : nat_le (blocks_of told relation) block ≡ false = grind (arith, nat_tests) in
+    let here : nat_le (relation_block_count told relation) block ≡ false = grind (arith, nat_tests)
+    in
     rw (here, bad) refl
 
-pub found_at-absent : (told : Told) (relation block : ℕ) → blocks_of told relation ≤ block
+pub found_at-absent : (told : Told) (relation block : ℕ)
+    → relation_block_count told relation ≤ block
     → found_at told relation block ≡ Absent
 unfolding found_at
 found_at-absent told relation block past =
-    let here : nat_le (blocks_of told relation) block ≡ true = grind (arith, nat_tests) in
+    let here : nat_le (relation_block_count told relation) block ≡ true = grind (arith, nat_tests)
+    in
     rw here refl
 
 module _ {P : Type 0} (found : Reader) where
@@ -54,32 +59,32 @@ module _ {P : Type 0} (found : Reader) where
   read_count-stop e rest cannot = rw cannot refl
 
   -- an entry that gives its page
-  pub pages_of-cons : (e : Entry P) (rest : List (Entry P)) → can_read found e ≡ true
-      → pages_of found (e ∷ rest) ≡ given_for found e ∷ pages_of found rest
-  pages_of-cons e rest can =
-      ap (λ (n : ℕ). map (given_for found) (take n (e ∷ rest))) (read_count-cons e rest can)
+  pub readable_pages-cons : (e : Entry P) (rest : List (Entry P)) → can_read found e ≡ true
+      → readable_pages found (e ∷ rest) ≡ entry_given found e ∷ readable_pages found rest
+  readable_pages-cons e rest can =
+      ap (λ (n : ℕ). map (entry_given found) (take n (e ∷ rest))) (read_count-cons e rest can)
 
-  pub stop_of-cons : (e : Entry P) (rest : List (Entry P)) → can_read found e ≡ true
-      → stop_of found (e ∷ rest) ≡ stop_of found rest
-  stop_of-cons e rest can =
+  pub first_stop-cons : (e : Entry P) (rest : List (Entry P)) → can_read found e ≡ true
+      → first_stop found (e ∷ rest) ≡ first_stop found rest
+  first_stop-cons e rest can =
       ap (λ (n : ℕ). slice_get (e ∷ rest) n) (read_count-cons e rest can)
 
   -- an empty list has no pages
-  pub pages_of-none : pages_of found (let none : List (Entry P) = [] in none) ≡ []
+  pub readable_pages-none : readable_pages found (let none : List (Entry P) = [] in none) ≡ []
   unfolding read_count
-  pages_of-none = refl
+  readable_pages-none = refl
 
-  pub stop_of-none : stop_of found (let none : List (Entry P) = [] in none) ≡ None
+  pub first_stop-none : first_stop found (let none : List (Entry P) = [] in none) ≡ None
   unfolding read_count
-  stop_of-none = refl
+  first_stop-none = refl
 
   -- nor has one whose first entry gives none
-  pub pages_of-stop : (e : Entry P) (rest : List (Entry P)) → can_read found e ≡ false
-      → pages_of found (e ∷ rest) ≡ []
-  pages_of-stop e rest cannot =
-      ap (λ (n : ℕ). map (given_for found) (take n (e ∷ rest))) (read_count-stop e rest cannot)
+  pub readable_pages-stop : (e : Entry P) (rest : List (Entry P)) → can_read found e ≡ false
+      → readable_pages found (e ∷ rest) ≡ []
+  readable_pages-stop e rest cannot =
+      ap (λ (n : ℕ). map (entry_given found) (take n (e ∷ rest))) (read_count-stop e rest cannot)
 
-  pub stop_of-stop : (e : Entry P) (rest : List (Entry P)) → can_read found e ≡ false
-      → stop_of found (e ∷ rest) ≡ Some e
-  stop_of-stop e rest cannot =
+  pub first_stop-stop : (e : Entry P) (rest : List (Entry P)) → can_read found e ≡ false
+      → first_stop found (e ∷ rest) ≡ Some e
+  first_stop-stop e rest cannot =
       ap (λ (n : ℕ). slice_get (e ∷ rest) n) (read_count-stop e rest cannot)

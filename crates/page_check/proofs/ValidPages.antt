@@ -7,7 +7,7 @@ use Rattle.page_check.specs.declared.verdict.Verdict.TheVariants.{Zero, Sane, Ba
 use Rattle.page_check.specs.Fields.{header_of, u16_at}
 use Rattle.page_check.specs.Verdict.{IsValid, verdict_of, is_sane, is_all_zero}
 use Rattle.page_check.specs.SynchronousAnswer.{zero_page}
-use Rattle.page_check.specs.LinePointers.{count_of}
+use Rattle.page_check.specs.LinePointers.{line_pointer_count}
 
 sane_lower : (header : PageHeader) → is_sane header ≡ true → header.lower ≤ 8192
 sane_lower header sane = grind (arith, nat_tests)
@@ -104,9 +104,9 @@ lower_of_valid page valid =
     lower_by (is_all_zero page) (is_sane (header_of page)) page refl refl valid
 
 -- the line pointers of a valid page lie in it
-pub line_pointer_fits : (page : List ℕ) (index : ℕ) → IsValid page → index < count_of page
+pub line_pointer_fits : (page : List ℕ) (index : ℕ) → IsValid page → index < line_pointer_count page
     → 24 + 4 * index + 4 ≤ 8192
-unfolding count_of
+unfolding line_pointer_count
 line_pointer_fits page index valid below = omega (arith, lower_of_valid page valid)
 
 -- PostgreSQL calls a page new where its upper is 0 (`PageIsNew`); a valid one is then all zeros
@@ -164,9 +164,10 @@ pub header_of-zero : (page : List ℕ) → is_all_zero page ≡ true
 unfolding header_of
 header_of-zero page zeros = (zero_u16 page 12 zeros, zero_u16 page 14 zeros, zero_u16 page 16 zeros)
 
-pub count_of-zero : (page : List ℕ) → is_all_zero page ≡ true → count_of page ≡ 0
-unfolding count_of
-count_of-zero page zeros = omega (arith, (header_of-zero page zeros).0)
+pub line_pointer_count-zero : (page : List ℕ) → is_all_zero page ≡ true
+    → line_pointer_count page ≡ 0
+unfolding line_pointer_count
+line_pointer_count-zero page zeros = omega (arith, (header_of-zero page zeros).0)
 
 -- the bounds of a sane header end with the page
 pub sane_bounds : (header : PageHeader) → is_sane header ≡ true

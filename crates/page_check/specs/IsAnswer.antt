@@ -6,7 +6,7 @@ use Rattle.std.specs.Prelude.{Option, Some, None}
 use Rattle.std.specs.List.{All}
 use Rattle.page_check.specs.Verdict.{IsValid}
 use Rattle.page_check.specs.SynchronousAnswer.{Entry, Given, Ending, End, Invalid, PastEnd, Unread}
-use Rattle.page_check.specs.SynchronousAnswer.{Reader, zero_page, pages_of, ending_of}
+use Rattle.page_check.specs.SynchronousAnswer.{Reader, zero_page, readable_pages, list_ending}
 
 -- the answers so far: pages, then one ending as often as it was asked for
 pub record Answers (P : Type 0) : Type 0 where
@@ -19,8 +19,8 @@ OneEnding holds [] = ⊤
 OneEnding holds (end ∷ more) = holds end × All (λ other. other ≡ end) more
 
 -- these stand at the head of a list
-abbrev pub Begins : {X : Type 0} → List X → List X → Type 0
-Begins {X} front xs = (rest : List X) × (xs ≡ front ++ rest)
+abbrev pub IsPrefix : {X : Type 0} → List X → List X → Type 0
+IsPrefix {X} front xs = (rest : List X) × (xs ≡ front ++ rest)
 
 module _ {P : Type 0} where
   -- the entry behind the first k is of this block, and `may` holds of it
@@ -39,15 +39,15 @@ module _ {P : Type 0} where
   -- the first pages: those of synchronous reads; where nothing is told, such ones of the first
   -- entries
   abbrev pub AreFirst : Option Reader → List (Entry P) → List (Given P) → Type 0
-  AreFirst (Some found) entries pages = Begins pages (pages_of found entries)
+  AreFirst (Some found) entries pages = IsPrefix pages (readable_pages found entries)
   AreFirst None entries pages =
-      All IsGiven pages × Begins (map (λ g. g.entry) pages) entries
+      All IsGiven pages × IsPrefix (map (λ g. g.entry) pages) entries
 
   -- how the list ends behind the first k pages: as synchronous reads do, behind all of theirs;
   -- where nothing is told, behind the last entry, or at the next one
   abbrev pub EndsAt : Option Reader → List (Entry P) → ℕ → Ending → Type 0
   EndsAt (Some found) entries k end =
-      (k ≡ length (pages_of found entries)) × (ending_of found entries ≡ end)
+      (k ≡ length (readable_pages found entries)) × (list_ending found entries ≡ end)
   EndsAt None entries k End = k ≡ length entries
   EndsAt None entries k (Invalid b) = StopsAt (λ _. ⊤) entries k b
   EndsAt None entries k (PastEnd b) = StopsAt (λ _. ⊤) entries k b
@@ -73,7 +73,7 @@ pub data Next (P : Type 0) : Type 0 where
 module _ {P : Type 0} where
   -- what may be answered behind the first k pages
   abbrev pub IsNextPage : Option Reader → List (Entry P) → ℕ → Given P → Type 0
-  IsNextPage (Some found) entries k given = slice_get (pages_of found entries) k ≡ Some given
+  IsNextPage (Some found) entries k given = slice_get (readable_pages found entries) k ≡ Some given
   IsNextPage None entries k given =
       IsGiven given × (slice_get entries k ≡ Some given.entry)
 

@@ -9,8 +9,8 @@ use Rattle.page_check.specs.declared.fields.LinePointer.{LinePointer}
 
 -- how many stand below lower (`PageGetMaxOffsetNumber`): none where lower is at most 24, since `-`
 -- stops at 0
-unfoldable pub count_of : List ℕ → ℕ
-count_of page = ((header_of page).lower - 24) / 4
+unfoldable pub line_pointer_count : List ℕ → ℕ
+line_pointer_count page = ((header_of page).lower - 24) / 4
 
 -- what the flags 0 to 3 mean (`LP_UNUSED`, `LP_NORMAL`, `LP_REDIRECT`, `LP_DEAD`)
 abbrev pub kind_of : ℕ → Kind
@@ -34,4 +34,4 @@ line_pointer_of page index = line_pointer_in (u32_at page (24 + 4 * index))
 
 -- all of them, in order
 unfoldable pub line_pointers_of : List ℕ → List LinePointer
-line_pointers_of page = map (line_pointer_of page) (range_with_len 0 (count_of page))
+line_pointers_of page = map (line_pointer_of page) (range_with_len 0 (line_pointer_count page))

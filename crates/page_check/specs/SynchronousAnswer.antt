@@ -7,7 +7,7 @@ use Rattle.std.specs.Option.{option_map}
 use Rattle.page_check.specs.declared.verdict.Verdict.{Verdict}
 use Rattle.page_check.specs.declared.verdict.Verdict.TheVariants.{Zero, Sane, Bad}
 use Rattle.page_check.specs.Verdict.{verdict_of}
-use Rattle.page_check.specs.Told.{Told, blocks_of, page_of}
+use Rattle.page_check.specs.Told.{Told, relation_block_count, relation_page}
 
 -- a block that is asked for, with the data that the asker keeps for it (`per_buffer_data` of
 -- `read_stream.h`)
@@ -38,10 +38,10 @@ pub data Found : Type 0 where
   Absent : Found
 
 -- the page, where the verdict on it is not Bad
-abbrev pub found_by : Verdict → List ℕ → Found
-found_by Bad page = Damaged
-found_by Zero page = Page page
-found_by Sane page = Page page
+abbrev pub found_by_verdict : Verdict → List ℕ → Found
+found_by_verdict Bad page = Damaged
+found_by_verdict Zero page = Page page
+found_by_verdict Sane page = Page page
 
 -- what each block of each relation gives
 abbrev pub Reader : Type 0
@@ -50,8 +50,9 @@ Reader = ℕ → ℕ → Found
 -- by the contents that are told
 unfoldable pub found_at : Told → Reader
 found_at told relation block =
-    if nat_le (blocks_of told relation) block then Absent
-    else found_by (verdict_of (page_of told relation block)) (page_of told relation block)
+    if nat_le (relation_block_count told relation) block then Absent
+    else found_by_verdict (verdict_of (relation_page told relation block))
+    (relation_page told relation block)
 
 -- a Bad page is given as zeros (`zero_damaged_pages`)
 abbrev pub zeroed_if_damaged : Found → Found
@@ -84,49 +85,49 @@ is_zeroed Zeroed = true
 is_zeroed Damaged = false
 is_zeroed Absent = false
 
-abbrev pub page_in : Found → List ℕ
-page_in (Page bytes) = bytes
-page_in Zeroed = zero_page
-page_in Damaged = []
-page_in Absent = []
+abbrev pub found_page : Found → List ℕ
+found_page (Page bytes) = bytes
+found_page Zeroed = zero_page
+found_page Damaged = []
+found_page Absent = []
 
 -- where a list ends, by what was found at its entry of this block
-abbrev pub ending_in : Found → ℕ → Ending
-ending_in (Page bytes) block = End
-ending_in Zeroed block = End
-ending_in Damaged block = Invalid block
-ending_in Absent block = PastEnd block
+abbrev pub found_ending : Found → ℕ → Ending
+found_ending (Page bytes) block = End
+found_ending Zeroed block = End
+found_ending Damaged block = Invalid block
+found_ending Absent block = PastEnd block
 
 module _ {P : Type 0} where
-  abbrev pub found_for : Reader → Entry P → Found
-  found_for found e = found e.relation e.block
+  abbrev pub entry_found : Reader → Entry P → Found
+  entry_found found e = found e.relation e.block
 
   abbrev pub can_read : Reader → Entry P → Bool
-  can_read found e = is_page (found_for found e)
+  can_read found e = is_page (entry_found found e)
 
   -- what was found, given for the entry
-  abbrev pub given_as : Found → Entry P → Given P
-  given_as found e = record { entry = e; page = page_in found; zeroed = is_zeroed found }
+  abbrev pub found_given : Found → Entry P → Given P
+  found_given found e = record { entry = e; page = found_page found; zeroed = is_zeroed found }
 
-  abbrev pub given_for : Reader → Entry P → Given P
-  given_for found e = given_as (found_for found e) e
+  abbrev pub entry_given : Reader → Entry P → Given P
+  entry_given found e = found_given (entry_found found e) e
 
   -- how many entries stand before the first that gives no page
   unfoldable pub read_count : Reader → List (Entry P) → ℕ
   read_count found entries = prefix_len (can_read found) entries
 
   -- the pages of these entries
-  abbrev pub pages_of : Reader → List (Entry P) → List (Given P)
-  pages_of found entries = map (given_for found) (take (read_count found entries) entries)
+  abbrev pub readable_pages : Reader → List (Entry P) → List (Given P)
+  readable_pages found entries = map (entry_given found) (take (read_count found entries) entries)
 
   -- the first entry that gives no page, if there is one
-  abbrev pub stop_of : Reader → List (Entry P) → Option (Entry P)
-  stop_of found entries = slice_get entries (read_count found entries)
+  abbrev pub first_stop : Reader → List (Entry P) → Option (Entry P)
+  first_stop found entries = slice_get entries (read_count found entries)
 
-  abbrev pub ending_at : Reader → Option (Entry P) → Ending
-  ending_at found None = End
-  ending_at found (Some e) = ending_in (found_for found e) e.block
+  abbrev pub stop_ending : Reader → Option (Entry P) → Ending
+  stop_ending found None = End
+  stop_ending found (Some e) = found_ending (entry_found found e) e.block
 
   -- and how the list ends there
-  abbrev pub ending_of : Reader → List (Entry P) → Ending
-  ending_of found entries = ending_at found (stop_of found entries)
+  abbrev pub list_ending : Reader → List (Entry P) → Ending
+  list_ending found entries = stop_ending found (first_stop found entries)

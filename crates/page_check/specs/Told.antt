@@ -18,36 +18,37 @@ abbrev pub most_blocks : ℕ
 most_blocks = 2 ^ 32 - 1
 
 -- the bytes but for a part of a block at their end
-abbrev pub without_part : List ℕ → List ℕ
-without_part bytes = take (8192 * (length bytes / 8192)) bytes
+abbrev pub without_partial_block : List ℕ → List ℕ
+without_partial_block bytes = take (8192 * (length bytes / 8192)) bytes
 
 -- the segments that count: the first one, and each behind one that counts and has exactly as many
 -- whole blocks as the segment size says (`mdnblocks` of `md.c`)
-abbrev pub counting : ℕ → List (List ℕ) → List (List ℕ)
-counting size [] = []
-counting size (first ∷ later) =
-    first ∷ cond (length first / 8192 == size) (counting size later) []
+abbrev pub counted_segments : ℕ → List (List ℕ) → List (List ℕ)
+counted_segments size [] = []
+counted_segments size (first ∷ later) =
+    first ∷ cond (length first / 8192 == size) (counted_segments size later) []
 
 -- the whole blocks of the segments that count, one segment after the other
-unfoldable pub joined : ℕ → List (List ℕ) → List ℕ
-joined size segments = flat_map without_part (counting size segments)
+unfoldable pub segments_joined : ℕ → List (List ℕ) → List ℕ
+segments_joined size segments = flat_map without_partial_block (counted_segments size segments)
 
 -- how many whole blocks these bytes have
 unfoldable pub block_count : List ℕ → ℕ
 block_count bytes = min (length bytes / 8192) most_blocks
 
 -- the bytes of a block
-unfoldable pub page_at : List ℕ → ℕ → List ℕ
-page_at bytes block = take 8192 (drop (8192 * block) bytes)
+unfoldable pub block_contents : List ℕ → ℕ → List ℕ
+block_contents bytes block = take 8192 (drop (8192 * block) bytes)
 
 -- the bytes of the blocks of a relation
-abbrev pub relation_of : Told → ℕ → List ℕ
-relation_of told relation = joined told.segment (slice_index_or told.relations relation [])
+abbrev pub relation_bytes : Told → ℕ → List ℕ
+relation_bytes told relation = segments_joined told.segment
+    (slice_index_or told.relations relation [])
 
 -- how many blocks a relation has
-abbrev pub blocks_of : Told → ℕ → ℕ
-blocks_of told relation = block_count (relation_of told relation)
+abbrev pub relation_block_count : Told → ℕ → ℕ
+relation_block_count told relation = block_count (relation_bytes told relation)
 
 -- the page of a block that the relation has
-abbrev pub page_of : Told → ℕ → ℕ → List ℕ
-page_of told relation block = page_at (relation_of told relation) block
+abbrev pub relation_page : Told → ℕ → ℕ → List ℕ
+relation_page told relation block = block_contents (relation_bytes told relation) block

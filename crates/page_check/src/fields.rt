@@ -2,7 +2,7 @@
 ghost use Rattle.std.specs.Prelude.{◌≡◌, ◌<◌, ◌≤◌, ◌+◌, ◌*◌, length};
 ghost use Rattle.page_check.specs.Fields.{u16_at, u32_at, header_of};
 ghost use Rattle.page_check.specs.Verdict.{IsValid};
-ghost use Rattle.page_check.specs.LinePointers.{count_of, line_pointer_of, kind_of};
+ghost use Rattle.page_check.specs.LinePointers.{line_pointer_count, line_pointer_of, kind_of};
 
 use crate::Page;
 use byteorder::{ByteOrder, LittleEndian};
@@ -90,9 +90,9 @@ pub fn header(page: &Page) -> PageHeader
 }
 
 /// How many line pointers the page has (`PageGetMaxOffsetNumber`).
-#[tactic(auto, unfolding(crate::specs::LinePointers::count_of, crate::specs::Fields::header_of))]
+#[tactic(auto, unfolding(crate::specs::LinePointers::line_pointer_count, crate::specs::Fields::header_of))]
 pub fn count(page: &Page) -> u16
-    ensures count { result ≡ count_of page.now }
+    ensures count { result ≡ line_pointer_count page.now }
     ensures few { IsValid page.now → result ≤ 2042 }
 {
     read_u16(page.bytes(), 12).saturating_sub(HEADER_SIZE) / 4
@@ -130,7 +130,7 @@ pub fn line_pointer_at(bytes: &[u8], index: u16) -> LinePointer
 #[inline]
 pub fn line_pointer(page: &Page, index: u16) -> LinePointer
     requires valid { IsValid page.now }
-    requires index { index < count_of page.now }
+    requires index { index < line_pointer_count page.now }
     ensures { result ≡ line_pointer_of page.now index }
 {
     line_pointer_at(page.bytes(), index)

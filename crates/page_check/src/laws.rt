@@ -5,8 +5,9 @@ ghost use Rattle.std.specs.Prelude.{Option, Some, IfSome, slice_get, All, true};
 ghost use Rattle.page_check.specs.Verdict.{IsValid};
 ghost use Rattle.page_check.specs.SynchronousAnswer.{Entry, Given, Ending, End, Invalid, PastEnd};
 ghost use Rattle.page_check.specs.SynchronousAnswer.{Unread, Damaged, Absent, Found, is_page};
-ghost use Rattle.page_check.specs.SynchronousAnswer.{Reader, found_for, read_count, pages_of};
-ghost use Rattle.page_check.specs.SynchronousAnswer.{page_in, given_as, ending_of};
+ghost use Rattle.page_check.specs.SynchronousAnswer.{Reader, entry_found, read_count};
+ghost use Rattle.page_check.specs.SynchronousAnswer.{readable_pages};
+ghost use Rattle.page_check.specs.SynchronousAnswer.{found_page, found_given, list_ending};
 ghost use Rattle.page_check.specs.IsAnswer.{IsAnswer, IsNext, Next, Page, Stop, with_next};
 
 use std::marker::Brand;
@@ -41,17 +42,17 @@ pub fn what_is_found_is_answered_next<P, M: MayBeUnread<P>>()
     ensures page { (found : Option Reader) (entries : List (Entry P)) (k : ℕ) (e : Entry P)
         (shown : Found) → slice_get entries k ≡ Some e
         → IfSome found (λ f. k ≤ read_count f entries)
-        → is_page shown ≡ true → IsValid (page_in shown)
-        → IfSome found (λ f. found_for f e ≡ shown)
-        → IsNext found M.may entries k (Page (given_as shown e))
+        → is_page shown ≡ true → IsValid (found_page shown)
+        → IfSome found (λ f. entry_found f e ≡ shown)
+        → IsNext found M.may entries k (Page (found_given shown e))
         × IfSome found (λ f. k + 1 ≤ read_count f entries) }
     ensures invalid { (found : Option Reader) (entries : List (Entry P)) (k : ℕ) (e : Entry P)
         → slice_get entries k ≡ Some e → IfSome found (λ f. k ≤ read_count f entries)
-        → IfSome found (λ f. found_for f e ≡ Damaged)
+        → IfSome found (λ f. entry_found f e ≡ Damaged)
         → IsNext found M.may entries k (Stop (Invalid e.block)) }
     ensures past_end { (found : Option Reader) (entries : List (Entry P)) (k : ℕ) (e : Entry P)
         → slice_get entries k ≡ Some e → IfSome found (λ f. k ≤ read_count f entries)
-        → IfSome found (λ f. found_for f e ≡ Absent)
+        → IfSome found (λ f. entry_found f e ≡ Absent)
         → IsNext found M.may entries k (Stop (PastEnd e.block)) }
     ensures unread { (found : Option Reader) (entries : List (Entry P)) (k : ℕ) (e : Entry P)
         → slice_get entries k ≡ Some e → M.may e
@@ -81,6 +82,6 @@ pub fn answers_end_as_synchronous_reads<P, M: MayBeUnread<P>>()
     ensures { (found : Reader) (entries : List (Entry P)) (pages : List (Given P)) (end : Ending)
         (more : List Ending)
         → IsAnswer (Some found) M.may entries (record { pages = pages; endings = end ∷ more })
-        → ((pages_of found entries ≡ pages) × (ending_of found entries ≡ end))
+        → ((readable_pages found entries ≡ pages) × (list_ending found entries ≡ end))
         ⊎ ((block : ℕ) × (end ≡ Unread block)) }
 {}

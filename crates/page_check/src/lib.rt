@@ -1,10 +1,10 @@
 //! Pages of a relation file: their fields, their check, and what reading them gives.
 //!
 //! A page is a list of 8192 bytes. `check` is the definition `verdict_of`, `header`, `count` and
-//! `line_pointer` are `header_of`, `count_of` and `line_pointer_of`, each after `bufpage.h` and
-//! `itemid.h`. `specs/` also has the words that all crates above speak in: `Told`, the contents of
-//! the relations; `SynchronousAnswer`, what one thread's reads give for a list of blocks; and
-//! `IsAnswer`, what a scan may have answered so far.
+//! `line_pointer` are `header_of`, `line_pointer_count` and `line_pointer_of`, each after
+//! `bufpage.h` and `itemid.h`. `specs/` also has the words that all crates above speak in: `Told`,
+//! the contents of the relations; `SynchronousAnswer`, what one thread's reads give for a list of
+//! blocks; and `IsAnswer`, what a scan may have answered so far.
 #![tactic(auto)]
 
 mod fields;

@@ -1,6 +1,6 @@
 //! Plans: which blocks are read by one I/O, and how far a stream looks ahead.
 ghost use Rattle.std.specs.Prelude.{◌≡◌, ◌++◌, None, IfOk};
-ghost use Rattle.read_plan.specs.Offered.{flushed};
+ghost use Rattle.read_plan.specs.Offered.{flushed_runs};
 ghost use Rattle.read_plan.specs.Runs.{AreRuns};
 
 use read_plan::{Offer, Plan, Run};
@@ -12,7 +12,7 @@ const SEGMENT: u32 = 131072;
 
 // Keeps the run that an answer hands out.
 fn keep(runs: &mut Vec<Run>, offer: Offer) -> Result<(), AllocError>
-    ensures { IfOk result (λ _. runs.new.items ≡ runs.old.items ++ flushed offer) }
+    ensures { IfOk result (λ _. runs.new.items ≡ runs.old.items ++ flushed_runs offer) }
 {
     if let Offer::Flush(run) = offer {
         runs.push(run)?;

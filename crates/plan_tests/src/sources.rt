@@ -1,6 +1,6 @@
 //! Sources of blocks: which blocks each gives, and in which order.
 ghost use Rattle.std.specs.Prelude.{◌≡◌, ◌==◌, ◌%◌, ◌<◌, IfOk, filter};
-ghost use Rattle.block_source.specs.Left.{consecutive};
+ghost use Rattle.block_source.specs.BlocksLeft.{consecutive_blocks};
 
 use block_source::{BlockSource, BlockTest, Filtered, Listed, Range, Stepped};
 use std::alloc::{AllocError, Global};
@@ -54,7 +54,8 @@ impl BlockTest for MultipleOf {
 // The blocks below ten that are multiples of a number.
 fn multiples(alloc: Global, factor: u32) -> Result<Vec<(u32, ())>, AllocError>
     requires { 0 < factor }
-    ensures { IfOk result (λ all. all.items ≡ filter (λ b. b.0 % factor == 0) (consecutive 0 10)) }
+    ensures { IfOk result (λ all. all.items ≡ filter (λ b. b.0 % factor == 0)
+        (consecutive_blocks 0 10)) }
 {
     all_of(
         alloc,

@@ -1,1 +1,1 @@
-mod Ending
+mod WholeReads

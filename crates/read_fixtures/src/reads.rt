@@ -5,10 +5,10 @@ ghost use Rattle.aio_word.specs.declared.WaitRef.{WaitRef};
 ghost use Rattle.aio_word.specs.declared.Word.{Word};
 ghost use Rattle.aio_word.specs.Stands.{IsIn};
 ghost use Rattle.aio_word.specs.Tokens.{IsInFlight};
-ghost use Rattle.aio_handle.specs.Made.{Looked, IsCompleted};
-ghost use Rattle.aio_handle.specs.Shown.{IsOf, IsSame};
+ghost use Rattle.aio_handle.specs.CallEvents.{WordLoaded, IsCompleted};
+ghost use Rattle.aio_handle.specs.ContractViews.{IsActorOf, IsSameActor};
 ghost use Rattle.aio_callback.specs.declared.chain.CallbackId.TheVariants.{Count, Buffer, File};
-ghost use Rattle.aio_callback.specs.Reading.{aim_in, aimed_at};
+ghost use Rattle.aio_callback.specs.ReadIoView.{record_aim, with_aim};
 ghost use Rattle.aio_fixtures.specs.Lives.{HasUnreclaimed, IsSubmitted};
 
 use aio_callback::{CallbackId, Counts, ReadIo};
@@ -23,14 +23,14 @@ pub fn submit_read<W: World>(
     mut io: ReadIo,
     block: u32,
 ) -> Option<InFlight<W>>
-    requires table { IsOf table.now actor.old }
+    requires table { IsActorOf table.now actor.old }
     requires backend { actor.old.known.number < table.now.config.backends }
     requires some { 0 < W.relations }
     requires room { 1 ≤ length io.pages }
-    ensures same { IsSame actor.old actor.new }
+    ensures same { IsSameActor actor.old actor.new }
     ensures submitted { IfSome result (λ t. IsSubmitted t actor.old.known actor.new.known) }
     ensures aim { IfSome result (λ t. IsIn
-        (t, aim_in (aimed_at 0 block 1 (Count ∷ Buffer ∷ File ∷ []) io)) actor.new.known.aims) }
+        (t, record_aim (with_aim 0 block 1 (Count ∷ Buffer ∷ File ∷ []) io)) actor.new.known.aims) }
 {
     let ids = [CallbackId::Count, CallbackId::Buffer, CallbackId::File];
     if io.aim(0, block, 1, &ids).is_err() {
@@ -46,15 +46,15 @@ pub fn take_and_reclaim<W: World>(
     actor: &mut Actor<ReadIo, W>,
     token: InFlight<W>,
 ) -> bool
-    requires table { IsOf table.now actor.old }
+    requires table { IsActorOf table.now actor.old }
     requires token { IsInFlight actor.old.known token }
-    ensures same { IsSame actor.old actor.new }
+    ensures same { IsSameActor actor.old actor.new }
     ensures kept { (u : WaitRef) → u ≢ token → IsInFlight actor.old.known u
         → IsInFlight actor.new.known u }
     ensures unreclaimed { IsTrue result → (ts : List WaitRef)
         → HasUnreclaimed (token ∷ ts) actor.old.known → HasUnreclaimed ts actor.new.known }
     ensures not_yet { IsFalse result → IsInFlight actor.new.known token
-        × ((w : Word) × Looked token.handle w actor.old.known actor.new.known
+        × ((w : Word) × WordLoaded token.handle w actor.old.known actor.new.known
         × (IsCompleted w token.generation → ⊥)) }
 {
     let Take::Ready(mut local) = table.try_take(actor, token) else {

@@ -1,1 +1,1 @@
-pub mod Combining
+pub mod CombinedRuns

@@ -1,4 +1,4 @@
-pub mod Inside
+pub mod PlanInvariant
 pub mod Offered
 pub mod Plans
 pub mod Runs

@@ -3,7 +3,7 @@ use Rattle.std.specs.Prelude.{ℕ, ◌<◌, ◌≤◌, Bool, min, if◌then◌el
 use Rattle.read_plan.specs.declared.runs.Run.{Run}
 
 -- the parts of a plan that calls speak of (after ReadStream of read_stream.c)
-pub record Planned : Type 0 where
+pub record PlanView : Type 0 where
   -- the most blocks of a run: io_combine_limit
   pub combine : ℕ
   -- the most I/Os in progress
@@ -22,7 +22,7 @@ pub record Planned : Type 0 where
   pub pending : Option Run
 
 -- a plan before its first block: the distance is 1, or large enough for a whole run at once
-abbrev pub new_plan : ℕ → ℕ → ℕ → Bool → ℕ → Planned
+abbrev pub new_plan : ℕ → ℕ → ℕ → Bool → ℕ → PlanView
 new_plan combine max_ios limit full segment = record {
   combine = combine;
   max_ios = max_ios;
@@ -35,12 +35,12 @@ new_plan combine max_ios limit full segment = record {
 }
 
 -- fewer blocks ahead than the distance, and fewer I/Os in progress than there may be
-abbrev pub MayLookAhead : Planned → Type 0
+abbrev pub MayLookAhead : PlanView → Type 0
 MayLookAhead plan = (plan.blocks_ahead < plan.distance) × (plan.ios_in_progress < plan.max_ios)
 
 -- what stands of every plan: its settings are in their ranges (this project's own), and the
 -- distance is from 1 to the limit
-pub record IsSound (plan : Planned) : Type 0 where
+pub record IsSoundPlan (plan : PlanView) : Type 0 where
   pub combine : (1 ≤ plan.combine) × (plan.combine ≤ 128)
   pub max_ios : (1 ≤ plan.max_ios) × (plan.max_ios ≤ 64)
   pub limit : plan.limit ≤ 16384

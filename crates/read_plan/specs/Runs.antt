@@ -4,8 +4,8 @@ use Rattle.std.specs.List.{range_with_len, flat_map}
 use Rattle.read_plan.specs.declared.runs.Run.{Run}
 
 -- the blocks of a run: first, first + 1 and so on, as many as it counts
-abbrev pub blocks_of : Run → List ℕ
-blocks_of run = range_with_len run.first run.count
+abbrev pub run_blocks : Run → List ℕ
+run_blocks run = range_with_len run.first run.count
 
 -- a run of one block
 abbrev pub one_block : ℕ → Run
@@ -26,7 +26,7 @@ pub record IsWithin (segment : ℕ) (run : Run) : Type 0 where
 pub record AreRuns (combine segment : ℕ) (runs : List Run) (blocks : List ℕ) : Type 0 where
   pub each : All (IsRun combine) runs
   pub within : All (IsWithin segment) runs
-  pub in_order : flat_map blocks_of runs ≡ blocks
+  pub in_order : flat_map run_blocks runs ≡ blocks
 
 -- the run is shorter than `combine` and ends right before the block, which is no multiple of the
 -- segment size

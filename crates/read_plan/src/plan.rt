@@ -2,14 +2,14 @@
 ghost use Rattle.std.specs.Prelude.{◌≡◌, ◌+◌, ◌-◌, ◌*◌, ◌^◌, ◌<◌, ◌≤◌, ◌↔◌, min, max};
 ghost use Rattle.std.specs.Prelude.{[], ◌∷◌, None, IsTrue, IfSome};
 ghost use Rattle.std.specs.Option.{option_to_list};
-ghost use Rattle.read_plan.specs.Offered.{Offers, RunsGoOn, IfFlush, flushed};
-ghost use Rattle.read_plan.specs.Plans.{IsSound, MayLookAhead, new_plan};
+ghost use Rattle.read_plan.specs.Offered.{Offers, RunsCoverBlocks, IfFlush, flushed_runs};
+ghost use Rattle.read_plan.specs.Plans.{IsSoundPlan, MayLookAhead, new_plan};
 ghost use Rattle.read_plan.specs.Runs.{AreRuns, IsRun, IsWithin};
 
 use crate::runs::{Offer, Run};
 use std::marker::Model;
 
-/// The plan of one read stream: what contracts see of it is a `Planned`.
+/// The plan of one read stream: what contracts see of it is a `PlanView`.
 #[derive(Drop)]
 pub struct Plan {
     combine: u32,
@@ -23,15 +23,15 @@ pub struct Plan {
 }
 
 impl Model for Plan {
-    ghost use Rattle.read_plan.specs.Plans.{Planned};
+    ghost use Rattle.read_plan.specs.Plans.{PlanView};
 
-    ghost Value = { Planned };
+    ghost Value = { PlanView };
 
-    ghost use Rattle.read_plan.specs.Inside.{planned, IsKept};
+    ghost use Rattle.read_plan.specs.PlanInvariant.{plan_view, PlanInvariant};
 
-    ghost view = { planned };
+    ghost view = { plan_view };
 
-    ghost invariant = { IsKept };
+    ghost invariant = { PlanInvariant };
 }
 
 impl Plan {
@@ -45,7 +45,7 @@ impl Plan {
         requires limit { (1 ≤ limit) × (limit ≤ 16384) }
         requires segment { 1 ≤ segment }
         ensures plan { result ≡ new_plan combine max_ios limit full segment }
-        ensures sound { IsSound result }
+        ensures sound { IsSoundPlan result }
         ensures runs { AreRuns combine segment (option_to_list result.pending) [] }
     {
         Plan {
@@ -65,7 +65,7 @@ impl Plan {
         ensures answer { Offers self.old.combine self.old.segment self.old.pending block result
             self.new.pending }
         ensures rest { self.new ≡ record self.old { pending = self.new.pending } }
-        ensures runs { RunsGoOn self.old self.new (block ∷ []) (flushed result) }
+        ensures runs { RunsCoverBlocks self.old self.new (block ∷ []) (flushed_runs result) }
 
         ensures flushed { IfFlush result (IsRun self.old.combine) }
         ensures pending { IfSome self.new.pending (IsRun self.old.combine) }
@@ -93,7 +93,7 @@ impl Plan {
     pub fn take_pending(&mut self) -> Option<Run>
         ensures run { result ≡ self.old.pending }
         ensures rest { self.new ≡ record self.old { pending = None } }
-        ensures runs { RunsGoOn self.old self.new [] (option_to_list result) }
+        ensures runs { RunsCoverBlocks self.old self.new [] (option_to_list result) }
         ensures each { IfSome result (IsRun self.old.combine) }
         ensures within { IfSome result (IsWithin self.old.segment) }
     {
@@ -161,7 +161,7 @@ impl Plan {
     /// How many blocks the plan wants ahead, in blocks from 1 to the limit.
     pub fn distance(&self) -> u32
         ensures distance { result ≡ self.now.distance }
-        ensures sound { IsSound self.now }
+        ensures sound { IsSoundPlan self.now }
     {
         self.distance
     }

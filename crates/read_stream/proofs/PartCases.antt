@@ -7,9 +7,9 @@ use Rattle.aio_word.specs.declared.Class.TheVariants as class
 use Rattle.aio_result.specs.declared.AioResult.{AioResult}
 use Rattle.aio_result.specs.declared.Status.TheVariants.{Good, Partial, Warning, Error}
 use Rattle.aio_callback.specs.Cases.{IsOneOf, Whole, Rest, Warned, Invalid, Unread, PastEnd}
-use Rattle.aio_callback.specs.Cases.{given_of, stream_ids}
-use Rattle.aio_callback.specs.Reading.{Reading, zeroed_in}
-use Rattle.read_stream.specs.Parts.{Has}
+use Rattle.aio_callback.specs.Cases.{given_count, stream_ids}
+use Rattle.aio_callback.specs.ReadIoView.{ReadIoView, record_zeroed}
+use Rattle.read_stream.specs.Parts.{CoversBlock}
 
 not-good : Good ≡ Error → ⊥
 not-good e = cc
@@ -21,28 +21,29 @@ not-warning : Warning ≡ Error → ⊥
 not-warning e = cc
 
 -- where a page was zeroed, damaged pages are
-pub ids_zero : (zero : Bool) (io : Reading) (i : ℕ) → io.ids ≡ stream_ids zero
-    → (io.ids ≡ stream_ids false → zeroed_in io i ≡ false) → zeroed_in io i ≡ true
+pub ids_zero : (zero : Bool) (io : ReadIoView) (i : ℕ) → io.ids ≡ stream_ids zero
+    → (io.ids ≡ stream_ids false → record_zeroed io i ≡ false) → record_zeroed io i ≡ true
     → io.ids ≡ stream_ids true
 ids_zero true io i ids clean zeroed = ids
 ids_zero false io i ids clean zeroed = let z = clean ids in absurd (cc)
 
-module _ (zero : Bool) (told : Option Told) (io : Reading) (block : ℕ) (has : Has io block) where
+module _ (zero : Bool) (told : Option Told) (io : ReadIoView) (block : ℕ)
+    (has : CoversBlock io block) where
   -- its number of good pages
   abbrev g : ℕ
-  g = given_of io.result
+  g = given_count io.result
 
   -- where no error stands at the block, the read ended before it
   pub part_rest : IsOneOf zero told io → g ≤ block - io.first → (io.result.status ≡ Error → ⊥)
       → io.first < block
   part_rest (Whole is ended) le fine =
-      let n : g ≡ io.count = ap (λ (z : AioResult). given_of z) is in
+      let n : g ≡ io.count = ap (λ (z : AioResult). given_count z) is in
       let (a, b) = has in absurd (omega arith)
   part_rest (Rest n is some few ended) le fine =
-      let m : g ≡ n = ap (λ (z : AioResult). given_of z) is in
+      let m : g ≡ n = ap (λ (z : AioResult). given_count z) is in
       let (a, b) = has in omega arith
   part_rest (Warned k n on is some most ended) le fine =
-      let m : g ≡ n = ap (λ (z : AioResult). given_of z) is in
+      let m : g ≡ n = ap (λ (z : AioResult). given_count z) is in
       let (a, b) = has in omega arith
   part_rest (Invalid i off is below bad) le fine =
       absurd (fine (ap (λ (z : AioResult). z.status) is))
@@ -59,7 +60,7 @@ module _ (zero : Bool) (told : Option Told) (io : Reading) (block : ℕ) (has : 
   part_invalid (Warned k n on is some most ended) at error two =
       absurd (not-warning (sym (ap (λ (z : AioResult). z.status) is) ∙ error))
   part_invalid (Invalid i off is below bad) at error two =
-      let m : g ≡ i = ap (λ (z : AioResult). given_of z) is in
+      let m : g ≡ i = ap (λ (z : AioResult). given_count z) is in
       let (a, b) = has in
       let at : io.first + i ≡ block = omega arith in
       (off, subst (λ (z : ℕ). IfSome told (λ t. found_at t io.relation z ≡ Damaged)) at bad)
@@ -80,7 +81,7 @@ module _ (zero : Bool) (told : Option Told) (io : Reading) (block : ℕ) (has : 
   part_unread (Invalid i off is below bad) at error not_two one =
       absurd (not_two (ap (λ (z : AioResult). z.id) is))
   part_unread (Unread is ended) at error not_two one =
-      let m : g ≡ 0 = ap (λ (z : AioResult). given_of z) is in
+      let m : g ≡ 0 = ap (λ (z : AioResult). given_count z) is in
       let (a, b) = has in (omega arith, ended)
   part_unread (PastEnd is ended past) at error not_two one =
       let m : io.result.error ≡ 2 = ap (λ (z : AioResult). z.error) is in absurd (omega arith)
@@ -99,7 +100,7 @@ module _ (zero : Bool) (told : Option Told) (io : Reading) (block : ℕ) (has : 
   part_past (Unread is ended) at error not_two not_one =
       absurd (not_one (ap (λ (z : AioResult). z.error) is))
   part_past (PastEnd is ended past) at error not_two not_one =
-      let m : g ≡ 0 = ap (λ (z : AioResult). given_of z) is in
+      let m : g ≡ 0 = ap (λ (z : AioResult). given_count z) is in
       let (a, b) = has in
       let at : io.first ≡ block = omega arith in
       subst (λ (z : ℕ). IfSome told (λ t. found_at t io.relation z ≡ Absent)) at past

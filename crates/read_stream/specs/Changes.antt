@@ -3,32 +3,32 @@ use Rattle.circular_buffer.specs.Buffer.{buffer}
 use Rattle.std.specs.Prelude.{◌≡◌, ◌+◌, ◌-◌, ◌++◌, [], ◌∷◌, length, drop}
 use Rattle.read_plan.specs.declared.runs.Run.{Run}
 use Rattle.read_stream.specs.declared.answer.Step.TheVariants as step
-use Rattle.read_stream.specs.declared.queue.Asked.{Asked}
+use Rattle.read_stream.specs.declared.queue.QueuedBlock.{QueuedBlock}
 use Rattle.read_stream.specs.declared.queue.Want.{Want}
 use Rattle.read_stream.specs.declared.queue.Want.TheVariants as want
 use Rattle.read_stream.specs.declared.stream.ReadStream.{ReadStream}
-use Rattle.read_stream.specs.Issued.{records_in, made_in}
-use Rattle.read_stream.specs.Desks.{IsSameDesk}
+use Rattle.read_stream.specs.StreamIos.{record_count, ios_allowed}
+use Rattle.read_stream.specs.Desks.{SameDeskSettings}
 
--- what stays over a whole call
-pub record Keeps {W S P : Type 0} (old new : ReadStream W S P) : Type 0 where
+-- what is the same over a whole call
+pub record SameStream {W S P : Type 0} (old new : ReadStream W S P) : Type 0 where
   pub desk : new.desk.ghost_name ≡ old.desk.ghost_name
   pub scope : new.scope ≡ old.scope
   pub source_was : new.source_was ≡ old.source_was
 
 -- what looking ahead leaves as it is
-pub record Stays {W S P : Type 0} (old new : ReadStream W S P) : Type 0 where
-  pub keeps : Keeps old new
-  pub settings : IsSameDesk old.desk.now new.desk.now
+pub record ConsumerUnchanged {W S P : Type 0} (old new : ReadStream W S P) : Type 0 where
+  pub keeps : SameStream old new
+  pub settings : SameDeskSettings old.desk.now new.desk.now
   pub pin : new.pin ≡ old.pin
   pub current : new.current ≡ old.current
   pub step : new.step ≡ old.step
   pub given : new.given ≡ old.given
 
 -- what serving a block leaves as it is, until the block is given
-pub record Moves {W S P : Type 0} (old new : ReadStream W S P) : Type 0 where
-  pub keeps : Keeps old new
-  pub settings : IsSameDesk old.desk.now new.desk.now
+pub record LookAheadUnchanged {W S P : Type 0} (old new : ReadStream W S P) : Type 0 where
+  pub keeps : SameStream old new
+  pub settings : SameDeskSettings old.desk.now new.desk.now
   pub source : new.source ≡ old.source
   pub over : new.over ≡ old.over
   pub queue : new.desk.now.queue ≡ old.desk.now.queue
@@ -40,11 +40,11 @@ pub record Moves {W S P : Type 0} (old new : ReadStream W S P) : Type 0 where
   pub combine : new.plan.combine ≡ old.plan.combine
   pub max_ios : new.plan.max_ios ≡ old.plan.max_ios
   pub limit : new.plan.limit ≡ old.plan.limit
-  pub made : made_in new.desk.now.reads ≡ made_in old.desk.now.reads
+  pub made : ios_allowed new.desk.now.reads ≡ ios_allowed old.desk.now.reads
 
 -- the run was started by a free record
-pub record Starts {W S P : Type 0} (run : Run) (old new : ReadStream W S P) : Type 0 where
-  pub stays : Stays old new
+pub record StartsRun {W S P : Type 0} (run : Run) (old new : ReadStream W S P) : Type 0 where
+  pub stays : ConsumerUnchanged old new
   pub source : new.source ≡ old.source
   pub over : new.over ≡ old.over
   pub queue : new.desk.now.queue ≡ old.desk.now.queue
@@ -52,25 +52,26 @@ pub record Starts {W S P : Type 0} (run : Run) (old new : ReadStream W S P) : Ty
       ≡ buffer (old.desk.now.wants.items ++ want.Run run ∷ []) old.desk.now.wants.capacity
   pub plan : new.plan ≡ record old.plan { ios_in_progress = old.plan.ios_in_progress + 1 }
   pub free : length old.desk.now.reads.free.items ≡ length new.desk.now.reads.free.items + 1
-  pub records : records_in new.desk.now.reads ≡ records_in old.desk.now.reads
-  pub made : made_in new.desk.now.reads ≡ made_in old.desk.now.reads
-  pub credit : old.desk.now.reads.credit ≡ new.desk.now.reads.credit + 1
+  pub records : record_count new.desk.now.reads ≡ record_count old.desk.now.reads
+  pub made : ios_allowed new.desk.now.reads ≡ ios_allowed old.desk.now.reads
+  pub io_budget : old.desk.now.reads.io_budget ≡ new.desk.now.reads.io_budget + 1
 
 -- the block was put into the queue
-pub record Asks {W S P : Type 0} (a : Asked P) (old new : ReadStream W S P) : Type 0 where
-  pub stays : Stays old new
+pub record EnqueuesBlock {W S P : Type 0} (a : QueuedBlock P) (old new : ReadStream W S P)
+    : Type 0 where
+  pub stays : ConsumerUnchanged old new
   pub source : new.source ≡ old.source
   pub over : new.over ≡ old.over
   pub queue : new.desk.now.queue
       ≡ buffer (old.desk.now.queue.items ++ a ∷ []) old.desk.now.queue.capacity
   pub wants : new.desk.now.wants ≡ old.desk.now.wants
   pub reads : new.desk.now.reads
-      ≡ record old.desk.now.reads { credit = old.desk.now.reads.credit + 1 }
+      ≡ record old.desk.now.reads { io_budget = old.desk.now.reads.io_budget + 1 }
   pub plan : new.plan ≡ record old.plan { blocks_ahead = old.plan.blocks_ahead + 1 }
 
 -- what is wanted first is not wanted any more
-pub record Skips {W S P : Type 0} (old new : ReadStream W S P) : Type 0 where
-  pub stays : Stays old new
+pub record PopsWant {W S P : Type 0} (old new : ReadStream W S P) : Type 0 where
+  pub stays : ConsumerUnchanged old new
   pub source : new.source ≡ old.source
   pub over : new.over ≡ old.over
   pub queue : new.desk.now.queue ≡ old.desk.now.queue
@@ -81,19 +82,20 @@ pub record Skips {W S P : Type 0} (old new : ReadStream W S P) : Type 0 where
 
 -- one I/O was made and taken in, by a record that was nowhere before
 pub record ReadsOne {W S P : Type 0} (old new : ReadStream W S P) : Type 0 where
-  pub moves : Moves old new
+  pub moves : LookAheadUnchanged old new
   pub pin : new.pin ≡ old.pin
   pub wants : new.desk.now.wants ≡ old.desk.now.wants
   pub ios : new.plan.ios_in_progress ≡ old.plan.ios_in_progress
   pub batch : new.desk.now.reads.batch ≡ []
   pub free : new.desk.now.reads.free ≡ old.desk.now.reads.free
-  pub records : records_in new.desk.now.reads ≡ records_in old.desk.now.reads
-  pub credit : old.desk.now.reads.credit ≡ new.desk.now.reads.credit + 1
+  pub records : record_count new.desk.now.reads ≡ record_count old.desk.now.reads
+  pub io_budget : old.desk.now.reads.io_budget ≡ new.desk.now.reads.io_budget + 1
 
 -- the page of the block at the front was given
-pub record Gives {W S P : Type 0} (a : Asked P) (old new : ReadStream W S P) : Type 0 where
-  pub keeps : Keeps old new
-  pub settings : IsSameDesk old.desk.now new.desk.now
+pub record GivesPage {W S P : Type 0} (a : QueuedBlock P) (old new : ReadStream W S P)
+    : Type 0 where
+  pub keeps : SameStream old new
+  pub settings : SameDeskSettings old.desk.now new.desk.now
   pub source : new.source ≡ old.source
   pub over : new.over ≡ old.over
   pub pin : new.pin ≡ old.pin
@@ -107,8 +109,8 @@ pub record Gives {W S P : Type 0} (a : Asked P) (old new : ReadStream W S P) : T
   pub step : new.step ≡ step.Page a.block a.per_buffer_data
 
 -- the block is wanted from the pool
-pub record Puts {W S P : Type 0} (w : Want) (old new : ReadStream W S P) : Type 0 where
-  pub stays : Stays old new
+pub record PushesWant {W S P : Type 0} (w : Want) (old new : ReadStream W S P) : Type 0 where
+  pub stays : ConsumerUnchanged old new
   pub source : new.source ≡ old.source
   pub over : new.over ≡ old.over
   pub queue : new.desk.now.queue ≡ old.desk.now.queue

@@ -1,10 +1,10 @@
-pub mod Went
-pub mod Crews
-pub mod Issued
-pub mod Answering
+pub mod ActorProgress
+pub mod IoContexts
+pub mod StreamIos
+pub mod StreamAnswers
 pub mod Parts
 pub mod Desks
-pub mod Wanted
-pub mod Hands
-pub mod Open
+pub mod WantedBlocks
+pub mod PagesAtHand
+pub mod StreamState
 pub mod Changes

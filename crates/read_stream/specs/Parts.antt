@@ -4,20 +4,20 @@ use Rattle.page_check.specs.Told.{Told}
 use Rattle.page_check.specs.SynchronousAnswer.{Damaged, Absent, found_at}
 use Rattle.aio_word.specs.declared.Class.TheVariants.{Failed}
 use Rattle.aio_callback.specs.Cases.{stream_ids}
-use Rattle.aio_callback.specs.Chain.{good_of}
-use Rattle.aio_callback.specs.Reading.{Reading, zeroed_in}
+use Rattle.aio_callback.specs.Chain.{good_count}
+use Rattle.aio_callback.specs.ReadIoView.{ReadIoView, record_zeroed}
 use Rattle.read_stream.specs.declared.answer.Ending.TheVariants as ending
 use Rattle.read_stream.specs.declared.parts.Part.{Part}
 use Rattle.read_stream.specs.declared.parts.Part.TheVariants as part
 
 -- the record was to read the block
-abbrev pub Has : Reading → ℕ → Type 0
-Has io block = (io.first ≤ block) × (block - io.first < io.count)
+abbrev pub CoversBlock : ReadIoView → ℕ → Type 0
+CoversBlock io block = (io.first ≤ block) × (block - io.first < io.count)
 
 -- a page was zeroed, and is not what stops the stream, only where damaged pages are zeroed
-abbrev pub IsPart : Option Told → Reading → ℕ → Part → Type 0
-IsPart told io block part.Page = (block - io.first < good_of io.ids io.result)
-    × (zeroed_in io (block - io.first) ≡ true → io.ids ≡ stream_ids true)
+abbrev pub IsPart : Option Told → ReadIoView → ℕ → Part → Type 0
+IsPart told io block part.Page = (block - io.first < good_count io.ids io.result)
+    × (record_zeroed io (block - io.first) ≡ true → io.ids ≡ stream_ids true)
 IsPart told io block part.Rest = io.first < block
 IsPart told io block (part.Stop ending.End) = ⊥
 IsPart told io block (part.Stop (ending.Invalid b)) =

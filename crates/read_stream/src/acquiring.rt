@@ -1,12 +1,13 @@
 //! How a stream has a handle of its actor for the next I/O.
 ghost use Rattle.std.specs.Prelude.{◌≡◌, ◌≤◌, ◌<◌, length, IfSome, IfNone, ℕ, List};
 ghost use Rattle.aio_handle.specs.Free.{HasNoneFree};
-ghost use Rattle.aio_handle.specs.Shown.{IsOf, IsSame};
-ghost use Rattle.read_stream.specs.Crews.{IsHanded, Serves};
+ghost use Rattle.aio_handle.specs.ContractViews.{IsActorOf, IsSameActor};
+ghost use Rattle.read_stream.specs.IoContexts.{IsValidContext, ContextAdvanced};
 ghost use Rattle.read_plan.specs.declared.runs.Run.{Run};
-ghost use Rattle.read_stream.specs.Issued.{Issued, HandedBy, AreFor, records_in, made_in};
+ghost use Rattle.read_stream.specs.StreamIos.{Issued, HandleHandedOut, ReadsForRuns, record_count};
+ghost use Rattle.read_stream.specs.StreamIos.{ios_allowed};
 
-use crate::crew::Crew;
+use crate::io_context::IoContext;
 use crate::reads::Reads;
 use crate::scope::Scope;
 use aio_batch::Method;
@@ -24,19 +25,19 @@ impl<W: World> Reads<W> {
         table: &Table<ReadIo, W>,
         actor: &mut Actor<ReadIo, W>,
     ) -> Option<HandedOut<W>>
-        requires table { IsOf table.now actor.old }
+        requires table { IsActorOf table.now actor.old }
         requires backend { actor.old.known.number < table.now.config.backends }
         requires issued { Issued scope.now W.told W.relations actor.old.known self.now }
-        ensures same { IsSame actor.old actor.new }
-        ensures handed { IfSome result (λ t. (reads faults : ℕ) → HandedBy scope.now W.told
+        ensures same { IsSameActor actor.old actor.new }
+        ensures handed { IfSome result (λ t. (reads faults : ℕ) → HandleHandedOut scope.now W.told
             W.relations actor.old.known actor.new.known reads reads faults faults self.now t) }
         ensures none { IfNone result ((actor.new ≡ actor.old)
             × HasNoneFree table.now.config actor.old.known) }
     {
-        actor.keeps();
+        actor.has_seen_its_marks();
         match table.acquire(actor) {
             Ok(token) => {
-                actor.keeps();
+                actor.has_seen_its_marks();
                 Some(token)
             }
             Err(_) => None,
@@ -48,28 +49,31 @@ impl<W: World> Reads<W> {
         &mut self,
         rt: &T,
         scope: &Scope<W>,
-        crew: &mut Crew<W, M, E>,
+        context: &mut IoContext<W, M, E>,
     ) -> HandedOut<W>
-        requires handed { IsHanded E.told E.relations W.told W.relations scope.now crew.old }
-        requires issued { Issued scope.now W.told W.relations crew.old.actor.now.known self.old }
-        requires credit { made_in self.old < scope.now.most }
-        ensures serves { Serves E.told E.relations E.reads E.faults M.stands_on crew.old crew.new }
-        ensures handed { HandedBy scope.now W.told W.relations crew.old.actor.now.known
-            crew.new.actor.now.known (E.reads crew.old.runner.now) (E.reads crew.new.runner.now)
-            (E.faults crew.old.runner.now) (E.faults crew.new.runner.now) self.new result }
-        ensures all { (records_in self.new ≡ records_in self.old)
-            × (made_in self.new ≡ made_in self.old)
-            × (self.new.free ≡ self.old.free) × (self.new.credit ≡ self.old.credit) }
+        requires handed { IsValidContext E.told E.relations W.told W.relations scope.now
+            context.old }
+        requires issued { Issued scope.now W.told W.relations context.old.actor.now.known self.old }
+        requires io_budget { ios_allowed self.old < scope.now.most }
+        ensures serves { ContextAdvanced E.told E.relations E.reads E.faults M.stands_on context.old
+            context.new }
+        ensures handed { HandleHandedOut scope.now W.told W.relations context.old.actor.now.known
+            context.new.actor.now.known (E.reads context.old.runner.now)
+            (E.reads context.new.runner.now)
+            (E.faults context.old.runner.now) (E.faults context.new.runner.now) self.new result }
+        ensures all { (record_count self.new ≡ record_count self.old)
+            × (ios_allowed self.new ≡ ios_allowed self.old)
+            × (self.new.free ≡ self.old.free) × (self.new.io_budget ≡ self.old.io_budget) }
         ensures batch { length self.new.batch ≤ length self.old.batch }
-        ensures runs { (runs : List Run) → AreFor scope.now crew.old.actor.now.known self.old runs
-            → AreFor scope.now crew.new.actor.now.known self.new runs }
+        ensures runs { (runs : List Run) → ReadsForRuns scope.now context.old.actor.now.known
+            self.old runs → ReadsForRuns scope.now context.new.actor.now.known self.new runs }
     {
-        if let Some(token) = self.hand_out(scope, crew.table, crew.actor) {
+        if let Some(token) = self.hand_out(scope, context.table, context.actor) {
             return token;
         }
-        self.submit(rt, scope, crew);
-        self.take_in(rt, scope, crew);
-        match self.hand_out(scope, crew.table, crew.actor) {
+        self.submit(rt, scope, context);
+        self.take_in(rt, scope, context);
+        match self.hand_out(scope, context.table, context.actor) {
             Some(token) => token,
             None => unreachable!(),
         }

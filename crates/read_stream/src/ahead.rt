@@ -1,15 +1,15 @@
 //! How a stream looks ahead.
 ghost use Rattle.std.specs.Prelude.{◌≡◌, ◌<◌, ◌≤◌, ◌+◌, ◌-◌, ◌^◌, [], ◌∷◌, length, IsTrue, IfSome};
 ghost use Rattle.std.specs.Prelude.{true, false, ◌⊎◌};
-ghost use Rattle.read_stream.specs.Crews.{IsHanded, Serves};
+ghost use Rattle.read_stream.specs.IoContexts.{IsValidContext, ContextAdvanced};
 ghost use Rattle.read_plan.specs.Plans.{MayLookAhead};
-ghost use Rattle.read_stream.specs.Wanted.{IsWant, blocks_by, runs_by};
-ghost use Rattle.read_stream.specs.Hands.{rest_of};
-ghost use Rattle.read_stream.specs.Open.{Underway, UnderwayBut};
-ghost use Rattle.read_stream.specs.Changes.{Asks, Puts, Stays};
+ghost use Rattle.read_stream.specs.WantedBlocks.{IsWant, blocks_of_want, runs_of_want};
+ghost use Rattle.read_stream.specs.PagesAtHand.{record_blocks_left};
+ghost use Rattle.read_stream.specs.StreamState.{Underway, UnderwayWith};
+ghost use Rattle.read_stream.specs.Changes.{EnqueuesBlock, PushesWant, ConsumerUnchanged};
 
-use crate::crew::Crew;
-use crate::queue::{Asked, Want};
+use crate::io_context::IoContext;
+use crate::queue::{QueuedBlock, Want};
 use crate::ring::push;
 use crate::stream::ReadStream;
 use aio_batch::Method;
@@ -26,24 +26,26 @@ impl<'d, 'p, W: World, S: BlockSource<P> + Drop, P: Copy> ReadStream<'d, 'p, W, 
     fn offer<M: Method<ReadIo, W>, E: Execute<ReadIo, W>, T: Wait>(
         &mut self,
         rt: &T,
-        crew: &mut Crew<W, M, E>,
+        context: &mut IoContext<W, M, E>,
         block: u32,
     )
-        requires handed { IsHanded E.told E.relations W.told W.relations self.old.scope crew.old }
-        requires underway { UnderwayBut S.left W.told W.relations W.handles (rest_of
-            self.old.current self.old.step) (block ∷ []) 0 crew.old.actor.now.known self.old }
+        requires handed { IsValidContext E.told E.relations W.told W.relations self.old.scope
+            context.old }
+        requires underway { UnderwayWith S.left W.told W.relations W.handles (record_blocks_left
+            self.old.current self.old.step) (block ∷ []) 0 context.old.actor.now.known self.old }
         requires free { 1 < length self.old.desk.now.reads.free.items }
-        ensures serves { Serves E.told E.relations E.reads E.faults M.stands_on crew.old crew.new }
-        ensures underway { Underway S.left W.told W.relations W.handles crew.new.actor.now.known
+        ensures serves { ContextAdvanced E.told E.relations E.reads E.faults M.stands_on context.old
+            context.new }
+        ensures underway { Underway S.left W.told W.relations W.handles context.new.actor.now.known
             self.new }
-        ensures stays { Stays self.old self.new }
+        ensures stays { ConsumerUnchanged self.old self.new }
         ensures ahead { (self.new.plan.blocks_ahead ≡ self.old.plan.blocks_ahead)
             × (self.new.over ≡ self.old.over) }
     {
         match self.plan.offer(block) {
-            Offer::Flush(run) => self.start(rt, crew, run),
+            Offer::Flush(run) => self.start(rt, context, run),
             Offer::Start | Offer::Extended => {
-                self.start_whole(rt, crew);
+                self.start_whole(rt, context);
             }
         }
     }
@@ -51,7 +53,7 @@ impl<'d, 'p, W: World, S: BlockSource<P> + Drop, P: Copy> ReadStream<'d, 'p, W, 
     // The block from where the pool has it or awaits it now.
     fn from_pool<T: Wait>(&self, rt: &T, block: u32) -> Option<Want>
         ensures { IfSome result (λ w. IsWant self.now.desk.now.combine W.handles w
-            × (blocks_by w ≡ block ∷ []) × (runs_by w ≡ [])) }
+            × (blocks_of_want w ≡ block ∷ []) × (runs_of_want w ≡ [])) }
     {
         let tag = Tag {
             relation: self.scope.relation,
@@ -65,9 +67,9 @@ impl<'d, 'p, W: World, S: BlockSource<P> + Drop, P: Copy> ReadStream<'d, 'p, W, 
     }
 
     // The block is wanted from the pool.
-    fn put(&mut self, want: Want)
+    fn push_want(&mut self, want: Want)
         requires { length self.old.desk.now.wants.items < self.old.desk.now.wants.capacity }
-        ensures { Puts want self.old self.new }
+        ensures { PushesWant want self.old self.new }
     {
         push(&mut self.desk.wants, want);
         if let Want::Look(_) = want {
@@ -76,60 +78,65 @@ impl<'d, 'p, W: World, S: BlockSource<P> + Drop, P: Copy> ReadStream<'d, 'p, W, 
     }
 
     // Puts the block into the queue.
-    fn ask(&mut self, block: u32, per_buffer_data: P)
+    fn enqueue(&mut self, block: u32, per_buffer_data: P)
         requires room { length self.old.desk.now.queue.items < self.old.desk.now.queue.capacity }
         requires ahead { self.old.plan.blocks_ahead < 2 ^ 32 - 1 }
-        requires credit { self.old.desk.now.reads.credit < 2 ^ 64 - 1 }
-        ensures { Asks (record { block = block; per_buffer_data = per_buffer_data })
+        requires io_budget { self.old.desk.now.reads.io_budget < 2 ^ 64 - 1 }
+        ensures { EnqueuesBlock (record { block = block; per_buffer_data = per_buffer_data })
             self.old self.new }
     {
-        let asked = Asked {
+        let asked = QueuedBlock {
             block,
             per_buffer_data,
         };
         push(&mut self.desk.queue, asked);
         self.plan.taken();
-        self.desk.reads.credit += 1;
+        self.desk.reads.io_budget += 1;
     }
 
     // Starts the pending run, and has the block from the pool.
     fn look_for<M: Method<ReadIo, W>, E: Execute<ReadIo, W>, T: Wait>(
         &mut self,
         rt: &T,
-        crew: &mut Crew<W, M, E>,
+        context: &mut IoContext<W, M, E>,
         want: Want,
     )
-        requires handed { IsHanded E.told E.relations W.told W.relations self.old.scope crew.old }
-        requires underway { UnderwayBut S.left W.told W.relations W.handles (rest_of
-            self.old.current self.old.step) (blocks_by want) 0 crew.old.actor.now.known self.old }
-        requires want { IsWant self.old.desk.now.combine W.handles want × (runs_by want ≡ [])
-            × (length (blocks_by want) ≡ 1) }
+        requires handed { IsValidContext E.told E.relations W.told W.relations self.old.scope
+            context.old }
+        requires underway { UnderwayWith S.left W.told W.relations W.handles (record_blocks_left
+            self.old.current self.old.step) (blocks_of_want want) 0 context.old.actor.now.known
+            self.old }
+        requires want { IsWant self.old.desk.now.combine W.handles want × (runs_of_want want ≡ [])
+            × (length (blocks_of_want want) ≡ 1) }
         requires free { 1 < length self.old.desk.now.reads.free.items }
-        ensures serves { Serves E.told E.relations E.reads E.faults M.stands_on crew.old crew.new }
-        ensures underway { Underway S.left W.told W.relations W.handles crew.new.actor.now.known
+        ensures serves { ContextAdvanced E.told E.relations E.reads E.faults M.stands_on context.old
+            context.new }
+        ensures underway { Underway S.left W.told W.relations W.handles context.new.actor.now.known
             self.new }
-        ensures stays { Stays self.old self.new }
+        ensures stays { ConsumerUnchanged self.old self.new }
         ensures ahead { (self.new.plan.blocks_ahead ≡ self.old.plan.blocks_ahead)
             × (self.new.over ≡ self.old.over) }
     {
-        self.start_pending(rt, crew);
-        self.put(want);
+        self.start_pending(rt, context);
+        self.push_want(want);
     }
 
     // Takes one block from the source, if there is one, and starts what is to be started then.
     fn take_next<M: Method<ReadIo, W>, E: Execute<ReadIo, W>, T: Wait>(
         &mut self,
         rt: &T,
-        crew: &mut Crew<W, M, E>,
+        context: &mut IoContext<W, M, E>,
     )
-        requires handed { IsHanded E.told E.relations W.told W.relations self.old.scope crew.old }
-        requires underway { Underway S.left W.told W.relations W.handles crew.old.actor.now.known
+        requires handed { IsValidContext E.told E.relations W.told W.relations self.old.scope
+            context.old }
+        requires underway { Underway S.left W.told W.relations W.handles context.old.actor.now.known
             self.old }
         requires ahead { MayLookAhead self.old.plan }
-        ensures serves { Serves E.told E.relations E.reads E.faults M.stands_on crew.old crew.new }
-        ensures underway { Underway S.left W.told W.relations W.handles crew.new.actor.now.known
+        ensures serves { ContextAdvanced E.told E.relations E.reads E.faults M.stands_on context.old
+            context.new }
+        ensures underway { Underway S.left W.told W.relations W.handles context.new.actor.now.known
             self.new }
-        ensures stays { Stays self.old self.new }
+        ensures stays { ConsumerUnchanged self.old self.new }
         ensures progress { IsTrue self.new.over
             ⊎ (self.new.plan.blocks_ahead ≡ self.old.plan.blocks_ahead + 1) }
         ensures no_less { self.old.plan.blocks_ahead ≤ self.new.plan.blocks_ahead }
@@ -141,10 +148,10 @@ impl<'d, 'p, W: World, S: BlockSource<P> + Drop, P: Copy> ReadStream<'d, 'p, W, 
             return;
         };
         let want = self.from_pool(rt, taken.0);
-        self.ask(taken.0, taken.1);
+        self.enqueue(taken.0, taken.1);
         match want {
-            Some(want) => self.look_for(rt, crew, want),
-            None => self.offer(rt, crew, taken.0),
+            Some(want) => self.look_for(rt, context, want),
+            None => self.offer(rt, context, taken.0),
         }
     }
 
@@ -162,20 +169,22 @@ impl<'d, 'p, W: World, S: BlockSource<P> + Drop, P: Copy> ReadStream<'d, 'p, W, 
     pub(crate) fn look_ahead<M: Method<ReadIo, W>, E: Execute<ReadIo, W>, T: Wait>(
         &mut self,
         rt: &T,
-        crew: &mut Crew<W, M, E>,
+        context: &mut IoContext<W, M, E>,
     )
-        requires handed { IsHanded E.told E.relations W.told W.relations self.old.scope crew.old }
-        requires underway { Underway S.left W.told W.relations W.handles crew.old.actor.now.known
+        requires handed { IsValidContext E.told E.relations W.told W.relations self.old.scope
+            context.old }
+        requires underway { Underway S.left W.told W.relations W.handles context.old.actor.now.known
             self.old }
-        ensures serves { Serves E.told E.relations E.reads E.faults M.stands_on crew.old crew.new }
-        ensures underway { Underway S.left W.told W.relations W.handles crew.new.actor.now.known
+        ensures serves { ContextAdvanced E.told E.relations E.reads E.faults M.stands_on context.old
+            context.new }
+        ensures underway { Underway S.left W.told W.relations W.handles context.new.actor.now.known
             self.new }
-        ensures stays { Stays self.old self.new }
+        ensures stays { ConsumerUnchanged self.old self.new }
         ensures ended { self.new.desk.now.queue.items ≡ [] → self.new.current ≡ None
             → S.left self.new.source ≡ [] }
     {
         while self.wants_more() {
-            self.take_next(rt, crew);
+            self.take_next(rt, context);
         }
     }
 }

@@ -1,12 +1,12 @@
 //! The memory of a stream.
 ghost use Rattle.std.specs.Prelude.{◌≡◌, ◌≤◌, ◌+◌, IfOk, IfSome, length};
-ghost use Rattle.read_stream.specs.Crews.{IsHanded, Serves};
-ghost use Rattle.read_stream.specs.Issued.{Issued, records_in, made_in};
-ghost use Rattle.read_stream.specs.Desks.{IsSameDesk, AreSettings, IsFree};
-ghost use Rattle.read_stream.specs.Hands.{count_some};
+ghost use Rattle.read_stream.specs.IoContexts.{IsValidContext, ContextAdvanced};
+ghost use Rattle.read_stream.specs.StreamIos.{Issued, record_count, ios_allowed};
+ghost use Rattle.read_stream.specs.Desks.{SameDeskSettings, AreValidSettings, IsFreeDesk};
+ghost use Rattle.read_stream.specs.PagesAtHand.{count_some};
 
-use crate::crew::Crew;
-use crate::queue::{Asked, Want};
+use crate::io_context::IoContext;
+use crate::queue::{QueuedBlock, Want};
 use crate::reads::Reads;
 use crate::scope::Scope;
 use aio_batch::Method;
@@ -47,7 +47,7 @@ pub struct Desk<W: World, P: Copy> {
     pub(crate) segment: u32,
     pub(crate) zero: bool,
     // The blocks that were taken from the source and not given.
-    pub(crate) queue: HeapCircularBuffer<Asked<P>>,
+    pub(crate) queue: HeapCircularBuffer<QueuedBlock<P>>,
     // How they are to be had, but for those at hand and those of the pending run.
     pub(crate) wants: HeapCircularBuffer<Want>,
     pub(crate) reads: Reads<W>,
@@ -57,9 +57,9 @@ impl<W: World, P: Copy> Desk<W, P> {
     /// A desk for streams with these settings. It takes all the memory that its streams need: one
     /// record more than there may be I/Os under way, for a block that has left the pool again.
     pub fn open(alloc: Global, settings: &Settings) -> Result<Desk<W, P>, AllocError>
-        requires settings { AreSettings settings.now.combine settings.now.ios settings.now.limit
-            settings.now.segment }
-        ensures free { IfOk result IsFree }
+        requires settings { AreValidSettings settings.now.combine settings.now.ios
+            settings.now.limit settings.now.segment }
+        ensures free { IfOk result IsFreeDesk }
         ensures settings { IfOk result (λ d. (d.combine ≡ settings.now.combine)
             × (d.ios ≡ settings.now.ios) × (d.limit ≡ settings.now.limit)
             × (d.full ≡ settings.now.full) × (d.batched ≡ settings.now.batch)
@@ -82,11 +82,11 @@ impl<W: World, P: Copy> Desk<W, P> {
     // For a new stream: it has made no I/O yet.
     pub(crate) fn begin(&mut self)
         ensures { self.new ≡ record self.old {
-          reads = record self.old.reads { taken_in = 0; credit = 0 };
+          reads = record self.old.reads { taken_in = 0; io_budget = 0 };
         } }
     {
         self.reads.taken_in = 0;
-        self.reads.credit = 0;
+        self.reads.io_budget = 0;
     }
 
     // A stream has ended: its I/Os are taken in, and `current` is its record besides. The answer is
@@ -95,34 +95,36 @@ impl<W: World, P: Copy> Desk<W, P> {
         &mut self,
         rt: &T,
         scope: &Scope<W>,
-        crew: &mut Crew<W, M, E>,
+        context: &mut IoContext<W, M, E>,
         current: Option<ReadIo>,
     ) -> u64
-        requires handed { IsHanded E.told E.relations W.told W.relations scope.now crew.old }
-        requires settings { AreSettings self.old.combine self.old.ios self.old.limit
+        requires handed { IsValidContext E.told E.relations W.told W.relations scope.now
+            context.old }
+        requires settings { AreValidSettings self.old.combine self.old.ios self.old.limit
             self.old.segment }
         requires desk { (scope.now.combine ≡ self.old.combine)
             × (scope.now.total ≡ self.old.ios + 1) × (self.old.limit ≤ self.old.queue.capacity)
             × (self.old.limit ≤ self.old.wants.capacity) }
-        requires issued { Issued scope.now W.told W.relations crew.old.actor.now.known
+        requires issued { Issued scope.now W.told W.relations context.old.actor.now.known
             self.old.reads }
         requires current { IfSome current (λ io. length io.pages ≡ scope.now.combine) }
-        requires all { records_in self.old.reads + count_some current ≡ scope.now.total }
-        ensures serves { Serves E.told E.relations E.reads E.faults M.stands_on crew.old crew.new }
-        ensures issued { Issued scope.now W.told W.relations crew.new.actor.now.known
+        requires all { record_count self.old.reads + count_some current ≡ scope.now.total }
+        ensures serves { ContextAdvanced E.told E.relations E.reads E.faults M.stands_on context.old
+            context.new }
+        ensures issued { Issued scope.now W.told W.relations context.new.actor.now.known
             self.new.reads }
-        ensures free { IsFree self.new × IsSameDesk self.old self.new }
+        ensures free { IsFreeDesk self.new × SameDeskSettings self.old self.new }
         ensures count { (result ≡ self.new.reads.taken_in)
-            × (made_in self.new.reads ≡ made_in self.old.reads) }
+            × (ios_allowed self.new.reads ≡ ios_allowed self.old.reads) }
     {
         self.queue.clear();
         self.wants.clear();
         match current {
             Some(io) => {
                 self.reads.release(io);
-                self.reads.finish(rt, scope, crew)
+                self.reads.finish(rt, scope, context)
             }
-            None => self.reads.finish(rt, scope, crew),
+            None => self.reads.finish(rt, scope, context),
         }
     }
 }

@@ -3,15 +3,16 @@ ghost use Rattle.std.specs.Prelude.{◌≡◌, ◌≤◌, ◌<◌, ◌+◌, ◌^
 ghost use Rattle.aio_word.specs.declared.WaitRef.{WaitRef};
 ghost use Rattle.aio_word.specs.Stands.{IsIn};
 ghost use Rattle.aio_word.specs.Tokens.{IsStaged};
-ghost use Rattle.read_stream.specs.Crews.{IsHanded, Serves};
-ghost use Rattle.aio_callback.specs.Reading.{Reading, aimed_at};
+ghost use Rattle.read_stream.specs.IoContexts.{IsValidContext, ContextAdvanced};
+ghost use Rattle.aio_callback.specs.ReadIoView.{ReadIoView, with_aim};
 ghost use Rattle.aio_callback.specs.Cases.{stream_ids};
 ghost use Rattle.read_plan.specs.declared.runs.Run.{Run};
 ghost use Rattle.read_plan.specs.Runs.{IsRun};
-ghost use Rattle.read_stream.specs.Issued.{Issued, IssuedBut, IsAimed, IsNew, IsTakenIn, AreFor};
-ghost use Rattle.read_stream.specs.Issued.{records_in, made_in};
+ghost use Rattle.read_stream.specs.StreamIos.{Issued, IssuedExcept, IsAimed, IsNewIncarnation};
+ghost use Rattle.read_stream.specs.StreamIos.{IsTakenIn, ReadsForRuns};
+ghost use Rattle.read_stream.specs.StreamIos.{record_count, ios_allowed};
 
-use crate::crew::Crew;
+use crate::io_context::IoContext;
 use crate::reads::Reads;
 use crate::ring::push;
 use crate::scope::Scope;
@@ -62,12 +63,12 @@ fn begin_blocks<W: World, T: Wait>(
     }
 }
 
-/// The record, aimed at the run.
-fn aimed(mut io: ReadIo, relation: u32, run: Run, zero: bool) -> ReadIo
+/// Aims the record at the run.
+fn aim_record(mut io: ReadIo, relation: u32, run: Run, zero: bool) -> ReadIo
     requires some { 1 ≤ run.count }
     requires room { run.count ≤ length io.pages }
     requires top { run.first + run.count ≤ 2 ^ 32 }
-    ensures { result ≡ aimed_at relation run.first run.count (stream_ids zero) io }
+    ensures { result ≡ with_aim relation run.first run.count (stream_ids zero) io }
 {
     match io.aim(relation, run.first, run.count, &callbacks(zero)) {
         Ok(()) => io,
@@ -81,24 +82,29 @@ impl<W: World> Reads<W> {
         &mut self,
         rt: &T,
         scope: &Scope<W>,
-        crew: &mut Crew<W, M, E>,
+        context: &mut IoContext<W, M, E>,
     )
-        requires handed { IsHanded E.told E.relations W.told W.relations scope.now crew.old }
-        requires issued { Issued scope.now W.told W.relations crew.old.actor.now.known self.old }
-        ensures serves { Serves E.told E.relations E.reads E.faults M.stands_on crew.old crew.new }
-        ensures issued { Issued scope.now W.told W.relations crew.new.actor.now.known self.new }
+        requires handed { IsValidContext E.told E.relations W.told W.relations scope.now
+            context.old }
+        requires issued { Issued scope.now W.told W.relations context.old.actor.now.known self.old }
+        ensures serves { ContextAdvanced E.told E.relations E.reads E.faults M.stands_on context.old
+            context.new }
+        ensures issued { Issued scope.now W.told W.relations context.new.actor.now.known self.new }
         ensures none { self.new.batch ≡ [] }
-        ensures all { (records_in self.new ≡ records_in self.old)
-            × (made_in self.new ≡ made_in self.old)
-            × (self.new.free ≡ self.old.free) × (self.new.credit ≡ self.old.credit) }
-        ensures runs { (runs : List Run) → AreFor scope.now crew.old.actor.now.known self.old runs
-            → AreFor scope.now crew.new.actor.now.known self.new runs }
+        ensures all { (record_count self.new ≡ record_count self.old)
+            × (ios_allowed self.new ≡ ios_allowed self.old)
+            × (self.new.free ≡ self.old.free) × (self.new.io_budget ≡ self.old.io_budget) }
+        ensures runs { (runs : List Run) → ReadsForRuns scope.now context.old.actor.now.known
+            self.old runs → ReadsForRuns scope.now context.new.actor.now.known self.new runs }
     {
-        while let Some(token) = self
-            .batch
-            .submit_next(rt, crew.table, crew.actor, crew.method, crew.runner)
-        {
-            push(&mut self.flights, token);
+        while let Some(token) = self.batch.submit_next(
+            rt,
+            context.table,
+            context.actor,
+            context.method,
+            context.runner,
+        ) {
+            push(&mut self.in_flight, token);
         }
     }
 
@@ -108,36 +114,38 @@ impl<W: World> Reads<W> {
         rt: &T,
         scope: &Scope<W>,
         pool: &Pool<W>,
-        crew: &mut Crew<W, M, E>,
+        context: &mut IoContext<W, M, E>,
         io: ReadIo,
         run: Run,
     ) -> Staged<ReadIo, W>
-        requires handed { IsHanded E.told E.relations W.told W.relations scope.now crew.old }
-        requires issued { Issued scope.now W.told W.relations crew.old.actor.now.known self.old }
+        requires handed { IsValidContext E.told E.relations W.told W.relations scope.now
+            context.old }
+        requires issued { Issued scope.now W.told W.relations context.old.actor.now.known self.old }
         requires relation { scope.now.relation < W.relations }
         requires record { length io.pages ≡ scope.now.combine }
         requires run { IsRun scope.now.combine run }
-        requires credit { 0 < self.old.credit }
-        ensures serves { Serves E.told E.relations E.reads E.faults M.stands_on crew.old crew.new }
-        ensures issued { IssuedBut (result.0 ∷ []) scope.now W.told W.relations
-            crew.new.actor.now.known self.new }
-        ensures token { IsStaged crew.new.actor.now.known result.0 × IsAimed scope.now result.1
-            × IsNew scope.now result.0 }
+        requires io_budget { 0 < self.old.io_budget }
+        ensures serves { ContextAdvanced E.told E.relations E.reads E.faults M.stands_on context.old
+            context.new }
+        ensures issued { IssuedExcept (result.0 ∷ []) scope.now W.told W.relations
+            context.new.actor.now.known self.new }
+        ensures token { IsStaged context.new.actor.now.known result.0 × IsAimed scope.now result.1
+            × IsNewIncarnation scope.now result.0 }
         ensures run { (result.1.first ≡ run.first) × (result.1.count ≡ run.count) }
-        ensures apart { (u : WaitRef × Reading) → IsIn u self.new.batch → (u.0 ≡ result.0 → ⊥) }
-        ensures all { (records_in self.new ≡ records_in self.old)
-            × (made_in self.old ≡ made_in self.new + 1) × (self.new.free ≡ self.old.free)
-            × (self.old.credit ≡ self.new.credit + 1) }
+        ensures apart { (u : WaitRef × ReadIoView) → IsIn u self.new.batch → (u.0 ≡ result.0 → ⊥) }
+        ensures all { (record_count self.new ≡ record_count self.old)
+            × (ios_allowed self.old ≡ ios_allowed self.new + 1) × (self.new.free ≡ self.old.free)
+            × (self.old.io_budget ≡ self.new.io_budget + 1) }
         ensures batch { length self.new.batch ≤ length self.old.batch }
-        ensures runs { (runs : List Run) → AreFor scope.now crew.old.actor.now.known self.old runs
-            → AreFor scope.now crew.new.actor.now.known self.new runs }
+        ensures runs { (runs : List Run) → ReadsForRuns scope.now context.old.actor.now.known
+            self.old runs → ReadsForRuns scope.now context.new.actor.now.known self.new runs }
     {
-        self.credit -= 1;
-        let token = self.acquire(rt, scope, crew);
-        let io = aimed(io, scope.relation, run, scope.zero);
-        let token = crew.table.define(crew.actor, token, io);
+        self.io_budget -= 1;
+        let token = self.acquire(rt, scope, context);
+        let io = aim_record(io, scope.relation, run, scope.zero);
+        let token = context.table.define(context.actor, token, io);
         begin_blocks(rt, pool, scope.relation, run, token.reference());
-        crew.table.stage(crew.actor, token)
+        context.table.stage(context.actor, token)
     }
 
     // Puts the staged I/O into the batch.
@@ -157,31 +165,34 @@ impl<W: World> Reads<W> {
         rt: &T,
         scope: &Scope<W>,
         pool: &Pool<W>,
-        crew: &mut Crew<W, M, E>,
+        context: &mut IoContext<W, M, E>,
         io: ReadIo,
         run: Run,
     )
-        requires handed { IsHanded E.told E.relations W.told W.relations scope.now crew.old }
-        requires issued { Issued scope.now W.told W.relations crew.old.actor.now.known self.old }
+        requires handed { IsValidContext E.told E.relations W.told W.relations scope.now
+            context.old }
+        requires issued { Issued scope.now W.told W.relations context.old.actor.now.known self.old }
         requires relation { scope.now.relation < W.relations }
         requires few { length self.old.batch < 32 }
-        requires room { records_in self.old < scope.now.total }
+        requires room { record_count self.old < scope.now.total }
         requires record { length io.pages ≡ scope.now.combine }
         requires run { IsRun scope.now.combine run }
-        requires credit { 0 < self.old.credit }
-        ensures serves { Serves E.told E.relations E.reads E.faults M.stands_on crew.old crew.new }
-        ensures issued { Issued scope.now W.told W.relations crew.new.actor.now.known self.new }
+        requires io_budget { 0 < self.old.io_budget }
+        ensures serves { ContextAdvanced E.told E.relations E.reads E.faults M.stands_on context.old
+            context.new }
+        ensures issued { Issued scope.now W.told W.relations context.new.actor.now.known self.new }
         ensures few { length self.new.batch < 32 }
-        ensures all { (records_in self.new ≡ records_in self.old + 1)
-            × (made_in self.new ≡ made_in self.old) × (self.new.free ≡ self.old.free) }
-        ensures runs { (runs : List Run) → AreFor scope.now crew.old.actor.now.known self.old runs
-            → AreFor scope.now crew.new.actor.now.known self.new (runs ++ run ∷ []) }
-        ensures credit { self.old.credit ≡ self.new.credit + 1 }
+        ensures all { (record_count self.new ≡ record_count self.old + 1)
+            × (ios_allowed self.new ≡ ios_allowed self.old) × (self.new.free ≡ self.old.free) }
+        ensures runs { (runs : List Run) → ReadsForRuns scope.now context.old.actor.now.known
+            self.old runs
+            → ReadsForRuns scope.now context.new.actor.now.known self.new (runs ++ run ∷ []) }
+        ensures io_budget { self.old.io_budget ≡ self.new.io_budget + 1 }
     {
-        let token = self.stage(rt, scope, pool, crew, io, run);
+        let token = self.stage(rt, scope, pool, context, io, run);
         self.put(token);
         if !scope.batched || self.batch.len() == MOST_STAGED {
-            self.submit(rt, scope, crew);
+            self.submit(rt, scope, context);
         }
     }
 
@@ -191,37 +202,43 @@ impl<W: World> Reads<W> {
         rt: &T,
         scope: &Scope<W>,
         pool: &Pool<W>,
-        crew: &mut Crew<W, M, E>,
+        context: &mut IoContext<W, M, E>,
         io: ReadIo,
         run: Run,
     ) -> ReadIo
-        requires handed { IsHanded E.told E.relations W.told W.relations scope.now crew.old }
-        requires issued { Issued scope.now W.told W.relations crew.old.actor.now.known self.old }
-        requires room { records_in self.old < scope.now.total }
+        requires handed { IsValidContext E.told E.relations W.told W.relations scope.now
+            context.old }
+        requires issued { Issued scope.now W.told W.relations context.old.actor.now.known self.old }
+        requires room { record_count self.old < scope.now.total }
         requires relation { scope.now.relation < W.relations }
         requires record { length io.pages ≡ scope.now.combine }
         requires run { IsRun scope.now.combine run }
-        requires credit { 0 < self.old.credit }
-        ensures serves { Serves E.told E.relations E.reads E.faults M.stands_on crew.old crew.new }
-        ensures issued { Issued scope.now W.told W.relations crew.new.actor.now.known self.new }
-        ensures record { IsTakenIn scope.now W.told W.relations crew.new.actor.now.known result }
+        requires io_budget { 0 < self.old.io_budget }
+        ensures serves { ContextAdvanced E.told E.relations E.reads E.faults M.stands_on context.old
+            context.new }
+        ensures issued { Issued scope.now W.told W.relations context.new.actor.now.known self.new }
+        ensures record { IsTakenIn scope.now W.told W.relations context.new.actor.now.known result }
         ensures run { (result.first ≡ run.first) × (result.count ≡ run.count) }
         ensures none { self.new.batch ≡ [] }
-        ensures all { (records_in self.new ≡ records_in self.old)
-            × (made_in self.new ≡ made_in self.old) × (self.new.free ≡ self.old.free) }
-        ensures runs { (runs : List Run) → AreFor scope.now crew.old.actor.now.known self.old runs
-            → AreFor scope.now crew.new.actor.now.known self.new runs }
-        ensures credit { self.old.credit ≡ self.new.credit + 1 }
+        ensures all { (record_count self.new ≡ record_count self.old)
+            × (ios_allowed self.new ≡ ios_allowed self.old) × (self.new.free ≡ self.old.free) }
+        ensures runs { (runs : List Run) → ReadsForRuns scope.now context.old.actor.now.known
+            self.old runs → ReadsForRuns scope.now context.new.actor.now.known self.new runs }
+        ensures io_budget { self.old.io_budget ≡ self.new.io_budget + 1 }
     {
-        self.submit(rt, scope, crew);
-        let token = self.stage(rt, scope, pool, crew, io, run);
+        self.submit(rt, scope, context);
+        let token = self.stage(rt, scope, pool, context, io, run);
         self.put(token);
-        let Some(token) = self
-            .batch
-            .submit_next(rt, crew.table, crew.actor, &mut SyncMethod, crew.runner)
+        let Some(token) = self.batch.submit_next(
+            rt,
+            context.table,
+            context.actor,
+            &mut SyncMethod,
+            context.runner,
+        )
         else {
             unreachable!()
         };
-        self.settle(rt, scope, crew, token)
+        self.settle(rt, scope, context, token)
     }
 }

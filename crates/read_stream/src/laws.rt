@@ -4,13 +4,14 @@ ghost use Rattle.page_check.specs.Told.{Told};
 ghost use Rattle.page_check.specs.SynchronousAnswer.{read_count, reader_of};
 ghost use Rattle.page_check.specs.IsAnswer.{IsNext, Stop as SaidStop};
 ghost use Rattle.aio_word.specs.declared.Known.{Known};
-ghost use Rattle.aio_callback.specs.Reading.{Reading, page_in, zeroed_in};
+ghost use Rattle.aio_callback.specs.ReadIoView.{ReadIoView, record_page, record_zeroed};
 ghost use Rattle.read_stream.specs.declared.answer.Ending.{Ending};
 ghost use Rattle.read_stream.specs.declared.parts.Part.TheVariants.{Page, Stop};
 ghost use Rattle.read_stream.specs.declared.scope.Scope.{Scope};
-ghost use Rattle.read_stream.specs.Answering.{entries_of, said_of, page_for, MayBeUnread};
-ghost use Rattle.read_stream.specs.Issued.{IsTakenIn};
-ghost use Rattle.read_stream.specs.Parts.{Has, IsPart};
+ghost use Rattle.read_stream.specs.StreamAnswers.{stream_entries, synchronous_ending, page_answer};
+ghost use Rattle.read_stream.specs.StreamAnswers.{MayBeUnread};
+ghost use Rattle.read_stream.specs.StreamIos.{IsTakenIn};
+ghost use Rattle.read_stream.specs.Parts.{CoversBlock, IsPart};
 
 use page_check::World;
 
@@ -19,18 +20,20 @@ use page_check::World;
 pub(crate) fn parts_are_answers<W: World, P: Copy>()
     ensures page { (c : Scope W) (told : Option Told) (relations : ℕ) (list : List (ℕ × P))
         (k b : ℕ) (info : P) (rest : List (ℕ × P)) → drop k list ≡ (b, info) ∷ rest
-        → IfSome (reader_of c.zero told) (λ f. k ≤ read_count f (entries_of c.relation list))
-        → (p : Known) (io : Reading) → IsTakenIn c told relations p io → Has io b
+        → IfSome (reader_of c.zero told) (λ f. k ≤ read_count f (stream_entries c.relation list))
+        → (p : Known) (io : ReadIoView) → IsTakenIn c told relations p io → CoversBlock io b
         → IsPart told io b Page
-        → IsNext (reader_of c.zero told) (MayBeUnread c.was.value p) (entries_of c.relation list) k
-        (page_for c.relation b info (page_in io (b - io.first)) (zeroed_in io (b - io.first)))
+        → IsNext (reader_of c.zero told) (MayBeUnread c.was.value p)
+        (stream_entries c.relation list) k
+        (page_answer c.relation b info (record_page io (b - io.first))
+        (record_zeroed io (b - io.first)))
         × IfSome (reader_of c.zero told)
-        (λ f. k + 1 ≤ read_count f (entries_of c.relation list)) }
+        (λ f. k + 1 ≤ read_count f (stream_entries c.relation list)) }
     ensures stop { (c : Scope W) (told : Option Told) (relations : ℕ) (list : List (ℕ × P))
         (k b : ℕ) (info : P) (rest : List (ℕ × P)) → drop k list ≡ (b, info) ∷ rest
-        → IfSome (reader_of c.zero told) (λ f. k ≤ read_count f (entries_of c.relation list))
-        → (p : Known) (io : Reading) → IsTakenIn c told relations p io → Has io b → (end : Ending)
-        → IsPart told io b (Stop end)
-        → IsNext (reader_of c.zero told) (MayBeUnread c.was.value p) (entries_of c.relation list) k
-        (SaidStop (said_of end)) }
+        → IfSome (reader_of c.zero told) (λ f. k ≤ read_count f (stream_entries c.relation list))
+        → (p : Known) (io : ReadIoView) → IsTakenIn c told relations p io → CoversBlock io b
+        → (end : Ending) → IsPart told io b (Stop end)
+        → IsNext (reader_of c.zero told) (MayBeUnread c.was.value p)
+        (stream_entries c.relation list) k (SaidStop (synchronous_ending end)) }
 {}

@@ -20,8 +20,8 @@
 mod acquiring;
 mod ahead;
 mod answer;
-mod crew;
 mod desk;
+mod io_context;
 mod issuing;
 mod laws;
 mod lookup;

@@ -1,11 +1,11 @@
 //! How a stream has the page of a block by the pool.
 ghost use Rattle.std.specs.Prelude.{◌≡◌, ◌<◌, [], ◌∷◌, List, ℕ};
-ghost use Rattle.aio_word.specs.Tokens.{IsSeenDone};
-ghost use Rattle.read_stream.specs.Crews.{IsHanded, Serves};
-ghost use Rattle.read_stream.specs.Open.{Reaches, UnderwayBut};
-ghost use Rattle.read_stream.specs.Changes.{Moves, Stays};
+ghost use Rattle.aio_word.specs.Tokens.{HasSeenDone};
+ghost use Rattle.read_stream.specs.IoContexts.{IsValidContext, ContextAdvanced};
+ghost use Rattle.read_stream.specs.StreamState.{Reaches, UnderwayWith};
+ghost use Rattle.read_stream.specs.Changes.{LookAheadUnchanged, ConsumerUnchanged};
 
-use crate::crew::Crew;
+use crate::io_context::IoContext;
 use crate::stream::ReadStream;
 use aio_batch::Method;
 use aio_callback::ReadIo;
@@ -24,24 +24,26 @@ impl<'d, 'p, W: World, S: BlockSource<P> + Drop, P: Copy> ReadStream<'d, 'p, W, 
     pub(crate) fn look<M: Method<ReadIo, W>, E: Execute<ReadIo, W>, T: Wait>(
         &mut self,
         rt: &T,
-        crew: &mut Crew<W, M, E>,
+        context: &mut IoContext<W, M, E>,
         block: u32,
     )
-        requires handed { IsHanded E.told E.relations W.told W.relations self.old.scope crew.old }
-        requires underway { UnderwayBut S.left W.told W.relations W.handles (block ∷ []) [] 0
-            crew.old.actor.now.known self.old }
+        requires handed { IsValidContext E.told E.relations W.told W.relations self.old.scope
+            context.old }
+        requires underway { UnderwayWith S.left W.told W.relations W.handles (block ∷ []) [] 0
+            context.old.actor.now.known self.old }
         requires none { (self.old.current ≡ None) × (self.old.pin ≡ None) }
-        ensures serves { Serves E.told E.relations E.reads E.faults M.stands_on crew.old crew.new }
-        ensures reaches { Reaches S.left W.told W.relations W.handles block crew.new.actor.now.known
-            self.new }
-        ensures moves { Moves self.old self.new }
+        ensures serves { ContextAdvanced E.told E.relations E.reads E.faults M.stands_on context.old
+            context.new }
+        ensures reaches { Reaches S.left W.told W.relations W.handles block
+            context.new.actor.now.known self.new }
+        ensures moves { LookAheadUnchanged self.old self.new }
     {
         match self.pool.lookup(rt, self.tag(block)) {
             Found::Hit(pin) => self.hold(rt, pin),
             Found::Busy(reference) => {
-                self.join(rt, crew, block, reference);
+                self.join(rt, context, block, reference);
             }
-            Found::Absent => self.read_block(rt, crew, block),
+            Found::Absent => self.read_block(rt, context, block),
         }
     }
 
@@ -49,26 +51,28 @@ impl<'d, 'p, W: World, S: BlockSource<P> + Drop, P: Copy> ReadStream<'d, 'p, W, 
     pub(crate) fn join<M: Method<ReadIo, W>, E: Execute<ReadIo, W>, T: Wait>(
         &mut self,
         rt: &T,
-        crew: &mut Crew<W, M, E>,
+        context: &mut IoContext<W, M, E>,
         block: u32,
         reference: WaitRef,
     )
-        requires handed { IsHanded E.told E.relations W.told W.relations self.old.scope crew.old }
-        requires underway { UnderwayBut S.left W.told W.relations W.handles (block ∷ []) [] 0
-            crew.old.actor.now.known self.old }
+        requires handed { IsValidContext E.told E.relations W.told W.relations self.old.scope
+            context.old }
+        requires underway { UnderwayWith S.left W.told W.relations W.handles (block ∷ []) [] 0
+            context.old.actor.now.known self.old }
         requires none { (self.old.current ≡ None) × (self.old.pin ≡ None) }
         requires range { reference.handle < W.handles }
-        ensures serves { Serves E.told E.relations E.reads E.faults M.stands_on crew.old crew.new }
-        ensures reaches { Reaches S.left W.told W.relations W.handles block crew.new.actor.now.known
-            self.new }
-        ensures moves { Moves self.old self.new }
+        ensures serves { ContextAdvanced E.told E.relations E.reads E.faults M.stands_on context.old
+            context.new }
+        ensures reaches { Reaches S.left W.told W.relations W.handles block
+            context.new.actor.now.known self.new }
+        ensures moves { LookAheadUnchanged self.old self.new }
     {
-        self.wait_for(rt, crew, reference);
+        self.wait_for(rt, context, reference);
         let found = self.pool.lookup(rt, self.tag(block));
         match found {
             Found::Hit(pin) => self.hold(rt, pin),
             Found::Busy(_) | Found::Absent => {
-                self.read_block(rt, crew, block);
+                self.read_block(rt, context, block);
             }
         }
     }
@@ -77,23 +81,27 @@ impl<'d, 'p, W: World, S: BlockSource<P> + Drop, P: Copy> ReadStream<'d, 'p, W, 
     fn wait_for<M: Method<ReadIo, W>, E: Execute<ReadIo, W>, T: Wait>(
         &mut self,
         rt: &T,
-        crew: &mut Crew<W, M, E>,
+        context: &mut IoContext<W, M, E>,
         reference: WaitRef,
     )
-        requires handed { IsHanded E.told E.relations W.told W.relations self.old.scope crew.old }
-        requires underway { (hand : List ℕ) × UnderwayBut S.left W.told W.relations W.handles hand
-            [] 0 crew.old.actor.now.known self.old }
+        requires handed { IsValidContext E.told E.relations W.told W.relations self.old.scope
+            context.old }
+        requires underway { (hand : List ℕ) × UnderwayWith S.left W.told W.relations W.handles hand
+            [] 0 context.old.actor.now.known self.old }
         requires range { reference.handle < W.handles }
-        ensures serves { Serves E.told E.relations E.reads E.faults M.stands_on crew.old crew.new }
-        ensures underway { (hand : List ℕ) → UnderwayBut S.left W.told W.relations W.handles hand []
-            0 crew.old.actor.now.known self.old → UnderwayBut S.left W.told W.relations W.handles
-            hand [] 0 crew.new.actor.now.known self.new }
-        ensures stays { Stays self.old self.new }
-        ensures moves { Moves self.old self.new }
-        ensures done { IsSeenDone crew.new.actor.now.known reference }
+        ensures serves { ContextAdvanced E.told E.relations E.reads E.faults M.stands_on context.old
+            context.new }
+        ensures underway { (hand : List ℕ) → UnderwayWith S.left W.told W.relations W.handles hand
+            []
+            0 context.old.actor.now.known self.old
+            → UnderwayWith S.left W.told W.relations W.handles
+            hand [] 0 context.new.actor.now.known self.new }
+        ensures stays { ConsumerUnchanged self.old self.new }
+        ensures moves { LookAheadUnchanged self.old self.new }
+        ensures done { HasSeenDone context.new.actor.now.known reference }
     {
-        self.submit(rt, crew);
-        wait(rt, crew.table, crew.actor, reference, crew.runner);
+        self.submit(rt, context);
+        wait(rt, context.table, context.actor, reference, context.runner);
         self.plan.waited();
     }
 
@@ -119,17 +127,19 @@ impl<'d, 'p, W: World, S: BlockSource<P> + Drop, P: Copy> ReadStream<'d, 'p, W, 
     fn read_block<M: Method<ReadIo, W>, E: Execute<ReadIo, W>, T: Wait>(
         &mut self,
         rt: &T,
-        crew: &mut Crew<W, M, E>,
+        context: &mut IoContext<W, M, E>,
         block: u32,
     )
-        requires handed { IsHanded E.told E.relations W.told W.relations self.old.scope crew.old }
-        requires underway { UnderwayBut S.left W.told W.relations W.handles (block ∷ []) [] 0
-            crew.old.actor.now.known self.old }
+        requires handed { IsValidContext E.told E.relations W.told W.relations self.old.scope
+            context.old }
+        requires underway { UnderwayWith S.left W.told W.relations W.handles (block ∷ []) [] 0
+            context.old.actor.now.known self.old }
         requires none { (self.old.current ≡ None) × (self.old.pin ≡ None) }
-        ensures serves { Serves E.told E.relations E.reads E.faults M.stands_on crew.old crew.new }
-        ensures reaches { Reaches S.left W.told W.relations W.handles block crew.new.actor.now.known
-            self.new }
-        ensures moves { Moves self.old self.new }
+        ensures serves { ContextAdvanced E.told E.relations E.reads E.faults M.stands_on context.old
+            context.new }
+        ensures reaches { Reaches S.left W.told W.relations W.handles block
+            context.new.actor.now.known self.new }
+        ensures moves { LookAheadUnchanged self.old self.new }
     {
         let Some(io) = self.desk.reads.free.pop_front() else {
             unreachable!()
@@ -139,6 +149,6 @@ impl<'d, 'p, W: World, S: BlockSource<P> + Drop, P: Copy> ReadStream<'d, 'p, W, 
             first: block,
             count: 1,
         };
-        self.read_run(rt, crew, io, run);
+        self.read_run(rt, context, io, run);
     }
 }

@@ -2,8 +2,8 @@
 ghost use Rattle.std.specs.Prelude.{◌≡◌, ◌≢◌, ◌<◌, ◌-◌, Bool};
 ghost use Rattle.aio_word.specs.declared.Class.TheVariants.{Unended};
 ghost use Rattle.aio_callback.specs.Cases.{stream_ids};
-ghost use Rattle.aio_callback.specs.Reading.{Fits};
-ghost use Rattle.read_stream.specs.Parts.{IsPart, Has};
+ghost use Rattle.aio_callback.specs.ReadIoView.{ReadFits};
+ghost use Rattle.read_stream.specs.Parts.{IsPart, CoversBlock};
 
 use crate::answer::Ending;
 use aio_callback::{ReadIo, laws};
@@ -23,10 +23,10 @@ pub enum Part {
 
 /// What the record has for the block, which is one of those that it was to read.
 pub(crate) fn part_of<W: World>(io: &ReadIo, block: u32) -> Part
-    requires fits { Fits W.told W.relations io.now }
+    requires fits { ReadFits W.told W.relations io.now }
     requires ended { io.now.label.ended ≢ Unended }
     requires ids { (zero : Bool) × (io.now.ids ≡ stream_ids zero) }
-    requires has { Has io.now block }
+    requires has { CoversBlock io.now block }
     ensures { IsPart W.told io.now block result }
 {
     laws::stream_records_end_in_six_ways();

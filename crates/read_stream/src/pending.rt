@@ -1,14 +1,14 @@
 //! When a stream starts the run that is pending.
 ghost use Rattle.std.specs.Prelude.{◌≡◌, ◌<◌, ◌-◌, ◌^◌, ◌++◌, List, ℕ, [], ◌∷◌, length, IsTrue};
-ghost use Rattle.read_stream.specs.Crews.{IsHanded, Serves};
+ghost use Rattle.read_stream.specs.IoContexts.{IsValidContext, ContextAdvanced};
 ghost use Rattle.read_plan.specs.Runs.{IsRun};
 ghost use Rattle.read_plan.specs.declared.runs.Run.{Run};
-ghost use Rattle.read_stream.specs.Issued.{Issued, AreFor};
-ghost use Rattle.read_stream.specs.Hands.{rest_of};
-ghost use Rattle.read_stream.specs.Open.{Underway, UnderwayBut};
-ghost use Rattle.read_stream.specs.Changes.{Starts, Stays};
+ghost use Rattle.read_stream.specs.StreamIos.{Issued, ReadsForRuns};
+ghost use Rattle.read_stream.specs.PagesAtHand.{record_blocks_left};
+ghost use Rattle.read_stream.specs.StreamState.{Underway, UnderwayWith};
+ghost use Rattle.read_stream.specs.Changes.{StartsRun, ConsumerUnchanged};
 
-use crate::crew::Crew;
+use crate::io_context::IoContext;
 use crate::queue::Want;
 use crate::ring::push;
 use crate::stream::ReadStream;
@@ -27,27 +27,29 @@ impl<'d, 'p, W: World, S: BlockSource<P> + Drop, P: Copy> ReadStream<'d, 'p, W, 
     pub(crate) fn start<M: Method<ReadIo, W>, E: Execute<ReadIo, W>, T: Wait>(
         &mut self,
         rt: &T,
-        crew: &mut Crew<W, M, E>,
+        context: &mut IoContext<W, M, E>,
         run: Run,
     )
-        requires handed { IsHanded E.told E.relations W.told W.relations self.old.scope crew.old }
-        requires issued { Issued self.old.scope W.told W.relations crew.old.actor.now.known
+        requires handed { IsValidContext E.told E.relations W.told W.relations self.old.scope
+            context.old }
+        requires issued { Issued self.old.scope W.told W.relations context.old.actor.now.known
             self.old.desk.now.reads }
         requires relation { self.old.scope.relation < W.relations }
         requires run { IsRun self.old.scope.combine run }
         requires free { 0 < length self.old.desk.now.reads.free.items }
         requires few { length self.old.desk.now.reads.batch < 32 }
         requires plan { self.old.plan.ios_in_progress < 2 ^ 32 - 1 }
-        requires credit { 0 < self.old.desk.now.reads.credit }
+        requires io_budget { 0 < self.old.desk.now.reads.io_budget }
         requires room { length self.old.desk.now.wants.items < self.old.desk.now.wants.capacity }
-        ensures serves { Serves E.told E.relations E.reads E.faults M.stands_on crew.old crew.new }
-        ensures issued { Issued self.new.scope W.told W.relations crew.new.actor.now.known
+        ensures serves { ContextAdvanced E.told E.relations E.reads E.faults M.stands_on context.old
+            context.new }
+        ensures issued { Issued self.new.scope W.told W.relations context.new.actor.now.known
             self.new.desk.now.reads }
         ensures few { length self.new.desk.now.reads.batch < 32 }
-        ensures runs { (runs : List Run) → AreFor self.old.scope crew.old.actor.now.known
-            self.old.desk.now.reads runs → AreFor self.new.scope crew.new.actor.now.known
+        ensures runs { (runs : List Run) → ReadsForRuns self.old.scope context.old.actor.now.known
+            self.old.desk.now.reads runs → ReadsForRuns self.new.scope context.new.actor.now.known
             self.new.desk.now.reads (runs ++ run ∷ []) }
-        ensures starts { Starts run self.old self.new }
+        ensures starts { StartsRun run self.old self.new }
     {
         let Some(io) = self.desk.reads.free.pop_front() else {
             unreachable!()
@@ -55,11 +57,11 @@ impl<'d, 'p, W: World, S: BlockSource<P> + Drop, P: Copy> ReadStream<'d, 'p, W, 
         self.plan.started();
         push(&mut self.desk.wants, Want::Run(run));
         if self.is_alone() {
-            let mut by_itself = Crew {
-                table: crew.table,
-                actor: &mut *crew.actor,
+            let mut by_itself = IoContext {
+                table: context.table,
+                actor: &mut *context.actor,
                 method: &mut SyncMethod,
-                runner: &mut *crew.runner,
+                runner: &mut *context.runner,
             };
             self.desk
                 .reads
@@ -67,7 +69,7 @@ impl<'d, 'p, W: World, S: BlockSource<P> + Drop, P: Copy> ReadStream<'d, 'p, W, 
         } else {
             self.desk
                 .reads
-                .start(rt, &self.scope, self.pool, crew, io, run);
+                .start(rt, &self.scope, self.pool, context, io, run);
         }
     }
 
@@ -81,25 +83,29 @@ impl<'d, 'p, W: World, S: BlockSource<P> + Drop, P: Copy> ReadStream<'d, 'p, W, 
     pub(crate) fn start_pending<M: Method<ReadIo, W>, E: Execute<ReadIo, W>, T: Wait>(
         &mut self,
         rt: &T,
-        crew: &mut Crew<W, M, E>,
+        context: &mut IoContext<W, M, E>,
     )
-        requires handed { IsHanded E.told E.relations W.told W.relations self.old.scope crew.old }
-        requires underway { (behind : List ℕ) × UnderwayBut S.left W.told W.relations W.handles
-            (rest_of self.old.current self.old.step) behind 0 crew.old.actor.now.known self.old }
+        requires handed { IsValidContext E.told E.relations W.told W.relations self.old.scope
+            context.old }
+        requires underway { (behind : List ℕ) × UnderwayWith S.left W.told W.relations W.handles
+            (record_blocks_left self.old.current self.old.step) behind 0 context.old.actor.now.known
+            self.old }
         requires free { 1 < length self.old.desk.now.reads.free.items }
-        ensures serves { Serves E.told E.relations E.reads E.faults M.stands_on crew.old crew.new }
-        ensures underway { (behind : List ℕ) → UnderwayBut S.left W.told W.relations W.handles
-            (rest_of self.old.current self.old.step) behind 0 crew.old.actor.now.known self.old
-            → UnderwayBut S.left W.told W.relations W.handles
-            (rest_of self.new.current self.new.step) behind 0 crew.new.actor.now.known self.new }
+        ensures serves { ContextAdvanced E.told E.relations E.reads E.faults M.stands_on context.old
+            context.new }
+        ensures underway { (behind : List ℕ) → UnderwayWith S.left W.told W.relations W.handles
+            (record_blocks_left self.old.current self.old.step) behind 0 context.old.actor.now.known
+            self.old → UnderwayWith S.left W.told W.relations W.handles
+            (record_blocks_left self.new.current self.new.step) behind 0 context.new.actor.now.known
+            self.new }
         ensures none { self.new.plan.pending ≡ None }
-        ensures stays { Stays self.old self.new }
+        ensures stays { ConsumerUnchanged self.old self.new }
         ensures ahead { (self.new.plan.blocks_ahead ≡ self.old.plan.blocks_ahead)
             × (self.new.over ≡ self.old.over) × (self.new.source ≡ self.old.source)
             × (self.new.desk.now.queue ≡ self.old.desk.now.queue) }
     {
         if let Some(run) = self.plan.take_pending() {
-            self.start(rt, crew, run);
+            self.start(rt, context, run);
         }
     }
 
@@ -107,21 +113,23 @@ impl<'d, 'p, W: World, S: BlockSource<P> + Drop, P: Copy> ReadStream<'d, 'p, W, 
     pub(crate) fn start_whole<M: Method<ReadIo, W>, E: Execute<ReadIo, W>, T: Wait>(
         &mut self,
         rt: &T,
-        crew: &mut Crew<W, M, E>,
+        context: &mut IoContext<W, M, E>,
     )
-        requires handed { IsHanded E.told E.relations W.told W.relations self.old.scope crew.old }
-        requires underway { Underway S.left W.told W.relations W.handles crew.old.actor.now.known
+        requires handed { IsValidContext E.told E.relations W.told W.relations self.old.scope
+            context.old }
+        requires underway { Underway S.left W.told W.relations W.handles context.old.actor.now.known
             self.old }
         requires free { 1 < length self.old.desk.now.reads.free.items }
-        ensures serves { Serves E.told E.relations E.reads E.faults M.stands_on crew.old crew.new }
-        ensures underway { Underway S.left W.told W.relations W.handles crew.new.actor.now.known
+        ensures serves { ContextAdvanced E.told E.relations E.reads E.faults M.stands_on context.old
+            context.new }
+        ensures underway { Underway S.left W.told W.relations W.handles context.new.actor.now.known
             self.new }
-        ensures stays { Stays self.old self.new }
+        ensures stays { ConsumerUnchanged self.old self.new }
         ensures ahead { (self.new.plan.blocks_ahead ≡ self.old.plan.blocks_ahead)
             × (self.new.over ≡ self.old.over) }
     {
         if self.is_whole() {
-            self.start_pending(rt, crew);
+            self.start_pending(rt, context);
         }
     }
 
@@ -148,22 +156,24 @@ impl<'d, 'p, W: World, S: BlockSource<P> + Drop, P: Copy> ReadStream<'d, 'p, W, 
     pub(crate) fn start_last<M: Method<ReadIo, W>, E: Execute<ReadIo, W>, T: Wait>(
         &mut self,
         rt: &T,
-        crew: &mut Crew<W, M, E>,
+        context: &mut IoContext<W, M, E>,
     )
-        requires handed { IsHanded E.told E.relations W.told W.relations self.old.scope crew.old }
-        requires underway { Underway S.left W.told W.relations W.handles crew.old.actor.now.known
+        requires handed { IsValidContext E.told E.relations W.told W.relations self.old.scope
+            context.old }
+        requires underway { Underway S.left W.told W.relations W.handles context.old.actor.now.known
             self.old }
-        ensures serves { Serves E.told E.relations E.reads E.faults M.stands_on crew.old crew.new }
-        ensures underway { Underway S.left W.told W.relations W.handles crew.new.actor.now.known
+        ensures serves { ContextAdvanced E.told E.relations E.reads E.faults M.stands_on context.old
+            context.new }
+        ensures underway { Underway S.left W.told W.relations W.handles context.new.actor.now.known
             self.new }
-        ensures stays { Stays self.old self.new }
+        ensures stays { ConsumerUnchanged self.old self.new }
         ensures none { self.new.desk.now.wants.items ≡ [] → self.new.current ≡ None
             → self.new.plan.pending ≡ None }
         ensures kept { (self.new.desk.now.queue ≡ self.old.desk.now.queue)
             × (self.new.source ≡ self.old.source) }
     {
         if self.may_start_last() {
-            self.start_pending(rt, crew);
+            self.start_pending(rt, context);
         }
     }
 }

@@ -15,7 +15,7 @@ pub enum Want {
 
 /// A block and the caller's data.
 #[derive(Clone, Copy)]
-pub struct Asked<P: Copy> {
+pub struct QueuedBlock<P: Copy> {
     pub block: u32,
     pub per_buffer_data: P,
 }

@@ -1,14 +1,14 @@
 //! How a stream has the page of a block.
 ghost use Rattle.std.specs.Prelude.{◌≡◌, ◌<◌, [], map, IfSome, IfNone, slice_get};
-ghost use Rattle.read_stream.specs.Crews.{IsHanded, Serves};
-ghost use Rattle.read_stream.specs.Wanted.{block_of};
-ghost use Rattle.read_stream.specs.Hands.{IsShown, IsGiving, IsStop};
-ghost use Rattle.read_stream.specs.Open.{Reaches, Underway, UnderwayBut};
-ghost use Rattle.read_stream.specs.Changes.{Moves, Skips};
+ghost use Rattle.read_stream.specs.IoContexts.{IsValidContext, ContextAdvanced};
+ghost use Rattle.read_stream.specs.WantedBlocks.{block_number};
+ghost use Rattle.read_stream.specs.PagesAtHand.{HasCurrentPage, HasMoreBlocks, IsStop};
+ghost use Rattle.read_stream.specs.StreamState.{Reaches, Underway, UnderwayWith};
+ghost use Rattle.read_stream.specs.Changes.{LookAheadUnchanged, PopsWant};
 ghost use Rattle.read_stream.specs.declared.queue.Want.TheVariants.{Run as RunWant};
 
 use crate::answer::Ending;
-use crate::crew::Crew;
+use crate::io_context::IoContext;
 use crate::queue::Want;
 use crate::stream::ReadStream;
 use aio_batch::Method;
@@ -24,54 +24,58 @@ impl<'d, 'p, W: World, S: BlockSource<P> + Drop, P: Copy> ReadStream<'d, 'p, W, 
     pub(crate) fn find<M: Method<ReadIo, W>, E: Execute<ReadIo, W>, T: Wait>(
         &mut self,
         rt: &T,
-        crew: &mut Crew<W, M, E>,
+        context: &mut IoContext<W, M, E>,
         block: u32,
     ) -> Option<Ending>
-        requires handed { IsHanded E.told E.relations W.told W.relations self.old.scope crew.old }
-        requires underway { Underway S.left W.told W.relations W.handles crew.old.actor.now.known
+        requires handed { IsValidContext E.told E.relations W.told W.relations self.old.scope
+            context.old }
+        requires underway { Underway S.left W.told W.relations W.handles context.old.actor.now.known
             self.old }
-        requires giving { IsGiving self.old.current self.old.step }
+        requires giving { HasMoreBlocks self.old.current self.old.step }
         requires none { self.old.pin ≡ None }
-        requires front { slice_get (map block_of self.old.desk.now.queue.items) 0 ≡ Some block }
+        requires front { slice_get (map block_number self.old.desk.now.queue.items) 0 ≡ Some block }
         requires last { self.old.desk.now.wants.items ≡ [] → self.old.current ≡ None
             → self.old.plan.pending ≡ None }
-        ensures serves { Serves E.told E.relations E.reads E.faults M.stands_on crew.old crew.new }
-        ensures reaches { Reaches S.left W.told W.relations W.handles block crew.new.actor.now.known
-            self.new }
-        ensures moves { Moves self.old self.new }
+        ensures serves { ContextAdvanced E.told E.relations E.reads E.faults M.stands_on context.old
+            context.new }
+        ensures reaches { Reaches S.left W.told W.relations W.handles block
+            context.new.actor.now.known self.new }
+        ensures moves { LookAheadUnchanged self.old self.new }
         ensures page { IfNone result
-            (IsShown W.told self.new.scope.relation self.new.pin self.new.current block) }
+            (HasCurrentPage W.told self.new.scope.relation self.new.pin self.new.current block) }
         ensures stop { IfSome result (IsStop W.told self.new.current block) }
     {
-        self.reach(rt, crew, block);
+        self.reach(rt, context, block);
         if self.current.is_none() {
             return None;
         }
-        self.read(rt, crew, block)
+        self.read(rt, context, block)
     }
 
     // Has the block at the front under the pin, or its record as the one whose pages are given.
     fn reach<M: Method<ReadIo, W>, E: Execute<ReadIo, W>, T: Wait>(
         &mut self,
         rt: &T,
-        crew: &mut Crew<W, M, E>,
+        context: &mut IoContext<W, M, E>,
         block: u32,
     )
-        requires handed { IsHanded E.told E.relations W.told W.relations self.old.scope crew.old }
-        requires underway { Underway S.left W.told W.relations W.handles crew.old.actor.now.known
+        requires handed { IsValidContext E.told E.relations W.told W.relations self.old.scope
+            context.old }
+        requires underway { Underway S.left W.told W.relations W.handles context.old.actor.now.known
             self.old }
-        requires giving { IsGiving self.old.current self.old.step }
+        requires giving { HasMoreBlocks self.old.current self.old.step }
         requires none { self.old.pin ≡ None }
-        requires front { slice_get (map block_of self.old.desk.now.queue.items) 0 ≡ Some block }
+        requires front { slice_get (map block_number self.old.desk.now.queue.items) 0 ≡ Some block }
         requires last { self.old.desk.now.wants.items ≡ [] → self.old.current ≡ None
             → self.old.plan.pending ≡ None }
-        ensures serves { Serves E.told E.relations E.reads E.faults M.stands_on crew.old crew.new }
-        ensures reaches { Reaches S.left W.told W.relations W.handles block crew.new.actor.now.known
-            self.new }
-        ensures moves { Moves self.old self.new }
+        ensures serves { ContextAdvanced E.told E.relations E.reads E.faults M.stands_on context.old
+            context.new }
+        ensures reaches { Reaches S.left W.told W.relations W.handles block
+            context.new.actor.now.known self.new }
+        ensures moves { LookAheadUnchanged self.old self.new }
     {
         if self.current.is_none() {
-            self.take_up(rt, crew, block);
+            self.take_up(rt, context, block);
         }
     }
 
@@ -79,30 +83,32 @@ impl<'d, 'p, W: World, S: BlockSource<P> + Drop, P: Copy> ReadStream<'d, 'p, W, 
     fn take_up<M: Method<ReadIo, W>, E: Execute<ReadIo, W>, T: Wait>(
         &mut self,
         rt: &T,
-        crew: &mut Crew<W, M, E>,
+        context: &mut IoContext<W, M, E>,
         block: u32,
     )
-        requires handed { IsHanded E.told E.relations W.told W.relations self.old.scope crew.old }
-        requires underway { UnderwayBut S.left W.told W.relations W.handles [] [] 0
-            crew.old.actor.now.known self.old }
+        requires handed { IsValidContext E.told E.relations W.told W.relations self.old.scope
+            context.old }
+        requires underway { UnderwayWith S.left W.told W.relations W.handles [] [] 0
+            context.old.actor.now.known self.old }
         requires none { (self.old.current ≡ None) × (self.old.pin ≡ None) }
-        requires front { slice_get (map block_of self.old.desk.now.queue.items) 0 ≡ Some block }
+        requires front { slice_get (map block_number self.old.desk.now.queue.items) 0 ≡ Some block }
         requires last { self.old.desk.now.wants.items ≡ [] → self.old.current ≡ None
             → self.old.plan.pending ≡ None }
-        ensures serves { Serves E.told E.relations E.reads E.faults M.stands_on crew.old crew.new }
-        ensures reaches { Reaches S.left W.told W.relations W.handles block crew.new.actor.now.known
-            self.new }
-        ensures moves { Moves self.old self.new }
+        ensures serves { ContextAdvanced E.told E.relations E.reads E.faults M.stands_on context.old
+            context.new }
+        ensures reaches { Reaches S.left W.told W.relations W.handles block
+            context.new.actor.now.known self.new }
+        ensures moves { LookAheadUnchanged self.old self.new }
     {
         match self.next_want() {
-            Some(Want::Run(run)) => self.take_run(rt, crew, block, run),
+            Some(Want::Run(run)) => self.take_run(rt, context, block, run),
             Some(Want::Look(_)) => {
-                self.skip_want();
-                self.look(rt, crew, block);
+                self.pop_want();
+                self.look(rt, context, block);
             }
             Some(Want::Join(_, reference)) => {
-                self.skip_want();
-                self.join(rt, crew, block, reference);
+                self.pop_want();
+                self.join(rt, context, block, reference);
             }
             None => unreachable!(),
         }
@@ -116,8 +122,8 @@ impl<'d, 'p, W: World, S: BlockSource<P> + Drop, P: Copy> ReadStream<'d, 'p, W, 
     }
 
     // What is wanted next is not wanted any more.
-    fn skip_want(&mut self)
-        ensures { Skips self.old self.new }
+    fn pop_want(&mut self)
+        ensures { PopsWant self.old self.new }
     {
         let _ = self.desk.wants.pop_front();
     }
@@ -126,49 +132,53 @@ impl<'d, 'p, W: World, S: BlockSource<P> + Drop, P: Copy> ReadStream<'d, 'p, W, 
     fn take_run<M: Method<ReadIo, W>, E: Execute<ReadIo, W>, T: Wait>(
         &mut self,
         rt: &T,
-        crew: &mut Crew<W, M, E>,
+        context: &mut IoContext<W, M, E>,
         block: u32,
         run: Run,
     )
-        requires handed { IsHanded E.told E.relations W.told W.relations self.old.scope crew.old }
-        requires underway { UnderwayBut S.left W.told W.relations W.handles [] [] 0
-            crew.old.actor.now.known self.old }
+        requires handed { IsValidContext E.told E.relations W.told W.relations self.old.scope
+            context.old }
+        requires underway { UnderwayWith S.left W.told W.relations W.handles [] [] 0
+            context.old.actor.now.known self.old }
         requires none { (self.old.current ≡ None) × (self.old.pin ≡ None) }
-        requires front { slice_get (map block_of self.old.desk.now.queue.items) 0 ≡ Some block }
+        requires front { slice_get (map block_number self.old.desk.now.queue.items) 0 ≡ Some block }
         requires run { slice_get self.old.desk.now.wants.items 0 ≡ Some (RunWant run) }
-        ensures serves { Serves E.told E.relations E.reads E.faults M.stands_on crew.old crew.new }
-        ensures reaches { Reaches S.left W.told W.relations W.handles block crew.new.actor.now.known
-            self.new }
-        ensures moves { Moves self.old self.new }
+        ensures serves { ContextAdvanced E.told E.relations E.reads E.faults M.stands_on context.old
+            context.new }
+        ensures reaches { Reaches S.left W.told W.relations W.handles block
+            context.new.actor.now.known self.new }
+        ensures moves { LookAheadUnchanged self.old self.new }
     {
-        self.submit(rt, crew);
-        self.take_oldest(rt, crew, block, run);
+        self.submit(rt, context);
+        self.take_oldest(rt, context, block, run);
     }
 
     // The same where nothing is staged.
     fn take_oldest<M: Method<ReadIo, W>, E: Execute<ReadIo, W>, T: Wait>(
         &mut self,
         rt: &T,
-        crew: &mut Crew<W, M, E>,
+        context: &mut IoContext<W, M, E>,
         block: u32,
         run: Run,
     )
-        requires handed { IsHanded E.told E.relations W.told W.relations self.old.scope crew.old }
-        requires underway { UnderwayBut S.left W.told W.relations W.handles [] [] 0
-            crew.old.actor.now.known self.old }
+        requires handed { IsValidContext E.told E.relations W.told W.relations self.old.scope
+            context.old }
+        requires underway { UnderwayWith S.left W.told W.relations W.handles [] [] 0
+            context.old.actor.now.known self.old }
         requires none { (self.old.current ≡ None) × (self.old.pin ≡ None) }
-        requires front { slice_get (map block_of self.old.desk.now.queue.items) 0 ≡ Some block }
+        requires front { slice_get (map block_number self.old.desk.now.queue.items) 0 ≡ Some block }
         requires run { slice_get self.old.desk.now.wants.items 0 ≡ Some (RunWant run) }
         requires staged { self.old.desk.now.reads.batch ≡ [] }
-        ensures serves { Serves E.told E.relations E.reads E.faults M.stands_on crew.old crew.new }
-        ensures reaches { Reaches S.left W.told W.relations W.handles block crew.new.actor.now.known
-            self.new }
-        ensures moves { Moves self.old self.new }
+        ensures serves { ContextAdvanced E.told E.relations E.reads E.faults M.stands_on context.old
+            context.new }
+        ensures reaches { Reaches S.left W.told W.relations W.handles block
+            context.new.actor.now.known self.new }
+        ensures moves { LookAheadUnchanged self.old self.new }
     {
-        let Some(io) = self.desk.reads.oldest(rt, &self.scope, crew) else {
+        let Some(io) = self.desk.reads.oldest_record(rt, &self.scope, context) else {
             unreachable!()
         };
-        self.skip_want();
+        self.pop_want();
         self.current = Some(io);
         self.plan.waited();
     }

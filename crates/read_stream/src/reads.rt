@@ -1,7 +1,7 @@
 //! The I/Os of a stream.
 ghost use Rattle.std.specs.Prelude.{◌≡◌, ◌<◌, ◌≤◌, ◌∷◌, length, IfOk};
 ghost use Rattle.circular_buffer.specs.Buffer.{buffer};
-ghost use Rattle.read_stream.specs.Issued.{IsReady};
+ghost use Rattle.read_stream.specs.StreamIos.{IsReady};
 
 use crate::ring::{push, push_front};
 use aio_batch::Batch;
@@ -21,13 +21,13 @@ pub struct Reads<W: World> {
     /// Staged, not submitted.
     pub batch: Batch<ReadIo, W>,
     /// Submitted, not taken in.
-    pub flights: HeapCircularBuffer<InFlight<W>>,
+    pub in_flight: HeapCircularBuffer<InFlight<W>>,
     /// Taken in, with their pages.
     pub ended: HeapCircularBuffer<ReadIo>,
     /// How many were taken in since the stream was opened.
     pub taken_in: u64,
     /// How many more may be made.
-    pub credit: u64,
+    pub io_budget: u64,
     pub counts: Counts,
 }
 
@@ -46,10 +46,10 @@ impl<W: World> Reads<W> {
         Ok(Reads {
             free,
             batch: Batch::open(alloc)?,
-            flights: HeapCircularBuffer::with_capacity(alloc, total as usize)?,
+            in_flight: HeapCircularBuffer::with_capacity(alloc, total as usize)?,
             ended: HeapCircularBuffer::with_capacity(alloc, total as usize)?,
             taken_in: 0,
-            credit: 0,
+            io_budget: 0,
             counts: Counts { ios: 0, blocks: 0 },
         })
     }

@@ -1,20 +1,24 @@
-//! How a stream goes on.
+//! How a stream advances.
 ghost use Rattle.std.specs.Prelude.{◌≡◌, ◌≢◌, ◌+◌, ◌-◌, ◌^◌, ◌<◌, [], List, ℕ};
 ghost use Rattle.std.specs.Prelude.{IsTrue, slice_get};
 ghost use Rattle.page_check.specs.SynchronousAnswer.{reader_of};
 ghost use Rattle.page_check.specs.IsAnswer.{IsNext};
-ghost use Rattle.read_stream.specs.Crews.{IsHanded, Serves};
-ghost use Rattle.read_stream.specs.Answering.{entries_of, MayBeUnread, pages_in, said_by};
-ghost use Rattle.read_stream.specs.Answering.{IfStopped};
-ghost use Rattle.read_stream.specs.Hands.{IsLent, IsGiving, rest_of, shown};
-ghost use Rattle.read_stream.specs.Open.{IsBetween, IsOpen, Follows, Underway, UnderwayBut};
-ghost use Rattle.read_stream.specs.Changes.{Keeps, Moves, Gives, Stays};
+ghost use Rattle.read_stream.specs.IoContexts.{IsValidContext, ContextAdvanced};
+ghost use Rattle.read_stream.specs.StreamAnswers.{stream_entries, MayBeUnread, pages_given};
+ghost use Rattle.read_stream.specs.StreamAnswers.{step_answer};
+ghost use Rattle.read_stream.specs.StreamAnswers.{IfStopped};
+ghost use Rattle.read_stream.specs.PagesAtHand.{IsLent, HasMoreBlocks, record_blocks_left};
+ghost use Rattle.read_stream.specs.PagesAtHand.{current_page};
+ghost use Rattle.read_stream.specs.StreamState.{IsBetweenCalls, IsOpen, Follows, Underway};
+ghost use Rattle.read_stream.specs.StreamState.{UnderwayWith};
+ghost use Rattle.read_stream.specs.Changes.{SameStream, LookAheadUnchanged, GivesPage};
+ghost use Rattle.read_stream.specs.Changes.{ConsumerUnchanged};
 ghost use Rattle.read_stream.specs.declared.parts.Part.TheVariants.{Page};
 ghost use Rattle.read_stream.specs.declared.answer.Step.TheVariants.{Stop};
 
 use crate::answer::{Ending, Step};
-use crate::crew::Crew;
-use crate::queue::Asked;
+use crate::io_context::IoContext;
+use crate::queue::QueuedBlock;
 use crate::stream::ReadStream;
 use aio_batch::Method;
 use aio_callback::ReadIo;
@@ -27,63 +31,67 @@ use std::snapshot::Snapshot;
 use std::sync::Wait;
 
 impl<'d, 'p, W: World, S: BlockSource<P> + Drop, P: Copy> ReadStream<'d, 'p, W, S, P> {
-    // Goes on by one answer, and keeps it.
+    // Advances by one answer, and keeps it.
     pub(crate) fn advance<M: Method<ReadIo, W>, E: Execute<ReadIo, W>, T: Wait>(
         &mut self,
         rt: &T,
-        crew: &mut Crew<W, M, E>,
+        context: &mut IoContext<W, M, E>,
     )
-        requires handed { IsHanded E.told E.relations W.told W.relations self.old.scope crew.old }
-        requires actor { crew.old.actor.now ≡ self.old.actor_is.value }
+        requires handed { IsValidContext E.told E.relations W.told W.relations self.old.scope
+            context.old }
+        requires actor { context.old.actor.now ≡ self.old.actor_is.value }
         requires is_open { IsOpen S.left W.told W.relations W.handles self.old }
-        ensures serves { Serves E.told E.relations E.reads E.faults M.stands_on crew.old crew.new }
+        ensures serves { ContextAdvanced E.told E.relations E.reads E.faults M.stands_on context.old
+            context.new }
         ensures answer { IsNext (reader_of self.old.scope.zero W.told)
-            (MayBeUnread self.old.scope.was.value crew.new.actor.now.known)
-            (entries_of self.old.scope.relation (S.left self.old.source_was.value)) self.old.given
-            (said_by self.new.scope.relation self.new.step (shown self.new)) }
+            (MayBeUnread self.old.scope.was.value context.new.actor.now.known)
+            (stream_entries self.old.scope.relation (S.left self.old.source_was.value))
+            self.old.given
+            (step_answer self.new.scope.relation self.new.step (current_page self.new)) }
         ensures again { IfStopped self.old.step (λ e. self.new.step ≡ Stop e) }
         ensures follows { Follows S.left W.told W.relations W.handles self.old self.new
-            crew.new.actor.now (said_by self.new.scope.relation self.new.step (shown self.new)) }
+            context.new.actor.now (step_answer self.new.scope.relation self.new.step
+            (current_page self.new)) }
     {
         if let Step::Stop(_) = self.step {
             return;
         }
-        self.let_go(rt);
-        self.look_ahead(rt, crew);
-        self.submit(rt, crew);
-        self.start_last(rt, crew);
-        self.serve(rt, crew);
-        self.actor_is = Snapshot::of(crew.actor);
+        self.release_page(rt);
+        self.look_ahead(rt, context);
+        self.submit(rt, context);
+        self.start_last(rt, context);
+        self.serve(rt, context);
+        self.actor_is = Snapshot::of(context.actor);
     }
 
-    // Lets the page go that was lent last. The record of a run whose last page it was is free
+    // Releases the page that was lent last. The record of a run whose last page it was is free
     // again.
-    fn let_go<T: Wait>(&mut self, rt: &T)
-        requires between { IsBetween S.left W.told W.relations W.handles
+    fn release_page<T: Wait>(&mut self, rt: &T)
+        requires between { IsBetweenCalls S.left W.told W.relations W.handles
             self.old.actor_is.value.known self.old }
         requires going { IfStopped self.old.step (λ _. ⊥) }
         ensures underway { Underway S.left W.told W.relations W.handles
             self.old.actor_is.value.known self.new }
-        ensures giving { IsGiving self.new.current self.new.step }
+        ensures giving { HasMoreBlocks self.new.current self.new.step }
         ensures none { self.new.pin ≡ None }
-        ensures moves { Moves self.old self.new }
+        ensures moves { LookAheadUnchanged self.old self.new }
     {
         if let Some(pin) = mem::replace(&mut self.pin, None) {
             self.pool.unpin(rt, pin);
-        } else if self.is_through() {
+        } else if self.is_record_end() {
             self.free_current();
         }
     }
 
     // Whether the page that was lent last is the last one of its record.
-    fn is_through(&self) -> bool
+    fn is_record_end(&self) -> bool
         requires lent { IsLent W.told self.now.scope.relation self.now.pin self.now.current
             self.now.step }
         requires none { self.now.pin ≡ None }
         requires going { IfStopped self.now.step (λ _. ⊥) }
         ensures through { IsTrue result
-            → (self.now.current ≢ None) × (rest_of self.now.current self.now.step ≡ []) }
-        ensures giving { (IsTrue result → ⊥) → IsGiving self.now.current self.now.step }
+            → (self.now.current ≢ None) × (record_blocks_left self.now.current self.now.step ≡ []) }
+        ensures giving { (IsTrue result → ⊥) → HasMoreBlocks self.now.current self.now.step }
     {
         match (&self.step, &self.current) {
             (Step::Page(block, _), Some(io)) => io.first() + (io.count() - 1) == *block,
@@ -93,13 +101,13 @@ impl<'d, 'p, W: World, S: BlockSource<P> + Drop, P: Copy> ReadStream<'d, 'p, W, 
 
     // The record whose pages were given is free again.
     fn free_current(&mut self)
-        requires underway { UnderwayBut S.left W.told W.relations W.handles [] [] 0
+        requires underway { UnderwayWith S.left W.told W.relations W.handles [] [] 0
             self.old.actor_is.value.known self.old }
         requires some { self.old.current ≢ None }
-        ensures underway { UnderwayBut S.left W.told W.relations W.handles [] [] 0
+        ensures underway { UnderwayWith S.left W.told W.relations W.handles [] [] 0
             self.old.actor_is.value.known self.new }
         ensures none { (self.new.current ≡ None) × (self.new.pin ≡ self.old.pin) }
-        ensures moves { Moves self.old self.new }
+        ensures moves { LookAheadUnchanged self.old self.new }
     {
         if let Some(io) = self.current.take() {
             self.desk.reads.release(io);
@@ -111,30 +119,34 @@ impl<'d, 'p, W: World, S: BlockSource<P> + Drop, P: Copy> ReadStream<'d, 'p, W, 
     pub(crate) fn submit<M: Method<ReadIo, W>, E: Execute<ReadIo, W>, T: Wait>(
         &mut self,
         rt: &T,
-        crew: &mut Crew<W, M, E>,
+        context: &mut IoContext<W, M, E>,
     )
-        requires handed { IsHanded E.told E.relations W.told W.relations self.old.scope crew.old }
-        requires underway { (hand : List ℕ) × UnderwayBut S.left W.told W.relations W.handles hand
-            [] 0 crew.old.actor.now.known self.old }
-        ensures serves { Serves E.told E.relations E.reads E.faults M.stands_on crew.old crew.new }
-        ensures underway { (hand : List ℕ) → UnderwayBut S.left W.told W.relations W.handles hand []
-            0 crew.old.actor.now.known self.old → UnderwayBut S.left W.told W.relations W.handles
-            hand [] 0 crew.new.actor.now.known self.new }
-        ensures stays { Stays self.old self.new }
-        ensures moves { Moves self.old self.new }
+        requires handed { IsValidContext E.told E.relations W.told W.relations self.old.scope
+            context.old }
+        requires underway { (hand : List ℕ) × UnderwayWith S.left W.told W.relations W.handles hand
+            [] 0 context.old.actor.now.known self.old }
+        ensures serves { ContextAdvanced E.told E.relations E.reads E.faults M.stands_on context.old
+            context.new }
+        ensures underway { (hand : List ℕ) → UnderwayWith S.left W.told W.relations W.handles hand
+            []
+            0 context.old.actor.now.known self.old
+            → UnderwayWith S.left W.told W.relations W.handles
+            hand [] 0 context.new.actor.now.known self.new }
+        ensures stays { ConsumerUnchanged self.old self.new }
+        ensures moves { LookAheadUnchanged self.old self.new }
         ensures wants { self.new.desk.now.wants ≡ self.old.desk.now.wants }
         ensures staged { self.new.desk.now.reads.batch ≡ [] }
     {
         if self.is_alone() {
-            let mut by_itself = Crew {
-                table: crew.table,
-                actor: &mut *crew.actor,
+            let mut by_itself = IoContext {
+                table: context.table,
+                actor: &mut *context.actor,
                 method: &mut SyncMethod,
-                runner: &mut *crew.runner,
+                runner: &mut *context.runner,
             };
             self.desk.reads.submit(rt, &self.scope, &mut by_itself);
         } else {
-            self.desk.reads.submit(rt, &self.scope, crew);
+            self.desk.reads.submit(rt, &self.scope, context);
         }
     }
 
@@ -142,51 +154,55 @@ impl<'d, 'p, W: World, S: BlockSource<P> + Drop, P: Copy> ReadStream<'d, 'p, W, 
     fn serve<M: Method<ReadIo, W>, E: Execute<ReadIo, W>, T: Wait>(
         &mut self,
         rt: &T,
-        crew: &mut Crew<W, M, E>,
+        context: &mut IoContext<W, M, E>,
     )
-        requires handed { IsHanded E.told E.relations W.told W.relations self.old.scope crew.old }
-        requires underway { Underway S.left W.told W.relations W.handles crew.old.actor.now.known
+        requires handed { IsValidContext E.told E.relations W.told W.relations self.old.scope
+            context.old }
+        requires underway { Underway S.left W.told W.relations W.handles context.old.actor.now.known
             self.old }
-        requires giving { IsGiving self.old.current self.old.step }
+        requires giving { HasMoreBlocks self.old.current self.old.step }
         requires none { self.old.pin ≡ None }
         requires last { self.old.desk.now.wants.items ≡ [] → self.old.current ≡ None
             → self.old.plan.pending ≡ None }
         requires ended { self.old.desk.now.queue.items ≡ [] → self.old.current ≡ None
             → S.left self.old.source ≡ [] }
-        ensures serves { Serves E.told E.relations E.reads E.faults M.stands_on crew.old crew.new }
-        ensures between { IsBetween S.left W.told W.relations W.handles crew.new.actor.now.known
-            self.new }
-        ensures keeps { Keeps self.old self.new }
+        ensures serves { ContextAdvanced E.told E.relations E.reads E.faults M.stands_on context.old
+            context.new }
+        ensures between { IsBetweenCalls S.left W.told W.relations W.handles
+            context.new.actor.now.known self.new }
+        ensures keeps { SameStream self.old self.new }
         ensures answer { IsNext (reader_of self.old.scope.zero W.told)
-            (MayBeUnread self.old.scope.was.value crew.new.actor.now.known)
-            (entries_of self.old.scope.relation (S.left self.old.source_was.value)) self.old.given
-            (said_by self.new.scope.relation self.new.step (shown self.new)) }
+            (MayBeUnread self.old.scope.was.value context.new.actor.now.known)
+            (stream_entries self.old.scope.relation (S.left self.old.source_was.value))
+            self.old.given
+            (step_answer self.new.scope.relation self.new.step (current_page self.new)) }
         ensures given { self.new.given ≡ self.old.given
-            + pages_in (said_by self.new.scope.relation self.new.step (shown self.new)) }
+            + pages_given (step_answer self.new.scope.relation self.new.step
+            (current_page self.new)) }
     {
         let Some(asked) = self.front() else {
             self.step = Step::Stop(Ending::End);
             return;
         };
-        match self.find(rt, crew, asked.block) {
+        match self.find(rt, context, asked.block) {
             Some(ending) => self.step = Step::Stop(ending),
             None => self.give(asked),
         }
     }
 
     // The block at the front of the queue.
-    fn front(&self) -> Option<Asked<P>>
+    fn front(&self) -> Option<QueuedBlock<P>>
         ensures { result ≡ slice_get self.now.desk.now.queue.items 0 }
     {
         self.desk.queue.front().copied()
     }
 
     // Gives the page of the block at the front.
-    fn give(&mut self, asked: Asked<P>)
+    fn give(&mut self, asked: QueuedBlock<P>)
         requires front { slice_get self.old.desk.now.queue.items 0 ≡ Some asked }
         requires ahead { 0 < self.old.plan.blocks_ahead }
         requires given { self.old.given < 2 ^ 64 - 1 }
-        ensures { Gives asked self.old self.new }
+        ensures { GivesPage asked self.old self.new }
     {
         let _ = self.desk.queue.pop_front();
         self.plan.given();

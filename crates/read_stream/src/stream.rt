@@ -2,23 +2,24 @@
 ghost use Rattle.std.specs.Prelude.{◌≡◌, ◌<◌, ◌≤◌, ◌+◌, ℕ, length, []};
 ghost use Rattle.page_check.specs.SynchronousAnswer.{reader_of};
 ghost use Rattle.page_check.specs.IsAnswer.{IsNext, Stop as SaidStop};
-ghost use Rattle.aio_word.specs.Events.{lives};
-ghost use Rattle.aio_handle.specs.Closing.{IsAtRest};
+ghost use Rattle.aio_word.specs.Events.{lives_ended};
+ghost use Rattle.aio_handle.specs.Closing.{HasNoTokens};
 ghost use Rattle.aio_handle.specs.Free.{IsRoom};
-ghost use Rattle.aio_handle.specs.Shown.{IsOf, IsSame};
-ghost use Rattle.read_stream.specs.Answering.{entries_of, MayBeUnread, said, said_of, said_by};
-ghost use Rattle.read_stream.specs.Answering.{IfStopped, IfZeroed};
-ghost use Rattle.read_stream.specs.Desks.{IsFree, IsSameDesk};
-ghost use Rattle.read_stream.specs.Hands.{shown, IsShown, page_at, zeroed_at};
-ghost use Rattle.read_stream.specs.Open.{IsOpen, Follows};
+ghost use Rattle.aio_handle.specs.ContractViews.{IsActorOf, IsSameActor};
+ghost use Rattle.read_stream.specs.StreamAnswers.{stream_entries, MayBeUnread, synchronous_answer};
+ghost use Rattle.read_stream.specs.StreamAnswers.{synchronous_ending, step_answer};
+ghost use Rattle.read_stream.specs.StreamAnswers.{IfStopped, IfZeroed};
+ghost use Rattle.read_stream.specs.Desks.{IsFreeDesk, SameDeskSettings};
+ghost use Rattle.read_stream.specs.PagesAtHand.{current_page, HasCurrentPage, page_at, zeroed_at};
+ghost use Rattle.read_stream.specs.StreamState.{IsOpen, Follows};
 ghost use Rattle.std.specs.Prelude.{◌≢◌, IfSome, true};
 ghost use Rattle.aio_word.specs.declared.Class.TheVariants.{Unended};
 ghost use Rattle.read_stream.specs.declared.answer.Step.TheVariants.{Start, Stop};
-ghost use Rattle.read_stream.specs.Went.{Went, local_marks};
+ghost use Rattle.read_stream.specs.ActorProgress.{ActorAdvanced, local_marks};
 
 use crate::answer::{Ending, Next, Step};
-use crate::crew::Crew;
 use crate::desk::Desk;
+use crate::io_context::IoContext;
 use crate::scope::Scope;
 use aio_batch::Method;
 use aio_callback::ReadIo;
@@ -65,9 +66,9 @@ impl<'d, 'p, W: World, S: BlockSource<P> + Drop, P: Copy> ReadStream<'d, 'p, W, 
         relation: u32,
         source: S,
     ) -> ReadStream<'d, 'p, W, S, P>
-        requires desk { IsFree desk.old }
+        requires desk { IsFreeDesk desk.old }
         requires backend { actor.now.known.number < actor.now.known.config.backends }
-        requires rest { IsAtRest actor.now.known }
+        requires rest { HasNoTokens actor.now.known }
         requires room { (room : ℕ) × IsRoom actor.now.known.config actor.now.known room
             × (length (S.left source) ≤ room) }
         requires relation { relation < W.relations }
@@ -117,47 +118,48 @@ impl<'d, 'p, W: World, S: BlockSource<P> + Drop, P: Copy> ReadStream<'d, 'p, W, 
         method: &mut M,
         runner: &mut E,
     ) -> Next<'_, P>
-        requires table { IsOf table.now actor.old }
+        requires table { IsActorOf table.now actor.old }
         requires told { (E.told runner.old ≡ W.told) × (E.relations runner.old ≡ W.relations) }
         requires actor { actor.old ≡ self.old.actor_is.value }
         requires is_open { IsOpen S.left W.told W.relations W.handles self.old }
-        ensures same { IsSame actor.old actor.new }
+        ensures same { IsSameActor actor.old actor.new }
         ensures told { (E.told runner.new ≡ E.told runner.old)
             × (E.relations runner.new ≡ E.relations runner.old) }
-        ensures went { Went actor.old.known actor.new.known (E.reads runner.old)
+        ensures went { ActorAdvanced actor.old.known actor.new.known (E.reads runner.old)
             (E.reads runner.new) (E.faults runner.old) (E.faults runner.new) }
         ensures stands_on { M.stands_on method.new ≡ M.stands_on method.old }
         ensures answer { IsNext (reader_of self.old.scope.zero W.told)
             (MayBeUnread self.old.scope.was.value actor.new.known)
-            (entries_of self.old.scope.relation (S.left self.old.source_was.value)) self.old.given
-            (said self.old.scope.relation result) }
-        ensures zeroed { IfZeroed (said self.old.scope.relation result)
+            (stream_entries self.old.scope.relation (S.left self.old.source_was.value))
+            self.old.given (synchronous_answer self.old.scope.relation result) }
+        ensures zeroed { IfZeroed (synchronous_answer self.old.scope.relation result)
             (self.old.scope.zero ≡ true) }
         ensures again { IfStopped self.old.step
-            (λ e. said self.old.scope.relation result ≡ SaidStop (said_of e)) }
+            (λ e. synchronous_answer self.old.scope.relation result
+            ≡ SaidStop (synchronous_ending e)) }
         ensures* after { sem 𝓛 (Rests
             (the_row (record { mir = named 0; lft = [] }) (record { mir = named 1; lft = [] })
             W.row S.row P.row W.World)
             self.entry
             (λ n. Follows S.left W.told W.relations W.handles self.old n actor.new
-            (said self.old.scope.relation result))) }
+            (synchronous_answer self.old.scope.relation result))) }
     {
-        let mut crew = Crew {
+        let mut context = IoContext {
             table,
             actor,
             method,
             runner,
         };
-        self.advance(rt, &mut crew);
+        self.advance(rt, &mut context);
         self.answer()
     }
 
     // The last answer, lent.
     fn answer(&self) -> Next<'_, P>
         requires is_open { IsOpen S.left W.told W.relations W.handles self.now }
-        ensures answer { said self.now.scope.relation result
-            ≡ said_by self.now.scope.relation self.now.step (shown self.now) }
-        ensures zeroed { IfZeroed (said self.now.scope.relation result)
+        ensures answer { synchronous_answer self.now.scope.relation result
+            ≡ step_answer self.now.scope.relation self.now.step (current_page self.now) }
+        ensures zeroed { IfZeroed (synchronous_answer self.now.scope.relation result)
             (self.now.scope.zero ≡ true) }
     {
         match &self.step {
@@ -176,7 +178,7 @@ impl<'d, 'p, W: World, S: BlockSource<P> + Drop, P: Copy> ReadStream<'d, 'p, W, 
 
     // The page of the block that the last step found.
     fn page(&self, block: u32) -> &Page
-        requires shown { IsShown W.told self.now.scope.relation self.now.pin self.now.current
+        requires shown { HasCurrentPage W.told self.now.scope.relation self.now.pin self.now.current
             block }
         requires record { IfSome self.now.current (λ io. io.label.ended ≢ Unended) }
         ensures { result.now ≡ page_at self.now.pin self.now.current block }
@@ -190,7 +192,7 @@ impl<'d, 'p, W: World, S: BlockSource<P> + Drop, P: Copy> ReadStream<'d, 'p, W, 
 
     // Whether the page of the block that the last step found was zeroed.
     fn is_zeroed(&self, block: u32) -> bool
-        requires shown { IsShown W.told self.now.scope.relation self.now.pin self.now.current
+        requires shown { HasCurrentPage W.told self.now.scope.relation self.now.pin self.now.current
             block }
         requires record { IfSome self.now.current (λ io. io.label.ended ≢ Unended) }
         ensures { result ≡ zeroed_at self.now.pin self.now.current block }
@@ -211,24 +213,24 @@ impl<'d, 'p, W: World, S: BlockSource<P> + Drop, P: Copy> ReadStream<'d, 'p, W, 
         method: &mut M,
         runner: &mut E,
     ) -> (u64, &'d mut Desk<W, P>)
-        requires table { IsOf table.now actor.old }
+        requires table { IsActorOf table.now actor.old }
         requires told { (E.told runner.old ≡ W.told) × (E.relations runner.old ≡ W.relations) }
         requires actor { actor.old ≡ self.actor_is.value }
         requires is_open { IsOpen S.left W.told W.relations W.handles self }
-        ensures same { IsSame actor.old actor.new }
+        ensures same { IsSameActor actor.old actor.new }
         ensures told { (E.told runner.new ≡ E.told runner.old)
             × (E.relations runner.new ≡ E.relations runner.old) }
-        ensures went { Went actor.old.known actor.new.known (E.reads runner.old)
+        ensures went { ActorAdvanced actor.old.known actor.new.known (E.reads runner.old)
             (E.reads runner.new) (E.faults runner.old) (E.faults runner.new) }
         ensures stands_on { M.stands_on method.new ≡ M.stands_on method.old }
-        ensures rest { IsAtRest actor.new.known }
+        ensures rest { HasNoTokens actor.new.known }
         ensures count { local_marks actor.new.known.marks
             ≡ local_marks self.entry.scope.was.value.known.marks + result.0 }
         ensures few { result.0 ≤ length (S.left self.entry.source_was.value) }
-        ensures lived { (h : ℕ) → lives h actor.new.known.marks
-            ≤ lives h self.entry.scope.was.value.known.marks + result.0 }
-        ensures desk { (result.1.ghost_name ≡ self.entry.desk.ghost_name) × IsFree result.1.now
-            × IsSameDesk self.entry.desk.now result.1.now }
+        ensures lived { (h : ℕ) → lives_ended h actor.new.known.marks
+            ≤ lives_ended h self.entry.scope.was.value.known.marks + result.0 }
+        ensures desk { (result.1.ghost_name ≡ self.entry.desk.ghost_name) × IsFreeDesk result.1.now
+            × SameDeskSettings self.entry.desk.now result.1.now }
     {
         let ReadStream {
             desk,
@@ -247,13 +249,13 @@ impl<'d, 'p, W: World, S: BlockSource<P> + Drop, P: Copy> ReadStream<'d, 'p, W, 
         if let Some(pin) = pin {
             pool.unpin(rt, pin);
         }
-        let mut crew = Crew {
+        let mut context = IoContext {
             table,
             actor,
             method,
             runner,
         };
-        let taken_in = desk.end(rt, &scope, &mut crew, current);
+        let taken_in = desk.end(rt, &scope, &mut context, current);
         (taken_in, desk)
     }
 }

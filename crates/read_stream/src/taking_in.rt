@@ -1,13 +1,14 @@
 //! The calls that take a stream's I/Os in.
 ghost use Rattle.std.specs.Prelude.{◌≡◌, ◌<◌, ◌+◌, [], ◌∷◌, IfSome, IfNone, ℕ, List};
-ghost use Rattle.read_stream.specs.Crews.{IsHanded, Serves};
+ghost use Rattle.read_stream.specs.IoContexts.{IsValidContext, ContextAdvanced};
 ghost use Rattle.read_plan.specs.declared.runs.Run.{Run};
-ghost use Rattle.read_stream.specs.Issued.{Issued, Lent, IsTakenIn, HasIdle};
-ghost use Rattle.read_stream.specs.Issued.{IsReady};
-ghost use Rattle.read_stream.specs.Issued.{AreFor, FlyFor, IsFor, IsOneFor, run_of};
-ghost use Rattle.read_stream.specs.Issued.{records_in, made_in};
+ghost use Rattle.read_stream.specs.StreamIos.{Issued, HeldByCaller, IsTakenIn, HasIdleHandle};
+ghost use Rattle.read_stream.specs.StreamIos.{IsReady};
+ghost use Rattle.read_stream.specs.StreamIos.{ReadsForRuns, InFlightForRuns, IsForBlocks};
+ghost use Rattle.read_stream.specs.StreamIos.{IsRecordForRun, run_of};
+ghost use Rattle.read_stream.specs.StreamIos.{record_count, ios_allowed};
 
-use crate::crew::Crew;
+use crate::io_context::IoContext;
 use crate::reads::Reads;
 use crate::ring::push;
 use crate::scope::Scope;
@@ -24,92 +25,102 @@ impl<W: World> Reads<W> {
         &mut self,
         rt: &T,
         scope: &Scope<W>,
-        crew: &mut Crew<W, M, E>,
+        context: &mut IoContext<W, M, E>,
         token: InFlight<W>,
     ) -> ReadIo
-        requires handed { IsHanded E.told E.relations W.told W.relations scope.now crew.old }
-        requires lent { Lent scope.now W.told W.relations crew.old.actor.now.known self.old token }
-        ensures serves { Serves E.told E.relations E.reads E.faults M.stands_on crew.old crew.new }
-        ensures issued { Issued scope.now W.told W.relations crew.new.actor.now.known self.new }
-        ensures record { IsTakenIn scope.now W.told W.relations crew.new.actor.now.known result }
-        ensures aim { (first count : ℕ) → IsFor scope.now first count crew.old.actor.now.known token
-            → (result.first ≡ first) × (result.count ≡ count) }
+        requires handed { IsValidContext E.told E.relations W.told W.relations scope.now
+            context.old }
+        requires lent { HeldByCaller scope.now W.told W.relations context.old.actor.now.known
+            self.old token }
+        ensures serves { ContextAdvanced E.told E.relations E.reads E.faults M.stands_on context.old
+            context.new }
+        ensures issued { Issued scope.now W.told W.relations context.new.actor.now.known self.new }
+        ensures record { IsTakenIn scope.now W.told W.relations context.new.actor.now.known result }
+        ensures aim { (first count : ℕ) → IsForBlocks scope.now first count
+            context.old.actor.now.known token → (result.first ≡ first) × (result.count ≡ count) }
         ensures all { (self.new.free ≡ self.old.free) × (self.new.ended ≡ self.old.ended)
-            × (self.new.flights ≡ self.old.flights) × (self.new.batch ≡ self.old.batch)
-            × (self.new.credit ≡ self.old.credit) × (self.new.taken_in ≡ self.old.taken_in + 1) }
-        ensures idle { HasIdle crew.old.table.now.config crew.new.actor.now.known }
-        ensures runs { (runs : List Run) → AreFor scope.now crew.old.actor.now.known self.old runs
-            → AreFor scope.now crew.new.actor.now.known self.new runs }
+            × (self.new.in_flight ≡ self.old.in_flight) × (self.new.batch ≡ self.old.batch)
+            × (self.new.io_budget ≡ self.old.io_budget)
+            × (self.new.taken_in ≡ self.old.taken_in + 1) }
+        ensures idle { HasIdleHandle context.old.table.now.config context.new.actor.now.known }
+        ensures runs { (runs : List Run) → ReadsForRuns scope.now context.old.actor.now.known
+            self.old runs → ReadsForRuns scope.now context.new.actor.now.known self.new runs }
     {
-        let mut local = wait_own(rt, crew.table, crew.actor, token, crew.runner);
+        let mut local = wait_own(rt, context.table, context.actor, token, context.runner);
         local.record_mut().complete_local(&mut self.counts);
-        let io = crew.table.reclaim(crew.actor, local);
-        crew.actor.keeps();
-        crew.actor.keeps_generations();
+        let io = context.table.reclaim(context.actor, local);
+        context.actor.has_seen_its_marks();
+        context.actor.has_reclaimed_only_past();
         self.taken_in += 1;
         io
     }
 
-    // The oldest I/O in flight, taken in.
-    fn land<M: Method<ReadIo, W>, E: Execute<ReadIo, W>, T: Wait>(
+    // Settles the oldest I/O in flight.
+    fn settle_oldest<M: Method<ReadIo, W>, E: Execute<ReadIo, W>, T: Wait>(
         &mut self,
         rt: &T,
         scope: &Scope<W>,
-        crew: &mut Crew<W, M, E>,
+        context: &mut IoContext<W, M, E>,
     ) -> Option<ReadIo>
-        requires handed { IsHanded E.told E.relations W.told W.relations scope.now crew.old }
-        requires issued { Issued scope.now W.told W.relations crew.old.actor.now.known self.old }
-        ensures serves { Serves E.told E.relations E.reads E.faults M.stands_on crew.old crew.new }
-        ensures issued { Issued scope.now W.told W.relations crew.new.actor.now.known self.new }
+        requires handed { IsValidContext E.told E.relations W.told W.relations scope.now
+            context.old }
+        requires issued { Issued scope.now W.told W.relations context.old.actor.now.known self.old }
+        ensures serves { ContextAdvanced E.told E.relations E.reads E.faults M.stands_on context.old
+            context.new }
+        ensures issued { Issued scope.now W.told W.relations context.new.actor.now.known self.new }
         ensures some { IfSome result (λ io.
-            IsTakenIn scope.now W.told W.relations crew.new.actor.now.known io
-            × (records_in self.old ≡ records_in self.new + 1)) }
-        ensures idle { IfSome result (λ _. HasIdle crew.old.table.now.config
-            crew.new.actor.now.known) }
+            IsTakenIn scope.now W.told W.relations context.new.actor.now.known io
+            × (record_count self.old ≡ record_count self.new + 1)) }
+        ensures idle { IfSome result (λ _. HasIdleHandle context.old.table.now.config
+            context.new.actor.now.known) }
         ensures run { IfSome result (λ io. (runs : List Run)
-            → FlyFor scope.now crew.old.actor.now.known self.old.flights.items runs
+            → InFlightForRuns scope.now context.old.actor.now.known self.old.in_flight.items runs
             → (rest : List Run) × (runs ≡ run_of io ∷ rest)
-            × FlyFor scope.now crew.new.actor.now.known self.new.flights.items rest) }
-        ensures none { IfNone result (self.old.flights.items ≡ []) }
-        ensures same_state { IfNone result ((self.new ≡ self.old) × (crew.new.actor.now ≡
-            crew.old.actor.now)) }
+            × InFlightForRuns scope.now context.new.actor.now.known self.new.in_flight.items rest) }
+        ensures none { IfNone result (self.old.in_flight.items ≡ []) }
+        ensures same_state { IfNone result ((self.new ≡ self.old) × (context.new.actor.now ≡
+            context.old.actor.now)) }
         ensures all { (self.new.free ≡ self.old.free) × (self.new.batch ≡ self.old.batch)
-            × (self.new.ended ≡ self.old.ended) × (made_in self.new ≡ made_in self.old)
-            × (self.new.credit ≡ self.old.credit) }
+            × (self.new.ended ≡ self.old.ended) × (ios_allowed self.new ≡ ios_allowed self.old)
+            × (self.new.io_budget ≡ self.old.io_budget) }
     {
-        match self.flights.pop_front() {
-            Some(token) => Some(self.settle(rt, scope, crew, token)),
+        match self.in_flight.pop_front() {
+            Some(token) => Some(self.settle(rt, scope, context, token)),
             None => None,
         }
     }
 
     /// The oldest read that has ended or was submitted, taken in.
-    pub fn oldest<M: Method<ReadIo, W>, E: Execute<ReadIo, W>, T: Wait>(
+    pub fn oldest_record<M: Method<ReadIo, W>, E: Execute<ReadIo, W>, T: Wait>(
         &mut self,
         rt: &T,
         scope: &Scope<W>,
-        crew: &mut Crew<W, M, E>,
+        context: &mut IoContext<W, M, E>,
     ) -> Option<ReadIo>
-        requires handed { IsHanded E.told E.relations W.told W.relations scope.now crew.old }
-        requires issued { Issued scope.now W.told W.relations crew.old.actor.now.known self.old }
-        ensures serves { Serves E.told E.relations E.reads E.faults M.stands_on crew.old crew.new }
-        ensures issued { Issued scope.now W.told W.relations crew.new.actor.now.known self.new }
+        requires handed { IsValidContext E.told E.relations W.told W.relations scope.now
+            context.old }
+        requires issued { Issued scope.now W.told W.relations context.old.actor.now.known self.old }
+        ensures serves { ContextAdvanced E.told E.relations E.reads E.faults M.stands_on context.old
+            context.new }
+        ensures issued { Issued scope.now W.told W.relations context.new.actor.now.known self.new }
         ensures some { IfSome result (λ io.
-            IsTakenIn scope.now W.told W.relations crew.new.actor.now.known io
-            × (records_in self.old ≡ records_in self.new + 1)) }
-        ensures none { IfNone result (self.old.flights.items ≡ []) }
+            IsTakenIn scope.now W.told W.relations context.new.actor.now.known io
+            × (record_count self.old ≡ record_count self.new + 1)) }
+        ensures none { IfNone result (self.old.in_flight.items ≡ []) }
         ensures all { (self.new.free ≡ self.old.free) × (self.new.batch ≡ self.old.batch)
-            × (made_in self.new ≡ made_in self.old) × (self.new.credit ≡ self.old.credit) }
+            × (ios_allowed self.new ≡ ios_allowed self.old)
+            × (self.new.io_budget ≡ self.old.io_budget) }
         ensures same_state { IfNone result ((self.old.ended.items ≡ [])
-            × (records_in self.new ≡ records_in self.old)
-            × (self.new.flights ≡ self.old.flights)) }
+            × (record_count self.new ≡ record_count self.old)
+            × (self.new.in_flight ≡ self.old.in_flight)) }
         ensures runs { self.old.batch ≡ [] → (run : Run) (runs : List Run)
-            → AreFor scope.now crew.old.actor.now.known self.old (run ∷ runs)
-            → IsOneFor run result × AreFor scope.now crew.new.actor.now.known self.new runs }
+            → ReadsForRuns scope.now context.old.actor.now.known self.old (run ∷ runs)
+            → IsRecordForRun run result × ReadsForRuns scope.now context.new.actor.now.known
+            self.new runs }
     {
         match self.ended.pop_front() {
             Some(io) => Some(io),
-            None => self.land(rt, scope, crew),
+            None => self.settle_oldest(rt, scope, context),
         }
     }
 
@@ -119,21 +130,23 @@ impl<W: World> Reads<W> {
         &mut self,
         rt: &T,
         scope: &Scope<W>,
-        crew: &mut Crew<W, M, E>,
+        context: &mut IoContext<W, M, E>,
     )
-        requires handed { IsHanded E.told E.relations W.told W.relations scope.now crew.old }
-        requires issued { Issued scope.now W.told W.relations crew.old.actor.now.known self.old }
-        ensures serves { Serves E.told E.relations E.reads E.faults M.stands_on crew.old crew.new }
-        ensures issued { Issued scope.now W.told W.relations crew.new.actor.now.known self.new }
-        ensures all { (records_in self.new ≡ records_in self.old)
-            × (made_in self.new ≡ made_in self.old) × (self.new.batch ≡ self.old.batch)
-            × (self.new.free ≡ self.old.free) × (self.new.credit ≡ self.old.credit) }
-        ensures idle { self.old.batch ≡ [] → HasIdle crew.old.table.now.config
-            crew.new.actor.now.known }
-        ensures runs { (runs : List Run) → AreFor scope.now crew.old.actor.now.known self.old runs
-            → AreFor scope.now crew.new.actor.now.known self.new runs }
+        requires handed { IsValidContext E.told E.relations W.told W.relations scope.now
+            context.old }
+        requires issued { Issued scope.now W.told W.relations context.old.actor.now.known self.old }
+        ensures serves { ContextAdvanced E.told E.relations E.reads E.faults M.stands_on context.old
+            context.new }
+        ensures issued { Issued scope.now W.told W.relations context.new.actor.now.known self.new }
+        ensures all { (record_count self.new ≡ record_count self.old)
+            × (ios_allowed self.new ≡ ios_allowed self.old) × (self.new.batch ≡ self.old.batch)
+            × (self.new.free ≡ self.old.free) × (self.new.io_budget ≡ self.old.io_budget) }
+        ensures idle { self.old.batch ≡ [] → HasIdleHandle context.old.table.now.config
+            context.new.actor.now.known }
+        ensures runs { (runs : List Run) → ReadsForRuns scope.now context.old.actor.now.known
+            self.old runs → ReadsForRuns scope.now context.new.actor.now.known self.new runs }
     {
-        match self.land(rt, scope, crew) {
+        match self.settle_oldest(rt, scope, context) {
             Some(io) => push(&mut self.ended, io),
             None => {}
         }
@@ -145,18 +158,21 @@ impl<W: World> Reads<W> {
         &mut self,
         rt: &T,
         scope: &Scope<W>,
-        crew: &mut Crew<W, M, E>,
+        context: &mut IoContext<W, M, E>,
     ) -> u64
-        requires handed { IsHanded E.told E.relations W.told W.relations scope.now crew.old }
-        requires issued { Issued scope.now W.told W.relations crew.old.actor.now.known self.old }
-        requires all { records_in self.old ≡ scope.now.total }
-        ensures serves { Serves E.told E.relations E.reads E.faults M.stands_on crew.old crew.new }
-        ensures issued { Issued scope.now W.told W.relations crew.new.actor.now.known self.new }
+        requires handed { IsValidContext E.told E.relations W.told W.relations scope.now
+            context.old }
+        requires issued { Issued scope.now W.told W.relations context.old.actor.now.known self.old }
+        requires all { record_count self.old ≡ scope.now.total }
+        ensures serves { ContextAdvanced E.told E.relations E.reads E.faults M.stands_on context.old
+            context.new }
+        ensures issued { Issued scope.now W.told W.relations context.new.actor.now.known self.new }
         ensures ready { IsReady scope.now.combine scope.now.total self.new }
-        ensures count { (result ≡ self.new.taken_in) × (made_in self.new ≡ made_in self.old) }
+        ensures count { (result ≡ self.new.taken_in)
+            × (ios_allowed self.new ≡ ios_allowed self.old) }
     {
-        self.submit(rt, scope, crew);
-        while let Some(io) = self.oldest(rt, scope, crew) {
+        self.submit(rt, scope, context);
+        while let Some(io) = self.oldest_record(rt, scope, context) {
             self.release(io);
         }
         self.taken_in

@@ -1,8 +1,8 @@
 //! Reads of a disk that tells its contents.
 ghost use Rattle.std.specs.Prelude.{◌≡◌, ◌≢◌, ◌<◌, length, true, None, IfOk, IfSome};
 ghost use Rattle.aio_word.specs.declared.Class.TheVariants.{Unended};
-ghost use Rattle.aio_callback.specs.Reading.{Fits};
-ghost use Rattle.aio_callback.specs.Cases.{stream_ids, IsOneOf, given_of};
+ghost use Rattle.aio_callback.specs.ReadIoView.{ReadFits};
+ghost use Rattle.aio_callback.specs.Cases.{stream_ids, IsOneOf, given_count};
 
 use crate::reads::{Ending, ending_of, is_blank, result_of, told_zeroed};
 use aio_callback::CallbackId::{Buffer, Count, File, ZeroBuffer};
@@ -18,11 +18,11 @@ use std::test::Fail;
 
 /// How many pages the owner of an ended record with a stream's callbacks gives.
 fn given<W: World>(io: &ReadIo, zero: bool) -> u32
-    requires fits { Fits W.told W.relations io.now }
+    requires fits { ReadFits W.told W.relations io.now }
     requires ended { io.now.label.ended ≢ Unended }
     requires ids { io.now.ids ≡ stream_ids zero }
     ensures case { IsOneOf zero W.told io.now }
-    ensures given { result ≡ given_of io.now.result }
+    ensures given { result ≡ given_count io.now.result }
 {
     laws::stream_records_end_in_six_ways();
     io.good()
@@ -38,7 +38,7 @@ fn read_in<W: World, D: Disk, T: Wait>(rt: &T, disk: &mut D, io: &mut ReadIo, ze
     requires unended { io.old.label.ended ≡ Unended }
     requires ids { io.old.ids ≡ stream_ids zero }
     ensures case { IsOneOf zero W.told io.new }
-    ensures fits { Fits W.told W.relations io.new }
+    ensures fits { ReadFits W.told W.relations io.new }
     ensures ended { io.new.label.ended ≢ Unended }
 {
     let (relation, first) = (io.relation(), io.first());

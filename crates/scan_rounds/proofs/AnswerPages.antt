@@ -5,20 +5,22 @@ use Rattle.std.proofs.Common.{get_or}
 use Rattle.std.specs.Prelude.{Option, Some, None, slice_get, if◌then◌else◌, nat_le, ⊤}
 use Rattle.std.specs.List.{All}
 use Rattle.std.proofs.lemmas.Option.{slice_get_within}
-use Rattle.page_check.specs.Told.{Told, blocks_of, page_of}
+use Rattle.page_check.specs.Told.{Told, relation_block_count, relation_page}
 use Rattle.page_check.specs.declared.verdict.Verdict.{Verdict}
 use Rattle.page_check.specs.declared.verdict.Verdict.TheVariants.{Zero, Sane, Bad}
 use Rattle.page_check.specs.Verdict.{verdict_of, IsValid}
 use Rattle.page_check.specs.SynchronousAnswer.{Entry, Given, Found, Absent, Damaged, Zeroed}
 use Rattle.page_check.specs.SynchronousAnswer.{found_at, zeroed_if_damaged, zeroing, Reader}
 use Rattle.page_check.specs.SynchronousAnswer.{Page as FoundPage}
-use Rattle.page_check.specs.SynchronousAnswer.{found_by, is_page, page_in, reader_of, pages_of}
-use Rattle.page_check.specs.SynchronousAnswer.{can_read, given_for}
+use Rattle.page_check.specs.SynchronousAnswer.{found_by_verdict, is_page, found_page, reader_of}
+use Rattle.page_check.specs.SynchronousAnswer.{readable_pages}
+use Rattle.page_check.specs.SynchronousAnswer.{can_read, entry_given}
 use Rattle.page_check.specs.IsAnswer.{Next as Said, Page, Stop, IsAnswer, IsNext, AreFirst}
-use Rattle.page_check.proofs.SynchronousReads.{read_count-cons, pages_of-none, pages_of-stop}
+use Rattle.page_check.proofs.SynchronousReads.{read_count-cons, readable_pages-none}
+use Rattle.page_check.proofs.SynchronousReads.{readable_pages-stop}
 use Rattle.page_check.proofs.ValidPages.{zero_page_valid}
-use Rattle.page_check.proofs.Places.{count-within, pages_of-length}
-use Rattle.scan_rounds.specs.Taking.{IfPage}
+use Rattle.page_check.proofs.ListPlaces.{count-within, readable_pages-length}
+use Rattle.scan_rounds.specs.ConsumedPages.{IfPage}
 
 abbrev pub E : Type 0
 E = Entry (Unit {0})
@@ -34,23 +36,24 @@ front_get (x ∷ front) rest (suc k) d below = front_get front rest k d (omega a
 
 -- a page of synchronous reads is valid
 found-valid : (absent : Bool) (v : Verdict) (page : List ℕ) → verdict_of page ≡ v
-    → is_page (if absent then Absent else found_by v page) ≡ true
-    → IsValid (page_in (if absent then Absent else found_by v page))
+    → is_page (if absent then Absent else found_by_verdict v page) ≡ true
+    → IsValid (found_page (if absent then Absent else found_by_verdict v page))
 found-valid true v page e is = absurd (cc)
 found-valid false Bad page e is = absurd (cc)
 found-valid false Zero page e is = λ bad. absurd (cc)
 found-valid false Sane page e is = λ bad. absurd (cc)
 
 found_at-valid : (told : Told) (relation block : ℕ) → is_page (found_at told relation block) ≡ true
-    → IsValid (page_in (found_at told relation block))
+    → IsValid (found_page (found_at told relation block))
 unfolding found_at
 found_at-valid told relation block is =
-    found-valid (nat_le (blocks_of told relation) block) (verdict_of (page_of told relation block))
-    (page_of told relation block) refl is
+    found-valid (nat_le (relation_block_count told relation) block)
+    (verdict_of (relation_page told relation block))
+    (relation_page told relation block) refl is
 
 -- and so are zeros in place of a damaged one
-zeroed-valid : (x : Found) → (is_page x ≡ true → IsValid (page_in x))
-    → is_page (zeroed_if_damaged x) ≡ true → IsValid (page_in (zeroed_if_damaged x))
+zeroed-valid : (x : Found) → (is_page x ≡ true → IsValid (found_page x))
+    → is_page (zeroed_if_damaged x) ≡ true → IsValid (found_page (zeroed_if_damaged x))
 zeroed-valid (FoundPage bytes) valid is = valid refl
 zeroed-valid Zeroed valid is = zero_page_valid
 zeroed-valid Damaged valid is = zero_page_valid
@@ -58,7 +61,7 @@ zeroed-valid Absent valid is = absurd (cc)
 
 zeroing-valid : (on : Bool) (told : Told) (relation block : ℕ)
     → is_page (zeroing on (found_at told) relation block) ≡ true
-    → IsValid (page_in (zeroing on (found_at told) relation block))
+    → IsValid (found_page (zeroing on (found_at told) relation block))
 zeroing-valid true told relation block is =
     zeroed-valid (found_at told relation block) (found_at-valid told relation block) is
 zeroing-valid false told relation block is = found_at-valid told relation block is
@@ -68,34 +71,34 @@ given_at_none : (g : G) (k : ℕ) → slice_get (let none : List G = [] in none)
     → ⊥
 given_at_none g k is = cc
 
-pages_of-more : (f : Reader) (e : E) (es : List E) → can_read f e ≡ true
-    → pages_of f (e ∷ es) ≡ given_for f e ∷ pages_of f es
-pages_of-more f e es can =
-    ap (λ (n : ℕ). map (given_for f) (take n (e ∷ es))) (read_count-cons f e es can)
+readable_pages-more : (f : Reader) (e : E) (es : List E) → can_read f e ≡ true
+    → readable_pages f (e ∷ es) ≡ entry_given f e ∷ readable_pages f es
+readable_pages-more f e es can =
+    ap (λ (n : ℕ). map (entry_given f) (take n (e ∷ es))) (read_count-cons f e es can)
 
 module _ (f : Reader) (valid : (relation block : ℕ) → is_page (f relation block) ≡ true
-    → IsValid (page_in (f relation block))) where
+    → IsValid (found_page (f relation block))) where
   abbrev AreValid : List E → Type 0
-  AreValid es = (k : ℕ) (g : G) → slice_get (pages_of f es) k ≡ Some g → IsValid g.page
+  AreValid es = (k : ℕ) (g : G) → slice_get (readable_pages f es) k ≡ Some g → IsValid g.page
 
   valid_first : (e : E) (es : List E) (b : Bool) → can_read f e ≡ b → AreValid es
       → AreValid (e ∷ es)
   valid_first e es false cannot rest k g is =
       absurd (given_at_none g k
-      (ap (λ (l : List G). slice_get l k) (sym (pages_of-stop f e es cannot)) ∙ is))
+      (ap (λ (l : List G). slice_get l k) (sym (readable_pages-stop f e es cannot)) ∙ is))
   valid_first e es true can rest zero g is =
-      let here : slice_get (given_for f e ∷ pages_of f es) 0 ≡ Some g =
-      ap (λ (l : List G). slice_get l 0) (sym (pages_of-more f e es can)) ∙ is in
-      let same : given_for f e ≡ g = cc in
+      let here : slice_get (entry_given f e ∷ readable_pages f es) 0 ≡ Some g =
+      ap (λ (l : List G). slice_get l 0) (sym (readable_pages-more f e es can)) ∙ is in
+      let same : entry_given f e ≡ g = cc in
       let P : G → Type 0 = λ h. IsValid h.page in
       subst P same (valid e.relation e.block can)
   valid_first e es true can rest (suc k) g is =
-      rest k g (ap (λ (l : List G). slice_get l (suc k)) (sym (pages_of-more f e es can))
+      rest k g (ap (λ (l : List G). slice_get l (suc k)) (sym (readable_pages-more f e es can))
       ∙ is)
 
   pages_valid : (es : List E) → AreValid es
   pages_valid [] = λ k g is. absurd (given_at_none g k
-      (ap (λ (l : List G). slice_get l k) (sym (pages_of-none f)) ∙ is))
+      (ap (λ (l : List G). slice_get l k) (sym (readable_pages-none f)) ∙ is))
   pages_valid (e ∷ es) = valid_first e es (can_read f e) refl (pages_valid es)
 
 -- a page that is answered next is valid
@@ -108,10 +111,10 @@ next_valid on (Some t) may entries k (Page g) is =
 
 -- and is that of an entry
 within_pages : (f : Reader) (entries : List E) (k : ℕ) (g : G)
-    → slice_get (pages_of f entries) k ≡ Some g → k < length entries
+    → slice_get (readable_pages f entries) k ≡ Some g → k < length entries
 within_pages f entries k g is =
-    let below = slice_get_within (pages_of f entries) k g is in
-    omega (arith, pages_of-length f entries, count-within f entries)
+    let below = slice_get_within (readable_pages f entries) k g is in
+    omega (arith, readable_pages-length f entries, count-within f entries)
 
 pub page_within : (found : Option Reader) (may : E → Type 0) (entries : List E)
     (k : ℕ) (g : G) → IsNext found may entries k (Page g) → k < length entries

@@ -10,33 +10,34 @@ use Rattle.page_check.specs.SynchronousAnswer.{Reader, Ending as SaidEnding, End
 use Rattle.page_check.specs.SynchronousAnswer.{Invalid, PastEnd, Unread}
 use Rattle.page_check.specs.IsAnswer.{Answers, IsAnswer, IsEnding, OneEnding}
 use Rattle.aio_word.specs.declared.Known.{Known}
-use Rattle.aio_handle.specs.Shown.{Standing}
-use Rattle.block_source.specs.Left.{consecutive, bare}
+use Rattle.aio_handle.specs.ContractViews.{ActorView}
+use Rattle.block_source.specs.BlocksLeft.{consecutive_blocks, block_alone}
 use Rattle.heap_scan.specs.Job.{job_entries, block_entry}
-use Rattle.read_stream.specs.Answering.{entries_of, entry_of, MayBeUnread}
-use Rattle.read_stream.specs.Went.{Went}
-use Rattle.read_stream.proofs.Going.{since_later}
-use Rattle.scan_rounds.specs.Skipping.{Skips, is_kept, kept_of, kept_range, kept_source}
-use Rattle.scan_rounds.specs.Taking.{Holding, IsTaken}
+use Rattle.read_stream.specs.StreamAnswers.{stream_entries, stream_entry, MayBeUnread}
+use Rattle.read_stream.specs.ActorProgress.{ActorAdvanced}
+use Rattle.read_stream.proofs.ActorAdvancedLaws.{since_later}
+use Rattle.scan_rounds.specs.BlockFilter.{BlockFilter, is_unskipped, unskipped_entries}
+use Rattle.scan_rounds.specs.BlockFilter.{unskipped_range, unskipped_source}
+use Rattle.scan_rounds.specs.ConsumedPages.{PagesPredicate, PagesConsumed}
 use Rattle.scan_rounds.proofs.AnswerPages.{E}
-use Rattle.scan_rounds.proofs.Kept.{few_in_range}
+use Rattle.scan_rounds.proofs.UnskippedCount.{few_in_range}
 
 abbrev pub Blocks : Type 0
 Blocks = List (ℕ × Unit {0})
 
 mapped : (r : ℕ) (blocks : List ℕ)
-    → map (entry_of r) (map bare blocks) ≡ map (block_entry r) blocks
+    → map (stream_entry r) (map block_alone blocks) ≡ map (block_entry r) blocks
 mapped r [] = refl
 mapped r (b ∷ bs) = ap (λ (l : List E). block_entry r b ∷ l) (mapped r bs)
 
 -- the blocks that a range gives
 pub range_entries : (r first count : ℕ)
-    → entries_of r (consecutive first count) ≡ job_entries r first count
+    → stream_entries r (consecutive_blocks first count) ≡ job_entries r first count
 range_entries r first count = mapped r (range_with_len first count)
 
-pub range_length : (first count : ℕ) → length (consecutive first count) ≡ count
+pub range_length : (first count : ℕ) → length (consecutive_blocks first count) ≡ count
 range_length first count =
-    length-map (range_with_len first count) bare ∙ length-range_with_len first count
+    length-map (range_with_len first count) block_alone ∙ length-range_with_len first count
 
 -- where there is no map all are left
 all_left : (blocks : Blocks) → filter (λ b. true) blocks ≡ blocks
@@ -45,34 +46,37 @@ all_left (b ∷ blocks) = ap (λ (rest : Blocks). b ∷ rest) (all_left blocks)
 
 -- a test of blocks is one of their entries
 by_test : (r : ℕ) (b : Bool) (x : ℕ × Unit {0}) (rest : Blocks) (entries : List E)
-    → entries_of r rest ≡ entries
-    → entries_of r (cond b (x ∷ rest) rest) ≡ cond b (entry_of r x ∷ entries) entries
-by_test r true x rest entries same = ap (λ (es : List E). entry_of r x ∷ es) same
+    → stream_entries r rest ≡ entries
+    → stream_entries r (cond b (x ∷ rest) rest) ≡ cond b (stream_entry r x ∷ entries) entries
+by_test r true x rest entries same = ap (λ (es : List E). stream_entry r x ∷ es) same
 by_test r false x rest entries same = same
 
 tested : (r : ℕ) (keeps : ℕ → Bool) (blocks : Blocks)
-    → entries_of r (filter (λ b. keeps b.0) blocks)
-    ≡ filter (λ e. keeps e.block) (entries_of r blocks)
+    → stream_entries r (filter (λ b. keeps b.0) blocks)
+    ≡ filter (λ e. keeps e.block) (stream_entries r blocks)
 tested r keeps [] = refl
 tested r keeps (b ∷ blocks) =
     by_test r (keeps b.0) b (filter (λ x. keeps x.0) blocks)
-    (filter (λ e. keeps e.block) (entries_of r blocks)) (tested r keeps blocks)
+    (filter (λ e. keeps e.block) (stream_entries r blocks)) (tested r keeps blocks)
 
-kept_entries : (skips : Option Skips) (r : ℕ) (blocks : Blocks)
-    → entries_of r (filter (λ b. is_kept skips b.0) blocks) ≡ kept_of skips (entries_of r blocks)
-kept_entries None r blocks = ap (entries_of r) (all_left blocks)
-kept_entries (Some s) r blocks = tested r (is_kept (Some s)) blocks
+kept_entries : (block_filter : Option BlockFilter) (r : ℕ) (blocks : Blocks)
+    → stream_entries r (filter (λ b. is_unskipped block_filter b.0) blocks)
+    ≡ unskipped_entries block_filter (stream_entries r blocks)
+kept_entries None r blocks = ap (stream_entries r) (all_left blocks)
+kept_entries (Some s) r blocks = tested r (is_unskipped (Some s)) blocks
 
 -- the entries that a source gives of a range, without the blocks that are left out
-pub source_entries : (skips : Option Skips) (r first count : ℕ)
-    → entries_of r (kept_source skips first count)
-    ≡ kept_range skips r first count
-source_entries skips r first count = kept_entries skips r (consecutive first count)
-    ∙ ap (kept_of skips) (range_entries r first count)
+pub source_entries : (block_filter : Option BlockFilter) (r first count : ℕ)
+    → stream_entries r (unskipped_source block_filter first count)
+    ≡ unskipped_range block_filter r first count
+source_entries block_filter r first count = kept_entries block_filter r
+    (consecutive_blocks first count) ∙ ap (unskipped_entries block_filter)
+    (range_entries r first count)
 
 -- what may be unread may be so after more
-pub may_later : (was : Standing) (p q : Known) (reads reads' faults faults' : ℕ)
-    → Went p q reads reads' faults faults' → (e : E) → MayBeUnread was p e → MayBeUnread was q e
+pub may_later : (was : ActorView) (p q : Known) (reads reads' faults faults' : ℕ)
+    → ActorAdvanced p q reads reads' faults faults' → (e : E) → MayBeUnread was p e
+    → MayBeUnread was q e
 may_later was p q reads reads' faults faults' w e (io, f) = (
   io,
   record {
@@ -113,31 +117,33 @@ answer_wider found may may' entries answers wider a = record {
 }
 
 -- as many as are not left out, and no more than there are
-pub source_count : (skips : Option Skips) (r first count : ℕ)
-    → length (kept_source skips first count)
-    ≡ length (kept_range skips r first count)
-source_count skips r first count =
-    sym (length-map (kept_source skips first count) (entry_of r))
-    ∙ ap length (source_entries skips r first count)
+pub source_count : (block_filter : Option BlockFilter) (r first count : ℕ)
+    → length (unskipped_source block_filter first count)
+    ≡ length (unskipped_range block_filter r first count)
+source_count block_filter r first count =
+    sym (length-map (unskipped_source block_filter first count) (stream_entry r))
+    ∙ ap length (source_entries block_filter r first count)
 
-pub source_few : (skips : Option Skips) (first count : ℕ)
-    → length (kept_source skips first count) ≤ count
-source_few skips first count =
-    (let same = source_count skips 0 first count in
-    let few = few_in_range skips 0 first count in omega arith)
+pub source_few : (block_filter : Option BlockFilter) (first count : ℕ)
+    → length (unskipped_source block_filter first count) ≤ count
+source_few block_filter first count =
+    (let same = source_count block_filter 0 first count in
+    let few = few_in_range block_filter 0 first count in omega arith)
 
 -- what was taken of a stream is so once the stream was closed
-pub given_moved : (holds : Holding) (on on' : Bool) (told : Option Told) (p p' : Standing)
+pub given_moved : (holds : PagesPredicate) (on on' : Bool) (told : Option Told) (p p' : ActorView)
     (q z : Known) (reads reads' faults faults' : ℕ) (entries entries' : List E)
     (end : Option SaidEnding) → on' ≡ on → p' ≡ p → entries' ≡ entries
-    → Went q z reads reads' faults faults' → IsTaken holds on' told (MayBeUnread p' q) entries' end
-    → IsTaken holds on told (MayBeUnread p z) entries end
+    → ActorAdvanced q z reads reads' faults faults'
+    → PagesConsumed holds on' told (MayBeUnread p' q) entries' end
+    → PagesConsumed holds on told (MayBeUnread p z) entries end
 given_moved holds on on' told p p' q z reads reads' faults faults' entries entries' end zero same
     list w given =
-    let here : IsTaken holds on told (MayBeUnread p q) entries end =
-    subst (λ (b : Bool). IsTaken holds b told (MayBeUnread p q) entries end) zero
-    (subst (λ (es : List E). IsTaken holds on' told (MayBeUnread p q) es end) list
-    (subst (λ (x : Standing). IsTaken holds on' told (MayBeUnread x q) entries' end) same given))
+    let here : PagesConsumed holds on told (MayBeUnread p q) entries end =
+    subst (λ (b : Bool). PagesConsumed holds b told (MayBeUnread p q) entries end) zero
+    (subst (λ (es : List E). PagesConsumed holds on' told (MayBeUnread p q) es end) list
+    (subst (λ (x : ActorView). PagesConsumed holds on' told (MayBeUnread x q) entries' end)
+    same given))
     in record {
       pages = here.pages;
       held = here.held;

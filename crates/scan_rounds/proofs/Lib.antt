@@ -1,31 +1,31 @@
 pub mod AnswerPages
-pub mod Kept
+pub mod UnskippedCount
 pub mod Blocks
-mod Taking
-mod Showing
+mod ConsumerProgress
+mod OutputOfPages
 mod MapPages
-pub mod Listed
-mod Resting
-mod Swapping
-mod Unread
-mod Rooms
-mod Raised
+pub mod JobListed
+mod WorkerAtRest
+mod JobsExchanged
+mod UnreadLeavesResult
+mod LeastRoom
+mod CountRaised
 mod Sums
-mod Rounding
-pub mod Going
-mod Closed
-mod Again
-mod OneRound
-mod TurnLaws
-mod Turning
-mod Parted
-pub mod Allowed
-mod Counting
-mod Finishing
-mod Opening
-mod Fronts
-mod Newcomers
-mod Seated
-mod Manned
-mod Mapped
+mod RoundOfBackends
+pub mod RoundsCompose
+mod QueueClosed
+mod ScanAfterRounds
+mod ScanAfterOneRound
+mod SharesInParallel
+mod JobsInSequence
+mod ShareSplit
+pub mod ThreadPremises
+mod ResultsMatchExecutions
+mod TotalsMatchDisks
+mod PartsGiven
+mod ListFront
+mod NewDiskActors
+mod SeatsAndRings
+mod AssembledScan
+mod ScanAfterMap
 pub mod ReadMaps

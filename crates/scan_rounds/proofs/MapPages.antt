@@ -3,19 +3,19 @@ use Rattle.std.proofs.Common.{◌≡◌, ℕ, false, List, [], ◌∷◌, ◌++�
 use Rattle.std.proofs.Common.{append-nil, subst}
 use Rattle.std.specs.Prelude.{Option}
 use Rattle.page_check.specs.Told.{Told}
-use Rattle.aio_handle.specs.Shown.{Named}
+use Rattle.aio_handle.specs.ContractViews.{TableView}
 use Rattle.read_stream.specs.declared.desk.Desk.{Desk}
 use Rattle.std.proofs.lemmas.List.{map-append}
 use Rattle.heap_scan.specs.Warnings.{warning_for, warnings_of}
 use Rattle.heap_scan.proofs.Jobs.{warnings-append}
 use Rattle.vis_map.specs.Bits.{Map}
-use Rattle.scan_rounds.specs.Hands.{HasRead, Meter}
-use Rattle.scan_rounds.specs.Taking.{HasPages}
-use Rattle.scan_rounds.specs.declared.hand.Hand.{Hand}
+use Rattle.scan_rounds.specs.DiskActors.{HasRead, DiskGhosts}
+use Rattle.scan_rounds.specs.ConsumedPages.{HasPages}
+use Rattle.scan_rounds.specs.declared.disk_actor.DiskActor.{DiskActor}
 use Rattle.scan_rounds.specs.declared.job.Ending.{Ending}
 use Rattle.scan_rounds.specs.declared.source.Blocks.{Blocks}
 use Rattle.scan_rounds.proofs.AnswerPages.{G}
-use Rattle.scan_rounds.proofs.Showing.{no_warnings, one_warning, unwarned}
+use Rattle.scan_rounds.proofs.OutputOfPages.{no_warnings, one_warning, unwarned}
 
 pub no_pages : (m : Map) (warnings : List ℕ) → m.added ≡ [] → warnings ≡ []
     → HasPages m warnings []
@@ -41,9 +41,9 @@ none_warned warnings g read =
     sym (ap (λ (l : List ℕ). warnings ++ l) (unwarned g read) ∙ append-nil warnings)
 
 -- the same map and the same warnings
-pub read_same : {W D : Type 0} (m : Meter D) (told : Option Told) (relations : ℕ) (t : Named)
-    (h k : Hand W D) (d e : Desk W (Unit {0})) (b : Blocks) (end : Ending) (found found' : Map)
-    (warnings warnings' : List ℕ) → found' ≡ found → warnings' ≡ warnings
+pub read_same : {W D : Type 0} (m : DiskGhosts D) (told : Option Told) (relations : ℕ)
+    (t : TableView) (h k : DiskActor W D) (d e : Desk W (Unit {0})) (b : Blocks) (end : Ending)
+    (found found' : Map) (warnings warnings' : List ℕ) → found' ≡ found → warnings' ≡ warnings
     → HasRead m told relations t (HasPages found warnings) h k d e b end
     → HasRead m told relations t (HasPages found' warnings') h k d e b end
 read_same m told relations t h k d e b end found found' warnings warnings' same quiet read =

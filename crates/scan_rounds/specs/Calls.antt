@@ -4,17 +4,17 @@ use Rattle.std.specs.List.{All}
 use Rattle.page_check.specs.Told.{Told}
 use Rattle.aio_disk.specs.Counts.{raised_by}
 use Rattle.vis_map.specs.Bits.{Map}
-use Rattle.scan_rounds.specs.Manners.{Manner}
-use Rattle.scan_rounds.specs.Skipping.{Skips}
-use Rattle.scan_rounds.specs.Jobs.{IsFresh, kept_among, unread_among, unread_in}
-use Rattle.scan_rounds.specs.Hands.{Meter}
-use Rattle.scan_rounds.specs.Rounds.{AreListed, IsMapRead, taken_by}
-use Rattle.scan_rounds.specs.Scans.{IsOpenedAgain, IsSameScan, IsScan, manner_in}
+use Rattle.scan_rounds.specs.ListOptions.{ListOptions}
+use Rattle.scan_rounds.specs.BlockFilter.{BlockFilter}
+use Rattle.scan_rounds.specs.Jobs.{IsFresh, count_unskipped, unread_among, unread_in}
+use Rattle.scan_rounds.specs.DiskActors.{DiskGhosts}
+use Rattle.scan_rounds.specs.Rounds.{AreListed, IsMapRead, results_taken}
+use Rattle.scan_rounds.specs.Scans.{IsOpenedAgain, IsSameScan, IsScan, scan_options}
 use Rattle.scan_rounds.specs.declared.job.Ending.{Ending}
 use Rattle.scan_rounds.specs.declared.job.Job.{Job}
 use Rattle.scan_rounds.specs.declared.scan.Scan.{Scan}
 
-module _ {W D : Type 0} (m : Meter D) (told : Option Told) (relations : ℕ) where
+module _ {W D : Type 0} (m : DiskGhosts D) (told : Option Told) (relations : ℕ) where
   -- the first backend may read the pages of a map
   pub record MayMap (relation : ℕ) (s : Scan W D) (map : Map) (warnings : List ℕ) : Type 0 where
     pub scan : IsScan m told relations s
@@ -27,12 +27,12 @@ module _ {W D : Type 0} (m : Meter D) (told : Option Told) (relations : ℕ) whe
       (end : Ending) : Type 0 where
     pub scan : IsScan m told relations n
     pub same : IsSameScan s n
-    pub read : IsMapRead (manner_in s) told s.backends.items n.backends.items relation was.pages map
-        warnings end
+    pub read : IsMapRead (scan_options s) told s.backends.items n.backends.items relation was.pages
+        map warnings end
     pub pages : map.pages ≡ was.pages
     pub room : s.room ≤ n.room + 65
     pub unread : n.unread ≡ raised_by (unread_in end) s.unread
-    pub taken : taken_by n.backends.items ≤ taken_by s.backends.items + was.pages
+    pub taken : results_taken n.backends.items ≤ results_taken s.backends.items + was.pages
 
   -- a round may be made of these jobs, one for each of the first backends
   pub record MayRound (s : Scan W D) (jobs : List Job) : Type 0 where
@@ -42,37 +42,41 @@ module _ {W D : Type 0} (m : Meter D) (told : Option Told) (relations : ℕ) whe
     pub room : 64 ≤ s.room
 
   -- it was made, without the blocks that are left out
-  pub record HasRounded (skips : Option Skips) (s n : Scan W D) (asked jobs : List Job)
+  pub record HasRounded (block_filter : Option BlockFilter) (s n : Scan W D) (asked jobs : List Job)
       : Type 0 where
     pub scan : IsScan m told relations n
     pub same : IsSameScan s n
-    pub reopened : IsOpenedAgain s.backends.items s.common.queue n.common.queue
-    pub listed : AreListed skips (manner_in s) told s.backends.items n.backends.items asked jobs
+    pub reopened : IsOpenedAgain s.backends.items s.shared.queue n.shared.queue
+    pub listed : AreListed block_filter (scan_options s)
+        told s.backends.items n.backends.items asked jobs
     pub room : s.room ≤ n.room + 64
     pub unread : n.unread ≡ raised_by (unread_among jobs) s.unread
-    pub taken : taken_by n.backends.items ≤ taken_by s.backends.items + kept_among skips asked
+    pub taken : results_taken n.backends.items ≤ results_taken s.backends.items
+        + count_unskipped block_filter asked
 
-  -- all rounds of an agenda may be made, without these blocks
-  pub record MayFollow {A : Type 0} (left : A → ℕ) (manner : A → Manner) (skips : A → Option Skips)
-      (without : Option Skips) (s : Scan W D) (agenda : A) : Type 0 where
+  -- all rounds of a job source may be made, without these blocks
+  pub record MayFollow {A : Type 0} (blocks_left : A → ℕ) (options : A → ListOptions)
+      (block_filter : A → Option BlockFilter) (without : Option BlockFilter) (s : Scan W D)
+      (job_source : A) : Type 0 where
     pub scan : IsScan m told relations s
-    pub room : 64 * left agenda ≤ s.room
-    pub manner_is : manner agenda ≡ manner_in s
-    pub skips_are : skips agenda ≡ without
+    pub room : 64 * blocks_left job_source ≤ s.room
+    pub options_are : options job_source ≡ scan_options s
+    pub filter_is : block_filter job_source ≡ without
 
-  -- they were made, and the agenda is over
-  pub record HasFollowed {A : Type 0} (left due unread : A → ℕ) (manner : A → Manner)
-      (skips : A → Option Skips) (follows : A → A → Type 0) (is_over : A → Type 0)
-      (s n : Scan W D) (agenda end : A) : Type 0 where
+  -- they were made, and the job source is over
+  pub record HasFollowed {A : Type 0} (blocks_left unskipped_left unread : A → ℕ) (options : A
+      → ListOptions) (block_filter : A → Option BlockFilter) (follows : A → A → Type 0) (is_over : A
+      → Type 0) (s n : Scan W D) (job_source end : A) : Type 0 where
     pub scan : IsScan m told relations n
     pub same : IsSameScan s n
-    pub reopened : IsOpenedAgain s.backends.items s.common.queue n.common.queue
-    pub goes_on : follows agenda end
+    pub reopened : IsOpenedAgain s.backends.items s.shared.queue n.shared.queue
+    pub goes_on : follows job_source end
     pub over : is_over end
-    pub manner_is : manner end ≡ manner agenda
-    pub skips_are : skips end ≡ skips agenda
-    pub room : s.room + 64 * left end ≤ n.room + 64 * left agenda
+    pub options_are : options end ≡ options job_source
+    pub filter_is : block_filter end ≡ block_filter job_source
+    pub room : s.room + 64 * blocks_left end ≤ n.room + 64 * blocks_left job_source
     pub more : ℕ
     pub raised : n.unread ≡ raised_by more s.unread
-    pub enough : unread end ≤ unread agenda + more
-    pub taken : taken_by n.backends.items + due end ≤ taken_by s.backends.items + due agenda
+    pub enough : unread end ≤ unread job_source + more
+    pub taken : results_taken n.backends.items + unskipped_left end ≤ results_taken s.backends.items
+        + unskipped_left job_source

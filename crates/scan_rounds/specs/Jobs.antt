@@ -8,8 +8,8 @@ use Rattle.page_check.specs.SynchronousAnswer.{Unread as SaidUnread}
 use Rattle.heap_scan.specs.Job.{IsJobAnswer}
 use Rattle.heap_scan.specs.Sums.{no_sums}
 use Rattle.heap_tuple.specs.Listing.{text_with}
-use Rattle.scan_rounds.specs.Manners.{Manner}
-use Rattle.scan_rounds.specs.Skipping.{Skips, kept_range}
+use Rattle.scan_rounds.specs.ListOptions.{ListOptions}
+use Rattle.scan_rounds.specs.BlockFilter.{BlockFilter, unskipped_range}
 use Rattle.scan_rounds.specs.declared.job.Ending.{Ending}
 use Rattle.scan_rounds.specs.declared.job.Ending.TheVariants as ending
 use Rattle.scan_rounds.specs.declared.job.Job.{Job}
@@ -59,26 +59,27 @@ pub record IsFresh (relations : ℕ) (j : Job) : Type 0 where
   pub no_ending : j.ending ≡ ending.Pages
 
 -- the blocks that it asks for, but for those that are left out
-abbrev pub entries_in : Option Skips → Job → List (Entry (Unit {0}))
-entries_in skips j = kept_range skips j.relation j.first j.count
+abbrev pub entries_of_job : Option BlockFilter → Job → List (Entry (Unit {0}))
+entries_of_job block_filter j = unskipped_range block_filter j.relation j.first j.count
 
 -- how many blocks of these jobs are not left out
-abbrev pub kept_among : Option Skips → List Job → ℕ
-kept_among skips jobs = sum_by (λ j. length (entries_in skips j)) jobs
+abbrev pub count_unskipped : Option BlockFilter → List Job → ℕ
+count_unskipped block_filter jobs = sum_by (λ j. length (entries_of_job block_filter j)) jobs
 
--- what has become of a job that is listed in this manner, without the blocks that are left out:
+-- what has become of a job that is listed with these options, without the blocks that are left out:
 -- text, warnings, sums and ending are those of the answers to the others; where damaged pages are
 -- not given as zeros, there is no warning
-pub record IsListed (skips : Option Skips) (m : Manner) (told : Option Told)
+pub record IsListed (block_filter : Option BlockFilter) (m : ListOptions) (told : Option Told)
     (may : Entry (Unit {0}) → Type 0) (j k : Job) : Type 0 where
   pub same : (k.relation ≡ j.relation) × (k.first ≡ j.first) × (k.count ≡ j.count)
-  pub answer : IsJobAnswer (text_with m.tuples) (reader_of m.zero told) may (entries_in skips j)
-      k.text.items k.warnings.items k.tally (said_end k.ending)
+  pub answer : IsJobAnswer (text_with m.tuples) (reader_of m.zero told) may
+      (entries_of_job block_filter j) k.text.items k.warnings.items k.tally (said_end k.ending)
   pub quiet : m.zero ≡ false → k.warnings.items ≡ []
 
 -- what has become of jobs that were put, whichever block may be unread
-pub record AreAnswered (skips : Option Skips) (m : Manner) (told : Option Told)
+pub record AreAnswered (block_filter : Option BlockFilter) (m : ListOptions) (told : Option Told)
     (asked answered : List Job) : Type 0 where
   pub as_many : length answered ≡ length asked
   pub each : (i : ℕ) (j : Job) → i < length asked
-      → IsListed skips m told (λ _. ⊤) (slice_index_or asked i j) (slice_index_or answered i j)
+      → IsListed block_filter m told (λ _. ⊤) (slice_index_or asked i j)
+      (slice_index_or answered i j)

@@ -7,73 +7,76 @@ use Rattle.page_check.specs.Told.{Told}
 use Rattle.aio_word.specs.declared.Config.{Config}
 use Rattle.aio_word.specs.declared.Known.{Known}
 use Rattle.aio_word.specs.Tokens.{io_marks, failed_marks}
-use Rattle.aio_handle.specs.Closing.{AreTotals, Tally}
-use Rattle.aio_handle.specs.Executing.{Pays, last_count}
-use Rattle.aio_handle.specs.Shown.{Standing, known_in}
-use Rattle.method_worker.specs.Shown.{Queue}
-use Rattle.scan_rounds.specs.Manners.{Manner, manner}
-use Rattle.scan_rounds.specs.Hands.{Meter, IsBackend, IsWorker}
-use Rattle.scan_rounds.specs.Rounds.{AreIdle, AllListIn, IsLeastRoom, results_of, hand_of, hand_in}
+use Rattle.aio_handle.specs.Closing.{AreTotals, TotalsView}
+use Rattle.aio_handle.specs.Execution.{CountersFollowMarks, last_count}
+use Rattle.aio_handle.specs.ContractViews.{ActorView, actor_known}
+use Rattle.method_worker.specs.QueueViews.{QueueView}
+use Rattle.scan_rounds.specs.ListOptions.{ListOptions, list_options}
+use Rattle.scan_rounds.specs.DiskActors.{DiskGhosts, IsBackend, IsWorker}
+use Rattle.scan_rounds.specs.Rounds.{AreIdle, AllHaveOptions, IsLeastRoom, failed_results_taken}
+use Rattle.scan_rounds.specs.Rounds.{backend_disk_actor, worker_disk_actor}
 use Rattle.scan_rounds.specs.declared.backend.Backend.{Backend}
-use Rattle.scan_rounds.specs.declared.hand.Hand.{Hand}
+use Rattle.scan_rounds.specs.declared.disk_actor.DiskActor.{DiskActor}
 use Rattle.scan_rounds.specs.declared.scan.Scan.{Scan}
 
 module _ {W D : Type 0} where
   -- all actors, the backends first, with their disks
-  abbrev pub hands_of : Scan W D → List (Hand W D)
-  hands_of s = map hand_of s.backends.items ++ map hand_in s.workers.items
+  abbrev pub scan_disk_actors : Scan W D → List (DiskActor W D)
+  scan_disk_actors s = map backend_disk_actor s.backends.items
+      ++ map worker_disk_actor s.workers.items
 
-  -- the manner in which its backends list
-  abbrev pub manner_in : Scan W D → Manner
-  manner_in s = manner s.zero s.tuples
+  -- the options with which its backends list
+  abbrev pub scan_options : Scan W D → ListOptions
+  scan_options s = list_options s.zero s.tuples
 
   -- the disks, as they were when the scan was opened
-  abbrev pub opened_by : Scan W D → List D
-  opened_by s = s.opened.value.items
+  abbrev pub opened_disks : Scan W D → List D
+  opened_disks s = s.opened.value.items
 
   -- an actor and its disk, by themselves
-  abbrev pub actor_of : Hand W D → Standing
+  abbrev pub actor_of : DiskActor W D → ActorView
   actor_of h = h.actor
 
-  abbrev pub disk_of : Hand W D → Option D
+  abbrev pub disk_of : DiskActor W D → Option D
   disk_of h = h.disk
 
   -- the lists of these actors, in their order
-  abbrev pub lists_of : List (Hand W D) → List Known
-  lists_of hs = map known_in (map actor_of hs)
+  abbrev pub lists_of : List (DiskActor W D) → List Known
+  lists_of hs = map actor_known (map actor_of hs)
 
-  abbrev pub HasDisk : Hand W D → Type 0
+  abbrev pub HasDisk : DiskActor W D → Type 0
   HasDisk h = (disk : D) × (h.disk ≡ Some disk)
 
 -- the disk has counted, since it was so, a read for each I/O that the actor has executed, and a
 -- fault for each that failed
-pub record HasPaid {W D : Type 0} (m : Meter D) (opened : D) (h : Hand W D) : Type 0 where
+pub record CountersMatchMarks {W D : Type 0} (m : DiskGhosts D) (opened : D) (h : DiskActor W D)
+    : Type 0 where
   pub disk : D
   pub held : h.disk ≡ Some disk
-  pub pays : Pays (m.reads opened) (m.reads disk) (m.faults opened) (m.faults disk)
+  pub pays : CountersFollowMarks (m.reads opened) (m.reads disk) (m.faults opened) (m.faults disk)
       h.actor.known.marks
 
-module _ {W D : Type 0} (m : Meter D) (told : Option Told) (relations : ℕ) where
+module _ {W D : Type 0} (m : DiskGhosts D) (told : Option Told) (relations : ℕ) where
   -- each disk has counted what its actor has executed since the scan was opened
-  pub record HavePaid (opened : List D) (hs : List (Hand W D)) : Type 0 where
+  pub record AllCountersMatch (opened : List D) (hs : List (DiskActor W D)) : Type 0 where
     pub as_many : length opened ≡ length hs
-    pub each : (i : ℕ) (o : D) (d : Hand W D) → i < length hs
-        → HasPaid m (slice_index_or opened i o) (slice_index_or hs i d)
+    pub each : (i : ℕ) (o : D) (d : DiskActor W D) → i < length hs
+        → CountersMatchMarks m (slice_index_or opened i o) (slice_index_or hs i d)
 
   pub record IsScan (s : Scan W D) : Type 0 where
-    pub backends_are : s.common.table.config.backends ≡ length s.backends.items
-    pub workers_are : s.common.table.config.runners ≡ length s.workers.items
+    pub backends_are : s.shared.table.config.backends ≡ length s.backends.items
+    pub workers_are : s.shared.table.config.runners ≡ length s.workers.items
     pub some : 1 ≤ length s.backends.items
-    pub backends_stand : All (IsBackend m told relations s.common.table s.common.queue)
+    pub backends_stand : All (IsBackend m told relations s.shared.table s.shared.queue)
         s.backends.items
-    pub workers_stand : All (IsWorker m told relations s.common.table s.common.queue)
+    pub workers_stand : All (IsWorker m told relations s.shared.table s.shared.queue)
         s.workers.items
-    pub paid : HavePaid (opened_by s) (hands_of s)
+    pub paid : AllCountersMatch (opened_disks s) (scan_disk_actors s)
     pub idle : AreIdle s.backends.items
-    pub all_list_in : AllListIn (manner_in s) s.backends.items
+    pub all_list_in : AllHaveOptions (scan_options s) s.backends.items
     pub room : IsLeastRoom s.backends.items s.room
     -- each job that ended in Unread has left the result of a failed I/O
-    pub few_unread : s.unread ≤ results_of s.backends.items
+    pub few_unread : s.unread ≤ failed_results_taken s.backends.items
     pub jobs_suffice : length s.backends.items ≤ length s.jobs.items
     -- there is room for all actors and all disks at the end
     pub no_actors : s.actors.items ≡ []
@@ -81,11 +84,11 @@ module _ {W D : Type 0} (m : Meter D) (told : Option Told) (relations : ℕ) whe
     pub actors_fit : length s.backends.items + length s.workers.items ≤ vec_capacity s.actors
     pub disks_fit : length s.backends.items + length s.workers.items ≤ vec_capacity s.disks
 
-module _ {D : Type 0} (m : Meter D) (told : Option Told) (relations : ℕ) where
+module _ {D : Type 0} (m : DiskGhosts D) (told : Option Told) (relations : ℕ) where
   -- the numbers of the end, for disks that were so when the scan was opened, and are so now, and
   -- for the lists of their actors, in the same order
   pub record IsFinished (c : Config) (unread taken : ℕ) (opened disks : List D)
-      (parts : List Known) (totals : Tally) : Type 0 where
+      (parts : List Known) (totals : TotalsView) : Type 0 where
     pub are : AreTotals c parts totals
     pub parts_are : length parts ≡ length disks
     pub disks_are : length disks ≡ length opened
@@ -112,12 +115,12 @@ module _ {D : Type 0} (m : Meter D) (told : Option Told) (relations : ℕ) where
 
 -- the same backends and workers, over the same disks
 pub record IsSameScan {W D : Type 0} (s s' : Scan W D) : Type 0 where
-  pub config : s'.common.table.config ≡ s.common.table.config
+  pub config : s'.shared.table.config ≡ s.shared.table.config
   pub as_many : length s'.backends.items ≡ length s.backends.items
-  pub opened : opened_by s' ≡ opened_by s
-  pub manner_kept : manner_in s' ≡ manner_in s
+  pub opened : opened_disks s' ≡ opened_disks s
+  pub options_same : scan_options s' ≡ scan_options s
 
 -- where each backend has a seat, the queue was opened again, under the next number
-abbrev pub IsOpenedAgain : {W D : Type 0} → List (Backend W D) → Queue → Queue → Type 0
+abbrev pub IsOpenedAgain : {W D : Type 0} → List (Backend W D) → QueueView → QueueView → Type 0
 IsOpenedAgain bs q q' = All (λ b. is_some b.seat ≡ true) bs
     → q'.reopened ≡ min (q.reopened + 1) (2 ^ 63 - 1)

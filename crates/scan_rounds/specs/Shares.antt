@@ -20,7 +20,7 @@ module _ {F T J : Type 0} (g : Shared F (MutBor T × (MutBor (List J) × Unit {0
       → length q.now ≤ size → g.pre f (p, (q, tt))
 
   -- a call of f with a taker and these tasks has left them so
-  pub record IsTaken (s : Share T J) : Type 0 where
+  pub record ShareDone (s : Share T J) : Type 0 where
     pub taker : MutBor T
     pub tasks : MutBor (List J)
     pub were : (taker.now ≡ s.before) × (tasks.now ≡ s.tasks)
@@ -36,4 +36,4 @@ module _ {F T J : Type 0} (g : Shared F (MutBor T × (MutBor (List J) × Unit {0
     pub takers_after : map (λ (s : Share T J). s.after) shares ≡ us
     pub tasks : flat_map (λ (s : Share T J). s.tasks) shares ≡ js
     pub tasks_after : flat_map (λ (s : Share T J). s.done) shares ≡ ks
-    pub taken : All IsTaken shares
+    pub taken : All ShareDone shares

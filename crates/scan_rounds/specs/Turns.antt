@@ -3,33 +3,36 @@
 use Rattle.std.specs.Prelude.{◌≡◌, ℕ, ◌+◌, ◌*◌, ◌<◌, ◌≤◌, List, length, slice_index_or, Option}
 use Rattle.std.specs.List.{All}
 use Rattle.page_check.specs.Told.{Told}
-use Rattle.aio_word.specs.Events.{lives}
-use Rattle.aio_handle.specs.Shown.{Named}
-use Rattle.method_worker.specs.Shown.{Queue}
-use Rattle.read_stream.specs.Answering.{MayBeUnread}
-use Rattle.read_stream.specs.Went.{local_marks}
-use Rattle.scan_rounds.specs.Hands.{Meter, IsBackend, GoesOn, manner_of}
-use Rattle.scan_rounds.specs.Jobs.{IsFresh, IsListed, AreAnswered, entries_in, kept_among}
+use Rattle.aio_word.specs.Events.{lives_ended}
+use Rattle.aio_handle.specs.ContractViews.{TableView}
+use Rattle.method_worker.specs.QueueViews.{QueueView}
+use Rattle.read_stream.specs.StreamAnswers.{MayBeUnread}
+use Rattle.read_stream.specs.ActorProgress.{local_marks}
+use Rattle.scan_rounds.specs.DiskActors.{DiskGhosts, IsBackend, DiskActorAdvanced, backend_options}
+use Rattle.scan_rounds.specs.Jobs.{IsFresh, IsListed, AreAnswered, entries_of_job, count_unskipped}
 use Rattle.scan_rounds.specs.Jobs.{unread_among}
-use Rattle.scan_rounds.specs.Manners.{Manner}
-use Rattle.scan_rounds.specs.Rounds.{AllListIn, AreIdle, HaveRoom, results_of, taken_by}
-use Rattle.scan_rounds.specs.Skipping.{Skips}
+use Rattle.scan_rounds.specs.ListOptions.{ListOptions}
+use Rattle.scan_rounds.specs.Rounds.{AllHaveOptions, AreIdle, HaveRoom, failed_results_taken}
+use Rattle.scan_rounds.specs.Rounds.{results_taken}
+use Rattle.scan_rounds.specs.BlockFilter.{BlockFilter}
 use Rattle.scan_rounds.specs.declared.backend.Backend.{Backend}
 use Rattle.scan_rounds.specs.declared.job.Job.{Job}
 
-module _ {W D : Type 0} (m : Meter D) (told : Option Told) (relations : ℕ) (t : Named)
-    (q : Queue) where
+module _ {W D : Type 0} (m : DiskGhosts D) (told : Option Told) (relations : ℕ) (t : TableView)
+    (q : QueueView) where
   -- a backend that had this job, and what has become of both
-  pub record Did (skips : Option Skips) (b : Backend W D) (j : Job) (f : Backend W D) (l : Job)
-      : Type 0 where
+  pub record BackendDidJob (block_filter : Option BlockFilter) (b : Backend W D) (j : Job)
+      (f : Backend W D) (l : Job) : Type 0 where
     pub is : IsBackend m told relations t q f
     pub idle : f.job.count ≡ 0
-    pub goes : GoesOn m told relations t b.hand f.hand
-    pub lived : (h : ℕ) → lives h f.hand.actor.known.marks ≤ lives h b.hand.actor.known.marks + 64
-    pub taken : local_marks f.hand.actor.known.marks
-        ≤ local_marks b.hand.actor.known.marks + length (entries_in skips j)
-    pub listed : IsListed skips (manner_of b) told (MayBeUnread b.hand.actor f.hand.actor.known) j l
-    pub manner_kept : manner_of f ≡ manner_of b
+    pub goes : DiskActorAdvanced m told relations t b.disk_actor f.disk_actor
+    pub lived : (h : ℕ) → lives_ended h f.disk_actor.actor.known.marks
+        ≤ lives_ended h b.disk_actor.actor.known.marks + 64
+    pub taken : local_marks f.disk_actor.actor.known.marks
+        ≤ local_marks b.disk_actor.actor.known.marks + length (entries_of_job block_filter j)
+    pub listed : IsListed block_filter (backend_options b) told
+        (MayBeUnread b.disk_actor.actor f.disk_actor.actor.known) j l
+    pub options_same : backend_options f ≡ backend_options b
 
   -- each of these backends may do so many of these jobs
   pub record MayTurn (share : ℕ) (bs : List (Backend W D)) (js : List Job) : Type 0 where
@@ -40,19 +43,21 @@ module _ {W D : Type 0} (m : Meter D) (told : Option Told) (relations : ℕ) (t 
 
   -- the backends have done the jobs, without the blocks that are left out; each handle has had at
   -- most so many lives more
-  pub record HasTurned (skips : Option Skips) (more : ℕ) (bs cs : List (Backend W D))
+  pub record HasTurned (block_filter : Option BlockFilter) (more : ℕ) (bs cs : List (Backend W D))
       (js ks : List Job) : Type 0 where
     pub as_many : length cs ≡ length bs
     pub jobs_are : length ks ≡ length js
     pub backends : All (IsBackend m told relations t q) cs
     pub idle : AreIdle cs
     pub goes : (i : ℕ) (d : Backend W D) → i < length bs
-        → GoesOn m told relations t (slice_index_or bs i d).hand (slice_index_or cs i d).hand
+        → DiskActorAdvanced m told relations t (slice_index_or bs i d).disk_actor
+        (slice_index_or cs i d).disk_actor
     pub lived : (i : ℕ) (d : Backend W D) → i < length bs → (h : ℕ)
-        → lives h (slice_index_or cs i d).hand.actor.known.marks
-        ≤ lives h (slice_index_or bs i d).hand.actor.known.marks + more
-    pub manner_kept : (i : ℕ) (d : Backend W D) → i < length bs
-        → manner_of (slice_index_or cs i d) ≡ manner_of (slice_index_or bs i d)
-    pub taken : taken_by cs ≤ taken_by bs + kept_among skips js
-    pub unread : results_of bs + unread_among ks ≤ results_of cs
-    pub answered : (how : Manner) → AllListIn how bs → AreAnswered skips how told js ks
+        → lives_ended h (slice_index_or cs i d).disk_actor.actor.known.marks
+        ≤ lives_ended h (slice_index_or bs i d).disk_actor.actor.known.marks + more
+    pub options_same : (i : ℕ) (d : Backend W D) → i < length bs
+        → backend_options (slice_index_or cs i d) ≡ backend_options (slice_index_or bs i d)
+    pub taken : results_taken cs ≤ results_taken bs + count_unskipped block_filter js
+    pub unread : failed_results_taken bs + unread_among ks ≤ failed_results_taken cs
+    pub answered : (how : ListOptions) → AllHaveOptions how bs
+        → AreAnswered block_filter how told js ks

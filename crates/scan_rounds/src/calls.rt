@@ -3,16 +3,16 @@ ghost use Rattle.std.specs.Prelude.{◌≡◌, ◌≤◌, ◌<◌, ◌+◌, ◌*
 ghost use Rattle.std.specs.List.{All};
 ghost use Rattle.scan_rounds.specs.Calls.{HasFollowed, HasMapped, HasRounded};
 ghost use Rattle.scan_rounds.specs.Calls.{MayFollow, MayMap, MayRound};
-ghost use Rattle.scan_rounds.specs.Hands.{IsBackend, meter};
+ghost use Rattle.scan_rounds.specs.DiskActors.{IsBackend, disk_ghosts};
 ghost use Rattle.scan_rounds.specs.Rounds.{HaveRoom, IsFirstRead};
-ghost use Rattle.scan_rounds.specs.Skipping.{skips_by};
+ghost use Rattle.scan_rounds.specs.BlockFilter.{map_filter};
 
-use crate::agenda::Agenda;
 use crate::backend::Backend;
-use crate::common::Common;
 use crate::job::{Ending, Job};
+use crate::job_source::JobSource;
 use crate::rounds::{count_one, least_room};
 use crate::scan::Scan;
+use crate::shared::SharedState;
 use crate::skipping::Skipping;
 use aio_disk::Disk;
 use page_check::World;
@@ -24,47 +24,47 @@ use vis_map::{Skip, VisMap};
 // The first of some backends reads a map.
 fn read_by_first<W: World, D: Disk, R: Wait>(
     rt: &R,
-    common: &Common<W>,
+    shared: &SharedState<W>,
     backends: &mut [Backend<W, D>],
     relation: u32,
     map: &mut VisMap,
     warnings: &mut Vec<u8>,
 ) -> Ending
-    requires backends { All (IsBackend (meter D.told D.relations D.reads D.faults) W.told
-        W.relations common.now.table common.now.queue) backends.old }
+    requires backends { All (IsBackend (disk_ghosts D.told D.relations D.reads D.faults) W.told
+        W.relations shared.now.table shared.now.queue) backends.old }
     requires some { 1 ≤ length backends.old }
     requires room { HaveRoom 65 backends.old }
     requires relation { relation < W.relations }
     requires none { (map.old.added ≡ []) × (warnings.old.items ≡ []) }
-    ensures read { IsFirstRead (meter D.told D.relations D.reads D.faults) W.told W.relations
-        common.now.table common.now.queue backends.old backends.new relation map.old.pages map.new
+    ensures read { IsFirstRead (disk_ghosts D.told D.relations D.reads D.faults) W.told W.relations
+        shared.now.table shared.now.queue backends.old backends.new relation map.old.pages map.new
         warnings.new.items result }
     ensures pages { map.new.pages ≡ map.old.pages }
 {
-    backends[0].read_map(rt, common, relation, map, warnings)
+    backends[0].read_map(rt, shared, relation, map, warnings)
 }
 
 // The same, over a vector.
 fn read_map<W: World, D: Disk, R: Wait>(
     rt: &R,
-    common: &Common<W>,
+    shared: &SharedState<W>,
     mut backends: Vec<Backend<W, D>>,
     relation: u32,
     map: &mut VisMap,
     warnings: &mut Vec<u8>,
 ) -> (Vec<Backend<W, D>>, Ending)
-    requires backends { All (IsBackend (meter D.told D.relations D.reads D.faults) W.told
-        W.relations common.now.table common.now.queue) backends.items }
+    requires backends { All (IsBackend (disk_ghosts D.told D.relations D.reads D.faults) W.told
+        W.relations shared.now.table shared.now.queue) backends.items }
     requires some { 1 ≤ length backends.items }
     requires room { HaveRoom 65 backends.items }
     requires relation { relation < W.relations }
     requires none { (map.old.added ≡ []) × (warnings.old.items ≡ []) }
-    ensures read { IsFirstRead (meter D.told D.relations D.reads D.faults) W.told W.relations
-        common.now.table common.now.queue backends.items result.0.items relation map.old.pages
+    ensures read { IsFirstRead (disk_ghosts D.told D.relations D.reads D.faults) W.told W.relations
+        shared.now.table shared.now.queue backends.items result.0.items relation map.old.pages
         map.new warnings.new.items result.1 }
     ensures pages { map.new.pages ≡ map.old.pages }
 {
-    let ending = read_by_first(rt, common, backends.as_mut_slice(), relation, map, warnings);
+    let ending = read_by_first(rt, shared, backends.as_mut_slice(), relation, map, warnings);
     (backends, ending)
 }
 
@@ -80,21 +80,22 @@ impl<W: World, D: Disk> Scan<W, D> {
         map: &mut VisMap,
         warnings: &mut Vec<u8>,
     ) -> Ending
-        requires may { MayMap (meter D.told D.relations D.reads D.faults) W.told W.relations
+        requires may { MayMap (disk_ghosts D.told D.relations D.reads D.faults) W.told W.relations
             relation self.old map.old warnings.old.items }
-        ensures mapped { HasMapped (meter D.told D.relations D.reads D.faults) W.told W.relations
-            relation self.old self.new map.old map.new warnings.new.items result }
+        ensures mapped { HasMapped (disk_ghosts D.told D.relations D.reads D.faults)
+            W.told W.relations relation self.old self.new map.old map.new warnings.new.items
+            result }
     {
         let Scan {
             alloc,
-            common,
+            shared,
             backends,
             room,
             unread,
             ..
         } = self;
         let own_backends = mem::replace(backends, Vec::new(*alloc));
-        let (done, ending) = read_map(rt, common, own_backends, relation, map, warnings);
+        let (done, ending) = read_map(rt, shared, own_backends, relation, map, warnings);
         *room = least_room(done.as_slice());
         *unread = count_one(*unread, ending);
         *backends = done;
@@ -109,10 +110,10 @@ impl<W: World + Send + Sync, D: Disk> Scan<W, D> {
     /// Where no thread can be made the parts run one after the other, the backends first, each of
     /// which executes what no worker has claimed.
     pub fn round<R: Threads + Wait + Sync>(&mut self, rt: &R, jobs: &mut [Job])
-        requires may { MayRound (meter D.told D.relations D.reads D.faults) W.told W.relations
+        requires may { MayRound (disk_ghosts D.told D.relations D.reads D.faults) W.told W.relations
             self.old jobs.old }
-        ensures rounded { HasRounded (meter D.told D.relations D.reads D.faults) W.told W.relations
-            None self.old self.new jobs.old jobs.new }
+        ensures rounded { HasRounded (disk_ghosts D.told D.relations D.reads D.faults)
+            W.told W.relations None self.old self.new jobs.old jobs.new }
     {
         self.round_by(rt, None, jobs);
     }
@@ -125,41 +126,43 @@ impl<W: World + Send + Sync, D: Disk> Scan<W, D> {
         map: &VisMap,
         skip: Skip,
     )
-        requires may { MayRound (meter D.told D.relations D.reads D.faults) W.told W.relations
+        requires may { MayRound (disk_ghosts D.told D.relations D.reads D.faults) W.told W.relations
             self.old jobs.old }
-        ensures rounded { HasRounded (meter D.told D.relations D.reads D.faults) W.told W.relations
-            (skips_by map.now skip) self.old self.new jobs.old jobs.new }
+        ensures rounded { HasRounded (disk_ghosts D.told D.relations D.reads D.faults)
+            W.told W.relations (map_filter map.now skip) self.old self.new jobs.old jobs.new }
     {
         self.round_by(rt, Some(Skipping { map, skip }), jobs);
     }
 
-    /// All rounds of an agenda, until it is over. They are made in turns: the first is one round,
-    /// and a later one as many as four, of which each backend does neighbouring jobs in one thread,
-    /// one of them in the caller's. The workers live from the first turn to the last. It may wait.
-    pub fn run<R: Threads + Wait + Sync, A: Agenda<W>>(&mut self, rt: &R, agenda: A) -> A
-        requires may { MayFollow (meter D.told D.relations D.reads D.faults) W.told W.relations
-            A.left A.manner A.skips None self.old agenda }
-        ensures followed { HasFollowed (meter D.told D.relations D.reads D.faults) W.told
-            W.relations A.left A.due A.unread A.manner A.skips A.follows A.is_over self.old self.new
-            agenda result }
+    /// All rounds of a job source, until it is over. They are made in turns: the first is one
+    /// round, and a later one as many as four, of which each backend does neighbouring jobs in one
+    /// thread, one of them in the caller's. The workers live from the first turn to the last. It
+    /// may wait.
+    pub fn run<R: Threads + Wait + Sync, A: JobSource<W>>(&mut self, rt: &R, job_source: A) -> A
+        requires may { MayFollow (disk_ghosts D.told D.relations D.reads D.faults)
+            W.told W.relations A.blocks_left A.options A.block_filter None self.old job_source }
+        ensures followed { HasFollowed (disk_ghosts D.told D.relations D.reads D.faults) W.told
+            W.relations A.blocks_left A.unskipped_left A.unread A.options A.block_filter A.follows
+            A.is_over self.old self.new job_source result }
     {
-        self.run_by(rt, None, agenda)
+        self.run_by(rt, None, job_source)
     }
 
     /// The same, without the blocks that the map marks: those that are all-visible, or all-frozen.
-    pub fn run_filtered<R: Threads + Wait + Sync, A: Agenda<W>>(
+    pub fn run_filtered<R: Threads + Wait + Sync, A: JobSource<W>>(
         &mut self,
         rt: &R,
-        agenda: A,
+        job_source: A,
         map: &VisMap,
         skip: Skip,
     ) -> A
-        requires may { MayFollow (meter D.told D.relations D.reads D.faults) W.told W.relations
-            A.left A.manner A.skips (skips_by map.now skip) self.old agenda }
-        ensures followed { HasFollowed (meter D.told D.relations D.reads D.faults) W.told
-            W.relations A.left A.due A.unread A.manner A.skips A.follows A.is_over self.old self.new
-            agenda result }
+        requires may { MayFollow (disk_ghosts D.told D.relations D.reads D.faults)
+            W.told W.relations A.blocks_left A.options A.block_filter (map_filter map.now skip)
+            self.old job_source }
+        ensures followed { HasFollowed (disk_ghosts D.told D.relations D.reads D.faults) W.told
+            W.relations A.blocks_left A.unskipped_left A.unread A.options A.block_filter A.follows
+            A.is_over self.old self.new job_source result }
     {
-        self.run_by(rt, Some(Skipping { map, skip }), agenda)
+        self.run_by(rt, Some(Skipping { map, skip }), job_source)
     }
 }

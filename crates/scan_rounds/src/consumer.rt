@@ -3,8 +3,8 @@ ghost use Rattle.std.specs.Prelude.{◌≡◌, ◌<◌, ℕ, List, length};
 ghost use Rattle.std.specs.List.{All};
 ghost use Rattle.page_check.specs.SynchronousAnswer.{Given};
 ghost use Rattle.page_check.specs.Verdict.{IsValid};
-ghost use Rattle.read_stream.specs.Answering.{said};
-ghost use Rattle.scan_rounds.specs.Taking.{IfPage, Takes};
+ghost use Rattle.read_stream.specs.StreamAnswers.{synchronous_answer};
+ghost use Rattle.scan_rounds.specs.ConsumedPages.{IfPage, AnswerConsumed};
 
 use crate::job::Ending;
 use read_stream::Next;
@@ -23,12 +23,13 @@ pub(crate) trait Consumer: Drop {
     /// Takes what a stream answers next. Some where that was an ending, or where there was no
     /// memory for the page, which is not taken then.
     fn take(&mut self, relation: u32, answer: Next<'_, ()>) -> Option<Ending>
-        requires valid { IfPage (said relation answer) IsValid }
-        requires room { IfPage (said relation answer) (λ _. (pages : List (Given (Unit {0})))
+        requires valid { IfPage (synchronous_answer relation answer) IsValid }
+        requires room { IfPage (synchronous_answer relation answer)
+            (λ _. (pages : List (Given (Unit {0})))
             × holds self.old pages × All (λ g. IsValid g.page) pages
             × (length pages < most self.old)) }
-        ensures takes { Takes (holds self.old) (holds self.new) (said relation answer.entry)
-            result }
+        ensures takes { AnswerConsumed (holds self.old) (holds self.new)
+            (synchronous_answer relation answer.entry) result }
         ensures most { most self.new ≡ most self.old }
         ensures same { is_same self.old self.new };
 

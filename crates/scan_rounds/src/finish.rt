@@ -2,15 +2,16 @@
 ghost use Rattle.std.specs.Prelude.{◌≡◌, ◌+◌, ◌<◌, ◌≤◌, ◌++◌, ◌∷◌, [], map, Some};
 ghost use Rattle.std.specs.Prelude.{vec_len, vec_capacity};
 ghost use Rattle.std.specs.List.{All};
-ghost use Rattle.scan_rounds.specs.Hands.{meter};
-ghost use Rattle.scan_rounds.specs.Rounds.{hand_of, hand_in, taken_by};
+ghost use Rattle.scan_rounds.specs.DiskActors.{disk_ghosts};
+ghost use Rattle.scan_rounds.specs.Rounds.{backend_disk_actor, worker_disk_actor, results_taken};
 ghost use Rattle.scan_rounds.specs.Scans.{IsScan, IsFinished, HasDisk};
-ghost use Rattle.scan_rounds.specs.Scans.{actor_of, disk_of, hands_of, lists_of, opened_by};
+ghost use Rattle.scan_rounds.specs.Scans.{actor_of, disk_of, scan_disk_actors, lists_of};
+ghost use Rattle.scan_rounds.specs.Scans.{opened_disks};
 
 use crate::backend::Backend;
-use crate::common::Common;
-use crate::hand::Hand;
+use crate::disk_actor::DiskActor;
 use crate::scan::Scan;
+use crate::shared::SharedState;
 use crate::worker::Worker;
 use aio_callback::ReadIo;
 use aio_disk::Disk;
@@ -19,21 +20,21 @@ use page_check::World;
 
 // Puts the actor and its disk behind the others.
 fn put_down<W: World, D: Disk>(
-    hand: Hand<W, D>,
+    disk_actor: DiskActor<W, D>,
     actors: &mut Vec<Actor<ReadIo, W>>,
     disks: &mut Vec<D>,
 )
-    requires hand { HasDisk hand }
+    requires disk_actor { HasDisk disk_actor }
     requires actors { vec_len actors.old < vec_capacity actors.old }
     requires disks { vec_len disks.old < vec_capacity disks.old }
-    ensures actors { actors.new.items ≡ actors.old.items ++ actor_of hand ∷ [] }
-    ensures disks { map Some disks.new.items ≡ map Some disks.old.items ++ disk_of hand ∷ [] }
+    ensures actors { actors.new.items ≡ actors.old.items ++ actor_of disk_actor ∷ [] }
+    ensures disks { map Some disks.new.items ≡ map Some disks.old.items ++ disk_of disk_actor ∷ [] }
     ensures lengths { (vec_len actors.new ≡ vec_len actors.old + 1)
         × (vec_len disks.new ≡ vec_len disks.old + 1) }
     ensures capacities { (vec_capacity actors.new ≡ vec_capacity actors.old)
         × (vec_capacity disks.new ≡ vec_capacity disks.old) }
 {
-    let Hand { actor, disk } = hand;
+    let DiskActor { actor, disk } = disk_actor;
     let Some(disk) = disk else { unreachable!() };
     actors.push_reserved(actor);
     disks.push_reserved(disk);
@@ -45,21 +46,21 @@ fn put_backends<W: World, D: Disk>(
     actors: &mut Vec<Actor<ReadIo, W>>,
     disks: &mut Vec<D>,
 )
-    requires hands { All (λ b. HasDisk b.hand) backends.items }
+    requires disk_actors { All (λ b. HasDisk b.disk_actor) backends.items }
     requires actors { vec_len actors.old + vec_len backends ≤ vec_capacity actors.old }
     requires disks { vec_len disks.old + vec_len backends ≤ vec_capacity disks.old }
     ensures actors { actors.new.items
-        ≡ actors.old.items ++ map actor_of (map hand_of backends.items) }
+        ≡ actors.old.items ++ map actor_of (map backend_disk_actor backends.items) }
     ensures disks { map Some disks.new.items
-        ≡ map Some disks.old.items ++ map disk_of (map hand_of backends.items) }
+        ≡ map Some disks.old.items ++ map disk_of (map backend_disk_actor backends.items) }
     ensures lengths { (vec_len actors.new ≡ vec_len actors.old + vec_len backends)
         × (vec_len disks.new ≡ vec_len disks.old + vec_len backends) }
     ensures capacities { (vec_capacity actors.new ≡ vec_capacity actors.old)
         × (vec_capacity disks.new ≡ vec_capacity disks.old) }
 {
     for backend in backends {
-        let Backend { hand, .. } = backend;
-        put_down(hand, actors, disks);
+        let Backend { disk_actor, .. } = backend;
+        put_down(disk_actor, actors, disks);
     }
 }
 
@@ -69,17 +70,17 @@ fn put_workers<W: World, D: Disk>(
     actors: &mut Vec<Actor<ReadIo, W>>,
     disks: &mut Vec<D>,
 )
-    requires hands { All (λ w. HasDisk w.hand) workers.items }
+    requires disk_actors { All (λ w. HasDisk w.disk_actor) workers.items }
     requires actors { vec_len actors.old + vec_len workers ≤ vec_capacity actors.old }
     requires disks { vec_len disks.old + vec_len workers ≤ vec_capacity disks.old }
     ensures actors { actors.new.items
-        ≡ actors.old.items ++ map actor_of (map hand_in workers.items) }
+        ≡ actors.old.items ++ map actor_of (map worker_disk_actor workers.items) }
     ensures disks { map Some disks.new.items
-        ≡ map Some disks.old.items ++ map disk_of (map hand_in workers.items) }
+        ≡ map Some disks.old.items ++ map disk_of (map worker_disk_actor workers.items) }
 {
     for worker in workers {
-        let Worker { hand, .. } = worker;
-        put_down(hand, actors, disks);
+        let Worker { disk_actor, .. } = worker;
+        put_down(disk_actor, actors, disks);
     }
 }
 
@@ -87,14 +88,16 @@ impl<W: World, D: Disk> Scan<W, D> {
     /// Closes the table. The disks come back in the order in which they were handed in. It takes
     /// no memory.
     pub fn finish(self) -> (Totals, Vec<D>)
-        requires scan { IsScan (meter D.told D.relations D.reads D.faults) W.told W.relations self }
-        ensures finished { IsFinished (meter D.told D.relations D.reads D.faults) W.told W.relations
-            self.common.table.config self.unread (taken_by self.backends.items) (opened_by self)
-            result.1.items (lists_of (hands_of self)) result.0 }
-        ensures disks { map Some result.1.items ≡ map disk_of (hands_of self) }
+        requires scan { IsScan (disk_ghosts D.told D.relations D.reads D.faults)
+            W.told W.relations self }
+        ensures finished { IsFinished (disk_ghosts D.told D.relations D.reads D.faults)
+            W.told W.relations self.shared.table.config self.unread
+            (results_taken self.backends.items) (opened_disks self) result.1.items
+            (lists_of (scan_disk_actors self)) result.0 }
+        ensures disks { map Some result.1.items ≡ map disk_of (scan_disk_actors self) }
     {
         let Scan {
-            common,
+            shared,
             backends,
             workers,
             mut actors,
@@ -103,7 +106,7 @@ impl<W: World, D: Disk> Scan<W, D> {
         } = self;
         put_backends(backends, &mut actors, &mut disks);
         put_workers(workers, &mut actors, &mut disks);
-        let Common { table, .. } = common;
+        let SharedState { table, .. } = shared;
         (table.close(actors), disks)
     }
 }

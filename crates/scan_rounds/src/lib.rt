@@ -6,9 +6,9 @@
 //! of their pages, with their tuples where the settings say so, and counts them. With
 //! `MethodKind::Sync` each backend executes its own I/Os; with `MethodKind::Worker` the workers do,
 //! and a backend executes what no worker has claimed when it would wait for it. [`Scan::run`] makes
-//! all rounds of an [`Agenda`], several of them in one turn of the backends' threads, with workers
-//! that live from the first to the last. [`Scan::finish`] closes the table, and gives the disks
-//! back.
+//! all rounds of a [`JobSource`], several of them in one turn of the backends' threads, with
+//! workers that live from the first to the last. [`Scan::finish`] closes the table, and gives the
+//! disks back.
 //!
 //! With `MethodKind::Ring` it is a [`RingScan`], with the same calls and no workers: a backend that
 //! would wait executes its own I/O by a ring, together with what it takes from the queue.
@@ -25,16 +25,14 @@
 //! one a fault of it, and no more jobs ended in Unread than the disks counted faults.
 #![tactic(auto)]
 
-mod agenda;
 mod backend;
 mod beside;
 mod calls;
-mod common;
 mod consumer;
-mod course;
+mod disk_actor;
 mod finish;
-mod hand;
 mod job;
+mod job_source;
 mod lent;
 mod listing;
 mod loan;
@@ -47,16 +45,18 @@ mod ring_scan;
 mod round;
 mod rounds;
 mod run;
+mod run_state;
 mod scan;
 mod settings;
+mod shared;
 mod sharing;
 mod skipping;
 mod source;
 mod turn;
 mod worker;
 
-pub use agenda::Agenda;
 pub use job::{Ending, Job};
+pub use job_source::JobSource;
 pub use ring_scan::RingScan;
 pub use scan::Scan;
 pub use settings::{MethodKind, ScanSettings};

@@ -1,12 +1,12 @@
 //! Lists the pages that a stream gives for a job.
 ghost use Rattle.std.specs.Prelude.{◌≡◌, ◌++◌, None, Some, OnOk, OnErr};
 ghost use Rattle.page_check.specs.Verdict.{IsValid};
-ghost use Rattle.heap_scan.specs.Sums.{FitSums, tallied};
+ghost use Rattle.heap_scan.specs.Sums.{FitSums, sums_with_page};
 ghost use Rattle.heap_scan.specs.Warnings.{warning_line};
 ghost use Rattle.heap_tuple.specs.Listing.{text_with};
-ghost use Rattle.read_stream.specs.Answering.{said};
-ghost use Rattle.scan_rounds.specs.Showing.{Shows, shown};
-ghost use Rattle.scan_rounds.specs.Taking.{IfPage};
+ghost use Rattle.read_stream.specs.StreamAnswers.{synchronous_answer};
+ghost use Rattle.scan_rounds.specs.JobOutput.{AnswerAppended, job_output};
+ghost use Rattle.scan_rounds.specs.ConsumedPages.{IfPage};
 
 use crate::consumer::Consumer;
 use crate::job::{Ending, Job};
@@ -46,10 +46,10 @@ fn show_page(
     sums: &mut PageSums,
 ) -> Result<(), AllocError>
     requires valid { IsValid page.now }
-    requires fit { FitSums (tallied sums.old page.now) }
+    requires fit { FitSums (sums_with_page sums.old page.now) }
     ensures ok { OnOk result
         ((text.new.items ≡ text.old.items ++ text_with tuples relation block page.now)
-        × (sums.new ≡ tallied sums.old page.now)) }
+        × (sums.new ≡ sums_with_page sums.old page.now)) }
     ensures err { OnErr result ((text.new.items ≡ text.old.items) × (sums.new ≡ sums.old)) }
 {
     put_text(tuples, relation, block, page, text)?;
@@ -68,11 +68,11 @@ fn show_zeroed(
     sums: &mut PageSums,
 ) -> Result<(), AllocError>
     requires valid { IsValid page.now }
-    requires fit { FitSums (tallied sums.old page.now) }
+    requires fit { FitSums (sums_with_page sums.old page.now) }
     ensures ok { OnOk result
         ((text.new.items ≡ text.old.items ++ text_with tuples relation block page.now)
         × (warnings.new.items ≡ warnings.old.items ++ warning_line relation block)
-        × (sums.new ≡ tallied sums.old page.now)) }
+        × (sums.new ≡ sums_with_page sums.old page.now)) }
     ensures err { OnErr result ((text.new.items ≡ text.old.items)
         × (warnings.new.items ≡ warnings.old.items) × (sums.new ≡ sums.old)) }
 {
@@ -108,11 +108,12 @@ fn show(
     warnings: &mut Vec<u8>,
     sums: &mut PageSums,
 ) -> Option<Ending>
-    requires valid { IfPage (said relation answer) IsValid }
-    requires fit { IfPage (said relation answer) (λ page. FitSums (tallied sums.old page)) }
-    ensures { Shows (text_with tuples) (said relation answer.entry)
-        (shown text.old.items warnings.old.items sums.old)
-        (shown text.new.items warnings.new.items sums.new) result }
+    requires valid { IfPage (synchronous_answer relation answer) IsValid }
+    requires fit { IfPage (synchronous_answer relation answer)
+        (λ page. FitSums (sums_with_page sums.old page)) }
+    ensures { AnswerAppended (text_with tuples) (synchronous_answer relation answer.entry)
+        (job_output text.old.items warnings.old.items sums.old)
+        (job_output text.new.items warnings.new.items sums.new) result }
 {
     match answer {
         Next::Page(page, block, _) => {
@@ -138,7 +139,7 @@ pub(crate) struct Listing<'j> {
 
 impl Consumer for Listing<'_> {
     ghost use Rattle.heap_tuple.specs.Listing.{text_with};
-    ghost use Rattle.scan_rounds.specs.Taking.{HasText};
+    ghost use Rattle.scan_rounds.specs.ConsumedPages.{HasText};
     ghost use Rattle.scan_rounds.specs.Loans.{IsSameListing};
     ghost use Rattle.std.proofs.Common.{refl, ◌∙◌};
 

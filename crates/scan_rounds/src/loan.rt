@@ -1,8 +1,8 @@
-//! The end of loans.
+//! The end of borrows.
 ghost use Rattle.std.specs.Prelude.{◌≡◌};
 
-/// Ends a loan.
-pub(crate) fn give_back<X>(loan: &mut X)
+/// Ends a borrow. It does nothing: what was lent is as the borrower left it.
+pub(crate) fn end_borrow<X>(loan: &mut X)
     ensures { loan.new ≡ loan.old }
 {
     let _ = loan;

@@ -14,7 +14,7 @@ pub(crate) struct MapPages<'m> {
 }
 
 impl Consumer for MapPages<'_> {
-    ghost use Rattle.scan_rounds.specs.Taking.{HasPages};
+    ghost use Rattle.scan_rounds.specs.ConsumedPages.{HasPages};
     ghost use Rattle.scan_rounds.specs.Loans.{IsSameMap};
     ghost use Rattle.std.proofs.Common.{refl, ◌∙◌};
 

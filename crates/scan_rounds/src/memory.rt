@@ -1,17 +1,18 @@
 //! All memory of a scan.
 ghost use Rattle.std.specs.Prelude.{◌≡◌, ◌≤◌, ◌<◌, ◌+◌, ◌*◌, ◌^◌, length, IfOk, OnOk};
 ghost use Rattle.std.specs.List.{All};
-ghost use Rattle.aio_handle.specs.Shown.{AreNew};
-ghost use Rattle.method_worker.specs.Shown.{Queue, IsSeatOf};
-ghost use Rattle.scan_rounds.specs.Opening.{AreSettings, AreStreamsOf, HasLists, IsDeskFor};
-ghost use Rattle.scan_rounds.specs.Opening.{IsMemory, config_of, rings_in, seats_in, workers_in};
+ghost use Rattle.aio_handle.specs.ContractViews.{AreNewActors};
+ghost use Rattle.method_worker.specs.QueueViews.{QueueView, IsSeatOf};
+ghost use Rattle.scan_rounds.specs.OpenedScan.{AreSettings, AreStreamsOf, HasLists, IsDeskFor};
+ghost use Rattle.scan_rounds.specs.OpenedScan.{IsMemory, config_of, rings_of_settings};
+ghost use Rattle.scan_rounds.specs.OpenedScan.{seats_of_settings, workers_of_settings};
 ghost use Rattle.scan_rounds.specs.Rings.{IsRingOf};
 
 use crate::backend::Backend;
-use crate::common::Common;
 use crate::job::Job;
-use crate::ring::RingDesk;
+use crate::ring::IdleRingState;
 use crate::settings::{MethodKind, ScanSettings};
+use crate::shared::SharedState;
 use crate::worker::Worker;
 use aio_callback::ReadIo;
 use aio_disk::Disk;
@@ -39,13 +40,13 @@ pub(crate) struct Lists<W: World, D: Disk> {
 /// All memory that a scan takes, but for the texts of jobs, before it has the disks.
 #[derive(Drop)]
 pub(crate) struct Memory<W: World, D: Disk> {
-    pub(crate) common: Common<W>,
+    pub(crate) shared: SharedState<W>,
     // Those of the backends, and then those of the workers.
     pub(crate) actors: Vec<Actor<ReadIo, W>>,
     // None with `MethodKind::Sync`.
     pub(crate) seats: Vec<QueueSeat>,
     // One for each backend with `MethodKind::Ring`.
-    pub(crate) rings: Vec<RingDesk<W>>,
+    pub(crate) rings: Vec<IdleRingState<W>>,
     pub(crate) desks: Vec<Desk<W, ()>>,
     pub(crate) jobs: Vec<Job>,
     pub(crate) lists: Lists<W, D>,
@@ -71,7 +72,7 @@ fn stream_settings(settings: &ScanSettings) -> Settings
 
 // How many workers there are.
 pub(crate) fn worker_count(settings: &ScanSettings) -> u32
-    ensures { result ≡ workers_in settings.now }
+    ensures { result ≡ workers_of_settings settings.now }
 {
     match settings.method {
         MethodKind::Sync => 0,
@@ -83,7 +84,7 @@ pub(crate) fn worker_count(settings: &ScanSettings) -> u32
 // How many seats of the queue backends and workers have.
 fn seat_count(settings: &ScanSettings) -> u32
     requires { AreSettings settings.now }
-    ensures { result ≡ seats_in settings.now }
+    ensures { result ≡ seats_of_settings settings.now }
 {
     match settings.method {
         MethodKind::Sync => 0,
@@ -94,7 +95,7 @@ fn seat_count(settings: &ScanSettings) -> u32
 
 // How many rings there are. Each has a seat of its own.
 fn ring_count(settings: &ScanSettings) -> u32
-    ensures { result ≡ rings_in settings.now }
+    ensures { result ≡ rings_of_settings settings.now }
 {
     match settings.method {
         MethodKind::Sync => 0,
@@ -139,13 +140,13 @@ fn open_rings<W: World>(
     alloc: Global,
     count: u32,
     seats: &mut Vec<QueueSeat>,
-) -> Result<Vec<RingDesk<W>>, AllocError>
+) -> Result<Vec<IdleRingState<W>>, AllocError>
     requires { count ≤ length seats.old.items }
     ensures count { IfOk result (λ r. length r.items ≡ count) }
     ensures left { OnOk result (length seats.new.items + count ≡ length seats.old.items) }
-    ensures seats { (q : Queue) → All (IsSeatOf q) seats.old.items
+    ensures seats { (q : QueueView) → All (IsSeatOf q) seats.old.items
         → All (IsSeatOf q) seats.new.items }
-    ensures rings { (q : Queue) → All (IsSeatOf q) seats.old.items
+    ensures rings { (q : QueueView) → All (IsSeatOf q) seats.old.items
         → IfOk result (λ r. All (IsRingOf q) r.items) }
 {
     let mut rings = Vec::with_capacity(alloc, count as usize)?;
@@ -153,7 +154,7 @@ fn open_rings<W: World>(
         let Some(seat) = seats.pop() else {
             unreachable!()
         };
-        rings.push_reserved(RingDesk::open(alloc, seat)?);
+        rings.push_reserved(IdleRingState::open(alloc, seat)?);
     }
     Ok(rings)
 }
@@ -183,26 +184,26 @@ fn open_jobs(alloc: Global, count: u32) -> Result<Vec<Job>, AllocError>
 }
 
 // The table with its actors, the pool, and the queue with all its seats.
-fn open_common<W: World>(
+fn open_shared<W: World>(
     alloc: Global,
     settings: &ScanSettings,
     start: u64,
-) -> Result<(Common<W>, Vec<Actor<ReadIo, W>>, Vec<QueueSeat>), AllocError>
+) -> Result<(SharedState<W>, Vec<Actor<ReadIo, W>>, Vec<QueueSeat>), AllocError>
     requires settings { AreSettings settings.now }
     requires handles { settings.now.backends * settings.now.handles ≡ W.handles }
     requires start { start < 2 ^ 58 }
     ensures config { IfOk result (λ c. c.0.table.config ≡ config_of settings.now start) }
-    ensures actors { IfOk result (λ c. AreNew c.0.table 0 c.1.items
-        × (length c.1.items ≡ settings.now.backends + workers_in settings.now)) }
+    ensures actors { IfOk result (λ c. AreNewActors c.0.table 0 c.1.items
+        × (length c.1.items ≡ settings.now.backends + workers_of_settings settings.now)) }
     ensures seats { IfOk result (λ c. All (IsSeatOf c.0.queue) c.2.items
-        × (length c.2.items ≡ seats_in settings.now + rings_in settings.now)) }
+        × (length c.2.items ≡ seats_of_settings settings.now + rings_of_settings settings.now)) }
 {
     let workers = worker_count(settings);
     let seats = seat_count(settings) + ring_count(settings);
     let (table, actors) = Table::open(alloc, settings.backends, settings.handles, workers, start)?;
     let (queue, seats) = open_queue(alloc, seats)?;
     let pool = Pool::open(alloc, settings.buffers)?;
-    Ok((Common { table, pool, queue }, actors, seats))
+    Ok((SharedState { table, pool, queue }, actors, seats))
 }
 
 impl<W: World, D: Disk> Lists<W, D> {
@@ -232,10 +233,10 @@ impl<W: World, D: Disk> Memory<W, D> {
         requires start { start < 2 ^ 58 }
         ensures { IfOk result (IsMemory settings.now start) }
     {
-        let (common, actors, mut seats) = open_common(alloc, settings, start)?;
+        let (shared, actors, mut seats) = open_shared(alloc, settings, start)?;
         let rings = open_rings(alloc, ring_count(settings), &mut seats)?;
         Ok(Memory {
-            common,
+            shared,
             actors,
             seats,
             rings,

@@ -3,18 +3,19 @@ ghost use Rattle.std.specs.Prelude.{◌≡◌, ◌≢◌, ◌≤◌, ◌<◌, �
 ghost use Rattle.std.specs.Prelude.{IfErr, IfOk, vec_capacity};
 ghost use Rattle.std.specs.List.{All};
 ghost use Rattle.std.specs.Vec.Iter.{into_iter_items};
-ghost use Rattle.scan_rounds.specs.Hands.{meter};
-ghost use Rattle.scan_rounds.specs.Manners.{manner};
-ghost use Rattle.scan_rounds.specs.Opening.{AreSettings, GivesBackends, GivesHands, GivesWorkers};
-ghost use Rattle.scan_rounds.specs.Opening.{IsMemory, IsOpened, IsSetUp, workers_in};
-ghost use Rattle.scan_rounds.specs.Rounds.{taken_by};
-ghost use Rattle.scan_rounds.specs.Scans.{IsScan, manner_in, opened_by};
+ghost use Rattle.scan_rounds.specs.DiskActors.{disk_ghosts};
+ghost use Rattle.scan_rounds.specs.ListOptions.{list_options};
+ghost use Rattle.scan_rounds.specs.OpenedScan.{AreSettings, GivesBackends, GivesDiskActors};
+ghost use Rattle.scan_rounds.specs.OpenedScan.{GivesWorkers};
+ghost use Rattle.scan_rounds.specs.OpenedScan.{IsMemory, IsOpened, IsSetUp, workers_of_settings};
+ghost use Rattle.scan_rounds.specs.Rounds.{results_taken};
+ghost use Rattle.scan_rounds.specs.Scans.{IsScan, scan_options, opened_disks};
 
 use crate::backend::Backend;
-use crate::hand::Hand;
+use crate::disk_actor::DiskActor;
 use crate::job::Job;
 use crate::memory::{Memory, worker_count};
-use crate::ring::RingDesk;
+use crate::ring::IdleRingState;
 use crate::scan::Scan;
 use crate::settings::{MethodKind, ScanSettings};
 use crate::worker::Worker;
@@ -37,23 +38,23 @@ struct Parts<W: World, D: Disk> {
     actors: IntoIter<Actor<ReadIo, W>, Global>,
     disks: IntoIter<D, Global>,
     seats: IntoIter<QueueSeat, Global>,
-    rings: IntoIter<RingDesk<W>, Global>,
+    rings: IntoIter<IdleRingState<W>, Global>,
     desks: IntoIter<Desk<W, ()>, Global>,
 }
 
 impl<W: World, D: Disk> Parts<W, D> {
     // The next actor with the next disk.
-    fn hand(&mut self) -> Hand<W, D>
+    fn disk_actor(&mut self) -> DiskActor<W, D>
         requires actor { 1 ≤ length (into_iter_items self.old.actors) }
         requires disk { 1 ≤ length (into_iter_items self.old.disks) }
-        ensures hands { GivesHands self.old self.new (result ∷ []) }
+        ensures disk_actors { GivesDiskActors self.old self.new (result ∷ []) }
         ensures seats { (self.new.seats ≡ self.old.seats) × (self.new.rings ≡ self.old.rings) }
         ensures desks { self.new.desks ≡ self.old.desks }
     {
         let Some(actor) = self.actors.next() else {
             unreachable!()
         };
-        Hand {
+        DiskActor {
             disk: self.disks.next(),
             actor,
         }
@@ -66,12 +67,12 @@ impl<W: World, D: Disk> Parts<W, D> {
         requires desk { 1 ≤ length (into_iter_items self.old.desks) }
         ensures { GivesBackends tuples self.old self.new (result ∷ []) }
     {
-        let hand = self.hand();
+        let disk_actor = self.disk_actor();
         let Some(desk) = self.desks.next() else {
             unreachable!()
         };
         Backend {
-            hand,
+            disk_actor,
             desk,
             seat: self.seats.next(),
             ring: self.rings.next(),
@@ -87,11 +88,11 @@ impl<W: World, D: Disk> Parts<W, D> {
         requires seat { 1 ≤ length (into_iter_items self.old.seats) }
         ensures { GivesWorkers self.old self.new (result ∷ []) }
     {
-        let hand = self.hand();
+        let disk_actor = self.disk_actor();
         let Some(seat) = self.seats.next() else {
             unreachable!()
         };
-        Worker { hand, seat }
+        Worker { disk_actor, seat }
     }
 
     // So many backends, in this list.
@@ -132,7 +133,7 @@ impl<W: World, D: Disk> Parts<W, D> {
 }
 
 // A scan in this memory, over these disks. The handles are at generation `start`.
-fn man<W: World, D: Disk>(
+fn assemble_scan<W: World, D: Disk>(
     alloc: Global,
     settings: &ScanSettings,
     memory: Memory<W, D>,
@@ -142,10 +143,10 @@ fn man<W: World, D: Disk>(
     requires settings { AreSettings settings.now }
     requires start { start < 2 ^ 58 }
     requires memory { IsMemory settings.now start memory }
-    requires disks { length disks.items ≡ settings.now.backends + workers_in settings.now }
+    requires disks { length disks.items ≡ settings.now.backends + workers_of_settings settings.now }
     requires tell { All (λ d. (D.told d ≡ W.told) × (D.relations d ≡ W.relations)) disks.items }
-    ensures { IsOpened (meter D.told D.relations D.reads D.faults) W.told W.relations settings.now
-        start disks.items result }
+    ensures { IsOpened (disk_ghosts D.told D.relations D.reads D.faults)
+        W.told W.relations settings.now start disks.items result }
 {
     let opened = Snapshot::of(&disks);
     let lists = memory.lists;
@@ -160,7 +161,7 @@ fn man<W: World, D: Disk>(
     let workers = parts.workers(worker_count(settings), lists.workers);
     Scan {
         alloc,
-        common: memory.common,
+        shared: memory.shared,
         backends,
         workers,
         jobs: memory.jobs,
@@ -182,16 +183,16 @@ pub(crate) fn open_scan<W: World, D: Disk>(
     start: u64,
 ) -> Result<Scan<W, D>, Vec<D>>
     requires settings { AreSettings settings.now }
-    requires disks { length disks.items ≡ settings.now.backends + workers_in settings.now }
+    requires disks { length disks.items ≡ settings.now.backends + workers_of_settings settings.now }
     requires tell { All (λ d. (D.told d ≡ W.told) × (D.relations d ≡ W.relations)) disks.items }
     requires handles { settings.now.backends * settings.now.handles ≡ W.handles }
     requires start { start < 2 ^ 58 }
-    ensures opened { IfOk result (IsOpened (meter D.told D.relations D.reads D.faults) W.told
+    ensures opened { IfOk result (IsOpened (disk_ghosts D.told D.relations D.reads D.faults) W.told
         W.relations settings.now start disks.items) }
     ensures back { IfErr result (λ d. d ≡ disks) }
 {
     match Memory::open(alloc, settings, start) {
-        Ok(memory) => Ok(man(alloc, settings, memory, disks, start)),
+        Ok(memory) => Ok(assemble_scan(alloc, settings, memory, disks, start)),
         Err(_) => Err(disks),
     }
 }
@@ -203,23 +204,24 @@ impl<W: World, D: Disk> Scan<W, D> {
     pub fn open(alloc: Global, settings: &ScanSettings, disks: Vec<D>) -> Result<Scan<W, D>, Vec<D>>
         requires settings { AreSettings settings.now }
         requires method { settings.now.method ≢ MethodKind.Ring }
-        requires disks { length disks.items ≡ settings.now.backends + workers_in settings.now }
+        requires disks { length disks.items ≡ settings.now.backends
+            + workers_of_settings settings.now }
         requires tell { All (λ d. (D.told d ≡ W.told) × (D.relations d ≡ W.relations)) disks.items }
         requires segments { All (λ d. D.segment d ≡ settings.now.segment) disks.items }
         requires handles { settings.now.backends * settings.now.handles ≡ W.handles }
-        ensures scan { IfOk result (λ s. IsScan (meter D.told D.relations D.reads D.faults) W.told
-            W.relations s) }
+        ensures scan { IfOk result (λ s. IsScan (disk_ghosts D.told D.relations D.reads D.faults)
+            W.told W.relations s) }
         ensures numbers { IfOk result
-            (λ s. (s.common.table.config.backends ≡ settings.now.backends)
-            × (s.common.table.config.runners ≡ workers_in settings.now)
-            × (s.common.table.config.start ≡ 0)) }
+            (λ s. (s.shared.table.config.backends ≡ settings.now.backends)
+            × (s.shared.table.config.runners ≡ workers_of_settings settings.now)
+            × (s.shared.table.config.start ≡ 0)) }
         ensures set_up { IfOk result (λ s. All (IsSetUp settings.now) s.backends.items) }
-        ensures opened { IfOk result (λ s. opened_by s ≡ disks.items) }
-        ensures taken { IfOk result (λ s. taken_by s.backends.items ≡ 0) }
+        ensures opened { IfOk result (λ s. opened_disks s ≡ disks.items) }
+        ensures taken { IfOk result (λ s. results_taken s.backends.items ≡ 0) }
         ensures room { IfOk result (λ s. s.room ≡ 2 ^ 58 - 1) }
         ensures unread { IfOk result (λ s. s.unread ≡ 0) }
-        ensures manner { IfOk result
-            (λ s. manner_in s ≡ manner settings.now.zero settings.now.tuples) }
+        ensures options { IfOk result
+            (λ s. scan_options s ≡ list_options settings.now.zero settings.now.tuples) }
         ensures back { IfErr result (λ d. d ≡ disks) }
     {
         Scan::open_at(alloc, settings, disks, 0)
@@ -235,24 +237,25 @@ impl<W: World, D: Disk> Scan<W, D> {
     ) -> Result<Scan<W, D>, Vec<D>>
         requires settings { AreSettings settings.now }
         requires method { settings.now.method ≢ MethodKind.Ring }
-        requires disks { length disks.items ≡ settings.now.backends + workers_in settings.now }
+        requires disks { length disks.items ≡ settings.now.backends
+            + workers_of_settings settings.now }
         requires tell { All (λ d. (D.told d ≡ W.told) × (D.relations d ≡ W.relations)) disks.items }
         requires segments { All (λ d. D.segment d ≡ settings.now.segment) disks.items }
         requires handles { settings.now.backends * settings.now.handles ≡ W.handles }
         requires start { start < 2 ^ 58 }
-        ensures scan { IfOk result (λ s. IsScan (meter D.told D.relations D.reads D.faults) W.told
-            W.relations s) }
+        ensures scan { IfOk result (λ s. IsScan (disk_ghosts D.told D.relations D.reads D.faults)
+            W.told W.relations s) }
         ensures numbers { IfOk result
-            (λ s. (s.common.table.config.backends ≡ settings.now.backends)
-            × (s.common.table.config.runners ≡ workers_in settings.now)
-            × (s.common.table.config.start ≡ start)) }
+            (λ s. (s.shared.table.config.backends ≡ settings.now.backends)
+            × (s.shared.table.config.runners ≡ workers_of_settings settings.now)
+            × (s.shared.table.config.start ≡ start)) }
         ensures set_up { IfOk result (λ s. All (IsSetUp settings.now) s.backends.items) }
-        ensures opened { IfOk result (λ s. opened_by s ≡ disks.items) }
-        ensures taken { IfOk result (λ s. taken_by s.backends.items ≡ 0) }
+        ensures opened { IfOk result (λ s. opened_disks s ≡ disks.items) }
+        ensures taken { IfOk result (λ s. results_taken s.backends.items ≡ 0) }
         ensures room { IfOk result (λ s. s.room ≡ 2 ^ 58 - 1 - start) }
         ensures unread { IfOk result (λ s. s.unread ≡ 0) }
-        ensures manner { IfOk result
-            (λ s. manner_in s ≡ manner settings.now.zero settings.now.tuples) }
+        ensures options { IfOk result
+            (λ s. scan_options s ≡ list_options settings.now.zero settings.now.tuples) }
         ensures back { IfErr result (λ d. d ≡ disks) }
     {
         open_scan(alloc, settings, disks, start)

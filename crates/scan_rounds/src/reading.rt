@@ -1,21 +1,21 @@
 //! Reads blocks through a read stream.
 ghost use Rattle.std.specs.Prelude.{◌≡◌, ◌<◌, ◌≤◌, ◌+◌, ◌^◌, ℕ, [], length};
-ghost use Rattle.aio_word.specs.Events.{lives};
-ghost use Rattle.aio_handle.specs.Closing.{IsAtRest};
+ghost use Rattle.aio_word.specs.Events.{lives_ended};
+ghost use Rattle.aio_handle.specs.Closing.{HasNoTokens};
 ghost use Rattle.aio_handle.specs.Free.{IsRoom};
-ghost use Rattle.aio_handle.specs.Shown.{IsOf, IsSame};
-ghost use Rattle.read_stream.specs.Answering.{MayBeUnread, entries_of};
-ghost use Rattle.read_stream.specs.Desks.{IsFree};
-ghost use Rattle.read_stream.specs.Open.{IsOpen};
-ghost use Rattle.read_stream.specs.Went.{Went, local_marks};
-ghost use Rattle.scan_rounds.specs.Hands.{blocks_in};
+ghost use Rattle.aio_handle.specs.ContractViews.{IsActorOf, IsSameActor};
+ghost use Rattle.read_stream.specs.StreamAnswers.{MayBeUnread, stream_entries};
+ghost use Rattle.read_stream.specs.Desks.{IsFreeDesk};
+ghost use Rattle.read_stream.specs.StreamState.{IsOpen};
+ghost use Rattle.read_stream.specs.ActorProgress.{ActorAdvanced, local_marks};
+ghost use Rattle.scan_rounds.specs.DiskActors.{entries_of_blocks};
 ghost use Rattle.scan_rounds.specs.Jobs.{said_end};
-ghost use Rattle.scan_rounds.specs.Taking.{IsTaken};
+ghost use Rattle.scan_rounds.specs.ConsumedPages.{PagesConsumed};
 
 use crate::consumer::Consumer;
 use crate::job::Ending;
-use crate::loan::give_back;
-use crate::source::{Blocks, KeptBlocks};
+use crate::loan::end_borrow;
+use crate::source::{Blocks, UnskippedBlocks};
 use aio_batch::Method;
 use aio_callback::ReadIo;
 use aio_handle::{Actor, Execute, Table};
@@ -43,7 +43,7 @@ fn take_all<
     relation: u32,
     consumer: &mut C,
 ) -> Ending
-    requires table { IsOf table.now actor.old }
+    requires table { IsActorOf table.now actor.old }
     requires told { (E.told runner.old ≡ W.told) × (E.relations runner.old ≡ W.relations) }
     requires actor { actor.old ≡ stream.old.actor_is.value }
     requires relation { stream.old.scope.relation ≡ relation }
@@ -51,14 +51,14 @@ fn take_all<
     requires none { stream.old.given ≡ 0 }
     requires few { length (S.left stream.old.source_was.value) ≤ C.most consumer.old }
     requires held { C.holds consumer.old [] }
-    ensures same { IsSame actor.old actor.new }
+    ensures same { IsSameActor actor.old actor.new }
     ensures told { (E.told runner.new ≡ W.told) × (E.relations runner.new ≡ W.relations) }
     ensures stands_on { M.stands_on method.new ≡ M.stands_on method.old }
-    ensures went { Went actor.old.known actor.new.known (E.reads runner.old) (E.reads runner.new)
-        (E.faults runner.old) (E.faults runner.new) }
-    ensures given { IsTaken (C.holds consumer.new) stream.old.scope.zero W.told
+    ensures went { ActorAdvanced actor.old.known actor.new.known (E.reads runner.old)
+        (E.reads runner.new) (E.faults runner.old) (E.faults runner.new) }
+    ensures given { PagesConsumed (C.holds consumer.new) stream.old.scope.zero W.told
         (MayBeUnread stream.old.scope.was.value actor.new.known)
-        (entries_of relation (S.left stream.old.source_was.value)) (said_end result) }
+        (stream_entries relation (S.left stream.old.source_was.value)) (said_end result) }
     ensures consumer { C.is_same consumer.old consumer.new }
     ensures desk { stream.new.desk.ghost_name ≡ stream.old.desk.ghost_name }
     ensures zero { stream.new.scope.zero ≡ stream.old.scope.zero }
@@ -87,34 +87,34 @@ pub(crate) fn read<W: World, M: Method<ReadIo, W>, E: Execute<ReadIo, W>, T: Wai
     blocks: Blocks<'_>,
     consumer: &mut C,
 ) -> Ending
-    requires table { IsOf table.now actor.old }
+    requires table { IsActorOf table.now actor.old }
     requires backend { actor.old.known.number < actor.old.known.config.backends }
-    requires rest { IsAtRest actor.old.known }
+    requires rest { HasNoTokens actor.old.known }
     requires room { (room : ℕ) × IsRoom actor.old.known.config actor.old.known room
         × (blocks.count ≤ room) }
-    requires desk { IsFree desk.old }
+    requires desk { IsFreeDesk desk.old }
     requires told { (E.told runner.old ≡ W.told) × (E.relations runner.old ≡ W.relations) }
     requires relation { blocks.relation < W.relations }
     requires within { blocks.first + blocks.count ≤ 2 ^ 32 }
     requires few { blocks.count ≤ C.most consumer.old }
     requires held { C.holds consumer.old [] }
-    ensures same { IsSame actor.old actor.new }
+    ensures same { IsSameActor actor.old actor.new }
     ensures told { (E.told runner.new ≡ W.told) × (E.relations runner.new ≡ W.relations) }
     ensures stands_on { M.stands_on method.new ≡ M.stands_on method.old }
-    ensures went { Went actor.old.known actor.new.known (E.reads runner.old) (E.reads runner.new)
-        (E.faults runner.old) (E.faults runner.new) }
-    ensures rest { IsAtRest actor.new.known }
-    ensures lived { (h : ℕ) → lives h actor.new.known.marks
-        ≤ lives h actor.old.known.marks + blocks.entry.count }
+    ensures went { ActorAdvanced actor.old.known actor.new.known (E.reads runner.old)
+        (E.reads runner.new) (E.faults runner.old) (E.faults runner.new) }
+    ensures rest { HasNoTokens actor.new.known }
+    ensures lived { (h : ℕ) → lives_ended h actor.new.known.marks
+        ≤ lives_ended h actor.old.known.marks + blocks.entry.count }
     ensures taken { local_marks actor.new.known.marks
-        ≤ local_marks actor.old.known.marks + length (blocks_in blocks.entry) }
-    ensures desk { IsFree desk.new × (desk.new.zero ≡ desk.old.zero) }
-    ensures given { IsTaken (C.holds consumer.new) desk.old.zero W.told
-        (MayBeUnread actor.old actor.new.known) (blocks_in blocks.entry) (said_end result) }
+        ≤ local_marks actor.old.known.marks + length (entries_of_blocks blocks.entry) }
+    ensures desk { IsFreeDesk desk.new × (desk.new.zero ≡ desk.old.zero) }
+    ensures given { PagesConsumed (C.holds consumer.new) desk.old.zero W.told
+        (MayBeUnread actor.old actor.new.known) (entries_of_blocks blocks.entry) (said_end result) }
     ensures consumer { C.is_same consumer.old consumer.new }
 {
     let relation = blocks.relation;
-    let source = KeptBlocks::of(blocks);
+    let source = UnskippedBlocks::of(blocks);
     let mut stream = ReadStream::open(desk, pool, actor, relation, source);
     let ending = take_all(
         rt,
@@ -127,6 +127,6 @@ pub(crate) fn read<W: World, M: Method<ReadIo, W>, E: Execute<ReadIo, W>, T: Wai
         consumer,
     );
     let (_, desk) = stream.close(rt, table, actor, method, runner);
-    give_back(desk);
+    end_borrow(desk);
     ending
 }

@@ -4,16 +4,17 @@ ghost use Rattle.std.specs.Prelude.{None, Some, IfErr, IfOk};
 ghost use Rattle.std.specs.List.{All};
 ghost use Rattle.scan_rounds.specs.Calls.{HasFollowed, HasMapped, HasRounded};
 ghost use Rattle.scan_rounds.specs.Calls.{MayFollow, MayMap, MayRound};
-ghost use Rattle.scan_rounds.specs.Hands.{meter};
-ghost use Rattle.scan_rounds.specs.Manners.{manner};
-ghost use Rattle.scan_rounds.specs.Opening.{AreSettings, IsSetUp};
-ghost use Rattle.scan_rounds.specs.Rounds.{taken_by};
-ghost use Rattle.scan_rounds.specs.Skipping.{skips_by};
+ghost use Rattle.scan_rounds.specs.DiskActors.{disk_ghosts};
+ghost use Rattle.scan_rounds.specs.ListOptions.{list_options};
+ghost use Rattle.scan_rounds.specs.OpenedScan.{AreSettings, IsSetUp};
+ghost use Rattle.scan_rounds.specs.Rounds.{results_taken};
+ghost use Rattle.scan_rounds.specs.BlockFilter.{map_filter};
 ghost use Rattle.scan_rounds.specs.Scans.{IsFinished, IsScan};
-ghost use Rattle.scan_rounds.specs.Scans.{disk_of, hands_of, lists_of, manner_in, opened_by};
+ghost use Rattle.scan_rounds.specs.Scans.{disk_of, scan_disk_actors, lists_of, scan_options};
+ghost use Rattle.scan_rounds.specs.Scans.{opened_disks};
 
-use crate::agenda::Agenda;
 use crate::job::{Ending, Job};
+use crate::job_source::JobSource;
 use crate::open::open_scan;
 use crate::scan::Scan;
 use crate::settings::{MethodKind, ScanSettings};
@@ -56,19 +57,19 @@ impl<W: World, D: Disk> RingScan<W, D> {
         requires tell { All (λ d. (D.told d ≡ W.told) × (D.relations d ≡ W.relations)) disks.items }
         requires segments { All (λ d. D.segment d ≡ settings.now.segment) disks.items }
         requires handles { settings.now.backends * settings.now.handles ≡ W.handles }
-        ensures scan { IfOk result (λ s. IsScan (meter D.told D.relations D.reads D.faults) W.told
-            W.relations s) }
+        ensures scan { IfOk result (λ s. IsScan (disk_ghosts D.told D.relations D.reads D.faults)
+            W.told W.relations s) }
         ensures numbers { IfOk result
-            (λ s. (s.common.table.config.backends ≡ settings.now.backends)
-            × (s.common.table.config.runners ≡ 0)
-            × (s.common.table.config.start ≡ 0)) }
+            (λ s. (s.shared.table.config.backends ≡ settings.now.backends)
+            × (s.shared.table.config.runners ≡ 0)
+            × (s.shared.table.config.start ≡ 0)) }
         ensures set_up { IfOk result (λ s. All (IsSetUp settings.now) s.backends.items) }
-        ensures opened { IfOk result (λ s. opened_by s ≡ disks.items) }
-        ensures taken { IfOk result (λ s. taken_by s.backends.items ≡ 0) }
+        ensures opened { IfOk result (λ s. opened_disks s ≡ disks.items) }
+        ensures taken { IfOk result (λ s. results_taken s.backends.items ≡ 0) }
         ensures room { IfOk result (λ s. s.room ≡ 2 ^ 58 - 1) }
         ensures unread { IfOk result (λ s. s.unread ≡ 0) }
-        ensures manner { IfOk result
-            (λ s. manner_in s ≡ manner settings.now.zero settings.now.tuples) }
+        ensures options { IfOk result
+            (λ s. scan_options s ≡ list_options settings.now.zero settings.now.tuples) }
         ensures back { IfErr result (λ d. d ≡ disks) }
     {
         RingScan::open_at(alloc, settings, disks, 0)
@@ -89,19 +90,19 @@ impl<W: World, D: Disk> RingScan<W, D> {
         requires segments { All (λ d. D.segment d ≡ settings.now.segment) disks.items }
         requires handles { settings.now.backends * settings.now.handles ≡ W.handles }
         requires start { start < 2 ^ 58 }
-        ensures scan { IfOk result (λ s. IsScan (meter D.told D.relations D.reads D.faults) W.told
-            W.relations s) }
+        ensures scan { IfOk result (λ s. IsScan (disk_ghosts D.told D.relations D.reads D.faults)
+            W.told W.relations s) }
         ensures numbers { IfOk result
-            (λ s. (s.common.table.config.backends ≡ settings.now.backends)
-            × (s.common.table.config.runners ≡ 0)
-            × (s.common.table.config.start ≡ start)) }
+            (λ s. (s.shared.table.config.backends ≡ settings.now.backends)
+            × (s.shared.table.config.runners ≡ 0)
+            × (s.shared.table.config.start ≡ start)) }
         ensures set_up { IfOk result (λ s. All (IsSetUp settings.now) s.backends.items) }
-        ensures opened { IfOk result (λ s. opened_by s ≡ disks.items) }
-        ensures taken { IfOk result (λ s. taken_by s.backends.items ≡ 0) }
+        ensures opened { IfOk result (λ s. opened_disks s ≡ disks.items) }
+        ensures taken { IfOk result (λ s. results_taken s.backends.items ≡ 0) }
         ensures room { IfOk result (λ s. s.room ≡ 2 ^ 58 - 1 - start) }
         ensures unread { IfOk result (λ s. s.unread ≡ 0) }
-        ensures manner { IfOk result
-            (λ s. manner_in s ≡ manner settings.now.zero settings.now.tuples) }
+        ensures options { IfOk result
+            (λ s. scan_options s ≡ list_options settings.now.zero settings.now.tuples) }
         ensures back { IfErr result (λ d. d ≡ disks) }
     {
         match open_scan(alloc, settings, disks, start) {
@@ -142,10 +143,11 @@ impl<W: World, D: Disk> RingScan<W, D> {
         map: &mut VisMap,
         warnings: &mut Vec<u8>,
     ) -> Ending
-        requires may { MayMap (meter D.told D.relations D.reads D.faults) W.told W.relations
+        requires may { MayMap (disk_ghosts D.told D.relations D.reads D.faults) W.told W.relations
             relation self.old map.old warnings.old.items }
-        ensures mapped { HasMapped (meter D.told D.relations D.reads D.faults) W.told W.relations
-            relation self.old self.new map.old map.new warnings.new.items result }
+        ensures mapped { HasMapped (disk_ghosts D.told D.relations D.reads D.faults)
+            W.told W.relations relation self.old self.new map.old map.new warnings.new.items
+            result }
     {
         self.scan.map(rt, relation, map, warnings)
     }
@@ -153,11 +155,13 @@ impl<W: World, D: Disk> RingScan<W, D> {
     /// Closes the table. The disks come back in the order in which they were handed in. It takes
     /// no memory.
     pub fn finish(self) -> (Totals, Vec<D>)
-        requires scan { IsScan (meter D.told D.relations D.reads D.faults) W.told W.relations self }
-        ensures finished { IsFinished (meter D.told D.relations D.reads D.faults) W.told W.relations
-            self.common.table.config self.unread (taken_by self.backends.items) (opened_by self)
-            result.1.items (lists_of (hands_of self)) result.0 }
-        ensures disks { map Some result.1.items ≡ map disk_of (hands_of self) }
+        requires scan { IsScan (disk_ghosts D.told D.relations D.reads D.faults)
+            W.told W.relations self }
+        ensures finished { IsFinished (disk_ghosts D.told D.relations D.reads D.faults)
+            W.told W.relations self.shared.table.config self.unread
+            (results_taken self.backends.items) (opened_disks self) result.1.items
+            (lists_of (scan_disk_actors self)) result.0 }
+        ensures disks { map Some result.1.items ≡ map disk_of (scan_disk_actors self) }
     {
         self.scan.finish()
     }
@@ -166,10 +170,10 @@ impl<W: World, D: Disk> RingScan<W, D> {
 impl<W: World + Send + Sync, D: Disk> RingScan<W, D> {
     /// One round: job `i` is listed by backend `i`. It may wait.
     pub fn round<R: Threads + Wait + Sync>(&mut self, rt: &R, jobs: &mut [Job])
-        requires may { MayRound (meter D.told D.relations D.reads D.faults) W.told W.relations
+        requires may { MayRound (disk_ghosts D.told D.relations D.reads D.faults) W.told W.relations
             self.old jobs.old }
-        ensures rounded { HasRounded (meter D.told D.relations D.reads D.faults) W.told W.relations
-            None self.old self.new jobs.old jobs.new }
+        ensures rounded { HasRounded (disk_ghosts D.told D.relations D.reads D.faults)
+            W.told W.relations None self.old self.new jobs.old jobs.new }
     {
         self.scan.round(rt, jobs);
     }
@@ -182,40 +186,41 @@ impl<W: World + Send + Sync, D: Disk> RingScan<W, D> {
         map: &VisMap,
         skip: Skip,
     )
-        requires may { MayRound (meter D.told D.relations D.reads D.faults) W.told W.relations
+        requires may { MayRound (disk_ghosts D.told D.relations D.reads D.faults) W.told W.relations
             self.old jobs.old }
-        ensures rounded { HasRounded (meter D.told D.relations D.reads D.faults) W.told W.relations
-            (skips_by map.now skip) self.old self.new jobs.old jobs.new }
+        ensures rounded { HasRounded (disk_ghosts D.told D.relations D.reads D.faults)
+            W.told W.relations (map_filter map.now skip) self.old self.new jobs.old jobs.new }
     {
         self.scan.round_filtered(rt, jobs, map, skip);
     }
 
-    /// All rounds of an agenda, until it is over, in turns of up to four, of which each backend
+    /// All rounds of a job source, until it is over, in turns of up to four, of which each backend
     /// does neighbouring jobs in one thread, one of them in the caller's. It may wait.
-    pub fn run<R: Threads + Wait + Sync, A: Agenda<W>>(&mut self, rt: &R, agenda: A) -> A
-        requires may { MayFollow (meter D.told D.relations D.reads D.faults) W.told W.relations
-            A.left A.manner A.skips None self.old agenda }
-        ensures followed { HasFollowed (meter D.told D.relations D.reads D.faults) W.told
-            W.relations A.left A.due A.unread A.manner A.skips A.follows A.is_over self.old self.new
-            agenda result }
+    pub fn run<R: Threads + Wait + Sync, A: JobSource<W>>(&mut self, rt: &R, job_source: A) -> A
+        requires may { MayFollow (disk_ghosts D.told D.relations D.reads D.faults)
+            W.told W.relations A.blocks_left A.options A.block_filter None self.old job_source }
+        ensures followed { HasFollowed (disk_ghosts D.told D.relations D.reads D.faults) W.told
+            W.relations A.blocks_left A.unskipped_left A.unread A.options A.block_filter A.follows
+            A.is_over self.old self.new job_source result }
     {
-        self.scan.run(rt, agenda)
+        self.scan.run(rt, job_source)
     }
 
     /// The same, without the blocks that the map marks: those that are all-visible, or all-frozen.
-    pub fn run_filtered<R: Threads + Wait + Sync, A: Agenda<W>>(
+    pub fn run_filtered<R: Threads + Wait + Sync, A: JobSource<W>>(
         &mut self,
         rt: &R,
-        agenda: A,
+        job_source: A,
         map: &VisMap,
         skip: Skip,
     ) -> A
-        requires may { MayFollow (meter D.told D.relations D.reads D.faults) W.told W.relations
-            A.left A.manner A.skips (skips_by map.now skip) self.old agenda }
-        ensures followed { HasFollowed (meter D.told D.relations D.reads D.faults) W.told
-            W.relations A.left A.due A.unread A.manner A.skips A.follows A.is_over self.old self.new
-            agenda result }
+        requires may { MayFollow (disk_ghosts D.told D.relations D.reads D.faults)
+            W.told W.relations A.blocks_left A.options A.block_filter (map_filter map.now skip)
+            self.old job_source }
+        ensures followed { HasFollowed (disk_ghosts D.told D.relations D.reads D.faults) W.told
+            W.relations A.blocks_left A.unskipped_left A.unread A.options A.block_filter A.follows
+            A.is_over self.old self.new job_source result }
     {
-        self.scan.run_filtered(rt, agenda, map, skip)
+        self.scan.run_filtered(rt, job_source, map, skip)
     }
 }

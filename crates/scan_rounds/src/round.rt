@@ -1,12 +1,13 @@
 //! Backends and workers in threads of their own.
 ghost use Rattle.std.specs.Prelude.{◌<◌, ◌+◌};
 ghost use Rattle.std.specs.List.{All};
-ghost use Rattle.scan_rounds.specs.Hands.{MayRun, MayServe, Ran, Worked, meter};
-ghost use Rattle.scan_rounds.specs.Rounds.{AllRan, AllWorked};
-ghost use Rattle.scan_rounds.specs.Skipping.{skips_of};
+ghost use Rattle.scan_rounds.specs.DiskActors.{MayRun, MayServe, JobDone, WorkerServed};
+ghost use Rattle.scan_rounds.specs.DiskActors.{disk_ghosts};
+ghost use Rattle.scan_rounds.specs.Rounds.{AllJobsDone, AllServed};
+ghost use Rattle.scan_rounds.specs.BlockFilter.{filter_of};
 
 use crate::backend::Backend;
-use crate::common::Common;
+use crate::shared::SharedState;
 use crate::skipping::Skipping;
 use crate::worker::Worker;
 use aio_disk::Disk;
@@ -18,41 +19,41 @@ use std::thread::Threads;
 // Lets a backend do its job.
 fn run_one<W: World, D: Disk, R: Wait>(
     rt: &R,
-    common: &Common<W>,
+    shared: &SharedState<W>,
     skipping: Option<Skipping<'_>>,
     backend: &mut Backend<W, D>,
 )
-    requires may { MayRun (meter D.told D.relations D.reads D.faults) W.told W.relations
-        common.now.table common.now.queue backend.old }
-    ensures ran { Ran (meter D.told D.relations D.reads D.faults) W.told W.relations
-        common.now.table common.now.queue (skips_of skipping.entry) backend.old
+    requires may { MayRun (disk_ghosts D.told D.relations D.reads D.faults) W.told W.relations
+        shared.now.table shared.now.queue backend.old }
+    ensures ran { JobDone (disk_ghosts D.told D.relations D.reads D.faults) W.told W.relations
+        shared.now.table shared.now.queue (filter_of skipping.entry) backend.old
         backend.new }
 {
-    backend.run(rt, common, skipping);
+    backend.run(rt, shared, skipping);
 }
 
 // Lets a worker serve the queue.
-fn serve_one<W: World, D: Disk, R: Wait>(rt: &R, common: &Common<W>, worker: &mut Worker<W, D>)
-    requires may { MayServe (meter D.told D.relations D.reads D.faults) W.told W.relations
-        common.now.table common.now.queue worker.old }
-    ensures worked { Worked (meter D.told D.relations D.reads D.faults) W.told W.relations
-        common.now.table common.now.queue worker.old worker.new }
+fn serve_one<W: World, D: Disk, R: Wait>(rt: &R, shared: &SharedState<W>, worker: &mut Worker<W, D>)
+    requires may { MayServe (disk_ghosts D.told D.relations D.reads D.faults) W.told W.relations
+        shared.now.table shared.now.queue worker.old }
+    ensures worked { WorkerServed (disk_ghosts D.told D.relations D.reads D.faults)
+        W.told W.relations shared.now.table shared.now.queue worker.old worker.new }
 {
-    worker.run(rt, common);
+    worker.run(rt, shared);
 }
 
 /// Each backend does its job in a thread of its own, the first in the caller's, without the blocks
 /// that are left out.
 pub(crate) fn run_backends<W: World + Send + Sync, D: Disk, R: Threads + Wait + Sync>(
     rt: &R,
-    common: &Common<W>,
+    shared: &SharedState<W>,
     skipping: Option<Skipping<'_>>,
     backends: &mut [Backend<W, D>],
 )
-    requires may { All (MayRun (meter D.told D.relations D.reads D.faults) W.told W.relations
-        common.now.table common.now.queue) backends.old }
-    ensures ran { AllRan (meter D.told D.relations D.reads D.faults) W.told W.relations
-        common.now.table common.now.queue (skips_of skipping.entry) backends.old
+    requires may { All (MayRun (disk_ghosts D.told D.relations D.reads D.faults) W.told W.relations
+        shared.now.table shared.now.queue) backends.old }
+    ensures ran { AllJobsDone (disk_ghosts D.told D.relations D.reads D.faults) W.told W.relations
+        shared.now.table shared.now.queue (filter_of skipping.entry) backends.old
         backends.new }
 {
     thread::for_each_mut(
@@ -60,35 +61,36 @@ pub(crate) fn run_backends<W: World + Send + Sync, D: Disk, R: Threads + Wait + 
         backends,
         16,
         &|_, backend: &mut Backend<W, D>|
-            requires { MayRun (meter D.told D.relations D.reads D.faults) W.told W.relations
-                common.now.table common.now.queue backend.old }
-            ensures { Ran (meter D.told D.relations D.reads D.faults) W.told W.relations
-                common.entry.now.table common.entry.now.queue (skips_of skipping.entry)
+            requires { MayRun (disk_ghosts D.told D.relations D.reads D.faults) W.told W.relations
+                shared.now.table shared.now.queue backend.old }
+            ensures { JobDone (disk_ghosts D.told D.relations D.reads D.faults) W.told W.relations
+                shared.entry.now.table shared.entry.now.queue (filter_of skipping.entry)
                 backend.old backend.new }
-        { run_one(rt, common, skipping, backend) },
+        { run_one(rt, shared, skipping, backend) },
     );
 }
 
 /// Each worker serves the queue in a thread of its own, until it is closed and empty.
 pub(crate) fn run_workers<W: World + Send + Sync, D: Disk, R: Threads + Wait + Sync>(
     rt: &R,
-    common: &Common<W>,
+    shared: &SharedState<W>,
     workers: &mut [Worker<W, D>],
 )
-    requires may { All (MayServe (meter D.told D.relations D.reads D.faults) W.told W.relations
-        common.now.table common.now.queue) workers.old }
-    ensures worked { AllWorked (meter D.told D.relations D.reads D.faults) W.told W.relations
-        common.now.table common.now.queue workers.old workers.new }
+    requires may { All (MayServe (disk_ghosts D.told D.relations D.reads D.faults)
+        W.told W.relations shared.now.table shared.now.queue) workers.old }
+    ensures worked { AllServed (disk_ghosts D.told D.relations D.reads D.faults) W.told W.relations
+        shared.now.table shared.now.queue workers.old workers.new }
 {
     thread::for_each_mut(
         rt,
         workers,
         32,
         &|_, worker: &mut Worker<W, D>|
-            requires { MayServe (meter D.told D.relations D.reads D.faults) W.told W.relations
-                common.now.table common.now.queue worker.old }
-            ensures { Worked (meter D.told D.relations D.reads D.faults) W.told W.relations
-                common.entry.now.table common.entry.now.queue worker.old worker.new }
-        { serve_one(rt, common, worker) },
+            requires { MayServe (disk_ghosts D.told D.relations D.reads D.faults) W.told W.relations
+                shared.now.table shared.now.queue worker.old }
+            ensures { WorkerServed (disk_ghosts D.told D.relations D.reads D.faults)
+                W.told W.relations shared.entry.now.table shared.entry.now.queue worker.old
+                worker.new }
+        { serve_one(rt, shared, worker) },
     );
 }

@@ -2,7 +2,7 @@
 ghost use Rattle.std.specs.Prelude.{◌≡◌, ◌≤◌, length};
 ghost use Rattle.aio_disk.specs.Counts.{raised_by};
 ghost use Rattle.scan_rounds.specs.Jobs.{unread_among, unread_in};
-ghost use Rattle.scan_rounds.specs.Rounds.{IsLeastRoom, Swapped};
+ghost use Rattle.scan_rounds.specs.Rounds.{IsLeastRoom, JobsExchanged};
 
 use crate::backend::Backend;
 use crate::job::{Ending, Job};
@@ -22,7 +22,7 @@ pub(crate) struct Counts {
 // The first jobs of the list and those of the first backends change places.
 pub(crate) fn swap_jobs<W: World, D: Disk>(backends: &mut [Backend<W, D>], jobs: &mut [Job])
     requires few { length jobs.old ≤ length backends.old }
-    ensures { Swapped backends.old backends.new jobs.old jobs.new }
+    ensures { JobsExchanged backends.old backends.new jobs.old jobs.new }
 {
     for k in 0..jobs.len() {
         mem::swap(&mut backends[k].job, &mut jobs[k]);
@@ -56,7 +56,7 @@ pub(crate) fn least_room<W: World, D: Disk>(backends: &[Backend<W, D>]) -> u64
 {
     let mut least = u64::MAX;
     for backend in backends {
-        least = least.min(backend.hand.actor.room());
+        least = least.min(backend.disk_actor.actor.room());
     }
     least
 }

@@ -1,21 +1,21 @@
 //! One round of a scan, and all rounds of a run, in their parts.
 ghost use Rattle.std.specs.Prelude.{◌≡◌, ◌≤◌, ◌<◌, ◌+◌, ◌*◌, length, Option, IfSome};
 ghost use Rattle.std.specs.List.{All};
-ghost use Rattle.method_worker.specs.Shown.{IsSeatOf};
+ghost use Rattle.method_worker.specs.QueueViews.{IsSeatOf};
 ghost use Rattle.scan_rounds.specs.Calls.{HasFollowed, HasRounded, MayFollow, MayRound};
-ghost use Rattle.scan_rounds.specs.Hands.{meter};
-ghost use Rattle.scan_rounds.specs.Rounds.{Swapped};
+ghost use Rattle.scan_rounds.specs.DiskActors.{disk_ghosts};
+ghost use Rattle.scan_rounds.specs.Rounds.{JobsExchanged};
 ghost use Rattle.scan_rounds.specs.Scans.{IsOpenedAgain};
-ghost use Rattle.scan_rounds.specs.Skipping.{skips_of};
+ghost use Rattle.scan_rounds.specs.BlockFilter.{filter_of};
 
-use crate::agenda::Agenda;
 use crate::backend::Backend;
 use crate::beside::{round_beside, run_beside};
-use crate::common::Common;
-use crate::course::Course;
 use crate::job::Job;
+use crate::job_source::JobSource;
 use crate::rounds::{Counts, count_unread, least_room, swap_jobs};
+use crate::run_state::RunState;
 use crate::scan::Scan;
+use crate::shared::SharedState;
 use crate::skipping::Skipping;
 use aio_disk::Disk;
 use page_check::World;
@@ -25,19 +25,19 @@ use std::thread::Threads;
 
 /// The first backend opens the queue again, where it has a seat.
 pub(crate) fn reopen_queue<W: World, D: Disk>(
-    common: &mut Common<W>,
+    shared: &mut SharedState<W>,
     mut backends: Vec<Backend<W, D>>,
 ) -> Vec<Backend<W, D>>
     requires some { 1 ≤ length backends.items }
-    requires seats { All (λ b. IfSome b.seat (IsSeatOf common.old.queue)) backends.items }
-    ensures table { common.new.table ≡ common.old.table }
-    ensures queue { (common.new.queue.line ≡ common.old.queue.line)
-        × (common.new.queue.words ≡ common.old.queue.words) }
-    ensures reopened { IsOpenedAgain backends.items common.old.queue common.new.queue }
+    requires seats { All (λ b. IfSome b.seat (IsSeatOf shared.old.queue)) backends.items }
+    ensures table { shared.new.table ≡ shared.old.table }
+    ensures queue { (shared.new.queue.entries ≡ shared.old.queue.entries)
+        × (shared.new.queue.words ≡ shared.old.queue.words) }
+    ensures reopened { IsOpenedAgain backends.items shared.old.queue shared.new.queue }
     ensures backends { result.items ≡ backends.items }
 {
     if let Some(seat) = &mut backends[0].seat {
-        common.queue.reopen(seat);
+        shared.queue.reopen(seat);
     }
     backends
 }
@@ -48,7 +48,7 @@ pub(crate) fn exchange<W: World, D: Disk>(
     jobs: &mut [Job],
 ) -> Vec<Backend<W, D>>
     requires few { length jobs.old ≤ length backends.items }
-    ensures { Swapped backends.items result.items jobs.old jobs.new }
+    ensures { JobsExchanged backends.items result.items jobs.old jobs.new }
 {
     swap_jobs(backends.as_mut_slice(), jobs);
     backends
@@ -62,14 +62,14 @@ impl<W: World + Send + Sync, D: Disk> Scan<W, D> {
         skipping: Option<Skipping<'_>>,
         jobs: &mut [Job],
     )
-        requires may { MayRound (meter D.told D.relations D.reads D.faults) W.told W.relations
+        requires may { MayRound (disk_ghosts D.told D.relations D.reads D.faults) W.told W.relations
             self.old jobs.old }
-        ensures rounded { HasRounded (meter D.told D.relations D.reads D.faults) W.told W.relations
-            (skips_of skipping.entry) self.old self.new jobs.old jobs.new }
+        ensures rounded { HasRounded (disk_ghosts D.told D.relations D.reads D.faults)
+            W.told W.relations (filter_of skipping.entry) self.old self.new jobs.old jobs.new }
     {
         let Scan {
             alloc,
-            common,
+            shared,
             backends,
             workers,
             room,
@@ -78,9 +78,9 @@ impl<W: World + Send + Sync, D: Disk> Scan<W, D> {
         } = self;
         let own_backends = mem::replace(backends, Vec::new(*alloc));
         let own_workers = mem::replace(workers, Vec::new(*alloc));
-        let waiting = reopen_queue(common, own_backends);
+        let waiting = reopen_queue(shared, own_backends);
         let ready = exchange(waiting, jobs);
-        let (own_workers, done) = round_beside(rt, common, skipping, own_workers, ready);
+        let (own_workers, done) = round_beside(rt, shared, skipping, own_workers, ready);
         let idle = exchange(done, jobs);
         *room = least_room(idle.as_slice());
         *unread = count_unread(*unread, jobs);
@@ -88,22 +88,23 @@ impl<W: World + Send + Sync, D: Disk> Scan<W, D> {
         *backends = idle;
     }
 
-    /// All rounds of an agenda, without the blocks that are left out.
-    pub(crate) fn run_by<R: Threads + Wait + Sync, A: Agenda<W>>(
+    /// All rounds of a job source, without the blocks that are left out.
+    pub(crate) fn run_by<R: Threads + Wait + Sync, A: JobSource<W>>(
         &mut self,
         rt: &R,
         skipping: Option<Skipping<'_>>,
-        agenda: A,
+        job_source: A,
     ) -> A
-        requires may { MayFollow (meter D.told D.relations D.reads D.faults) W.told W.relations
-            A.left A.manner A.skips (skips_of skipping) self.old agenda }
-        ensures followed { HasFollowed (meter D.told D.relations D.reads D.faults) W.told
-            W.relations A.left A.due A.unread A.manner A.skips A.follows A.is_over self.old self.new
-            agenda result }
+        requires may { MayFollow (disk_ghosts D.told D.relations D.reads D.faults)
+            W.told W.relations A.blocks_left A.options A.block_filter (filter_of skipping)
+            self.old job_source }
+        ensures followed { HasFollowed (disk_ghosts D.told D.relations D.reads D.faults) W.told
+            W.relations A.blocks_left A.unskipped_left A.unread A.options A.block_filter A.follows
+            A.is_over self.old self.new job_source result }
     {
         let Scan {
             alloc,
-            common,
+            shared,
             backends,
             workers,
             jobs,
@@ -112,22 +113,22 @@ impl<W: World + Send + Sync, D: Disk> Scan<W, D> {
             ..
         } = self;
         let own_backends = mem::replace(backends, Vec::new(*alloc));
-        let course = Course {
-            backends: reopen_queue(common, own_backends),
+        let run_state = RunState {
+            backends: reopen_queue(shared, own_backends),
             jobs: mem::replace(jobs, Vec::new(*alloc)),
-            agenda,
+            job_source,
             counts: Counts {
                 room: *room,
                 unread: *unread,
             },
         };
         let own_workers = mem::replace(workers, Vec::new(*alloc));
-        let (own_workers, course) = run_beside(rt, common, skipping, own_workers, course);
+        let (own_workers, run_state) = run_beside(rt, shared, skipping, own_workers, run_state);
         *workers = own_workers;
-        *backends = course.backends;
-        *jobs = course.jobs;
-        *room = course.counts.room;
-        *unread = course.counts.unread;
-        course.agenda
+        *backends = run_state.backends;
+        *jobs = run_state.jobs;
+        *room = run_state.counts.room;
+        *unread = run_state.counts.unread;
+        run_state.job_source
     }
 }

@@ -2,8 +2,8 @@
 ghost use Rattle.std.specs.Prelude.{◌≡◌, length};
 
 use crate::backend::Backend;
-use crate::common::Common;
 use crate::job::Job;
+use crate::shared::SharedState;
 use crate::worker::Worker;
 use aio_callback::ReadIo;
 use aio_disk::Disk;
@@ -16,7 +16,7 @@ use std::snapshot::Snapshot;
 #[derive(Drop)]
 pub struct Scan<W: World, D: Disk> {
     pub(crate) alloc: Global,
-    pub(crate) common: Common<W>,
+    pub(crate) shared: SharedState<W>,
     // In the order of the actors' numbers.
     pub(crate) backends: Vec<Backend<W, D>>,
     pub(crate) workers: Vec<Worker<W, D>>,

@@ -11,14 +11,14 @@ pub(crate) struct Skipping<'m> {
 
 /// Accepts the blocks that are not left out: all, where there is no map.
 #[derive(Drop)]
-pub(crate) struct Kept<'m> {
+pub(crate) struct UnskippedTest<'m> {
     pub(crate) skipping: Option<Skipping<'m>>,
 }
 
-impl BlockTest for Kept<'_> {
-    ghost use Rattle.scan_rounds.specs.Skipping.{is_kept, skips_of};
+impl BlockTest for UnskippedTest<'_> {
+    ghost use Rattle.scan_rounds.specs.BlockFilter.{is_unskipped, filter_of};
 
-    ghost accepts = { λ k block. is_kept (skips_of k.skipping) block };
+    ghost accepts = { λ k block. is_unskipped (filter_of k.skipping) block };
 
     fn is_accepted(&self, block: u32) -> bool {
         match self.skipping {

@@ -1,8 +1,8 @@
 //! The blocks that a stream is to give.
 ghost use Rattle.std.specs.Prelude.{◌≡◌, ◌+◌, ◌≤◌, ◌^◌};
-ghost use Rattle.scan_rounds.specs.Skipping.{kept_source, skips_of};
+ghost use Rattle.scan_rounds.specs.BlockFilter.{unskipped_source, filter_of};
 
-use crate::skipping::{Kept, Skipping};
+use crate::skipping::{Skipping, UnskippedTest};
 use block_source::{BlockSource, Filtered, Range};
 use std::marker::Model;
 
@@ -17,37 +17,37 @@ pub(crate) struct Blocks<'m> {
 
 /// The blocks that are not left out. Those that are left to give are how contracts see it.
 #[derive(Drop)]
-pub(crate) struct KeptBlocks<'m> {
-    blocks: Filtered<Range, Kept<'m>>,
+pub(crate) struct UnskippedBlocks<'m> {
+    blocks: Filtered<Range, UnskippedTest<'m>>,
 }
 
-impl<'m> Model for KeptBlocks<'m> {
+impl<'m> Model for UnskippedBlocks<'m> {
     ghost use Rattle.std.specs.Prelude.{ℕ, List};
     ghost use Rattle.std.specs.List.{filter};
-    ghost use Rattle.scan_rounds.specs.Skipping.{is_kept, skips_of};
+    ghost use Rattle.scan_rounds.specs.BlockFilter.{is_unskipped, filter_of};
 
     ghost Value = { List (ℕ × Unit {0}) };
 
     ghost view = { λ k.
-        filter (λ b. is_kept (skips_of k.blocks.keep.skipping) b.0) k.blocks.inner };
+        filter (λ b. is_unskipped (filter_of k.blocks.keep.skipping) b.0) k.blocks.inner };
 }
 
-impl<'m> KeptBlocks<'m> {
-    pub(crate) fn of(blocks: Blocks<'m>) -> KeptBlocks<'m>
+impl<'m> UnskippedBlocks<'m> {
+    pub(crate) fn of(blocks: Blocks<'m>) -> UnskippedBlocks<'m>
         requires within { blocks.first + blocks.count ≤ 2 ^ 32 }
-        ensures { result ≡ kept_source (skips_of blocks.entry.skipping) blocks.entry.first
+        ensures { result ≡ unskipped_source (filter_of blocks.entry.skipping) blocks.entry.first
             blocks.entry.count }
     {
-        let kept = Kept {
+        let kept = UnskippedTest {
             skipping: blocks.skipping,
         };
-        KeptBlocks {
+        UnskippedBlocks {
             blocks: Filtered::new(Range::new(blocks.first, blocks.count), kept),
         }
     }
 }
 
-impl BlockSource<()> for KeptBlocks<'_> {
+impl BlockSource<()> for UnskippedBlocks<'_> {
     ghost left = { λ k. k };
 
     fn next(&mut self) -> Option<(u32, ())> {

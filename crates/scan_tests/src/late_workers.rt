@@ -3,12 +3,12 @@
 //! So are the parts of a round where no thread can be made: the backend's part runs first, and the
 //! worker's behind it.
 ghost use Rattle.std.specs.Prelude.{◌≡◌, ◌<◌, IfOk, IfSome, length};
-ghost use Rattle.aio_handle.specs.Closing.{IsAtRest};
-ghost use Rattle.aio_handle.specs.Shown.{AreNew, IsOf};
-ghost use Rattle.method_worker.specs.Shown.{IsSeatOf};
+ghost use Rattle.aio_handle.specs.Closing.{HasNoTokens};
+ghost use Rattle.aio_handle.specs.ContractViews.{AreNewActors, IsActorOf};
+ghost use Rattle.method_worker.specs.QueueViews.{IsSeatOf};
 
 use crate::helpers::files::pages_shelf;
-use crate::helpers::streams::{Noted, pages_of, two_seats};
+use crate::helpers::streams::{NotedBlock, pages_of, two_seats};
 use aio_callback::ReadIo;
 use aio_disk::{Disk, Shelf};
 use aio_handle::{Actor, Table};
@@ -24,7 +24,7 @@ use std::test::Fail;
 
 /// An actor with its seat of the queue and its disk.
 #[derive(Drop)]
-struct Side<W: World, D: Disk> {
+struct SeatedActor<W: World, D: Disk> {
     actor: Actor<ReadIo, W>,
     seat: QueueSeat,
     disk: D,
@@ -36,21 +36,21 @@ fn serve<W: World, D: Disk, T: Wait>(
     table: &Table<ReadIo, W>,
     pool: &Pool<W>,
     queue: &SubmitQueue<W>,
-    worker: Side<W, D>,
-) -> Side<W, D>
-    requires worker { IsOf table.now worker.actor × IsSeatOf queue.now worker.seat }
+    worker: SeatedActor<W, D>,
+) -> SeatedActor<W, D>
+    requires worker { IsActorOf table.now worker.actor × IsSeatOf queue.now worker.seat }
     requires told { (D.told worker.disk ≡ W.told) × (D.relations worker.disk ≡ W.relations) }
-    ensures worker { IsOf table.now result.actor × IsSeatOf queue.now result.seat }
+    ensures worker { IsActorOf table.now result.actor × IsSeatOf queue.now result.seat }
     ensures told { (D.told result.disk ≡ W.told) × (D.relations result.disk ≡ W.relations) }
 {
-    let Side {
+    let SeatedActor {
         mut actor,
         mut seat,
         disk,
     } = worker;
     let mut runner = Runner { disk, places: pool };
     work(rt, queue, &mut seat, table, &mut actor, &mut runner);
-    Side {
+    SeatedActor {
         actor,
         seat,
         disk: runner.disk,
@@ -64,22 +64,23 @@ fn list<W: World, D: Disk, T: Wait>(
     table: &Table<ReadIo, W>,
     pool: &Pool<W>,
     queue: &SubmitQueue<W>,
-    backend: Side<W, D>,
-    blocks: Vec<Noted>,
-) -> Result<(Vec<Noted>, Side<W, D>), AllocError>
-    requires backend { IsOf table.now backend.actor × IsSeatOf queue.now backend.seat }
+    backend: SeatedActor<W, D>,
+    blocks: Vec<NotedBlock>,
+) -> Result<(Vec<NotedBlock>, SeatedActor<W, D>), AllocError>
+    requires backend { IsActorOf table.now backend.actor × IsSeatOf queue.now backend.seat }
     requires number { backend.actor.known.number < table.now.config.backends }
-    requires rest { IsAtRest backend.actor.known }
+    requires rest { HasNoTokens backend.actor.known }
     requires told { (D.told backend.disk ≡ W.told) × (D.relations backend.disk ≡ W.relations) }
     requires some { 0 < W.relations }
-    ensures backend { IfOk result (λ r. IsOf table.now r.1.actor × IsSeatOf queue.now r.1.seat) }
+    ensures backend { IfOk result
+        (λ r. IsActorOf table.now r.1.actor × IsSeatOf queue.now r.1.seat) }
     ensures number { IfOk result
         (λ r. r.1.actor.known.number < table.now.config.backends) }
-    ensures rest { IfOk result (λ r. IsAtRest r.1.actor.known) }
+    ensures rest { IfOk result (λ r. HasNoTokens r.1.actor.known) }
     ensures told { IfOk result (λ r. (D.told r.1.disk ≡ W.told)
         × (D.relations r.1.disk ≡ W.relations)) }
 {
-    let Side {
+    let SeatedActor {
         mut actor,
         seat,
         disk,
@@ -98,7 +99,7 @@ fn list<W: World, D: Disk, T: Wait>(
     )?;
     let mut seat = method.seat;
     queue.close(rt, &mut seat);
-    let backend = Side {
+    let backend = SeatedActor {
         actor,
         seat,
         disk: runner.disk,
@@ -111,12 +112,12 @@ fn two_actors<W: World>(
     table: &Table<ReadIo, W>,
     mut actors: Vec<Actor<ReadIo, W>>,
 ) -> Option<(Actor<ReadIo, W>, Actor<ReadIo, W>)>
-    requires new { AreNew table.now 0 actors.items }
+    requires new { AreNewActors table.now 0 actors.items }
     requires two { length actors.items ≡ 2 }
     requires backends { table.now.config.backends ≡ 1 }
-    ensures backend { IfSome result (λ r. IsOf table.now r.0
-        × (r.0.known.number < table.now.config.backends) × IsAtRest r.0.known) }
-    ensures worker { IfSome result (λ r. IsOf table.now r.1) }
+    ensures backend { IfSome result (λ r. IsActorOf table.now r.0
+        × (r.0.known.number < table.now.config.backends) × HasNoTokens r.0.known) }
+    ensures worker { IfSome result (λ r. IsActorOf table.now r.1) }
 {
     let worker = aio_fixtures::last_actor(table, &mut actors)?;
     let backend = aio_fixtures::last_actor(table, &mut actors)?;
@@ -130,9 +131,9 @@ fn list_twice<W: World, D: Disk, T: Wait>(
     alloc: Global,
     own: D,
     other: D,
-    first: Vec<Noted>,
-    second: Vec<Noted>,
-) -> Result<((Vec<Noted>, Vec<Noted>), (D, D)), Fail>
+    first: Vec<NotedBlock>,
+    second: Vec<NotedBlock>,
+) -> Result<((Vec<NotedBlock>, Vec<NotedBlock>), (D, D)), Fail>
     requires own { (D.told own ≡ W.told) × (D.relations own ≡ W.relations) }
     requires other { (D.told other ≡ W.told) × (D.relations other ≡ W.relations) }
     requires handles { W.handles ≡ 16 }
@@ -147,12 +148,12 @@ fn list_twice<W: World, D: Disk, T: Wait>(
     let Some((seat, worker_seat)) = two_seats(&queue, seats) else {
         return Err(Fail::from("no seats"));
     };
-    let backend = Side {
+    let backend = SeatedActor {
         actor,
         seat,
         disk: own,
     };
-    let worker = Side {
+    let worker = SeatedActor {
         actor: worker,
         seat: worker_seat,
         disk: other,
@@ -166,7 +167,7 @@ fn list_twice<W: World, D: Disk, T: Wait>(
 }
 
 // Blocks of one run, each noted by its own number.
-fn blocks_of(alloc: Global, first: u32, after: u32) -> Result<Vec<Noted>, AllocError> {
+fn blocks_of(alloc: Global, first: u32, after: u32) -> Result<Vec<NotedBlock>, AllocError> {
     let mut blocks = Vec::new(alloc);
     for block in first..after {
         blocks.push((block, block))?;
@@ -180,9 +181,9 @@ fn list_over<S: Shelf, T: Wait>(
     alloc: Global,
     shelf: &mut S,
     names: &[String],
-    first: Vec<Noted>,
-    second: Vec<Noted>,
-) -> Result<(Vec<Noted>, Vec<Noted>), Fail>
+    first: Vec<NotedBlock>,
+    second: Vec<NotedBlock>,
+) -> Result<(Vec<NotedBlock>, Vec<NotedBlock>), Fail>
     requires { 0 < length names.now }
 {
     let own = shelf.open(names).ok().ok_or("no disk")?;

@@ -2,7 +2,7 @@
 use crate::helpers::checks::{check_jobs, rounds_of, scan_pages};
 use crate::helpers::files::{lines, pages_shelf};
 use crate::helpers::opening::{USUAL, one_handle};
-use crate::helpers::rounds::{Blocks, Outcome, Shown, scan_at, scan_over};
+use crate::helpers::rounds::{Blocks, JobResult, ScanResult, scan_at, scan_over};
 use heap_scan::PageSums;
 use page_fixtures::files::{STEADY, one_file, shelf_of};
 use page_fixtures::pages::{EMPTY, Parts, ZEROS, bytes_of};
@@ -34,7 +34,7 @@ fn two_jobs_by_each_method(rt: HostRuntime) -> Result<(), Fail> {
 }
 
 // All texts, one behind the other.
-fn joined(alloc: Global, jobs: &[Shown]) -> Result<Vec<u8>, Fail> {
+fn joined(alloc: Global, jobs: &[JobResult]) -> Result<Vec<u8>, Fail> {
     let mut text = Vec::new(alloc);
     for job in jobs {
         text.extend_from_slice(job.text.as_slice())?;
@@ -67,7 +67,7 @@ fn check_listing<R: Abort + AllocGlobal + Threads + Wait + Sync>(
     name: &str,
     settings: &ScanSettings,
     blocks: u32,
-) -> Result<Outcome, Fail> {
+) -> Result<ScanResult, Fail> {
     let rounds = rounds_of_each(rt.alloc(), blocks, settings.backends as usize)?;
     let mut shelf = pages_shelf(rt.alloc(), blocks, None, &[])?;
     let outcome = scan_over(rt, settings, &mut shelf, rounds.as_slice())?;
@@ -171,7 +171,7 @@ fn the_same_text_under_each_setting(rt: HostRuntime) -> Result<(), Fail> {
 }
 
 // Compares the sums of the jobs.
-fn check_tallies<R: Abort>(rt: &R, jobs: &[Shown], wanted: &[PageSums]) {
+fn check_tallies<R: Abort>(rt: &R, jobs: &[JobResult], wanted: &[PageSums]) {
     assert_eq!(rt; jobs.len(), wanted.len());
     for (job, sums) in jobs.iter().zip(wanted) {
         assert_eq!(rt; job.tally, *sums);

@@ -1,8 +1,8 @@
 //! Rounds by a visibility map.
 use crate::helpers::files::lines;
-use crate::helpers::map_rounds::{Asked, MapOutcome, scan_by_map};
+use crate::helpers::map_rounds::{MapScanRequest, MapScanResult, scan_by_map};
 use crate::helpers::opening::{METHODS, USUAL};
-use crate::helpers::rounds::Shown;
+use crate::helpers::rounds::JobResult;
 use aio_disk::MemShelf;
 use page_fixtures::files::{Faults, STEADY, blocks_read, one_file, shelf_of};
 use page_fixtures::pages::{CONTENTS, EMPTY, Parts, bytes_of, numbered_pages, page_of, put_bytes};
@@ -15,7 +15,7 @@ use std::thread::Threads;
 use vis_map::Skip;
 
 /// All blocks of the file, by a map of one page.
-const ALL: Asked = Asked {
+const ALL: MapScanRequest = MapScanRequest {
     pages: 1,
     blocks: (0, 8),
 };
@@ -84,7 +84,7 @@ fn lines_of(alloc: Global, blocks: &[u32]) -> Result<Vec<u8>, Fail> {
 fn check_rounds<R: Abort + AllocGlobal>(
     rt: &R,
     name: &str,
-    jobs: &[Shown],
+    jobs: &[JobResult],
     wanted: &[(&[u32], Ending)],
 ) -> Result<(), Fail> {
     assert_eq!(rt; jobs.len(), wanted.len(), "{name}");
@@ -102,7 +102,7 @@ fn scan_marked<R: Abort + AllocGlobal + Threads + Wait + Sync>(
     (name, method): (&str, MethodKind),
     shelf: &mut MemShelf,
     rounds: &[Option<Skip>],
-) -> Result<MapOutcome, Fail> {
+) -> Result<MapScanResult, Fail> {
     let settings = ScanSettings {
         method,
         full: true,
@@ -217,7 +217,7 @@ fn a_map_that_is_not_read_marks_nothing(rt: HostRuntime) -> Result<(), Fail> {
 // It holds the page before its end.
 #[test]
 fn a_map_ends_before_the_pages_that_it_was_opened_for(rt: HostRuntime) -> Result<(), Fail> {
-    let asked = Asked { pages: 2, ..ALL };
+    let asked = MapScanRequest { pages: 2, ..ALL };
     for (name, method) in METHODS {
         let settings = ScanSettings { method, ..USUAL };
         let mut shelf = shelf_with(rt.alloc(), bytes_of(rt.alloc(), &[MARKS])?, &[])?;
@@ -242,7 +242,7 @@ fn check_bits<R: Abort + AllocGlobal + Threads + Wait + Sync>(
     (last, first): (u8, u8),
     ending: Ending,
 ) -> Result<(), Fail> {
-    let asked = Asked {
+    let asked = MapScanRequest {
         pages: 2,
         blocks: (32671, 2),
     };

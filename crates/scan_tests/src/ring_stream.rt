@@ -1,12 +1,12 @@
 //! A stream over a list whose reads are made by a ring.
 ghost use Rattle.std.specs.Prelude.{◌≡◌, ◌<◌, IfSome, length};
 ghost use Rattle.std.specs.List.{All};
-ghost use Rattle.aio_handle.specs.Closing.{IsAtRest};
-ghost use Rattle.aio_handle.specs.Shown.{AreNew, IsOf};
-ghost use Rattle.method_worker.specs.Shown.{IsSeatOf};
+ghost use Rattle.aio_handle.specs.Closing.{HasNoTokens};
+ghost use Rattle.aio_handle.specs.ContractViews.{AreNewActors, IsActorOf};
+ghost use Rattle.method_worker.specs.QueueViews.{IsSeatOf};
 
 use crate::helpers::files::{first_blocks_read, pages_shelf};
-use crate::helpers::streams::{Noted, pages_of, two_seats};
+use crate::helpers::streams::{NotedBlock, pages_of, two_seats};
 use aio_callback::ReadIo;
 use aio_disk::{Disk, MemDisk};
 use aio_handle::{Actor, Table};
@@ -25,11 +25,11 @@ fn only_backend<W: World>(
     table: &Table<ReadIo, W>,
     mut actors: Vec<Actor<ReadIo, W>>,
 ) -> Option<Actor<ReadIo, W>>
-    requires new { AreNew table.now 0 actors.items }
+    requires new { AreNewActors table.now 0 actors.items }
     requires one { length actors.items ≡ 1 }
     requires backends { table.now.config.backends ≡ 1 }
-    ensures { IfSome result (λ a. IsOf table.now a
-        × (a.known.number < table.now.config.backends) × IsAtRest a.known) }
+    ensures { IfSome result (λ a. IsActorOf table.now a
+        × (a.known.number < table.now.config.backends) × HasNoTokens a.known) }
 {
     let backend = aio_fixtures::last_actor(table, &mut actors)?;
     Some(backend)
@@ -40,8 +40,8 @@ fn pages_by_ring<W: World, D: Disk, T: Wait>(
     rt: &T,
     alloc: Global,
     disk: D,
-    list: Vec<Noted>,
-) -> Result<(Vec<Noted>, D), Fail>
+    list: Vec<NotedBlock>,
+) -> Result<(Vec<NotedBlock>, D), Fail>
     requires told { (D.told disk ≡ W.told) × (D.relations disk ≡ W.relations) }
     requires handles { W.handles ≡ 16 }
     requires some { 0 < W.relations }
@@ -82,8 +82,8 @@ fn pages_by_ring<W: World, D: Disk, T: Wait>(
 // The pages of a list of a file of 5 blocks, and the blocks that were read.
 fn pages_and_reads<R: Abort + AllocGlobal + Wait>(
     rt: &R,
-    list: Vec<Noted>,
-) -> Result<(Vec<Noted>, Vec<u32>), Fail> {
+    list: Vec<NotedBlock>,
+) -> Result<(Vec<NotedBlock>, Vec<u32>), Fail> {
     let mut shelf = pages_shelf(rt.alloc(), 5, None, &[])?;
     let mut names = Vec::new(rt.alloc());
     names.push(String::from_str(rt.alloc(), "f")?)?;

@@ -2,7 +2,7 @@
 use crate::helpers::checks::{check_jobs, rounds_of};
 use crate::helpers::files::{first_blocks_read, pages_shelf};
 use crate::helpers::opening::USUAL;
-use crate::helpers::rounds::{Blocks, Outcome, scan_over};
+use crate::helpers::rounds::{Blocks, ScanResult, scan_over};
 use scan_rounds::{Ending, MethodKind, ScanSettings};
 use std::alloc::Global;
 use std::process::Abort;
@@ -17,7 +17,7 @@ fn list_rounds<R: Abort + AllocGlobal + Threads + Wait + Sync>(
     settings: &ScanSettings,
     rounds: &[&[Blocks]],
     from: u32,
-) -> Result<(Outcome, Vec<u32>), Fail> {
+) -> Result<(ScanResult, Vec<u32>), Fail> {
     let rounds = rounds_of(rt.alloc(), rounds)?;
     let mut shelf = pages_shelf(rt.alloc(), 100, None, &[])?;
     let outcome = scan_over(rt, settings, &mut shelf, rounds.as_slice())?;

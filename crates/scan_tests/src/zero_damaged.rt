@@ -2,7 +2,7 @@
 use crate::helpers::checks::{check_jobs, scan_pages};
 use crate::helpers::files::lines;
 use crate::helpers::opening::{METHODS, USUAL};
-use crate::helpers::rounds::{Blocks, Shown};
+use crate::helpers::rounds::{Blocks, JobResult};
 use scan_rounds::{Ending, MethodKind, ScanSettings};
 use std::alloc::Global;
 use std::process::Abort;
@@ -19,7 +19,7 @@ fn zeroed_lines(alloc: Global) -> Result<Vec<u8>, Fail> {
 }
 
 // Compares what became of a job of the blocks 10 to 13, of which 12 is bad.
-fn check_zeroed<R: Abort + AllocGlobal>(rt: &R, name: &str, job: &Shown) -> Result<(), Fail> {
+fn check_zeroed<R: Abort + AllocGlobal>(rt: &R, name: &str, job: &JobResult) -> Result<(), Fail> {
     let wanted = zeroed_lines(rt.alloc())?;
     assert_eq!(rt; job.text.as_slice(), wanted.as_slice(), "{name}");
     assert_eq!(rt;
@@ -35,7 +35,7 @@ fn check_zeroed<R: Abort + AllocGlobal>(rt: &R, name: &str, job: &Shown) -> Resu
 fn scan_twice<R: Abort + AllocGlobal + Threads + Wait + Sync>(
     rt: &R,
     settings: &ScanSettings,
-) -> Result<Vec<Shown>, Fail> {
+) -> Result<Vec<JobResult>, Fail> {
     let rounds: &[&[Blocks]] = &[&[(10, 4)], &[(10, 4)]];
     let outcome = scan_pages(rt, settings, (14, Some(12)), &[], rounds)?;
     assert_eq!(rt; outcome.jobs.len(), 2);

@@ -1,2 +1,2 @@
-pub mod Keeping
-pub mod Needing
+pub mod UnmarkedLists
+pub mod NeededPages

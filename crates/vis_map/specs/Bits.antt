@@ -15,24 +15,24 @@ abbrev pub blocks_per_page : ℕ
 blocks_per_page = 32672
 
 -- the bits of a block on its page: the byte at `HEAPBLK_TO_MAPBYTE`, from `HEAPBLK_TO_OFFSET` on
-unfoldable pub bits_on : List ℕ → ℕ → ℕ
-bits_on page block =
+unfoldable pub page_bits : List ℕ → ℕ → ℕ
+page_bits page block =
     slice_index page (24 + block % blocks_per_page / 4) / 4 ^ (block % 4) % 4
 
-abbrev pub bits_at : Option (List ℕ) → ℕ → ℕ
-bits_at None block = 0
-bits_at (Some page) block = bits_on page block
+abbrev pub bits_or_zero : Option (List ℕ) → ℕ → ℕ
+bits_or_zero None block = 0
+bits_or_zero (Some page) block = page_bits page block
 
 -- the bits of a block in these pages; 0 where its page (`HEAPBLK_TO_MAPBLOCK`) is not among them
-abbrev pub bits_of : List (List ℕ) → ℕ → ℕ
-bits_of pages block = bits_at (slice_get pages (block / blocks_per_page)) block
+abbrev pub block_bits : List (List ℕ) → ℕ → ℕ
+block_bits pages block = bits_or_zero (slice_get pages (block / blocks_per_page)) block
 
 -- whether a block with these bits is left out: `VISIBILITYMAP_ALL_VISIBLE` is 1, and
 -- `VISIBILITYMAP_ALL_FROZEN` is 2
-abbrev pub is_skipped : Skip → ℕ → Bool
-is_skipped Visible bits = bits % 2 == 1
-is_skipped Frozen bits = nat_le 2 bits
+abbrev pub bits_match : Skip → ℕ → Bool
+bits_match Visible bits = bits % 2 == 1
+bits_match Frozen bits = nat_le 2 bits
 
 -- whether a block is left out, by the pages of the map
-abbrev pub skips : List (List ℕ) → Skip → ℕ → Bool
-skips pages skip block = is_skipped skip (bits_of pages block)
+abbrev pub is_marked : List (List ℕ) → Skip → ℕ → Bool
+is_marked pages skip block = bits_match skip (block_bits pages block)

@@ -4,7 +4,7 @@ use Rattle.std.specs.Prelude.{Option, Some, None, fold}
 use Rattle.std.specs.List.{range_with_len}
 use Rattle.page_check.specs.SynchronousAnswer.{Entry}
 use Rattle.vis_map.specs.declared.map.Skip.{Skip}
-use Rattle.vis_map.specs.Bits.{blocks_per_page, skips}
+use Rattle.vis_map.specs.Bits.{blocks_per_page, is_marked}
 
 -- the greatest block of a list, where there is one
 abbrev pub greatest_of : List ℕ → Option ℕ
@@ -17,12 +17,12 @@ needed_pages pages None = 0
 needed_pages pages (Some greatest) = min pages (greatest / blocks_per_page + 1)
 
 -- a plain list without the blocks that the map marks
-abbrev pub kept : List (List ℕ) → Skip → List ℕ → List ℕ
-kept pages skip blocks = filter (λ block. not (skips pages skip block)) blocks
+abbrev pub unmarked_blocks : List (List ℕ) → Skip → List ℕ → List ℕ
+unmarked_blocks pages skip blocks = filter (λ block. not (is_marked pages skip block)) blocks
 
 module _ {P : Type 0} where
-  abbrev pub kept_entries : List (List ℕ) → Skip → List (Entry P) → List (Entry P)
-  kept_entries pages skip entries = filter (λ e. not (skips pages skip e.block)) entries
+  abbrev pub unmarked_entries : List (List ℕ) → Skip → List (Entry P) → List (Entry P)
+  unmarked_entries pages skip entries = filter (λ e. not (is_marked pages skip e.block)) entries
 
   -- The pages of the map, which is relation 1 of `length` pages and gives these, and then the
   -- entries of the plain list that the map does not mark, in their order.
@@ -31,4 +31,4 @@ module _ {P : Type 0} where
       let k = needed_pages length (greatest_of (map (λ e. e.block) entries)) in
       map (λ block. record { relation = 1; block = block; per_buffer_data = value })
       (range_with_len 0 k)
-      ++ kept_entries (map given (range_with_len 0 k)) skip entries
+      ++ unmarked_entries (map given (range_with_len 0 k)) skip entries

@@ -4,23 +4,24 @@ ghost use Rattle.std.specs.Prelude.{◌≡◌, ℕ, List, [], map};
 ghost use Rattle.std.specs.List.{concat};
 ghost use Rattle.page_check.specs.SynchronousAnswer.{Entry};
 ghost use Rattle.vis_map.specs.declared.map.Skip.{Skip};
-ghost use Rattle.vis_map.specs.MapRequest.{kept, kept_entries};
+ghost use Rattle.vis_map.specs.MapRequest.{unmarked_blocks, unmarked_entries};
 
 /// The kept blocks of a list that is cut into parts are those of its parts, one after the other: so
 /// jobs may be filtered each by itself.
 pub fn kept_part_by_part()
     ensures { (pages : List (List ℕ)) (skip : Skip) (parts : List (List ℕ))
-        → kept pages skip (concat parts) ≡ concat (map (kept pages skip) parts) }
+        → unmarked_blocks pages skip (concat parts)
+        ≡ concat (map (unmarked_blocks pages skip) parts) }
 {}
 
 /// A map without pages marks no block.
 pub fn nothing_is_skipped_without_pages()
-    ensures { (skip : Skip) (blocks : List ℕ) → kept [] skip blocks ≡ blocks }
+    ensures { (skip : Skip) (blocks : List ℕ) → unmarked_blocks [] skip blocks ≡ blocks }
 {}
 
 /// The entries that are kept of a request list are those of the blocks that are kept.
 pub fn kept_entries_have_the_kept_blocks<P: Copy>()
     ensures { (pages : List (List ℕ)) (skip : Skip) (entries : List (Entry P))
-        → map (λ e. e.block) (kept_entries pages skip entries)
-        ≡ kept pages skip (map (λ e. e.block) entries) }
+        → map (λ e. e.block) (unmarked_entries pages skip entries)
+        ≡ unmarked_blocks pages skip (map (λ e. e.block) entries) }
 {}

@@ -1,7 +1,7 @@
 //! A map in memory.
 ghost use Rattle.std.specs.Prelude.{◌≡◌, ◌++◌, ◌∷◌, [], ◌+◌, ◌≤◌, ◌<◌, length, IfOk};
 ghost use Rattle.page_check.specs.Verdict.{IsValid};
-ghost use Rattle.vis_map.specs.Bits.{bits_of, bits_on, skips};
+ghost use Rattle.vis_map.specs.Bits.{block_bits, page_bits, is_marked};
 
 use page_check::Page;
 use std::alloc::{AllocError, Global};
@@ -46,7 +46,7 @@ impl Model for VisMap {
 
 // The bits of a block on its page.
 fn bits_on_page(page: &Page, block: u32) -> u8
-    ensures value { result ≡ bits_on page.now block }
+    ensures value { result ≡ page_bits page.now block }
     ensures range { result < 4 }
 {
     let place = BITS_START + (block % BLOCKS_PER_PAGE) as usize / 4;
@@ -92,7 +92,7 @@ impl VisMap {
 
     /// The two bits of a block: 1 where all its tuples are visible, and 2 where all are frozen.
     pub fn bits(&self, block: u32) -> u8
-        ensures value { result ≡ bits_of self.now.added block }
+        ensures value { result ≡ block_bits self.now.added block }
         ensures range { result < 4 }
     {
         let place = (block / BLOCKS_PER_PAGE) as usize;
@@ -105,7 +105,7 @@ impl VisMap {
 
     /// Whether a block is left out.
     pub fn skips(&self, block: u32, skip: Skip) -> bool
-        ensures { result ≡ skips self.now.added skip block }
+        ensures { result ≡ is_marked self.now.added skip block }
     {
         let bits = self.bits(block);
         match skip {

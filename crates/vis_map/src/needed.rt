@@ -1,6 +1,6 @@
 //! How much of a map has to be read.
 ghost use Rattle.std.specs.Prelude.{◌≡◌, ℕ, List, ◌^◌, ◌<◌, ◌≤◌, length, take, IfSome, IsSome};
-ghost use Rattle.vis_map.specs.Bits.{bits_of};
+ghost use Rattle.vis_map.specs.Bits.{block_bits};
 ghost use Rattle.vis_map.specs.MapRequest.{needed_pages};
 
 use crate::map::BLOCKS_PER_PAGE;
@@ -14,7 +14,7 @@ pub fn needed_pages(pages: u32, greatest: Option<u32>) -> u32
     // No page more changes the bits of a block up to the greatest.
     ensures enough { (map : List (List ℕ)) (block : ℕ) → length map ≡ pages
         → IfSome greatest (λ last. block ≤ last) → IsSome greatest
-        → bits_of (take result map) block ≡ bits_of map block }
+        → block_bits (take result map) block ≡ block_bits map block }
 {
     match greatest {
         Some(block) => pages.min(block / BLOCKS_PER_PAGE + 1),

@@ -3,8 +3,8 @@ ghost use Rattle.std.specs.Prelude.{◌≡◌, ◌≢◌, ◌≤◌, ◌<◌, �
 ghost use Rattle.std.specs.Prelude.{nat_lt, option_map, if◌then◌else◌, Option, Some, None, IfSome};
 ghost use Rattle.page_check.specs.Told.{Told};
 ghost use Rattle.aio_word.specs.declared.Class.TheVariants.{Unended};
-ghost use Rattle.aio_callback.specs.Counting.{counted_of};
-ghost use Rattle.aio_callback.specs.Chain.{good_of};
+ghost use Rattle.aio_callback.specs.Counting.{counts_after};
+ghost use Rattle.aio_callback.specs.Chain.{good_count};
 
 use super::{ReadIo, fill_room};
 use crate::chain::{first_result, run_chain};
@@ -15,17 +15,19 @@ use page_check::{Page, World};
 use std::sync::Wait;
 
 impl ReadIo {
-    ghost use Rattle.aio_callback.specs.Reading.{page_in, zeroed_in, aim_in, Answered, Fits};
-    ghost use Rattle.aio_callback.specs.Reading.{AllGood, IsSharedOf, settled_of, Completed};
-    ghost use Rattle.aio_callback.specs.Finished.{Grew, finishes};
+    ghost use Rattle.aio_callback.specs.ReadIoView.{record_page, record_zeroed, record_aim};
+    ghost use Rattle.aio_callback.specs.ReadIoView.{HasAnswer, ReadFits};
+    ghost use Rattle.aio_callback.specs.ReadIoView.{AllGood, IsAfterShared, after_local};
+    ghost use Rattle.aio_callback.specs.ReadIoView.{IsCompletedRead};
+    ghost use Rattle.aio_callback.specs.Finishes.{FinishesGrew, all_finishes};
 
     // The page of a block, where it is good and was not zeroed.
     fn page_if(&self, index: u32, good: u32) -> Option<&Page>
         requires ended { self.now.label.ended ≢ Unended }
         requires room { good ≤ length self.now.pages }
         ensures { option_map (λ p. p.now) result
-            ≡ (if nat_lt index good && not (zeroed_in self.now index)
-            then Some (page_in self.now index) else None) }
+            ≡ (if nat_lt index good && not (record_zeroed self.now index)
+            then Some (record_page self.now index) else None) }
     {
         if index < good && !self.zeroed[index as usize] {
             Some(&self.pages[index as usize])
@@ -37,7 +39,7 @@ impl ReadIo {
     // Runs the callbacks, from the last to the first.
     fn run_shared(&mut self)
         requires answered { self.old.raw ≢ None }
-        ensures value { IfSome self.old.raw (IsSharedOf self.new self.old) }
+        ensures value { IfSome self.old.raw (IsAfterShared self.new self.old) }
         ensures room { (self.old.count ≤ length self.old.pages)
             × (self.new.count ≤ length self.new.pages) }
         ensures some { self.old.aimed ≡ true → 0 < self.old.count }
@@ -62,9 +64,10 @@ impl ReadIo {
     // Hands each block over, with its page where it is good and was not zeroed.
     fn finish_all<W: World, P: Places<W>, T: Wait>(&self, rt: &T, places: &mut P)
         requires ended { self.now.label.ended ≢ Unended }
-        requires few { good_of self.now.ids self.now.result ≤ length self.now.pages }
-        requires good { AllGood W.told self.now (good_of self.now.ids self.now.result) }
-        ensures { Grew (P.finished places.old) (P.finished places.new) (finishes self.now) }
+        requires few { good_count self.now.ids self.now.result ≤ length self.now.pages }
+        requires good { AllGood W.told self.now (good_count self.now.ids self.now.result) }
+        ensures { FinishesGrew (P.finished places.old) (P.finished places.new)
+            (all_finishes self.now) }
     {
         let good = self.good();
         let reference = WaitRef {
@@ -83,18 +86,18 @@ impl ReadIo {
     /// An answer stands and says what the disk said of the pages, where that is told, and the
     /// record has not ended. Afterwards it has ended and is not settled.
     pub fn complete_shared<W: World, P: Places<W>, T: Wait>(&mut self, rt: &T, places: &mut P)
-        requires answered { Answered W.told self.old }
+        requires answered { HasAnswer W.told self.old }
         requires unended { self.old.label.ended ≡ Unended }
-        ensures value { IfSome self.old.raw (IsSharedOf self.new self.old) }
-        ensures completed { Completed W.told self.new }
+        ensures value { IfSome self.old.raw (IsAfterShared self.new self.old) }
+        ensures completed { IsCompletedRead W.told self.new }
         ensures fits { (relations : ℕ) → self.old.aimed ≡ true → self.old.relation < relations
-            → Fits W.told relations self.new }
+            → ReadFits W.told relations self.new }
         ensures label { (self.new.label.ended ≢ Unended)
             × (self.new.label
             ≡ record self.old.label { ended = self.new.label.ended; settled = false }) }
-        ensures aim { aim_in self.new ≡ aim_in self.old }
-        ensures finished { Grew (P.finished places.old) (P.finished places.new)
-            (finishes self.new) }
+        ensures aim { record_aim self.new ≡ record_aim self.old }
+        ensures finished { FinishesGrew (P.finished places.old) (P.finished places.new)
+            (all_finishes self.new) }
     {
         self.run_shared();
         self.finish_all::<W, P, T>(rt, places);
@@ -107,10 +110,10 @@ impl ReadIo {
     pub fn complete_local(&mut self, counts: &mut Counts)
         requires ended { self.old.label.ended ≢ Unended }
         requires unsettled { self.old.label.settled ≡ false }
-        ensures value { self.new ≡ settled_of self.old }
-        ensures fits { (told : Option Told) (relations : ℕ) → Fits told relations self.old
-            → Fits told relations self.new }
-        ensures counts { counts.new ≡ counted_of self.old.ids self.old.result counts.old }
+        ensures value { self.new ≡ after_local self.old }
+        ensures fits { (told : Option Told) (relations : ℕ) → ReadFits told relations self.old
+            → ReadFits told relations self.new }
+        ensures counts { counts.new ≡ counts_after self.old.ids self.old.result counts.old }
     {
         run_local(&self.ids[..self.id_count], self.result, counts);
         self.label.settled = true;

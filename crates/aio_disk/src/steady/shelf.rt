@@ -1,7 +1,7 @@
 //! Shelves in memory whose disks do not fail.
 ghost use Rattle.std.specs.Prelude.{◌≡◌, ◌≤◌, map, Some, IfOk, OnOk, IsErrOf, string_bytes};
 ghost use Rattle.aio_disk.specs.declared.fault.OpenFault.TheVariants.{Device, Memory};
-ghost use Rattle.aio_disk.specs.Shelf.{AllThere, OneMissing, are_there, file_of, files_in};
+ghost use Rattle.aio_disk.specs.Shelf.{AllThere, OneMissing, are_there, named_file, files_in};
 ghost use Rattle.aio_disk.specs.Steady.{fresh_shelf, next_disk, with_disk, with_open_fault};
 ghost use Rattle.aio_disk.specs.Steady.{with_disk_back};
 
@@ -53,7 +53,7 @@ impl SteadyShelf {
         requires least { 1 ≤ segment }
         requires most { segment ≤ 131072 }
         ensures { IfOk result (λ shelf.
-            shelf ≡ fresh_shelf (files_in segment (map file_of files.items)) log_room) }
+            shelf ≡ fresh_shelf (files_in segment (map named_file files.items)) log_room) }
     {
         Ok(SteadyShelf {
             alloc,
@@ -141,7 +141,7 @@ impl Shelf for SteadyShelf {
       reads = shelf.reads;
     } };
 
-    #[tactic(auto, using(crate::proofs::Names::none_missing))]
+    #[tactic(auto, using(crate::proofs::FileNames::none_missing))]
     fn open(&mut self, names: &[String]) -> Result<SteadyDisk, OpenFault> {
         SteadyShelf::open(self, names)
     }

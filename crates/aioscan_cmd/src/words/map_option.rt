@@ -2,7 +2,7 @@
 ghost use Rattle.std.specs.Prelude.{◌≡◌, codes};
 ghost use Rattle.std.specs.Option.{option_map};
 ghost use Rattle.clap.specs.Words.{rows_of, found_of, first_of};
-ghost use Rattle.aioscan_cmd.specs.Words.{is_map_of, map_in, map_of, map_seen, skip_of};
+ghost use Rattle.aioscan_cmd.specs.Words.{is_map_of, parsed_map, map_of, map_option_view, skip_of};
 
 use super::values::{text_of, texts_of};
 use clap::ArgMatches;
@@ -34,7 +34,7 @@ fn is_map_name(file: &str, name: &str) -> bool
 
 // The map of a file.
 fn map_named<'a>(file: &str, name: &'a str, skip: Option<Skip>) -> Option<Option<MapOption<'a>>>
-    ensures { option_map (option_map map_seen) result ≡ map_of file.now name.now skip }
+    ensures { option_map (option_map map_option_view) result ≡ map_of file.now name.now skip }
 {
     let skip = skip?;
     if is_map_name(file, name) {
@@ -46,7 +46,8 @@ fn map_named<'a>(file: &str, name: &'a str, skip: Option<Skip>) -> Option<Option
 
 /// The map, where it is given as it should be: for one file, which has another name.
 pub(crate) fn map_given<'a>(matches: &ArgMatches<'a>) -> Option<Option<MapOption<'a>>>
-    ensures { option_map (option_map map_seen) result ≡ map_in (rows_of (found_of matches.now)) }
+    ensures { option_map (option_map map_option_view) result
+        ≡ parsed_map (rows_of (found_of matches.now)) }
 {
     let Some(name) = text_of(matches, "map") else {
         return match text_of(matches, "skip") {

@@ -8,8 +8,9 @@ ghost use Rattle.clap.specs.Words.{rows_of, found_of, first_of, all_of};
 ghost use Rattle.aioscan_cmd.specs.Words.{is_count as count_test, is_number};
 ghost use Rattle.aioscan_cmd.specs.Words.{number_within as number_read, number_or};
 ghost use Rattle.aioscan_cmd.specs.Words.{number_if_given, method_of, is_set, is_name};
-ghost use Rattle.aioscan_cmd.specs.Words.{files_of, files_in, NamesFiles, settings_in};
-ghost use Rattle.scan_rounds.specs.Opening.{AreSettings};
+ghost use Rattle.aioscan_cmd.specs.Words.{valid_file_names, file_words, NamesFiles};
+ghost use Rattle.aioscan_cmd.specs.Words.{parsed_settings};
+ghost use Rattle.scan_rounds.specs.OpenedScan.{AreSettings};
 
 use clap::ArgMatches;
 use scan_rounds::{MethodKind, ScanSettings};
@@ -118,7 +119,7 @@ pub(crate) fn flag(matches: &ArgMatches<'_>, name: &str) -> bool
 
 /// How the files are read.
 pub(crate) fn settings(matches: &ArgMatches<'_>) -> Option<ScanSettings>
-    ensures settings { result ≡ settings_in (rows_of (found_of matches.now)) }
+    ensures settings { result ≡ parsed_settings (rows_of (found_of matches.now)) }
     ensures within { IfSome result AreSettings }
 {
     Some(ScanSettings {
@@ -162,7 +163,8 @@ pub(crate) fn texts_of<'m, 'a>(matches: &'m ArgMatches<'a>, name: &str) -> Optio
 /// The FILE words, in their order.
 pub(crate) fn files<'m, 'a>(matches: &'m ArgMatches<'a>) -> &'m [&'a str]
     requires { NamesFiles (rows_of (found_of matches.now)) }
-    ensures files { map (λ file. file.now) result.now ≡ files_in (rows_of (found_of matches.now)) }
+    ensures files { map (λ file. file.now) result.now
+        ≡ file_words (rows_of (found_of matches.now)) }
     ensures few { length result.now ≤ 1024 }
 {
     let Some(words) = texts_of(matches, "FILE") else {
@@ -173,8 +175,8 @@ pub(crate) fn files<'m, 'a>(matches: &'m ArgMatches<'a>) -> &'m [&'a str]
 
 /// Whether there are 1 to 1024 FILE words, none of them empty.
 pub(crate) fn names_files(matches: &ArgMatches<'_>) -> bool
-    ensures { files_of (all_of (codes "FILE") (rows_of (found_of matches.now)))
-        ≡ (if result then Some (files_in (rows_of (found_of matches.now))) else None) }
+    ensures { valid_file_names (all_of (codes "FILE") (rows_of (found_of matches.now)))
+        ≡ (if result then Some (file_words (rows_of (found_of matches.now))) else None) }
 {
     let Some(words) = texts_of(matches, "FILE") else {
         return false;

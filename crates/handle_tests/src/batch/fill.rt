@@ -1,7 +1,7 @@
 //! A batch that is filled, overfilled and submitted.
 ghost use Rattle.std.specs.Prelude.{◌≡◌};
-ghost use Rattle.aio_handle.specs.Shown.{IsOf};
-ghost use Rattle.aio_batch.specs.Held.{Held};
+ghost use Rattle.aio_handle.specs.ContractViews.{IsActorOf};
+ghost use Rattle.aio_batch.specs.StagedTokens.{AreStagedTokens};
 
 use crate::batch::listeners::{Listener, Sleeper};
 use crate::batch::push::{Pushed, push_all};
@@ -24,8 +24,8 @@ fn submit_all<W: World, T: Wait>(
     method: &mut Listener,
     count: u32,
 ) -> Result<Vec<Option<WaitRef>>, AllocError>
-    requires table { IsOf table.now actor.old }
-    requires tokens { Held actor.old.known batch.old }
+    requires table { IsActorOf table.now actor.old }
+    requires tokens { AreStagedTokens actor.old.known batch.old }
 {
     let mut runner = Sleeper { of: PhantomData };
     let mut all = Vec::new(alloc);

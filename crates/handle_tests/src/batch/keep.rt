@@ -1,8 +1,8 @@
 //! A caller that keeps what it submitted.
 ghost use Rattle.std.specs.Prelude.{◌≡◌, IfSome};
 ghost use Rattle.aio_word.specs.Tokens.{IsInFlight};
-ghost use Rattle.aio_handle.specs.Shown.{IsOf};
-ghost use Rattle.aio_batch.specs.Held.{Held};
+ghost use Rattle.aio_handle.specs.ContractViews.{IsActorOf};
+ghost use Rattle.aio_batch.specs.StagedTokens.{AreStagedTokens};
 
 use crate::batch::listeners::{Listener, Sleeper};
 use crate::batch::push::push_all;
@@ -22,9 +22,9 @@ fn submit_two<W: World, T: Wait>(
     batch: &mut Batch<EmptyIo, W>,
     method: &mut Listener,
 ) -> Option<(InFlight<W>, InFlight<W>)>
-    requires table { IsOf table.now actor.old }
-    requires tokens { Held actor.old.known batch.old }
-    ensures table { IsOf table.now actor.new }
+    requires table { IsActorOf table.now actor.old }
+    requires tokens { AreStagedTokens actor.old.known batch.old }
+    ensures table { IsActorOf table.now actor.new }
     ensures first { IfSome result (λ t. IsInFlight actor.new.known t.0) }
     ensures second { IfSome result (λ t. IsInFlight actor.new.known t.1) }
 {
@@ -42,11 +42,11 @@ fn are_pending<W: World>(
     first: InFlight<W>,
     second: InFlight<W>,
 ) -> bool
-    requires table { IsOf table.now actor.old }
+    requires table { IsActorOf table.now actor.old }
     requires first { IsInFlight actor.old.known first }
     requires second { IsInFlight actor.old.known second }
 {
-    table_laws::looking_keeps_tokens();
+    table_laws::look_keeps_tokens();
     let Take::NotYet(_) = table.try_take(actor, first) else {
         return false;
     };

@@ -1,7 +1,7 @@
 //! I/Os that are staged and pushed.
 ghost use Rattle.std.specs.Prelude.{◌<◌};
-ghost use Rattle.aio_handle.specs.Shown.{IsOf, IsSame};
-ghost use Rattle.aio_batch.specs.Held.{Held};
+ghost use Rattle.aio_handle.specs.ContractViews.{IsActorOf, IsSameActor};
+ghost use Rattle.aio_batch.specs.StagedTokens.{AreStagedTokens};
 
 use aio_batch::{Batch, Full, laws};
 use aio_fixtures::EmptyIo;
@@ -23,20 +23,20 @@ fn push_one<W: World>(
     actor: &mut Actor<EmptyIo, W>,
     batch: &mut Batch<EmptyIo, W>,
 ) -> Option<Pushed>
-    requires table { IsOf table.now actor.old }
+    requires table { IsActorOf table.now actor.old }
     requires backend { actor.old.known.number < table.now.config.backends }
-    requires tokens { Held actor.old.known batch.old }
-    ensures same { IsSame actor.old actor.new }
-    ensures tokens { Held actor.new.known batch.new }
+    requires tokens { AreStagedTokens actor.old.known batch.old }
+    ensures same { IsSameActor actor.old actor.new }
+    ensures tokens { AreStagedTokens actor.new.known batch.new }
 {
     let Ok(token) = table.acquire(actor) else {
         return None;
     };
     table_laws::events_keep_other_tokens();
-    table_laws::defining_keeps_tokens();
+    table_laws::define_keeps_tokens();
     laws::batches_are_kept::<EmptyIo>();
     laws::what_is_staged_may_be_pushed::<EmptyIo>();
-    actor.keeps();
+    actor.has_seen_its_marks();
     let token = table.define(actor, token, EmptyIo::new());
     let token = table.stage(actor, token);
     let reference = token.reference();
@@ -55,11 +55,11 @@ pub(super) fn push_all<W: World>(
     batch: &mut Batch<EmptyIo, W>,
     count: u32,
 ) -> Result<Vec<Pushed>, AllocError>
-    requires table { IsOf table.now actor.old }
+    requires table { IsActorOf table.now actor.old }
     requires backend { actor.old.known.number < table.now.config.backends }
-    requires tokens { Held actor.old.known batch.old }
-    ensures table { IsOf table.now actor.new }
-    ensures tokens { Held actor.new.known batch.new }
+    requires tokens { AreStagedTokens actor.old.known batch.old }
+    ensures table { IsActorOf table.now actor.new }
+    ensures tokens { AreStagedTokens actor.new.known batch.new }
 {
     let mut all = Vec::new(alloc);
     for n in 0..count {

@@ -1,9 +1,9 @@
 //! Whole lives of handles by one actor, and how they are counted.
 ghost use Rattle.std.specs.Prelude.{◌≡◌, ◌<◌, [], ◌∷◌, IsTrue, Some, IfSome, length};
-ghost use Rattle.aio_word.specs.Events.{actors as actors_of};
+ghost use Rattle.aio_word.specs.Events.{actor_count};
 ghost use Rattle.aio_word.specs.Tokens.{IsInFlight};
-ghost use Rattle.aio_handle.specs.Closing.{IsAtRest, AreOver};
-ghost use Rattle.aio_handle.specs.Shown.{IsOf, IsSame};
+ghost use Rattle.aio_handle.specs.Closing.{HasNoTokens, AllReclaimed};
+ghost use Rattle.aio_handle.specs.ContractViews.{IsActorOf, IsSameActor};
 ghost use Rattle.aio_fixtures.specs.Actors.{AreAtRest};
 ghost use Rattle.aio_fixtures.specs.Lives.{HasUnreclaimed};
 
@@ -18,11 +18,11 @@ fn end_own<W: World>(
     actor: &mut Actor<EmptyIo, W>,
     token: InFlight<W>,
 ) -> bool
-    requires table { IsOf table.now actor.old }
+    requires table { IsActorOf table.now actor.old }
     requires token { IsInFlight actor.old.known token }
     requires unreclaimed { HasUnreclaimed (token ∷ []) actor.old.known }
-    ensures same { IsSame actor.old actor.new }
-    ensures rests { IsTrue result → IsAtRest actor.new.known }
+    ensures same { IsSameActor actor.old actor.new }
+    ensures rests { IsTrue result → HasNoTokens actor.new.known }
 {
     claim_and_complete(table, actor, token.reference(), Class::Whole)
         && take_and_reclaim(table, actor, token)
@@ -34,11 +34,11 @@ pub(super) fn live_on<W: World>(
     actor: &mut Actor<EmptyIo, W>,
     token: HandedOut<W>,
 ) -> bool
-    requires table { IsOf table.now actor.old }
+    requires table { IsActorOf table.now actor.old }
     requires token { actor.old.known.out ≡ Some token }
-    requires rests { AreOver actor.old.known }
-    ensures same { IsSame actor.old actor.new }
-    ensures rests { IsTrue result → IsAtRest actor.new.known }
+    requires rests { AllReclaimed actor.old.known }
+    ensures same { IsSameActor actor.old actor.new }
+    ensures rests { IsTrue result → HasNoTokens actor.new.known }
 {
     let token = submit_acquired(table, actor, token, EmptyIo::new());
     end_own(table, actor, token)
@@ -46,11 +46,11 @@ pub(super) fn live_on<W: World>(
 
 /// The same, where it has a handle that is free.
 pub(super) fn live<W: World>(table: &Table<EmptyIo, W>, actor: &mut Actor<EmptyIo, W>) -> bool
-    requires table { IsOf table.now actor.old }
+    requires table { IsActorOf table.now actor.old }
     requires backend { actor.old.known.number < table.now.config.backends }
-    requires rests { IsAtRest actor.old.known }
-    ensures same { IsSame actor.old actor.new }
-    ensures rests { IsTrue result → IsAtRest actor.new.known }
+    requires rests { HasNoTokens actor.old.known }
+    ensures same { IsSameActor actor.old actor.new }
+    ensures rests { IsTrue result → HasNoTokens actor.new.known }
 {
     let Some(token) = submit_io(table, actor, EmptyIo::new()) else {
         return false;
@@ -63,9 +63,9 @@ pub(super) fn acquire_again<W: World>(
     table: &Table<EmptyIo, W>,
     actor: &mut Actor<EmptyIo, W>,
 ) -> Option<(HandedOut<W>, AcquireRefusal)>
-    requires table { IsOf table.now actor.old }
+    requires table { IsActorOf table.now actor.old }
     requires backend { actor.old.known.number < table.now.config.backends }
-    ensures same { IsSame actor.old actor.new }
+    ensures same { IsSameActor actor.old actor.new }
     ensures out { IfSome result (λ t. actor.new.known.out ≡ Some t.0) }
     ensures marks { IfSome result (λ _. actor.new.known.marks ≡ actor.old.known.marks) }
 {
@@ -89,7 +89,7 @@ pub(super) fn close<W: World>(
     actors: Vec<Actor<EmptyIo, W>>,
 ) -> (u128, u128, u128)
     requires all { AreAtRest table actors.items }
-    requires count { length actors.items ≡ actors_of table.config }
+    requires count { length actors.items ≡ actor_count table.config }
 {
     let totals = table.close(actors);
     (

@@ -1,7 +1,7 @@
 //! Two threads at one table.
 ghost use Rattle.std.specs.Prelude.{◌≡◌, ◌<◌, IfSome};
-ghost use Rattle.aio_handle.specs.Closing.{IsAtRest};
-ghost use Rattle.aio_handle.specs.Shown.{IsOf};
+ghost use Rattle.aio_handle.specs.Closing.{HasNoTokens};
+ghost use Rattle.aio_handle.specs.ContractViews.{IsActorOf};
 
 use crate::table::life::{close, live};
 use aio_fixtures::{
@@ -20,11 +20,11 @@ fn claim_beside<W: World>(
     mut actor: Actor<EmptyIo, W>,
     reference: WaitRef,
 ) -> (Actor<EmptyIo, W>, bool)
-    requires table { IsOf table.now actor }
+    requires table { IsActorOf table.now actor }
     requires range { reference.handle < W.handles }
-    requires rests { IsAtRest actor.known }
-    ensures table { IsOf table.now result.0 }
-    ensures rests { IsAtRest result.0.known }
+    requires rests { HasNoTokens actor.known }
+    ensures table { IsActorOf table.now result.0 }
+    ensures rests { HasNoTokens result.0.known }
 {
     let won = claim_and_complete(table, &mut actor, reference, Class::Whole);
     (actor, won)
@@ -62,14 +62,14 @@ fn race<W: World + Send + Sync, T: Threads + Sync>(
     let ((runner, first), (other, second)) = join(
         rt,
         || -> (Actor<EmptyIo, W>, bool)
-            requires { IsOf shared.now runner × IsAtRest runner.known
+            requires { IsActorOf shared.now runner × HasNoTokens runner.known
                 × (reference.handle < W.handles) }
-            ensures { IsOf shared.entry.now result.0 × IsAtRest result.0.known }
+            ensures { IsActorOf shared.entry.now result.0 × HasNoTokens result.0.known }
         { claim_beside(shared, runner, reference) },
         || -> (Actor<EmptyIo, W>, bool)
-            requires { IsOf shared.now other × IsAtRest other.known
+            requires { IsActorOf shared.now other × HasNoTokens other.known
                 × (reference.handle < W.handles) }
-            ensures { IsOf shared.entry.now result.0 × IsAtRest result.0.known }
+            ensures { IsActorOf shared.entry.now result.0 × HasNoTokens result.0.known }
         { claim_beside(shared, other, reference) },
     );
     if !take_and_reclaim(&table, &mut owner, token) {
@@ -102,11 +102,11 @@ fn lives<W: World>(
     mut actor: Actor<EmptyIo, W>,
     count: u32,
 ) -> Option<Actor<EmptyIo, W>>
-    requires table { IsOf table.now actor }
+    requires table { IsActorOf table.now actor }
     requires backend { actor.known.number < table.now.config.backends }
-    requires rests { IsAtRest actor.known }
-    ensures table { IfSome result (λ a. IsOf table.now a) }
-    ensures rests { IfSome result (λ a. IsAtRest a.known) }
+    requires rests { HasNoTokens actor.known }
+    ensures table { IfSome result (λ a. IsActorOf table.now a) }
+    ensures rests { IfSome result (λ a. HasNoTokens a.known) }
 {
     for n in 0..count {
         if !live(table, &mut actor) {
@@ -135,14 +135,15 @@ fn beside<W: World + Send + Sync, T: Threads + Sync>(
     let (one, other) = join(
         rt,
         || -> Option<Actor<EmptyIo, W>>
-            requires { IsOf shared.now one × (one.known.number < shared.now.config.backends)
-                × IsAtRest one.known }
-            ensures { IfSome result (λ a. IsOf shared.entry.now a × IsAtRest a.known) }
+            requires { IsActorOf shared.now one × (one.known.number < shared.now.config.backends)
+                × HasNoTokens one.known }
+            ensures { IfSome result (λ a. IsActorOf shared.entry.now a × HasNoTokens a.known) }
         { lives(shared, one, count) },
         || -> Option<Actor<EmptyIo, W>>
-            requires { IsOf shared.now other × (other.known.number < shared.now.config.backends)
-                × IsAtRest other.known }
-            ensures { IfSome result (λ a. IsOf shared.entry.now a × IsAtRest a.known) }
+            requires { IsActorOf shared.now other
+                × (other.known.number < shared.now.config.backends)
+                × HasNoTokens other.known }
+            ensures { IfSome result (λ a. IsActorOf shared.entry.now a × HasNoTokens a.known) }
         { lives(shared, other, count) },
     );
     let Some(one) = one else {

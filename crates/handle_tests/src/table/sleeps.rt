@@ -1,6 +1,6 @@
 //! A sleep on a handle, and the count of sleepers behind it.
 ghost use Rattle.std.specs.Prelude.{◌≡◌, ◌<◌};
-ghost use Rattle.aio_handle.specs.Shown.{IsOf};
+ghost use Rattle.aio_handle.specs.ContractViews.{IsActorOf};
 ghost use Rattle.aio_fixtures.specs.Actors.{HasClaimed};
 
 use crate::second::submit_second;
@@ -42,14 +42,14 @@ fn sleep_beside_runner<W: World + Send + Sync, T: Threads + Wait + Sync>(
     runner: Actor<EmptyIo, W>,
     claimed: Claimed<EmptyIo, W>,
 ) -> bool
-    requires owner { IsOf table.now owner }
+    requires owner { IsActorOf table.now owner }
     requires range { reference.handle < W.handles }
     requires runner { HasClaimed table.now runner claimed.0 claimed.1.label }
 {
     let (done, ()) = join(
         rt,
         || -> bool
-            requires { IsOf table.now owner × (reference.handle < W.handles) }
+            requires { IsActorOf table.now owner × (reference.handle < W.handles) }
         {
             table.rest(rt, &mut owner, reference);
             table.check(&mut owner, reference)

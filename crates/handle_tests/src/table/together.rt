@@ -1,6 +1,6 @@
 //! Two actors of one table, compared between their calls.
 ghost use Rattle.std.specs.Prelude.{◌≡◌, ◌<◌, IfSome};
-ghost use Rattle.aio_handle.specs.Shown.{IsOf, IsSame};
+ghost use Rattle.aio_handle.specs.ContractViews.{IsActorOf, IsSameActor};
 
 use aio_fixtures::{EmptyIo, last_actor, submit_io};
 use aio_handle::{Actor, Claimed, Record, Table, laws};
@@ -17,9 +17,9 @@ fn claim_by_both<R: Record, W: World>(
     other: &mut Actor<R, W>,
     reference: WaitRef,
 ) -> (Option<Claimed<R, W>>, Option<Claimed<R, W>>)
-    requires table { IsOf table.now one.old × IsOf table.now other.old }
+    requires table { IsActorOf table.now one.old × IsActorOf table.now other.old }
     requires range { reference.handle < W.handles }
-    ensures same { IsSame one.old one.new × IsSame other.old other.new }
+    ensures same { IsSameActor one.old one.new × IsSameActor other.old other.new }
     ensures one_winner { IfSome result.0 (λ a. IfSome result.1 (λ b. ⊥)) }
 {
     let first = table.claim(one, reference);

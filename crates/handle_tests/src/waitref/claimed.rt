@@ -1,7 +1,7 @@
 //! An owner whose I/O a runner has claimed, and ends at a moment of the owner's wait.
 ghost use Rattle.std.specs.Prelude.{◌≡◌};
 ghost use Rattle.aio_word.specs.Tokens.{IsInFlight};
-ghost use Rattle.aio_handle.specs.Shown.{IsOf};
+ghost use Rattle.aio_handle.specs.ContractViews.{IsActorOf};
 ghost use Rattle.aio_fixtures.specs.Actors.{HasClaimed};
 
 use crate::second::submit_second;
@@ -26,14 +26,14 @@ pub(super) fn owner_beside_runner<W: World + Send + Sync, T: Threads + Wait + Sy
     claimed: Claimed<EmptyIo, W>,
     moment: &Moment,
 ) -> Waited
-    requires owner { IsOf table.now owner × IsInFlight owner.known token }
+    requires owner { IsActorOf table.now owner × IsInFlight owner.known token }
     requires runner { HasClaimed table.now runner claimed.0 claimed.1.label }
     requires handles { W.handles ≡ 8 }
 {
     let (waited, ()) = join(
         rt,
         || -> Waited
-            requires { IsOf table.now owner × IsInFlight owner.known token }
+            requires { IsActorOf table.now owner × IsInFlight owner.known token }
         {
             moment.begin();
             wait_counted(rt, table, owner, token)

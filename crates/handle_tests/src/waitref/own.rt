@@ -1,7 +1,7 @@
 //! An owner that waits for its own I/O.
 ghost use Rattle.std.specs.Prelude.{◌≡◌};
 ghost use Rattle.aio_word.specs.Tokens.{IsInFlight};
-ghost use Rattle.aio_handle.specs.Shown.{IsOf};
+ghost use Rattle.aio_handle.specs.ContractViews.{IsActorOf};
 
 use aio_fixtures::{EmptyIo, WholeExecutor, last_actor, submit_io};
 use aio_handle::{Actor, InFlight, Record, Table};
@@ -28,7 +28,7 @@ pub(super) fn wait_counted<W: World, T: Wait>(
     mut owner: Actor<EmptyIo, W>,
     token: InFlight<W>,
 ) -> Waited
-    requires table { IsOf table.now owner }
+    requires table { IsActorOf table.now owner }
     requires token { IsInFlight owner.known token }
 {
     let mut executor = WholeExecutor::<W>::new();

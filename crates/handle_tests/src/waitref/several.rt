@@ -1,7 +1,7 @@
 //! Several actors that wait for one I/O.
 ghost use Rattle.std.specs.Prelude.{◌≡◌, ◌<◌};
 ghost use Rattle.aio_word.specs.Tokens.{IsInFlight};
-ghost use Rattle.aio_handle.specs.Shown.{IsOf};
+ghost use Rattle.aio_handle.specs.ContractViews.{IsActorOf};
 ghost use Rattle.aio_fixtures.specs.Actors.{HasClaimed};
 
 use crate::second::submit_second;
@@ -26,7 +26,7 @@ fn wait_beside<W: World, T: Wait>(
     reference: WaitRef,
     moment: &Moment,
 ) -> u64
-    requires table { IsOf table.now actor }
+    requires table { IsActorOf table.now actor }
     requires range { reference.handle < W.handles }
 {
     let mut executor = WholeExecutor::<W>::new();
@@ -45,17 +45,17 @@ fn two_wait<W: World + Send + Sync, T: Threads + Wait + Sync>(
     reference: WaitRef,
     moment: &Moment,
 ) -> (u64, u64)
-    requires one { IsOf table.now one }
-    requires other { IsOf table.now other }
+    requires one { IsActorOf table.now one }
+    requires other { IsActorOf table.now other }
     requires range { reference.handle < W.handles }
 {
     join(
         rt,
         || -> u64
-            requires { IsOf table.now one × (reference.handle < W.handles) }
+            requires { IsActorOf table.now one × (reference.handle < W.handles) }
         { wait_beside(rt, table, one, reference, moment) },
         || -> u64
-            requires { IsOf table.now other × (reference.handle < W.handles) }
+            requires { IsActorOf table.now other × (reference.handle < W.handles) }
         { wait_beside(rt, table, other, reference, moment) },
     )
 }
@@ -94,11 +94,11 @@ fn three_wait<W: World + Send + Sync, T: Threads + Wait + Sync>(
     Ok(Some(join(
         rt,
         || -> Waited
-            requires { IsOf shared.now owner × IsInFlight owner.known token
+            requires { IsActorOf shared.now owner × IsInFlight owner.known token
                 × HasClaimed shared.now fourth claimed.0 claimed.1.label × (W.handles ≡ 8) }
         { owner_beside_runner(rt, shared, owner, token, fourth, claimed, &moment) },
         || -> (u64, u64)
-            requires { IsOf shared.now second × IsOf shared.now third
+            requires { IsActorOf shared.now second × IsActorOf shared.now third
                 × (reference.handle < W.handles) }
         { two_wait(rt, shared, second, third, reference, &moment) },
     )))

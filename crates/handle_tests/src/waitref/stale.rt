@@ -1,6 +1,6 @@
 //! A wait for an I/O that is over.
 ghost use Rattle.std.specs.Prelude.{◌≡◌, ◌<◌};
-ghost use Rattle.aio_handle.specs.Shown.{IsOf, IsSame};
+ghost use Rattle.aio_handle.specs.ContractViews.{IsActorOf, IsSameActor};
 
 use aio_fixtures::{EmptyIo, WholeExecutor, last_actor, submit_io};
 use aio_handle::{Actor, Table};
@@ -13,9 +13,9 @@ use std::sync::Wait;
 
 /// One whole life of a handle that is free, which the actor executes by waiting.
 fn live<W: World, T: Wait>(rt: &T, table: &Table<EmptyIo, W>, actor: &mut Actor<EmptyIo, W>) -> bool
-    requires table { IsOf table.now actor.old }
+    requires table { IsActorOf table.now actor.old }
     requires backend { actor.old.known.number < table.now.config.backends }
-    ensures same { IsSame actor.old actor.new }
+    ensures same { IsSameActor actor.old actor.new }
 {
     let Some(token) = submit_io(table, actor, EmptyIo::new()) else {
         return false;

@@ -1,7 +1,7 @@
 //! How many entries a queue holds, and what it answers beyond them.
 ghost use Rattle.std.specs.Prelude.{◌≡◌, ◌≤◌};
 ghost use Rattle.std.specs.List.{All};
-ghost use Rattle.method_worker.specs.Shown.{IsSeatOf, IsSameSeat};
+ghost use Rattle.method_worker.specs.QueueViews.{IsSeatOf, IsSameSeat};
 
 use crate::queue::entries::{last_seat, push_from, reference};
 use method_worker::{Pop, QueueFull, QueueSeat, SubmitQueue};

@@ -1,7 +1,7 @@
 //! The references that the tests push, and the seats that push them.
 ghost use Rattle.std.specs.Prelude.{◌≤◌, ◌<◌, ◌+◌, ◌^◌, IfSome};
 ghost use Rattle.std.specs.List.{All};
-ghost use Rattle.method_worker.specs.Shown.{IsSeatOf, IsSameSeat};
+ghost use Rattle.method_worker.specs.QueueViews.{IsSeatOf, IsSameSeat};
 
 use aio_word::WaitRef;
 use method_worker::{QueueFull, QueueSeat, SubmitQueue};

@@ -1,6 +1,6 @@
 //! Threads that push and pop at once.
 ghost use Rattle.std.specs.Prelude.{◌≡◌, ◌≤◌};
-ghost use Rattle.method_worker.specs.Shown.{IsSeatOf};
+ghost use Rattle.method_worker.specs.QueueViews.{IsSeatOf};
 
 use crate::queue::entries::{last_seat, reference};
 use aio_word::WaitRef;

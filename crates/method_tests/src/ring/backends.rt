@@ -1,9 +1,9 @@
 //! The two backends of a table, and the seats of their queue.
 ghost use Rattle.std.specs.Prelude.{◌≡◌, ◌<◌, IfSome, length};
 ghost use Rattle.std.specs.List.{All};
-ghost use Rattle.aio_handle.specs.Closing.{IsAtRest};
-ghost use Rattle.aio_handle.specs.Shown.{IsOf, AreNew};
-ghost use Rattle.method_worker.specs.Shown.{IsSeatOf};
+ghost use Rattle.aio_handle.specs.Closing.{HasNoTokens};
+ghost use Rattle.aio_handle.specs.ContractViews.{IsActorOf, AreNewActors};
+ghost use Rattle.method_worker.specs.QueueViews.{IsSeatOf};
 
 use crate::queue::entries::last_seat;
 use aio_callback::ReadIo;
@@ -17,13 +17,13 @@ pub(super) fn backends_of<W: World>(
     table: &Table<ReadIo, W>,
     mut actors: Vec<Actor<ReadIo, W>>,
 ) -> Option<(Actor<ReadIo, W>, Actor<ReadIo, W>)>
-    requires new { AreNew table.now 0 actors.items }
+    requires new { AreNewActors table.now 0 actors.items }
     requires two { length actors.items ≡ 2 }
     requires backends { table.now.config.backends ≡ 2 }
-    ensures zero { IfSome result (λ r. IsOf table.now r.0
-        × (r.0.known.number < table.now.config.backends) × IsAtRest r.0.known) }
-    ensures one { IfSome result (λ r. IsOf table.now r.1
-        × (r.1.known.number < table.now.config.backends) × IsAtRest r.1.known) }
+    ensures zero { IfSome result (λ r. IsActorOf table.now r.0
+        × (r.0.known.number < table.now.config.backends) × HasNoTokens r.0.known) }
+    ensures one { IfSome result (λ r. IsActorOf table.now r.1
+        × (r.1.known.number < table.now.config.backends) × HasNoTokens r.1.known) }
 {
     let one = last_actor(table, &mut actors)?;
     let zero = last_actor(table, &mut actors)?;

@@ -1,9 +1,9 @@
 //! Reads of one block that are pushed, or waited for.
 ghost use Rattle.std.specs.Prelude.{◌≡◌, ◌<◌, IfSome, IsTrue};
-ghost use Rattle.aio_handle.specs.Closing.{IsAtRest};
-ghost use Rattle.aio_handle.specs.Shown.{IsOf, IsSame};
+ghost use Rattle.aio_handle.specs.Closing.{HasNoTokens};
+ghost use Rattle.aio_handle.specs.ContractViews.{IsActorOf, IsSameActor};
 ghost use Rattle.aio_fixtures.specs.Lives.{IsSubmitted};
-ghost use Rattle.method_worker.specs.Shown.{IsSeatOf, IsSameSeat};
+ghost use Rattle.method_worker.specs.QueueViews.{IsSeatOf, IsSameSeat};
 
 use aio_callback::{Counts, ReadIo};
 use aio_handle::{Actor, Execute, InFlight, Table};
@@ -24,11 +24,11 @@ pub(super) fn submit_and_push<W: World, T: Wait>(
     seat: &mut QueueSeat,
     block: u32,
 ) -> Option<InFlight<W>>
-    requires table { IsOf table.now actor.old }
+    requires table { IsActorOf table.now actor.old }
     requires backend { actor.old.known.number < table.now.config.backends }
     requires queue { IsSeatOf queue.now seat.old }
     requires some { 0 < W.relations }
-    ensures same { IsSame actor.old actor.new }
+    ensures same { IsSameActor actor.old actor.new }
     ensures seat { IsSameSeat seat.old seat.new }
     ensures submitted { IfSome result (λ t. IsSubmitted t actor.old.known actor.new.known) }
 {
@@ -49,13 +49,13 @@ pub(super) fn read_and_wait<W: World, E: Execute<ReadIo, W>, T: Wait>(
     runner: &mut E,
     block: u32,
 ) -> bool
-    requires table { IsOf table.now actor.old }
+    requires table { IsActorOf table.now actor.old }
     requires backend { actor.old.known.number < table.now.config.backends }
     requires told { (E.told runner.old ≡ W.told) × (E.relations runner.old ≡ W.relations) }
     requires some { 0 < W.relations }
-    requires rests { IsAtRest actor.old.known }
-    ensures same { IsSame actor.old actor.new }
-    ensures rests { IsTrue result → IsAtRest actor.new.known }
+    requires rests { HasNoTokens actor.old.known }
+    ensures same { IsSameActor actor.old actor.new }
+    ensures rests { IsTrue result → HasNoTokens actor.new.known }
 {
     let Ok(io) = ReadIo::make(alloc, 1) else {
         return false;

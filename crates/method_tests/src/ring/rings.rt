@@ -1,8 +1,8 @@
 //! Two backends with a ring each.
 ghost use Rattle.std.specs.Prelude.{◌≡◌, ◌<◌, IfOk, IsTrue};
-ghost use Rattle.aio_handle.specs.Closing.{IsAtRest};
-ghost use Rattle.aio_handle.specs.Shown.{IsOf, IsSame};
-ghost use Rattle.method_worker.specs.Shown.{IsSeatOf};
+ghost use Rattle.aio_handle.specs.Closing.{HasNoTokens};
+ghost use Rattle.aio_handle.specs.ContractViews.{IsActorOf, IsSameActor};
+ghost use Rattle.method_worker.specs.QueueViews.{IsSeatOf};
 
 use crate::ring::backends::{backends_of, seats_of};
 use crate::ring::reads::{read_and_wait, submit_and_push};
@@ -33,15 +33,15 @@ fn four_and_one<W: World, E: Execute<ReadIo, W>, T: Wait>(
     seat: &mut QueueSeat,
     runner: &mut E,
 ) -> bool
-    requires table { IsOf table.now zero.old × IsOf table.now one.old }
+    requires table { IsActorOf table.now zero.old × IsActorOf table.now one.old }
     requires backends { (zero.old.known.number < table.now.config.backends)
         × (one.old.known.number < table.now.config.backends) }
     requires queue { IsSeatOf queue.now seat.old }
     requires told { (E.told runner.old ≡ W.told) × (E.relations runner.old ≡ W.relations) }
     requires some { 0 < W.relations }
-    requires rests { IsAtRest zero.old.known × IsAtRest one.old.known }
-    ensures same { IsSame zero.old zero.new × IsSame one.old one.new }
-    ensures rests { IsTrue result → IsAtRest zero.new.known × IsAtRest one.new.known }
+    requires rests { HasNoTokens zero.old.known × HasNoTokens one.old.known }
+    ensures same { IsSameActor zero.old zero.new × IsSameActor one.old one.new }
+    ensures rests { IsTrue result → HasNoTokens zero.new.known × HasNoTokens one.new.known }
 {
     let Some(a) = submit_and_push(rt, alloc, table, zero, queue, seat, 0) else {
         return false;

@@ -1,8 +1,8 @@
 //! A runner that works alone over what was pushed.
 ghost use Rattle.std.specs.Prelude.{◌≡◌, ◌<◌, None};
-ghost use Rattle.aio_handle.specs.Closing.{IsAtRest};
-ghost use Rattle.aio_handle.specs.Shown.{IsOf, IsSame};
-ghost use Rattle.method_worker.specs.Shown.{IsSeatOf, IsSameSeat};
+ghost use Rattle.aio_handle.specs.Closing.{HasNoTokens};
+ghost use Rattle.aio_handle.specs.ContractViews.{IsActorOf, IsSameActor};
+ghost use Rattle.method_worker.specs.QueueViews.{IsSeatOf, IsSameSeat};
 
 use aio_callback::ReadIo;
 use aio_handle::{Actor, Table};
@@ -38,12 +38,12 @@ pub(super) fn work_alone<W: World, T: Wait>(
     runner: &mut Actor<ReadIo, W>,
 ) -> u64
     requires queue { IsSeatOf queue.now seat.old }
-    requires table { IsOf table.now runner.old }
+    requires table { IsActorOf table.now runner.old }
     requires untold { W.told ≡ None }
-    requires rests { IsAtRest runner.old.known }
-    ensures same { IsSame runner.old runner.new }
+    requires rests { HasNoTokens runner.old.known }
+    ensures same { IsSameActor runner.old runner.new }
     ensures seat { IsSameSeat seat.old seat.new }
-    ensures rests { IsAtRest runner.new.known }
+    ensures rests { HasNoTokens runner.new.known }
 {
     let mut executor = WholeExecutor { calls: 0 };
     work(rt, queue, seat, table, runner, &mut executor);

@@ -1,8 +1,8 @@
 //! A worker that sleeps where the queue is empty, and is woken.
 ghost use Rattle.std.specs.Prelude.{◌≡◌, ◌<◌, None, IfOk, IfSome};
-ghost use Rattle.aio_handle.specs.Closing.{IsAtRest};
-ghost use Rattle.aio_handle.specs.Shown.{IsOf};
-ghost use Rattle.method_worker.specs.Shown.{IsSeatOf};
+ghost use Rattle.aio_handle.specs.Closing.{HasNoTokens};
+ghost use Rattle.aio_handle.specs.ContractViews.{IsActorOf};
+ghost use Rattle.method_worker.specs.QueueViews.{IsSeatOf};
 
 use crate::queue::entries::last_seat;
 use crate::worker::alone::work_alone;
@@ -28,9 +28,9 @@ fn work_until_closed<W: World, T: Wait>(
     mut runner: Actor<ReadIo, W>,
 ) -> (u64, QueueSeat)
     requires queue { IsSeatOf queue.now seat }
-    requires table { IsOf table.now runner }
+    requires table { IsActorOf table.now runner }
     requires untold { W.told ≡ None }
-    requires rests { IsAtRest runner.known }
+    requires rests { HasNoTokens runner.known }
     ensures { IsSeatOf queue.now result.1 }
 {
     let calls = work_alone(rt, queue, &mut seat, table, &mut runner);
@@ -55,7 +55,7 @@ fn push_and_close<W: World, T: Wait>(
     turns: u32,
 ) -> QueueSeat
     requires queue { IsSeatOf queue.now seat }
-    requires table { IsOf table.now owner }
+    requires table { IsActorOf table.now owner }
     requires range { reference.handle < W.handles }
     ensures { IsSeatOf queue.now result }
 {
@@ -106,12 +106,12 @@ fn wake_worker<W: World + Send + Sync, T: Threads + Wait + Sync>(
     let ((calls, sleeper), mut waker) = join(
         rt,
         || -> (u64, QueueSeat)
-            requires { IsSeatOf shared.now sleeper × IsOf reads.now runner × (W.told ≡ None)
-                × IsAtRest runner.known }
+            requires { IsSeatOf shared.now sleeper × IsActorOf reads.now runner × (W.told ≡ None)
+                × HasNoTokens runner.known }
             ensures { IsSeatOf shared.entry.now result.1 }
         { work_until_closed(rt, shared, sleeper, reads, runner) },
         || -> QueueSeat
-            requires { IsSeatOf shared.now waker × IsOf reads.now owner
+            requires { IsSeatOf shared.now waker × IsActorOf reads.now owner
                 × (reference.handle < W.handles) }
             ensures { IsSeatOf shared.entry.now result }
         { push_and_close(rt, shared, waker, reads, owner, reference, turns) },

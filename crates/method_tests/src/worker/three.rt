@@ -1,8 +1,8 @@
 //! Three reads that a backend submits.
 ghost use Rattle.std.specs.Prelude.{◌≡◌, ◌<◌, None, IfOk, IfSome};
-ghost use Rattle.aio_handle.specs.Closing.{IsAtRest};
-ghost use Rattle.aio_handle.specs.Shown.{IsOf, IsSame};
-ghost use Rattle.method_worker.specs.Shown.{IsSeatOf};
+ghost use Rattle.aio_handle.specs.Closing.{HasNoTokens};
+ghost use Rattle.aio_handle.specs.ContractViews.{IsActorOf, IsSameActor};
+ghost use Rattle.method_worker.specs.QueueViews.{IsSeatOf};
 
 use crate::queue::entries::last_seat;
 use crate::worker::alone::{push_times, work_alone};
@@ -31,16 +31,16 @@ fn three_begun<'q, W: World, T: Wait>(
     seat: &mut QueueSeat,
     mine: &mut WholeExecutor,
 ) -> Result<Option<u64>, AllocError>
-    requires table { IsOf table.now owner.old × IsOf table.now runner.old }
+    requires table { IsActorOf table.now owner.old × IsActorOf table.now runner.old }
     requires backend { owner.old.known.number < table.now.config.backends }
     requires queue { IsSeatOf method.old.queue.now seat.old }
     requires untold { W.told ≡ None }
     requires some { 0 < W.relations }
-    requires owner_rests { IsAtRest owner.old.known }
-    requires runner_rests { IsAtRest runner.old.known }
-    ensures same { IsSame owner.old owner.new × IsSame runner.old runner.new }
+    requires owner_rests { HasNoTokens owner.old.known }
+    requires runner_rests { HasNoTokens runner.old.known }
+    ensures same { IsSameActor owner.old owner.new × IsSameActor runner.old runner.new }
     ensures rests { IfOk result (λ r. IfSome r
-        (λ _. IsAtRest owner.new.known × IsAtRest runner.new.known)) }
+        (λ _. HasNoTokens owner.new.known × HasNoTokens runner.new.known)) }
 {
     let io = ReadIo::make(alloc, 1)?;
     let Some(a) = submit_by_method(rt, table, owner, method, mine, io) else {

@@ -1,6 +1,6 @@
 //! What is listed, and whether it is what was wanted.
 use crate::helpers::files::{lines, pages_shelf};
-use crate::helpers::rounds::{Blocks, Outcome, Shown, scan_over};
+use crate::helpers::rounds::{Blocks, JobResult, ScanResult, scan_over};
 use scan_rounds::{Ending, ScanSettings};
 use std::alloc::Global;
 use std::process::Abort;
@@ -9,14 +9,14 @@ use std::test::Fail;
 use std::thread::Threads;
 
 /// The first block of a job, how many pages are listed, and how it ended.
-pub(crate) type Listed = (u32, u32, Ending);
+pub(crate) type ExpectedJob = (u32, u32, Ending);
 
 // Compares what became of a job.
 fn check_job<R: Abort + AllocGlobal>(
     rt: &R,
     name: &str,
-    job: &Shown,
-    wanted: Listed,
+    job: &JobResult,
+    wanted: ExpectedJob,
 ) -> Result<(), Fail> {
     let text = lines(rt.alloc(), wanted.0, wanted.1)?;
     assert_eq!(rt; job.text.as_slice(), text.as_slice(), "{name}");
@@ -28,8 +28,8 @@ fn check_job<R: Abort + AllocGlobal>(
 pub(crate) fn check_jobs<R: Abort + AllocGlobal>(
     rt: &R,
     name: &str,
-    jobs: &[Shown],
-    wanted: &[Listed],
+    jobs: &[JobResult],
+    wanted: &[ExpectedJob],
 ) -> Result<(), Fail> {
     assert_eq!(rt; jobs.len(), wanted.len(), "{name}");
     for (job, wanted) in jobs.iter().zip(wanted) {
@@ -43,7 +43,7 @@ pub(crate) fn check_jobs<R: Abort + AllocGlobal>(
 pub(crate) fn check_counts<R: Abort>(
     rt: &R,
     name: &str,
-    outcome: &Outcome,
+    outcome: &ScanResult,
     wanted: (u64, u128, u128),
 ) {
     let counts = (outcome.unread, outcome.incarnations, outcome.by_workers);
@@ -68,7 +68,7 @@ pub(crate) fn scan_pages<R: Abort + AllocGlobal + Threads + Wait + Sync>(
     (blocks, bad): (u32, Option<u32>),
     fail_reads: &[(u32, u64)],
     rounds: &[&[Blocks]],
-) -> Result<Outcome, Fail> {
+) -> Result<ScanResult, Fail> {
     let rounds = rounds_of(rt.alloc(), rounds)?;
     let mut shelf = pages_shelf(rt.alloc(), blocks, bad, fail_reads)?;
     scan_over(rt, settings, &mut shelf, rounds.as_slice())

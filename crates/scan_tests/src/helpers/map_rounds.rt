@@ -1,14 +1,14 @@
 //! Rounds by a visibility map, over disks of a shelf in memory.
 ghost use Rattle.std.specs.Prelude.{◌≡◌, ◌≤◌, ◌*◌, length, map, string_bytes};
 ghost use Rattle.std.specs.List.{All};
-ghost use Rattle.aio_disk.specs.Shelf.{told_of};
-ghost use Rattle.scan_rounds.specs.Hands.{meter};
+ghost use Rattle.aio_disk.specs.Shelf.{shelf_told};
+ghost use Rattle.scan_rounds.specs.DiskActors.{disk_ghosts};
 ghost use Rattle.scan_rounds.specs.Jobs.{IsFresh};
-ghost use Rattle.scan_rounds.specs.Opening.{AreSettings};
+ghost use Rattle.scan_rounds.specs.OpenedScan.{AreSettings};
 ghost use Rattle.scan_rounds.specs.Scans.{IsScan};
 
 use crate::helpers::opening::{disk_count, is_in_range, open_disks, open_scan};
-use crate::helpers::rounds::{Blocks, Shown};
+use crate::helpers::rounds::{Blocks, JobResult};
 use aio_disk::{Disk, Shelf};
 use page_check::World;
 use scan_rounds::{Ending, Job, Scan, ScanSettings};
@@ -22,7 +22,7 @@ use vis_map::{Skip, VisMap};
 
 /// What a scan by a map is asked for.
 #[derive(Clone, Copy)]
-pub(crate) struct Asked {
+pub(crate) struct MapScanRequest {
     /// For how many pages the map is opened, at most 65.
     pub pages: u32,
     /// The blocks that each round lists.
@@ -31,12 +31,12 @@ pub(crate) struct Asked {
 
 /// What became of the map, and of the job of each round.
 #[derive(Drop)]
-pub(crate) struct MapOutcome {
+pub(crate) struct MapScanResult {
     pub ending: Ending,
     pub warnings: Vec<u8>,
     /// How many jobs had ended in Unread before the first round.
     pub unread: u64,
-    pub jobs: Vec<Shown>,
+    pub jobs: Vec<JobResult>,
     pub incarnations: u128,
 }
 
@@ -48,11 +48,13 @@ fn round_by_map<W: World + Send + Sync, D: Disk, R: Threads + Wait + Sync>(
     skip: Option<Skip>,
     jobs: &mut [Job],
 )
-    requires scan { IsScan (meter D.told D.relations D.reads D.faults) W.told W.relations scan.old }
+    requires scan { IsScan (disk_ghosts D.told D.relations D.reads D.faults)
+        W.told W.relations scan.old }
     requires few { (1 ≤ length jobs.old) × (length jobs.old ≤ length scan.old.backends.items) }
     requires fresh { All (IsFresh W.relations) jobs.old }
     requires room { 64 ≤ scan.old.room }
-    ensures scan { IsScan (meter D.told D.relations D.reads D.faults) W.told W.relations scan.new }
+    ensures scan { IsScan (disk_ghosts D.told D.relations D.reads D.faults)
+        W.told W.relations scan.new }
 {
     match skip {
         Some(skip) => scan.round_filtered(rt, jobs, map, skip),
@@ -68,10 +70,12 @@ fn list_round<W: World + Send + Sync, D: Disk, R: Threads + Wait + Sync>(
     map: &VisMap,
     blocks: Blocks,
     skip: Option<Skip>,
-) -> Result<Shown, Fail>
-    requires scan { IsScan (meter D.told D.relations D.reads D.faults) W.told W.relations scan.old }
+) -> Result<JobResult, Fail>
+    requires scan { IsScan (disk_ghosts D.told D.relations D.reads D.faults)
+        W.told W.relations scan.old }
     requires two { W.relations ≡ 2 }
-    ensures scan { IsScan (meter D.told D.relations D.reads D.faults) W.told W.relations scan.new }
+    ensures scan { IsScan (disk_ghosts D.told D.relations D.reads D.faults)
+        W.told W.relations scan.new }
 {
     let (first, count) = blocks;
     if count < 1 || count > 64 || first > 100000 || scan.room() < 64 || scan.backend_count() < 1 {
@@ -88,7 +92,7 @@ fn list_round<W: World + Send + Sync, D: Disk, R: Threads + Wait + Sync>(
         ending,
         ..
     } = jobs.pop().ok_or("no job")?;
-    Ok(Shown {
+    Ok(JobResult {
         text,
         warnings,
         tally,
@@ -104,10 +108,12 @@ fn list_rounds<W: World + Send + Sync, D: Disk, R: Threads + Wait + Sync>(
     map: &VisMap,
     blocks: Blocks,
     rounds: &[Option<Skip>],
-) -> Result<Vec<Shown>, Fail>
-    requires scan { IsScan (meter D.told D.relations D.reads D.faults) W.told W.relations scan.old }
+) -> Result<Vec<JobResult>, Fail>
+    requires scan { IsScan (disk_ghosts D.told D.relations D.reads D.faults)
+        W.told W.relations scan.old }
     requires two { W.relations ≡ 2 }
-    ensures scan { IsScan (meter D.told D.relations D.reads D.faults) W.told W.relations scan.new }
+    ensures scan { IsScan (disk_ghosts D.told D.relations D.reads D.faults)
+        W.told W.relations scan.new }
 {
     let mut all = Vec::new(alloc);
     for skip in rounds {
@@ -121,12 +127,14 @@ fn read_and_list<W: World + Send + Sync, D: Disk, R: Threads + Wait + Sync>(
     rt: &R,
     alloc: Global,
     scan: &mut Scan<W, D>,
-    asked: Asked,
+    asked: MapScanRequest,
     rounds: &[Option<Skip>],
-) -> Result<MapOutcome, Fail>
-    requires scan { IsScan (meter D.told D.relations D.reads D.faults) W.told W.relations scan.old }
+) -> Result<MapScanResult, Fail>
+    requires scan { IsScan (disk_ghosts D.told D.relations D.reads D.faults)
+        W.told W.relations scan.old }
     requires two { W.relations ≡ 2 }
-    ensures scan { IsScan (meter D.told D.relations D.reads D.faults) W.told W.relations scan.new }
+    ensures scan { IsScan (disk_ghosts D.told D.relations D.reads D.faults)
+        W.told W.relations scan.new }
 {
     if asked.pages > 65 || scan.room() < 65 {
         return Err(Fail::from("no map"));
@@ -136,7 +144,7 @@ fn read_and_list<W: World + Send + Sync, D: Disk, R: Threads + Wait + Sync>(
     let ending = scan.map(rt, 1, &mut map, &mut warnings);
     let unread = scan.unread();
     let jobs = list_rounds(rt, alloc, scan, &map, asked.blocks, rounds)?;
-    Ok(MapOutcome {
+    Ok(MapScanResult {
         ending,
         warnings,
         unread,
@@ -152,11 +160,11 @@ fn scan_shelf<W: World + Send + Sync, S: Shelf, R: Threads + Wait + Sync>(
     settings: &ScanSettings,
     shelf: &mut S,
     names: &[String],
-    asked: Asked,
+    asked: MapScanRequest,
     rounds: &[Option<Skip>],
-) -> Result<MapOutcome, Fail>
+) -> Result<MapScanResult, Fail>
     requires settings { AreSettings settings.now }
-    requires told { told_of (S.told shelf.old) (map string_bytes names.now) ≡ W.told }
+    requires told { shelf_told (S.told shelf.old) (map string_bytes names.now) ≡ W.told }
     requires two { (W.relations ≡ length names.now) × (length names.now ≡ 2) }
     requires handles { settings.now.backends * settings.now.handles ≡ W.handles }
 {
@@ -182,9 +190,9 @@ pub(crate) fn scan_by_map<S: Shelf, R: Abort + AllocGlobal + Threads + Wait + Sy
     rt: &R,
     settings: &ScanSettings,
     shelf: &mut S,
-    asked: Asked,
+    asked: MapScanRequest,
     rounds: &[Option<Skip>],
-) -> Result<MapOutcome, Fail> {
+) -> Result<MapScanResult, Fail> {
     let alloc = rt.alloc();
     assert!(rt; is_in_range(settings));
     let names = vec![in alloc;

@@ -2,9 +2,9 @@
 ghost use Rattle.std.specs.Prelude.{◌≡◌, ◌+◌, ◌*◌, ◌^◌, ◌<◌, ◌≢◌, length, map, IfOk, IfSome};
 ghost use Rattle.std.specs.Prelude.{IsTrue, string_bytes};
 ghost use Rattle.std.specs.List.{All};
-ghost use Rattle.aio_disk.specs.Shelf.{told_of};
-ghost use Rattle.scan_rounds.specs.Hands.{meter};
-ghost use Rattle.scan_rounds.specs.Opening.{AreSettings, workers_in};
+ghost use Rattle.aio_disk.specs.Shelf.{shelf_told};
+ghost use Rattle.scan_rounds.specs.DiskActors.{disk_ghosts};
+ghost use Rattle.scan_rounds.specs.OpenedScan.{AreSettings, workers_of_settings};
 ghost use Rattle.scan_rounds.specs.Scans.{IsScan};
 
 use aio_disk::{Disk, Shelf};
@@ -75,7 +75,7 @@ pub(crate) fn is_in_range(settings: &ScanSettings) -> bool
 /// How many disks a scan has.
 pub(crate) fn disk_count(settings: &ScanSettings) -> usize
     requires { AreSettings settings.now }
-    ensures { result ≡ settings.now.backends + workers_in settings.now }
+    ensures { result ≡ settings.now.backends + workers_of_settings settings.now }
 {
     let workers = match settings.method {
         MethodKind::Sync => 0,
@@ -94,7 +94,7 @@ pub(crate) fn open_disks<S: Shelf>(
 ) -> Result<Vec<S::Disk>, Fail>
     ensures count { IfOk result (λ disks. length disks.items ≡ count) }
     ensures tell { IfOk result (λ disks. All (λ d.
-        (S.Disk.told d ≡ told_of (S.told shelf.old) (map string_bytes names.now))
+        (S.Disk.told d ≡ shelf_told (S.told shelf.old) (map string_bytes names.now))
         × (S.Disk.relations d ≡ length names.now)) disks.items) }
     ensures segments { IfOk result (λ disks.
         All (λ d. S.Disk.segment d ≡ S.segment shelf.old) disks.items) }
@@ -108,7 +108,7 @@ pub(crate) fn open_disks<S: Shelf>(
 }
 
 // A scan without rings, with the generations of its handles from `start` on where that is given.
-fn open_plain<W: World, D: Disk>(
+fn open_without_rings<W: World, D: Disk>(
     alloc: Global,
     settings: &ScanSettings,
     disks: Vec<D>,
@@ -116,12 +116,12 @@ fn open_plain<W: World, D: Disk>(
 ) -> Result<Scan<W, D>, Fail>
     requires settings { AreSettings settings.now }
     requires method { settings.now.method ≢ MethodKind.Ring }
-    requires disks { length disks.items ≡ settings.now.backends + workers_in settings.now }
+    requires disks { length disks.items ≡ settings.now.backends + workers_of_settings settings.now }
     requires tell { All (λ d. (D.told d ≡ W.told) × (D.relations d ≡ W.relations)) disks.items }
     requires segments { All (λ d. D.segment d ≡ settings.now.segment) disks.items }
     requires handles { settings.now.backends * settings.now.handles ≡ W.handles }
     requires start { IfSome start (λ s. s < 2 ^ 58) }
-    ensures { IfOk result (λ s. IsScan (meter D.told D.relations D.reads D.faults) W.told
+    ensures { IfOk result (λ s. IsScan (disk_ghosts D.told D.relations D.reads D.faults) W.told
         W.relations s) }
 {
     let opened = match start {
@@ -148,7 +148,7 @@ fn open_ringed<W: World, D: Disk>(
     requires segments { All (λ d. D.segment d ≡ settings.now.segment) disks.items }
     requires handles { settings.now.backends * settings.now.handles ≡ W.handles }
     requires start { IfSome start (λ s. s < 2 ^ 58) }
-    ensures { IfOk result (λ s. IsScan (meter D.told D.relations D.reads D.faults) W.told
+    ensures { IfOk result (λ s. IsScan (disk_ghosts D.told D.relations D.reads D.faults) W.told
         W.relations s) }
 {
     let first = match start {
@@ -169,17 +169,17 @@ pub(crate) fn open_scan<W: World, D: Disk>(
     start: Option<u64>,
 ) -> Result<Scan<W, D>, Fail>
     requires settings { AreSettings settings.now }
-    requires disks { length disks.items ≡ settings.now.backends + workers_in settings.now }
+    requires disks { length disks.items ≡ settings.now.backends + workers_of_settings settings.now }
     requires tell { All (λ d. (D.told d ≡ W.told) × (D.relations d ≡ W.relations)) disks.items }
     requires segments { All (λ d. D.segment d ≡ settings.now.segment) disks.items }
     requires handles { settings.now.backends * settings.now.handles ≡ W.handles }
     requires start { IfSome start (λ s. s < 2 ^ 58) }
-    ensures { IfOk result (λ s. IsScan (meter D.told D.relations D.reads D.faults) W.told
+    ensures { IfOk result (λ s. IsScan (disk_ghosts D.told D.relations D.reads D.faults) W.told
         W.relations s) }
 {
     match settings.method {
-        MethodKind::Sync => open_plain(alloc, settings, disks, start),
-        MethodKind::Worker => open_plain(alloc, settings, disks, start),
+        MethodKind::Sync => open_without_rings(alloc, settings, disks, start),
+        MethodKind::Worker => open_without_rings(alloc, settings, disks, start),
         MethodKind::Ring => open_ringed(alloc, settings, disks, start),
     }
 }

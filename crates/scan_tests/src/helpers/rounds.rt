@@ -2,10 +2,10 @@
 ghost use Rattle.std.specs.Prelude.{◌≡◌, ◌*◌, ◌^◌, ◌<◌, ◌≤◌, length, map, IfOk, IfSome};
 ghost use Rattle.std.specs.Prelude.{string_bytes};
 ghost use Rattle.std.specs.List.{All};
-ghost use Rattle.aio_disk.specs.Shelf.{told_of};
-ghost use Rattle.scan_rounds.specs.Hands.{meter};
+ghost use Rattle.aio_disk.specs.Shelf.{shelf_told};
+ghost use Rattle.scan_rounds.specs.DiskActors.{disk_ghosts};
 ghost use Rattle.scan_rounds.specs.Jobs.{IsFresh};
-ghost use Rattle.scan_rounds.specs.Opening.{AreSettings};
+ghost use Rattle.scan_rounds.specs.OpenedScan.{AreSettings};
 ghost use Rattle.scan_rounds.specs.Scans.{IsScan};
 
 use crate::helpers::opening::{disk_count, is_in_range, open_disks, open_scan};
@@ -25,7 +25,7 @@ pub(crate) type Blocks = (u32, u32);
 
 /// What became of a job.
 #[derive(Drop)]
-pub(crate) struct Shown {
+pub(crate) struct JobResult {
     pub text: Vec<u8>,
     pub warnings: Vec<u8>,
     pub tally: PageSums,
@@ -34,8 +34,8 @@ pub(crate) struct Shown {
 
 /// What became of all jobs, and the numbers of the end.
 #[derive(Drop)]
-pub(crate) struct Outcome {
-    pub jobs: Vec<Shown>,
+pub(crate) struct ScanResult {
+    pub jobs: Vec<JobResult>,
     /// The room before the first round and behind the last.
     pub rooms: (u64, u64),
     pub unread: u64,
@@ -75,11 +75,13 @@ fn list_round<W: World + Send + Sync, D: Disk, R: Threads + Wait + Sync>(
     alloc: Global,
     scan: &mut Scan<W, D>,
     round: &[Blocks],
-    all: &mut Vec<Shown>,
+    all: &mut Vec<JobResult>,
 ) -> Result<(), Fail>
-    requires scan { IsScan (meter D.told D.relations D.reads D.faults) W.told W.relations scan.old }
+    requires scan { IsScan (disk_ghosts D.told D.relations D.reads D.faults)
+        W.told W.relations scan.old }
     requires one { W.relations ≡ 1 }
-    ensures scan { IsScan (meter D.told D.relations D.reads D.faults) W.told W.relations scan.new }
+    ensures scan { IsScan (disk_ghosts D.told D.relations D.reads D.faults)
+        W.told W.relations scan.new }
 {
     let mut jobs = jobs_for(alloc, round)?;
     if jobs.is_empty() || jobs.len() > scan.backend_count() || scan.room() < 64 {
@@ -94,7 +96,7 @@ fn list_round<W: World + Send + Sync, D: Disk, R: Threads + Wait + Sync>(
             ending,
             ..
         } = job;
-        all.push(Shown {
+        all.push(JobResult {
             text,
             warnings,
             tally,
@@ -110,11 +112,13 @@ fn list_rounds<W: World + Send + Sync, D: Disk, R: Threads + Wait + Sync>(
     alloc: Global,
     scan: &mut Scan<W, D>,
     rounds: &[Vec<Blocks>],
-    all: &mut Vec<Shown>,
+    all: &mut Vec<JobResult>,
 ) -> Result<(), Fail>
-    requires scan { IsScan (meter D.told D.relations D.reads D.faults) W.told W.relations scan.old }
+    requires scan { IsScan (disk_ghosts D.told D.relations D.reads D.faults)
+        W.told W.relations scan.old }
     requires one { W.relations ≡ 1 }
-    ensures scan { IsScan (meter D.told D.relations D.reads D.faults) W.told W.relations scan.new }
+    ensures scan { IsScan (disk_ghosts D.told D.relations D.reads D.faults)
+        W.told W.relations scan.new }
 {
     for round in rounds {
         list_round(rt, alloc, scan, round.as_slice(), all)?;
@@ -131,9 +135,9 @@ fn scan_shelf<W: World + Send + Sync, S: Shelf, R: Threads + Wait + Sync>(
     names: &[String],
     start: Option<u64>,
     rounds: &[Vec<Blocks>],
-) -> Result<Outcome, Fail>
+) -> Result<ScanResult, Fail>
     requires settings { AreSettings settings.now }
-    requires told { told_of (S.told shelf.old) (map string_bytes names.now) ≡ W.told }
+    requires told { shelf_told (S.told shelf.old) (map string_bytes names.now) ≡ W.told }
     requires one { (W.relations ≡ length names.now) × (length names.now ≡ 1) }
     requires handles { settings.now.backends * settings.now.handles ≡ W.handles }
     requires start { IfSome start (λ s. s < 2 ^ 58) }
@@ -154,7 +158,7 @@ fn scan_shelf<W: World + Send + Sync, S: Shelf, R: Threads + Wait + Sync>(
         shelf.take_back(disk);
     }
     listed?;
-    Ok(Outcome {
+    Ok(ScanResult {
         jobs,
         rooms,
         unread,
@@ -171,7 +175,7 @@ fn scan_from<S: Shelf, R: Abort + AllocGlobal + Threads + Wait + Sync>(
     shelf: &mut S,
     start: Option<u64>,
     rounds: &[Vec<Blocks>],
-) -> Result<Outcome, Fail>
+) -> Result<ScanResult, Fail>
     requires { IfSome start (λ s. s < 2 ^ 58) }
 {
     let alloc = rt.alloc();
@@ -186,7 +190,7 @@ pub(crate) fn scan_over<S: Shelf, R: Abort + AllocGlobal + Threads + Wait + Sync
     settings: &ScanSettings,
     shelf: &mut S,
     rounds: &[Vec<Blocks>],
-) -> Result<Outcome, Fail> {
+) -> Result<ScanResult, Fail> {
     scan_from(rt, settings, shelf, None, rounds)
 }
 
@@ -197,7 +201,7 @@ pub(crate) fn scan_at<S: Shelf, R: Abort + AllocGlobal + Threads + Wait + Sync>(
     shelf: &mut S,
     start: u64,
     rounds: &[Vec<Blocks>],
-) -> Result<Outcome, Fail>
+) -> Result<ScanResult, Fail>
     requires { start < 2 ^ 58 }
 {
     scan_from(rt, settings, shelf, Some(start), rounds)

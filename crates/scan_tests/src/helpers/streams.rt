@@ -1,10 +1,10 @@
 //! Streams over lists, and what they are opened over.
 ghost use Rattle.std.specs.Prelude.{◌≡◌, ◌<◌, IfSome};
 ghost use Rattle.std.specs.List.{All};
-ghost use Rattle.aio_handle.specs.Closing.{IsAtRest};
-ghost use Rattle.aio_handle.specs.Shown.{IsOf, IsSame};
-ghost use Rattle.method_worker.specs.Shown.{IsSeatOf};
-ghost use Rattle.read_stream.specs.Open.{IsOpen};
+ghost use Rattle.aio_handle.specs.Closing.{HasNoTokens};
+ghost use Rattle.aio_handle.specs.ContractViews.{IsActorOf, IsSameActor};
+ghost use Rattle.method_worker.specs.QueueViews.{IsSeatOf};
+ghost use Rattle.read_stream.specs.StreamState.{IsOpen};
 
 use aio_batch::Method;
 use aio_callback::ReadIo;
@@ -28,7 +28,7 @@ const SETTINGS: Settings = Settings {
 };
 
 /// A block, and what is noted beside it.
-pub(crate) type Noted = (u32, u32);
+pub(crate) type NotedBlock = (u32, u32);
 
 // The pages that so many calls answer.
 fn take_pages<W: World, M: Method<ReadIo, W>, E: Execute<ReadIo, W>, T: Wait>(
@@ -39,13 +39,13 @@ fn take_pages<W: World, M: Method<ReadIo, W>, E: Execute<ReadIo, W>, T: Wait>(
     runner: &mut E,
     stream: &mut ReadStream<'_, '_, W, Listed<u32>, u32>,
     calls: u32,
-    pages: &mut Vec<Noted>,
+    pages: &mut Vec<NotedBlock>,
 ) -> Result<(), AllocError>
-    requires table { IsOf table.now actor.old }
+    requires table { IsActorOf table.now actor.old }
     requires told { (E.told runner.old ≡ W.told) × (E.relations runner.old ≡ W.relations) }
     requires actor { actor.old ≡ stream.old.actor_is.value }
     requires is_open { IsOpen (λ r. r) W.told W.relations W.handles stream.old }
-    ensures same { IsSame actor.old actor.new }
+    ensures same { IsSameActor actor.old actor.new }
     ensures told { (E.told runner.new ≡ W.told) × (E.relations runner.new ≡ W.relations) }
     ensures stands_on { M.stands_on method.new ≡ M.stands_on method.old }
     ensures actor { actor.new ≡ stream.new.actor_is.value }
@@ -68,16 +68,16 @@ pub(crate) fn pages_of<W: World, M: Method<ReadIo, W>, E: Execute<ReadIo, W>, T:
     actor: &mut Actor<ReadIo, W>,
     method: &mut M,
     runner: &mut E,
-    list: Vec<Noted>,
-) -> Result<Vec<Noted>, AllocError>
-    requires table { IsOf table.now actor.old }
+    list: Vec<NotedBlock>,
+) -> Result<Vec<NotedBlock>, AllocError>
+    requires table { IsActorOf table.now actor.old }
     requires told { (E.told runner.old ≡ W.told) × (E.relations runner.old ≡ W.relations) }
     requires backend { actor.old.known.number < table.now.config.backends }
-    requires rest { IsAtRest actor.old.known }
+    requires rest { HasNoTokens actor.old.known }
     requires some { 0 < W.relations }
-    ensures same { IsSame actor.old actor.new }
+    ensures same { IsSameActor actor.old actor.new }
     ensures told { (E.told runner.new ≡ W.told) × (E.relations runner.new ≡ W.relations) }
-    ensures rest { IsAtRest actor.new.known }
+    ensures rest { HasNoTokens actor.new.known }
     ensures stands_on { M.stands_on method.new ≡ M.stands_on method.old }
 {
     let mut pages = Vec::new(alloc);

@@ -1,8 +1,8 @@
 //! Another backend, which reads before the stream does.
 ghost use Rattle.std.specs.Prelude.{◌≡◌, ◌<◌, ◌≤◌, length};
-ghost use Rattle.aio_handle.specs.Closing.{IsAtRest};
-ghost use Rattle.aio_handle.specs.Shown.{IsOf};
-ghost use Rattle.read_stream.specs.Desks.{AreSettings};
+ghost use Rattle.aio_handle.specs.Closing.{HasNoTokens};
+ghost use Rattle.aio_handle.specs.ContractViews.{IsActorOf};
+ghost use Rattle.read_stream.specs.Desks.{AreValidSettings};
 
 use crate::helpers::cases::{Blocks, Case};
 use crate::helpers::streams::stream_over;
@@ -22,7 +22,7 @@ fn submit_other<W: World>(
     actor: &mut Actor<ReadIo, W>,
     mut io: ReadIo,
 )
-    requires table { IsOf table.now actor.old }
+    requires table { IsActorOf table.now actor.old }
     requires backend { actor.old.known.number < table.now.config.backends }
     requires record { 1 ≤ length io.pages }
     requires relation { relation < W.relations }
@@ -51,12 +51,12 @@ pub(crate) fn read_before<W: World, E: Execute<ReadIo, W>, T: Wait>(
     actor: &mut Actor<ReadIo, W>,
     runner: &mut E,
 ) -> Result<(), AllocError>
-    requires table { IsOf table.now actor.old }
+    requires table { IsActorOf table.now actor.old }
     requires told { (E.told runner.old ≡ W.told) × (E.relations runner.old ≡ W.relations) }
-    requires settings { AreSettings case.now.settings.combine case.now.settings.ios
+    requires settings { AreValidSettings case.now.settings.combine case.now.settings.ios
         case.now.settings.limit case.now.settings.segment }
     requires backend { actor.old.known.number < table.now.config.backends }
-    requires rest { IsAtRest actor.old.known }
+    requires rest { HasNoTokens actor.old.known }
     requires relation { case.now.relation < W.relations }
     ensures told { (E.told runner.new ≡ W.told) × (E.relations runner.new ≡ W.relations) }
 {

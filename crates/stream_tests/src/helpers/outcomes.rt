@@ -1,6 +1,6 @@
 //! What comes of a case.
 ghost use Rattle.std.specs.Prelude.{◌≡◌, ◌*◌, ◌<◌, ◌≤◌};
-ghost use Rattle.read_stream.specs.Desks.{AreSettings};
+ghost use Rattle.read_stream.specs.Desks.{AreValidSettings};
 
 use crate::helpers::answers::Answer;
 use crate::helpers::cases::{Case, is_in_range};
@@ -30,7 +30,7 @@ fn read_all<W: World, D: Disk, T: Wait>(
 ) -> Result<(Option<Streamed>, D), AllocError>
     requires handles_in { (1 ≤ case.now.handles) × (case.now.handles ≤ 64) }
     requires frames { (16 ≤ case.now.frames) × (case.now.frames ≤ 16384) }
-    requires settings { AreSettings case.now.settings.combine case.now.settings.ios
+    requires settings { AreValidSettings case.now.settings.combine case.now.settings.ios
         case.now.settings.limit case.now.settings.segment }
     requires handles { W.handles ≡ 2 * case.now.handles }
     requires told { (D.told disk ≡ W.told) × (D.relations disk ≡ W.relations) }

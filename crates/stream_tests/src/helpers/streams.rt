@@ -1,9 +1,9 @@
 //! Streams over one pool.
 ghost use Rattle.std.specs.Prelude.{◌≡◌, ◌<◌};
-ghost use Rattle.aio_handle.specs.Closing.{IsAtRest};
-ghost use Rattle.aio_handle.specs.Shown.{IsOf, IsSame};
-ghost use Rattle.read_stream.specs.Desks.{AreSettings};
-ghost use Rattle.read_stream.specs.Open.{IsOpen};
+ghost use Rattle.aio_handle.specs.Closing.{HasNoTokens};
+ghost use Rattle.aio_handle.specs.ContractViews.{IsActorOf, IsSameActor};
+ghost use Rattle.read_stream.specs.Desks.{AreValidSettings};
+ghost use Rattle.read_stream.specs.StreamState.{IsOpen};
 
 use crate::helpers::answers::{Answer, answer_of};
 use crate::helpers::cases::Case;
@@ -28,11 +28,11 @@ fn take_answers<W: World, E: Execute<ReadIo, W>, T: Wait>(
     calls: u32,
     all: &mut Vec<Answer>,
 ) -> Result<(), AllocError>
-    requires table { IsOf table.now actor.old }
+    requires table { IsActorOf table.now actor.old }
     requires told { (E.told runner.old ≡ W.told) × (E.relations runner.old ≡ W.relations) }
     requires actor { actor.old ≡ stream.old.actor_is.value }
     requires is_open { IsOpen (λ r. r) W.told W.relations W.handles stream.old }
-    ensures same { IsSame actor.old actor.new }
+    ensures same { IsSameActor actor.old actor.new }
     ensures told { (E.told runner.new ≡ W.told) × (E.relations runner.new ≡ W.relations) }
     ensures actor { actor.new ≡ stream.new.actor_is.value }
     ensures is_open { IsOpen (λ r. r) W.told W.relations W.handles stream.new }
@@ -63,16 +63,16 @@ pub(crate) fn stream_over<W: World, E: Execute<ReadIo, W>, T: Wait>(
     runner: &mut E,
     list: Vec<(u32, u32)>,
 ) -> Result<Streamed, AllocError>
-    requires table { IsOf table.now actor.old }
+    requires table { IsActorOf table.now actor.old }
     requires told { (E.told runner.old ≡ W.told) × (E.relations runner.old ≡ W.relations) }
-    requires settings { AreSettings case.now.settings.combine case.now.settings.ios
+    requires settings { AreValidSettings case.now.settings.combine case.now.settings.ios
         case.now.settings.limit case.now.settings.segment }
     requires backend { actor.old.known.number < table.now.config.backends }
-    requires rest { IsAtRest actor.old.known }
+    requires rest { HasNoTokens actor.old.known }
     requires relation { case.now.relation < W.relations }
-    ensures same { IsSame actor.old actor.new }
+    ensures same { IsSameActor actor.old actor.new }
     ensures told { (E.told runner.new ≡ W.told) × (E.relations runner.new ≡ W.relations) }
-    ensures rest { IsAtRest actor.new.known }
+    ensures rest { HasNoTokens actor.new.known }
 {
     let mut all = Vec::new(alloc);
     let mut method = CountingSync { heard: 0 };
@@ -117,12 +117,12 @@ pub(crate) fn two_streams<W: World, E: Execute<ReadIo, W>, T: Wait>(
     actor: &mut Actor<ReadIo, W>,
     runner: &mut E,
 ) -> Result<Streamed, AllocError>
-    requires table { IsOf table.now actor.old }
+    requires table { IsActorOf table.now actor.old }
     requires told { (E.told runner.old ≡ W.told) × (E.relations runner.old ≡ W.relations) }
-    requires settings { AreSettings case.now.settings.combine case.now.settings.ios
+    requires settings { AreValidSettings case.now.settings.combine case.now.settings.ios
         case.now.settings.limit case.now.settings.segment }
     requires backend { actor.old.known.number < table.now.config.backends }
-    requires rest { IsAtRest actor.old.known }
+    requires rest { HasNoTokens actor.old.known }
     requires relation { case.now.relation < W.relations }
 {
     let first = case.first.list(alloc)?;

@@ -1,10 +1,10 @@
 use Rattle.std.proofs.Common.{ap, arith}
-use Rattle.aio_callback.specs.Chain.{Outcome, outcome_of, number_in}
-use Rattle.aio_callback.proofs.Below.{zero_below}
+use Rattle.aio_callback.specs.Chain.{Outcome, outcome_of, natural_part}
+use Rattle.aio_callback.proofs.ChainLowersResult.{zero_below}
 use Rattle.aio_callback.proofs.chain.run_callback.Goals as goal
 
 pub returns-in-ZeroBuffer-clause-below : goal.returns-in-ZeroBuffer-clause-below
 returns-in-ZeroBuffer-clause-below c =
-    let same = ap (λ (o : Outcome). number_in o.result.result) c.run_zero.ensures in
+    let same = ap (λ (o : Outcome). natural_part o.result.result) c.run_zero.ensures in
     let few = zero_below (outcome_of c.args.before c.args.pages.now c.args.zeroed.now) in
     omega arith

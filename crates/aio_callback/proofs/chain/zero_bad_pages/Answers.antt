@@ -3,7 +3,7 @@ use Rattle.std.proofs.Common.{arith, ◌+◌}
 use Rattle.std.proofs.lemmas.List.{length-take}
 use Rattle.std.proofs.lemmas.List.Sums.{count_by-le-length}
 use Rattle.aio_callback.specs.Chain.{is_bad, zeros_if_bad}
-use Rattle.aio_callback.proofs.Zeroing.{IsDone, done_none, done_bad, done_good, done_all}
+use Rattle.aio_callback.proofs.BadPagesZeroed.{IsDone, done_none, done_bad, done_good, done_all}
 use Rattle.aio_callback.proofs.chain.zero_bad_pages.Goals as goal
 use Rattle.aio_callback.proofs.chain.zero_bad_pages.Goals.{then-zero_if_bad, else-zero_if_bad}
 

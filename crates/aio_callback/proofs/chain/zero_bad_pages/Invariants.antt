@@ -1,4 +1,4 @@
-use Rattle.aio_callback.proofs.Zeroing.{IsDone}
+use Rattle.aio_callback.proofs.BadPagesZeroed.{IsDone}
 use Rattle.aio_callback.proofs.chain.zero_bad_pages.Given as goal
 
 abbrev pub invariant-loop-index : goal.invariant-loop-index

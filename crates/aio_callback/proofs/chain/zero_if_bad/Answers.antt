@@ -1,6 +1,6 @@
 use Rattle.std.proofs.Common.{◌≡◌, ℕ, replicate, ap, sym, ◌∙◌}
 use Rattle.page_check.specs.SynchronousAnswer.{zero_page}
-use Rattle.aio_callback.proofs.Zeroing.{written_over}
+use Rattle.aio_callback.proofs.BadPagesZeroed.{written_over}
 use Rattle.aio_callback.proofs.chain.zero_if_bad.Goals as goal
 
 pub returns-then-bad-clause-zeros : goal.returns-then-bad-clause-zeros

@@ -1,4 +1,4 @@
-use Rattle.aio_callback.proofs.Aims.{reads-as}
+use Rattle.aio_callback.proofs.AimNamesRead.{reads-as}
 use Rattle.aio_callback.proofs.laws.an_aim_names_the_read.Goals as goal
 
 pub returns : goal.returns

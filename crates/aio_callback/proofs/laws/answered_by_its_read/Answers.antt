@@ -1,4 +1,4 @@
-use Rattle.aio_callback.proofs.ReadInto.{answered_by}
+use Rattle.aio_callback.proofs.FirstPagesRead.{answered_by}
 use Rattle.aio_callback.proofs.laws.answered_by_its_read.Goals as goal
 
 pub returns : goal.returns

@@ -1,4 +1,4 @@
-use Rattle.aio_callback.proofs.ReadInto.{aim_stays}
+use Rattle.aio_callback.proofs.FirstPagesRead.{aim_stays}
 use Rattle.aio_callback.proofs.laws.lent_pages_leave_the_aim.Goals as goal
 
 pub returns : goal.returns

@@ -1,4 +1,4 @@
-use Rattle.aio_callback.proofs.SixWays.{six_ways, all_given, none_of_stream}
+use Rattle.aio_callback.proofs.StreamReadEnds.{six_ways, all_given, none_of_stream}
 use Rattle.aio_callback.proofs.laws.stream_records_end_in_six_ways.Goals as goal
 
 pub returns-clause-case : goal.returns-clause-case

@@ -3,7 +3,7 @@ use Rattle.std.proofs.Common.{Some, slice_get, OnOk, Result, Ok, Err}
 use Rattle.std.proofs.lemmas.List.{set-get_or}
 use Rattle.std.proofs.lemmas.Option.{slice_get-get_or, slice_get_read}
 use Rattle.aio_word.specs.declared.Mark.{Mark}
-use Rattle.aio_core.specs.Allowed.{noted_in}
+use Rattle.aio_core.specs.Allowed.{lists_with_mark}
 use Rattle.aio_core.proofs.marks.note.Goals as goal
 
 on-ok : {T E : Type 0} (r : Result T E) (P Q : Type 0) → (P → Q) → OnOk r P → OnOk r Q
@@ -14,7 +14,7 @@ pub returns-in-None-clause-ok : goal.returns-in-None-clause-ok
 returns-in-None-clause-ok c =
     let at = slice_get-get_or c.args.lists.now c.args.actor [] c.requires in
     sym (set-get_or c.args.lists.now c.args.actor [])
-    ∙ sym ((λ k. noted_in c.args.lists.now c.args.actor c.args.handle c.args.generation
+    ∙ sym ((λ k. lists_with_mark c.args.lists.now c.args.actor c.args.handle c.args.generation
     (c.in-None.is k) (at k)))
 
 pub returns-in-Some-clause-ok : goal.returns-in-Some-clause-ok
@@ -38,6 +38,6 @@ returns-in-Some-clause-ok c =
           c.args.generation;
       kind = c.in-Some.kind;
     } ∷ []) same)
-    ∙ sym ((λ k. noted_in c.args.lists.now c.args.actor c.args.handle c.args.generation
+    ∙ sym ((λ k. lists_with_mark c.args.lists.now c.args.actor c.args.handle c.args.generation
     (c.in-Some.is k) (at k))))
     c.push.ensures.ok

@@ -2,7 +2,7 @@ use Rattle.std.proofs.Common.{◌≡◌, ◌*◌, ◌/◌, ℕ, [], length, subs
 use Rattle.std.specs.Prelude.{IfSome}
 use Rattle.std.proofs.lemmas.List.{drop_all}
 use Rattle.aio_disk.specs.Source.{GivesBlock}
-use Rattle.aio_disk.proofs.Runs.{row_given}
+use Rattle.aio_disk.proofs.GivenPages.{row_given}
 use Rattle.aio_disk.proofs.source.read_blocks.Goals as goal
 
 pub returns-in-Ok-clause-pages : goal.returns-in-Ok-clause-pages

@@ -1,7 +1,7 @@
 use Rattle.std.proofs.Common.{◌≡◌, arith, rules, length, ◌-◌, ◌+◌}
 use Rattle.aio_disk.specs.Source.{GivesBytes}
-use Rattle.aio_disk.proofs.Sources.{none_failed_both, then_one_failed, told_still, parts_held}
-use Rattle.aio_disk.proofs.Sources.{parts_end}
+use Rattle.aio_disk.proofs.SourceCalls.{none_failed_both, then_one_failed, told_still, parts_held}
+use Rattle.aio_disk.proofs.SourceCalls.{parts_end}
 use Rattle.aio_disk.proofs.source.read_some.Goals as goal
 
 pub returns-in-Ok-eq0-clause-bytes : goal.returns-in-Ok-eq0-clause-bytes

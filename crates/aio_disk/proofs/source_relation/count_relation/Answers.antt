@@ -4,9 +4,9 @@ use Rattle.std.specs.Prelude.{IfSome, Option}
 use Rattle.std.specs.Option.{option_map}
 use Rattle.std.proofs.lemmas.List.{length-map}
 use Rattle.page_check.specs.Told.{block_count}
-use Rattle.aio_disk.specs.Source.{Source, later}
-use Rattle.aio_disk.proofs.SourceSegments.{count_joined, tells_at, tell_length, told_new}
-use Rattle.aio_disk.proofs.SourceSegments.{told_old, told_other}
+use Rattle.aio_disk.specs.Source.{Source, with_failures}
+use Rattle.aio_disk.proofs.OneSegmentCalled.{count_joined, tells_at, tell_length, told_new}
+use Rattle.aio_disk.proofs.OneSegmentCalled.{told_old, told_other}
 use Rattle.aio_disk.proofs.source_relation.count_relation.Goals as goal
 
 pub returns-in-Ok-clause-blocks : goal.returns-in-Ok-clause-blocks
@@ -59,7 +59,7 @@ returns-in-Err-clause-called g c =
     let some : length segments - 1 < length segments = omega (arith, c.requires.some) in
     told_new told segments (length segments - 1) _ some
     ∙ c.in-Err.ensures
-    ∙ ap (option_map (later 1 0))
+    ∙ ap (option_map (with_failures 1 0))
     (sym (told_old told segments (length segments - 1) c.index-segments-last.result some))
 
 pub returns-in-Err-clause-others : goal.returns-in-Err-clause-others

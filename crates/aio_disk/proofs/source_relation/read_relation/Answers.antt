@@ -2,20 +2,20 @@ use Rattle.std.proofs.Common.{◌≡◌, ◌-◌, ◌*◌, ◌<◌, length, map}
 use Rattle.std.proofs.Common.{arith, rules, subst, drop, refl, sym}
 use Rattle.std.specs.Prelude.{IfSome, Option}
 use Rattle.std.proofs.lemmas.List.{length-map}
-use Rattle.page_check.specs.Told.{joined}
+use Rattle.page_check.specs.Told.{segments_joined}
 use Rattle.aio_disk.specs.Disk.{ReadsBlocks}
 use Rattle.aio_disk.specs.Source.{Source, NoneFailed, OneFailed}
-use Rattle.aio_disk.specs.Segments.{segment_of}
-use Rattle.aio_disk.proofs.Runs.{no_block}
-use Rattle.aio_disk.proofs.SourceSegments.{reads_joined, reads_in_front, tells_at, tell_length}
-use Rattle.aio_disk.proofs.SourceSegments.{told_old, told_other, called_at, place_of}
+use Rattle.aio_disk.specs.Segments.{segment_index}
+use Rattle.aio_disk.proofs.GivenPages.{no_block}
+use Rattle.aio_disk.proofs.OneSegmentCalled.{reads_joined, reads_in_front, tells_at, tell_length}
+use Rattle.aio_disk.proofs.OneSegmentCalled.{told_old, told_other, called_at, place_of}
 use Rattle.aio_disk.proofs.source_relation.read_relation.Goals as goal
 
 pub returns-then-room-eq0-clause-pages : goal.returns-then-room-eq0-clause-pages
 returns-then-room-eq0-clause-pages g c = λ bytes tell. record {
   within = omega arith;
   some = λ below.
-      absurd (no_block (joined c.args.size bytes) c.args.first
+      absurd (no_block (segments_joined c.args.size bytes) c.args.first
       (omega (arith, c.requires.some, c.min-room.ensures, c.if-room-eq0.true)) below);
   told_pages = refl;
 }
@@ -42,7 +42,7 @@ returns-in-Ok-clause-pages g c = λ bytes tell.
     (λ l. ReadsBlocks l inside c.in-Ok.count pages) tell (omega (arith, below, size))
     (subst P (sym (told_old told segments index c.index-segments-index.result below))
     c.in-Ok.ensures.pages.1) in
-    reads_in_front (joined c.args.size bytes) c.args.first c.in-Ok.count pages
+    reads_in_front (segments_joined c.args.size bytes) c.args.first c.in-Ok.count pages
     (drop c.min-room.result c.args.pages.now) c.in-Ok.ensures.few
     (reads_joined c.args.size (map told segments) bytes c.args.first index inside c.in-Ok.count
     pages c.requires.most c.requires.whole tell (
@@ -57,7 +57,7 @@ returns-in-Ok-clause-called g c =
     let segments = c.args.segments.now in
     let told = g.S.ByteSource.told in
     called_at told segments c.segment_of-index.result
-    (segment_of c.args.size (map told segments) c.args.first)
+    (segment_index c.args.size (map told segments) c.args.first)
     c.read_blocks.new.source c.index-segments-index.result
     (λ before now. NoneFailed before now)
     (omega (arith, c.segment_of-index.ensures, c.requires.segments))
@@ -76,7 +76,7 @@ returns-in-Err-clause-called g c =
     let segments = c.args.segments.now in
     let told = g.S.ByteSource.told in
     called_at told segments c.segment_of-index.result
-    (segment_of c.args.size (map told segments) c.args.first)
+    (segment_index c.args.size (map told segments) c.args.first)
     c.read_blocks.new.source c.index-segments-index.result (λ before now. OneFailed before now)
     (omega (arith, c.segment_of-index.ensures, c.requires.segments))
     (omega (arith, c.segment_of-index.ensures, length-map segments told))

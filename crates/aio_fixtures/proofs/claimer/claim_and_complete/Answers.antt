@@ -2,11 +2,11 @@ use Rattle.std.proofs.Common.{[], ◌∷◌, refl, subst}
 use Rattle.aio_word.specs.declared.Known.{Known}
 use Rattle.aio_word.specs.declared.Kind.TheVariants as kind
 use Rattle.aio_word.specs.declared.WaitRef.{WaitRef}
-use Rattle.aio_word.specs.Tokens.{Grows, mark_at}
-use Rattle.aio_handle.proofs.Growing.{claim-grows, grows-then}
-use Rattle.aio_handle.proofs.Kept.{kept-taking-up}
-use Rattle.aio_fixtures.proofs.Claiming.{completed-takes-up, looked-takes-up}
-use Rattle.aio_fixtures.proofs.Unreclaimed.{taken-up-unreclaimed, taken-up-rests}
+use Rattle.aio_word.specs.Tokens.{AppendsMarks, make_mark}
+use Rattle.aio_handle.proofs.ListsGrow.{claim-grows, appends-then}
+use Rattle.aio_handle.proofs.TokensStay.{unchanged-by-execution}
+use Rattle.aio_fixtures.proofs.ClaimOutcomes.{completed-takes-up, looked-takes-up}
+use Rattle.aio_fixtures.proofs.UnreclaimedIos.{taken-up-unreclaimed, taken-up-rests}
 use Rattle.aio_fixtures.proofs.claimer.claim_and_complete.Goals as goal
 
 marks : goal.returns-clause-marks
@@ -15,18 +15,18 @@ marks g c _ =
     let before : Known = c.args.actor.now.known in
     let claimed : Known = c.claim.new.actor.known in
     let ended : Known = c.complete_as.new.actor.known in
-    grows-then before claimed ended (mark_at t kind.Claimed ∷ [])
-    (mark_at t (kind.Io c.args.class) ∷ mark_at t kind.Shared ∷ [])
+    appends-then before claimed ended (make_mark t kind.Claimed ∷ [])
+    (make_mark t (kind.Io c.args.class) ∷ make_mark t kind.Shared ∷ [])
     (claim-grows t.handle t.generation _ before claimed c.in-Some.ensures.won.1)
-    (subst (λ (u : WaitRef). Grows claimed ended
-    (mark_at u (kind.Io c.args.class) ∷ mark_at u kind.Shared ∷ [])) c.in-Some.ensures.won.0
+    (subst (λ (u : WaitRef). AppendsMarks claimed ended
+    (make_mark u (kind.Io c.args.class) ∷ make_mark u kind.Shared ∷ [])) c.in-Some.ensures.won.0
     c.complete_as.ensures.marks)
 
 pub returns-clause-marks : goal.returns-clause-marks
 returns-clause-marks g c done = marks g c done
 
 pub returns-clause-kept : goal.returns-clause-kept
-returns-clause-kept g c u = kept-taking-up u [] _ _ _ _ _ _
+returns-clause-kept g c u = unchanged-by-execution u [] _ _ _ _ _ _
     (completed-takes-up c.args.reference c.args.class _ _ (marks g c refl))
 
 pub returns-clause-unreclaimed : goal.returns-clause-unreclaimed
@@ -38,7 +38,7 @@ returns-clause-rests g c rests = taken-up-rests _ _ _ _ _ _
     (completed-takes-up c.args.reference c.args.class _ _ (marks g c refl)) rests
 
 pub returns-in_default-clause-kept : goal.returns-in_default-clause-kept
-returns-in_default-clause-kept g c u = kept-taking-up u [] _ _ _ _ _ _
+returns-in_default-clause-kept g c u = unchanged-by-execution u [] _ _ _ _ _ _
     (looked-takes-up _ _ _ _ c.in_default.ensures.lost.1)
 
 pub returns-in_default-clause-unreclaimed : goal.returns-in_default-clause-unreclaimed

@@ -4,7 +4,7 @@ use Rattle.aio_word.specs.declared.Step.TheVariants as event
 use Rattle.aio_word.specs.declared.WaitRef.{WaitRef}
 use Rattle.aio_fixtures.specs.Lives.{HasUnreclaimed}
 use Rattle.aio_fixtures.proofs.Lives.{amid, amid-then, begun}
-use Rattle.aio_fixtures.proofs.Unreclaimed.{not-defined, not-staged, begun-unreclaimed}
+use Rattle.aio_fixtures.proofs.UnreclaimedIos.{not-defined, not-staged, begun-unreclaimed}
 use Rattle.aio_fixtures.proofs.owner.submit_acquired.Goals as goal
 
 begins : goal.returns-clause-begins
@@ -36,7 +36,7 @@ returns-clause-kept g c u flies =
     let defined = c.define-token.ensures.token in
     let staged = c.stage-token.ensures.token in
     let sent = c.submit.ensures.token in
-    let one = (c.defining_keeps_tokens.ensures u _ _ _ p q c.keeps.ensures
+    let one = (c.define_keeps_tokens.ensures u _ _ _ p q c.has_seen_its_marks.ensures
     c.define-token.ensures.event).in_flight flies in
     let other : u ≢ c.define-token.result.0 =
     not-defined u c.define-token.result.0 q one defined.2 in

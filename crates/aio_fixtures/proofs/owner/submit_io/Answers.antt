@@ -3,7 +3,7 @@ use Rattle.aio_word.specs.declared.Known.{Known}
 use Rattle.aio_word.specs.declared.WaitRef.{WaitRef}
 use Rattle.aio_word.specs.declared.Step.TheVariants as event
 use Rattle.aio_fixtures.specs.Lives.{HasUnreclaimed}
-use Rattle.aio_fixtures.proofs.Unreclaimed.{submitted-unreclaimed}
+use Rattle.aio_fixtures.proofs.UnreclaimedIos.{submitted-unreclaimed}
 use Rattle.aio_fixtures.proofs.owner.submit_io.Goals as goal
 
 pub returns-in-Ok-clause-submitted : goal.returns-in-Ok-clause-submitted

@@ -1,7 +1,7 @@
 use Rattle.std.proofs.Common.{◌≡◌, ◌-◌, ◌^◌, ℕ, min, cond, nat_lt, length, refl, ap, ◌∙◌, arith}
 use Rattle.aio_word.specs.declared.Known.{Known}
 use Rattle.aio_word.specs.Tokens.{claimed_marks}
-use Rattle.aio_handle.proofs.Gathering.{all-of, counts-on}
+use Rattle.aio_handle.proofs.ListsOfAllActors.{all-of, counts-on}
 use Rattle.aio_handle.proofs.close.count_claims.Goals as goal
 
 pub loop-k-init : goal.loop-k-init

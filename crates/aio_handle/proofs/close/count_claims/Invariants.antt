@@ -1,7 +1,7 @@
 use Rattle.std.proofs.Common.{◌≡◌, ◌-◌, ◌^◌, min, cond, nat_lt}
 use Rattle.aio_word.specs.declared.Known.{Known}
 use Rattle.aio_word.specs.Tokens.{claimed_marks}
-use Rattle.aio_handle.proofs.Gathering.{so-far}
+use Rattle.aio_handle.proofs.ListsOfAllActors.{so-far}
 use Rattle.aio_handle.proofs.close.count_claims.Given as goal
 
 abbrev pub invariant-loop-k : goal.invariant-loop-k

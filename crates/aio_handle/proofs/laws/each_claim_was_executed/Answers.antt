@@ -1,4 +1,4 @@
-use Rattle.aio_handle.proofs.Balance.{balance}
+use Rattle.aio_handle.proofs.IoMarksMatchClaims.{balance}
 use Rattle.aio_handle.proofs.laws.each_claim_was_executed.Goals as goal
 
 pub returns : goal.returns

@@ -1,4 +1,4 @@
-use Rattle.aio_handle.proofs.Balance.{executed-in}
+use Rattle.aio_handle.proofs.IoMarksMatchClaims.{executed-in}
 use Rattle.aio_handle.proofs.laws.each_result_was_executed.Goals as goal
 
 pub returns : goal.returns

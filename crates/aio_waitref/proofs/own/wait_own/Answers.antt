@@ -1,10 +1,10 @@
 use Rattle.aio_word.specs.declared.Known.{Known}
-use Rattle.aio_waitref.proofs.InFlight.{flight_taken_up, flight_taken}
+use Rattle.aio_waitref.proofs.WaitKeepsInFlight.{in_flight_taken_up, in_flight_taken}
 use Rattle.aio_waitref.proofs.own.wait_own.Goals as goal
 
 pub try_take-requires-clause-token : goal.try_take-requires-clause-token
 try_take-requires-clause-token g c _ _ =
-    flight_taken_up c.args.token c.args.actor.now.known c.wait.new.actor.known
+    in_flight_taken_up c.args.token c.args.actor.now.known c.wait.new.actor.known
     (g.E.Execute.reads c.args.runner.now) (g.E.Execute.reads c.wait.new.runner)
     (g.E.Execute.faults c.args.runner.now) (g.E.Execute.faults c.wait.new.runner)
     c.wait.ensures.marks c.requires.token
@@ -15,7 +15,7 @@ unreachable-requires g c =
     let q : Known = c.wait.new.actor.known in
     let r : Known = c.try_take.new.actor.known in
     let (w, looked, not_there) = c.in-NotYet.ensures.not_yet.2 in
-    flight_taken c.args.token c.reference-reference.result w p q r
+    in_flight_taken c.args.token c.reference-reference.result w p q r
     (g.E.Execute.reads c.args.runner.now) (g.E.Execute.reads c.wait.new.runner)
     (g.E.Execute.faults c.args.runner.now) (g.E.Execute.faults c.wait.new.runner)
     c.reference-reference.ensures c.wait.ensures.marks c.requires.token c.wait.ensures.done looked

@@ -1,6 +1,6 @@
 use Rattle.std.proofs.Common.{◌∙◌}
 use Rattle.aio_word.specs.declared.Known.{Known}
-use Rattle.aio_waitref.proofs.Seeing.{checks_on, looks_on}
+use Rattle.aio_waitref.proofs.SeenDone.{checks_on, looks_on}
 use Rattle.aio_waitref.proofs.waits.rest_until_done.Goals as goal
 
 pub loop-preserved : goal.loop-preserved

@@ -1,5 +1,5 @@
 use Rattle.aio_word.specs.declared.Kind.TheVariants as kind
-use Rattle.aio_word.proofs.Lives.{mark-once}
+use Rattle.aio_word.proofs.LivesOfHandle.{mark-once}
 use Rattle.aio_word.proofs.laws.claimed_once.Goals as goal
 
 pub returns-clause-claimed : goal.returns-clause-claimed

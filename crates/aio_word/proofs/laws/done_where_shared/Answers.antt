@@ -1,4 +1,4 @@
-use Rattle.aio_word.proofs.Lives.{done-exactly}
+use Rattle.aio_word.proofs.LivesOfHandle.{done-exactly}
 use Rattle.aio_word.proofs.laws.done_where_shared.Goals as goal
 
 pub returns : goal.returns

@@ -1,5 +1,5 @@
-use Rattle.aio_word.proofs.Reaching.{reached-stands}
+use Rattle.aio_word.proofs.ReachableIsLawful.{reachable-is-lawful}
 use Rattle.aio_word.proofs.laws.every_reached_machine_stands.Goals as goal
 
 pub returns : goal.returns
-returns c = λ config m small reached. reached-stands config small m reached
+returns c = λ config m small reached. reachable-is-lawful config small m reached

@@ -1,4 +1,4 @@
-use Rattle.aio_word.proofs.Moves.{get-at}
+use Rattle.aio_word.proofs.EventEffect.{get-at}
 use Rattle.aio_word.proofs.laws.over_has_each_mark_once.Goals as goal
 
 pub returns : goal.returns

@@ -1,5 +1,8 @@
-use Rattle.aio_word.proofs.Plain.{plain, ranked}
+use Rattle.aio_word.proofs.RanksAgree.{stands-from-ranks, stands-by-rank}
 use Rattle.aio_word.proofs.laws.pairs_and_ranks_agree.Goals as goal
 
 pub returns : goal.returns
-returns c = λ config words parts. (ranked config words parts, plain config words parts)
+returns c = λ config words parts. (
+  stands-by-rank config words parts,
+  stands-from-ranks config words parts,
+)

@@ -1,4 +1,4 @@
-use Rattle.aio_word.proofs.Lives.{reclaimed-first}
+use Rattle.aio_word.proofs.LivesOfHandle.{reclaimed-first}
 use Rattle.aio_word.proofs.laws.reclaimed_before_the_next.Goals as goal
 
 pub returns : goal.returns

@@ -1,4 +1,4 @@
-use Rattle.aio_word.proofs.Lives.{taken-after-shared, earlier-stands}
+use Rattle.aio_word.proofs.LivesOfHandle.{taken-after-shared, earlier-mark-total}
 use Rattle.aio_word.proofs.laws.shared_then_taken.Goals as goal
 
 pub returns-clause-once : goal.returns-clause-once
@@ -7,5 +7,6 @@ returns-clause-once c =
 
 pub returns-clause-earlier : goal.returns-clause-earlier
 returns-clause-earlier c =
-    λ config words parts t earlier later s le. earlier-stands config words parts s t earlier later
+    λ config words parts t earlier later s le. earlier-mark-total config words parts s t earlier
+    later
     le

@@ -1,18 +1,20 @@
 use Rattle.std.proofs.Common.{rules, arith, refl, [], ℕ, List, ap, sym, ◌∙◌, subst}
 use Rattle.std.specs.Prelude.{Some, slice_index_or}
-use Rattle.aioscan_cmd.specs.Command.{manner_by}
-use Rattle.aioscan_cmd.specs.Cutting.{map_pages_of, request_list_for, settings_for}
-use Rattle.aioscan_cmd.specs.Reading.{Lists, way_by}
+use Rattle.aioscan_cmd.specs.Command.{options_of_settings}
+use Rattle.aioscan_cmd.specs.RemainingRequests.{map_page_count, resolved_request_list}
+use Rattle.aioscan_cmd.specs.RemainingRequests.{resolved_settings}
+use Rattle.aioscan_cmd.specs.Output.{IsOutput, command_format}
 use Rattle.aioscan_cmd.specs.RequestList.{block_range}
 use Rattle.aioscan_cmd.specs.declared.report.Outcome.{Outcome}
-use Rattle.aioscan_cmd.proofs.AskedByMap.{all_asked, map_added, map_followed, map_part, map_stopped}
-use Rattle.aioscan_cmd.proofs.AskedByMap.{pages_asked, unread_out}
-use Rattle.aioscan_cmd.proofs.ByMap.{way_with}
-use Rattle.aioscan_cmd.proofs.OneJob.{not_write}
-use Rattle.aioscan_cmd.proofs.Lists.{lists_nothing}
-use Rattle.aioscan_cmd.proofs.MapBlocks.{all_of_zero, has_two}
-use Rattle.aioscan_cmd.proofs.Telling.{tells_same, warns_none, warns_then}
-use Rattle.aioscan_cmd.proofs.Totals.{ended_done}
+use Rattle.aioscan_cmd.proofs.MapCommandOutput.{all_asked, map_added, map_followed, map_part}
+use Rattle.aioscan_cmd.proofs.MapCommandOutput.{map_stopped}
+use Rattle.aioscan_cmd.proofs.MapCommandOutput.{pages_asked, unread_out}
+use Rattle.aioscan_cmd.proofs.MapPagesThenBlocks.{format_with_map}
+use Rattle.aioscan_cmd.proofs.JobTextOutput.{not_write}
+use Rattle.aioscan_cmd.proofs.OutputsAppend.{lists_nothing}
+use Rattle.aioscan_cmd.proofs.MapPageCount.{all_of_zero, has_two}
+use Rattle.aioscan_cmd.proofs.ErrorTextsAppend.{tells_same, warns_none, warns_then}
+use Rattle.aioscan_cmd.proofs.JobSumsAdd.{ended_done}
 use Rattle.aioscan_cmd.proofs.by_map.list_by_map.Goals as goal
 
 pub map-ending-requires-clause-may : goal.map-ending-requires-clause-may
@@ -32,8 +34,8 @@ map-ending-requires-clause-may g c κs within =
 pub returns-in_default-clause-listed : goal.returns-in_default-clause-listed
 returns-in_default-clause-listed g c = (
   λ _. [],
-  warns_none _ _ _ _ _ refl (lists_nothing (way_by c.args.asked.command.now) g.W.World.told
-      (request_list_for c.args.asked g.W.World.told (λ _. [])) _),
+  warns_none _ _ _ _ _ refl (lists_nothing (command_format c.args.asked.command.now) g.W.World.told
+      (resolved_request_list c.args.asked g.W.World.told (λ _. [])) _),
   omega arith,
 )
 
@@ -92,8 +94,9 @@ returns g c =
           tells = tells_same _ _ _ _ (search rules) c.write_warnings-line.ensures;
           are = map_stopped c.args.asked by.map by.given told given _ _ _
               c.in_default-outcome_of.not-Done
-              (subst (λ (o : Outcome). Lists (way_with (manner_by (settings_for c.args.asked))
-              (Some by.map)) told (block_range 1 0 (map_pages_of c.args.asked))
+              (subst (λ (o : Outcome). IsOutput
+              (format_with_map (options_of_settings (resolved_settings c.args.asked))
+              (Some by.map)) told (block_range 1 0 (map_page_count c.args.asked))
               (g.O.Sink.written c.args.out.now) (g.O.Sink.written c.args.out.now) o
               c.map-ending.new.warnings.items) (sym c.outcome_of.ensures)
               (map_part _ _ told bs cs _ _ found c.map-ending.new.warnings.items

@@ -1,6 +1,8 @@
 use Rattle.std.proofs.Common.{◌∙◌, sym}
-use Rattle.aioscan_cmd.proofs.Cutting.{left_at-cut, left_at-next, left_at-end, file_inside}
-use Rattle.aioscan_cmd.proofs.Cutting.{no_further_file}
+use Rattle.aioscan_cmd.proofs.RemainingRequestsStep.{remaining_requests-cut}
+use Rattle.aioscan_cmd.proofs.RemainingRequestsStep.{remaining_requests-next}
+use Rattle.aioscan_cmd.proofs.RemainingRequestsStep.{remaining_requests-end, file_inside}
+use Rattle.aioscan_cmd.proofs.RemainingRequestsStep.{no_further_file}
 use Rattle.aioscan_cmd.proofs.cutter.cut_next.Goals as goal
 
 pub returns-in-Some-clause-some : goal.returns-in-Some-clause-some
@@ -9,8 +11,8 @@ returns-in-Some-clause-some c =
     c.loop-file-test.true in
     let cut = c.in-Some.ensures.some in (
       sym c.loop-file.invariant
-          ∙ left_at-cut c.args.asked c.loop-file.file c.loop-file.done c.in-Some.cut.count _
-          inside cut.0,
+          ∙ remaining_requests-cut c.args.asked c.loop-file.file
+          c.loop-file.done c.in-Some.cut.count _ inside cut.0,
       cut.1,
     )
 
@@ -18,12 +20,12 @@ pub loop-file-preserved : goal.loop-file-preserved
 loop-file-preserved c =
     let inside = file_inside c.args.asked _ _ c.files-file-end.ensures.files
     c.loop-file-test.true in
-    sym (left_at-next c.args.asked c.loop-file.file c.loop-file.done inside
+    sym (remaining_requests-next c.args.asked c.loop-file.file c.loop-file.done inside
     c.in_default.ensures.none)
     ∙ c.loop-file.invariant
 
 pub returns-clause-none : goal.returns-clause-none
 returns-clause-none c =
     sym c.loop-file.invariant
-    ∙ left_at-end c.args.asked c.loop-file.file c.loop-file.done
+    ∙ remaining_requests-end c.args.asked c.loop-file.file c.loop-file.done
     (no_further_file c.args.asked _ _ c.files-file-end.ensures.files c.loop-file-test.false)

@@ -1,7 +1,8 @@
 use Rattle.std.proofs.Common.{◌≡◌}
-use Rattle.aioscan_cmd.specs.Cutting.{left_at}
+use Rattle.aioscan_cmd.specs.RemainingRequests.{remaining_requests}
 use Rattle.aioscan_cmd.proofs.cutter.cut_next.Given as goal
 
 abbrev pub invariant-loop-file : goal.invariant-loop-file
 invariant-loop-file l =
-    left_at l.asked l.file l.done ≡ left_at l.fn.asked l.fn.place.file l.fn.place.done
+    remaining_requests l.asked l.file l.done ≡ remaining_requests l.fn.asked
+    l.fn.place.file l.fn.place.done

@@ -1,5 +1,5 @@
 use Rattle.std.proofs.Common.{arith}
-use Rattle.aioscan_cmd.proofs.Cutting.{relation_at, none_here, cut_here}
+use Rattle.aioscan_cmd.proofs.RemainingRequestsStep.{relation_at, none_here, cut_here}
 use Rattle.aioscan_cmd.proofs.cutter.cut_off.Goals as goal
 
 pub bounds-lengths-relation : goal.bounds-lengths-relation

@@ -1,16 +1,16 @@
 use Rattle.std.proofs.Common.{◌≡◌, ◌≤◌, length, map, string_bytes, vec_len, vec_capacity}
 use Rattle.std.specs.List.{All}
-use Rattle.aio_disk.specs.Shelf.{told_of}
-use Rattle.aioscan_cmd.specs.Disks.{IsUnread}
+use Rattle.aio_disk.specs.Shelf.{shelf_told}
+use Rattle.aioscan_cmd.specs.Disks.{IsUnreadDisk}
 use Rattle.aioscan_cmd.proofs.disks.open_others.Given as goal
 
 abbrev pub invariant-loop : goal.invariant-loop
 invariant-loop g l = record {
   count : vec_len l.disks ≡ l.counter;
   room : vec_capacity l.disks ≡ vec_capacity l.fn.disks;
-  unread : All (IsUnread g.S.Disk.Disk.told g.S.Disk.Disk.relations g.S.Disk.Disk.segment
+  unread : All (IsUnreadDisk g.S.Disk.Disk.told g.S.Disk.Disk.relations g.S.Disk.Disk.segment
       g.S.Disk.Disk.faults g.S.Disk.Disk.reads
-      (told_of (g.S.Shelf.told l.fn.shelf) (map string_bytes l.names)) (length l.names)
+      (shelf_told (g.S.Shelf.told l.fn.shelf) (map string_bytes l.names)) (length l.names)
       (g.S.Shelf.segment l.fn.shelf)) l.disks.items;
   later : (g.S.Shelf.counts l.fn.shelf).open_faults ≤ (g.S.Shelf.counts l.shelf).open_faults;
   told : g.S.Shelf.told l.shelf ≡ g.S.Shelf.told l.fn.shelf;

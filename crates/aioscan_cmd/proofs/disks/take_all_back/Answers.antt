@@ -1,5 +1,5 @@
 use Rattle.std.proofs.Common.{◌∙◌}
-use Rattle.aioscan_cmd.proofs.Returned.{sum_more, rises_more, raised_more}
+use Rattle.aioscan_cmd.proofs.DiskCountsAdd.{sum_more, rises_more, raised_more}
 use Rattle.aioscan_cmd.proofs.disks.take_all_back.Goals as goal
 
 pub loop-disk-preserved : goal.loop-disk-preserved

@@ -1,4 +1,4 @@
-use Rattle.aioscan_cmd.proofs.Telling.{tells_cut, tells_written}
+use Rattle.aioscan_cmd.proofs.ErrorTextsAppend.{tells_cut, tells_written}
 use Rattle.aioscan_cmd.proofs.error_line.write_end.Goals as goal
 
 pub returns-in-Whole : goal.returns-in-Whole

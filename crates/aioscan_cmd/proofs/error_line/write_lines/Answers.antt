@@ -2,7 +2,7 @@ use Rattle.std.proofs.Common.{◌++◌, Bool, subst, sym}
 use Rattle.aioscan_cmd.specs.ErrorLine.{IsToldOnErr, totals_line}
 use Rattle.aioscan_cmd.specs.Outcomes.{line_of}
 use Rattle.aioscan_cmd.specs.declared.report.Line.{Line}
-use Rattle.aioscan_cmd.proofs.Telling.{told_cut, told_then, shown}
+use Rattle.aioscan_cmd.proofs.ErrorTextsAppend.{told_cut, told_then, shown}
 use Rattle.aioscan_cmd.proofs.error_line.write_lines.Goals as goal
 
 pub returns-in-Whole-clause-told : goal.returns-in-Whole-clause-told

@@ -1,5 +1,5 @@
 use Rattle.std.proofs.Common.{◌∙◌, ap, take, List, ℕ}
-use Rattle.aioscan_cmd.proofs.Making.{some_zeros}
+use Rattle.aioscan_cmd.proofs.GeneratedBytesAppend.{some_zeros}
 use Rattle.aioscan_cmd.proofs.generated.zero_bytes.Goals as goal
 
 pub returns : goal.returns

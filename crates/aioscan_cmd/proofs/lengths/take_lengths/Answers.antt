@@ -1,5 +1,5 @@
 use Rattle.std.proofs.Common.{rules, arith}
-use Rattle.aioscan_cmd.proofs.MoreLengths.{HasLengths-more, limit_is, no_lengths}
+use Rattle.aioscan_cmd.proofs.LengthsAppend.{HasLengths-more, limit_is, no_lengths}
 use Rattle.aioscan_cmd.proofs.lengths.take_lengths.Goals as goal
 
 pub loop-relation-init : goal.loop-relation-init

@@ -1,7 +1,8 @@
 use Rattle.std.proofs.Common.{rules, refl}
-use Rattle.aioscan_cmd.proofs.OneJob.{job_written, job_unwritten, job_out_of_memory, one_unread}
-use Rattle.aioscan_cmd.proofs.OneJob.{stopped_by_job}
-use Rattle.aioscan_cmd.proofs.Telling.{tells_same, warns_none}
+use Rattle.aioscan_cmd.proofs.JobTextOutput.{job_written, job_unwritten, job_out_of_memory}
+use Rattle.aioscan_cmd.proofs.JobTextOutput.{one_unread}
+use Rattle.aioscan_cmd.proofs.JobTextOutput.{stopped_by_job}
+use Rattle.aioscan_cmd.proofs.ErrorTextsAppend.{tells_same, warns_none}
 use Rattle.aioscan_cmd.proofs.lister.write_job.Goals as goal
 
 pub returns-in-Ok-clause-lists : goal.returns-in-Ok-clause-lists

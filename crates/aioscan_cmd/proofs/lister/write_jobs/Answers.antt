@@ -1,8 +1,9 @@
 use Rattle.std.proofs.Common.{arith, refl}
-use Rattle.aioscan_cmd.proofs.Causing.{written_then}
-use Rattle.aioscan_cmd.proofs.Jobs.{next_done, next_stopped, all_listed, among_all, none_listed}
-use Rattle.aioscan_cmd.proofs.Telling.{warns_also, warns_none, warns_then}
-use Rattle.aioscan_cmd.proofs.Totals.{gave_more, gave_every}
+use Rattle.aioscan_cmd.proofs.WriteFaultsCompose.{written_then}
+use Rattle.aioscan_cmd.proofs.JobTextsAppend.{next_done, next_stopped, all_listed, among_all}
+use Rattle.aioscan_cmd.proofs.JobTextsAppend.{none_listed}
+use Rattle.aioscan_cmd.proofs.ErrorTextsAppend.{warns_also, warns_none, warns_then}
+use Rattle.aioscan_cmd.proofs.JobSumsAdd.{gave_more, gave_every}
 use Rattle.aioscan_cmd.proofs.lister.write_jobs.Goals as goal
 
 pub loop-job-init : goal.loop-job-init

@@ -1,10 +1,10 @@
 use Rattle.std.proofs.Common.{◌∙◌, [], ap, length, refl}
-use Rattle.aio_disk.specs.Shelf.{told_of}
+use Rattle.aio_disk.specs.Shelf.{shelf_told}
 use Rattle.aioscan_cmd.specs.Command.{relations_of}
-use Rattle.aioscan_cmd.proofs.NothingListed.{ran_without_memory, ran_unopened}
-use Rattle.aioscan_cmd.proofs.BlocksListed.{ran_same}
-use Rattle.aioscan_cmd.proofs.SumsTold.{no_sums_told, sums_same}
-use Rattle.aioscan_cmd.proofs.Telling.{warns_also, warns_none}
+use Rattle.aioscan_cmd.proofs.RefusedRuns.{ran_without_memory, ran_unopened}
+use Rattle.aioscan_cmd.proofs.ListedRuns.{ran_same}
+use Rattle.aioscan_cmd.proofs.SumsOverTold.{no_sums_told, sums_same}
+use Rattle.aioscan_cmd.proofs.ErrorTextsAppend.{warns_also, warns_none}
 use Rattle.aioscan_cmd.proofs.relation_files.list_files.Goals as goal
 
 pub returns-in_default-clause-ran : goal.returns-in_default-clause-ran
@@ -28,11 +28,11 @@ pub returns-clause-ran : goal.returns-clause-ran
 returns-clause-ran g c =
     let names = c.names.ensures.names ∙ c.in-Ok.ensures in
     warns_also _ _ _ _ (λ w ran. ran_same
-    (told_of (g.S.Shelf.told c.args.shelf.now) (relations_of c.args.command.now))
+    (shelf_told (g.S.Shelf.told c.args.shelf.now) (relations_of c.args.command.now))
     (g.S.Disk.Disk.told c.in-Ok-open.disk) _ _ c.args.command.now
     (g.O.Sink.written c.args.out.now) _ _ _ _ w
     (c.in-Ok-open.ensures.contents
-    ∙ ap (told_of (g.S.Shelf.told c.args.shelf.now)) names) (ap length c.in-Ok.ensures)
+    ∙ ap (shelf_told (g.S.Shelf.told c.args.shelf.now)) names) (ap length c.in-Ok.ensures)
     c.open.ensures.reads ran) c.scan_disk.ensures.ran
 
 pub returns-in_default-clause-sums : goal.returns-in_default-clause-sums
@@ -52,6 +52,7 @@ returns-in-Err-Memory-clause-sums g c =
 pub returns-clause-sums : goal.returns-clause-sums
 returns-clause-sums g c =
     let names = c.names.ensures.names ∙ c.in-Ok.ensures in
-    sums_same (told_of (g.S.Shelf.told c.args.shelf.now) (relations_of c.args.command.now)) _ _ _ _
+    sums_same (shelf_told (g.S.Shelf.told c.args.shelf.now) (relations_of c.args.command.now)) _ _ _
+    _
     (c.in-Ok-open.ensures.contents
-    ∙ ap (told_of (g.S.Shelf.told c.args.shelf.now)) names) c.scan_disk.ensures.sums
+    ∙ ap (shelf_told (g.S.Shelf.told c.args.shelf.now)) names) c.scan_disk.ensures.sums

@@ -2,7 +2,7 @@ use Rattle.std.proofs.Common.{rules, ◌≡◌, ◌∙◌, ap, map, true, false}
 use Rattle.std.specs.Prelude.{string_bytes}
 use Rattle.std.specs.List.{list_any}
 use Rattle.std.specs.Str.{bytes_eq}
-use Rattle.aioscan_cmd.proofs.Names.{add_known, add_new}
+use Rattle.aioscan_cmd.proofs.DistinctNames.{add_known, add_new}
 use Rattle.aioscan_cmd.proofs.relations.add_name.Goals as goal
 
 pub returns-then-is_named : goal.returns-then-is_named

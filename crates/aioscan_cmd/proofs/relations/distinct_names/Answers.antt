@@ -1,7 +1,7 @@
 use Rattle.std.proofs.Common.{arith, ap, length, map, take}
 use Rattle.std.specs.Prelude.{string_bytes}
 use Rattle.std.proofs.lemmas.List.{length-map, length-take}
-use Rattle.aioscan_cmd.proofs.Names.{distinct-length}
+use Rattle.aioscan_cmd.proofs.DistinctNames.{distinct-length}
 use Rattle.aioscan_cmd.proofs.relations.distinct_names.Goals as goal
 
 pub returns-clause-few : goal.returns-clause-few

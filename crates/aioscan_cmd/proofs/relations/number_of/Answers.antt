@@ -1,7 +1,7 @@
 use Rattle.std.proofs.Common.{◌∙◌, ap, length}
 use Rattle.std.specs.Prelude.{string_bytes, unwrap_or}
 use Rattle.std.specs.Str.{bytes_eq}
-use Rattle.aioscan_cmd.proofs.Names.{place_found}
+use Rattle.aioscan_cmd.proofs.DistinctNames.{place_found}
 use Rattle.aioscan_cmd.proofs.relations.number_of.Goals as goal
 
 pub returns-clause-number : goal.returns-clause-number

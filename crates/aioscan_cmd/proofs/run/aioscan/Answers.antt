@@ -3,7 +3,7 @@ use Rattle.std.specs.Prelude.{string_bytes}
 use Rattle.aioscan_cmd.specs.ErrorLine.{Tells, error_stream, totals_line}
 use Rattle.aioscan_cmd.specs.Outcomes.{line_of}
 use Rattle.aioscan_cmd.specs.Words.{command_of}
-use Rattle.aioscan_cmd.proofs.Telling.{tells_then, told_in_all}
+use Rattle.aioscan_cmd.proofs.ErrorTextsAppend.{tells_then, told_in_all}
 use Rattle.aioscan_cmd.proofs.TopClauses.{told_writes, told_exact, told_complete, any_untouched}
 use Rattle.aioscan_cmd.proofs.TopClauses.{told_warned}
 use Rattle.aioscan_cmd.proofs.run.aioscan.Goals as goal

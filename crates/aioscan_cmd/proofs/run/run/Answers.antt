@@ -1,11 +1,11 @@
 use Rattle.std.proofs.Common.{ap, map, rules, ◌∙◌}
 use Rattle.std.specs.Prelude.{string_bytes}
-use Rattle.aioscan_cmd.specs.Reading.{seen}
+use Rattle.aioscan_cmd.specs.Output.{observed_state}
 use Rattle.aioscan_cmd.specs.Words.{command_of}
 use Rattle.aioscan_cmd.specs.declared.report.RunEnd.{RunEnd}
-use Rattle.aioscan_cmd.proofs.NothingListed.{ran_no_command, ran_unread}
-use Rattle.aioscan_cmd.proofs.EndOfScan.{uncounted}
-use Rattle.aioscan_cmd.proofs.Telling.{warns_none}
+use Rattle.aioscan_cmd.proofs.RefusedRuns.{ran_no_command, ran_unread}
+use Rattle.aioscan_cmd.proofs.ScanCountsAtEnd.{uncounted}
+use Rattle.aioscan_cmd.proofs.ErrorTextsAppend.{warns_none}
 use Rattle.aioscan_cmd.proofs.run.run.Goals as goal
 
 pub returns-in-Err-Usage-clause-ran : goal.returns-in-Err-Usage-clause-ran
@@ -15,8 +15,8 @@ returns-in-Err-Usage-clause-ran g c =
     (ap (λ (e : RunEnd). e.line) end ∙ c.without_reads.ensures.line)
     (ran_no_command (g.S.Shelf.told c.args.shelf.now)
     (command_of (map string_bytes c.args.words.now))
-    (seen (g.O.Sink.written c.args.out.now) (g.S.Shelf.counts c.args.shelf.now).reads)
-    (seen (g.O.Sink.written c.args.out.now) (g.S.Shelf.counts c.args.shelf.now).reads) _
+    (observed_state (g.O.Sink.written c.args.out.now) (g.S.Shelf.counts c.args.shelf.now).reads)
+    (observed_state (g.O.Sink.written c.args.out.now) (g.S.Shelf.counts c.args.shelf.now).reads) _
     (search rules))
 
 pub returns-in-Err-NoMemory-clause-ran : goal.returns-in-Err-NoMemory-clause-ran
@@ -26,7 +26,7 @@ returns-in-Err-NoMemory-clause-ran g c =
     (ap (λ (e : RunEnd). e.line) end ∙ c.without_reads-in-Err-NoMemory.ensures.line)
     (ran_unread (g.S.Shelf.told c.args.shelf.now)
     (command_of (map string_bytes c.args.words.now))
-    (seen (g.O.Sink.written c.args.out.now) (g.S.Shelf.counts c.args.shelf.now).reads) _
+    (observed_state (g.O.Sink.written c.args.out.now) (g.S.Shelf.counts c.args.shelf.now).reads) _
     (ap (λ (e : RunEnd). e.outcome) end ∙ c.without_reads-in-Err-NoMemory.ensures.outcome))
 
 pub returns-in-Err-NoMemory-clause-counted : goal.returns-in-Err-NoMemory-clause-counted

@@ -1,7 +1,8 @@
 use Rattle.std.proofs.Common.{◌∙◌, ap, arith, sum_by, []}
-use Rattle.aioscan_cmd.proofs.EndOfScan.{no_reads, some_fault, nothing_counted, nothing_listed}
-use Rattle.aioscan_cmd.proofs.EndOfScan.{none_by_workers}
-use Rattle.aioscan_cmd.proofs.Telling.{warns_none}
+use Rattle.aioscan_cmd.proofs.ScanCountsAtEnd.{no_reads, some_fault, nothing_counted}
+use Rattle.aioscan_cmd.proofs.ScanCountsAtEnd.{nothing_listed}
+use Rattle.aioscan_cmd.proofs.ScanCountsAtEnd.{none_by_workers}
+use Rattle.aioscan_cmd.proofs.ErrorTextsAppend.{warns_none}
 use Rattle.aioscan_cmd.proofs.scan.list_disks.Goals as goal
 
 pub returns-clause-unread : goal.returns-clause-unread

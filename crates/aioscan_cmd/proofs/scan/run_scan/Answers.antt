@@ -1,9 +1,9 @@
 use Rattle.std.proofs.Common.{arith, refl, ap, sym, length}
-use Rattle.aioscan_cmd.proofs.NothingListed.{ran_without_memory}
-use Rattle.aioscan_cmd.proofs.SumsTold.{no_sums_told, listed_sums}
-use Rattle.aioscan_cmd.proofs.EndOfScan.{ended_ran, ended_counted, ended_in_order}
-use Rattle.aioscan_cmd.proofs.EndOfScan.{ended_by_causes, ended_not_usage}
-use Rattle.aioscan_cmd.proofs.Telling.{warns_also, warns_none}
+use Rattle.aioscan_cmd.proofs.RefusedRuns.{ran_without_memory}
+use Rattle.aioscan_cmd.proofs.SumsOverTold.{no_sums_told, listed_sums}
+use Rattle.aioscan_cmd.proofs.ScanCountsAtEnd.{ended_ran, ended_counted, ended_in_order}
+use Rattle.aioscan_cmd.proofs.ScanCountsAtEnd.{ended_by_causes, ended_not_usage}
+use Rattle.aioscan_cmd.proofs.ErrorTextsAppend.{warns_also, warns_none}
 use Rattle.aioscan_cmd.proofs.scan.run_scan.Goals as goal
 
 pub returns-in_default-clause-ran : goal.returns-in_default-clause-ran

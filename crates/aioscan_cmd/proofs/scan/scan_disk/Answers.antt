@@ -1,8 +1,8 @@
 use Rattle.std.proofs.Common.{ℕ, arith, subst}
 use Rattle.aioscan_cmd.specs.Lengths.{HasNoLengths}
-use Rattle.aioscan_cmd.proofs.NothingListed.{ran_refused}
-use Rattle.aioscan_cmd.proofs.SumsTold.{refused_sums}
-use Rattle.aioscan_cmd.proofs.Telling.{warns_none}
+use Rattle.aioscan_cmd.proofs.RefusedRuns.{ran_refused}
+use Rattle.aioscan_cmd.proofs.SumsOverTold.{refused_sums}
+use Rattle.aioscan_cmd.proofs.ErrorTextsAppend.{warns_none}
 use Rattle.aioscan_cmd.proofs.scan.scan_disk.Goals as goal
 
 pub returns-in-Err-clause-ran : goal.returns-in-Err-clause-ran

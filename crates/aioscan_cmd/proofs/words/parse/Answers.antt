@@ -1,5 +1,5 @@
 use Rattle.std.proofs.Common.{◌∙◌}
-use Rattle.aioscan_cmd.proofs.Parsed.{taken, refused}
+use Rattle.aioscan_cmd.proofs.ParseClauses.{taken, refused}
 use Rattle.aioscan_cmd.proofs.words.parse.Goals as goal
 
 pub returns-in-Ok-try_get_matches_from-clause-ok :

@@ -1,7 +1,7 @@
 use Rattle.std.proofs.Common.{◌≡◌, false, arith}
 use Rattle.buf_pool.specs.Frames.{descriptor_at}
 use Rattle.buf_pool.specs.Wanted.{is_wanted}
-use Rattle.buf_pool.proofs.Rounds.{all_round}
+use Rattle.buf_pool.proofs.CircularSteps.{all_round}
 use Rattle.buf_pool.proofs.strategy.find_round.Goals as goal
 
 pub returns : goal.returns

@@ -1,5 +1,5 @@
 use Rattle.std.proofs.Common.{◌∙◌, ap, inl, inr, arith, not}
-use Rattle.buf_pool.proofs.Reaching.{absent_after, is_empty}
+use Rattle.buf_pool.proofs.TableSearch.{absent_after, is_empty}
 use Rattle.buf_pool.proofs.table.find.Goals as goal
 
 pub returns : goal.returns

@@ -1,5 +1,5 @@
 use Rattle.std.proofs.Common.{◌<◌, arith, length}
-use Rattle.buf_pool.proofs.Reaching.{no_empty_slot}
+use Rattle.buf_pool.proofs.TableSearch.{no_empty_slot}
 use Rattle.buf_pool.proofs.table.insert.Goals as goal
 
 pub unreachable-requires : goal.unreachable-requires

@@ -1,7 +1,7 @@
 use Rattle.std.proofs.Common.{◌≡◌, ◌∙◌, arith, ⊎_elim, Some}
 use Rattle.std.proofs.lemmas.Bool.{cases_eq}
 use Rattle.buf_pool.specs.Frames.{tag_at}
-use Rattle.buf_pool.proofs.Reaching.{reaches_kept, reaches_same}
+use Rattle.buf_pool.proofs.TableSearch.{reaches_kept, reaches_same}
 use Rattle.buf_pool.proofs.table.rebuild.Goals.{in-Some, in_default}
 use Rattle.buf_pool.proofs.table.rebuild.Goals as goal
 

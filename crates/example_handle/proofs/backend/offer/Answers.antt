@@ -5,7 +5,7 @@ use Rattle.aio_word.specs.declared.Step.TheVariants as event
 use Rattle.aio_word.specs.Stands.{IsIn}
 use Rattle.aio_fixtures.specs.Lives.{HasUnreclaimed}
 use Rattle.aio_fixtures.proofs.Lives.{amid, amid-then, begun}
-use Rattle.aio_fixtures.proofs.Unreclaimed.{none-at-rest, submitted-unreclaimed}
+use Rattle.aio_fixtures.proofs.UnreclaimedIos.{none-at-rest, submitted-unreclaimed}
 use Rattle.example_handle.specs.declared.note.Note.{Note}
 use Rattle.example_handle.proofs.backend.offer.Goals as goal
 

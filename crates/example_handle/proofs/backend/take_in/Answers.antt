@@ -6,7 +6,7 @@ use Rattle.aio_word.specs.declared.Class.{Class}
 use Rattle.aio_word.specs.declared.Class.TheVariants.{Unended}
 use Rattle.aio_word.specs.declared.Step.TheVariants as event
 use Rattle.aio_handle.specs.declared.record.Label.{Label}
-use Rattle.aio_fixtures.proofs.Unreclaimed.{reclaimed-unreclaimed, rests-with-none}
+use Rattle.aio_fixtures.proofs.UnreclaimedIos.{reclaimed-unreclaimed, rests-with-none}
 use Rattle.example_handle.specs.declared.note.Note.{Note}
 use Rattle.example_handle.specs.Offered.{IsOffered}
 use Rattle.example_handle.proofs.Idle.{still-offered}

@@ -1,4 +1,4 @@
-use Rattle.aio_handle.specs.Shown.{IsOf}
+use Rattle.aio_handle.specs.ContractViews.{IsActorOf}
 use Rattle.example_handle.specs.Offered.{IsOffered}
 use Rattle.example_handle.proofs.backend.take_in.Given as goal
 
@@ -6,6 +6,6 @@ abbrev pub invariant-loop : goal.invariant-loop
 invariant-loop g l = record {
   can_next : (goal.iterator-loop g).can_next l.iterator';
   is_finite : (goal.iterator-loop g).is_finite l.iterator';
-  table : IsOf l.table l.backend;
+  table : IsActorOf l.table l.backend;
   offered : IsOffered l.token 21 l.backend.known;
 }

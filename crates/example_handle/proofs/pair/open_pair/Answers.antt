@@ -1,6 +1,6 @@
 use Rattle.std.proofs.Common.{◌≡◌, ◌+◌, length, ap, ◌∙◌, arith}
 use Rattle.aio_word.specs.declared.Config.{Config}
-use Rattle.aio_handle.specs.Shown.{Standing}
+use Rattle.aio_handle.specs.ContractViews.{ActorView}
 use Rattle.example_handle.proofs.Idle.{idle-new}
 use Rattle.example_handle.proofs.pair.open_pair.Goals as goal
 
@@ -22,5 +22,5 @@ returns g c =
         ap (λ (x : Config). x.backends) config,
         ap (λ (x : Config). x.runners) config,
       );
-      first = ap (λ (x : Standing). x.known.number) backend ∙ empty;
+      first = ap (λ (x : ActorView). x.known.number) backend ∙ empty;
     }

@@ -1,11 +1,11 @@
 use Rattle.std.proofs.Common.{◌≡◌}
-use Rattle.aio_handle.specs.Shown.{IsOf}
-use Rattle.read_stream.specs.Open.{IsOpen}
+use Rattle.aio_handle.specs.ContractViews.{IsActorOf}
+use Rattle.read_stream.specs.StreamState.{IsOpen}
 use Rattle.example_stream.proofs.answers.take_all.Given as goal
 
 abbrev pub invariant-loop : goal.invariant-loop
 invariant-loop g l = record {
-  of : IsOf l.table l.actor;
+  of : IsActorOf l.table l.actor;
   told : (g.E.Execute.told l.runner ≡ g.W.World.told)
       × (g.E.Execute.relations l.runner ≡ g.W.World.relations);
   actor_is : l.actor ≡ l.stream.actor_is.value;

@@ -1,5 +1,5 @@
 use Rattle.std.proofs.Common.{[]}
-use Rattle.aio_fixtures.proofs.Unreclaimed.{none-at-rest, rests-with-none}
+use Rattle.aio_fixtures.proofs.UnreclaimedIos.{none-at-rest, rests-with-none}
 use Rattle.handle_tests.proofs.trace.life.Goals as goal
 
 pub returns-then-claim_and_complete-clause-owner : goal.returns-then-claim_and_complete-clause-owner

@@ -1,4 +1,4 @@
-use Rattle.heap_scan.proofs.Summing.{adds_few}
+use Rattle.heap_scan.proofs.SumsOverPages.{adds_few}
 use Rattle.heap_scan.proofs.laws.a_page_adds_few.Goals as goal
 
 pub returns : goal.returns

@@ -1,4 +1,4 @@
-use Rattle.heap_scan.proofs.Summing.{sums_fit, sums_of-append, sums_of-none, sums_of-push}
+use Rattle.heap_scan.proofs.SumsOverPages.{sums_fit, sums_of-append, sums_of-none, sums_of-push}
 use Rattle.heap_scan.proofs.laws.sums_come_page_by_page.Goals as goal
 
 pub returns-clause-none : goal.returns-clause-none

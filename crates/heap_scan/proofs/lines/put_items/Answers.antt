@@ -3,7 +3,7 @@ use Rattle.std.proofs.lemmas.Grind.{common_steps}
 use Rattle.page_check.proofs.ValidPages.{line_pointer_fits}
 use Rattle.page_check.specs.LinePointers.{line_pointer_of}
 use Rattle.heap_scan.proofs.Items.{lines_from-none, lines_from-more}
-use Rattle.heap_scan.proofs.Summing.{few_items}
+use Rattle.heap_scan.proofs.SumsOverPages.{few_items}
 use Rattle.heap_scan.proofs.lines.put_items.Goals as goal
 
 pub put_item_at-at-requires-clause-there : goal.put_item_at-at-requires-clause-there

@@ -1,6 +1,6 @@
 use Rattle.std.proofs.Common.{◌≡◌, ◌+◌, ◌-◌, ◌∙◌, ℕ, List, ◌++◌, ap, arith, append_assoc, rules, length, drop}
 use Rattle.std.proofs.Common.{take_all, length-drop}
-use Rattle.page_check.specs.LinePointers.{count_of, line_pointer_of}
+use Rattle.page_check.specs.LinePointers.{line_pointer_count, line_pointer_of}
 use Rattle.heap_scan.specs.PageText.{text_up_to, lines_from}
 use Rattle.heap_scan.proofs.PartialTexts.{text_up_to-more, text_up_to-all}
 use Rattle.heap_scan.proofs.text.append.Goals as goal
@@ -32,7 +32,7 @@ loop-done-preserved c =
 pub returns-clause-ok : goal.returns-clause-ok
 returns-clause-ok c =
     let page = c.args.page.now in
-    let all : c.loop-done.done ≡ count_of page =
+    let all : c.loop-done.done ≡ line_pointer_count page =
     omega (arith, c.loop-done.invariant.some, c.loop-done-test.false, c.count-count.ensures.count) in
     c.loop-done.invariant.appended
     ∙ ap (λ (text : List ℕ). c.args.out.now.items ++ text)

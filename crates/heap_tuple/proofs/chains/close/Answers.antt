@@ -1,12 +1,12 @@
 use Rattle.std.proofs.Common.{◌≡◌, ℕ, ◌-◌, ◌<◌, List, length, true, ap, sym, ◌∙◌, arith, get_or}
-use Rattle.heap_tuple.specs.Chains.{has}
-use Rattle.heap_tuple.proofs.Closing.{end_of, end_inside, closed}
+use Rattle.heap_tuple.specs.Chains.{contains}
+use Rattle.heap_tuple.proofs.CircleOfPath.{end_of, end_inside, closed}
 use Rattle.heap_tuple.proofs.chains.close.Goals as goal
 
 pub write_down-requires : goal.write_down-requires
 write_down-requires c =
     let path = c.args.path.now.items in
-    let shown : has c.deref.result.now c.args.item
+    let shown : contains c.deref.result.now c.args.item
     ≡ true = rw c.deref.ensures.value c.requires.back in
     let place = c.place_of-start.ensures shown in
     let below : c.place_of-start.result < length path = omega
@@ -22,7 +22,7 @@ write_down-requires c =
 pub returns-clause-circle : goal.returns-clause-circle
 returns-clause-circle c =
     let path = c.args.path.now.items in
-    let shown : has c.deref.result.now c.args.item
+    let shown : contains c.deref.result.now c.args.item
     ≡ true = rw c.deref.ensures.value c.requires.back in
     let place = c.place_of-start.ensures shown in
     let below : c.place_of-start.result < length path = omega

@@ -1,21 +1,21 @@
 use Rattle.std.proofs.Common.{◌≡◌, ℕ, ◌≤◌, ◌+◌, List, ap, sym, ◌∙◌, arith, length-set, get_or}
-use Rattle.page_check.specs.LinePointers.{count_of}
+use Rattle.page_check.specs.LinePointers.{line_pointer_count}
 use Rattle.page_check.specs.Fields.{header_of}
 use Rattle.page_check.proofs.ValidPages.{lower_of_valid}
 use Rattle.heap_tuple.specs.Tuples.{step_of}
-use Rattle.heap_tuple.proofs.Marking.{path_few}
+use Rattle.heap_tuple.proofs.PathMarks.{path_few}
 use Rattle.heap_tuple.proofs.StepsBelow.{step_of-below}
-use Rattle.heap_tuple.proofs.Unwinding.{open_start, unwinds_closed, unwinds_known}
-use Rattle.heap_tuple.proofs.Unwinding.{unwinds_none, unwinds_less, unwinds_inside, unwinds_chain}
-use Rattle.heap_tuple.proofs.Unwinding.{goes_few}
+use Rattle.heap_tuple.proofs.PathLengths.{open_start, unwinds_closed, unwinds_known}
+use Rattle.heap_tuple.proofs.PathLengths.{unwinds_none, unwinds_less, unwinds_inside, unwinds_chain}
+use Rattle.heap_tuple.proofs.PathLengths.{goes_few}
 use Rattle.std.proofs.Common.{[], ◌-◌, take, append-nil}
-use Rattle.heap_tuple.proofs.Rooting.{length_of_chain}
+use Rattle.heap_tuple.proofs.LongestRoot.{length_of_chain}
 use Rattle.heap_tuple.proofs.chains.follow.Goals as goal
 use Rattle.heap_tuple.proofs.chains.follow.Goals.{in-Some+then-known-gt0, in-Some+else-known-gt0}
 use Rattle.heap_tuple.proofs.chains.follow.Goals.{in-None}
 
-few_items : (page : List ℕ) → (header_of page).lower ≤ 8192 → count_of page ≤ 2042
-unfolding count_of
+few_items : (page : List ℕ) → (header_of page).lower ≤ 8192 → line_pointer_count page ≤ 2042
+unfolding line_pointer_count
 few_items page lower = omega (arith, lower)
 
 pub close-requires-clause-few : goal.close-requires-clause-few

@@ -1,7 +1,7 @@
 use Rattle.std.proofs.Common.{◌≡◌, ◌∙◌, ap, sym, arith, length}
-use Rattle.page_check.specs.LinePointers.{count_of}
+use Rattle.page_check.specs.LinePointers.{line_pointer_count}
 use Rattle.heap_tuple.specs.Chains.{roots_of, longest_of, is_root}
-use Rattle.heap_tuple.proofs.Rooting.{roots_no, roots_followed, longest_followed, longest_among}
+use Rattle.heap_tuple.proofs.LongestRoot.{roots_no, roots_followed, longest_followed, longest_among}
 use Rattle.heap_tuple.proofs.chains.follow_all.Goals as goal
 use Rattle.heap_tuple.proofs.chains.follow_all.Goals.{then-is_first+in_ok-chain, else-is_first}
 
@@ -43,7 +43,7 @@ loop-index-preserved c =
 pub returns-clause-roots : goal.returns-clause-roots
 unfolding roots_of
 returns-clause-roots c =
-    let all : c.loop-index.index ≡ count_of c.args.page.now =
+    let all : c.loop-index.index ≡ line_pointer_count c.args.page.now =
     omega (
       arith,
       c.loop-index-test.false,
@@ -55,7 +55,7 @@ returns-clause-roots c =
 pub returns-clause-longest : goal.returns-clause-longest
 unfolding longest_of roots_of
 returns-clause-longest c =
-    let all : c.loop-index.index ≡ count_of c.args.page.now =
+    let all : c.loop-index.index ≡ line_pointer_count c.args.page.now =
     omega (
       arith,
       c.loop-index-test.false,

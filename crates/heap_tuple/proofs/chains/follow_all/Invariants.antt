@@ -1,14 +1,14 @@
 use Rattle.std.proofs.Common.{◌≡◌, ◌≤◌, [], length}
-use Rattle.page_check.specs.LinePointers.{count_of}
+use Rattle.page_check.specs.LinePointers.{line_pointer_count}
 use Rattle.heap_tuple.specs.Tuples.{step_of}
 use Rattle.heap_tuple.specs.Following.{AreLengths, AreMarked}
-use Rattle.heap_tuple.proofs.Rooting.{first_roots, longest_among}
+use Rattle.heap_tuple.proofs.LongestRoot.{first_roots, longest_among}
 use Rattle.heap_tuple.proofs.chains.follow_all.Given as goal
 
 abbrev pub invariant-loop-index : goal.invariant-loop-index
 invariant-loop-index l = record {
-  lengths : length l.lengths ≡ count_of l.page;
-  passed : length l.passed ≡ count_of l.page;
+  lengths : length l.lengths ≡ line_pointer_count l.page;
+  passed : length l.passed ≡ line_pointer_count l.page;
   empty : l.path.items ≡ [];
   known : AreLengths (step_of l.page l.block) l.lengths;
   marked : AreMarked l.passed l.lengths;

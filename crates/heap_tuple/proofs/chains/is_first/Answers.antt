@@ -1,4 +1,4 @@
-use Rattle.heap_tuple.proofs.Rooting.{root_inside, root_outside}
+use Rattle.heap_tuple.proofs.LongestRoot.{root_inside, root_outside}
 use Rattle.heap_tuple.proofs.chains.is_first.Goals as goal
 
 pub returns-then-is_some : goal.returns-then-is_some

@@ -1,10 +1,10 @@
 use Rattle.std.proofs.Common.{◌<◌, ◌-◌, ◌∙◌, [], ◌∷◌, length, true, set, refl, sym, ap, arith}
 use Rattle.std.proofs.Common.{length-append, length-set}
-use Rattle.page_check.specs.LinePointers.{count_of}
+use Rattle.page_check.specs.LinePointers.{line_pointer_count}
 use Rattle.heap_tuple.specs.Tuples.{step_of}
 use Rattle.heap_tuple.specs.Following.{IsPath}
-use Rattle.heap_tuple.proofs.Marking.{path_none, path_pushed, path_few}
-use Rattle.heap_tuple.proofs.Passing.{passes-more}
+use Rattle.heap_tuple.proofs.PathMarks.{path_none, path_pushed, path_few}
+use Rattle.heap_tuple.proofs.PassedItems.{passes-more}
 use Rattle.heap_tuple.proofs.chains.pass.Goals as goal
 
 pub loop-passed-init : goal.loop-passed-init
@@ -27,7 +27,8 @@ loop-passed-smaller c =
     let few = path_few _ _ _ more in
     let grown = ap length c.in_ok-push.ensures.items
     ∙ length-append c.loop-passed.path.items (c.loop-passed.item ∷ []) in
-    let smaller : count_of c.args.page.now - length c.push.new.self.items < count_of c.args.page.now
+    let smaller : line_pointer_count c.args.page.now - length c.push.new.self.items
+    < line_pointer_count c.args.page.now
     - length c.loop-passed.path.items =
     omega (arith, few, grown, c.requires.size) in
     smaller

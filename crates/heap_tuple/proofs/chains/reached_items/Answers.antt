@@ -1,5 +1,5 @@
 use Rattle.std.proofs.Common.{◌∙◌, sym, arith, length-set, true}
-use Rattle.heap_tuple.proofs.Rooting.{reached_none, reached_more}
+use Rattle.heap_tuple.proofs.LongestRoot.{reached_none, reached_more}
 use Rattle.heap_tuple.proofs.chains.reached_items.Goals as goal
 use Rattle.heap_tuple.proofs.chains.reached_items.Goals.{in-Some, in_default}
 

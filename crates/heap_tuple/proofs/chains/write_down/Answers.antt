@@ -3,7 +3,7 @@ use Rattle.std.proofs.Common.{◌≡◌, ◌≢◌, ℕ, ◌<◌, set, get_or, t
 use Rattle.std.proofs.Common.{inr, length-set, get_or-set_same, get_or-set_other, eq-eqb}
 use Rattle.std.specs.Prelude.{◌==◌}
 use Rattle.std.proofs.lemmas.Bool.{or_cases, or_parts, eqb-true, both_ways, cases_eq}
-use Rattle.heap_tuple.specs.Chains.{has}
+use Rattle.heap_tuple.specs.Chains.{contains}
 use Rattle.heap_tuple.proofs.Distinct.{has_more, has_at}
 use Rattle.heap_tuple.proofs.chains.write_down.Goals as goal
 
@@ -35,14 +35,14 @@ loop-item-preserved c =
       there = λ y there. elim (cases_eq y x) [
         | inl same ↦ as_x y same
         | inr other ↦ not_x y other
-            ∙ is.there y (elim (or_cases (has (take k c.args.items.now) y) (y == x)
+            ∙ is.there y (elim (or_cases (contains (take k c.args.items.now) y) (y == x)
             (sym (more y below) ∙ there)) [
               | inl before ↦ before
               | inr at_x ↦ absurd (other (eqb-true y x at_x))
             ])
       ];
       elsewhere = λ y out.
-          let parts = or_parts (has (take k c.args.items.now) y) (y == x) (sym (more y below)
+          let parts = or_parts (contains (take k c.args.items.now) y) (y == x) (sym (more y below)
           ∙ out) in
           not_x y (λ same. both_ways (y == x) parts.1 (eq-eqb y x same)) ∙ is.elsewhere y parts.0;
     }

@@ -1,5 +1,5 @@
 use Rattle.std.proofs.Common.{arith}
-use Rattle.heap_scan.proofs.Summing.{few_items}
+use Rattle.heap_scan.proofs.SumsOverPages.{few_items}
 use Rattle.heap_tuple.proofs.lines.put_lines.Goals as goal
 
 pub put_item-requires-clause-short : goal.put_item-requires-clause-short

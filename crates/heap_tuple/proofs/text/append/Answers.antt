@@ -1,6 +1,6 @@
 use Rattle.std.proofs.Common.{◌≡◌, ◌+◌, ◌-◌, ◌∙◌, ℕ, List, ◌++◌, length, drop, ap, arith, rules}
 use Rattle.std.proofs.Common.{append_assoc, take_all, length-drop}
-use Rattle.page_check.specs.LinePointers.{count_of}
+use Rattle.page_check.specs.LinePointers.{line_pointer_count}
 use Rattle.page_check.proofs.ValidPages.{verdict_of-used}
 use Rattle.heap_tuple.specs.TuplesText.{tuples_text_up_to, chains_line, texts_from}
 use Rattle.heap_tuple.proofs.Texts.{tuples_text_up_to-more, tuples_text_up_to-all}
@@ -39,7 +39,7 @@ returns-clause-ok c =
     let buf = c.put_chains-last.new.buf in
     let written = take_all (length buf - start) (drop start buf) (omega (arith, length-drop start buf))
     ∙ c.put_chains-last.ensures.written in
-    let all : c.loop-done.done ≡ count_of page =
+    let all : c.loop-done.done ≡ line_pointer_count page =
     omega (arith, c.loop-done.invariant.some, c.loop-done-test.false, c.count-count.ensures.count) in
     c.in_ok-extend_from_slice-3.ensures.items
     ∙ ap (λ (text : List ℕ). c.loop-done.out.items ++ text) written

@@ -2,7 +2,7 @@ use Rattle.std.proofs.Common.{◌≡◌}
 use Rattle.page_check.specs.Fields.{header_of}
 use Rattle.page_check.proofs.ValidPages.{verdict_of-new}
 use Rattle.heap_tuple.proofs.Texts.{tuples_text_of-new}
-use Rattle.heap_tuple.proofs.Rooting.{longest_is_longest}
+use Rattle.heap_tuple.proofs.LongestRoot.{longest_is_longest}
 use Rattle.heap_tuple.proofs.text.tuples_text.Goals as goal
 
 pub returns-then-header-eq0-clause-ok : goal.returns-then-header-eq0-clause-ok

@@ -3,32 +3,33 @@ use Rattle.aio_word.specs.declared.Class.{Class}
 use Rattle.aio_word.specs.declared.Known.{Known}
 use Rattle.aio_word.specs.declared.WaitRef.{WaitRef}
 use Rattle.aio_callback.specs.Chain.{class_of}
-use Rattle.aio_callback.specs.Reading.{Reading, aim_in}
-use Rattle.aio_callback.specs.Finished.{reference_in}
-use Rattle.method_ring.specs.Running.{IsEndedAs}
-use Rattle.method_ring.proofs.Completing.{ended-as, kept-then}
+use Rattle.aio_callback.specs.ReadIoView.{ReadIoView, record_aim}
+use Rattle.aio_callback.specs.Finishes.{record_reference}
+use Rattle.method_ring.specs.RingRunner.{IsEndedAs}
+use Rattle.method_ring.proofs.CompletionEndsIo.{ended-as, kept-then}
 use Rattle.method_ring.proofs.finish.complete.Goals as goal
 
 pub returns-clause-ended : goal.returns-clause-ended
 returns-clause-ended g c =
-    let t : WaitRef × Reading = c.args.claimed in
-    let r : Reading = c.complete_shared.new.self in
+    let t : WaitRef × ReadIoView = c.args.claimed in
+    let r : ReadIoView = c.complete_shared.new.self in
     let p : Known = c.args.actor.now.known in
     let m : Known = c.complete_io.new.actor.known in
     let q : Known = c.complete_shared-2.new.actor.known in
     let kept : c.record_mut.result.now ≡ t.1 =
     c.record_mut.ensures.value ∙ ap (λ z. z.1) c.complete_io.ensures.token.0 in
-    let aimed : aim_in r ≡ aim_in t.1 = c.complete_shared.ensures.aim ∙ ap (λ z. aim_in z) kept in
+    let aimed : record_aim r ≡ record_aim t.1 = c.complete_shared.ensures.aim
+    ∙ ap (λ z. record_aim z) kept in
     let same : r.label.ended ≡ c.class.result = search rules in
     let count : c.count-count.result ≡ t.1.count =
     c.count-count.ensures.value ∙ ap (λ z. z.count) c.record.ensures in
     let class : c.class.result ≡ class_of t.1.count c.args.raw =
     c.class.ensures ∙ ap (λ n. class_of n c.args.raw) count in
-    let named : reference_in r ≡ t.0 = search rules in
-    subst (λ (k : Class). IsEndedAs g.W.World.told t.0 (aim_in t.1) k p q
+    let named : record_reference r ≡ t.0 = search rules in
+    subst (λ (k : Class). IsEndedAs g.W.World.told t.0 (record_aim t.1) k p q
     (g.P.Places.finished c.args.places.now) (g.P.Places.finished c.complete_shared.new.places))
     class
-    (ended-as g.W.World.told t.0 (aim_in t.1) c.class.result p m q r _ _
+    (ended-as g.W.World.told t.0 (record_aim t.1) c.class.result p m q r _ _
     (search rules) (search rules) same aimed named c.complete_shared.ensures.completed
     c.complete_shared.ensures.finished)
 

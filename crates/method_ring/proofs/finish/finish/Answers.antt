@@ -3,13 +3,13 @@ use Rattle.aio_word.specs.declared.Known.{Known}
 use Rattle.aio_word.specs.declared.WaitRef.{WaitRef}
 use Rattle.aio_word.specs.Stands.{IsIn}
 use Rattle.aio_word.specs.Tokens.{IsClaimed}
-use Rattle.aio_handle.specs.Labels.{bound}
-use Rattle.aio_callback.specs.Reading.{aim_in}
-use Rattle.method_ring.specs.Holding.{Holding, AreHeld}
-use Rattle.method_ring.proofs.Looking.{in-held, one-fewer}
-use Rattle.method_ring.proofs.Gathering.{held-without}
-use Rattle.aio_handle.proofs.Growing.{grows-none}
-use Rattle.method_ring.proofs.Ended.{finishes-none, finishes-more}
+use Rattle.aio_handle.specs.Labels.{bound_label}
+use Rattle.aio_callback.specs.ReadIoView.{record_aim}
+use Rattle.method_ring.specs.ClaimedIos.{ClaimedIo, AreClaimedIos}
+use Rattle.method_ring.proofs.NumberedLookup.{in-held, one-fewer}
+use Rattle.method_ring.proofs.GroupClaims.{held-without}
+use Rattle.aio_handle.proofs.ListsGrow.{appends-none}
+use Rattle.method_ring.proofs.GroupMarks.{all_finishes-none, all_finishes-more}
 use Rattle.method_ring.proofs.finish.finish.Goals as goal
 
 pub loop-claimed-init : goal.loop-claimed-init
@@ -19,9 +19,9 @@ loop-claimed-init g c = record {
   told = refl;
   relations = refl;
   holds = c.requires.held;
-  finishes = finishes-none g.W.World.told c.args.group.now.held c.args.actor.now.known
+  finishes = all_finishes-none g.W.World.told c.args.group.now.held c.args.actor.now.known
       (g.P.Places.finished c.args.places.now) (g.G.Ring.reads c.args.group.now.ring)
-      (g.G.Ring.faults c.args.group.now.ring) (grows-none c.args.actor.now.known);
+      (g.G.Ring.faults c.args.group.now.ring) (appends-none c.args.actor.now.known);
 }
 
 pub complete-requires-clause-token : goal.complete-requires-clause-token
@@ -31,7 +31,7 @@ complete-requires-clause-token g c =
     let h = c.loop-claimed.invariant.holds.each k.from
     (in-held k.user c.loop-claimed.group.held k.from k.taken) in (
       subst (λ (z : WaitRef). IsClaimed p z) (sym k.named) h.claimed,
-      subst (λ (z : WaitRef). IsIn (z, aim_in c.in-Some.claimed.1) p.aims) (sym k.named)
+      subst (λ (z : WaitRef). IsIn (z, record_aim c.in-Some.claimed.1) p.aims) (sym k.named)
           (subst (λ (a : List ℕ). IsIn (k.from.1.0, a) p.aims) (sym k.aim) h.aim),
     )
 
@@ -40,7 +40,7 @@ complete-requires-clause-label g c =
     let k = c.in-Some.ensures.some in
     let h = c.loop-claimed.invariant.holds.each k.from
     (in-held k.user c.loop-claimed.group.held k.from k.taken) in
-    k.label ∙ (h.label ∙ ap (λ (z : WaitRef). bound z.handle z.generation) (sym k.named))
+    k.label ∙ (h.label ∙ ap (λ (z : WaitRef). bound_label z.handle z.generation) (sym k.named))
 
 pub complete-requires-clause-aimed : goal.complete-requires-clause-aimed
 complete-requires-clause-aimed g c =
@@ -71,11 +71,11 @@ loop-claimed-preserved g c =
       same = (same.0 ∙ i.same.0, same.1 ∙ i.same.1, same.2 ∙ i.same.2);
       told = told.0 ∙ i.told;
       relations = told.1 ∙ i.relations;
-      holds = subst (λ (hs : List Holding). AreHeld g.W.World.told g.W.World.relations q hs)
+      holds = subst (λ (hs : List ClaimedIo). AreClaimedIos g.W.World.told g.W.World.relations q hs)
           (sym k.others) (held-without g.W.World.told g.W.World.relations p q k.user
           c.loop-claimed.group.held k.from k.taken
           (λ t ne. c.complete.ensures.kept t (λ e. ne (e ∙ k.named))) i.holds);
-      finishes = finishes-more g.W.World.told c.args.group.now.held c.loop-claimed.group.held
+      finishes = all_finishes-more g.W.World.told c.args.group.now.held c.loop-claimed.group.held
           c.next.new.self.held c.args.actor.now.known p q
           (g.P.Places.finished c.args.places.now) (g.P.Places.finished c.loop-claimed.places)
           (g.P.Places.finished c.complete.new.places) c.in-Some.claimed c.in-Some.raw

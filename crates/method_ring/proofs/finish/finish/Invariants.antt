@@ -1,17 +1,17 @@
 use Rattle.std.proofs.Common.{◌≡◌, length}
-use Rattle.aio_handle.specs.Shown.{IsOf, IsSame}
-use Rattle.method_ring.specs.Holding.{AreHeld}
-use Rattle.method_ring.specs.Running.{Finishes}
+use Rattle.aio_handle.specs.ContractViews.{IsActorOf, IsSameActor}
+use Rattle.method_ring.specs.ClaimedIos.{AreClaimedIos}
+use Rattle.method_ring.specs.RingRunner.{EndsGroup}
 use Rattle.method_ring.proofs.finish.finish.Given as goal
 
 abbrev pub invariant-loop-claimed : goal.invariant-loop-claimed
 invariant-loop-claimed g l = record {
-  table : IsOf l.table l.actor;
-  same : IsSame l.fn.actor l.actor;
+  table : IsActorOf l.table l.actor;
+  same : IsSameActor l.fn.actor l.actor;
   told : g.G.Ring.told l.group.ring ≡ g.G.Ring.told l.fn.group.ring;
   relations : g.G.Ring.relations l.group.ring ≡ g.G.Ring.relations l.fn.group.ring;
-  holds : AreHeld g.W.World.told g.W.World.relations l.actor.known l.group.held;
-  finishes : Finishes g.W.World.told l.fn.group.held l.group.held l.fn.actor.known l.actor.known
+  holds : AreClaimedIos g.W.World.told g.W.World.relations l.actor.known l.group.held;
+  finishes : EndsGroup g.W.World.told l.fn.group.held l.group.held l.fn.actor.known l.actor.known
       (g.P.Places.finished l.fn.places) (g.P.Places.finished l.places)
       (g.G.Ring.reads l.fn.group.ring) (g.G.Ring.reads l.group.ring)
       (g.G.Ring.faults l.fn.group.ring) (g.G.Ring.faults l.group.ring);

@@ -1,9 +1,9 @@
 use Rattle.std.proofs.Common.{ℕ, refl, sym, ◌∙◌, subst}
 use Rattle.aio_word.specs.declared.Known.{Known}
-use Rattle.method_ring.specs.Holding.{AreBelow}
-use Rattle.method_ring.specs.Running.{claims_of}
-use Rattle.method_ring.proofs.Gathering.{gathers-none, gathers-then}
-use Rattle.method_ring.proofs.Popping.{pops-none, pops-one}
+use Rattle.method_ring.specs.ClaimedIos.{AreBelow}
+use Rattle.method_ring.specs.RingRunner.{group_claims}
+use Rattle.method_ring.proofs.GroupClaims.{gathers-none, gathers-then}
+use Rattle.method_ring.proofs.PoppedReferences.{pops-none, pops-one}
 use Rattle.method_ring.proofs.gather.gather.Goals as goal
 
 pub loop-popped-init : goal.loop-popped-init
@@ -47,6 +47,7 @@ loop-popped-preserved g c =
       gathers = gathers-then g.W.World.told g.W.World.relations c.loop-popped.popped 1 p q r
           c.args.group.now.held c.loop-popped.group.held c.join.new.group.held i.gathers now;
       pops = pops-one c.loop-popped.popped word c.in-Entry.reference
-          (claims_of i.gathers.others) (claims_of now.others) c.args.seat.now c.loop-popped.seat
+          (group_claims i.gathers.others) (group_claims now.others) c.args.seat.now
+          c.loop-popped.seat
           c.pop.new.seat p q r i.pops i.gathers.grows popped.0 now.grows c.join.ensures.sees;
     }

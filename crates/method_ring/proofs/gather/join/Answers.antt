@@ -1,8 +1,8 @@
 use Rattle.std.proofs.Common.{List, sym, subst}
 use Rattle.aio_word.specs.declared.Known.{Known}
-use Rattle.method_ring.specs.Holding.{Holding}
-use Rattle.method_ring.specs.Running.{Gathers}
-use Rattle.method_ring.proofs.Gathering.{gathers-won, gathers-lost}
+use Rattle.method_ring.specs.ClaimedIos.{ClaimedIo}
+use Rattle.method_ring.specs.RingRunner.{GathersIos}
+use Rattle.method_ring.proofs.GroupClaims.{gathers-won, gathers-lost}
 use Rattle.method_ring.proofs.gather.join.Goals as goal
 
 pub returns-in-Some-clause-gathers : goal.returns-in-Some-clause-gathers
@@ -12,10 +12,11 @@ returns-in-Some-clause-gathers g c =
     let won = c.in-Some.ensures.won in
     let token = c.in-Some.ensures.token in
     let io = c.in-Some.ensures.record in
-    subst (λ (hs : List Holding). Gathers g.W.World.told g.W.World.relations 1 p q
+    subst (λ (hs : List ClaimedIo). GathersIos g.W.World.told g.W.World.relations 1 p q
     c.args.group.now.held hs) (sym c.enter.ensures.held)
     (gathers-won g.W.World.told g.W.World.relations p q c.args.group.now.held c.args.reference
-    c.in-Some.claimed c.keeps.ensures won.0 won.1 token.0 token.1 io.0 io.1 c.requires.numbers
+    c.in-Some.claimed c.has_seen_its_marks.ensures won.0 won.1 token.0 token.1 io.0 io.1
+    c.requires.numbers
     c.requires.held)
 
 pub returns-in_default-clause-gathers : goal.returns-in_default-clause-gathers

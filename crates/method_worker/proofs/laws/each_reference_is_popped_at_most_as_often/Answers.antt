@@ -1,6 +1,6 @@
 use Rattle.aio_word.specs.declared.WaitRef.{WaitRef}
 use Rattle.aio_word.specs.Stands.{one_if}
-use Rattle.method_worker.specs.Counted.{is_ref}
+use Rattle.method_worker.specs.QueueRule.{is_ref}
 use Rattle.method_worker.proofs.laws.each_reference_is_popped_at_most_as_often.Goals as goal
 
 pub returns : goal.returns

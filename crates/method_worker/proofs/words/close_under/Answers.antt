@@ -1,5 +1,5 @@
 use Rattle.std.proofs.Common.{rules}
-use Rattle.method_worker.proofs.Keeping.{closes}
+use Rattle.method_worker.proofs.StepsKeepClosingWord.{closes}
 use Rattle.method_worker.proofs.words.close_under.Goals as goal
 
 pub fetch_max-requires : goal.fetch_max-requires

@@ -1,5 +1,5 @@
 use Rattle.std.proofs.Common.{rules}
-use Rattle.method_worker.proofs.Keeping.{loads}
+use Rattle.method_worker.proofs.StepsKeepClosingWord.{loads}
 use Rattle.method_worker.proofs.words.load_closing.Goals as goal
 
 pub load-requires : goal.load-requires

@@ -1,5 +1,5 @@
 use Rattle.std.proofs.Common.{rules}
-use Rattle.method_worker.proofs.Keeping.{opens}
+use Rattle.method_worker.proofs.StepsKeepClosingWord.{opens}
 use Rattle.method_worker.proofs.words.open_under.Goals as goal
 
 pub store-requires : goal.store-requires

@@ -1,5 +1,5 @@
 use Rattle.std.proofs.Common.{rules, ◌+◌, ◌%◌, ◌^◌}
-use Rattle.method_worker.proofs.Keeping.{rings}
+use Rattle.method_worker.proofs.StepsKeepClosingWord.{rings}
 use Rattle.method_worker.proofs.words.ring.Goals as goal
 
 pub fetch_add-requires : goal.fetch_add-requires

@@ -1,5 +1,5 @@
 use Rattle.std.proofs.Common.{refl, inl, inr}
-use Rattle.method_worker.proofs.Turning.{tries-of}
+use Rattle.method_worker.proofs.WorkerStepsInOrder.{tries-of}
 use Rattle.method_worker.proofs.worker.turn.Goals as goal
 
 pub returns-in-Entry-clause-turned : goal.returns-in-Entry-clause-turned

@@ -1,9 +1,9 @@
 use Rattle.std.proofs.Common.{rules, ◌∙◌, refl, inl}
 use Rattle.aio_word.specs.declared.Known.{Known}
-use Rattle.aio_handle.proofs.TakingUp.{takes_then, takes_nothing}
-use Rattle.aio_handle.proofs.Growing.{grows-none}
-use Rattle.method_worker.specs.Working.{moment}
-use Rattle.method_worker.proofs.Turning.{turns-then, turns-last}
+use Rattle.aio_handle.proofs.ExecutionsCompose.{executes_then, executes_nothing}
+use Rattle.aio_handle.proofs.ListsGrow.{appends-none}
+use Rattle.method_worker.specs.WorkerSteps.{worker_state}
+use Rattle.method_worker.proofs.WorkerStepsInOrder.{turns-then, turns-last}
 use Rattle.method_worker.proofs.worker.work.Goals as goal
 
 pub loop-preserved : goal.loop-preserved
@@ -23,9 +23,10 @@ loop-preserved g c =
       table = (same.0 ∙ i.table.0, same.1 ∙ i.table.1);
       same = (same.0 ∙ i.same.0, same.1 ∙ i.same.1, same.2 ∙ i.same.2);
       told = (told.0 ∙ i.told.0, told.1 ∙ i.told.1);
-      takes = takes_then p q r _ _ _ _ _ _ i.takes c.turn.ensures.marks;
+      takes = executes_then p q r _ _ _ _ _ _ i.takes c.turn.ensures.marks;
       works = turns-then g.W.World.handles c.args.queue.now.reopened
-          (moment c.args.seat.now p) (moment c.loop.seat q) (moment c.turn.new.seat r)
+          (worker_state c.args.seat.now p) (worker_state c.loop.seat q)
+          (worker_state c.turn.new.seat r)
           c.turn.result i.works c.turn.ensures.turned (search rules);
     }
 
@@ -38,19 +39,20 @@ loop-init g c = record {
   table = c.requires.table;
   same = (refl, refl, refl);
   told = c.requires.told;
-  takes = takes_nothing c.args.actor.now.known c.args.actor.now.known _ _
-      (grows-none c.args.actor.now.known);
+  takes = executes_nothing c.args.actor.now.known c.args.actor.now.known _ _
+      (appends-none c.args.actor.now.known);
   works = inl refl;
 }
 
 pub returns-then-not-turn-clause-marks : goal.returns-then-not-turn-clause-marks
 returns-then-not-turn-clause-marks g c =
-    takes_then c.args.actor.now.known c.loop.actor.known c.turn.new.actor.known _ _ _ _ _ _
+    executes_then c.args.actor.now.known c.loop.actor.known c.turn.new.actor.known _ _ _ _ _ _
     c.loop.invariant.takes c.turn.ensures.marks
 
 pub returns-then-not-turn-clause-works : goal.returns-then-not-turn-clause-works
 returns-then-not-turn-clause-works g c =
     turns-last g.W.World.handles c.args.queue.now.reopened
-    (moment c.args.seat.now c.args.actor.now.known) (moment c.loop.seat c.loop.actor.known)
-    (moment c.turn.new.seat c.turn.new.actor.known) c.turn.result c.loop.invariant.works
+    (worker_state c.args.seat.now c.args.actor.now.known)
+    (worker_state c.loop.seat c.loop.actor.known)
+    (worker_state c.turn.new.seat c.turn.new.actor.known) c.turn.result c.loop.invariant.works
     c.turn.ensures.turned (search rules)

@@ -1,8 +1,8 @@
 use Rattle.std.proofs.Common.{◌≡◌, []}
-use Rattle.aio_handle.specs.Executing.{TakesUp}
-use Rattle.aio_handle.specs.Shown.{IsOf, IsSame}
-use Rattle.method_worker.specs.Shown.{IsSeatOf, IsSameSeat}
-use Rattle.method_worker.specs.Working.{AtWork, moment}
+use Rattle.aio_handle.specs.Execution.{ExecutesAll}
+use Rattle.aio_handle.specs.ContractViews.{IsActorOf, IsSameActor}
+use Rattle.method_worker.specs.QueueViews.{IsSeatOf, IsSameSeat}
+use Rattle.method_worker.specs.WorkerSteps.{IsWorking, worker_state}
 use Rattle.method_worker.proofs.worker.work.Given as goal
 
 abbrev pub invariant-loop : goal.invariant-loop
@@ -11,13 +11,13 @@ invariant-loop g l = record {
   is_finite : (goal.iterator-loop g).is_finite l.iterator';
   queue : IsSeatOf l.queue l.seat;
   seat : IsSameSeat l.fn.seat l.seat;
-  table : IsOf l.table l.actor;
-  same : IsSame l.fn.actor l.actor;
+  table : IsActorOf l.table l.actor;
+  same : IsSameActor l.fn.actor l.actor;
   told : (g.E.Execute.told l.runner ≡ g.W.World.told)
       × (g.E.Execute.relations l.runner ≡ g.W.World.relations);
-  takes : TakesUp [] l.fn.actor.known l.actor.known (g.E.Execute.reads l.fn.runner)
+  takes : ExecutesAll [] l.fn.actor.known l.actor.known (g.E.Execute.reads l.fn.runner)
       (g.E.Execute.reads l.runner)
       (g.E.Execute.faults l.fn.runner) (g.E.Execute.faults l.runner);
-  works : AtWork g.W.World.handles l.queue.reopened (moment l.fn.seat l.fn.actor.known)
-      (moment l.seat l.actor.known);
+  works : IsWorking g.W.World.handles l.queue.reopened (worker_state l.fn.seat l.fn.actor.known)
+      (worker_state l.seat l.actor.known);
 }

@@ -1,4 +1,4 @@
-use Rattle.page_check.proofs.Nexts.{next-page, next-invalid, next-past-end, next-end}
+use Rattle.page_check.proofs.NextAnswer.{next-page, next-invalid, next-past-end, next-end}
 use Rattle.page_check.proofs.laws.what_is_found_is_answered_next.Goals as goal
 
 pub returns-clause-page : goal.returns-clause-page

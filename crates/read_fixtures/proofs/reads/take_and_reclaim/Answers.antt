@@ -1,4 +1,4 @@
-use Rattle.aio_fixtures.proofs.Unreclaimed.{reclaimed-unreclaimed, reclaimed-kept}
+use Rattle.aio_fixtures.proofs.UnreclaimedIos.{reclaimed-unreclaimed, reclaimed-kept}
 use Rattle.read_fixtures.proofs.reads.take_and_reclaim.Goals as goal
 
 pub returns-clause-unreclaimed : goal.returns-clause-unreclaimed

@@ -1,4 +1,4 @@
-use Rattle.read_stream.proofs.Answered.{page_is_next, stop_is_next}
+use Rattle.read_stream.proofs.PartIsNextAnswer.{page_is_next, stop_is_next}
 use Rattle.read_stream.proofs.laws.parts_are_answers.Goals as goal
 
 pub returns-clause-page : goal.returns-clause-page

@@ -1,13 +1,13 @@
 use Rattle.std.proofs.Common.{◌≡◌, ◌-◌, arith, refl, sym, ◌∙◌, ap}
 use Rattle.aio_result.specs.declared.AioResult.{AioResult}
-use Rattle.aio_callback.specs.Reading.{Reading}
+use Rattle.aio_callback.specs.ReadIoView.{ReadIoView}
 use Rattle.aio_callback.specs.Cases.{stream_ids}
 use Rattle.read_stream.proofs.PartCases.{ids_zero, part_rest, part_invalid, part_unread, part_past}
 use Rattle.read_stream.proofs.parts.part_of.Goals as goal
 
 pub returns-then-index-good : goal.returns-then-index-good
 returns-then-index-good g c =
-    let io : Reading = c.args.io.now in
+    let io : ReadIoView = c.args.io.now in
     let law = c.stream_records_end_in_six_ways.ensures in
     let (zero, ids) = c.requires.ids in
     let good = c.good-good.ensures.value in
@@ -21,7 +21,7 @@ returns-then-index-good g c =
 
 pub returns-then-result-eq2 : goal.returns-then-result-eq2
 returns-then-result-eq2 g c =
-    let io : Reading = c.args.io.now in
+    let io : ReadIoView = c.args.io.now in
     let law = c.stream_records_end_in_six_ways.ensures in
     let (zero, ids) = c.requires.ids in
     let case = law.case g.W.World.told g.W.World.relations io zero c.requires.fits
@@ -40,7 +40,7 @@ returns-then-result-eq2 g c =
 
 pub returns-then-result-eq1 : goal.returns-then-result-eq1
 returns-then-result-eq1 g c =
-    let io : Reading = c.args.io.now in
+    let io : ReadIoView = c.args.io.now in
     let law = c.stream_records_end_in_six_ways.ensures in
     let (zero, ids) = c.requires.ids in
     let case = law.case g.W.World.told g.W.World.relations io zero c.requires.fits
@@ -62,7 +62,7 @@ returns-then-result-eq1 g c =
 
 pub returns-else-result-eq1 : goal.returns-else-result-eq1
 returns-else-result-eq1 g c =
-    let io : Reading = c.args.io.now in
+    let io : ReadIoView = c.args.io.now in
     let law = c.stream_records_end_in_six_ways.ensures in
     let (zero, ids) = c.requires.ids in
     let case = law.case g.W.World.told g.W.World.relations io zero c.requires.fits
@@ -85,7 +85,7 @@ returns-else-result-eq1 g c =
 
 pub returns-in_default : goal.returns-in_default
 returns-in_default g c =
-    let io : Reading = c.args.io.now in
+    let io : ReadIoView = c.args.io.now in
     let law = c.stream_records_end_in_six_ways.ensures in
     let (zero, ids) = c.requires.ids in
     let case = law.case g.W.World.told g.W.World.relations io zero c.requires.fits

@@ -1,4 +1,4 @@
-use Rattle.record_tests.proofs.Untold.{answered_untold}
+use Rattle.record_tests.proofs.UntoldAnswers.{answered_untold}
 use Rattle.record_tests.proofs.reads.completed.Goals as goal
 
 pub complete_shared-requires-clause-answered : goal.complete_shared-requires-clause-answered

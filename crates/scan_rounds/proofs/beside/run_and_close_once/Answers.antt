@@ -1,6 +1,6 @@
 use Rattle.std.proofs.Common.{◌≤◌, length, arith}
 use Rattle.std.proofs.lemmas.List.{get_or_default}
-use Rattle.scan_rounds.proofs.Closed.{all_closed}
+use Rattle.scan_rounds.proofs.QueueClosed.{all_closed}
 use Rattle.scan_rounds.proofs.beside.run_and_close_once.Goals as goal
 
 pub returns : goal.returns

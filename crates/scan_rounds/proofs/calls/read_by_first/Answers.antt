@@ -1,5 +1,5 @@
 use Rattle.std.proofs.lemmas.List.{get_or_default}
-use Rattle.scan_rounds.proofs.Mapped.{first_read}
+use Rattle.scan_rounds.proofs.ScanAfterMap.{first_read}
 use Rattle.scan_rounds.proofs.calls.read_by_first.Goals as goal
 
 pub returns-clause-read : goal.returns-clause-read

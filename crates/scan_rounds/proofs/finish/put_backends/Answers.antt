@@ -3,12 +3,12 @@ use Rattle.std.proofs.Common.{sym, ◌∙◌, subst, arith}
 use Rattle.std.proofs.lemmas.Iterator.Adapters.{YieldsList-from_vec}
 use Rattle.std.proofs.lemmas.Iterator.Consumers.{YieldsList-turn, YieldsList-end}
 use Rattle.std.proofs.lemmas.List.{map-id}
-use Rattle.scan_rounds.specs.Rounds.{hand_of}
+use Rattle.scan_rounds.specs.Rounds.{backend_disk_actor}
 use Rattle.scan_rounds.specs.Scans.{HasDisk, actor_of, disk_of}
 use Rattle.scan_rounds.proofs.finish.put_backends.Goals as goal
 
-pub put_down-requires-clause-hand : goal.put_down-requires-clause-hand
-put_down-requires-clause-hand g c κs within =
+pub put_down-requires-clause-disk_actor : goal.put_down-requires-clause-disk_actor
+put_down-requires-clause-disk_actor g c κs within =
     let from = c.into_iter-backend-iterator.ensures.into_iter_gives in
     let (below, is) = YieldsList-turn
     (YieldsList-from_vec {s = c.into_iter-backend-iterator.result} _ from.0
@@ -16,8 +16,8 @@ put_down-requires-clause-hand g c κs within =
     c.loop-backend.yielded c.loop-backend.backend-iterator c.loop-backend.yielded_by
     c.next.result c.next.new.self c.in-Some.backend c.in-Some.is
     c.next.ensures.steps in
-    subst (λ b. HasDisk b.hand) (sym is)
-    (c.requires.hands (length c.loop-backend.yielded) c.in-Some.backend below)
+    subst (λ b. HasDisk b.disk_actor) (sym is)
+    (c.requires.disk_actors (length c.loop-backend.yielded) c.in-Some.backend below)
 
 pub put_down-requires-clause-actors : goal.put_down-requires-clause-actors
 put_down-requires-clause-actors g c κs within =
@@ -62,8 +62,9 @@ returns-clause-actors g c =
     c.loop-backend.yielded c.loop-backend.backend-iterator c.loop-backend.yielded_by
     c.next.result c.next.new.self c.in-None.is c.next.ensures.steps in
     subst
-    (λ bs. c.loop-backend.actors.items ≡ c.args.actors.now.items ++ map actor_of (map hand_of bs))
-    (sym (map-id c.loop-backend.yielded) ∙ same) c.loop-backend.invariant.actors
+    (λ bs. c.loop-backend.actors.items ≡ c.args.actors.now.items
+    ++ map actor_of (map backend_disk_actor bs)) (sym (map-id c.loop-backend.yielded) ∙ same)
+    c.loop-backend.invariant.actors
 
 pub returns-clause-disks : goal.returns-clause-disks
 returns-clause-disks g c =
@@ -75,7 +76,7 @@ returns-clause-disks g c =
     c.next.result c.next.new.self c.in-None.is c.next.ensures.steps in
     subst
     (λ bs. map Some c.loop-backend.disks.items
-    ≡ map Some c.args.disks.now.items ++ map disk_of (map hand_of bs))
+    ≡ map Some c.args.disks.now.items ++ map disk_of (map backend_disk_actor bs))
     (sym (map-id c.loop-backend.yielded) ∙ same) c.loop-backend.invariant.disks
 
 pub returns-clause-lengths : goal.returns-clause-lengths

@@ -3,12 +3,12 @@ use Rattle.std.proofs.Common.{sym, ◌∙◌, subst, arith}
 use Rattle.std.proofs.lemmas.Iterator.Adapters.{YieldsList-from_vec}
 use Rattle.std.proofs.lemmas.Iterator.Consumers.{YieldsList-turn, YieldsList-end}
 use Rattle.std.proofs.lemmas.List.{map-id}
-use Rattle.scan_rounds.specs.Rounds.{hand_in}
+use Rattle.scan_rounds.specs.Rounds.{worker_disk_actor}
 use Rattle.scan_rounds.specs.Scans.{HasDisk, actor_of, disk_of}
 use Rattle.scan_rounds.proofs.finish.put_workers.Goals as goal
 
-pub put_down-requires-clause-hand : goal.put_down-requires-clause-hand
-put_down-requires-clause-hand g c κs within =
+pub put_down-requires-clause-disk_actor : goal.put_down-requires-clause-disk_actor
+put_down-requires-clause-disk_actor g c κs within =
     let from = c.into_iter-worker-iterator.ensures.into_iter_gives in
     let (below, is) = YieldsList-turn
     (YieldsList-from_vec {s = c.into_iter-worker-iterator.result} _ from.0
@@ -16,8 +16,8 @@ put_down-requires-clause-hand g c κs within =
     c.loop-worker.yielded c.loop-worker.worker-iterator c.loop-worker.yielded_by
     c.next.result c.next.new.self c.in-Some.worker c.in-Some.is
     c.next.ensures.steps in
-    subst (λ w. HasDisk w.hand) (sym is)
-    (c.requires.hands (length c.loop-worker.yielded) c.in-Some.worker below)
+    subst (λ w. HasDisk w.disk_actor) (sym is)
+    (c.requires.disk_actors (length c.loop-worker.yielded) c.in-Some.worker below)
 
 pub put_down-requires-clause-actors : goal.put_down-requires-clause-actors
 put_down-requires-clause-actors g c κs within =
@@ -62,8 +62,9 @@ returns-clause-actors g c =
     c.loop-worker.yielded c.loop-worker.worker-iterator c.loop-worker.yielded_by
     c.next.result c.next.new.self c.in-None.is c.next.ensures.steps in
     subst
-    (λ ws. c.loop-worker.actors.items ≡ c.args.actors.now.items ++ map actor_of (map hand_in ws))
-    (sym (map-id c.loop-worker.yielded) ∙ same) c.loop-worker.invariant.actors
+    (λ ws. c.loop-worker.actors.items ≡ c.args.actors.now.items
+    ++ map actor_of (map worker_disk_actor ws)) (sym (map-id c.loop-worker.yielded) ∙ same)
+    c.loop-worker.invariant.actors
 
 pub returns-clause-disks : goal.returns-clause-disks
 returns-clause-disks g c =
@@ -75,5 +76,5 @@ returns-clause-disks g c =
     c.next.result c.next.new.self c.in-None.is c.next.ensures.steps in
     subst
     (λ ws. map Some c.loop-worker.disks.items
-    ≡ map Some c.args.disks.now.items ++ map disk_of (map hand_in ws))
+    ≡ map Some c.args.disks.now.items ++ map disk_of (map worker_disk_actor ws))
     (sym (map-id c.loop-worker.yielded) ∙ same) c.loop-worker.invariant.disks

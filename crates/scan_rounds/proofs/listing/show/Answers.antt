@@ -1,6 +1,6 @@
 use Rattle.std.proofs.Common.{refl}
 use Rattle.heap_tuple.specs.Listing.{text_with}
-use Rattle.scan_rounds.proofs.Showing.{page_shown}
+use Rattle.scan_rounds.proofs.OutputOfPages.{page_shown}
 use Rattle.scan_rounds.proofs.listing.show.Goals as goal
 
 pub returns-in-Page : goal.returns-in-Page

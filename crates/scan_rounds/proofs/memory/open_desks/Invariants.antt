@@ -1,6 +1,6 @@
 use Rattle.std.proofs.Common.{◌≡◌, length, vec_capacity}
 use Rattle.std.specs.List.{All}
-use Rattle.scan_rounds.specs.Opening.{AreStreamsOf, IsDeskFor}
+use Rattle.scan_rounds.specs.OpenedScan.{AreStreamsOf, IsDeskFor}
 use Rattle.scan_rounds.proofs.memory.open_desks.Given as goal
 
 abbrev pub invariant-loop : goal.invariant-loop

@@ -2,12 +2,12 @@ use Rattle.std.proofs.Common.{◌≡◌, [], rules, sym, subst, arith}
 use Rattle.std.specs.Prelude.{Option, Some, IfSome}
 use Rattle.std.specs.List.{All}
 use Rattle.std.proofs.lemmas.List.Elements.{All-pop, All-push}
-use Rattle.method_worker.specs.Shown.{Queue, Seating, IsSeatOf}
+use Rattle.method_worker.specs.QueueViews.{QueueView, SeatView, IsSeatOf}
 use Rattle.scan_rounds.specs.Rings.{IsRingOf}
-use Rattle.scan_rounds.specs.declared.ring.RingDesk.{RingDesk}
+use Rattle.scan_rounds.specs.declared.ring.IdleRingState.{IdleRingState}
 use Rattle.scan_rounds.proofs.memory.open_rings.Goals as goal
 
-ring_of : {W : Type 0} (q : Queue) (r : RingDesk W) (s : Seating) (o : Option Seating)
+ring_of : {W : Type 0} (q : QueueView) (r : IdleRingState W) (s : SeatView) (o : Option SeatView)
     → o ≡ Some s → IfSome o (IsSeatOf q) → r.seat ≡ s → r.room ≡ [] → IsRingOf q r
 ring_of q r s o is of seat room =
     (subst (λ x. IsSeatOf q x) (sym seat) (subst (λ x. IfSome x (IsSeatOf q)) is of), room)

@@ -1,26 +1,26 @@
 use Rattle.std.proofs.Common.{sym, ap, ◌∙◌, subst, arith, length}
-use Rattle.aio_handle.specs.Shown.{Standing}
-use Rattle.aio_word.specs.Events.{lives}
-use Rattle.read_stream.specs.Answering.{entries_of}
-use Rattle.read_stream.specs.Desks.{IsFree}
+use Rattle.aio_handle.specs.ContractViews.{ActorView}
+use Rattle.aio_word.specs.Events.{lives_ended}
+use Rattle.read_stream.specs.StreamAnswers.{stream_entries}
+use Rattle.read_stream.specs.Desks.{IsFreeDesk}
 use Rattle.read_stream.specs.declared.desk.Desk.{Desk}
-use Rattle.read_stream.specs.Went.{local_marks}
-use Rattle.read_stream.proofs.Going.{went_then}
-use Rattle.scan_rounds.specs.Skipping.{skips_of}
+use Rattle.read_stream.specs.ActorProgress.{local_marks}
+use Rattle.read_stream.proofs.ActorAdvancedLaws.{advanced_then}
+use Rattle.scan_rounds.specs.BlockFilter.{filter_of}
 use Rattle.scan_rounds.proofs.Blocks.{given_moved, source_count, source_entries, source_few}
 use Rattle.scan_rounds.proofs.reading.read.Goals as goal
 
 pub open-stream-requires-clause-room : goal.open-stream-requires-clause-room
 open-stream-requires-clause-room g c =
     let (room, is, enough) = c.requires.room in
-    let few = source_few (skips_of c.args.blocks.skipping) c.args.blocks.first
+    let few = source_few (filter_of c.args.blocks.skipping) c.args.blocks.first
     c.args.blocks.count in
     let same = ap length c.of-source.ensures in
     (room, is, omega arith)
 
 pub take_all-ending-requires-clause-few : goal.take_all-ending-requires-clause-few
 take_all-ending-requires-clause-few g c =
-    let few = source_few (skips_of c.args.blocks.skipping) c.args.blocks.first
+    let few = source_few (filter_of c.args.blocks.skipping) c.args.blocks.first
     c.args.blocks.count in
     let same = ap length (c.open-stream.ensures.source ∙ c.of-source.ensures) in
     let most = c.requires.few in
@@ -28,14 +28,14 @@ take_all-ending-requires-clause-few g c =
 
 pub returns-clause-went : goal.returns-clause-went
 returns-clause-went g c =
-    went_then _ _ _ _ _ _ _ _ _ c.take_all-ending.ensures.went c.close-desk.ensures.went
+    advanced_then _ _ _ _ _ _ _ _ _ c.take_all-ending.ensures.went c.close-desk.ensures.went
 
 pub returns-clause-desk : goal.returns-clause-desk
 returns-clause-desk g c =
     let name = c.close-desk.ensures.desk.0
     ∙ (c.take_all-ending.ensures.desk ∙ c.open-stream.ensures.desk) in
-    let same = c.desk-1.given.1 (sym name) ∙ c.give_back.ensures in (
-      subst (λ d. IsFree d) (sym same) c.close-desk.ensures.desk.1,
+    let same = c.desk-1.given.1 (sym name) ∙ c.end_borrow.ensures in (
+      subst (λ d. IsFreeDesk d) (sym same) c.close-desk.ensures.desk.1,
       ap (λ (d : Desk _ (Unit {0})). d.zero) same ∙ c.close-desk.ensures.desk.2.6
           ∙ (sym c.take_all-ending.ensures.is_open.between.steady.zero
           ∙ (c.take_all-ending.ensures.zero ∙ c.open-stream.ensures.zero)),
@@ -44,23 +44,23 @@ returns-clause-desk g c =
 pub returns-clause-lived : goal.returns-clause-lived
 returns-clause-lived g c h =
     let was = c.take_all-ending.ensures.was.0 ∙ c.open-stream.ensures.actor.0 in
-    let few = source_few (skips_of c.args.blocks.skipping) c.args.blocks.first
+    let few = source_few (filter_of c.args.blocks.skipping) c.args.blocks.first
     c.args.blocks.count in
     let long = ap length (c.take_all-ending.ensures.was.1
     ∙ (c.open-stream.ensures.source ∙ c.of-source.ensures)) in
     let taken = c.close-desk.ensures.few in
-    let marks = ap (λ (a : Standing). lives h a.known.marks) was in
+    let marks = ap (λ (a : ActorView). lives_ended h a.known.marks) was in
     let ended = c.close-desk.ensures.lived h in
     omega arith
 
 pub returns-clause-taken : goal.returns-clause-taken
 returns-clause-taken g c =
     let was = c.take_all-ending.ensures.was.0 ∙ c.open-stream.ensures.actor.0 in
-    let many = source_count (skips_of c.args.blocks.skipping) c.args.blocks.relation
+    let many = source_count (filter_of c.args.blocks.skipping) c.args.blocks.relation
     c.args.blocks.first c.args.blocks.count in
     let long = ap length (c.take_all-ending.ensures.was.1
     ∙ (c.open-stream.ensures.source ∙ c.of-source.ensures)) in
-    let marks = ap (λ (a : Standing). local_marks a.known.marks) was in
+    let marks = ap (λ (a : ActorView). local_marks a.known.marks) was in
     let taken = c.close-desk.ensures.few in
     let count = c.close-desk.ensures.count in
     omega arith
@@ -69,7 +69,7 @@ pub returns-clause-given : goal.returns-clause-given
 returns-clause-given g c =
     given_moved _ _ _ _ _ _ _ _ _ _ _ _ _ _ _ c.open-stream.ensures.zero
     c.open-stream.ensures.actor.0
-    (ap (entries_of c.args.blocks.relation) (c.open-stream.ensures.source ∙ c.of-source.ensures)
-    ∙ source_entries (skips_of c.args.blocks.skipping) c.args.blocks.relation c.args.blocks.first
+    (ap (stream_entries c.args.blocks.relation) (c.open-stream.ensures.source ∙ c.of-source.ensures)
+    ∙ source_entries (filter_of c.args.blocks.skipping) c.args.blocks.relation c.args.blocks.first
     c.args.blocks.count)
     c.close-desk.ensures.went c.take_all-ending.ensures.given

@@ -1,11 +1,12 @@
 use Rattle.std.proofs.Common.{rules, ◌+◌, ℕ, refl, sym, ap, ◌∙◌, arith}
 use Rattle.std.proofs.lemmas.List.{length-map}
-use Rattle.read_stream.specs.Answering.{entry_of, said, pages_in, entries_of, MayBeUnread}
-use Rattle.read_stream.proofs.Going.{went_nothing, went_then}
+use Rattle.read_stream.specs.StreamAnswers.{stream_entry, synchronous_answer, pages_given}
+use Rattle.read_stream.specs.StreamAnswers.{stream_entries, MayBeUnread}
+use Rattle.read_stream.proofs.ActorAdvancedLaws.{advanced_nothing, advanced_then}
 use Rattle.scan_rounds.proofs.AnswerPages.{next_valid}
-use Rattle.scan_rounds.proofs.Taking.{at_place, nearer, next_room, nothing_yet, taken_end}
-use Rattle.scan_rounds.proofs.Taking.{taken_more}
-use Rattle.scan_rounds.proofs.Taking.{zeroed_at_place}
+use Rattle.scan_rounds.proofs.ConsumerProgress.{at_place, nearer, next_room, nothing_yet, taken_end}
+use Rattle.scan_rounds.proofs.ConsumerProgress.{taken_more}
+use Rattle.scan_rounds.proofs.ConsumerProgress.{zeroed_at_place}
 use Rattle.scan_rounds.proofs.reading.take_all.Goals as goal
 
 pub loop-ending-init : goal.loop-ending-init
@@ -14,7 +15,7 @@ loop-ending-init g c = record {
   of = search rules;
   told = c.requires.told;
   stands_on = refl;
-  went = went_nothing _ _ _;
+  went = advanced_nothing _ _ _;
   actor_is = search rules;
   place = search rules;
   is_open = search rules;
@@ -31,8 +32,8 @@ take-requires-clause-valid g c =
     let i = c.loop-ending.invariant in
     next_valid c.args.stream.now.scope.zero g.W.World.told
     (MayBeUnread c.args.stream.now.scope.was.value c.next-answer.new.actor.known)
-    (entries_of c.args.relation (g.S.BlockSource.left c.args.stream.now.source_was.value))
-    c.loop-ending.stream.given (said c.args.relation c.next-answer.result)
+    (stream_entries c.args.relation (g.S.BlockSource.left c.args.stream.now.source_was.value))
+    c.loop-ending.stream.given (synchronous_answer c.args.relation c.next-answer.result)
     (at_place _ _ _ _ _ _ _ _ _ _ _ _ i.was.0 i.place (ap g.S.BlockSource.left i.was.1) i.zero
     c.next-answer.ensures.answer)
 
@@ -40,13 +41,13 @@ pub take-requires-clause-room : goal.take-requires-clause-room
 take-requires-clause-room g c =
     let i = c.loop-ending.invariant in
     let blocks = g.S.BlockSource.left c.args.stream.now.source_was.value in
-    let many = length-map blocks (entry_of c.args.relation) in
+    let many = length-map blocks (stream_entry c.args.relation) in
     let few = c.requires.few in
     let most = i.most in
     next_room _ c.args.stream.now.scope.zero g.W.World.told
     (MayBeUnread c.args.stream.now.scope.was.value c.next-answer.new.actor.known)
-    (entries_of c.args.relation blocks) c.loop-ending.stream.given _
-    (said c.args.relation c.next-answer.result) (omega arith) i.so_far
+    (stream_entries c.args.relation blocks) c.loop-ending.stream.given _
+    (synchronous_answer c.args.relation c.next-answer.result) (omega arith) i.so_far
     (at_place _ _ _ _ _ _ _ _ _ _ _ _ i.was.0 i.place (ap g.S.BlockSource.left i.was.1) i.zero
     c.next-answer.ensures.answer)
 
@@ -60,7 +61,7 @@ loop-ending-preserved g c =
       of = (s.0 ∙ i.of.0, s.1 ∙ i.of.1);
       told = (c.next-answer.ensures.told.0 ∙ i.told.0, c.next-answer.ensures.told.1 ∙ i.told.1);
       stands_on = c.next-answer.ensures.stands_on ∙ i.stands_on;
-      went = went_then _ _ _ _ _ _ _ _ _ i.went c.next-answer.ensures.went;
+      went = advanced_then _ _ _ _ _ _ _ _ _ i.went c.next-answer.ensures.went;
       actor_is = sym f.actor_is;
       place = f.relation ∙ i.place;
       is_open = f.is_open;
@@ -76,7 +77,7 @@ loop-ending-preserved g c =
           c.next-answer.ensures.zeroed)
           c.take.ensures.takes c.in_default.is
           (f.given ∙ ap (λ (r : ℕ). c.loop-ending.stream.given
-          + pages_in (said r c.next-answer.result)) i.place);
+          + pages_given (synchronous_answer r c.next-answer.result)) i.place);
     }
 
 pub loop-ending-smaller : goal.loop-ending-smaller
@@ -89,12 +90,12 @@ loop-ending-smaller g c =
     c.next-answer.ensures.answer)
     c.take.ensures.takes c.in_default.is
     (f.given ∙ ap (λ (r : ℕ). c.loop-ending.stream.given
-    + pages_in (said r c.next-answer.result)) i.place) in
+    + pages_given (synchronous_answer r c.next-answer.result)) i.place) in
     omega arith
 
 pub returns-in-Some-clause-went : goal.returns-in-Some-clause-went
 returns-in-Some-clause-went g c =
-    went_then _ _ _ _ _ _ _ _ _ c.loop-ending.invariant.went c.next-answer.ensures.went
+    advanced_then _ _ _ _ _ _ _ _ _ c.loop-ending.invariant.went c.next-answer.ensures.went
 
 pub returns-in-Some-clause-given : goal.returns-in-Some-clause-given
 returns-in-Some-clause-given g c =

@@ -1,19 +1,19 @@
 use Rattle.std.proofs.Common.{◌≡◌, ◌-◌, length}
-use Rattle.aio_handle.specs.Shown.{IsOf, IsSame}
-use Rattle.read_stream.specs.Answering.{entries_of}
-use Rattle.read_stream.specs.Open.{IsOpen}
-use Rattle.read_stream.specs.Went.{Went}
-use Rattle.scan_rounds.proofs.Taking.{SoFar}
+use Rattle.aio_handle.specs.ContractViews.{IsActorOf, IsSameActor}
+use Rattle.read_stream.specs.StreamAnswers.{stream_entries}
+use Rattle.read_stream.specs.StreamState.{IsOpen}
+use Rattle.read_stream.specs.ActorProgress.{ActorAdvanced}
+use Rattle.scan_rounds.proofs.ConsumerProgress.{SoFar}
 use Rattle.scan_rounds.proofs.reading.take_all.Given as goal
 
 abbrev pub invariant-loop-ending : goal.invariant-loop-ending
 invariant-loop-ending g l = record {
-  same : IsSame l.fn.actor l.actor;
-  of : IsOf l.table l.actor;
+  same : IsSameActor l.fn.actor l.actor;
+  of : IsActorOf l.table l.actor;
   told : (g.E.Execute.told l.runner ≡ g.W.World.told)
       × (g.E.Execute.relations l.runner ≡ g.W.World.relations);
   stands_on : g.M.Method.stands_on l.method ≡ g.M.Method.stands_on l.fn.method;
-  went : Went l.fn.actor.known l.actor.known (g.E.Execute.reads l.fn.runner)
+  went : ActorAdvanced l.fn.actor.known l.actor.known (g.E.Execute.reads l.fn.runner)
       (g.E.Execute.reads l.runner) (g.E.Execute.faults l.fn.runner)
       (g.E.Execute.faults l.runner);
   actor_is : l.actor ≡ l.stream.actor_is.value;
@@ -27,11 +27,11 @@ invariant-loop-ending g l = record {
   most : g.C.Consumer.most l.consumer ≡ g.C.Consumer.most l.fn.consumer;
   consumer_is : g.C.Consumer.is_same l.fn.consumer l.consumer;
   so_far : SoFar (g.C.Consumer.holds l.consumer) l.fn.stream.scope.zero g.W.World.told
-      (entries_of l.relation (g.S.BlockSource.left l.fn.stream.source_was.value))
+      (stream_entries l.relation (g.S.BlockSource.left l.fn.stream.source_was.value))
       l.stream.given;
 }
 
 abbrev pub decreases-loop-ending : goal.decreases-loop-ending
 decreases-loop-ending g l =
-    length (entries_of l.relation (g.S.BlockSource.left l.fn.stream.source_was.value))
+    length (stream_entries l.relation (g.S.BlockSource.left l.fn.stream.source_was.value))
     - l.stream.given

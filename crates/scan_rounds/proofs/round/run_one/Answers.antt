@@ -1,4 +1,4 @@
-use Rattle.scan_rounds.proofs.Allowed.{is_ready}
+use Rattle.scan_rounds.proofs.ThreadPremises.{is_ready}
 use Rattle.scan_rounds.proofs.round.run_one.Goals as goal
 
 pub run-requires-after_bounds : goal.run-requires-after_bounds

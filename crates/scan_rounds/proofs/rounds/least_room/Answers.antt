@@ -2,7 +2,7 @@ use Rattle.std.proofs.Common.{rules, List, ◌≤◌, arith, subst}
 use Rattle.std.proofs.lemmas.List.{take_all}
 use Rattle.std.proofs.Math.Nat.{min-le_left}
 use Rattle.scan_rounds.specs.Rounds.{HaveRoom}
-use Rattle.scan_rounds.proofs.Rooms.{least_next, greatest_next, least_is}
+use Rattle.scan_rounds.proofs.LeastRoom.{least_next, greatest_next, least_is}
 use Rattle.scan_rounds.proofs.rounds.least_room.Goals as goal
 
 pub loop-backend-preserved : goal.loop-backend-preserved

@@ -1,5 +1,5 @@
 use Rattle.std.proofs.Common.{rules, refl}
-use Rattle.scan_rounds.proofs.Swapping.{none_swapped, one_swapped, all_swapped}
+use Rattle.scan_rounds.proofs.JobsExchanged.{none_swapped, one_swapped, all_swapped}
 use Rattle.scan_rounds.proofs.rounds.swap_jobs.Goals as goal
 
 pub loop-k-init : goal.loop-k-init

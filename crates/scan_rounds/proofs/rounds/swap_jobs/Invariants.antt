@@ -1,4 +1,4 @@
-use Rattle.scan_rounds.proofs.Swapping.{HalfSwapped}
+use Rattle.scan_rounds.proofs.JobsExchanged.{HalfSwapped}
 use Rattle.scan_rounds.proofs.rounds.swap_jobs.Given as goal
 
 abbrev pub invariant-loop-k : goal.invariant-loop-k

@@ -1,6 +1,6 @@
 use Rattle.std.proofs.Common.{refl, sym, ap, arith, append-nil, [], ℕ, ◌*◌}
 use Rattle.std.proofs.lemmas.List.{get_or_default}
-use Rattle.scan_rounds.proofs.Parted.{one_share, both_shares, accepts_front, accepts_back}
+use Rattle.scan_rounds.proofs.ShareSplit.{one_share, both_shares, accepts_front, accepts_back}
 use Rattle.scan_rounds.proofs.sharing.+shares.Goals as goal
 
 pub share_out-f-requires : goal.share_out-f-requires

@@ -1,12 +1,12 @@
 use Rattle.std.proofs.Common.{sym, subst, arith, length, List, ◌∷◌, [], ◌*◌, ◌+◌}
 use Rattle.std.proofs.lemmas.List.Elements.{All-rest}
-use Rattle.scan_rounds.specs.Hands.{meter}
+use Rattle.scan_rounds.specs.DiskActors.{disk_ghosts}
 use Rattle.scan_rounds.specs.Jobs.{IsFresh}
-use Rattle.scan_rounds.specs.Skipping.{skips_of}
+use Rattle.scan_rounds.specs.BlockFilter.{filter_of}
 use Rattle.scan_rounds.specs.Turns.{HasTurned}
 use Rattle.scan_rounds.specs.declared.job.Job.{Job}
-use Rattle.scan_rounds.proofs.Rooms.{fewer}
-use Rattle.scan_rounds.proofs.Turning.{may_later, none_done, one_then, turned_more}
+use Rattle.scan_rounds.proofs.LeastRoom.{fewer}
+use Rattle.scan_rounds.proofs.JobsInSequence.{may_later, none_done, one_then, turned_more}
 use Rattle.scan_rounds.proofs.turn.+jobs.Goals as goal
 
 pub do_job-requires-clause-backend : goal.do_job-requires-clause-backend
@@ -15,7 +15,7 @@ do_job-requires-clause-backend g t c κs within =
 
 pub do_job-requires-clause-room : goal.do_job-requires-clause-room
 do_job-requires-clause-room g t c κs within =
-    fewer 64 (64 * length c.args.jobs.now) c.args.backend.now.hand.actor
+    fewer 64 (64 * length c.args.jobs.now) c.args.backend.now.disk_actor.actor
     (let both = c.in-Some.ensures.cases in omega (arith, both.1))
     (c.requires.may.room 0 c.args.backend.now (omega arith))
 
@@ -26,7 +26,7 @@ do_jobs-requires-clause-may g t c κs within =
     let own = c.args.backend.now in
     may_later _ _ _ _ _ own c.do_job.new.backend c.in-Some.job.now c.do_job.new.job
     c.do_job.ensures.did (length later) later
-    (fewer (64 * (length later + 1)) (64 * length c.args.jobs.now) own.hand.actor
+    (fewer (64 * (length later + 1)) (64 * length c.args.jobs.now) own.disk_actor.actor
     (omega (arith, both.1)) (c.requires.may.room 0 own (omega arith)))
     (c.requires.may.backends 0 own (omega arith)).backend
     (All-rest (IsFresh g.W.World.relations) c.in-Some.job.now later c.args.jobs.now both.0
@@ -38,9 +38,9 @@ returns-in-Some g t c =
     let job = c.in-Some.job.now in
     let later = c.in-Some.later.now in
     let own = c.args.backend.now in record {
-      done = subst (λ (js : List Job). HasTurned (meter g.D.Disk.told g.D.Disk.relations
+      done = subst (λ (js : List Job). HasTurned (disk_ghosts g.D.Disk.told g.D.Disk.relations
           g.D.Disk.reads g.D.Disk.faults) g.W.World.told g.W.World.relations
-          c.args.common.now.table c.args.common.now.queue (skips_of c.args.skipping)
+          c.args.shared.now.table c.args.shared.now.queue (filter_of c.args.skipping)
           (64 * length c.args.jobs.now) (own ∷ []) (c.do_jobs.new.backend ∷ []) js
           (c.do_job.new.job ∷ c.do_jobs.new.jobs)) (sym both.0)
           (turned_more _ _ _ _ _ (64 * length later + 64) (64 * length c.args.jobs.now) (own ∷ [])

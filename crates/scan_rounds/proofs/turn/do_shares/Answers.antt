@@ -1,12 +1,13 @@
 use denote.Param.Send.{sendable}
-use Rattle.scan_rounds.proofs.TurnLaws.{all_turned, may_share, turned_as}
+use Rattle.scan_rounds.proofs.SharesInParallel.{all_turned, may_share, turned_as}
 use Rattle.scan_rounds.proofs.turn.do_shares.Goals as goal
 
 pub share_out-requires-clause-accepts : goal.share_out-requires-clause-accepts
 share_out-requires-clause-accepts g c κs within = let bounds = c.type_bounds in
     λ p q i x y lt is part few. (
       (
-        may_share _ _ _ _ _ c.args.share i p.now c.args.backends.now x q.now y c.args.jobs.now lt is part
+        may_share _ _ _ _ _ c.args.share i p.now c.args.backends.now x q.now y c.args.jobs.now lt is
+            part
             c.requires.may,
         few,
       ),

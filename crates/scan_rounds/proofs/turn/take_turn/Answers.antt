@@ -1,8 +1,8 @@
 use Rattle.std.proofs.Common.{arith, ◌*◌}
 use Rattle.std.specs.Prelude.{slice_index_or}
-use Rattle.scan_rounds.proofs.Raised.{raised_within}
-use Rattle.scan_rounds.proofs.Rooms.{fewer, least_falls}
-use Rattle.scan_rounds.proofs.Turning.{all_gone_on, all_in_manner, share_fits}
+use Rattle.scan_rounds.proofs.CountRaised.{raised_within}
+use Rattle.scan_rounds.proofs.LeastRoom.{fewer, least_falls}
+use Rattle.scan_rounds.proofs.JobsInSequence.{all_gone_on, all_have_options, share_fits}
 use Rattle.scan_rounds.proofs.turn.take_turn.Goals as goal
 
 pub do_shares-requires-clause-fit : goal.do_shares-requires-clause-fit
@@ -15,7 +15,7 @@ do_shares-requires-clause-may g c κs within =
       backends = c.requires.backends;
       idle = c.requires.idle;
       room = λ i d lt. fewer (64 * c.div_ceil-share.result) c.args.counts.room
-          (slice_index_or c.args.backends.now i d).hand.actor
+          (slice_index_or c.args.backends.now i d).disk_actor.actor
           (let room = c.requires.room.1 in let few = fits.1 in omega arith)
           (c.requires.room.0.have i d lt);
       fresh = c.requires.fresh;
@@ -24,8 +24,8 @@ do_shares-requires-clause-may g c κs within =
 pub returns-clause-go_on : goal.returns-clause-go_on
 returns-clause-go_on g c = all_gone_on _ _ _ _ _ _ _ _ _ _ c.do_shares.ensures.done
 
-pub returns-clause-manner : goal.returns-clause-manner
-returns-clause-manner g c = all_in_manner _ _ _ _ _ _ _ _ _ _ c.do_shares.ensures.done
+pub returns-clause-options : goal.returns-clause-options
+returns-clause-options g c = all_have_options _ _ _ _ _ _ _ _ _ _ c.do_shares.ensures.done
 
 pub returns-clause-room : goal.returns-clause-room
 returns-clause-room g c =

@@ -1,4 +1,4 @@
-use Rattle.vis_map.proofs.Keeping.{part_by_part}
+use Rattle.vis_map.proofs.UnmarkedLists.{part_by_part}
 use Rattle.vis_map.proofs.laws.kept_part_by_part.Goals as goal
 
 pub returns : goal.returns

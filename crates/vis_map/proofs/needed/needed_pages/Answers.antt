@@ -1,6 +1,6 @@
 use Rattle.std.proofs.Common.{◌≤◌, subst}
 use Rattle.std.specs.Prelude.{IfSome}
-use Rattle.vis_map.proofs.Needing.{enough_pages}
+use Rattle.vis_map.proofs.NeededPages.{enough_pages}
 use Rattle.vis_map.proofs.needed.needed_pages.Goals as goal
 
 pub returns-in-Some-clause-enough : goal.returns-in-Some-clause-enough

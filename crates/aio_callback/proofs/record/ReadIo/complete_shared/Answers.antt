@@ -1,5 +1,5 @@
 use Rattle.std.proofs.Common.{arith}
-use Rattle.aio_callback.proofs.Completing.{completed_after, fits_after, aim_after}
+use Rattle.aio_callback.proofs.AnswerCompletes.{completed_after, fits_after, aim_after}
 use Rattle.aio_callback.proofs.record.ReadIo.complete_shared.Goals as goal
 
 pub finish_all-requires-clause-few : goal.finish_all-requires-clause-few

@@ -5,8 +5,9 @@ use mathlib.Core.Logic.{dite}
 use native.Mathlib.Decide.{ℕ_discrete}
 use Rattle.aio_word.specs.declared.State.TheVariants.{HandedOut}
 use Rattle.aio_word.specs.declared.Word.{Word}
-use Rattle.aio_word.specs.Events.{has_out_from}
-use Rattle.aio_core.proofs.Handing.{none-here, out-here, owned-by, within-all, same-word}
+use Rattle.aio_word.specs.Events.{has_handed_out_from}
+use Rattle.aio_core.proofs.HandedOutByOwnWords.{none-here, out-here, owned-by, within-all}
+use Rattle.aio_core.proofs.HandedOutByOwnWords.{same-word}
 use Rattle.aio_core.proofs.machine.Machine.has_handed_out.Goals.{in-HandedOut, in_default}
 use Rattle.aio_core.proofs.machine.Machine.has_handed_out.Goals as goal
 
@@ -30,7 +31,7 @@ returns-then-matches c =
       | in_default w ↦ absurd
           (let x = w.matches-is in let y = c.if-matches.true in cc)
     ] in
-    subst (λ z. true ≡ has_out_from z.config c.args.backend 0 z.machine.words) c.self.view_is
+    subst (λ z. true ≡ has_handed_out_from z.config c.args.backend 0 z.machine.words) c.self.view_is
     (sym (out-here config c.args.backend c.loop-handle.handle c.self.inside.words.items
     c.index.result.now at
     (owned-by c.loop-handle.handle c.args.backend config.per_backend lo hi) out))
@@ -68,7 +69,8 @@ loop-handle-preserved c = λ i w lo hi at. dite (ℕ_discrete i c.loop-handle.ha
 pub returns : goal.returns
 returns c =
     let end = c.loop-handle-test.false in
-    subst (λ z. false ≡ has_out_from z.config c.args.backend 0 z.machine.words) c.self.view_is
+    subst (λ z. false ≡ has_handed_out_from z.config c.args.backend 0 z.machine.words)
+    c.self.view_is
     (sym (none-here c.self.inside.config c.args.backend c.self.inside.words.items
     c.self.invariant.bounds.some_handles
     (λ i w lo hi at. c.loop-handle.invariant i w lo (omega arith)

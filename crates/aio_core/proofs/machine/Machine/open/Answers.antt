@@ -1,7 +1,7 @@
 use Rattle.std.proofs.Common.{rules, ◌≡◌, ◌*◌, ◌+◌, [], length, replicate}
 use Rattle.aio_word.specs.declared.Config.{Config}
 use Rattle.aio_word.specs.Events.{first_word}
-use Rattle.aio_core.proofs.Opening.{opened-keeps}
+use Rattle.aio_core.proofs.OpenedInvariant.{opened-invariant}
 use Rattle.aio_core.proofs.machine.Machine.open.Goals as goal
 
 pub invariant_of-result : goal.invariant_of-result
@@ -20,7 +20,7 @@ invariant_of-result c =
     search rules in
     let wide : length c.in_ok-last_claimers.last_claimers.items
     ≡ c.args.backends * c.args.per_backend = search rules in
-    opened-keeps config c.in_ok-words.words.items c.in_ok-lists.lists.items
+    opened-invariant config c.in_ok-words.words.items c.in_ok-lists.lists.items
     c.in_ok-last_claimers.last_claimers.items
     record {
       some_backends = c.requires.backends.0;

@@ -3,8 +3,9 @@ use Rattle.std.proofs.Common.{⊎_elim, arith}
 use Rattle.std.proofs.lemmas.List.{get_or_read}
 use Rattle.std.proofs.lemmas.Option.{slice_get-get_or, slice_get_within}
 use Rattle.aio_core.specs.Allowed.{permits, HasStep}
-use Rattle.aio_core.proofs.Permitting.{IsClaimers, io, shared, alone, owner-permits}
-use Rattle.aio_core.proofs.Permitting.{claimer-permits}
+use Rattle.aio_core.proofs.PermitsByClaimer.{IsClaimerStep, io, shared, is-owner-step}
+use Rattle.aio_core.proofs.PermitsByClaimer.{owner-permits}
+use Rattle.aio_core.proofs.PermitsByClaimer.{claimer-permits}
 use Rattle.aio_core.proofs.machine.Machine.permits.Goals as goal
 
 pub returns-in-Io : goal.returns-in-Io
@@ -14,9 +15,9 @@ returns-in-Io c =
     let lt : c.args.event.actor < length inside.lists.items =
     grind (arith, c.len.ensures, c.if-event-len.false, inside.lists.ok) in
     let list = slice_get-get_or inside.lists.items c.args.event.actor [] lt in
-    let kind : IsClaimers c.args.event.step =
-    ⊎_elim (λ (class, e). subst IsClaimers (sym e) (io class))
-    (λ e. subst IsClaimers (sym e) shared) c.in-Io.is in
+    let kind : IsClaimerStep c.args.event.step =
+    ⊎_elim (λ (class, e). subst IsClaimerStep (sym e) (io class))
+    (λ e. subst IsClaimerStep (sym e) shared) c.in-Io.is in
     let last : c.index.result.now ≡ get_or inside.last_claimers.items c.args.event.handle 0 =
     get_or_read inside.last_claimers.items c.args.event.handle c.index.result.now
     (let in-words = slice_get_within inside.words.items c.args.event.handle has.w has.word in
@@ -47,4 +48,4 @@ returns-in_default c =
       lists =
           inside.lists.items;
     } c.args.event (get_or inside.lists.items c.args.event.actor []) list
-    (alone c.args.event.step d.not-HandOut d.not-Claim d.not-Io d.not-Shared))
+    (is-owner-step c.args.event.step d.not-HandOut d.not-Claim d.not-Io d.not-Shared))

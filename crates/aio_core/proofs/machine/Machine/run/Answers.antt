@@ -2,8 +2,8 @@ use Rattle.std.proofs.Common.{◌≡◌, ◌∙◌, get_or, subst, Some}
 use Rattle.aio_word.specs.declared.Config.{Config}
 use Rattle.aio_word.specs.declared.Event.{Event}
 use Rattle.aio_word.specs.declared.Step.TheVariants.{HandOut}
-use Rattle.aio_word.specs.Events.{stepped}
-use Rattle.aio_core.proofs.Running.{runs-on}
+use Rattle.aio_word.specs.Events.{machine_after}
+use Rattle.aio_core.proofs.MachineAfterOneMore.{machine-after-one-more}
 use Rattle.aio_core.proofs.machine.Machine.run.Goals as goal
 
 abbrev default : Event
@@ -15,10 +15,11 @@ loop-i-preserved c =
     record {
       config = did.config ∙ c.loop-i.invariant.config;
       stands = did.stands;
-      made = runs-on c.args.self.now.config c.args.self.now.machine c.loop-i.self.machine
+      made = machine-after-one-more c.args.self.now.config c.args.self.now.machine
+          c.loop-i.self.machine
           c.step.new.self.machine c.args.events.now c.loop-i.i default c.loop-i-test.true
           c.loop-i.invariant.made
-          (subst (λ (z : Config). stepped z c.loop-i.self.machine
+          (subst (λ (z : Config). machine_after z c.loop-i.self.machine
           (get_or c.args.events.now c.loop-i.i default)
           ≡ Some c.step.new.self.machine) c.loop-i.invariant.config did.made);
     }

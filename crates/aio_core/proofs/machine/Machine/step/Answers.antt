@@ -4,12 +4,12 @@ use Rattle.std.proofs.Common.{is_err}
 use Rattle.std.proofs.Math.Seq.{take-append_seam}
 use Rattle.aio_word.specs.declared.Event.{Event}
 use Rattle.aio_word.specs.declared.Mark.{Mark}
-use Rattle.aio_word.specs.Events.{stepped}
-use Rattle.aio_core.specs.Allowed.{next_word_of, noted_in}
-use Rattle.aio_core.specs.Causes.{packed_if}
-use Rattle.aio_core.specs.Claimers.{IsKept, claimers_after}
-use Rattle.aio_core.proofs.Keeping.{makes, word-at, lawful-read}
-use Rattle.aio_core.proofs.Stepping.{actor-in, made, unmade}
+use Rattle.aio_word.specs.Events.{machine_after}
+use Rattle.aio_core.specs.Allowed.{allowed_next_word, lists_with_mark}
+use Rattle.aio_core.specs.Causes.{packed_word_option}
+use Rattle.aio_core.specs.Claimers.{MachineInvariant, claimers_after_event}
+use Rattle.aio_core.proofs.StepKeepsInvariant.{step-keeps-invariant, word-at, lawful-read}
+use Rattle.aio_core.proofs.StepIsMachineStep.{actor-in, machine-after-is, machine-after-none}
 use Rattle.aio_core.proofs.machine.Machine.step.Goals as goal
 
 from-ok : {T E : Type 0} (r : Result T E) (P : Type 0) → is_err r ≡ false → OnOk r P → P
@@ -47,24 +47,24 @@ returns-in_default-clause-cause c =
     ≡ Some c.index.result.now =
     subst (λ z. slice_get z.machine.words c.args.event.handle
     ≡ Some c.index.result.now) c.self.view_is here in
-    let none : next_word_of c.args.self.now.config c.args.self.now.machine c.args.event
+    let none : allowed_next_word c.args.self.now.config c.args.self.now.machine c.args.event
     c.index.result.now ≡ None = sym c.next_word.ensures ∙ c.in_default.is in (
       refl,
       ap Some (omega (arith, c.pack.ensures))
-          ∙ sym (ap packed_if there),
-      unmade c.args.self.now.config c.args.self.now.machine
+          ∙ sym (ap packed_word_option there),
+      machine-after-none c.args.self.now.config c.args.self.now.machine
           c.args.event c.index.result.now there none,
     )
 
 pub note-requires : goal.note-requires
 note-requires c =
     let inside = c.self.inside in
-    let some : next_word_of inside.config record {
+    let some : allowed_next_word inside.config record {
       words = inside.words.items;
       lists =
           inside.lists.items;
     } c.args.event c.index.result.now ≡ Some c.in-Some.next =
-    subst (λ z. next_word_of z.config z.machine c.args.event c.index.result.now
+    subst (λ z. allowed_next_word z.config z.machine c.args.event c.index.result.now
     ≡ Some c.in-Some.next) (sym c.self.view_is) (sym c.next_word.ensures ∙ c.in-Some.is) in
     let lt = actor-in inside.config record {
       words = inside.words.items;
@@ -76,7 +76,7 @@ note-requires c =
 
 -- what the call did is the machine's step, and keeps what a machine keeps
 did : (c : goal.After-self-3-1)
-    → (stepped c.self.inside.config record {
+    → (machine_after c.self.inside.config record {
       words = c.self.inside.words.items;
       lists =
           c.self.inside.lists.items;
@@ -86,7 +86,7 @@ did : (c : goal.After-self-3-1)
       lists = take c.self.inside.lists.len
           (c.note.new.lists ++ drop (length c.note.new.lists) c.self.inside.lists.items);
     })
-    × IsKept c.self.inside.config record {
+    × MachineInvariant c.self.inside.config record {
       words =
           set c.self.inside.words.items c.args.event.handle c.in-Some.next;
       lists =
@@ -102,19 +102,19 @@ did c =
     let lt : e.handle < length inside.words.items =
     grind (arith, c.len.ensures, c.if-handle-len.false, inside.words.ok) in
     let here = word-at inside.words.items e.handle c.index.result.now lt c.index.ensures in
-    let some : next_word_of inside.config record {
+    let some : allowed_next_word inside.config record {
       words = inside.words.items;
       lists =
           inside.lists.items;
     } e c.index.result.now ≡ Some c.in-Some.next =
-    subst (λ z. next_word_of z.config z.machine c.args.event c.index.result.now
+    subst (λ z. allowed_next_word z.config z.machine c.args.event c.index.result.now
     ≡ Some c.in-Some.next) (sym c.self.view_is) (sym c.next_word.ensures ∙ c.in-Some.is) in
     let failed : is_err c.note.result ≡ false = sym c.is_err.ensures.value ∙ c.if-is_err.false in
     let raw = from-ok c.note.result _ failed c.note.ensures.ok in
     let long : length c.note.new.lists ≡ inside.lists.len =
     omega (arith, c.note.auto.lists, c.deref_mut.ensures.len, inside.lists.ok.0) in
     let lists = whole inside.lists.len c.note.new.lists inside.lists.items long
-    ∙ (raw ∙ (λ k. noted_in (c.deref_mut.ensures.value k) e.actor e.handle e.generation
+    ∙ (raw ∙ (λ k. lists_with_mark (c.deref_mut.ensures.value k) e.actor e.handle e.generation
     (c.left_by-kind.ensures k) (slice_get (c.deref_mut.ensures.value k) e.actor))) in
     let long' : length c.note_claimer.new.claimers ≡ inside.last_claimers.len =
     omega (
@@ -126,15 +126,16 @@ did c =
     let claimers = whole inside.last_claimers.len c.note_claimer.new.claimers
     inside.last_claimers.items long'
     ∙ (c.note_claimer.ensures
-    ∙ ap (λ (l : List ℕ). claimers_after l e) c.deref_mut-2.ensures.value) in
-    makes inside.config inside.words.items inside.lists.items _ inside.last_claimers.items _ e
+    ∙ ap (λ (l : List ℕ). claimers_after_event l e) c.deref_mut-2.ensures.value) in
+    step-keeps-invariant inside.config inside.words.items inside.lists.items _
+    inside.last_claimers.items _ e
     c.index.result.now c.in-Some.next c.self.invariant here some lists claimers
 
 pub invariant_of-self-2 : goal.invariant_of-self-2
 invariant_of-self-2 c = (did c).1
 
 pub returns-clause-made : goal.returns-clause-made
-returns-clause-made c = subst (λ z. stepped z.config z.machine c.args.event
+returns-clause-made c = subst (λ z. machine_after z.config z.machine c.args.event
     ≡ Some record {
       words = set c.self.inside.words.items c.args.event.handle c.in-Some.next;
       lists = take c.self.inside.lists.len
@@ -157,6 +158,7 @@ returns-then-is_err-clause-cause c =
     subst (λ z. slice_get z.machine.words c.args.event.handle
     ≡ Some c.index.result.now) c.self.view_is here in (
       _,
-      made c.args.self.now.config c.args.self.now.machine c.args.event c.index.result.now there
+      machine-after-is c.args.self.now.config c.args.self.now.machine c.args.event
+          c.index.result.now there
           c.in-Some.next (sym c.next_word.ensures ∙ c.in-Some.is),
     )

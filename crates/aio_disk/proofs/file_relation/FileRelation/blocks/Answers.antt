@@ -1,5 +1,5 @@
 use Rattle.std.proofs.Common.{refl}
-use Rattle.aio_disk.proofs.SourceSegments.{none_tell}
+use Rattle.aio_disk.proofs.OneSegmentCalled.{none_tell}
 use Rattle.aio_disk.proofs.file_relation.FileRelation.blocks.Goals as goal
 
 pub count_relation-requires-clause-whole : goal.count_relation-requires-clause-whole

@@ -1,5 +1,5 @@
 use Rattle.std.proofs.Common.{ap, ◌∙◌, arith, ℕ, List}
-use Rattle.page_check.specs.Told.{block_count, page_at}
+use Rattle.page_check.specs.Told.{block_count, block_contents}
 use Rattle.aio_disk.proofs.SegmentBySegment.{from_here, block_here, block_behind, none_below}
 use Rattle.aio_disk.proofs.segments.JoinedBlocks.block.Goals as goal
 
@@ -8,7 +8,7 @@ pub returns-then-behind-whole_blocks-clause-page :
 returns-then-behind-whole_blocks-clause-page c =
     let here = from_here _ _ _ c.loop-segment-test.true c.segment-item.is in
     c.block_bytes.ensures.page
-    ∙ ap (λ (l : List ℕ). page_at l c.loop-segment.behind) c.as_slice-bytes.ensures
+    ∙ ap (λ (l : List ℕ). block_contents l c.loop-segment.behind) c.as_slice-bytes.ensures
     ∙ block_here c.args.self.now.size c.loop-segment.behind c.args.self.now.segments.now
     c.loop-segment.segment-index c.segment-item.result here
     (omega (

@@ -2,49 +2,50 @@ use Rattle.std.proofs.Common.{ℕ, ◌<◌, [], sym, ap, ◌∙◌, subst, refl}
 use Rattle.aio_word.specs.declared.WaitRef.{WaitRef}
 use Rattle.aio_word.specs.declared.Known.{Known}
 use Rattle.aio_word.specs.declared.Step.TheVariants as event
-use Rattle.aio_word.specs.Events.{handles}
+use Rattle.aio_word.specs.Events.{handle_count}
 use Rattle.aio_word.specs.Tokens.{IsClaimed, IsExecuted}
-use Rattle.aio_handle.specs.Seats.{known_of}
-use Rattle.aio_handle.specs.LifeWords.{claimed, executed}
-use Rattle.aio_handle.proofs.Answering.{inward}
-use Rattle.aio_handle.proofs.CompletionSteps.{executes}
-use Rattle.aio_handle.proofs.Tokening.{claimed-away, executed-token}
-use Rattle.aio_handle.proofs.Calling.{executes-made, executes-seated}
-use Rattle.aio_handle.specs.Made.{Made}
-use Rattle.aio_handle.proofs.Remembering.{remembers-plain}
+use Rattle.aio_handle.specs.Seats.{seat_known}
+use Rattle.aio_handle.specs.LifeWords.{claimed_word, executed_word}
+use Rattle.aio_handle.proofs.CallAnswers.{inside-from-view}
+use Rattle.aio_handle.proofs.CompletionSteps.{execute-is-allowed}
+use Rattle.aio_handle.proofs.TokensAfterEvent.{claimed-slot-out, executed-token}
+use Rattle.aio_handle.proofs.CallSteps.{executes-made, executes-seated}
+use Rattle.aio_handle.specs.CallEvents.{EventMade}
+use Rattle.aio_handle.proofs.CacheAfterEvents.{caches-plain}
 use Rattle.aio_handle.proofs.table.Table.complete_io.Goals as goal
 
 pub swap-requires : goal.swap-requires
 swap-requires g c =
     let h : ℕ = c.claimed.inside.reference.handle in
-    let range : h < handles c.self.inside.config = subst (λ (z : ℕ). h < z)
+    let range : h < handle_count c.self.inside.config = subst (λ (z : ℕ). h < z)
     (sym c.self.invariant.3) c.claimed.invariant.handle in
-    let t = inward (IsClaimed)
-    (known_of c.actor.inside.seat.me.0) c.args.actor.now.known c.claimed.inside.reference
+    let t = inside-from-view (IsClaimed)
+    (seat_known c.actor.inside.seat.me.0) c.args.actor.now.known c.claimed.inside.reference
     c.args.claimed.now.0 (ap (λ x. x.known) c.actor.view_is) (ap (λ z. z.0) c.claimed.view_is)
     (c.requires.token) in (
       (ap (λ x. x.table) c.actor.view_is ∙
           (c.requires.table.0 ∙ sym (ap (λ x. x.table) c.self.view_is))),
       subst (λ (z : ℕ). h < z) (sym c.self.invariant.1) range,
-      executes g.R.Record.label g.R.Record.aim
+      execute-is-allowed g.R.Record.label g.R.Record.aim
           (g.R.Record.fits g.W.World.told g.W.World.relations) _ _ _ h
           c.claimed.inside.reference.generation _ c.args.class _
-          (known_of c.actor.inside.seat.me.0) c.number_of-word.ensures c.requires.class
-          c.actor.invariant.0.one (subst (λ z. h < handles z) (sym c.self.invariant.0) range) t,
+          (seat_known c.actor.inside.seat.me.0) c.number_of-word.ensures c.requires.class
+          c.actor.invariant.0.one (subst (λ z. h < handle_count z) (sym c.self.invariant.0) range)
+          t,
     )
 
 pub invariant_of-actor : goal.invariant_of-actor
 invariant_of-actor g c =
-    let t = inward (IsClaimed)
-    (known_of c.actor.inside.seat.me.0) c.args.actor.now.known c.claimed.inside.reference
+    let t = inside-from-view (IsClaimed)
+    (seat_known c.actor.inside.seat.me.0) c.args.actor.now.known c.claimed.inside.reference
     c.args.claimed.now.0 (ap (λ x. x.known) c.actor.view_is) (ap (λ z. z.0) c.claimed.view_is)
     (c.requires.token) in (
       executes-seated c.self.inside.inner.shared.table_id.slots c.claimed.inside.reference.handle
           c.claimed.inside.reference.generation _ _ _ _ _ _ c.actor.invariant.0
-          (claimed-away (known_of c.actor.inside.seat.me.0) _ _ t) c.swap.ensures.2,
+          (claimed-slot-out (seat_known c.actor.inside.seat.me.0) _ _ t) c.swap.ensures.2,
       c.actor.invariant.1,
-      remembers-plain _ _ _ _ _ (event.Io c.args.class) c.claimed.inside.reference.handle _ _ []
-          (known_of c.actor.inside.seat.me.0) (known_of c.swap.new.seat.me.0)
+      caches-plain _ _ _ _ _ (event.Io c.args.class) c.claimed.inside.reference.handle _ _ []
+          (seat_known c.actor.inside.seat.me.0) (seat_known c.swap.new.seat.me.0)
           (executes-made c.self.inside.inner.shared.table_id.slots c.claimed.inside.reference.handle
           c.claimed.inside.reference.generation _ _ c.actor.inside.seat.me c.swap.new.seat.me
           c.args.class c.number_of-word.ensures c.swap.ensures.2) tt c.actor.invariant.2,
@@ -53,11 +54,11 @@ invariant_of-actor g c =
 pub returns-clause-token : goal.returns-clause-token
 returns-clause-token g c = (
   refl,
-  subst (λ (z : WaitRef). IsExecuted c.args.class (known_of c.swap.new.seat.me.0) z)
+  subst (λ (z : WaitRef). IsExecuted c.args.class (seat_known c.swap.new.seat.me.0) z)
       (ap (λ z. z.0) c.claimed.view_is)
       (executed-token c.claimed.inside.reference.handle c.claimed.inside.reference.generation []
-      (known_of c.actor.inside.seat.me.0)
-      (known_of c.swap.new.seat.me.0) c.actor.invariant.0.keeps c.args.class
+      (seat_known c.actor.inside.seat.me.0)
+      (seat_known c.swap.new.seat.me.0) c.actor.invariant.0.keeps c.args.class
       (executes-made c.self.inside.inner.shared.table_id.slots c.claimed.inside.reference.handle
       c.claimed.inside.reference.generation _ _ c.actor.inside.seat.me c.swap.new.seat.me
       c.args.class c.number_of-word.ensures c.swap.ensures.2)),
@@ -65,8 +66,9 @@ returns-clause-token g c = (
 
 pub returns-clause-event : goal.returns-clause-event
 returns-clause-event g c =
-    subst (λ (z : WaitRef × Known). Made (event.Io c.args.class) z.0.handle (claimed z.0.generation)
-    (executed c.args.class z.0.generation) [] z.1 (known_of c.swap.new.seat.me.0))
+    subst (λ (z : WaitRef × Known). EventMade (event.Io c.args.class) z.0.handle
+    (claimed_word z.0.generation)
+    (executed_word c.args.class z.0.generation) [] z.1 (seat_known c.swap.new.seat.me.0))
     (λ k. ((c.claimed.view_is k).0, (c.actor.view_is k).known))
     (executes-made c.self.inside.inner.shared.table_id.slots c.claimed.inside.reference.handle
     c.claimed.inside.reference.generation _ _ c.actor.inside.seat.me c.swap.new.seat.me

@@ -4,22 +4,22 @@ use Rattle.aio_word.specs.declared.WaitRef.{WaitRef}
 use Rattle.aio_word.specs.declared.Known.{Known}
 use Rattle.aio_word.specs.declared.Class.{Class}
 use Rattle.aio_word.specs.declared.Step.TheVariants as event
-use Rattle.aio_word.specs.Words.{packed}
-use Rattle.aio_word.specs.Events.{handles}
+use Rattle.aio_word.specs.Words.{packed_word}
+use Rattle.aio_word.specs.Events.{handle_count}
 use Rattle.aio_word.specs.Stands.{IsIn}
 use Rattle.aio_word.specs.Tokens.{IsExecuted}
-use Rattle.aio_handle.specs.Seats.{known_of}
-use Rattle.aio_handle.specs.LifeWords.{executed, completed}
-use Rattle.aio_handle.proofs.CompletionSteps.{shares}
-use Rattle.aio_handle.proofs.Tokening.{executed-away}
-use Rattle.aio_word.proofs.Steps.{mark, counted-in}
+use Rattle.aio_handle.specs.Seats.{seat_known}
+use Rattle.aio_handle.specs.LifeWords.{executed_word, completed_word}
+use Rattle.aio_handle.proofs.CompletionSteps.{share-is-allowed}
+use Rattle.aio_handle.proofs.TokensAfterEvent.{executed-slot-out}
+use Rattle.aio_word.proofs.AppendKeepsHandle.{mark_by_parts, counted-in}
 use Rattle.aio_word.specs.declared.Kind.TheVariants as kind
-use Rattle.aio_handle.proofs.Seating.{brought-first}
-use Rattle.aio_handle.proofs.Calling.{returns-made, returns-seated, by-generation}
-use Rattle.aio_handle.specs.Made.{Made}
-use Rattle.aio_word.proofs.Packing.{packed-injective}
-use Rattle.aio_handle.proofs.Recalling.{recalls-returned}
-use Rattle.aio_handle.specs.Remembered.{Remembers}
+use Rattle.aio_handle.proofs.SeatAfterStep.{moved_to_front-first}
+use Rattle.aio_handle.proofs.CallSteps.{returns-made, returns-seated, by-generation}
+use Rattle.aio_handle.specs.CallEvents.{EventMade}
+use Rattle.aio_word.proofs.PackIsInjective.{packed_word-injective}
+use Rattle.aio_handle.proofs.CacheAfterCalls.{caches-returned}
+use Rattle.aio_handle.specs.OwnHandleCache.{CachesOwnHandles}
 use Rattle.aio_handle.proofs.table.Table.complete_shared.Goals as goal
 
 pub exchange-requires : goal.exchange-requires
@@ -31,15 +31,16 @@ exchange-requires g c =
     (subst (λ (z : WaitRef × g.row.R.Denot). IsExecuted
     (g.R.Record.label z.1).ended c.args.actor.now.known z.0)
     (sym c.claimed.view_is) c.requires.token.0) in
-    let b = brought-first c.claimed.inside.reference.handle _ c.actor.inside.seat.me.1
+    let b = moved_to_front-first c.claimed.inside.reference.handle _ c.actor.inside.seat.me.1
     (c.actor.invariant.0.carried c.claimed.inside.reference.handle
-    (executed-away (g.R.Record.label c.claimed.inside.io).ended
-    (known_of c.actor.inside.seat.me.0) _ c.claimed.inside.reference.generation
-    (counted-in (mark c.claimed.inside.reference.handle c.claimed.inside.reference.generation
+    (executed-slot-out (g.R.Record.label c.claimed.inside.io).ended
+    (seat_known c.actor.inside.seat.me.0) _ c.claimed.inside.reference.generation
+    (counted-in (mark_by_parts c.claimed.inside.reference.handle
+    c.claimed.inside.reference.generation
     (kind.Io (g.R.Record.label c.claimed.inside.io).ended))
-    (known_of c.actor.inside.seat.me.0).marks t.since) t.until)) in
-    let e = ap (λ x. x.1) c.bring.ensures.2 in (
-      c.bring.ensures.0 ∙
+    (seat_known c.actor.inside.seat.me.0).marks t.since) t.until)) in
+    let e = ap (λ x. x.1) c.move_slot_to_front.ensures.2 in (
+      c.move_slot_to_front.ensures.0 ∙
           (ap (λ x. x.table) c.actor.view_is ∙
           (c.requires.table.0 ∙ sym (ap (λ x. x.table) c.self.view_is))),
       (b.0, e ∙ (b.1 ∙ ap (λ z. (c.claimed.inside.reference.handle, b.0) ∷ rest z) (sym e))),
@@ -48,7 +49,7 @@ exchange-requires g c =
 pub swap-requires : goal.swap-requires
 swap-requires g c =
     let h : ℕ = c.claimed.inside.reference.handle in
-    let range : h < handles c.self.inside.config = subst (λ (z : ℕ). h < z)
+    let range : h < handle_count c.self.inside.config = subst (λ (z : ℕ). h < z)
     (sym c.self.invariant.3) c.claimed.invariant.handle in
     let t = subst
     (λ (z : Known). IsExecuted
@@ -59,19 +60,19 @@ swap-requires g c =
     (sym c.claimed.view_is) c.requires.token.0) in
     let f = ap (λ x. x.1) c.exchange.ensures.3 in (
       c.exchange.ensures.0 ∙
-          (c.bring.ensures.0 ∙
+          (c.move_slot_to_front.ensures.0 ∙
           (ap (λ x. x.table) c.actor.view_is ∙
           (c.requires.table.0 ∙ sym (ap (λ x. x.table) c.self.view_is)))),
       subst (λ (z : ℕ). h < z) (sym c.self.invariant.1) range,
-      shares g.R.Record.label g.R.Record.aim
+      share-is-allowed g.R.Record.label g.R.Record.aim
           (g.R.Record.fits g.W.World.told g.W.World.relations) _ _ _ h
           c.claimed.inside.reference.generation _ (g.R.Record.label c.claimed.inside.io).ended _
-          (known_of c.actor.inside.seat.me.0) c.claimed.inside.io
-          (c.number_of-word.ensures ∙ ap (λ z. packed
-          (completed z c.claimed.inside.reference.generation)) c.ended.ensures)
-          (ap (λ x. x.0) c.exchange.ensures.3 ∙ (ap (λ x. x.0) c.bring.ensures.2
+          (seat_known c.actor.inside.seat.me.0) c.claimed.inside.io
+          (c.number_of-word.ensures ∙ ap (λ z. packed_word
+          (completed_word z c.claimed.inside.reference.generation)) c.ended.ensures)
+          (ap (λ x. x.0) c.exchange.ensures.3 ∙ (ap (λ x. x.0) c.move_slot_to_front.ensures.2
           ∙ c.actor.invariant.0.one)) (f ∙ ap (λ z. (h, Some c.claimed.inside.io) ∷ rest z)
-          (sym f)) (subst (λ z. h < handles z) (sym c.self.invariant.0) range) t
+          (sym f)) (subst (λ z. h < handle_count z) (sym c.self.invariant.0) range) t
           (subst (λ (z : WaitRef × g.row.R.Denot). g.R.Record.label z.1
           ≡ record {
             handle = z.0.handle;
@@ -100,22 +101,25 @@ invariant_of-actor g c =
     (sym c.claimed.view_is) c.requires.token.0) in (
       returns-seated c.self.inside.inner.shared.table_id.slots c.claimed.inside.reference.handle
           c.claimed.inside.reference.generation _ _ c.actor.inside.seat.me c.exchange.new.seat.me _
-          (ap (λ x. x.0) c.exchange.ensures.3 ∙ ap (λ x. x.0) c.bring.ensures.2)
-          (ap (λ x. rest x.1) c.exchange.ensures.3 ∙ ap (λ x. rest x.1) c.bring.ensures.2) _ _
-          event.Shared (executed c.swap.ensures.2.0) (completed c.swap.ensures.2.0) []
-          c.actor.invariant.0 (executed-away (g.R.Record.label c.claimed.inside.io).ended
-          (known_of c.actor.inside.seat.me.0) _ c.claimed.inside.reference.generation
-          (counted-in (mark c.claimed.inside.reference.handle c.claimed.inside.reference.generation
+          (ap (λ x. x.0) c.exchange.ensures.3 ∙ ap (λ x. x.0) c.move_slot_to_front.ensures.2)
+          (ap (λ x. rest x.1) c.exchange.ensures.3 ∙ ap
+          (λ x. rest x.1) c.move_slot_to_front.ensures.2) _ _
+          event.Shared (executed_word c.swap.ensures.2.0) (completed_word c.swap.ensures.2.0) []
+          c.actor.invariant.0 (executed-slot-out (g.R.Record.label c.claimed.inside.io).ended
+          (seat_known c.actor.inside.seat.me.0) _ c.claimed.inside.reference.generation
+          (counted-in (mark_by_parts c.claimed.inside.reference.handle
+          c.claimed.inside.reference.generation
           (kind.Io (g.R.Record.label c.claimed.inside.io).ended))
-          (known_of c.actor.inside.seat.me.0).marks t.since) t.until) c.swap.ensures.2.1,
+          (seat_known c.actor.inside.seat.me.0).marks t.since) t.until) c.swap.ensures.2.1,
       c.actor.invariant.1,
-      recalls-returned c.actor.inside.config c.actor.inside.own.items c.actor.inside.turn
+      caches-returned c.actor.inside.config c.actor.inside.own.items c.actor.inside.turn
           c.actor.inside.claims c.actor.inside.is_out c.self.inside.inner.shared.table_id.slots
           c.claimed.inside.reference.handle _ _ c.exchange.new.seat.me c.swap.new.seat.me
-          event.Shared (executed c.swap.ensures.2.0) (completed c.swap.ensures.2.0) [] tt
-          c.swap.ensures.2.1 (subst (λ z. Remembers c.actor.inside.config c.actor.inside.own.items
-          c.actor.inside.turn c.actor.inside.is_out c.actor.inside.claims (known_of z))
-          (sym (ap (λ x. x.0) c.exchange.ensures.3 ∙ ap (λ x. x.0) c.bring.ensures.2))
+          event.Shared (executed_word c.swap.ensures.2.0) (completed_word c.swap.ensures.2.0) [] tt
+          c.swap.ensures.2.1 (subst
+          (λ z. CachesOwnHandles c.actor.inside.config c.actor.inside.own.items
+          c.actor.inside.turn c.actor.inside.is_out c.actor.inside.claims (seat_known z))
+          (sym (ap (λ x. x.0) c.exchange.ensures.3 ∙ ap (λ x. x.0) c.move_slot_to_front.ensures.2))
           c.actor.invariant.2),
     )
 
@@ -126,19 +130,20 @@ returns-clause-event g c =
     let class : Class = c.swap.ensures.2.0 in
     let (p, q, n', mine, then, found, wrote, md', gone) = c.swap.ensures.2.1 in
     let ec : class ≡ (g.R.Record.label c.claimed.inside.io).ended = ap (λ z. z.class)
-    (packed-injective (completed class n') (completed c.ended.result n)
+    (packed_word-injective (completed_word class n') (completed_word c.ended.result n)
     (sym wrote ∙ c.number_of-word.ensures)) ∙ c.ended.ensures in
-    let wr = c.number_of-word.ensures ∙ ap (λ z. packed (completed z n))
+    let wr = c.number_of-word.ensures ∙ ap (λ z. packed_word (completed_word z n))
     (c.ended.ensures ∙ sym ec) in
     let md = returns-made c.self.inside.inner.shared.table_id.slots h n _ _ c.actor.inside.seat.me
     c.exchange.new.seat.me c.swap.new.seat.me (ap (λ x. x.0) c.exchange.ensures.3 ∙ ap
-    (λ x. x.0) c.bring.ensures.2) (ap (λ x. rest x.1) c.exchange.ensures.3 ∙ ap (λ x. rest x.1)
-    c.bring.ensures.2)
-    event.Shared (executed class) (completed class) []
-    (by-generation (completed class) (λ x. refl)) wr c.swap.ensures.2.1 in
-    subst (λ (z : (WaitRef × g.row.R.Denot) × Known). Made event.Shared z.0.0.handle
-    (executed (g.R.Record.label z.0.1).ended z.0.0.generation)
-    (completed (g.R.Record.label z.0.1).ended z.0.0.generation) [] z.1
-    (known_of c.swap.new.seat.me.0)) (λ k. (c.claimed.view_is k, (c.actor.view_is k).known))
-    (subst (λ z. Made event.Shared h (executed z n) (completed z n) []
-    (known_of c.actor.inside.seat.me.0) (known_of c.swap.new.seat.me.0)) ec md)
+    (λ x. x.0) c.move_slot_to_front.ensures.2) (ap (λ x. rest x.1) c.exchange.ensures.3 ∙ ap
+    (λ x. rest x.1)
+    c.move_slot_to_front.ensures.2)
+    event.Shared (executed_word class) (completed_word class) []
+    (by-generation (completed_word class) (λ x. refl)) wr c.swap.ensures.2.1 in
+    subst (λ (z : (WaitRef × g.row.R.Denot) × Known). EventMade event.Shared z.0.0.handle
+    (executed_word (g.R.Record.label z.0.1).ended z.0.0.generation)
+    (completed_word (g.R.Record.label z.0.1).ended z.0.0.generation) [] z.1
+    (seat_known c.swap.new.seat.me.0)) (λ k. (c.claimed.view_is k, (c.actor.view_is k).known))
+    (subst (λ z. EventMade event.Shared h (executed_word z n) (completed_word z n) []
+    (seat_known c.actor.inside.seat.me.0) (seat_known c.swap.new.seat.me.0)) ec md)

@@ -1,65 +1,68 @@
 use Rattle.aio_word.specs.declared.WaitRef.{WaitRef}
 use Rattle.aio_word.specs.declared.Known.{Known}
-use Rattle.aio_handle.specs.Made.{Made}
-use Rattle.aio_handle.proofs.Calling.{makes-made}
+use Rattle.aio_handle.specs.CallEvents.{EventMade}
+use Rattle.aio_handle.proofs.CallSteps.{makes-made}
 use Rattle.std.proofs.Common.{false}
 use Rattle.std.proofs.Common.{◌≡◌, ℕ, ◌<◌, [], sym, ap, ◌∙◌, subst, refl, Some, inl}
 use Rattle.aio_word.specs.declared.Step.TheVariants as event
-use Rattle.aio_word.specs.Events.{handles}
-use Rattle.aio_handle.specs.Seats.{known_of}
-use Rattle.aio_handle.specs.LifeWords.{handed, defined}
-use Rattle.aio_handle.proofs.Answering.{inward}
-use Rattle.aio_handle.proofs.DefineSteps.{defines}
-use Rattle.aio_handle.proofs.Tokening.{defined-token}
-use Rattle.aio_handle.proofs.Calling.{makes-made, makes-seated}
-use Rattle.aio_handle.proofs.RememberingLives.{remembers-defined}
+use Rattle.aio_word.specs.Events.{handle_count}
+use Rattle.aio_handle.specs.Seats.{seat_known}
+use Rattle.aio_handle.specs.LifeWords.{handed_out_word, defined_word}
+use Rattle.aio_handle.proofs.CallAnswers.{inside-from-view}
+use Rattle.aio_handle.proofs.DefineSteps.{define-is-allowed}
+use Rattle.aio_handle.proofs.TokensAfterEvent.{defined-token}
+use Rattle.aio_handle.proofs.CallSteps.{makes-made, makes-seated}
+use Rattle.aio_handle.proofs.CacheAfterLives.{caches-defined}
 use Rattle.aio_handle.proofs.OwnPlaces.{owner-place}
-use Rattle.aio_handle.specs.Remembered.{Remembers}
+use Rattle.aio_handle.specs.OwnHandleCache.{CachesOwnHandles}
 use Rattle.aio_handle.proofs.table.Table.define.Goals as goal
 
 pub swap-requires : goal.swap-requires
 swap-requires g c =
     let h : ℕ = c.token.inside.reference.handle in
-    let range : h < handles c.self.inside.config = subst (λ (z : ℕ). h < z)
+    let range : h < handle_count c.self.inside.config = subst (λ (z : ℕ). h < z)
     (sym c.self.invariant.3) c.token.invariant.handle in
-    let t = inward (λ k t. k.out ≡ Some t)
-    (known_of c.actor.inside.seat.me.0) c.args.actor.now.known c.token.inside.reference c.args.token
+    let t = inside-from-view (λ k t. k.out ≡ Some t)
+    (seat_known c.actor.inside.seat.me.0) c.args.actor.now.known c.token.inside.reference
+    c.args.token
     (ap (λ x. x.known) c.actor.view_is) (c.token.view_is) (c.requires.token) in (
       (ap (λ x. x.table) c.actor.view_is ∙
           (c.requires.table.0 ∙ sym (ap (λ x. x.table) c.self.view_is))),
       subst (λ (z : ℕ). h < z) (sym c.self.invariant.1) range,
-      defines g.R.Record.label g.R.Record.aim
+      define-is-allowed g.R.Record.label g.R.Record.aim
           (g.R.Record.fits g.W.World.told g.W.World.relations) _ _ _ h
-          c.token.inside.reference.generation _ _ (known_of c.actor.inside.seat.me.0)
+          c.token.inside.reference.generation _ _ (seat_known c.actor.inside.seat.me.0)
           c.number_of-word.ensures c.actor.invariant.0.one
-          (subst (λ z. h < handles z) (sym c.self.invariant.0) range) t,
+          (subst (λ z. h < handle_count z) (sym c.self.invariant.0) range) t,
     )
 
 pub invariant_of-actor : goal.invariant_of-actor
 invariant_of-actor g c =
-    let t = inward (λ k t. k.out ≡ Some t)
-    (known_of c.actor.inside.seat.me.0) c.args.actor.now.known c.token.inside.reference c.args.token
+    let t = inside-from-view (λ k t. k.out ≡ Some t)
+    (seat_known c.actor.inside.seat.me.0) c.args.actor.now.known c.token.inside.reference
+    c.args.token
     (ap (λ x. x.known) c.actor.view_is) (c.token.view_is) (c.requires.token) in (
       makes-seated c.self.inside.inner.shared.table_id.slots c.token.inside.reference.handle
-          c.token.inside.reference.generation _ _ _ _ _ _ event.Define handed defined
+          c.token.inside.reference.generation _ _ _ _ _ _ event.Define handed_out_word defined_word
           c.actor.invariant.0 (c.token.inside.reference.generation, inl t) c.swap.ensures.2,
       c.actor.invariant.1,
       (let same = (sym c.actor.invariant.0.config ∙ ap (λ x. x.known.config) c.actor.view_is) ∙
           (c.requires.table.1 ∙ sym (ap (λ x. x.config) c.self.view_is)) in let md =
           (makes-made c.self.inside.inner.shared.table_id.slots c.token.inside.reference.handle
           c.token.inside.reference.generation _ _ c.actor.inside.seat.me c.swap.new.seat.me
-          event.Define handed defined (λ x. refl) c.number_of-word.ensures c.swap.ensures.2)
+          event.Define handed_out_word defined_word
+          (λ x. refl) c.number_of-word.ensures c.swap.ensures.2)
           in let at = owner-place c.actor.inside.config c.actor.inside.own.items event.Define
-          c.token.inside.reference.handle _ _ [] (known_of c.actor.inside.seat.me.0)
-          (known_of c.swap.new.seat.me.0) md tt c.actor.invariant.0.config
-          (subst (λ z. c.token.inside.reference.handle < handles z) (sym same)
+          c.token.inside.reference.handle _ _ [] (seat_known c.actor.inside.seat.me.0)
+          (seat_known c.swap.new.seat.me.0) md tt c.actor.invariant.0.config
+          (subst (λ z. c.token.inside.reference.handle < handle_count z) (sym same)
           (subst (λ (z : ℕ). c.token.inside.reference.handle < z) (sym c.self.invariant.3)
           c.token.invariant.handle)) c.actor.invariant.2.owns in subst
-          (λ xs. Remembers c.actor.inside.config xs c.actor.inside.turn false
-          c.actor.inside.claims (known_of c.swap.new.seat.me.0)) (sym c.remember.ensures)
-          (remembers-defined _ _ _ _ _ c.token.inside.reference.handle
-          c.token.inside.reference.generation _ [] (known_of c.actor.inside.seat.me.0)
-          (known_of c.swap.new.seat.me.0) md c.actor.invariant.0.config
+          (λ xs. CachesOwnHandles c.actor.inside.config xs c.actor.inside.turn false
+          c.actor.inside.claims (seat_known c.swap.new.seat.me.0)) (sym c.remember.ensures)
+          (caches-defined _ _ _ _ _ c.token.inside.reference.handle
+          c.token.inside.reference.generation _ [] (seat_known c.actor.inside.seat.me.0)
+          (seat_known c.swap.new.seat.me.0) md c.actor.invariant.0.config
           c.actor.invariant.0.keeps at.1 at.0 c.token.invariant.generation
           c.actor.invariant.2)),
     )
@@ -69,10 +72,12 @@ returns-clause-token g c = (
   c.token.view_is,
   c.bind.ensures.aim,
   (defined-token c.token.inside.reference.handle c.token.inside.reference.generation []
-      (known_of c.actor.inside.seat.me.0) (known_of c.swap.new.seat.me.0) c.actor.invariant.0.keeps
+      (seat_known c.actor.inside.seat.me.0)
+      (seat_known c.swap.new.seat.me.0) c.actor.invariant.0.keeps
       (makes-made c.self.inside.inner.shared.table_id.slots c.token.inside.reference.handle
       c.token.inside.reference.generation _ _ c.actor.inside.seat.me c.swap.new.seat.me
-      event.Define handed defined (λ x. refl) c.number_of-word.ensures c.swap.ensures.2)),
+      event.Define handed_out_word defined_word
+      (λ x. refl) c.number_of-word.ensures c.swap.ensures.2)),
 )
 
 pub remember-requires : goal.remember-requires
@@ -81,11 +86,12 @@ remember-requires g c =
     (c.requires.table.1 ∙ sym (ap (λ x. x.config) c.self.view_is)) in
     let md = (makes-made c.self.inside.inner.shared.table_id.slots c.token.inside.reference.handle
     c.token.inside.reference.generation _ _ c.actor.inside.seat.me c.swap.new.seat.me
-    event.Define handed defined (λ x. refl) c.number_of-word.ensures c.swap.ensures.2) in
+    event.Define handed_out_word defined_word (λ x. refl) c.number_of-word.ensures c.swap.ensures.2)
+    in
     let at = owner-place c.actor.inside.config c.actor.inside.own.items event.Define
-    c.token.inside.reference.handle _ _ [] (known_of c.actor.inside.seat.me.0)
-    (known_of c.swap.new.seat.me.0) md tt c.actor.invariant.0.config
-    (subst (λ z. c.token.inside.reference.handle < handles z) (sym same)
+    c.token.inside.reference.handle _ _ [] (seat_known c.actor.inside.seat.me.0)
+    (seat_known c.swap.new.seat.me.0) md tt c.actor.invariant.0.config
+    (subst (λ z. c.token.inside.reference.handle < handle_count z) (sym same)
     (subst (λ (z : ℕ). c.token.inside.reference.handle < z) (sym c.self.invariant.3)
     c.token.invariant.handle)) c.actor.invariant.2.owns in record {
       some = c.actor.invariant.1.per_backend.0;
@@ -94,9 +100,9 @@ remember-requires g c =
 
 pub returns-clause-event : goal.returns-clause-event
 returns-clause-event g c = subst
-    (λ (z : WaitRef × Known). Made event.Define z.0.handle (handed z.0.generation)
-    (defined z.0.generation) [] z.1 (known_of c.swap.new.seat.me.0))
+    (λ (z : WaitRef × Known). EventMade event.Define z.0.handle (handed_out_word z.0.generation)
+    (defined_word z.0.generation) [] z.1 (seat_known c.swap.new.seat.me.0))
     (λ k. (c.token.view_is k, (c.actor.view_is k).known))
     (makes-made c.self.inside.inner.shared.table_id.slots c.token.inside.reference.handle
     c.token.inside.reference.generation _ _ c.actor.inside.seat.me c.swap.new.seat.me
-    event.Define handed defined (λ x. refl) c.number_of-word.ensures c.swap.ensures.2)
+    event.Define handed_out_word defined_word (λ x. refl) c.number_of-word.ensures c.swap.ensures.2)

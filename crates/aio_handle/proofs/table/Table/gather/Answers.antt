@@ -1,27 +1,29 @@
 use Rattle.std.proofs.Common.{ℕ, ◌<◌, List, [], ◌∷◌, ◌++◌, sym, ap, ◌∙◌, subst}
 use Rattle.aio_word.specs.declared.Known.{Known}
-use Rattle.aio_handle.specs.Shown.{IsOf}
-use Rattle.aio_handle.proofs.Gathering.{last-of, front-of, more-lists}
-use Rattle.aio_handle.proofs.Dealt.{enters, cuts, merges}
-use Rattle.aio_handle.proofs.Opening.{some-handles}
+use Rattle.aio_handle.specs.ContractViews.{IsActorOf}
+use Rattle.aio_handle.proofs.ListsOfAllActors.{last-of, front-of, more-lists}
+use Rattle.aio_handle.proofs.SeatSplitAndJoin.{empty-seat-enters, all-lists-split, lists-join}
+use Rattle.aio_handle.proofs.NewTableMeetsInvariant.{some-handles}
 use Rattle.aio_handle.proofs.table.Table.gather.Goals as goal
 
 pub load_new_seat-requires : goal.load_new_seat-requires
 load_new_seat-requires g c = (
   subst (λ (z : ℕ). 0 < z) (sym c.self.invariant.1)
       (some-handles c.self.inside.config c.self.invariant.4),
-  enters g.R.Record.label g.R.Record.aim (g.R.Record.fits g.W.World.told g.W.World.relations) _ _ 0,
+  empty-seat-enters g.R.Record.label g.R.Record.aim
+      (g.R.Record.fits g.W.World.told g.W.World.relations) _ _ 0,
 )
 
 pub split_seat-lists-requires : goal.split_seat-lists-requires
 split_seat-lists-requires g c = (
   ap (λ x. x.table) c.actor.view_is ∙
-      ((last-of (IsOf c.args.self.now) c.pop.new.self.items c.loop-actor.actors.items
+      ((last-of (IsActorOf c.args.self.now) c.pop.new.self.items c.loop-actor.actors.items
       c.in-Some.actor c.in-Some.ensures.items c.loop-actor.invariant.of).0 ∙ sym
       (ap (λ x. x.table) c.self.view_is)),
   subst (λ (z : ℕ). 0 < z) (sym c.self.invariant.1)
       (some-handles c.self.inside.config c.self.invariant.4),
-  cuts g.R.Record.label g.R.Record.aim (g.R.Record.fits g.W.World.told g.W.World.relations) _ _ _,
+  all-lists-split g.R.Record.label g.R.Record.aim
+      (g.R.Record.fits g.W.World.told g.W.World.relations) _ _ _,
 )
 
 pub join_seat-requires : goal.join_seat-requires
@@ -29,13 +31,13 @@ join_seat-requires g c = (
   c.loop-actor.invariant.table ∙ sym (ap (λ x. x.table) c.self.view_is),
   c.split_seat-lists.ensures.3 ∙
       (ap (λ x. x.table) c.actor.view_is ∙
-      ((last-of (IsOf c.args.self.now) c.pop.new.self.items c.loop-actor.actors.items
+      ((last-of (IsActorOf c.args.self.now) c.pop.new.self.items c.loop-actor.actors.items
       c.in-Some.actor c.in-Some.ensures.items c.loop-actor.invariant.of).0 ∙ sym
       (ap (λ x. x.table) c.self.view_is))),
   ap (λ x. x.1) c.split_seat-lists.ensures.4,
   subst (λ (z : ℕ). 0 < z) (sym c.self.invariant.1)
       (some-handles c.self.inside.config c.self.invariant.4),
-  merges g.R.Record.label g.R.Record.aim
+  lists-join g.R.Record.label g.R.Record.aim
       (g.R.Record.fits g.W.World.told g.W.World.relations) _ _ _ _ _,
 )
 
@@ -50,6 +52,6 @@ loop-actor-preserved g c = record {
       (c.actor.invariant.0.one ∙ ap (λ (p : Known). p ∷ [])
       (ap (λ x. x.known) c.actor.view_is))));
   of = front-of
-      (IsOf c.args.self.now) c.pop.new.self.items c.loop-actor.actors.items c.in-Some.actor
+      (IsActorOf c.args.self.now) c.pop.new.self.items c.loop-actor.actors.items c.in-Some.actor
       c.in-Some.ensures.items c.loop-actor.invariant.of;
 }

@@ -1,13 +1,13 @@
 use Rattle.std.proofs.Common.{◌≡◌, ◌++◌, map, vec_len}
 use Rattle.std.specs.List.{All}
-use Rattle.aio_handle.specs.Shown.{IsOf, known_in}
+use Rattle.aio_handle.specs.ContractViews.{IsActorOf, actor_known}
 use Rattle.aio_handle.proofs.table.Table.gather.Given as goal
 
 abbrev pub invariant-loop-actor : goal.invariant-loop-actor
 invariant-loop-actor g l = record {
   table : l.all.table_id ≡ l.self.table;
-  lists : map known_in l.actors.items ++ l.all.me.0 ≡ map known_in l.initial.actors.items;
-  of : All (IsOf l.self) l.actors.items;
+  lists : map actor_known l.actors.items ++ l.all.me.0 ≡ map actor_known l.initial.actors.items;
+  of : All (IsActorOf l.self) l.actors.items;
 }
 
 abbrev pub decreases-loop-actor : goal.decreases-loop-actor

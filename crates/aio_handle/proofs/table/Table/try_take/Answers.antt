@@ -2,52 +2,53 @@ use Rattle.std.proofs.Common.{◌≡◌, ℕ, ◌<◌, List, [], ◌∷◌, sym,
 use Rattle.atomic_table.specs.Table.{rest}
 use Rattle.aio_word.specs.declared.WaitRef.{WaitRef}
 use Rattle.aio_word.specs.declared.Known.{Known}
-use Rattle.aio_word.specs.Events.{handles}
+use Rattle.aio_word.specs.Events.{handle_count}
 use Rattle.aio_word.specs.Stands.{IsIn}
 use Rattle.aio_word.specs.Tokens.{IsInFlight}
-use Rattle.aio_handle.specs.Seats.{IsSeated, known_of}
-use Rattle.aio_handle.specs.Shown.{IsConfig}
+use Rattle.aio_handle.specs.Seats.{IsSeated, seat_known}
+use Rattle.aio_handle.specs.ContractViews.{IsConfig}
 use Rattle.aio_word.specs.declared.Word.{Word}
-use Rattle.aio_handle.specs.Made.{Looked, IsCompleted, TakesOut}
-use Rattle.aio_handle.proofs.Alone.{lived}
-use Rattle.aio_handle.specs.Made.{LivedAlone}
-use Rattle.aio_handle.specs.LifeWords.{completed, taken}
+use Rattle.aio_handle.specs.CallEvents.{WordLoaded, IsCompleted, TakesResult}
+use Rattle.aio_handle.proofs.SoleActorLife.{whole-life}
+use Rattle.aio_handle.specs.CallEvents.{HasWholeLife}
+use Rattle.aio_handle.specs.LifeWords.{completed_word, taken_word}
 use Rattle.aio_handle.specs.declared.record.Label.{Label}
 use Rattle.aio_word.specs.declared.Class.{Class}
 use Rattle.aio_word.specs.declared.Step.TheVariants as event
-use Rattle.aio_handle.proofs.Tokening.{begun-of}
-use Rattle.aio_word.specs.Events.{actors}
+use Rattle.aio_handle.proofs.TokensAfterEvent.{begun-of}
+use Rattle.aio_word.specs.Events.{actor_count}
 use Rattle.aio_word.specs.declared.Config.{Config}
-use Rattle.aio_handle.proofs.Answering.{not-both, inward, flight-loaded}
-use Rattle.aio_handle.proofs.Answering.{Took, note-looked}
-use Rattle.aio_handle.proofs.ClaimSteps.{loads-at}
-use Rattle.aio_handle.proofs.ReclaimSteps.{gets}
-use Rattle.aio_handle.proofs.Tokening.{local-token}
-use Rattle.aio_handle.proofs.Calling.{looks-seated, got-first, got-seated, got-told}
-use Rattle.aio_handle.proofs.Recalling.{loaded, recalls-got}
-use Rattle.aio_handle.specs.Remembered.{Remembers}
+use Rattle.aio_handle.proofs.CallAnswers.{not-both, inside-from-view, flight-loaded}
+use Rattle.aio_handle.proofs.CallAnswers.{ResultTaken, note-looked}
+use Rattle.aio_handle.proofs.ClaimSteps.{load-is-allowed}
+use Rattle.aio_handle.proofs.ReclaimSteps.{take-is-allowed}
+use Rattle.aio_handle.proofs.TokensAfterEvent.{local-token}
+use Rattle.aio_handle.proofs.CallSteps.{looks-seated, got-first, got-seated, got-told}
+use Rattle.aio_handle.proofs.CacheAfterCalls.{seat-after-load, caches-taken-result}
+use Rattle.aio_handle.specs.OwnHandleCache.{CachesOwnHandles}
 use Rattle.aio_handle.proofs.table.Table.try_take.Goals as goal
 use Rattle.aio_handle.proofs.table.Table.try_take.Given.{Over}
 
 pub load-found-requires : goal.load-found-requires
-load-found-requires g c = loads-at g.R.Record.label g.R.Record.aim
+load-found-requires g c = load-is-allowed g.R.Record.label g.R.Record.aim
     (g.R.Record.fits g.W.World.told g.W.World.relations) _ c.self.inside.config _ _ _ _
-    c.token.inside.reference.handle _ (known_of c.actor.inside.seat.me.0) c.actor.invariant.0.one
+    c.token.inside.reference.handle _ (seat_known c.actor.inside.seat.me.0) c.actor.invariant.0.one
     c.self.invariant.0 c.self.invariant.1 c.self.invariant.3 c.token.invariant.handle
     (ap (λ x. x.table) c.actor.view_is ∙
     (c.requires.table.0 ∙ sym (ap (λ x. x.table) c.self.view_is)))
 
 pub invariant_of-actor : goal.invariant_of-actor
-invariant_of-actor g c = loaded _ _ _ _ _ c.self.inside.inner.shared.table_id.slots
+invariant_of-actor g c = seat-after-load _ _ _ _ _ c.self.inside.inner.shared.table_id.slots
     c.token.inside.reference.handle _ _ _ _ c.actor.invariant c.load-found.ensures.2
 
 pub fetch_add-requires : goal.fetch_add-requires
 fetch_add-requires g c =
     let h : ℕ = c.token.inside.reference.handle in
-    let range : h < handles c.self.inside.config = subst (λ (z : ℕ). h < z)
+    let range : h < handle_count c.self.inside.config = subst (λ (z : ℕ). h < z)
     (sym c.self.invariant.3) c.token.invariant.handle in
-    let t = inward (IsInFlight)
-    (known_of c.actor.inside.seat.me.0) c.args.actor.now.known c.token.inside.reference c.args.token
+    let t = inside-from-view (IsInFlight)
+    (seat_known c.actor.inside.seat.me.0) c.args.actor.now.known c.token.inside.reference
+    c.args.token
     (ap (λ x. x.known) c.actor.view_is) (c.token.view_is) (c.requires.token) in
     let (lk, flight, saw) =
     flight-loaded c.self.inside.inner.shared.table_id.slots _ c.token.inside.reference
@@ -59,10 +60,10 @@ fetch_add-requires g c =
           (ap (λ x. x.table) c.actor.view_is ∙
           (c.requires.table.0 ∙ sym (ap (λ x. x.table) c.self.view_is))),
       subst (λ (z : ℕ). h < z) (sym c.self.invariant.1) range,
-      gets g.R.Record.label g.R.Record.aim
+      take-is-allowed g.R.Record.label g.R.Record.aim
           (g.R.Record.fits g.W.World.told g.W.World.relations) _ _ _ h
-          c.token.inside.reference.generation _ (known_of c.load-found.new.seat.me.0) sit.one
-          (subst (λ z. h < handles z) (sym c.self.invariant.0) range) flight
+          c.token.inside.reference.generation _ (seat_known c.load-found.new.seat.me.0) sit.one
+          (subst (λ z. h < handle_count z) (sym c.self.invariant.0) range) flight
           (saw (c.is_completed.ensures.0 c.if-not-is_completed.false)),
     )
 
@@ -81,18 +82,20 @@ exchange-requires g c = (
 waits : (g : Over) (c : goal.In-Some g)
     → IsSeated c.actor.inside.config c.actor.inside.number c.load-found.new.seat.me
     × IsConfig c.actor.inside.config
-    × Remembers c.actor.inside.config c.actor.inside.own.items c.actor.inside.turn
-    c.actor.inside.is_out c.actor.inside.claims (known_of c.load-found.new.seat.me.0)
-waits g c = loaded _ _ _ _ _ c.self.inside.inner.shared.table_id.slots
+    × CachesOwnHandles c.actor.inside.config c.actor.inside.own.items c.actor.inside.turn
+    c.actor.inside.is_out c.actor.inside.claims (seat_known c.load-found.new.seat.me.0)
+waits g c = seat-after-load _ _ _ _ _ c.self.inside.inner.shared.table_id.slots
     c.token.inside.reference.handle _ _ _ _ c.actor.invariant c.load-found.ensures.2
 
 took : (g : Over) (c : goal.In-Some g)
-    → Took g.R.Record.label g.R.Record.aim (g.R.Record.fits g.W.World.told g.W.World.relations)
-    c.token.inside.reference c.in-Ok.word c.in-Some.io (known_of c.actor.inside.seat.me.0)
-    (known_of c.load-found.new.seat.me.0) (known_of c.exchange.new.seat.me.0)
+    → ResultTaken g.R.Record.label g.R.Record.aim
+    (g.R.Record.fits g.W.World.told g.W.World.relations)
+    c.token.inside.reference c.in-Ok.word c.in-Some.io (seat_known c.actor.inside.seat.me.0)
+    (seat_known c.load-found.new.seat.me.0) (seat_known c.exchange.new.seat.me.0)
 took g c =
-    let t = inward (IsInFlight)
-    (known_of c.actor.inside.seat.me.0) c.args.actor.now.known c.token.inside.reference c.args.token
+    let t = inside-from-view (IsInFlight)
+    (seat_known c.actor.inside.seat.me.0) c.args.actor.now.known c.token.inside.reference
+    c.args.token
     (ap (λ x. x.known) c.actor.view_is) (c.token.view_is) (c.requires.token) in
     let (lk, flight, saw) =
     flight-loaded c.self.inside.inner.shared.table_id.slots _ c.token.inside.reference
@@ -123,10 +126,10 @@ invariant_of-actor-2 g c = (
       c.self.inside.inner.shared.table_id.slots c.token.inside.reference.handle _ _ _
       c.fetch_add.ensures.2 _ _ _ c.exchange.ensures.3 (waits g c).0,
   c.actor.invariant.1,
-  subst (λ z. Remembers c.actor.inside.config c.actor.inside.own.items c.actor.inside.turn
-      c.actor.inside.is_out c.actor.inside.claims (known_of z))
+  subst (λ z. CachesOwnHandles c.actor.inside.config c.actor.inside.own.items c.actor.inside.turn
+      c.actor.inside.is_out c.actor.inside.claims (seat_known z))
       (sym (ap (λ x. x.0) c.exchange.ensures.3))
-      (recalls-got c.actor.inside.config c.actor.inside.own.items c.actor.inside.turn
+      (caches-taken-result c.actor.inside.config c.actor.inside.own.items c.actor.inside.turn
       c.actor.inside.claims c.actor.inside.is_out g.R.Record.label g.R.Record.aim
       (g.R.Record.fits g.W.World.told g.W.World.relations)
       c.self.inside.inner.shared.table_id.slots c.token.inside.reference.handle
@@ -135,14 +138,14 @@ invariant_of-actor-2 g c = (
 
 pub returns-clause-ready : goal.returns-clause-ready
 returns-clause-ready g c =
-    let mid : Known = known_of c.load-found.new.seat.me.0 in
-    let q : Known = known_of c.exchange.new.seat.me.0 in
+    let mid : Known = seat_known c.load-found.new.seat.me.0 in
+    let q : Known = seat_known c.exchange.new.seat.me.0 in
     let h : ℕ = c.token.inside.reference.handle in
     let n : ℕ = c.token.inside.reference.generation in
     let t = took g c in (
       c.token.view_is,
       (local-token h n [] mid q (waits g c).0.keeps t.class t.made),
-      subst (λ (z : WaitRef × Known). TakesOut z.0 z.1 q (g.R.Record.label c.in-Some.io))
+      subst (λ (z : WaitRef × Known). TakesResult z.0 z.1 q (g.R.Record.label c.in-Some.io))
           (λ k. (c.token.view_is k, (c.actor.view_is k).known)) record {
             between = mid;
             found = c.in-Ok.word;
@@ -150,7 +153,8 @@ returns-clause-ready g c =
             looked = t.looked;
             completed = t.done;
             made = t.made;
-            ended = (begun-of event.Local h (completed t.class n) (taken t.class n) [] mid q
+            ended = (begun-of event.Local h (completed_word t.class n)
+                (taken_word t.class n) [] mid q
                 t.made).lawful.class;
             label = t.labelled;
           },
@@ -163,7 +167,7 @@ returns-clause-record g c = let t = took g c in (
       → g.R.Record.aim c.in-Some.io ≡ aim) (λ k. (c.token.view_is k, (c.actor.view_is k).known))
       (λ aim i. t.aimed aim
       (note-looked c.token.inside.reference.handle c.in-Ok.word
-      (known_of c.actor.inside.seat.me.0) (known_of c.load-found.new.seat.me.0)
+      (seat_known c.actor.inside.seat.me.0) (seat_known c.load-found.new.seat.me.0)
       (c.token.inside.reference, aim) t.looked i)),
 )
 
@@ -173,23 +177,24 @@ returns-clause-alone g c =
     let t = took g c in
     let same-config = (sym c.actor.invariant.0.config ∙ ap (λ x. x.known.config) c.actor.view_is) ∙
     (c.requires.table.1 ∙ sym (ap (λ x. x.config) c.self.view_is)) in
-    let range = subst (λ z. c.token.inside.reference.handle < handles z) (sym same-config)
+    let range = subst (λ z. c.token.inside.reference.handle < handle_count z) (sym same-config)
     (subst (λ (z : ℕ). c.token.inside.reference.handle < z)
     (sym c.self.invariant.3) c.token.invariant.handle) in
-    λ one. subst (λ (z : Class). LivedAlone c.token.inside.reference z
-    (known_of c.exchange.new.seat.me.0)) (sym (ap (λ (l : Label). l.ended) t.labelled))
-    (lived c.actor.inside.config (known_of c.load-found.new.seat.me.0)
-    (known_of c.exchange.new.seat.me.0) c.token.inside.reference.handle t.class
+    λ one. subst (λ (z : Class). HasWholeLife c.token.inside.reference z
+    (seat_known c.exchange.new.seat.me.0)) (sym (ap (λ (l : Label). l.ended) t.labelled))
+    (whole-life c.actor.inside.config (seat_known c.load-found.new.seat.me.0)
+    (seat_known c.exchange.new.seat.me.0) c.token.inside.reference.handle t.class
     c.token.inside.reference.generation [] sit.keeps sit.config range t.made
-    (subst (λ (z : Config). actors z ≡ 1) (sym
+    (subst (λ (z : Config). actor_count z ≡ 1) (sym
     ((sym c.actor.invariant.0.config ∙ ap (λ x. x.known.config) c.actor.view_is)
     ∙ c.requires.table.1)) one))
 
 pub returns-then-not-is_completed-clause-not_yet : goal.returns-then-not-is_completed-clause-not_yet
 returns-then-not-is_completed-clause-not_yet g c =
-    let mid : Known = known_of c.load-found.new.seat.me.0 in
-    let t = inward (IsInFlight)
-    (known_of c.actor.inside.seat.me.0) c.args.actor.now.known c.token.inside.reference c.args.token
+    let mid : Known = seat_known c.load-found.new.seat.me.0 in
+    let t = inside-from-view (IsInFlight)
+    (seat_known c.actor.inside.seat.me.0) c.args.actor.now.known c.token.inside.reference
+    c.args.token
     (ap (λ x. x.known) c.actor.view_is) (c.token.view_is) (c.requires.token) in
     let (lk, flight, saw) =
     flight-loaded c.self.inside.inner.shared.table_id.slots _ c.token.inside.reference
@@ -200,7 +205,7 @@ returns-then-not-is_completed-clause-not_yet g c =
     (c.is_completed.ensures.1 d) c.if-not-is_completed.true in (
       c.token.view_is,
       flight,
-      subst (λ (z : WaitRef × Known). (x : Word) × Looked z.0.handle x z.1 mid
+      subst (λ (z : WaitRef × Known). (x : Word) × WordLoaded z.0.handle x z.1 mid
           × (IsCompleted x z.0.generation → ⊥))
           (λ k. (c.token.view_is k, (c.actor.view_is k).known)) (c.in-Ok.word, lk, early),
     )

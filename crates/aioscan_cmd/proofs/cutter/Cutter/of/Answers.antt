@@ -1,16 +1,17 @@
 use Rattle.std.proofs.Common.{ℕ, length, arith, ap, subst}
 use Rattle.std.specs.Prelude.{Option}
-use Rattle.aioscan_cmd.specs.Command.{IsBelow, number_limit}
-use Rattle.aioscan_cmd.proofs.Cutting.{left_at-all, few_requests, few_files}
+use Rattle.aioscan_cmd.specs.Command.{IsBelowIfGiven, number_limit}
+use Rattle.aioscan_cmd.proofs.RemainingRequestsStep.{remaining_requests-all, few_requests}
+use Rattle.aioscan_cmd.proofs.RemainingRequestsStep.{few_files}
 use Rattle.aioscan_cmd.proofs.cutter.Cutter.of.Goals as goal
 
 pub returns-clause-all : goal.returns-clause-all
-returns-clause-all g c = left_at-all c.args.asked
+returns-clause-all g c = remaining_requests-all c.args.asked
 
 pub returns-clause-few : goal.returns-clause-few
 returns-clause-few g c =
-    let P : Option ℕ → Type 0 = λ o. IsBelow o number_limit in
+    let P : Option ℕ → Type 0 = λ o. IsBelowIfGiven o number_limit in
     let few = few_requests c.args.asked c.requires.asked
     (subst P c.last_block.ensures.block c.last_block.ensures.below)
     (few_files c.args.asked c.files.result.now c.files.ensures.files c.files.ensures.few) in
-    omega (arith, few, ap length (left_at-all c.args.asked))
+    omega (arith, few, ap length (remaining_requests-all c.args.asked))

@@ -1,7 +1,7 @@
 use Rattle.std.proofs.Common.{◌∙◌, ap}
 use Rattle.clap.specs.Words.{app_of, with_rule}
 use Rattle.aioscan_cmd.specs.Grammar.{option_rule}
-use Rattle.aioscan_cmd.proofs.Adding.{with_rules-more}
+use Rattle.aioscan_cmd.proofs.GrammarRulesAppend.{with_rules-more}
 use Rattle.aioscan_cmd.proofs.words.grammar.add_options.Goals as goal
 
 pub loop-name-preserved : goal.loop-name-preserved

@@ -1,10 +1,10 @@
 use Rattle.std.proofs.Common.{◌∙◌, map, sym, ap}
 use Rattle.std.specs.Option.{option_map}
-use Rattle.aioscan_cmd.proofs.FileWords.{files_of-found}
+use Rattle.aioscan_cmd.proofs.FileWords.{valid_file_names-found}
 use Rattle.aioscan_cmd.proofs.words.values.names_files.Goals as goal
 
 pub returns : goal.returns
 returns c =
     let texts = option_map (λ s. map (λ v. v.now) s.now) in
     let found = sym c.texts_of.ensures ∙ ap texts c.in-Some.is in
-    files_of-found _ c.in-Some.words.now _ found c.are_files.ensures
+    valid_file_names-found _ c.in-Some.words.now _ found c.are_files.ensures

@@ -1,5 +1,5 @@
 use Rattle.std.proofs.Common.{sym, ◌∙◌}
-use Rattle.block_source.proofs.Filtering.{first_accepted, first_refused}
+use Rattle.block_source.proofs.FilteredBlocks.{first_accepted, first_refused}
 use Rattle.block_source.proofs.filters.FilteredBlockSource.next.Goals as goal
 
 pub returns-then-is_accepted : goal.returns-then-is_accepted

@@ -1,5 +1,5 @@
 use Rattle.std.proofs.Common.{arith, ◌<◌}
-use Rattle.block_source.proofs.Stepping.{stepped_first}
+use Rattle.block_source.proofs.StridedBlocks.{stepped_first}
 use Rattle.block_source.proofs.strides.SteppedBlockSourceUnit.next.Goals as goal
 
 pub returns : goal.returns

@@ -2,9 +2,9 @@ use Rattle.std.proofs.Common.{◌≡◌, ◌<◌, length, set, count_by}
 use Rattle.std.proofs.lemmas.List.{get_or_read}
 use Rattle.buf_pool.specs.declared.descriptor.Descriptor.TheVariants.{Free}
 use Rattle.buf_pool.specs.Frames.{is_free}
-use Rattle.buf_pool.proofs.Counts.{counted_after}
-use Rattle.buf_pool.proofs.Changing.{Fits, same_tag_fits, lawful_set, frames_set, table_set}
-use Rattle.buf_pool.proofs.Changing.{clock_set}
+use Rattle.buf_pool.proofs.ElementCounts.{counted_after}
+use Rattle.buf_pool.proofs.FrameChanges.{Fits, same_tag_fits, lawful_set, frames_set, table_set}
+use Rattle.buf_pool.proofs.FrameChanges.{clock_set}
 use Rattle.buf_pool.proofs.index.PoolIndex.change.Goals as goal
 
 pub invariant_of-self : goal.invariant_of-self

@@ -1,6 +1,6 @@
 use Rattle.std.proofs.Common.{◌<◌, count_by, arith}
 use Rattle.buf_pool.specs.Frames.{is_free}
-use Rattle.buf_pool.proofs.Taking.{taken_by_free}
+use Rattle.buf_pool.proofs.VictimFrames.{taken_by_free}
 use Rattle.buf_pool.proofs.index.PoolIndex.choose.Goals as goal
 
 pub returns-else-self-eq0-clause-found : goal.returns-else-self-eq0-clause-found

@@ -2,8 +2,8 @@ use Rattle.std.proofs.Common.{◌≡◌, ◌++◌, Some, arith, ⊎_elim, ◌∙
 use Rattle.std.proofs.Math.Seq.{take-append_seam}
 use Rattle.std.proofs.lemmas.Bool.{cases_eq}
 use Rattle.buf_pool.specs.Frames.{tag_at}
-use Rattle.buf_pool.specs.Probes.{Reaches, empty_slots}
-use Rattle.buf_pool.proofs.Reaching.{reaches_kept, reaches_same}
+use Rattle.buf_pool.specs.Probes.{ProbesFind, empty_slots}
+use Rattle.buf_pool.proofs.TableSearch.{reaches_kept, reaches_same}
 use Rattle.buf_pool.proofs.table.TagTable.add.Goals as goal
 
 pub returns-else-self-size : goal.returns-else-self-size
@@ -24,7 +24,7 @@ returns-else-self-size c =
           let here : tag_at c.args.frames.now c.args.frame ≡ Some t = rw (← same) e in
           reaches_same _ t c.args.tag f c.args.frame (cc) same c.insert.ensures.reached)
           (λ (other : f ≡ c.args.frame → ⊥).
-          let found : Reaches old t f = rw same_slots (c.requires.others f t other e) in
+          let found : ProbesFind old t f = rw same_slots (c.requires.others f t other e) in
           reaches_kept _ _ t f c.insert.ensures.kept found)
           (cases_eq f c.args.frame);
     })

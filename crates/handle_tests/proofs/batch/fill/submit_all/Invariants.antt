@@ -1,9 +1,9 @@
-use Rattle.aio_handle.specs.Shown.{IsOf}
-use Rattle.aio_batch.specs.Held.{Held}
+use Rattle.aio_handle.specs.ContractViews.{IsActorOf}
+use Rattle.aio_batch.specs.StagedTokens.{AreStagedTokens}
 use Rattle.handle_tests.proofs.batch.fill.submit_all.Given as goal
 
 abbrev pub invariant-loop-n : goal.invariant-loop-n
 invariant-loop-n g l = record {
-  table : IsOf l.table l.actor;
-  tokens : Held l.actor.known l.batch;
+  table : IsActorOf l.table l.actor;
+  tokens : AreStagedTokens l.actor.known l.batch;
 }

@@ -1,5 +1,5 @@
 use Rattle.std.proofs.Common.{[]}
-use Rattle.aio_fixtures.proofs.Unreclaimed.{rests-with-none}
+use Rattle.aio_fixtures.proofs.UnreclaimedIos.{rests-with-none}
 use Rattle.handle_tests.proofs.table.life.end_own.Goals as goal
 
 pub returns-then-claim_and_complete-clause-rests : goal.returns-then-claim_and_complete-clause-rests

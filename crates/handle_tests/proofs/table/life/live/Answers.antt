@@ -1,5 +1,5 @@
 use Rattle.std.proofs.Common.{[]}
-use Rattle.aio_fixtures.proofs.Unreclaimed.{none-at-rest}
+use Rattle.aio_fixtures.proofs.UnreclaimedIos.{none-at-rest}
 use Rattle.handle_tests.proofs.table.life.live.Goals as goal
 
 pub end_own-requires-clause-unreclaimed : goal.end_own-requires-clause-unreclaimed

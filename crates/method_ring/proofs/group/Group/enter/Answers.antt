@@ -1,21 +1,21 @@
 use Rattle.std.proofs.Common.{◌≡◌, length, List, ◌++◌, [], ◌∷◌, ap, ◌∙◌, subst, sym}
-use Rattle.method_ring.specs.Pending.{entry, entry_of}
-use Rattle.method_ring.specs.Holding.{Holding, AreBelow, entry_for, IsUnread}
-use Rattle.method_ring.specs.Grouped.{IsJoined}
-use Rattle.method_ring.proofs.Joining.{new-number, joined-push}
+use Rattle.method_ring.specs.Pending.{entry, pending_entry}
+use Rattle.method_ring.specs.ClaimedIos.{ClaimedIo, AreBelow, claimed_entry, IsUnread}
+use Rattle.method_ring.specs.Group.{HoldsPending}
+use Rattle.method_ring.proofs.GroupHoldsPending.{new-number, joined-push}
 use Rattle.method_ring.proofs.group.Group.enter.Goals as goal
 
 pub submit-requires-clause-new : goal.submit-requires-clause-new
 submit-requires-clause-new g c =
     let below : AreBelow (length c.self.inside.room) c.self.inside.room =
     subst (λ z. AreBelow (length z.held) z.held) (sym c.self.view_is) c.requires.numbers in
-    ap (λ n. entry_of n (g.G.Ring.pending c.self.inside.ring)) c.len-user.ensures
+    ap (λ n. pending_entry n (g.G.Ring.pending c.self.inside.ring)) c.len-user.ensures
     ∙ new-number (g.G.Ring.pending c.self.inside.ring) (g.G.Ring.relations c.self.inside.ring)
     c.self.inside.room c.self.invariant below
 
 pub invariant_of-self : goal.invariant_of-self
 invariant_of-self g c =
-    let x : Holding = (c.len-user.result, c.args.claimed) in
+    let x : ClaimedIo = (c.len-user.result, c.args.claimed) in
     let relation : c.relation-relation.result ≡ x.1.1.relation =
     c.relation-relation.ensures ∙ ap (λ r. r.relation) c.record.ensures in
     let first : c.first-first.result ≡ x.1.1.first =
@@ -23,13 +23,13 @@ invariant_of-self g c =
     let count : c.count-count.result ≡ x.1.1.count =
     c.count-count.ensures.value ∙ ap (λ r. r.count) c.record-3.ensures in
     let pending = g.G.Ring.pending c.self.inside.ring in
-    let is : g.G.Ring.pending c.submit.new.self ≡ pending ++ entry_for x ∷ [] =
+    let is : g.G.Ring.pending c.submit.new.self ≡ pending ++ claimed_entry x ∷ [] =
     c.submit.ensures.pending
     ∙ (λ k. pending ++ entry x.0 (relation k) (first k) (count k) ∷ []) in
     let unread : IsUnread (g.G.Ring.relations c.self.inside.ring) x.1.1 =
     subst (λ z. IsUnread (g.G.Ring.relations z.ring) x.1.1) (sym c.self.view_is)
     c.requires.unread in
-    subst (λ (h : List Holding). IsJoined (g.G.Ring.pending c.submit.new.self)
+    subst (λ (h : List ClaimedIo). HoldsPending (g.G.Ring.pending c.submit.new.self)
     (g.G.Ring.relations c.submit.new.self) h) (sym c.put.ensures)
     (joined-push pending (g.G.Ring.relations c.self.inside.ring) c.self.inside.room
     c.self.invariant (g.G.Ring.pending c.submit.new.self) (g.G.Ring.relations c.submit.new.self) x

@@ -4,13 +4,14 @@ use Rattle.std.specs.Prelude.{IfNone, IfSome}
 use Rattle.page_check.specs.Told.{Told}
 use Rattle.aio_disk.specs.Counts.{HasCause, raised_by}
 use Rattle.aio_disk.specs.Disk.{AnswersPages}
-use Rattle.aio_callback.specs.Reading.{Reading, with_pages}
+use Rattle.aio_callback.specs.ReadIoView.{ReadIoView, with_pages}
 use Rattle.method_ring.specs.declared.ring.Entry.{Entry}
-use Rattle.method_ring.specs.Pending.{entry_of, without_entry}
-use Rattle.method_ring.specs.Holding.{Holding, held_of, without_held, entry_for}
-use Rattle.method_ring.specs.Grouped.{IsJoined}
-use Rattle.method_ring.proofs.Joining.{nothing-held, is-held, entry-found, unread-held, filled-by}
-use Rattle.method_ring.proofs.Joining.{joined-without, picked-from}
+use Rattle.method_ring.specs.Pending.{pending_entry, without_entry}
+use Rattle.method_ring.specs.ClaimedIos.{ClaimedIo, claimed_with, without_claimed, claimed_entry}
+use Rattle.method_ring.specs.Group.{HoldsPending}
+use Rattle.method_ring.proofs.GroupHoldsPending.{nothing-held, is-held, entry-found, unread-held}
+use Rattle.method_ring.proofs.GroupHoldsPending.{filled-by}
+use Rattle.method_ring.proofs.GroupHoldsPending.{joined-without, picked-from}
 use Rattle.method_ring.proofs.group.Group.next.Goals as goal
 
 if-none : {A : Type 0} (o : Option A) (P : Type 0) → P → IfNone o P
@@ -39,8 +40,8 @@ unreachable-requires g c =
 
 pub pages_mut-pages-requires : goal.pages_mut-pages-requires
 pages_mut-pages-requires g c =
-    let x : Holding = c.in-Some.held in
-    let found : held_of c.in_ok-user.user c.self.inside.room ≡ Some x =
+    let x : ClaimedIo = c.in-Some.held in
+    let found : claimed_with c.in_ok-user.user c.self.inside.room ≡ Some x =
     sym c.take.ensures.taken ∙ c.in-Some.is in
     let fresh = unread-held (g.G.Ring.pending c.self.inside.ring)
     (g.G.Ring.relations c.self.inside.ring) c.self.inside.room c.self.invariant c.in_ok-user.user x
@@ -49,11 +50,11 @@ pages_mut-pages-requires g c =
 
 pub fill-requires-clause-entry : goal.fill-requires-clause-entry
 fill-requires-clause-entry g c =
-    let x : Holding = c.in-Some.held in
-    let found : held_of c.in_ok-user.user c.self.inside.room ≡ Some x =
+    let x : ClaimedIo = c.in-Some.held in
+    let found : claimed_with c.in_ok-user.user c.self.inside.room ≡ Some x =
     sym c.take.ensures.taken ∙ c.in-Some.is in
-    filled-by _ (entry_for x) _
-    (ap (λ es. entry_of c.in_ok-user.user es) c.pick.ensures.pending
+    filled-by _ (claimed_entry x) _
+    (ap (λ es. pending_entry c.in_ok-user.user es) c.pick.ensures.pending
     ∙ entry-found (g.G.Ring.pending c.self.inside.ring) (g.G.Ring.relations c.self.inside.ring)
     c.self.inside.room c.self.invariant c.in_ok-user.user x found)
     (c.pages_mut-pages.ensures.size
@@ -61,8 +62,8 @@ fill-requires-clause-entry g c =
 
 pub answer-requires-clause-unanswered : goal.answer-requires-clause-unanswered
 answer-requires-clause-unanswered g c =
-    let x : Holding = c.in-Some.held in
-    let found : held_of c.in_ok-user.user c.self.inside.room ≡ Some x =
+    let x : ClaimedIo = c.in-Some.held in
+    let found : claimed_with c.in_ok-user.user c.self.inside.room ≡ Some x =
     sym c.take.ensures.taken ∙ c.in-Some.is in
     let fresh = unread-held (g.G.Ring.pending c.self.inside.ring)
     (g.G.Ring.relations c.self.inside.ring) c.self.inside.room c.self.invariant c.in_ok-user.user x
@@ -73,7 +74,7 @@ answer-requires-clause-unanswered g c =
 
 pub invariant_of-self-2 : goal.invariant_of-self-2
 invariant_of-self-2 g c =
-    subst (λ (h : List Holding). IsJoined (g.G.Ring.pending c.fill.new.self)
+    subst (λ (h : List ClaimedIo). HoldsPending (g.G.Ring.pending c.fill.new.self)
     (g.G.Ring.relations c.fill.new.self) h) (sym c.take.ensures.others)
     (joined-without (g.G.Ring.pending c.self.inside.ring) (g.G.Ring.relations c.self.inside.ring)
     c.self.inside.room c.self.invariant (g.G.Ring.pending c.fill.new.self)
@@ -84,19 +85,19 @@ invariant_of-self-2 g c =
 pub returns-clause-some : goal.returns-clause-some
 returns-clause-some g c =
     let user : ℕ = c.in_ok-user.user in
-    let x : Holding = c.in-Some.held in
+    let x : ClaimedIo = c.in-Some.held in
     let pages = c.fill.new.pages in
-    let found : held_of user c.self.inside.room ≡ Some x =
+    let found : claimed_with user c.self.inside.room ≡ Some x =
     sym c.take.ensures.taken ∙ c.in-Some.is in
     let lent : c.record_mut.result.now ≡ x.1.1 =
     c.record_mut.ensures.value ∙ ap (λ h. h.1.1) c.held.view_is in
     let read : c.record_mut-2.result.now ≡ with_pages c.held.inside.claimed.1 pages =
     search rules in
     let answered = c.answer.ensures
-    ∙ ap (λ (r : Reading). record r { raw = Some c.answer_of-raw.result })
+    ∙ ap (λ (r : ReadIoView). record r { raw = Some c.answer_of-raw.result })
     (read ∙ ap (λ h. with_pages h.1.1 pages) c.held.view_is) in
-    let entry-is : entry_of user (g.G.Ring.pending c.pick.new.self) ≡ Some (entry_for x) =
-    ap (λ es. entry_of user es) c.pick.ensures.pending
+    let entry-is : pending_entry user (g.G.Ring.pending c.pick.new.self) ≡ Some (claimed_entry x) =
+    ap (λ es. pending_entry user es) c.pick.ensures.pending
     ∙ entry-found (g.G.Ring.pending c.self.inside.ring) (g.G.Ring.relations c.self.inside.ring)
     c.self.inside.room c.self.invariant user x found in
     let told : g.G.Ring.told c.pick.new.self ≡ g.W.World.told = c.pick.ensures.told.0
@@ -106,7 +107,7 @@ returns-clause-some g c =
     entry-is c.fill.ensures.pages in
     let told-answers = subst (λ (w : Option Told).
     AnswersPages w x.1.1.relation x.1.1.first c.fill.result pages) told answers in
-    let room = subst (λ (r : Reading). length (take r.count r.pages) ≡ r.count) lent
+    let room = subst (λ (r : ReadIoView). length (take r.count r.pages) ≡ r.count) lent
     (sym (ap length c.pages_mut-pages.ensures.value) ∙ c.pages_mut-pages.ensures.size) in
     let kept : length pages ≡ length c.pages_mut-pages.result.now = search rules in
     let size : length pages ≡ x.1.1.count =
@@ -119,8 +120,8 @@ returns-clause-some g c =
     c.answer_of-raw.result (c.held.inside.claimed.0, c.answer.new.self)
     (g.G.Ring.reads c.args.self.now.ring) (g.G.Ring.reads c.fill.new.self)
     (g.G.Ring.faults c.args.self.now.ring) (g.G.Ring.faults c.fill.new.self)
-    (ap (λ z. held_of user z.held) (sym c.self.view_is) ∙ found)
-    (c.take.ensures.others ∙ ap (λ z. without_held user z.held) c.self.view_is)
+    (ap (λ z. claimed_with user z.held) (sym c.self.view_is) ∙ found)
+    (c.take.ensures.others ∙ ap (λ z. without_claimed user z.held) c.self.view_is)
     (ap (λ h. h.1.0) c.held.view_is) answered c.answer_of-raw.ensures room size told-answers
     (c.fill.ensures.reads ∙ ap (λ (n : ℕ). raised_by 1 n) reads)
     (subst (λ (n : ℕ). HasCause n (g.G.Ring.faults c.fill.new.self) c.fill.result) faults

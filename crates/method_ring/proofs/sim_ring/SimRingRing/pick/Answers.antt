@@ -1,6 +1,6 @@
 use Rattle.std.proofs.Common.{◌<◌, length, refl, sym, ap, ◌∙◌, arith}
-use Rattle.method_ring.specs.Pending.{entry_of}
-use Rattle.method_ring.proofs.Found.{found-at}
+use Rattle.method_ring.specs.Pending.{pending_entry}
+use Rattle.method_ring.proofs.NumberedSearch.{found-at}
 use Rattle.method_ring.proofs.sim_ring.SimRingRing.pick.Goals as goal
 
 pub returns-clause-some : goal.returns-clause-some
@@ -12,7 +12,7 @@ returns-clause-some g c =
     let within = c.next_place-index.ensures.within in
     let count = c.len-count.ensures in
     let lt : i < length es = omega arith in (
-      (λ e. found-at es i x lt (ap (λ z. entry_of z.user es) (sym c.index.ensures)
-          ∙ (ap (λ z. entry_of x.user z.pending) c.self.view_is ∙ e))),
+      (λ e. found-at es i x lt (ap (λ z. pending_entry z.user es) (sym c.index.ensures)
+          ∙ (ap (λ z. pending_entry x.user z.pending) c.self.view_is ∙ e))),
       refl,
     )

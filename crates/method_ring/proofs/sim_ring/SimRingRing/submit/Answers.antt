@@ -1,9 +1,9 @@
 use Rattle.std.proofs.Common.{◌≡◌, ℕ, ◌≤◌, ◌<◌, List, sym, subst, ⊎_elim}
 use Rattle.method_ring.specs.declared.ring.Entry.{Entry}
 use Rattle.method_ring.specs.Pending.{entry}
-use Rattle.method_ring.specs.Sim.{IsReadIn}
+use Rattle.method_ring.specs.SimRing.{IsReadIn}
 use Rattle.aio_word.specs.Stands.{IsIn}
-use Rattle.method_ring.proofs.Looking.{in-pushed}
+use Rattle.method_ring.proofs.NumberedLookup.{in-pushed}
 use Rattle.method_ring.proofs.sim_ring.SimRingRing.submit.Goals as goal
 
 pub invariant_of-self : goal.invariant_of-self

@@ -1,5 +1,5 @@
 use Rattle.std.specs.List.{All}
-use Rattle.method_worker.specs.Shown.{IsSeatOf}
+use Rattle.method_worker.specs.QueueViews.{IsSeatOf}
 use Rattle.method_tests.proofs.queue.capacity.pop_five_by_each.Given as goal
 
 abbrev pub invariant-loop : goal.invariant-loop

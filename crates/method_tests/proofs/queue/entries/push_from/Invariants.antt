@@ -1,5 +1,5 @@
 use Rattle.std.proofs.Common.{◌≤◌}
-use Rattle.method_worker.specs.Shown.{IsSeatOf, IsSameSeat}
+use Rattle.method_worker.specs.QueueViews.{IsSeatOf, IsSameSeat}
 use Rattle.method_tests.proofs.queue.entries.push_from.Given as goal
 
 abbrev pub invariant-loop-number : goal.invariant-loop-number

@@ -1,4 +1,4 @@
-use Rattle.method_worker.specs.Shown.{IsSeatOf}
+use Rattle.method_worker.specs.QueueViews.{IsSeatOf}
 use Rattle.method_tests.proofs.queue.threads.pop_all.Given as goal
 
 abbrev pub invariant-loop : goal.invariant-loop

@@ -1,7 +1,8 @@
 use Rattle.std.proofs.Common.{[], ◌∷◌}
 use Rattle.aio_word.specs.declared.Known.{Known}
 use Rattle.aio_word.specs.declared.WaitRef.{WaitRef}
-use Rattle.aio_fixtures.proofs.Unreclaimed.{none-at-rest, rests-with-none, taken-up-unreclaimed, reclaimed-unreclaimed}
+use Rattle.aio_fixtures.proofs.UnreclaimedIos.{none-at-rest, rests-with-none, taken-up-unreclaimed}
+use Rattle.aio_fixtures.proofs.UnreclaimedIos.{reclaimed-unreclaimed}
 use Rattle.method_tests.proofs.ring.reads.read_and_wait.Goals as goal
 
 pub returns-clause-rests : goal.returns-clause-rests

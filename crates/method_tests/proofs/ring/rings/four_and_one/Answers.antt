@@ -1,5 +1,5 @@
 use Rattle.std.proofs.Common.{[], ◌∷◌, refl}
-use Rattle.aio_fixtures.proofs.Unreclaimed.{none-at-rest, rests-with-none}
+use Rattle.aio_fixtures.proofs.UnreclaimedIos.{none-at-rest, rests-with-none}
 use Rattle.method_tests.proofs.ring.rings.four_and_one.Goals as goal
 
 pub take_and_reclaim-requires-then-take_and_reclaim-clause-token : goal.take_and_reclaim-requires-then-take_and_reclaim-clause-token

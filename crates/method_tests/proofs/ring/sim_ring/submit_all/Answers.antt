@@ -4,9 +4,9 @@ use Rattle.std.proofs.lemmas.Bool.Decides.{nat_tests}
 use Rattle.std.proofs.lemmas.List.{length-append}
 use Rattle.aio_word.specs.Stands.{IsIn}
 use Rattle.method_ring.specs.declared.ring.Entry.{Entry}
-use Rattle.method_ring.specs.Pending.{entry, entry_of}
+use Rattle.method_ring.specs.Pending.{entry, pending_entry}
 use Rattle.method_tests.specs.PendingReads.{AreReadInto}
-use Rattle.method_ring.proofs.Looking.{in-pushed}
+use Rattle.method_ring.proofs.NumberedLookup.{in-pushed}
 use Rattle.method_tests.proofs.PendingReads.{are-pushed}
 use Rattle.method_tests.proofs.ring.sim_ring.submit_all.Goals as goal
 
@@ -15,9 +15,9 @@ not-equal a b lt = grind (arith, nat_tests)
 
 -- no entry has a number that all are below
 none-below : (n : ℕ) (es : List Entry) → ((e : Entry) → IsIn e es → e.user < n)
-    → entry_of n es ≡ None
+    → pending_entry n es ≡ None
 none-below n [] below = refl
-none-below n (x ∷ es) below = ap (λ (b : Bool). cond b (Some x) (entry_of n es))
+none-below n (x ∷ es) below = ap (λ (b : Bool). cond b (Some x) (pending_entry n es))
     (not-equal x.user n (below x (inl refl))) ∙ none-below n es (λ e i. below e (inr i))
 
 -- one more is submitted under the next number

@@ -1,4 +1,4 @@
-use Rattle.method_worker.specs.Shown.{IsSeatOf, IsSameSeat}
+use Rattle.method_worker.specs.QueueViews.{IsSeatOf, IsSameSeat}
 use Rattle.method_tests.proofs.worker.alone.push_times.Given as goal
 
 abbrev pub invariant-loop : goal.invariant-loop

@@ -1,5 +1,5 @@
 use Rattle.std.proofs.Common.{[]}
-use Rattle.aio_fixtures.proofs.Unreclaimed.{none-at-rest, rests-with-none, taken-up-unreclaimed}
+use Rattle.aio_fixtures.proofs.UnreclaimedIos.{none-at-rest, rests-with-none, taken-up-unreclaimed}
 use Rattle.method_tests.proofs.worker.alone.work_alone.Goals as goal
 
 pub returns-clause-rests : goal.returns-clause-rests

@@ -2,7 +2,7 @@ use Rattle.std.proofs.Common.{◌∷◌}
 use Rattle.aio_word.specs.declared.Known.{Known}
 use Rattle.aio_word.specs.declared.WaitRef.{WaitRef}
 use Rattle.aio_word.specs.Tokens.{IsInFlight}
-use Rattle.aio_fixtures.proofs.Unreclaimed.{taken-up-unreclaimed}
+use Rattle.aio_fixtures.proofs.UnreclaimedIos.{taken-up-unreclaimed}
 use Rattle.method_tests.proofs.worker.reads.submit_by_method.Goals as goal
 
 pub returns-clause-submitted : goal.returns-clause-submitted
@@ -11,7 +11,7 @@ returns-clause-submitted g c =
     let r : Known = c.begun.new.actor.known in
     let submitted = c.in_ok-token.ensures.submitted in
     let keeps : (u : WaitRef) → IsInFlight q u → IsInFlight r u =
-    λ u flies. (c.taking_up_keeps_tokens.ensures u _ q r _ _ _ _
+    λ u flies. (c.execution_keeps_tokens.ensures u _ q r _ _ _ _
     c.begun.ensures.marks).in_flight flies in
     record {
       token = keeps c.in_ok-token.token submitted.token;

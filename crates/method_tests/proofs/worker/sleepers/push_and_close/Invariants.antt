@@ -1,9 +1,9 @@
-use Rattle.aio_handle.specs.Shown.{IsOf}
+use Rattle.aio_handle.specs.ContractViews.{IsActorOf}
 use Rattle.method_tests.proofs.worker.sleepers.push_and_close.Given as goal
 
 abbrev pub invariant-loop : goal.invariant-loop
 invariant-loop g l = record {
   can_next : (goal.iterator-loop g).can_next l.iterator';
   is_finite : (goal.iterator-loop g).is_finite l.iterator';
-  of : IsOf l.table l.owner;
+  of : IsActorOf l.table l.owner;
 }

@@ -1,5 +1,5 @@
 use Rattle.std.proofs.Common.{[], ◌∷◌}
-use Rattle.aio_fixtures.proofs.Unreclaimed.{none-at-rest, rests-with-none}
+use Rattle.aio_fixtures.proofs.UnreclaimedIos.{none-at-rest, rests-with-none}
 use Rattle.method_tests.proofs.worker.three.three_begun.Goals as goal
 
 pub take_and_reclaim-requires-then-take_and_reclaim-clause-token : goal.take_and_reclaim-requires-then-take_and_reclaim-clause-token

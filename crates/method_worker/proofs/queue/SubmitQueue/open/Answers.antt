@@ -1,11 +1,11 @@
 use Rattle.std.proofs.Common.{◌≡◌, ◌≢◌, ℕ, ◌+◌, ◌≤◌, ◌++◌, [], ◌∷◌, List, sym, subst, arith, rules}
 use Rattle.std.specs.List.{All}
 use Rattle.std.proofs.lemmas.List.Elements.{All-push}
-use Rattle.method_worker.specs.Shown.{Queue, Seating, IsNew, IsSeatOf}
+use Rattle.method_worker.specs.QueueViews.{QueueView, SeatView, IsNew, IsSeatOf}
 use Rattle.method_worker.proofs.queue.SubmitQueue.open.Goals as goal
 
 -- a seat of a queue of two seats is one of a queue of several
-of-several : (q : Queue) (n : ℕ) (s : Seating) → n ≢ 1 → IsNew q 2 s → IsNew q n s
+of-several : (q : QueueView) (n : ℕ) (s : SeatView) → n ≢ 1 → IsNew q 2 s → IsNew q n s
 of-several q n s ne i = record {
   of = i.of;
   alone = λ e. absurd (ne e);
@@ -15,13 +15,14 @@ of-several q n s ne i = record {
   closes = i.closes;
 }
 
-new-more : (q : Queue) (n : ℕ) (ss ss' : List Seating) (s : Seating) → ss' ≡ ss ++ s ∷ []
+new-more : (q : QueueView) (n : ℕ) (ss ss' : List SeatView) (s : SeatView) → ss' ≡ ss ++ s ∷ []
     → All (IsNew q n) ss → IsNew q n s → All (IsNew q n) ss'
-new-more q n ss ss' s e all one = subst (λ (l : List Seating). All (IsNew q n) l) (sym e)
+new-more q n ss ss' s e all one = subst (λ (l : List SeatView). All (IsNew q n) l) (sym e)
     (All-push (IsNew q n) ss s all one)
 
 -- the first seat, with the parts that are left
-first-new : (q : Queue) (n m : ℕ) (s : Seating) → IsSeatOf q s → s.parts + m ≡ 49 → n + 1 ≤ m + 1
+first-new : (q : QueueView) (n m : ℕ) (s : SeatView) → IsSeatOf q s → s.parts + m ≡ 49
+    → n + 1 ≤ m + 1
     → m ≤ n → s.pushes ≡ [] → s.pops ≡ [] → s.loads ≡ [] → s.closes ≡ [] → IsNew q n s
 first-new q n m s of parts lo hi pushes pops loads closes = record {
   of = of;

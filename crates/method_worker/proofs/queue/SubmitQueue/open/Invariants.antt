@@ -1,6 +1,6 @@
 use Rattle.std.proofs.Common.{◌≡◌, ◌+◌, [], length}
 use Rattle.std.specs.List.{All}
-use Rattle.method_worker.specs.Shown.{IsNew, IsSeatOf}
+use Rattle.method_worker.specs.QueueViews.{IsNew, IsSeatOf}
 use Rattle.method_worker.proofs.queue.SubmitQueue.open.Given as goal
 
 abbrev pub invariant-loop : goal.invariant-loop

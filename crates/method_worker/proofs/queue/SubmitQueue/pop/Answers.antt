@@ -1,7 +1,7 @@
 use Rattle.std.proofs.Common.{refl, ap, arith, rules}
 use Rattle.crossbeam_queue.specs.Passes.{view}
-use Rattle.method_worker.proofs.Counting.{takes, learns, empty-again}
-use Rattle.method_worker.proofs.Reading.{read-none}
+use Rattle.method_worker.proofs.StepsKeepBalance.{takes, learns, empty-again}
+use Rattle.method_worker.proofs.SeatPopsInOrder.{read-none}
 use Rattle.method_worker.proofs.queue.SubmitQueue.pop.Goals as goal
 
 pub pop_as-requires-clause-rule : goal.pop_as-requires-clause-rule
@@ -10,14 +10,15 @@ pop_as-requires-clause-rule g c = (takes _ _ _ c.seat.invariant.1, learns _ _ _)
 pub returns-then-word-self-clause-popped : goal.returns-then-word-self-clause-popped
 returns-then-word-self-clause-popped g c =
     let old = c.seat.inside in
-    let chair = c.load_closing-word.new.chair in
+    let word_seat = c.load_closing-word.new.seat in
     let pass = c.pop_as.new.pass in
     let word = c.load_closing-word.result in
     let r = c.in_default.ensures.rule in (
       word,
       (
-        read-none c.args.seat.now old.pass.table_id old.chair.table_id pass.table_id chair.table_id
-            (view old.pass) (view pass) old.chair.me.0 chair.me.0 word c.seat.view_is r.0
+        read-none c.args.seat.now old.pass.table_id old.word_seat.table_id pass.table_id
+            word_seat.table_id
+            (view old.pass) (view pass) old.word_seat.me.0 word_seat.me.0 word c.seat.view_is r.0
             (ap (λ x. x.0) c.load_closing-word.ensures.noted),
         record {
           under = search rules;
@@ -30,14 +31,15 @@ returns-then-word-self-clause-popped g c =
 pub returns-clause-popped : goal.returns-clause-popped
 returns-clause-popped g c =
     let old = c.seat.inside in
-    let chair = c.load_closing-word.new.chair in
+    let word_seat = c.load_closing-word.new.seat in
     let pass = c.pop_as.new.pass in
     let word = c.load_closing-word.result in
     let r = c.in_default.ensures.rule in (
       word,
       (
-        read-none c.args.seat.now old.pass.table_id old.chair.table_id pass.table_id chair.table_id
-            (view old.pass) (view pass) old.chair.me.0 chair.me.0 word c.seat.view_is r.0
+        read-none c.args.seat.now old.pass.table_id old.word_seat.table_id pass.table_id
+            word_seat.table_id
+            (view old.pass) (view pass) old.word_seat.me.0 word_seat.me.0 word c.seat.view_is r.0
             (ap (λ x. x.0) c.load_closing-word.ensures.noted),
         search rules,
         empty-again g.W.World.handles (view old.pass) (view pass) _ r.0 refl r.1,

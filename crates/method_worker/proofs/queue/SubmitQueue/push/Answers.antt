@@ -1,8 +1,8 @@
 use Rattle.std.proofs.Common.{◌∙◌, refl, subst}
 use Rattle.crossbeam_queue.specs.Passes.{view}
-use Rattle.method_worker.specs.Shown.{Seating, seating}
-use Rattle.method_worker.specs.Seats.{WasFull}
-use Rattle.method_worker.proofs.Counting.{puts, learns, was-full}
+use Rattle.method_worker.specs.QueueViews.{SeatView, seat_view}
+use Rattle.method_worker.specs.SeatCalls.{WasFull}
+use Rattle.method_worker.proofs.StepsKeepBalance.{puts, learns, was-full}
 use Rattle.method_worker.proofs.queue.SubmitQueue.push.Goals as goal
 
 pub push_as-requires-clause-rule : goal.push_as-requires-clause-rule
@@ -16,7 +16,8 @@ returns-in-Err-clause-full g c =
     let (is, same, held) = c.in-Err.ensures.rule in
     let table = c.push_as.ensures.queue.0 in (
       is,
-      (λ k. seating (table k) old.chair.table_id (same k) old.chair.me.0) ∙ c.seat.view_is,
-      subst (λ (s : Seating). WasFull g.W.World.handles s) c.seat.view_is
+      (λ k. seat_view (table k) old.word_seat.table_id (same k) old.word_seat.me.0)
+          ∙ c.seat.view_is,
+      subst (λ (s : SeatView). WasFull g.W.World.handles s) c.seat.view_is
           (was-full g.W.World.handles _ (view old.pass) _ refl c.self.invariant.0 held),
     )

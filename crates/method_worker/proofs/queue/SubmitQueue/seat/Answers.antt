@@ -1,5 +1,5 @@
 use Rattle.std.proofs.Common.{ℕ, ◌<◌, sym, ap, subst}
-use Rattle.method_worker.proofs.Counting.{forks}
+use Rattle.method_worker.proofs.StepsKeepBalance.{forks}
 use Rattle.method_worker.proofs.queue.SubmitQueue.seat.Goals as goal
 
 pub another-requires-clause-rule : goal.another-requires-clause-rule

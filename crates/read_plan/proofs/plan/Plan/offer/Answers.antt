@@ -1,5 +1,5 @@
 use Rattle.std.proofs.Common.{rules}
-use Rattle.read_plan.proofs.Combining.{block_extends, block_flushes, longer_within}
+use Rattle.read_plan.proofs.CombinedRuns.{block_extends, block_flushes, longer_within}
 use Rattle.read_plan.proofs.plan.Plan.offer.Goals as goal
 
 pub invariant_of-self-then-not-begins_segment : goal.invariant_of-self-then-not-begins_segment

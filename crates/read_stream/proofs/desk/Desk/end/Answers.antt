@@ -1,18 +1,18 @@
 use Rattle.std.proofs.Common.{◌≡◌, ◌∷◌, subst, sym, ap, arith, length, refl}
 use Rattle.std.specs.Prelude.{Some, IfSome}
-use Rattle.read_stream.specs.Hands.{count_some}
-use Rattle.aio_callback.specs.Reading.{Reading}
+use Rattle.read_stream.specs.PagesAtHand.{count_some}
+use Rattle.aio_callback.specs.ReadIoView.{ReadIoView}
 use Rattle.circular_buffer.specs.Buffer.{buffer}
 use Rattle.read_stream.specs.declared.reads.Reads.{Reads}
-use Rattle.read_stream.specs.Issued.{Issued}
-use Rattle.read_stream.proofs.Moving.{more-free}
+use Rattle.read_stream.specs.StreamIos.{Issued}
+use Rattle.read_stream.proofs.QueueMovesKeepIssued.{more-free}
 use Rattle.read_stream.proofs.desk.Desk.end.Goals as goal
 
 pub finish-requires-clause-issued : goal.finish-requires-clause-issued
 finish-requires-clause-issued g c =
     let W : Type 0 = g.row.W.Denot in
     let s : Reads W = c.args.self.now.reads in
-    let io : Reading = c.in-Some.io in
+    let io : ReadIoView = c.in-Some.io in
     let all = c.requires.all in
     let now : c.args.current ≡ Some io = c.in-Some.is in
     let one : count_some c.args.current ≡ 1 = ap (λ z. count_some z) now in
@@ -20,6 +20,7 @@ finish-requires-clause-issued g c =
     subst (λ z. IfSome z (λ x. length x.pages ≡ c.args.scope.now.combine)) now
     c.requires.current in
     subst (λ (z : Reads W). Issued c.args.scope.now g.W.World.told g.W.World.relations
-    c.args.crew.now.actor.now.known z) (sym c.release.ensures)
-    (more-free c.args.scope.now g.W.World.told g.W.World.relations c.args.crew.now.actor.now.known s
+    c.args.context.now.actor.now.known z) (sym c.release.ensures)
+    (more-free c.args.scope.now g.W.World.told g.W.World.relations
+    c.args.context.now.actor.now.known s
     io (buffer (io ∷ s.free.items) s.free.capacity) refl (omega arith) fits c.requires.issued).0

@@ -1,12 +1,12 @@
 use Rattle.std.proofs.Common.{◌≡◌, [], ◌∷◌, List, subst, sym, ap, ◌∙◌, arith, length, refl}
 use Rattle.aio_word.specs.declared.WaitRef.{WaitRef}
-use Rattle.aio_callback.specs.Reading.{Reading}
+use Rattle.aio_callback.specs.ReadIoView.{ReadIoView}
 use Rattle.circular_buffer.specs.Buffer.{Buffer, buffer}
 use Rattle.read_stream.specs.declared.reads.Reads.{Reads}
-use Rattle.read_stream.specs.Issued.{Issued, records_in, made_in}
-use Rattle.read_stream.proofs.Serving.{handed_then, serves_then}
-use Rattle.read_stream.proofs.Moving.{more-free}
-use Rattle.read_stream.proofs.Submitted.{is-none}
+use Rattle.read_stream.specs.StreamIos.{Issued, record_count, ios_allowed}
+use Rattle.read_stream.proofs.ContextAdvancedLaws.{valid_context_then, context_advanced_then}
+use Rattle.read_stream.proofs.QueueMovesKeepIssued.{more-free}
+use Rattle.read_stream.proofs.SubmitKeepsIssued.{is-none}
 use Rattle.read_stream.proofs.reads.Reads.finish.Goals as goal
 
 pub release-requires : goal.release-requires
@@ -19,8 +19,8 @@ release-requires g c =
 pub loop-io-preserved : goal.loop-io-preserved
 loop-io-preserved g c =
     let W : Type 0 = g.row.W.Denot in
-    let s : Reads W = c.oldest.new.self in
-    let io : Reading = c.in-Some.io in
+    let s : Reads W = c.oldest_record.new.self in
+    let io : ReadIoView = c.in-Some.io in
     let inv = c.loop-io.invariant in
     let some = c.in-Some.ensures.some in
     let rest = c.in-Some.ensures.all in
@@ -30,45 +30,46 @@ loop-io-preserved g c =
     ≡ record s { free = buffer (io ∷ s.free.items) s.free.capacity } =
     c.release.ensures in
     let more = more-free c.args.scope.now g.W.World.told g.W.World.relations
-    c.oldest.new.crew.actor.now.known s io (buffer (io ∷ s.free.items) s.free.capacity) refl
+    c.oldest_record.new.context.actor.now.known s io (buffer (io ∷ s.free.items) s.free.capacity)
+    refl
     (omega arith) some.0.aimed.room c.in-Some.ensures.issued in
     let count = more.1 in
     let made = rest.2 in
     let was = inv.made in
     record {
-      handed = handed_then inv.handed c.in-Some.ensures.serves;
-      serves = serves_then c.in-Some.ensures.serves inv.serves;
+      handed = valid_context_then inv.handed c.in-Some.ensures.serves;
+      serves = context_advanced_then c.in-Some.ensures.serves inv.serves;
       issued = subst (λ (z : Reads W). Issued c.args.scope.now g.W.World.told g.W.World.relations
-          c.oldest.new.crew.actor.now.known z) (sym is) more.0;
-      records = ap (λ (z : Reads W). records_in z) is ∙ (omega arith);
-      made = ap (λ (z : Reads W). made_in z) is ∙ (made ∙ was);
+          c.oldest_record.new.context.actor.now.known z) (sym is) more.0;
+      records = ap (λ (z : Reads W). record_count z) is ∙ (omega arith);
+      made = ap (λ (z : Reads W). ios_allowed z) is ∙ (made ∙ was);
       batch = ap (λ (z : Reads W). z.batch) is ∙ (rest.1 ∙ inv.batch);
     }
 
 pub returns-clause-serves : goal.returns-clause-serves
 returns-clause-serves g c =
-    serves_then c.in_default.ensures.serves c.loop-io.invariant.serves
+    context_advanced_then c.in_default.ensures.serves c.loop-io.invariant.serves
 
 pub returns-clause-ready : goal.returns-clause-ready
 returns-clause-ready g c =
     let W : Type 0 = g.row.W.Denot in
-    let s : Reads W = c.oldest.new.self in
+    let s : Reads W = c.oldest_record.new.self in
     let o : Reads W = c.loop-io.self in
     let issued = c.in_default.ensures.issued in
     let state = c.in_default.ensures.same_state in
     let rest = c.in_default.ensures.all in
-    let flights : s.flights.items ≡ [] =
+    let in_flight : s.in_flight.items ≡ [] =
     ap (λ (z : Buffer WaitRef). z.items) state.2 ∙ c.in_default.ensures.none in
     let batch : s.batch ≡ [] = rest.1 ∙ c.loop-io.invariant.batch in
-    let b : length s.batch ≡ 0 = ap (λ (z : List (WaitRef × Reading)). length z) batch in
+    let b : length s.batch ≡ 0 = ap (λ (z : List (WaitRef × ReadIoView)). length z) batch in
     let b' : length o.batch ≡ 0 =
-    ap (λ (z : List (WaitRef × Reading)). length z) c.loop-io.invariant.batch in
-    let f : length s.flights.items ≡ 0 = ap (λ (z : List WaitRef). length z) flights in
-    let f' : length o.flights.items ≡ 0 =
+    ap (λ (z : List (WaitRef × ReadIoView)). length z) c.loop-io.invariant.batch in
+    let f : length s.in_flight.items ≡ 0 = ap (λ (z : List WaitRef). length z) in_flight in
+    let f' : length o.in_flight.items ≡ 0 =
     ap (λ (z : List WaitRef). length z) c.in_default.ensures.none in
-    let e' : length o.ended.items ≡ 0 = ap (λ (z : List Reading). length z) state.0 in
+    let e' : length o.ended.items ≡ 0 = ap (λ (z : List ReadIoView). length z) state.0 in
     let free : length s.free.items ≡ length o.free.items =
-    ap (λ (z : Buffer Reading). length z.items) rest.0 in
+    ap (λ (z : Buffer ReadIoView). length z.items) rest.0 in
     let total = c.loop-io.invariant.records in
     let same = state.1 in
     record {
@@ -76,6 +77,6 @@ returns-clause-ready g c =
       free = issued.free;
       all = omega arith;
       batch = batch;
-      flights = flights;
+      in_flight = in_flight;
       ended = is-none s.ended.items (omega arith);
     }

@@ -1,11 +1,11 @@
 use Rattle.std.proofs.Common.{◌≡◌, List, ap, ◌∙◌, arith, length, refl}
 use Rattle.aio_word.specs.declared.Known.{Known}
 use Rattle.aio_word.specs.declared.WaitRef.{WaitRef}
-use Rattle.aio_callback.specs.Reading.{Reading, aim_in}
-use Rattle.read_stream.proofs.Going.{went_submitting}
-use Rattle.read_stream.proofs.Serving.{serves_by, serves_then}
-use Rattle.read_stream.proofs.Flown.{are-for-at-once}
-use Rattle.read_stream.proofs.Submitted.{lent-at-once, for-at-once}
+use Rattle.aio_callback.specs.ReadIoView.{ReadIoView, record_aim}
+use Rattle.read_stream.proofs.ActorAdvancedLaws.{advanced_submitting}
+use Rattle.read_stream.proofs.ContextAdvancedLaws.{context_advanced_by, context_advanced_then}
+use Rattle.read_stream.proofs.ReadsMatchRuns.{reads-at-once}
+use Rattle.read_stream.proofs.SubmitKeepsIssued.{lent-at-once, for-at-once}
 use Rattle.read_stream.proofs.reads.Reads.read.Goals as goal
 
 pub settle-requires-clause-lent : goal.settle-requires-clause-lent
@@ -15,31 +15,32 @@ settle-requires-clause-lent g c =
     let before = c.submit.ensures.all.0 in
     let room = c.requires.room in
     lent-at-once c.args.scope.now g.W.World.told g.W.World.relations
-    c.stage-token.new.crew.actor.now.known c.submit_next.new.actor.known c.stage-token.new.self
+    c.stage-token.new.context.actor.now.known c.submit_next.new.actor.known c.stage-token.new.self
     c.put.new.self c.stage-token.result c.submit_next.new.self c.in-Some.token _ _ _ _
     c.put.ensures token.0 token.1 token.2 c.stage-token.ensures.apart (omega arith)
     c.stage-token.ensures.issued c.in-Some.ensures.next c.in-Some.ensures.tokens
 
 pub returns-clause-serves : goal.returns-clause-serves
 returns-clause-serves g c =
-    let b : Known = c.stage-token.new.crew.actor.now.known in
+    let b : Known = c.stage-token.new.context.actor.now.known in
     let q : Known = c.submit_next.new.actor.known in
-    serves_then
-    (serves_then c.settle.ensures.serves
-    (serves_by c.stage-token.new.crew c.submit_next.new.actor c.stage-token.new.crew.method.now
+    context_advanced_then
+    (context_advanced_then c.settle.ensures.serves
+    (context_advanced_by c.stage-token.new.context c.submit_next.new.actor
+    c.stage-token.new.context.method.now
     c.submit_next.new.runner c.in-Some.ensures.same c.in-Some.ensures.told
-    (went_submitting aim_in c.put.new.self.batch c.submit_next.new.self c.in-Some.token b q
+    (advanced_submitting record_aim c.put.new.self.batch c.submit_next.new.self c.in-Some.token b q
     _ _ _ _ c.in-Some.ensures.next) refl))
-    (serves_then c.stage-token.ensures.serves c.submit.ensures.serves)
+    (context_advanced_then c.stage-token.ensures.serves c.submit.ensures.serves)
 
 pub returns-clause-run : goal.returns-clause-run
 returns-clause-run g c =
-    let x : WaitRef × Reading = c.stage-token.result in
+    let x : WaitRef × ReadIoView = c.stage-token.result in
     let few = c.stage-token.ensures.batch in
     let none : length c.submit.new.self.batch ≡ 0 =
-    ap (λ (z : List (WaitRef × Reading)). length z) c.submit.ensures.none in
+    ap (λ (z : List (WaitRef × ReadIoView)). length z) c.submit.ensures.none in
     let r = c.settle.ensures.aim x.1.first x.1.count (for-at-once c.args.scope.now
-    c.stage-token.new.crew.actor.now.known c.submit_next.new.actor.known c.stage-token.new.self
+    c.stage-token.new.context.actor.now.known c.submit_next.new.actor.known c.stage-token.new.self
     c.put.new.self x c.submit_next.new.self c.in-Some.token _ _ _ _ (omega arith)
     c.put.ensures c.stage-token.ensures.token.1 c.in-Some.ensures.next) in
     (r.0 ∙ c.stage-token.ensures.run.0, r.1 ∙ c.stage-token.ensures.run.1)
@@ -49,12 +50,13 @@ returns-clause-runs g c = λ runs f.
     (let all = c.stage-token.ensures.all.0 in
     let few = c.stage-token.ensures.batch in
     let none : length c.submit.new.self.batch ≡ 0 =
-    ap (λ (z : List (WaitRef × Reading)). length z) c.submit.ensures.none in
-    let b : Known = c.stage-token.new.crew.actor.now.known in
+    ap (λ (z : List (WaitRef × ReadIoView)). length z) c.submit.ensures.none in
+    let b : Known = c.stage-token.new.context.actor.now.known in
     let q : Known = c.submit_next.new.actor.known in
     let n = c.in-Some.ensures.next in
-    c.settle.ensures.runs runs (are-for-at-once c.args.scope.now b q c.stage-token.new.self
+    c.settle.ensures.runs runs (reads-at-once c.args.scope.now b q c.stage-token.new.self
     c.put.new.self c.stage-token.result c.submit_next.new.self c.in-Some.token _ _ _ _ runs
     (omega arith) c.put.ensures n
-    (went_submitting aim_in c.put.new.self.batch c.submit_next.new.self c.in-Some.token b q _ _ _ _
-    n) (c.stage-token.ensures.runs runs (c.submit.ensures.runs runs f))))
+    (advanced_submitting record_aim c.put.new.self.batch c.submit_next.new.self c.in-Some.token b q
+    _ _
+    _ _ n) (c.stage-token.ensures.runs runs (c.submit.ensures.runs runs f))))

@@ -1,7 +1,7 @@
 use Rattle.std.proofs.Common.{[], ◌∷◌, ◌++◌, arith}
-use Rattle.read_stream.proofs.Serving.{serves_then}
-use Rattle.read_stream.proofs.Flown.{are-for-pushed}
-use Rattle.read_stream.proofs.Pushed.{issued-put}
+use Rattle.read_stream.proofs.ContextAdvancedLaws.{context_advanced_then}
+use Rattle.read_stream.proofs.ReadsMatchRuns.{reads-pushed}
+use Rattle.read_stream.proofs.BatchPushKeepsIssued.{issued-put}
 use Rattle.read_stream.proofs.reads.Reads.start.Goals as goal
 
 pub submit-requires-clause-issued : goal.submit-requires-clause-issued
@@ -10,13 +10,13 @@ submit-requires-clause-issued g c =
     let all = c.stage-token.ensures.all.0 in
     let room = c.requires.room in
     issued-put c.args.scope.now g.W.World.told g.W.World.relations
-    c.stage-token.new.crew.actor.now.known c.stage-token.new.self c.put.new.self
+    c.stage-token.new.context.actor.now.known c.stage-token.new.self c.put.new.self
     c.stage-token.result c.put.ensures token.0 token.1 token.2 c.stage-token.ensures.apart
     (omega arith) c.stage-token.ensures.issued
 
 pub returns-then-not-scope-clause-serves : goal.returns-then-not-scope-clause-serves
 returns-then-not-scope-clause-serves g c =
-    serves_then c.submit.ensures.serves c.stage-token.ensures.serves
+    context_advanced_then c.submit.ensures.serves c.stage-token.ensures.serves
 
 pub returns-else-len-eq-MOST_STAGED-clause-issued :
     goal.returns-else-len-eq-MOST_STAGED-clause-issued
@@ -25,18 +25,18 @@ returns-else-len-eq-MOST_STAGED-clause-issued g c =
     let all = c.stage-token.ensures.all.0 in
     let room = c.requires.room in
     issued-put c.args.scope.now g.W.World.told g.W.World.relations
-    c.stage-token.new.crew.actor.now.known c.stage-token.new.self c.put.new.self
+    c.stage-token.new.context.actor.now.known c.stage-token.new.self c.put.new.self
     c.stage-token.result c.put.ensures token.0 token.1 token.2 c.stage-token.ensures.apart
     (omega arith) c.stage-token.ensures.issued
 
 pub returns-then-not-scope-clause-runs : goal.returns-then-not-scope-clause-runs
 returns-then-not-scope-clause-runs g c = λ runs f. c.submit.ensures.runs (runs ++ c.args.run ∷ [])
-    (are-for-pushed c.args.scope.now c.stage-token.new.crew.actor.now.known c.stage-token.new.self
+    (reads-pushed c.args.scope.now c.stage-token.new.context.actor.now.known c.stage-token.new.self
     c.put.new.self c.stage-token.result c.args.run runs c.put.ensures c.stage-token.ensures.run
     (c.stage-token.ensures.runs runs f))
 
 pub returns-else-len-eq-MOST_STAGED-clause-runs : goal.returns-else-len-eq-MOST_STAGED-clause-runs
 returns-else-len-eq-MOST_STAGED-clause-runs g c = λ runs f.
-    are-for-pushed c.args.scope.now c.stage-token.new.crew.actor.now.known c.stage-token.new.self
+    reads-pushed c.args.scope.now c.stage-token.new.context.actor.now.known c.stage-token.new.self
     c.put.new.self c.stage-token.result c.args.run runs c.put.ensures c.stage-token.ensures.run
     (c.stage-token.ensures.runs runs f)

@@ -2,28 +2,29 @@ use Rattle.std.proofs.Common.{◌≡◌, [], ◌∷◌, ◌++◌, length, List, 
 use Rattle.std.proofs.Common.{length-append}
 use Rattle.aio_word.specs.declared.WaitRef.{WaitRef}
 use Rattle.aio_word.specs.declared.Known.{Known}
-use Rattle.aio_callback.specs.Reading.{Reading, aim_in}
+use Rattle.aio_callback.specs.ReadIoView.{ReadIoView, record_aim}
 use Rattle.aio_word.specs.Stands.{IsIn}
-use Rattle.aio_handle.specs.Shown.{Standing}
+use Rattle.aio_handle.specs.ContractViews.{ActorView}
 use Rattle.circular_buffer.specs.Buffer.{Buffer, buffer}
 use Rattle.read_stream.specs.declared.reads.Reads.{Reads}
-use Rattle.read_stream.specs.Issued.{Issued, AreFor}
-use Rattle.read_stream.specs.Went.{Went}
-use Rattle.read_stream.proofs.Going.{went_submitting}
-use Rattle.read_stream.proofs.Serving.{handed_then, serves_by, serves_same, serves_then}
-use Rattle.read_stream.proofs.Flown.{are-for-later, are-for-submitted}
-use Rattle.read_stream.proofs.Submitted.{issued-submitted}
+use Rattle.read_stream.specs.StreamIos.{Issued, ReadsForRuns}
+use Rattle.read_stream.specs.ActorProgress.{ActorAdvanced}
+use Rattle.read_stream.proofs.ActorAdvancedLaws.{advanced_submitting}
+use Rattle.read_stream.proofs.ContextAdvancedLaws.{valid_context_then, context_advanced_by}
+use Rattle.read_stream.proofs.ContextAdvancedLaws.{context_advanced_refl, context_advanced_then}
+use Rattle.read_stream.proofs.ReadsMatchRuns.{reads-later, reads-submitted}
+use Rattle.read_stream.proofs.SubmitKeepsIssued.{issued-submitted}
 use Rattle.read_stream.proofs.reads.Reads.submit.Goals as goal
 
 pub loop-token-init : goal.loop-token-init
 loop-token-init g c = record {
   handed = c.requires.handed;
-  serves = serves_same c.args.crew.now;
+  serves = context_advanced_refl c.args.context.now;
   issued = c.requires.issued;
   records = refl;
   made = refl;
   free = refl;
-  credit = refl;
+  io_budget = refl;
   runs = λ runs f. f;
 }
 
@@ -33,36 +34,38 @@ loop-token-preserved g c =
     let s : Reads W = c.loop-token.self in
     let inv = c.loop-token.invariant in
     let t : WaitRef = c.in-Some.token in
-    let p : Known = c.loop-token.crew.actor.now.known in
+    let p : Known = c.loop-token.context.actor.now.known in
     let q : Known = c.submit_next.new.actor.known in
     let n = c.in-Some.ensures.next in
     let after = c.submit_next.new.self in
-    let items : c.push.new.queue ≡ buffer (s.flights.items ++ t ∷ []) s.flights.capacity =
+    let items : c.push.new.queue ≡ buffer (s.in_flight.items ++ t ∷ []) s.in_flight.capacity =
     c.push.ensures in
     let whole : length s.batch ≡ length (n.token ∷ after) =
-    ap (λ (z : List (WaitRef × Reading)). length z) n.first in
-    let more : length c.push.new.queue.items ≡ length (s.flights.items ++ t ∷ []) =
+    ap (λ (z : List (WaitRef × ReadIoView)). length z) n.first in
+    let more : length c.push.new.queue.items ≡ length (s.in_flight.items ++ t ∷ []) =
     ap (λ (z : Buffer WaitRef). length z.items) items in
-    let parts = length-append s.flights.items (t ∷ []) in
-    let went : Went p q _ _ _ _ = went_submitting aim_in s.batch after t p q _ _ _ _ n in
-    let serves = serves_then
-    (serves_by c.loop-token.crew c.submit_next.new.actor c.submit_next.new.method
+    let parts = length-append s.in_flight.items (t ∷ []) in
+    let went : ActorAdvanced p q _ _ _ _ = advanced_submitting record_aim s.batch after t p q _ _ _
+    _ n
+    in
+    let serves = context_advanced_then
+    (context_advanced_by c.loop-token.context c.submit_next.new.actor c.submit_next.new.method
     c.submit_next.new.runner c.in-Some.ensures.same c.in-Some.ensures.told went
     c.in-Some.ensures.stands_on) inv.serves in
     record {
-      handed = handed_then c.requires.handed serves;
+      handed = valid_context_then c.requires.handed serves;
       serves = serves;
       issued = subst (λ (z : Buffer WaitRef). Issued c.args.scope.now g.W.World.told
-          g.W.World.relations q (record s { batch = after; flights = z })) (sym items)
+          g.W.World.relations q (record s { batch = after; in_flight = z })) (sym items)
           (issued-submitted c.args.scope.now g.W.World.told g.W.World.relations p q s after t
           _ _ _ _ n c.in-Some.ensures.tokens inv.issued);
       records = (let k = inv.records in omega arith);
       made = (let k = inv.made in omega arith);
       free = inv.free;
-      credit = inv.credit;
-      runs = λ runs f. subst (λ (z : Buffer WaitRef). AreFor c.args.scope.now q
-          (record s { batch = after; flights = z }) runs) (sym items)
-          (are-for-submitted c.args.scope.now p q s after t _ _ _ _ runs n went
+      io_budget = inv.io_budget;
+      runs = λ runs f. subst (λ (z : Buffer WaitRef). ReadsForRuns c.args.scope.now q
+          (record s { batch = after; in_flight = z }) runs) (sym items)
+          (reads-submitted c.args.scope.now p q s after t _ _ _ _ runs n went
           (λ x j. (inv.issued.staged x j).0) (inv.runs runs f));
     }
 
@@ -72,18 +75,18 @@ returns-clause-issued g c =
     let s : Reads W = c.loop-token.self in
     let none = c.in_default.ensures.none in
     let batch : c.submit_next.new.self ≡ s.batch = none.1 in
-    let actor : c.submit_next.new.actor ≡ c.loop-token.crew.actor.now = none.2 in
-    subst (λ (z : Standing). Issued c.args.scope.now g.W.World.told g.W.World.relations z.known
+    let actor : c.submit_next.new.actor ≡ c.loop-token.context.actor.now = none.2 in
+    subst (λ (z : ActorView). Issued c.args.scope.now g.W.World.told g.W.World.relations z.known
     (record s { batch = c.submit_next.new.self })) (sym actor)
-    (subst (λ (z : List (WaitRef × Reading)). Issued c.args.scope.now g.W.World.told
-    g.W.World.relations c.loop-token.crew.actor.now.known (record s { batch = z })) (sym batch)
+    (subst (λ (z : List (WaitRef × ReadIoView)). Issued c.args.scope.now g.W.World.told
+    g.W.World.relations c.loop-token.context.actor.now.known (record s { batch = z })) (sym batch)
     c.loop-token.invariant.issued)
 
 pub returns-clause-runs : goal.returns-clause-runs
 returns-clause-runs g c = λ runs f.
     (let none = c.in_default.ensures.none in
-    let actor : c.submit_next.new.actor ≡ c.loop-token.crew.actor.now = none.2 in
-    are-for-later c.args.scope.now c.loop-token.crew.actor.now.known c.submit_next.new.actor.known
+    let actor : c.submit_next.new.actor ≡ c.loop-token.context.actor.now = none.2 in
+    reads-later c.args.scope.now c.loop-token.context.actor.now.known c.submit_next.new.actor.known
     c.loop-token.self _ runs
-    (λ x i. subst (λ (z : Standing). IsIn x z.known.aims) (sym actor) i) refl refl none.1
+    (λ x i. subst (λ (z : ActorView). IsIn x z.known.aims) (sym actor) i) refl refl none.1
     (c.loop-token.invariant.runs runs f))

@@ -1,22 +1,22 @@
 use Rattle.std.proofs.Common.{◌≡◌, length, List}
 use Rattle.read_plan.specs.declared.runs.Run.{Run}
-use Rattle.read_stream.specs.Crews.{IsHanded, Serves}
-use Rattle.read_stream.specs.Issued.{Issued, AreFor, records_in, made_in}
+use Rattle.read_stream.specs.IoContexts.{IsValidContext, ContextAdvanced}
+use Rattle.read_stream.specs.StreamIos.{Issued, ReadsForRuns, record_count, ios_allowed}
 use Rattle.read_stream.proofs.reads.Reads.submit.Given as goal
 
 abbrev pub invariant-loop-token : goal.invariant-loop-token
 invariant-loop-token g l = record {
-  handed : IsHanded g.E.Execute.told g.E.Execute.relations g.W.World.told g.W.World.relations
-      l.scope l.crew;
-  serves : Serves g.E.Execute.told g.E.Execute.relations g.E.Execute.reads g.E.Execute.faults
-      g.M.Method.stands_on l.initial.crew l.crew;
-  issued : Issued l.scope g.W.World.told g.W.World.relations l.crew.actor.now.known l.self;
-  records : records_in l.self ≡ records_in l.initial.self;
-  made : made_in l.self ≡ made_in l.initial.self;
+  handed : IsValidContext g.E.Execute.told g.E.Execute.relations g.W.World.told g.W.World.relations
+      l.scope l.context;
+  serves : ContextAdvanced g.E.Execute.told g.E.Execute.relations g.E.Execute.reads
+      g.E.Execute.faults g.M.Method.stands_on l.initial.context l.context;
+  issued : Issued l.scope g.W.World.told g.W.World.relations l.context.actor.now.known l.self;
+  records : record_count l.self ≡ record_count l.initial.self;
+  made : ios_allowed l.self ≡ ios_allowed l.initial.self;
   free : l.self.free ≡ l.initial.self.free;
-  credit : l.self.credit ≡ l.initial.self.credit;
-  runs : (runs : List Run) → AreFor l.scope l.initial.crew.actor.now.known l.initial.self runs
-      → AreFor l.scope l.crew.actor.now.known l.self runs;
+  io_budget : l.self.io_budget ≡ l.initial.self.io_budget;
+  runs : (runs : List Run) → ReadsForRuns l.scope l.initial.context.actor.now.known l.initial.self
+      runs → ReadsForRuns l.scope l.context.actor.now.known l.self runs;
 }
 
 abbrev pub decreases-loop-token : goal.decreases-loop-token

@@ -1,69 +1,70 @@
 use Rattle.std.proofs.Common.{◌≡◌, ◌<◌, refl, ap, sym, subst, arith, ◌∙◌}
 use Rattle.std.specs.Prelude.{Option}
 use Rattle.aio_word.specs.declared.Config.{Config}
-use Rattle.aio_handle.specs.Shown.{Standing}
-use Rattle.aio_callback.specs.Reading.{Reading}
+use Rattle.aio_handle.specs.ContractViews.{ActorView}
+use Rattle.aio_callback.specs.ReadIoView.{ReadIoView}
 use Rattle.read_stream.specs.declared.answer.Step.{Step}
 use Rattle.read_stream.specs.declared.scope.Scope.{Scope}
 use Rattle.read_stream.specs.declared.stream.ReadStream.{ReadStream}
-use Rattle.read_stream.specs.Answering.{said_by}
-use Rattle.read_stream.specs.Hands.{IsGiving, shown}
-use Rattle.read_stream.specs.Open.{IsBetween}
-use Rattle.read_stream.proofs.Kept.{between_known, next_kept}
-use Rattle.read_stream.proofs.Serving.{serves_then}
-use Rattle.read_stream.proofs.Steady.{keeps_then}
+use Rattle.read_stream.specs.StreamAnswers.{step_answer}
+use Rattle.read_stream.specs.PagesAtHand.{HasMoreBlocks, current_page}
+use Rattle.read_stream.specs.StreamState.{IsBetweenCalls}
+use Rattle.read_stream.proofs.LaterActorKeepsAnswer.{between_known, next_answer_kept}
+use Rattle.read_stream.proofs.ContextAdvancedLaws.{context_advanced_then}
+use Rattle.read_stream.proofs.StreamInvariantLaws.{same_stream_then}
 use Rattle.read_stream.proofs.stream.ReadStream.advance.Goals as goal
 
 pub serve-requires-clause-giving : goal.serve-requires-clause-giving
 serve-requires-clause-giving g c =
-    let s : ReadStream g.row.W.Denot g.row.S.Denot g.row.P.Denot = c.let_go.new.self in
+    let s : ReadStream g.row.W.Denot g.row.S.Denot g.row.P.Denot = c.release_page.new.self in
     let n : ReadStream g.row.W.Denot g.row.S.Denot g.row.P.Denot = c.start_last.new.self in
     let a = c.look_ahead.ensures.stays in
     let b = c.submit.ensures.stays in
     let d = c.start_last.ensures.stays in
-    subst (λ (z : Option Reading). IsGiving z n.step)
+    subst (λ (z : Option ReadIoView). HasMoreBlocks z n.step)
     (sym (d.current ∙ (b.current ∙ a.current)))
-    (subst (λ (z : Step g.row.P.Denot). IsGiving s.current z) (sym (d.step ∙ (b.step ∙ a.step)))
-    c.let_go.ensures.giving)
+    (subst (λ (z : Step g.row.P.Denot). HasMoreBlocks s.current z)
+    (sym (d.step ∙ (b.step ∙ a.step))) c.release_page.ensures.giving)
 
 pub returns-clause-serves : goal.returns-clause-serves
-returns-clause-serves g c = serves_then c.serve.ensures.serves
-    (serves_then c.start_last.ensures.serves
-    (serves_then c.submit.ensures.serves c.look_ahead.ensures.serves))
+returns-clause-serves g c = context_advanced_then c.serve.ensures.serves
+    (context_advanced_then c.start_last.ensures.serves
+    (context_advanced_then c.submit.ensures.serves c.look_ahead.ensures.serves))
 
 pub returns-clause-answer : goal.returns-clause-answer
 returns-clause-answer g c =
     let s : ReadStream g.row.W.Denot g.row.S.Denot g.row.P.Denot = c.args.self.now in
-    let l : ReadStream g.row.W.Denot g.row.S.Denot g.row.P.Denot = c.let_go.new.self in
+    let l : ReadStream g.row.W.Denot g.row.S.Denot g.row.P.Denot = c.release_page.new.self in
     let m : ReadStream g.row.W.Denot g.row.S.Denot g.row.P.Denot = c.look_ahead.new.self in
     let b : ReadStream g.row.W.Denot g.row.S.Denot g.row.P.Denot = c.submit.new.self in
     let t : ReadStream g.row.W.Denot g.row.S.Denot g.row.P.Denot = c.start_last.new.self in
     let n : ReadStream g.row.W.Denot g.row.S.Denot g.row.P.Denot = c.serve.new.self in
-    let keeps = keeps_then s l t c.let_go.ensures.moves.keeps
-    (keeps_then l m t c.look_ahead.ensures.stays.keeps
-    (keeps_then m b t c.submit.ensures.stays.keeps c.start_last.ensures.stays.keeps)) in
+    let keeps = same_stream_then s l t c.release_page.ensures.moves.keeps
+    (same_stream_then l m t c.look_ahead.ensures.stays.keeps
+    (same_stream_then m b t c.submit.ensures.stays.keeps c.start_last.ensures.stays.keeps)) in
     let given = c.start_last.ensures.stays.given ∙ (c.submit.ensures.stays.given
-    ∙ (c.look_ahead.ensures.stays.given ∙ c.let_go.ensures.moves.given)) in
-    next_kept g.S.BlockSource.left g.W.World.told g.W.World.relations g.W.World.handles
-    c.serve.new.crew.actor.now.known s t (said_by n.scope.relation n.step (shown n)) keeps given
+    ∙ (c.look_ahead.ensures.stays.given ∙ c.release_page.ensures.moves.given)) in
+    next_answer_kept g.S.BlockSource.left g.W.World.told g.W.World.relations g.W.World.handles
+    c.serve.new.context.actor.now.known s t (step_answer n.scope.relation n.step (current_page n))
+    keeps given
     c.serve.ensures.answer
 
 pub returns-clause-follows : goal.returns-clause-follows
 returns-clause-follows g c =
     let s : ReadStream g.row.W.Denot g.row.S.Denot g.row.P.Denot = c.args.self.now in
-    let l : ReadStream g.row.W.Denot g.row.S.Denot g.row.P.Denot = c.let_go.new.self in
+    let l : ReadStream g.row.W.Denot g.row.S.Denot g.row.P.Denot = c.release_page.new.self in
     let m : ReadStream g.row.W.Denot g.row.S.Denot g.row.P.Denot = c.look_ahead.new.self in
     let b : ReadStream g.row.W.Denot g.row.S.Denot g.row.P.Denot = c.submit.new.self in
     let t : ReadStream g.row.W.Denot g.row.S.Denot g.row.P.Denot = c.start_last.new.self in
     let n : ReadStream g.row.W.Denot g.row.S.Denot g.row.P.Denot = c.serve.new.self in
-    let keeps = keeps_then s l n c.let_go.ensures.moves.keeps
-    (keeps_then l m n c.look_ahead.ensures.stays.keeps
-    (keeps_then m b n c.submit.ensures.stays.keeps
-    (keeps_then b t n c.start_last.ensures.stays.keeps c.serve.ensures.keeps))) in
+    let keeps = same_stream_then s l n c.release_page.ensures.moves.keeps
+    (same_stream_then l m n c.look_ahead.ensures.stays.keeps
+    (same_stream_then m b n c.submit.ensures.stays.keeps
+    (same_stream_then b t n c.start_last.ensures.stays.keeps c.serve.ensures.keeps))) in
     let given = c.start_last.ensures.stays.given ∙ (c.submit.ensures.stays.given
-    ∙ (c.look_ahead.ensures.stays.given ∙ c.let_go.ensures.moves.given)) in
+    ∙ (c.look_ahead.ensures.stays.given ∙ c.release_page.ensures.moves.given)) in
     let more = c.serve.ensures.given in
-    let is : c.of.result.value ≡ c.serve.new.crew.actor.now = c.of.ensures in
+    let is : c.of.result.value ≡ c.serve.new.context.actor.now = c.of.ensures in
     let was : n.scope.was.value ≡ s.scope.was.value =
     ap (λ (z : Scope g.row.W.Denot). z.was.value) keeps.scope in
     let was_open = c.requires.is_open in
@@ -72,18 +73,18 @@ returns-clause-follows g c =
     let w2 = c.submit.ensures.serves.went in
     let w3 = c.start_last.ensures.serves.went in
     let w4 = c.serve.ensures.serves.went in
-    let config : c.serve.new.crew.actor.now.known.config ≡ s.actor_is.value.known.config =
+    let config : c.serve.new.context.actor.now.known.config ≡ s.actor_is.value.known.config =
     c.serve.ensures.serves.same.1 ∙ (c.start_last.ensures.serves.same.1 ∙
-    (c.submit.ensures.serves.same.1 ∙ (c.look_ahead.ensures.serves.same.1 ∙ ap (λ (z : Standing).
+    (c.submit.ensures.serves.same.1 ∙ (c.look_ahead.ensures.serves.same.1 ∙ ap (λ (z : ActorView).
     z.known.config) actor))) in
-    let backends : c.serve.new.crew.actor.now.known.config.backends ≡
+    let backends : c.serve.new.context.actor.now.known.config.backends ≡
     s.actor_is.value.known.config.backends =
     ap (λ (z : Config). z.backends) config in
-    let number : c.serve.new.crew.actor.now.known.number ≡ s.actor_is.value.known.number =
+    let number : c.serve.new.context.actor.now.known.number ≡ s.actor_is.value.known.number =
     w4.number ∙ (w3.number ∙ (w2.number ∙ (w1.number
-    ∙ ap (λ (z : Standing). z.known.number) actor))) in
-    let backend : c.serve.new.crew.actor.now.known.number <
-    c.serve.new.crew.actor.now.known.config.backends =
+    ∙ ap (λ (z : ActorView). z.known.number) actor))) in
+    let backend : c.serve.new.context.actor.now.known.number <
+    c.serve.new.context.actor.now.known.config.backends =
     let z = was_open.backend in omega arith in
     record {
       desk = keeps.desk;
@@ -96,23 +97,23 @@ returns-clause-follows g c =
       found = refl;
       is_open = record {
         same = (
-          ap (λ (z : Standing). z.table) is
+          ap (λ (z : ActorView). z.table) is
               ∙ (c.serve.ensures.serves.same.0 ∙ (c.start_last.ensures.serves.same.0 ∙
               (c.submit.ensures.serves.same.0 ∙ (c.look_ahead.ensures.serves.same.0 ∙ (ap (λ (z :
-              Standing). z.table) actor ∙ (was_open.same.0 ∙ sym (ap (λ (z : Standing). z.table)
+              ActorView). z.table) actor ∙ (was_open.same.0 ∙ sym (ap (λ (z : ActorView). z.table)
               was))))))),
-          ap (λ (z : Standing). z.known.config) is
-              ∙ (config ∙ (was_open.same.1 ∙ sym (ap (λ (z : Standing). z.known.config) was))),
-          ap (λ (z : Standing). z.known.number) is
-              ∙ (number ∙ (was_open.same.2 ∙ sym (ap (λ (z : Standing). z.known.number) was))),
+          ap (λ (z : ActorView). z.known.config) is
+              ∙ (config ∙ (was_open.same.1 ∙ sym (ap (λ (z : ActorView). z.known.config) was))),
+          ap (λ (z : ActorView). z.known.number) is
+              ∙ (number ∙ (was_open.same.2 ∙ sym (ap (λ (z : ActorView). z.known.number) was))),
         );
-        backend = subst (λ (z : Standing). z.known.number < z.known.config.backends) (sym is)
+        backend = subst (λ (z : ActorView). z.known.number < z.known.config.backends) (sym is)
             backend;
-        between = subst (λ (z : Standing). IsBetween g.S.BlockSource.left g.W.World.told
+        between = subst (λ (z : ActorView). IsBetweenCalls g.S.BlockSource.left g.W.World.told
             g.W.World.relations g.W.World.handles z.known (record n { actor_is = c.of.result }))
             (sym is)
             (between_known g.S.BlockSource.left g.W.World.told g.W.World.relations
-            g.W.World.handles c.serve.new.crew.actor.now.known n c.of.result
+            g.W.World.handles c.serve.new.context.actor.now.known n c.of.result
             c.serve.ensures.between);
       };
     }

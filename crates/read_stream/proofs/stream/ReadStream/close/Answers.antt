@@ -1,11 +1,11 @@
 use Rattle.std.proofs.Common.{arith}
-use Rattle.read_stream.proofs.Closing.{at-rest}
+use Rattle.read_stream.proofs.ReadyIsAtRest.{at-rest}
 use Rattle.read_stream.proofs.stream.ReadStream.close.Goals as goal
 
 pub returns-clause-rest : goal.returns-clause-rest
 returns-clause-rest g c =
     let rest = at-rest c.args.self.scope g.W.World.told g.W.World.relations
-    c.end-taken_in.new.crew.actor.now.known c.end-taken_in.new.self.reads _ _
+    c.end-taken_in.new.context.actor.now.known c.end-taken_in.new.self.reads _ _
     c.end-taken_in.ensures.issued c.end-taken_in.ensures.free.0.ready in
     let none = rest.0 in (
       grind (arith, none),

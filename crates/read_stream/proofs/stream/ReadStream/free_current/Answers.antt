@@ -1,6 +1,6 @@
 use Rattle.std.proofs.Common.{◌∙◌, sym}
 use Rattle.read_stream.specs.declared.stream.ReadStream.{ReadStream}
-use Rattle.read_stream.proofs.Freeing.{underway_freed}
+use Rattle.read_stream.proofs.FreeRecordKeepsUnderway.{underway_freed}
 use Rattle.read_stream.proofs.stream.ReadStream.free_current.Goals as goal
 
 pub returns-in-Some-clause-underway : goal.returns-in-Some-clause-underway

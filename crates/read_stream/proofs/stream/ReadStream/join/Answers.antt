@@ -3,9 +3,9 @@ use Rattle.aio_callback.specs.Good.{IsGood}
 use Rattle.buf_pool.specs.Found.{pinned_page}
 use Rattle.buf_pool.specs.declared.descriptor.Tag.{Tag}
 use Rattle.read_stream.specs.declared.stream.ReadStream.{ReadStream}
-use Rattle.read_stream.specs.Open.{Reaches}
-use Rattle.read_stream.proofs.Serving.{serves_then}
-use Rattle.read_stream.proofs.Hands.{reaches_pinned}
+use Rattle.read_stream.specs.StreamState.{Reaches}
+use Rattle.read_stream.proofs.ContextAdvancedLaws.{context_advanced_then}
+use Rattle.read_stream.proofs.BlockAtHand.{reaches_pinned}
 use Rattle.read_stream.proofs.stream.ReadStream.join.Goals as goal
 
 pub read_block-requires-clause-underway : goal.read_block-requires-clause-underway
@@ -17,9 +17,9 @@ returns-in-Hit-clause-reaches g c =
     let n : ReadStream g.row.W.Denot g.row.S.Denot g.row.P.Denot = c.wait_for.new.self in
     subst (λ (z : ReadStream g.row.W.Denot g.row.S.Denot g.row.P.Denot).
     Reaches g.S.BlockSource.left g.W.World.told g.W.World.relations g.W.World.handles c.args.block
-    c.wait_for.new.crew.actor.now.known z) (sym c.hold.ensures)
+    c.wait_for.new.context.actor.now.known z) (sym c.hold.ensures)
     (reaches_pinned g.S.BlockSource.left g.W.World.told g.W.World.relations g.W.World.handles
-    c.wait_for.new.crew.actor.now.known n c.in-Hit.pin c.args.block
+    c.wait_for.new.context.actor.now.known n c.in-Hit.pin c.args.block
     (c.wait_for.ensures.stays.current ∙ c.requires.none.0)
     (subst (λ (z : Tag). IsGood g.W.World.told z.relation z.block (pinned_page c.in-Hit.pin))
     c.tag.ensures c.in-Hit.ensures.1)
@@ -27,4 +27,4 @@ returns-in-Hit-clause-reaches g c =
 
 pub returns-in-Busy-clause-serves : goal.returns-in-Busy-clause-serves
 returns-in-Busy-clause-serves g c =
-    serves_then c.read_block.ensures.serves c.wait_for.ensures.serves
+    context_advanced_then c.read_block.ensures.serves c.wait_for.ensures.serves

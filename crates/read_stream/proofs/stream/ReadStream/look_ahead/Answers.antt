@@ -1,12 +1,13 @@
 use Rattle.std.proofs.Common.{◌≡◌, ◌≤◌, Bool, true, false, cond, ap, sym, subst}
 use Rattle.std.proofs.Common.{◌∙◌, ⊎_elim, arith, List, length}
 use Rattle.aio_word.specs.declared.Known.{Known}
-use Rattle.read_stream.specs.declared.queue.Asked.{Asked}
+use Rattle.read_stream.specs.declared.queue.QueuedBlock.{QueuedBlock}
 use Rattle.read_stream.specs.declared.stream.ReadStream.{ReadStream}
-use Rattle.read_stream.specs.Crews.{IsHanded}
-use Rattle.read_stream.proofs.Serving.{handed_then, serves_same, serves_then}
-use Rattle.read_stream.proofs.Credits.{all_idle}
-use Rattle.read_stream.proofs.Steady.{stays_same, stays_then}
+use Rattle.read_stream.specs.IoContexts.{IsValidContext}
+use Rattle.read_stream.proofs.ContextAdvancedLaws.{valid_context_then, context_advanced_refl}
+use Rattle.read_stream.proofs.ContextAdvancedLaws.{context_advanced_then}
+use Rattle.read_stream.proofs.IoBudget.{all_idle}
+use Rattle.read_stream.proofs.StreamInvariantLaws.{consumer_unchanged_refl, consumer_unchanged_then}
 use Rattle.read_stream.proofs.stream.ReadStream.look_ahead.Goals as goal
 
 at-most : (b : Bool) → cond b 0 1 ≤ 1
@@ -24,9 +25,9 @@ is-true false e = absurd (cc)
 pub loop-self-init : goal.loop-self-init
 loop-self-init g c = record {
   handed = c.requires.handed;
-  serves = serves_same c.args.crew.now;
+  serves = context_advanced_refl c.args.context.now;
   underway = c.requires.underway;
-  stays = stays_same c.args.self.now;
+  stays = consumer_unchanged_refl c.args.self.now;
 }
 
 pub loop-self-smaller : goal.loop-self-smaller
@@ -44,11 +45,11 @@ loop-self-smaller g c =
 pub returns-clause-ended : goal.returns-clause-ended
 returns-clause-ended g c = λ none no_record.
     let s : ReadStream g.row.W.Denot g.row.S.Denot g.row.P.Denot = c.loop-self.self in
-    let p : Known = c.loop-self.crew.actor.now.known in
+    let p : Known = c.loop-self.context.actor.now.known in
     let u = c.loop-self.invariant.underway in
     let not = c.loop-self-test.false in
     u.going.over (c.wants_more.ensures.idle (λ (t : c.wants_more.result ≡ true). cc)
-    (u.going.ahead ∙ ap (λ (z : List (Asked g.row.P.Denot)). length z) none)
+    (u.going.ahead ∙ ap (λ (z : List (QueuedBlock g.row.P.Denot)). length z) none)
     (all_idle g.S.BlockSource.left g.W.World.told g.W.World.relations g.W.World.handles p p s s u
     none no_record))
 
@@ -56,11 +57,12 @@ pub loop-self-preserved : goal.loop-self-preserved
 loop-self-preserved g c =
     let inv = c.loop-self.invariant in
     let stays = c.take_next.ensures.stays in
-    let handed = handed_then inv.handed c.take_next.ensures.serves in
+    let handed = valid_context_then inv.handed c.take_next.ensures.serves in
     record {
-      handed = subst (λ z. IsHanded g.E.Execute.told g.E.Execute.relations g.W.World.told
-          g.W.World.relations z c.take_next.new.crew) (sym stays.keeps.scope) handed;
-      serves = serves_then c.take_next.ensures.serves inv.serves;
+      handed = subst (λ z. IsValidContext g.E.Execute.told g.E.Execute.relations g.W.World.told
+          g.W.World.relations z c.take_next.new.context) (sym stays.keeps.scope) handed;
+      serves = context_advanced_then c.take_next.ensures.serves inv.serves;
       underway = c.take_next.ensures.underway;
-      stays = stays_then c.args.self.now c.loop-self.self c.take_next.new.self inv.stays stays;
+      stays = consumer_unchanged_then c.args.self.now c.loop-self.self c.take_next.new.self
+          inv.stays stays;
     }

@@ -1,18 +1,18 @@
 use Rattle.std.proofs.Common.{◌+◌, ◌-◌, cond}
-use Rattle.read_stream.specs.Crews.{IsHanded, Serves}
-use Rattle.read_stream.specs.Open.{Underway}
-use Rattle.read_stream.specs.Changes.{Stays}
+use Rattle.read_stream.specs.IoContexts.{IsValidContext, ContextAdvanced}
+use Rattle.read_stream.specs.StreamState.{Underway}
+use Rattle.read_stream.specs.Changes.{ConsumerUnchanged}
 use Rattle.read_stream.proofs.stream.ReadStream.look_ahead.Given as goal
 
 abbrev pub invariant-loop-self : goal.invariant-loop-self
 invariant-loop-self g l = record {
-  handed : IsHanded g.E.Execute.told g.E.Execute.relations g.W.World.told g.W.World.relations
-      l.self.scope l.crew;
-  serves : Serves g.E.Execute.told g.E.Execute.relations g.E.Execute.reads g.E.Execute.faults
-      g.M.Method.stands_on l.initial.crew l.crew;
+  handed : IsValidContext g.E.Execute.told g.E.Execute.relations g.W.World.told g.W.World.relations
+      l.self.scope l.context;
+  serves : ContextAdvanced g.E.Execute.told g.E.Execute.relations g.E.Execute.reads
+      g.E.Execute.faults g.M.Method.stands_on l.initial.context l.context;
   underway : Underway g.S.BlockSource.left g.W.World.told g.W.World.relations g.W.World.handles
-      l.crew.actor.now.known l.self;
-  stays : Stays l.initial.self l.self;
+      l.context.actor.now.known l.self;
+  stays : ConsumerUnchanged l.initial.self l.self;
 }
 
 abbrev pub decreases-loop-self : goal.decreases-loop-self

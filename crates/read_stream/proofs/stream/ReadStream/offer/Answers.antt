@@ -1,42 +1,45 @@
 use Rattle.std.proofs.Common.{◌++◌, ℕ, List, [], ◌∷◌, ap, arith}
 use Rattle.std.proofs.Common.{subst, ◌∙◌}
-use Rattle.read_plan.specs.Plans.{Planned}
+use Rattle.read_plan.specs.Plans.{PlanView}
 use Rattle.read_plan.specs.Runs.{IsRun}
 use Rattle.read_plan.specs.declared.runs.Offer.{Offer}
 use Rattle.read_plan.specs.declared.runs.Run.{Run}
 use Rattle.read_stream.specs.declared.stream.ReadStream.{ReadStream}
-use Rattle.read_stream.specs.Wanted.{pending_in}
-use Rattle.read_stream.specs.Hands.{rest_of}
-use Rattle.read_stream.proofs.Plans.{same_plan, underway_plan}
-use Rattle.read_stream.proofs.Credits.{may_start}
-use Rattle.read_stream.proofs.Starting.{underway_started}
-use Rattle.read_stream.proofs.Wants.{handed_out, none_out, offered}
+use Rattle.read_stream.specs.WantedBlocks.{pending_blocks}
+use Rattle.read_stream.specs.PagesAtHand.{record_blocks_left}
+use Rattle.read_stream.proofs.PlanChangeKeepsUnderway.{same_plan, underway_plan}
+use Rattle.read_stream.proofs.IoBudget.{may_start}
+use Rattle.read_stream.proofs.StartKeepsUnderway.{underway_started}
+use Rattle.read_stream.proofs.WantedBlocks.{run_blocks_out, none_out, offer_keeps_blocks}
 use Rattle.read_stream.proofs.stream.ReadStream.offer.Goals as goal
 
-pub start-requires-clause-credit : goal.start-requires-clause-credit
-start-requires-clause-credit g c =
+pub start-requires-clause-io_budget : goal.start-requires-clause-io_budget
+start-requires-clause-io_budget g c =
     (may_start g.S.BlockSource.left g.W.World.told g.W.World.relations g.W.World.handles
-    c.args.crew.now.actor.now.known c.args.crew.now.actor.now.known c.args.self.now c.args.self.now
+    c.args.context.now.actor.now.known c.args.context.now.actor.now.known c.args.self.now
+    c.args.self.now
     (c.args.block ∷ []) c.requires.underway (omega arith)).0
 
 pub start-requires-clause-room : goal.start-requires-clause-room
 start-requires-clause-room g c =
     (may_start g.S.BlockSource.left g.W.World.told g.W.World.relations g.W.World.handles
-    c.args.crew.now.actor.now.known c.args.crew.now.actor.now.known c.args.self.now c.args.self.now
+    c.args.context.now.actor.now.known c.args.context.now.actor.now.known c.args.self.now
+    c.args.self.now
     (c.args.block ∷ []) c.requires.underway (omega arith)).1
 
 pub returns-in-Flush-clause-underway : goal.returns-in-Flush-clause-underway
 returns-in-Flush-clause-underway g c =
     let s : ReadStream g.row.W.Denot g.row.S.Denot g.row.P.Denot = c.args.self.now in
-    let pl : Planned = c.offer.new.self in
+    let pl : PlanView = c.offer.new.self in
     let run : Run = c.in-Flush.run' in
     underway_started g.S.BlockSource.left g.W.World.told g.W.World.relations g.W.World.handles
-    c.args.crew.now.actor.now.known c.start.new.crew.actor.now.known s c.start.new.self _ _ _ _ pl
+    c.args.context.now.actor.now.known c.start.new.context.actor.now.known s c.start.new.self _ _ _
+    _ pl
     run (c.args.block ∷ []) [] c.requires.underway
     (same_plan s.plan pl pl.pending c.offer.ensures.rest)
-    (offered s.plan.combine s.plan.segment c.args.block s.plan.pending pl.pending c.offer.result
-    c.offer.ensures.answer
-    ∙ ap (λ (z : Offer). handed_out z ++ (pending_in pl.pending ++ [])) c.in-Flush.is)
+    (offer_keeps_blocks s.plan.combine s.plan.segment c.args.block s.plan.pending pl.pending
+    c.offer.result c.offer.ensures.answer
+    ∙ ap (λ (z : Offer). run_blocks_out z ++ (pending_blocks pl.pending ++ [])) c.in-Flush.is)
     (subst (λ (z : ℕ). IsRun z run) c.requires.underway.going.combine c.in-Flush.ensures.flushed)
     c.start.ensures.starts c.requires.free c.start.ensures.serves.went c.start.ensures.issued
     c.start.ensures.few c.start.ensures.runs
@@ -44,12 +47,13 @@ returns-in-Flush-clause-underway g c =
 pub start_whole-requires-clause-underway : goal.start_whole-requires-clause-underway
 start_whole-requires-clause-underway g c =
     let s : ReadStream g.row.W.Denot g.row.S.Denot g.row.P.Denot = c.args.self.now in
-    let pl : Planned = c.offer.new.self in
+    let pl : PlanView = c.offer.new.self in
     underway_plan g.S.BlockSource.left g.W.World.told g.W.World.relations g.W.World.handles
-    c.args.crew.now.actor.now.known s pl (rest_of s.current s.step) (c.args.block ∷ []) [] 0
+    c.args.context.now.actor.now.known s pl (record_blocks_left s.current s.step)
+    (c.args.block ∷ []) [] 0
     (same_plan s.plan pl pl.pending c.offer.ensures.rest)
-    (offered s.plan.combine s.plan.segment c.args.block s.plan.pending pl.pending c.offer.result
-    c.offer.ensures.answer
-    ∙ ap (λ (z : List ℕ). z ++ (pending_in pl.pending ++ []))
+    (offer_keeps_blocks s.plan.combine s.plan.segment c.args.block s.plan.pending pl.pending
+    c.offer.result c.offer.ensures.answer
+    ∙ ap (λ (z : List ℕ). z ++ (pending_blocks pl.pending ++ []))
     (none_out c.offer.result c.in-Start.is))
     c.requires.underway

@@ -1,23 +1,24 @@
 use Rattle.std.proofs.Common.{◌≡◌, ◌<◌, ◌+◌, ℕ, length, [], ◌++◌, List, map, refl, sym}
 use Rattle.std.proofs.Common.{ap, ◌∙◌, arith, subst}
 use Rattle.aio_word.specs.declared.Known.{Known}
-use Rattle.aio_handle.specs.Closing.{IsAtRest}
+use Rattle.aio_handle.specs.Closing.{HasNoTokens}
 use Rattle.aio_handle.specs.Free.{IsRoom}
-use Rattle.aio_handle.specs.Shown.{Standing}
-use Rattle.aio_callback.specs.Reading.{Reading}
-use Rattle.read_plan.specs.Plans.{Planned}
+use Rattle.aio_handle.specs.ContractViews.{ActorView}
+use Rattle.aio_callback.specs.ReadIoView.{ReadIoView}
+use Rattle.read_plan.specs.Plans.{PlanView}
 use Rattle.page_check.specs.SynchronousAnswer.{reader_of}
 use Rattle.read_stream.specs.declared.desk.Desk.{Desk}
 use Rattle.read_stream.specs.declared.reads.Reads.{Reads}
 use Rattle.read_stream.specs.declared.scope.Scope.{Scope}
-use Rattle.read_stream.specs.declared.queue.Asked.{Asked}
-use Rattle.read_stream.specs.Issued.{AreFor, Issued}
+use Rattle.read_stream.specs.declared.queue.QueuedBlock.{QueuedBlock}
+use Rattle.read_stream.specs.StreamIos.{ReadsForRuns, Issued}
 use Rattle.read_stream.specs.declared.queue.Want.{Want}
-use Rattle.read_stream.specs.Wanted.{IsWant, asked_of, block_of, blocks_in, pending_in, runs_in}
-use Rattle.read_stream.proofs.Flown.{are-for-none}
-use Rattle.read_stream.proofs.Lists.{each-none}
-use Rattle.read_stream.proofs.Opening.{opened-issued, none-given, begun}
-use Rattle.read_stream.proofs.Rooms.{room_below, room_is_one}
+use Rattle.read_stream.specs.WantedBlocks.{IsWant, source_item, block_number, wanted_blocks}
+use Rattle.read_stream.specs.WantedBlocks.{pending_blocks, wanted_runs}
+use Rattle.read_stream.proofs.ReadsMatchRuns.{reads-none}
+use Rattle.read_stream.proofs.PushedList.{each-none}
+use Rattle.read_stream.proofs.NewStreamIsIssued.{new-stream-issued, none-given, reset_reads}
+use Rattle.read_stream.proofs.HandleLivesLeft.{room_below, room_is_one}
 use Rattle.read_stream.proofs.stream.ReadStream.open.Goals as goal
 
 pub returns-clause-is_open : goal.returns-clause-is_open
@@ -26,16 +27,16 @@ returns-clause-is_open g c =
     let P : Type 0 = g.row.P.Denot in
     let d : Desk W P = c.args.desk.now in
     let e : Desk W P = c.begin.new.self in
-    let is : e ≡ record d { reads = begun d.reads } = c.begin.ensures in
+    let is : e ≡ record d { reads = reset_reads d.reads } = c.begin.ensures in
     let combine : e.combine ≡ d.combine = ap (λ (z : Desk W P). z.combine) is in
     let ios : e.ios ≡ d.ios = ap (λ (z : Desk W P). z.ios) is in
     let limit : e.limit ≡ d.limit = ap (λ (z : Desk W P). z.limit) is in
     let segment : e.segment ≡ d.segment = ap (λ (z : Desk W P). z.segment) is in
     let zeroes : e.zero ≡ d.zero = ap (λ (z : Desk W P). z.zero) is in
-    let reads : e.reads ≡ begun d.reads = ap (λ (z : Desk W P). z.reads) is in
+    let reads : e.reads ≡ reset_reads d.reads = ap (λ (z : Desk W P). z.reads) is in
     let items : e.queue.items ≡ [] =
     ap (λ (z : Desk W P). z.queue.items) is ∙ c.requires.desk.queue in
-    let none : length e.queue.items ≡ 0 = ap (λ (z : List (Asked P)). length z) items in
+    let none : length e.queue.items ≡ 0 = ap (λ (z : List (QueuedBlock P)). length z) items in
     let capacity : e.queue.capacity ≡ d.queue.capacity =
     ap (λ (z : Desk W P). z.queue.capacity) is in
     let free : length e.reads.free.items ≡ d.ios + 1 =
@@ -43,17 +44,17 @@ returns-clause-is_open g c =
     let b : length e.reads.batch ≡ 0 =
     ap (λ (z : Reads W). length z.batch) reads
     ∙ ap (λ (z : List _). length z) c.requires.desk.ready.batch in
-    let f : length e.reads.flights.items ≡ 0 =
-    ap (λ (z : Reads W). length z.flights.items) reads
-    ∙ ap (λ (z : List _). length z) c.requires.desk.ready.flights in
+    let f : length e.reads.in_flight.items ≡ 0 =
+    ap (λ (z : Reads W). length z.in_flight.items) reads
+    ∙ ap (λ (z : List _). length z) c.requires.desk.ready.in_flight in
     let n : length e.reads.ended.items ≡ 0 =
     ap (λ (z : Reads W). length z.ended.items) reads
-    ∙ ap (λ (z : List Reading). length z) c.requires.desk.ready.ended in
+    ∙ ap (λ (z : List ReadIoView). length z) c.requires.desk.ready.ended in
     let taken : e.reads.taken_in ≡ 0 = ap (λ (z : Reads W). z.taken_in) reads in
-    let credit : e.reads.credit ≡ 0 = ap (λ (z : Reads W). z.credit) reads in
-    let a : Standing = c.args.actor.now in
-    let was : Standing = c.of.result.value in
-    let now : Standing = c.of-2.result.value in
+    let io_budget : e.reads.io_budget ≡ 0 = ap (λ (z : Reads W). z.io_budget) reads in
+    let a : ActorView = c.args.actor.now in
+    let was : ActorView = c.of.result.value in
+    let now : ActorView = c.of-2.result.value in
     let is-was : was ≡ a = c.of.ensures in
     let is-now : now ≡ a = c.of-2.ensures in
     let small = room_below a.known.config a.known c.room.result c.requires.backend c.room.ensures in
@@ -66,11 +67,11 @@ returns-clause-is_open g c =
       most = c.room.result;
       was = c.of.result;
     } in
-    let rest : IsAtRest was.known = subst (λ (z : Standing). IsAtRest z.known) (sym is-was)
+    let rest : HasNoTokens was.known = subst (λ (z : ActorView). HasNoTokens z.known) (sym is-was)
     c.requires.rest in
-    let issued : Issued scope g.W.World.told g.W.World.relations was.known (begun d.reads) =
-    opened-issued scope g.W.World.told g.W.World.relations d.reads c.requires.desk.ready rest
-    small (subst (λ (z : Standing). IsRoom z.known.config z.known c.room.result) (sym is-was)
+    let issued : Issued scope g.W.World.told g.W.World.relations was.known (reset_reads d.reads) =
+    new-stream-issued scope g.W.World.told g.W.World.relations d.reads c.requires.desk.ready rest
+    small (subst (λ (z : ActorView). IsRoom z.known.config z.known c.room.result) (sym is-was)
     c.room.ensures) in
     let (room, is-room, long) = c.requires.room in
     let below = room_is_one a.known.config a.known c.room.result room c.requires.backend
@@ -83,21 +84,21 @@ returns-clause-is_open g c =
     let plan = c.new-plan.ensures.plan in
     let wants : e.wants.items ≡ [] =
     ap (λ (z : Desk W P). z.wants.items) is ∙ c.requires.desk.wants in
-    let no-runs : length (runs_in e.wants.items) ≡ 0 =
-    ap (λ (z : List Want). length (runs_in z)) wants in
+    let no-runs : length (wanted_runs e.wants.items) ≡ 0 =
+    ap (λ (z : List Want). length (wanted_runs z)) wants in
     let want-capacity : e.wants.capacity ≡ d.wants.capacity =
     ap (λ (z : Desk W P). z.wants.capacity) is in
-    let pending : pending_in c.new-plan.result.pending ≡ [] =
-    ap (λ (z : Planned). pending_in z.pending) plan in
+    let pending : pending_blocks c.new-plan.result.pending ≡ [] =
+    ap (λ (z : PlanView). pending_blocks z.pending) plan in
     record {
       same = (
-        ap (λ (z : Standing). z.table) is-now ∙ sym (ap (λ (z : Standing). z.table) is-was),
-        ap (λ (z : Standing). z.known.config) is-now
-            ∙ sym (ap (λ (z : Standing). z.known.config) is-was),
-        ap (λ (z : Standing). z.known.number) is-now
-            ∙ sym (ap (λ (z : Standing). z.known.number) is-was),
+        ap (λ (z : ActorView). z.table) is-now ∙ sym (ap (λ (z : ActorView). z.table) is-was),
+        ap (λ (z : ActorView). z.known.config) is-now
+            ∙ sym (ap (λ (z : ActorView). z.known.config) is-was),
+        ap (λ (z : ActorView). z.known.number) is-now
+            ∙ sym (ap (λ (z : ActorView). z.known.number) is-was),
       );
-      backend = subst (λ (z : Standing). z.known.number < z.known.config.backends) (sym is-now)
+      backend = subst (λ (z : ActorView). z.known.number < z.known.config.backends) (sym is-now)
           c.requires.backend;
       between = record {
         steady = record {
@@ -109,7 +110,7 @@ returns-clause-is_open g c =
           wants = let l = c.requires.desk.most_wants in omega arith;
           short = omega arith;
           issued = subst (λ (z : Known). Issued scope g.W.World.told g.W.World.relations z e.reads)
-              (ap (λ (z : Standing). z.known) (is-was ∙ sym is-now))
+              (ap (λ (z : ActorView). z.known) (is-was ∙ sym is-now))
               (subst (λ (z : Reads W). Issued scope g.W.World.told g.W.World.relations was.known z)
               (sym reads) issued);
           staged = omega arith;
@@ -121,28 +122,29 @@ returns-clause-is_open g c =
           few = omega arith;
           readable = none-given (reader_of d.zero g.W.World.told) _;
           blocks = ap
-              (λ (z : List (Asked P)). map asked_of z ++ g.S.BlockSource.left c.args.source) items
+              (λ (z : List (QueuedBlock P)). map source_item z
+              ++ g.S.BlockSource.left c.args.source) items
               ∙ sym (ap (λ z. g.S.BlockSource.left z) src);
           over = λ x. absurd (cc);
-          front = ap (λ (z : List (Asked P)). map block_of z) items
-              ∙ sym (ap (λ (z : List Want). blocks_in z
-              ++ (pending_in c.new-plan.result.pending ++ [])) wants
+          front = ap (λ (z : List (QueuedBlock P)). map block_number z) items
+              ∙ sym (ap (λ (z : List Want). wanted_blocks z
+              ++ (pending_blocks c.new-plan.result.pending ++ [])) wants
               ∙ ap (λ (z : List ℕ). z ++ []) pending);
           wants = each-none (λ (x : Want). IsWant e.combine g.W.World.handles x) e.wants.items
               wants;
-          runs = subst (λ (z : List Want). AreFor scope now.known e.reads (runs_in z)) (sym wants)
-              (are-for-none scope now.known e.reads
+          runs = subst (λ (z : List Want). ReadsForRuns scope now.known e.reads (wanted_runs z))
+              (sym wants) (reads-none scope now.known e.reads
               (ap (λ (z : Reads W). z.ended.items) reads ∙ c.requires.desk.ready.ended)
-              (ap (λ (z : Reads W). z.flights.items) reads ∙ c.requires.desk.ready.flights)
+              (ap (λ (z : Reads W). z.in_flight.items) reads ∙ c.requires.desk.ready.in_flight)
               (ap (λ (z : Reads W). z.batch) reads ∙ c.requires.desk.ready.batch));
-          credit = omega arith;
-          ahead = ap (λ (z : Planned). z.blocks_ahead) plan ∙ sym none;
+          io_budget = omega arith;
+          ahead = ap (λ (z : PlanView). z.blocks_ahead) plan ∙ sym none;
           within = omega arith;
-          in_use = (let z = ap (λ (z : Planned). z.ios_in_progress) plan in omega arith);
+          in_use = (let z = ap (λ (z : PlanView). z.ios_in_progress) plan in omega arith);
           spare = omega arith;
-          combine = ap (λ (z : Planned). z.combine) plan ∙ sym combine;
-          max_ios = ap (λ (z : Planned). z.max_ios) plan ∙ sym ios;
-          limit = ap (λ (z : Planned). z.limit) plan ∙ sym limit;
+          combine = ap (λ (z : PlanView). z.combine) plan ∙ sym combine;
+          max_ios = ap (λ (z : PlanView). z.max_ios) plan ∙ sym ios;
+          limit = ap (λ (z : PlanView). z.limit) plan ∙ sym limit;
           most = omega arith;
         };
         lent = (refl, refl);

@@ -2,39 +2,40 @@ use Rattle.std.proofs.Common.{◌≡◌, ◌+◌, ◌-◌, ℕ, [], length, ap, 
 use Rattle.std.specs.Prelude.{Option, Some}
 use Rattle.std.specs.List.{range_with_len}
 use Rattle.std.proofs.lemmas.List.FromFn.{length-range_with_len}
-use Rattle.aio_callback.specs.Reading.{Reading}
+use Rattle.aio_callback.specs.ReadIoView.{ReadIoView}
 use Rattle.read_plan.specs.declared.runs.Run.{Run}
 use Rattle.read_stream.specs.declared.stream.ReadStream.{ReadStream}
-use Rattle.read_stream.specs.Hands.{count_some, hand_from}
-use Rattle.read_stream.specs.Open.{UnderwayBut}
-use Rattle.read_stream.proofs.Fronts.{may_read}
-use Rattle.read_stream.proofs.SameQueues.{taken_out}
-use Rattle.read_stream.proofs.Hands.{behind_first}
-use Rattle.read_stream.proofs.Reaching.{reaches_read}
+use Rattle.read_stream.specs.PagesAtHand.{count_some, blocks_at_hand}
+use Rattle.read_stream.specs.StreamState.{UnderwayWith}
+use Rattle.read_stream.proofs.QueueFront.{may_read}
+use Rattle.read_stream.proofs.SameQueueKeepsUnderway.{same_queue_taken_out}
+use Rattle.read_stream.proofs.BlockAtHand.{behind_first}
+use Rattle.read_stream.proofs.RecordReachesBlock.{reaches_read}
 use Rattle.read_stream.proofs.stream.ReadStream.read_rest.Goals as goal
 
-pub read_run-requires-clause-credit : goal.read_run-requires-clause-credit
-read_run-requires-clause-credit g c =
+pub read_run-requires-clause-io_budget : goal.read_run-requires-clause-io_budget
+read_run-requires-clause-io_budget g c =
     let s : ReadStream g.row.W.Denot g.row.S.Denot g.row.P.Denot = c.args.self.now in
-    let io : Reading = c.in-Some.io in
+    let io : ReadIoView = c.in-Some.io in
     let is : s.current ≡ Some io = sym c.take.ensures.value ∙ c.in-Some.is in
-    let (no_pin, has, behind, paid) = behind_first g.W.World.told s.scope.relation c.args.block
+    let (no_pin, has, behind, spent) = behind_first g.W.World.told s.scope.relation c.args.block
     s.pin s.current io c.requires.reaches.at_hand is c.requires.behind in
-    let many : length (hand_from s.current c.args.block) ≡ io.first + io.count - c.args.block =
-    ap (λ (z : Option Reading). length (hand_from z c.args.block)) is
+    let many : length (blocks_at_hand s.current c.args.block) ≡ io.first + io.count - c.args.block =
+    ap (λ (z : Option ReadIoView). length (blocks_at_hand z c.args.block)) is
     ∙ length-range_with_len c.args.block (io.first + io.count - c.args.block) in
     may_read g.S.BlockSource.left g.W.World.told g.W.World.relations g.W.World.handles
-    c.args.crew.now.actor.now.known s (hand_from s.current c.args.block)
-    (subst (λ (z : ℕ). UnderwayBut g.S.BlockSource.left g.W.World.told g.W.World.relations
-    g.W.World.handles (hand_from s.current c.args.block) [] z c.args.crew.now.actor.now.known s)
-    paid c.requires.reaches.underway) (omega arith)
+    c.args.context.now.actor.now.known s (blocks_at_hand s.current c.args.block)
+    (subst (λ (z : ℕ). UnderwayWith g.S.BlockSource.left g.W.World.told g.W.World.relations
+    g.W.World.handles (blocks_at_hand s.current c.args.block) [] z
+    c.args.context.now.actor.now.known s)
+    spent c.requires.reaches.underway) (omega arith)
 
 pub returns-clause-reaches : goal.returns-clause-reaches
 returns-clause-reaches g c =
     let s : ReadStream g.row.W.Denot g.row.S.Denot g.row.P.Denot = c.args.self.now in
-    let io : Reading = c.in-Some.io in
+    let io : ReadIoView = c.in-Some.io in
     let is : s.current ≡ Some io = sym c.take.ensures.value ∙ c.in-Some.is in
-    let (no_pin, has, behind, paid) = behind_first g.W.World.told s.scope.relation c.args.block
+    let (no_pin, has, behind, spent) = behind_first g.W.World.told s.scope.relation c.args.block
     s.pin s.current io c.requires.reaches.at_hand is c.requires.behind in
     let counts = c.count.ensures.value in
     let starts = c.first.ensures in
@@ -46,15 +47,18 @@ returns-clause-reaches g c =
     let m : ReadStream g.row.W.Denot g.row.S.Denot g.row.P.Denot =
     record s { current = c.take.new.self } in
     let all = c.requires.reaches.underway.steady.all in
-    let one : count_some s.current ≡ 1 = ap (λ (z : Option Reading). count_some z) is in
+    let one : count_some s.current ≡ 1 = ap (λ (z : Option ReadIoView). count_some z) is in
     reaches_read g.S.BlockSource.left g.W.World.told g.W.World.relations g.W.World.handles
-    c.args.crew.now.actor.now.known c.read_run.new.crew.actor.now.known s m c.read_run.new.self run
-    c.args.block (hand_from s.current c.args.block) (taken_out s c.take.new.self) refl refl refl
+    c.args.context.now.actor.now.known c.read_run.new.context.actor.now.known s m
+    c.read_run.new.self run
+    c.args.block (blocks_at_hand s.current c.args.block) (same_queue_taken_out s c.take.new.self)
+    refl refl refl
     c.requires.reaches.underway.going.in_use (omega arith) no_pin c.read_run.ensures.runs
-    (subst (λ (z : ℕ). UnderwayBut g.S.BlockSource.left g.W.World.told g.W.World.relations
-    g.W.World.handles (hand_from s.current c.args.block) [] z c.args.crew.now.actor.now.known s)
-    paid c.requires.reaches.underway) refl (omega arith)
+    (subst (λ (z : ℕ). UnderwayWith g.S.BlockSource.left g.W.World.told g.W.World.relations
+    g.W.World.handles (blocks_at_hand s.current c.args.block) [] z
+    c.args.context.now.actor.now.known s)
+    spent c.requires.reaches.underway) refl (omega arith)
     (ap (λ (z : ℕ). range_with_len c.args.block z) many
-    ∙ sym (ap (λ (z : Option Reading). hand_from z c.args.block) is))
+    ∙ sym (ap (λ (z : Option ReadIoView). blocks_at_hand z c.args.block) is))
     c.read_run.ensures.issued c.read_run.ensures.some c.read_run.ensures.record
     c.read_run.ensures.reads

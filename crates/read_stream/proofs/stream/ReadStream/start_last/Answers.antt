@@ -1,5 +1,5 @@
 use Rattle.std.proofs.Common.{[]}
-use Rattle.read_stream.proofs.Credits.{all_free}
+use Rattle.read_stream.proofs.IoBudget.{all_free}
 use Rattle.read_stream.proofs.stream.ReadStream.start_last.Goals as goal
 
 pub start_pending-requires-clause-underway : goal.start_pending-requires-clause-underway
@@ -13,5 +13,5 @@ pub returns-else-may_start_last-clause-none : goal.returns-else-may_start_last-c
 returns-else-may_start_last-clause-none g c = λ none no_record.
     let may = c.may_start_last.ensures.alone none no_record
     (all_free g.S.BlockSource.left g.W.World.told g.W.World.relations g.W.World.handles
-    c.args.crew.now.actor.now.known c.args.self.now c.requires.underway none no_record) in
+    c.args.context.now.actor.now.known c.args.self.now c.requires.underway none no_record) in
     let not = c.if-may_start_last.false in absurd (cc)

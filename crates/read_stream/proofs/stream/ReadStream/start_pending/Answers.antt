@@ -1,22 +1,22 @@
 use Rattle.std.proofs.Common.{◌++◌, ℕ, sym, ap, arith, subst, ◌∙◌}
 use Rattle.std.specs.Prelude.{Option, None}
-use Rattle.read_plan.specs.Plans.{Planned}
-use Rattle.read_plan.specs.Runs.{IsRun, blocks_of}
+use Rattle.read_plan.specs.Plans.{PlanView}
+use Rattle.read_plan.specs.Runs.{IsRun, run_blocks}
 use Rattle.read_plan.specs.declared.runs.Run.{Run}
 use Rattle.read_stream.specs.declared.stream.ReadStream.{ReadStream}
-use Rattle.read_stream.specs.Wanted.{pending_in}
-use Rattle.read_stream.proofs.Plans.{same_plan}
-use Rattle.read_stream.proofs.Credits.{may_start, some_pending}
-use Rattle.read_stream.proofs.Starting.{underway_started}
+use Rattle.read_stream.specs.WantedBlocks.{pending_blocks}
+use Rattle.read_stream.proofs.PlanChangeKeepsUnderway.{same_plan}
+use Rattle.read_stream.proofs.IoBudget.{may_start, some_pending}
+use Rattle.read_stream.proofs.StartKeepsUnderway.{underway_started}
 use Rattle.read_stream.proofs.stream.ReadStream.start_pending.Goals as goal
 
-pub start-requires-clause-credit : goal.start-requires-clause-credit
-start-requires-clause-credit g c =
+pub start-requires-clause-io_budget : goal.start-requires-clause-io_budget
+start-requires-clause-io_budget g c =
     let s : ReadStream g.row.W.Denot g.row.S.Denot g.row.P.Denot = c.args.self.now in
     let some = some_pending s.plan.combine s.plan.pending c.in-Some.run'
     (sym c.take_pending.ensures.run ∙ c.in-Some.is) c.in-Some.ensures.each in
     (may_start g.S.BlockSource.left g.W.World.told g.W.World.relations g.W.World.handles
-    c.args.crew.now.actor.now.known c.args.crew.now.actor.now.known s s c.requires.underway.0
+    c.args.context.now.actor.now.known c.args.context.now.actor.now.known s s c.requires.underway.0
     c.requires.underway.1 (omega arith)).0
 
 pub start-requires-clause-room : goal.start-requires-clause-room
@@ -25,20 +25,22 @@ start-requires-clause-room g c =
     let some = some_pending s.plan.combine s.plan.pending c.in-Some.run'
     (sym c.take_pending.ensures.run ∙ c.in-Some.is) c.in-Some.ensures.each in
     (may_start g.S.BlockSource.left g.W.World.told g.W.World.relations g.W.World.handles
-    c.args.crew.now.actor.now.known c.args.crew.now.actor.now.known s s c.requires.underway.0
+    c.args.context.now.actor.now.known c.args.context.now.actor.now.known s s c.requires.underway.0
     c.requires.underway.1 (omega arith)).1
 
 pub returns-in-Some-clause-underway : goal.returns-in-Some-clause-underway
 returns-in-Some-clause-underway g c = λ behind u.
     let s : ReadStream g.row.W.Denot g.row.S.Denot g.row.P.Denot = c.args.self.now in
-    let pl : Planned = c.take_pending.new.self in
+    let pl : PlanView = c.take_pending.new.self in
     let run : Run = c.in-Some.run' in
     let is = c.take_pending.ensures.rest in
     underway_started g.S.BlockSource.left g.W.World.told g.W.World.relations g.W.World.handles
-    c.args.crew.now.actor.now.known c.start.new.crew.actor.now.known s c.start.new.self _ _ _ _ pl
+    c.args.context.now.actor.now.known c.start.new.context.actor.now.known s c.start.new.self _ _ _
+    _ pl
     run behind behind u (same_plan s.plan pl None is)
-    (ap (λ (z : Option Run). pending_in z ++ behind) (sym c.take_pending.ensures.run ∙ c.in-Some.is)
-    ∙ sym (ap (λ (z : Planned). blocks_of run ++ (pending_in z.pending ++ behind)) is))
+    (ap (λ (z : Option Run). pending_blocks z ++ behind)
+    (sym c.take_pending.ensures.run ∙ c.in-Some.is)
+    ∙ sym (ap (λ (z : PlanView). run_blocks run ++ (pending_blocks z.pending ++ behind)) is))
     (subst (λ (z : ℕ). IsRun z run) u.going.combine c.in-Some.ensures.each)
     c.start.ensures.starts c.requires.free c.start.ensures.serves.went c.start.ensures.issued
     c.start.ensures.few c.start.ensures.runs

@@ -2,41 +2,41 @@ use Rattle.std.proofs.Common.{◌++◌, [], ap, refl, sym}
 use Rattle.std.specs.Prelude.{Option}
 use Rattle.aio_word.specs.declared.Known.{Known}
 use Rattle.read_plan.specs.declared.runs.Run.{Run}
-use Rattle.read_stream.specs.declared.crew.Crew.{Crew}
+use Rattle.read_stream.specs.declared.io_context.IoContext.{IoContext}
 use Rattle.read_stream.specs.declared.reads.Reads.{Reads}
 use Rattle.read_stream.specs.declared.stream.ReadStream.{ReadStream}
-use Rattle.read_stream.specs.Wanted.{pending_in}
-use Rattle.read_stream.proofs.Flown.{are-for-later}
-use Rattle.read_stream.proofs.Going.{went_taking_up}
-use Rattle.read_stream.proofs.Serving.{serves_by, serves_then}
-use Rattle.read_stream.proofs.Submitted.{issued-taking-up}
-use Rattle.read_stream.proofs.SameQueues.{underway_reads}
-use Rattle.read_stream.proofs.Plans.{underway_plan, same_far}
+use Rattle.read_stream.specs.WantedBlocks.{pending_blocks}
+use Rattle.read_stream.proofs.ReadsMatchRuns.{reads-later}
+use Rattle.read_stream.proofs.ActorAdvancedLaws.{advanced_taking_up}
+use Rattle.read_stream.proofs.ContextAdvancedLaws.{context_advanced_by, context_advanced_then}
+use Rattle.read_stream.proofs.SubmitKeepsIssued.{issued-taking-up}
+use Rattle.read_stream.proofs.SameQueueKeepsUnderway.{underway_reads}
+use Rattle.read_stream.proofs.PlanChangeKeepsUnderway.{underway_plan, same_far}
 use Rattle.read_stream.proofs.stream.ReadStream.wait_for.Goals as goal
 
 pub returns-clause-serves : goal.returns-clause-serves
 returns-clause-serves g c =
-    let x : Crew g.row.W.Denot g.row.M.Denot g.row.E.Denot = c.submit.new.crew in
-    serves_then
-    (serves_by x c.wait.new.actor x.method.now c.wait.new.runner c.wait.ensures.same
+    let x : IoContext g.row.W.Denot g.row.M.Denot g.row.E.Denot = c.submit.new.context in
+    context_advanced_then
+    (context_advanced_by x c.wait.new.actor x.method.now c.wait.new.runner c.wait.ensures.same
     c.wait.ensures.told
-    (went_taking_up x.actor.now.known c.wait.new.actor.known _ _ _ _ c.wait.ensures.marks) refl)
+    (advanced_taking_up x.actor.now.known c.wait.new.actor.known _ _ _ _ c.wait.ensures.marks) refl)
     c.submit.ensures.serves
 
 pub returns-clause-underway : goal.returns-clause-underway
 returns-clause-underway g c = λ hand u.
     let n : ReadStream g.row.W.Denot g.row.S.Denot g.row.P.Denot = c.submit.new.self in
     let reads : Reads g.row.W.Denot = n.desk.now.reads in
-    let p : Known = c.submit.new.crew.actor.now.known in
+    let p : Known = c.submit.new.context.actor.now.known in
     let q : Known = c.wait.new.actor.known in
-    let went = went_taking_up p q _ _ _ _ c.wait.ensures.marks in
+    let went = advanced_taking_up p q _ _ _ _ c.wait.ensures.marks in
     let v = c.submit.ensures.underway hand u in
     let far = same_far n.plan c.waited.new.self _ c.waited.ensures in
     underway_plan g.S.BlockSource.left g.W.World.told g.W.World.relations g.W.World.handles q n
     c.waited.new.self hand [] [] 0 far.0
-    (ap (λ (z : Option Run). pending_in z ++ []) (sym far.1))
+    (ap (λ (z : Option Run). pending_blocks z ++ []) (sym far.1))
     (underway_reads g.S.BlockSource.left g.W.World.told g.W.World.relations g.W.World.handles p q n
     _ _ _ _ went reads hand [] 0
     (issued-taking-up n.scope [] g.W.World.told g.W.World.relations p q reads _ _ _ _
     c.wait.ensures.marks v.steady.issued) v.steady.staged refl refl refl refl
-    (λ runs a. are-for-later n.scope p q reads reads runs went.aims refl refl refl a) v)
+    (λ runs a. reads-later n.scope p q reads reads runs went.aims refl refl refl a) v)

@@ -8,15 +8,15 @@ returns-then-self-eq0 g c = record {
     same = (refl, refl, refl);
     more = [];
     marks = sym (append-nil _);
-    before = c.requires.is.hand.disk;
-    after = c.requires.is.hand.disk;
-    had = c.requires.is.hand.held;
-    has = c.requires.is.hand.held;
+    before = c.requires.is.disk_actor.disk;
+    after = c.requires.is.disk_actor.disk;
+    had = c.requires.is.disk_actor.held;
+    has = c.requires.is.disk_actor.held;
     pays = record { read_each = λ below. omega arith; fault_each = λ below. omega arith };
   };
   lived = λ h. omega arith;
   taken = omega arith;
   idle = λ none. refl;
   listed = λ some. absurd (some (search rules));
-  manner_kept = refl;
+  options_same = refl;
 }

@@ -1,20 +1,20 @@
 use Rattle.std.proofs.Common.{ℕ, ◌∙◌, arith, subst}
-use Rattle.scan_rounds.specs.Opening.{HasLists}
+use Rattle.scan_rounds.specs.OpenedScan.{HasLists}
 use Rattle.scan_rounds.proofs.memory.Memory.open.Goals as goal
 
 pub returns : goal.returns
 returns g c =
-    let common = c.in_ok-common.ensures in
+    let shared = c.in_ok-shared.ensures in
     let rings = c.in_ok-rings.ensures in
     let many = c.ring_count.ensures in
     record {
-      config = common.config;
-      actors_are = common.actors.1;
-      actors = common.actors.0;
-      seats_are = omega (arith, common.seats.1, rings.left, many);
-      seats = c.open_rings.ensures.seats c.in_ok-common.common.queue common.seats.0;
+      config = shared.config;
+      actors_are = shared.actors.1;
+      actors = shared.actors.0;
+      seats_are = omega (arith, shared.seats.1, rings.left, many);
+      seats = c.open_rings.ensures.seats c.in_ok-shared.shared.queue shared.seats.0;
       rings_are = rings.count ∙ many;
-      rings = rings.rings c.in_ok-common.common.queue common.seats.0;
+      rings = rings.rings c.in_ok-shared.shared.queue shared.seats.0;
       desks_are = c.in_ok-open_desks.ensures.count;
       desks = c.in_ok-open_desks.ensures.desks;
       jobs_suffice = (let many = c.in_ok-open_jobs.ensures in

@@ -1,6 +1,6 @@
 use Rattle.std.proofs.Common.{arith, rules, sym, subst}
-use Rattle.scan_rounds.specs.Opening.{GivesBackends}
-use Rattle.scan_rounds.proofs.Opening.{backends_in, left_of_backends, no_backends}
+use Rattle.scan_rounds.specs.OpenedScan.{GivesBackends}
+use Rattle.scan_rounds.proofs.PartsGiven.{backends_in, left_of_backends, no_backends}
 use Rattle.scan_rounds.proofs.open.Parts.backends.Goals as goal
 
 pub loop-init : goal.loop-init

@@ -1,5 +1,5 @@
 use Rattle.std.proofs.Common.{◌≡◌, ◌≤◌, length, vec_capacity}
-use Rattle.scan_rounds.specs.Opening.{GivesBackends}
+use Rattle.scan_rounds.specs.OpenedScan.{GivesBackends}
 use Rattle.scan_rounds.proofs.open.Parts.backends.Given as goal
 
 abbrev pub invariant-loop : goal.invariant-loop

@@ -1,6 +1,6 @@
 use Rattle.std.proofs.Common.{arith, rules, sym, subst}
-use Rattle.scan_rounds.specs.Opening.{GivesWorkers}
-use Rattle.scan_rounds.proofs.Opening.{left_of_workers, no_workers, workers_among}
+use Rattle.scan_rounds.specs.OpenedScan.{GivesWorkers}
+use Rattle.scan_rounds.proofs.PartsGiven.{left_of_workers, no_workers, workers_among}
 use Rattle.scan_rounds.proofs.open.Parts.workers.Goals as goal
 
 pub loop-init : goal.loop-init

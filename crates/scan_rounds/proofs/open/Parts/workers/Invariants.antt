@@ -1,5 +1,5 @@
 use Rattle.std.proofs.Common.{◌≡◌, ◌≤◌, length, vec_capacity}
-use Rattle.scan_rounds.specs.Opening.{GivesWorkers}
+use Rattle.scan_rounds.specs.OpenedScan.{GivesWorkers}
 use Rattle.scan_rounds.proofs.open.Parts.workers.Given as goal
 
 abbrev pub invariant-loop : goal.invariant-loop

@@ -1,30 +1,31 @@
 use Rattle.std.proofs.Common.{map, Some, sym, ap, subst}
 use Rattle.std.specs.List.{All}
-use Rattle.aio_handle.specs.Closing.{IsQuiet, AreTotals}
-use Rattle.aio_handle.specs.Shown.{IsOf, known_in}
+use Rattle.aio_handle.specs.Closing.{NoneHasTokens, AreTotals}
+use Rattle.aio_handle.specs.ContractViews.{IsActorOf, actor_known}
 use Rattle.scan_rounds.specs.Scans.{actor_of, disk_of}
-use Rattle.scan_rounds.proofs.Finishing.{put_all, backends_held, workers_held, of_table, are_quiet}
-use Rattle.scan_rounds.proofs.Finishing.{finished}
+use Rattle.scan_rounds.proofs.TotalsMatchDisks.{put_all, backends_held, workers_held, of_table}
+use Rattle.scan_rounds.proofs.TotalsMatchDisks.{are_quiet}
+use Rattle.scan_rounds.proofs.TotalsMatchDisks.{finished}
 use Rattle.scan_rounds.proofs.scan.Scan.finish.Goals as goal
 
-pub put_backends-requires-clause-hands : goal.put_backends-requires-clause-hands
-put_backends-requires-clause-hands g c κs within = backends_held _ _ _ _ c.requires.scan
+pub put_backends-requires-clause-disk_actors : goal.put_backends-requires-clause-disk_actors
+put_backends-requires-clause-disk_actors g c κs within = backends_held _ _ _ _ c.requires.scan
 
-pub put_workers-requires-clause-hands : goal.put_workers-requires-clause-hands
-put_workers-requires-clause-hands g c κs within = workers_held _ _ _ _ c.requires.scan
+pub put_workers-requires-clause-disk_actors : goal.put_workers-requires-clause-disk_actors
+put_workers-requires-clause-disk_actors g c κs within = workers_held _ _ _ _ c.requires.scan
 
 pub close-requires-clause-table : goal.close-requires-clause-table
 close-requires-clause-table g c κs within =
     let all = put_all actor_of c.args.self _ _ _ c.requires.scan.no_actors
     c.put_backends.ensures.actors c.put_workers.ensures.actors in
-    subst (λ actors. All (IsOf c.args.self.common.table) actors) (sym all)
+    subst (λ actors. All (IsActorOf c.args.self.shared.table) actors) (sym all)
     (of_table _ _ _ _ c.requires.scan)
 
 pub close-requires-clause-quiet : goal.close-requires-clause-quiet
 close-requires-clause-quiet g c κs within =
     let all = put_all actor_of c.args.self _ _ _ c.requires.scan.no_actors
     c.put_backends.ensures.actors c.put_workers.ensures.actors in
-    subst (λ actors. IsQuiet (map known_in actors)) (sym all)
+    subst (λ actors. NoneHasTokens (map actor_known actors)) (sym all)
     (are_quiet _ _ _ _ c.requires.scan)
 
 pub returns-clause-disks : goal.returns-clause-disks
@@ -38,6 +39,6 @@ returns-clause-finished g c =
     c.put_backends.ensures.actors c.put_workers.ensures.actors in
     finished _ _ _ c.args.self c.requires.scan c.close.result
     (subst
-    (λ actors. AreTotals c.args.self.common.table.config (map known_in actors) c.close.result)
+    (λ actors. AreTotals c.args.self.shared.table.config (map actor_known actors) c.close.result)
     all c.close.ensures)
     c.put_workers.new.disks.items (returns-clause-disks g c)

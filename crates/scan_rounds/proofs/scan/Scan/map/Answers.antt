@@ -1,5 +1,6 @@
 use Rattle.std.proofs.Common.{rules, refl, ap, ◌∙◌, length}
-use Rattle.scan_rounds.proofs.Mapped.{less_room, map_read, results_taken, room_read, scan_read}
+use Rattle.scan_rounds.proofs.ScanAfterMap.{less_room, map_read, results_taken-mapped, room_read}
+use Rattle.scan_rounds.proofs.ScanAfterMap.{scan_read}
 use Rattle.scan_rounds.proofs.scan.Scan.map.Goals as goal
 
 pub read_map-done-requires-clause-room : goal.read_map-done-requires-clause-room
@@ -21,7 +22,7 @@ returns g c =
           config = refl;
           as_many = e.read.as_many ∙ ap length (search rules);
           opened = refl;
-          manner_kept = refl;
+          options_same = refl;
         };
         read = map_read _ _ _ c.args.self.now c.replace-own_backends.result.items
             c.read_map-done.result.0.items c.least_room.result _ _ _ _ _ may.scan (search rules)
@@ -31,7 +32,7 @@ returns g c =
             c.read_map-done.result.0.items c.least_room.result _ _ _ _ _ may.scan (search rules)
             e.read (search rules);
         unread = c.count_one.ensures;
-        taken = results_taken _ _ _ c.args.self.now c.replace-own_backends.result.items
+        taken = results_taken-mapped _ _ _ c.args.self.now c.replace-own_backends.result.items
             c.read_map-done.result.0.items c.least_room.result _ _ _ _ _ may.scan (search rules)
             e.read (search rules);
       };

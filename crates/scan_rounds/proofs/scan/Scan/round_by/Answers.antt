@@ -1,8 +1,8 @@
 use Rattle.std.proofs.Common.{rules, ◌∙◌, refl, ap, subst}
-use Rattle.aio_handle.specs.Shown.{Named}
+use Rattle.aio_handle.specs.ContractViews.{TableView}
 use Rattle.scan_rounds.specs.Scans.{IsOpenedAgain}
-use Rattle.scan_rounds.proofs.Again.{serving_in, scan_again}
-use Rattle.scan_rounds.proofs.OneRound.{round_may, round_done}
+use Rattle.scan_rounds.proofs.ScanAfterRounds.{serving_in, scan_again}
+use Rattle.scan_rounds.proofs.ScanAfterOneRound.{round_may, round_done}
 use Rattle.scan_rounds.proofs.scan.Scan.round_by.Goals as goal
 
 pub round_beside-own_workers-requires-clause-serve :
@@ -32,13 +32,13 @@ returns g c =
         scan = scan_again _ _ _ c.args.self.now _ _ _ may.scan r.table (search rules) (search rules)
             d.now e.worked d.go_on d.all_list_in d.many refl refl refl refl;
         same = record {
-          config = ap (λ (t : Named). t.config) r.table;
+          config = ap (λ (t : TableView). t.config) r.table;
           as_many = d.many ∙ (search rules);
           opened = refl;
-          manner_kept = refl;
+          options_same = refl;
         };
-        reopened = subst (λ own. IsOpenedAgain own.items c.args.self.now.common.queue
-            c.reopen_queue-waiting.new.common.queue)
+        reopened = subst (λ own. IsOpenedAgain own.items c.args.self.now.shared.queue
+            c.reopen_queue-waiting.new.shared.queue)
             c.replace-own_backends.ensures.value r.reopened;
         listed = d.listed;
         room = d.fallen;

@@ -1,0 +1,181 @@
+-- A record that was answered from the told pages is completed by its callbacks.
+use Rattle.std.proofs.Common.{◌≡◌, ◌≢◌, ℕ, ◌+◌, ◌<◌, ◌≤◌, Bool, true, false, cond, ◌==◌}
+use Rattle.std.proofs.Common.{List, [], ◌∷◌, map, length, get_or, refl, sym, ap, ◌∙◌, subst, arith}
+use Rattle.std.proofs.Common.{Option, Some, None}
+use Rattle.std.specs.Prelude.{IfSome}
+use Rattle.std.proofs.lemmas.List.{get_or-take}
+use Rattle.std.proofs.lemmas.List.FromFn.{get_or-map-range_with_len}
+use Rattle.page_check.specs.Told.{Told, relation_page, relation_block_count}
+use Rattle.page_check.specs.Verdict.{verdict_of, IsValid}
+use Rattle.page_check.specs.SynchronousAnswer.{Page, Damaged, found_at}
+use Rattle.page_check.proofs.SynchronousReads.{found_at-page, found_at-damaged}
+use Rattle.page_check.specs.declared.verdict.Verdict.{Verdict}
+use Rattle.page_check.specs.declared.verdict.Verdict.TheVariants.{Zero, Sane, Bad}
+use Rattle.aio_disk.specs.Disk.{ReadsPages}
+use Rattle.aio_word.specs.declared.Class.TheVariants.{Unended, Whole, Short}
+use Rattle.aio_callback.specs.declared.chain.Raw.{Raw}
+use Rattle.aio_callback.specs.declared.chain.Raw.TheVariants.{Read, Failed}
+use Rattle.aio_callback.specs.Chain.{is_bad, is_bad_verdict, class_of, chain_start, chain_result}
+use Rattle.aio_callback.specs.Chain.{good_count, Outcome}
+use Rattle.aio_callback.specs.Good.{IsGivenAs}
+use Rattle.aio_callback.specs.ReadIoView.{ReadIoView, IsToldRead, HasAnswer, IsCompletedRead}
+use Rattle.aio_callback.specs.ReadIoView.{ReadFits, after_shared, IsAfterShared, record_aim}
+use Rattle.aio_callback.specs.ReadIoView.{number_of_id}
+use Rattle.aio_callback.proofs.ChainLowersResult.{good_below}
+use Rattle.aio_callback.proofs.ChainChangesPages.{IsHeld, held_at, held_pages, begun_holds}
+use Rattle.aio_callback.proofs.CheckedPages.{good_clean}
+
+not_bad : (v : Verdict) → is_bad_verdict v ≡ false → v ≢ Bad
+not_bad Zero e b = absurd (cc)
+not_bad Sane e b = absurd (cc)
+not_bad Bad e b = absurd (cc)
+
+-- the page of a block that the relation has
+pub record IsPageOf (told : Told) (relation block : ℕ) (page : List ℕ) : Type 0 where
+  pub there : block < relation_block_count told relation
+  pub same : page ≡ relation_page told relation block
+
+-- a valid one is what its block gives
+found_good : (told : Option Told) (relation block : ℕ) (page : List ℕ) → IsValid page
+    → IfSome told (λ t. IsPageOf t relation block page)
+    → IfSome told (λ t. found_at t relation block ≡ Page page)
+found_good None relation block page valid h = h
+found_good (Some t) relation block page valid h =
+    let P : List ℕ → Type 0 = λ p. found_at t relation block ≡ Page p in
+    subst P (sym h.same) (found_at-page t relation block h.there (subst IsValid h.same valid))
+
+is_bad-verdict : (v : Verdict) → is_bad_verdict v ≡ true → v ≡ Bad
+is_bad-verdict Bad is = refl
+is_bad-verdict Zero is = absurd (cc)
+is_bad-verdict Sane is = absurd (cc)
+
+-- and a bad one tells that its block is damaged
+pub found_bad : (told : Option Told) (relation block : ℕ) (page : List ℕ) → is_bad page ≡ true
+    → IfSome told (λ t. IsPageOf t relation block page)
+    → IfSome told (λ t. found_at t relation block ≡ Damaged)
+found_bad None relation block page bad h = h
+found_bad (Some t) relation block page bad h =
+    found_at-damaged t relation block h.there
+    (is_bad-verdict (verdict_of (relation_page t relation block)) (ap is_bad (sym h.same) ∙ bad))
+
+-- a page among those that were read is that of its block
+pub told_at : (told : Option Told) (relation first n i : ℕ) (pages : List (List ℕ)) → i < n
+    → IfSome told (λ t. ReadsPages t relation first n pages)
+    → IfSome told (λ t. IsPageOf t relation (first + i) (get_or pages i []))
+told_at None relation first n i pages lt h = h
+told_at (Some t) relation first n i pages lt h = record {
+  there = let w = h.within in omega arith;
+  same = sym (get_or-take n pages i [] lt)
+      ∙ (ap (λ (ps : List (List ℕ)). get_or ps i []) h.told_pages
+      ∙ get_or-map-range_with_len (relation_page t relation) first n i (first + i) [] lt refl);
+}
+
+-- what a page that is held in place of a told one is given as
+given_as : (told : Option Told) (relation block : ℕ) (mark : Bool) (read page : List ℕ)
+    → IfSome told (λ t. IsPageOf t relation block read) → IsValid page → IsHeld mark read page
+    → IsGivenAs told relation block page mark
+given_as told relation block false read page there valid held = record {
+  valid = valid;
+  told_page = found_good told relation block page valid
+      (subst (λ (x : List ℕ). IfSome told (λ t. IsPageOf t relation block x)) (sym held) there);
+}
+given_as told relation block true read page there valid held =
+    record { zeros = held.zeros; told_bad = found_bad told relation block read held.bad there }
+
+-- what the callbacks make of this answer and these pages
+abbrev run : ReadIoView → Raw → List (List ℕ) → Outcome
+run r answer pages = chain_result r.count r.ids (chain_start answer pages)
+
+goods : (told : Option Told) (r : ReadIoView) (answer : Raw) (pages : List (List ℕ))
+    → IsToldRead told r answer pages → r.count ≤ length pages
+    → (i : ℕ) → i < good_count r.ids (run r answer pages).result
+    → IsGivenAs told r.relation (r.first + i) (get_or (run r answer pages).pages i [])
+    (get_or (run r answer pages).zeroed i false)
+goods told r Failed pages h room i lt =
+    let b = good_below r.count r.ids (chain_start Failed pages) in absurd (omega arith)
+goods told r (Read n) pages h room i lt =
+    let b = good_below r.count r.ids (chain_start (Read n) pages) in
+    let w = h.0 in
+    let o = run r (Read n) pages in
+    let valid : IsValid (get_or o.pages i []) =
+    not_bad (verdict_of (get_or o.pages i []))
+    (good_clean r.count r.ids (Read n) pages (omega arith) i lt) in
+    given_as told r.relation (r.first + i) (get_or o.zeroed i false) (get_or pages i [])
+    (get_or o.pages i []) (told_at told r.relation r.first n i pages (omega arith) h.1) valid
+    (held_at o.zeroed pages o.pages i (omega arith) (begun_holds r.count r.ids (Read n) pages))
+
+few : (told : Option Told) (r : ReadIoView) (answer : Raw) (pages : List (List ℕ))
+    → IsToldRead told r answer pages → good_count r.ids (run r answer pages).result ≤ r.count
+few told r (Read n) pages h =
+    let b = good_below r.count r.ids (chain_start (Read n) pages) in
+    let w = h.0 in omega arith
+few told r Failed pages h =
+    let b = good_below r.count r.ids (chain_start Failed pages) in omega arith
+
+still : (told : Option Told) (r : ReadIoView) (answer other : Raw) (pages : List (List ℕ))
+    → IsToldRead told r answer pages → IsToldRead told (after_shared r other) answer pages
+still told r (Read n) other pages h = h
+still told r Failed other pages h = tt
+
+completes : (told : Option Told) (r : ReadIoView) (answer : Raw) → IsToldRead told r answer r.pages
+    → r.count ≤ length r.pages → IsCompletedRead told (after_shared r answer)
+completes told r answer h room = record {
+  answer = answer;
+  read = r.pages;
+  told_read = still told r answer answer r.pages h;
+  class = refl;
+  outcome = refl;
+  few = few told r answer r.pages h;
+  good = goods told r answer r.pages h room;
+}
+
+shared_by_answer : (r s : ReadIoView) (o : Option Raw) (answer : Raw) → o ≡ Some answer
+    → IfSome o (IsAfterShared s r) → s ≡ after_shared r answer
+shared_by_answer r s o answer is h = subst (λ (z : Option Raw). IfSome z (IsAfterShared s r)) is h
+
+pub completed_after : (told : Option Told) (r s : ReadIoView) → HasAnswer told r
+    → IfSome r.raw (IsAfterShared s r) → r.count ≤ length r.pages → IsCompletedRead told s
+completed_after told r s a h room =
+    subst (λ (z : ReadIoView). IsCompletedRead told z)
+    (sym (shared_by_answer r s r.raw a.answer a.is h))
+    (completes told r a.answer a.told_read room)
+
+-- a class that ended is none of those that did not
+whole_or_short : (b : Bool) → cond b Whole Short ≢ Unended
+whole_or_short true e = absurd (cc)
+whole_or_short false e = absurd (cc)
+
+ended_class : (count : ℕ) (answer : Raw) → class_of count answer ≢ Unended
+ended_class count Failed e = absurd (cc)
+ended_class count (Read n) e = whole_or_short (n == count) e
+
+pub ended_after : (told : Option Told) (s : ReadIoView) → IsCompletedRead told s
+    → s.label.ended ≢ Unended
+ended_after told s c e = ended_class s.count c.answer (sym c.class ∙ e)
+
+fits_by : (told : Option Told) (relations : ℕ) (r : ReadIoView) (answer : Raw) → r.aimed ≡ true
+    → 0 < r.count → r.relation < relations → IsCompletedRead told (after_shared r answer)
+    → ReadFits told relations (after_shared r answer)
+fits_by told relations r answer a some w c = record {
+  aimed = a;
+  some = some;
+  within = w;
+  fresh = λ e. absurd (ended_after told (after_shared r answer) c e);
+  ended = λ _. c;
+}
+
+pub fits_after : (told : Option Told) (relations : ℕ) (r s : ReadIoView) → HasAnswer told r
+    → IfSome r.raw (IsAfterShared s r) → r.count ≤ length r.pages → r.aimed ≡ true
+    → 0 < r.count → r.relation < relations → ReadFits told relations s
+fits_after told relations r s a h room aimed some w =
+    subst (λ (z : ReadIoView). ReadFits told relations z)
+    (sym (shared_by_answer r s r.raw a.answer a.is h))
+    (fits_by told relations r a.answer aimed some w (completes told r a.answer a.told_read room))
+
+pub aim_after : (told : Option Told) (r s : ReadIoView) → HasAnswer told r
+    → IfSome r.raw (IsAfterShared s r) → record_aim s ≡ record_aim r
+aim_after told r s a h =
+    let o = run r a.answer r.pages in
+    ap record_aim (shared_by_answer r s r.raw a.answer a.is h)
+    ∙ ap (λ (n : ℕ). n ∷ r.relation ∷ r.first ∷ r.count ∷ map number_of_id r.ids)
+    (held_pages o.zeroed r.pages o.pages (begun_holds r.count r.ids a.answer r.pages))

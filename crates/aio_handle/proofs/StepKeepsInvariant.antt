@@ -1,0 +1,271 @@
+-- A step on one handle keeps the rule of the table.
+use Rattle.std.proofs.Common.{◌≡◌, ◌≢◌, ℕ, ◌+◌, ◌*◌, ◌<◌, max, true, List, [], ◌∷◌, ◌++◌, length}
+use Rattle.std.proofs.Common.{set, ◌==◌, refl, sym, ap, ◌∙◌, subst, inl, ⊎_elim, arith, length-set}
+use Rattle.std.proofs.Common.{Option}
+use Rattle.std.proofs.lemmas.Bool.Decides.{nat_tests}
+use mathlib.Core.Option.{some}
+use mathlib.Core.Option as maybe
+use lib.ListN.{get_elem?}
+use Rattle.atomic_table.specs.Table.{State}
+use Rattle.aio_word.specs.declared.Config.{Config}
+use Rattle.aio_word.specs.declared.State.TheVariants.{HandedOut}
+use Rattle.aio_word.specs.declared.Step.{Step as Event}
+use Rattle.aio_word.specs.declared.Step.TheVariants as event
+use Rattle.aio_word.specs.declared.WaitRef.{WaitRef}
+use Rattle.aio_word.specs.declared.Word.{Word}
+use Rattle.aio_word.specs.declared.Known.{Known}
+use Rattle.aio_word.specs.Words.{packed_word, word_place, word_rank}
+use Rattle.aio_word.specs.Events.{handle_count, owner, count_at_rank, wait_ref, is_allowed}
+use Rattle.aio_word.specs.Stands.{IsIn, seen_rank}
+use Rattle.aio_word.specs.StandsByRank.{StandsForHandleByRank}
+use Rattle.aio_word.proofs.ReplacedElement.{in-append, in-left, in-right, in-here}
+use Rattle.aio_word.proofs.AppendKeepsHandle.{place-small, rank-in-bounds}
+use Rattle.aio_word.proofs.ListWithMark.{in-others, others-in}
+use Rattle.aio_handle.specs.declared.record.Label.{Label}
+use Rattle.aio_handle.specs.TableInvariant.{KnownMatchesWord, SlotMatchesWord, HandleInvariant}
+use Rattle.aio_handle.specs.TableInvariant.{IsActor, TableInvariant}
+use Rattle.aio_handle.specs.KnownChanges.{known_after}
+use Rattle.aio_handle.specs.CallEvents.{EventMade, IsByOwner, generation_of}
+use Rattle.aio_handle.proofs.StateAtStep.{StepFinds, stood-here, ruled-here, actor-here, others}
+use Rattle.aio_handle.proofs.StateAtStep.{before-here}
+use Rattle.aio_handle.proofs.StepEffects.{StepOfAnyActor, NoteEffect, ListEffect}
+use Rattle.aio_handle.proofs.InvariantAfterStep.{invariant-after}
+use Rattle.aio_handle.proofs.MomentsAroundStep.{Passes, along, reached-now, passes}
+
+same-nat : (a b : ℕ) → (a == b) ≡ true → a ≡ b
+same-nat a b h = grind (arith, nat_tests)
+
+in-same : (h g g' : ℕ) (a a' : List ℕ) (aims : List (WaitRef × List ℕ)) → g' ≡ g → a' ≡ a
+    → IsIn (wait_ref h g, a) aims → IsIn (wait_ref h g', a') aims
+in-same h g g' a a' aims eg ea i = subst (λ (z : WaitRef × List ℕ). IsIn z aims)
+    (λ k. (wait_ref h (sym eg k), sym ea k)) i
+
+module _ {R : Type 0} (label : R → Label) (aim_in : R → List ℕ) (Fits : R → Type 0) (c : Config)
+    (s : State (Option R) (List Known)) (r : TableInvariant label aim_in Fits c s) (id h : ℕ)
+    (p : Known)
+    (f : StepFinds label aim_in Fits c s r id h p) (range : h < handle_count c) where
+  abbrev front : List Known
+  front = f.lying.front
+
+  abbrev w : Word
+  w = f.w
+
+  small : word_place w < 8
+  small = place-small w.state w.claimed
+
+  abbrev back : List Known
+  back = f.lying.back
+
+  abbrev ruled : HandleInvariant label aim_in Fits c (front ++ p ∷ back) h w f.home
+  ruled = ruled-here label aim_in Fits c s r id h p f
+
+  actor : IsActor c p
+  actor = actor-here label aim_in Fits c s r id h p f
+
+  before : StandsForHandleByRank c (front ++ p ∷ back) h w
+  before = stood-here label aim_in Fits c s r id h p f
+
+  module _ (e : Event) (w' : Word) (a : List ℕ) where
+    abbrev p1 : Known
+    p1 = known_after e h w w' a p
+
+    small' : word_place w' < 8
+    small' = place-small w'.state w'.claimed
+
+    module _ (aim' : List ℕ) (g : ListEffect c h front back p p1 w w')
+        (d : NoteEffect c h r.ws w w' e ruled.aim aim' p p1) where
+      in-old : (aims : List (WaitRef × List ℕ))
+          → ((x : WaitRef × List ℕ) → IsIn x aims → x.0.handle ≡ h
+          → (8 * x.0.generation + 2 < word_rank w)
+          × (x.0.generation ≡ w.generation → x.1 ≡ ruled.aim))
+          → (x : WaitRef × List ℕ) → IsIn x aims → x.0.handle ≡ h
+          → (8 * x.0.generation + 2 < word_rank w')
+          × (x.0.generation ≡ w'.generation → x.1 ≡ aim')
+      in-old aims was x i eh =
+          let t = was x i eh in let lt = t.0 in let up = g.grows in let sm = small in let sm' =
+          small' in (
+            omega arith,
+            (λ same. t.1 (omega arith) ∙ sym (d.same_aim (omega arith) (omega arith))),
+          )
+
+      known-other : (q : Known) → IsIn q (front ++ back) → KnownMatchesWord c h w' aim' q
+      known-other q i =
+          let j = others-in front back p q i in
+          let k = ruled.known q j in record {
+            out = λ o n. ⊎_elim
+                (λ own. absurd (others label aim_in Fits c s r id h p f q i (o ∙ sym own)))
+                (λ (x : StepOfAnyActor w w').
+                ((λ y. absurd (x.now y.0)), (λ y. absurd (x.was ((k.out o n).1 y).0)))) d.who;
+            lived = λ o. ⊎_elim
+                (λ own. absurd (others label aim_in Fits c s r id h p f q i (o ∙ sym own)))
+                (λ (x : StepOfAnyActor w w'). x.generation ∙ k.lived o) d.who;
+            aims = in-old q.aims k.aims;
+            submitted = λ o _. ⊎_elim
+                (λ own. absurd (others label aim_in Fits c s r id h p f q i (o ∙ sym own)))
+                (λ (x : StepOfAnyActor w w'). in-same h w.generation w'.generation ruled.aim aim'
+                q.aims
+                x.generation (d.same_aim x.place x.generation) (k.submitted o x.place)) d.who;
+            held = λ lt more.
+                let st = (rank-in-bounds c (front ++ p ∷ back) h w before q j
+                (8 * w'.generation + 3) more).1 in
+                let up = g.grows in let sm = small in let sm' = small' in
+                let same : w'.generation ≡ w.generation = omega arith in
+                in-same h w.generation w'.generation ruled.aim aim' q.aims same
+                (d.same_aim (omega arith) same)
+                (k.held (omega arith)
+                (subst (λ (z : ℕ). 0 < count_at_rank h (8 * z + 3) q.marks) same more));
+          }
+
+      known-own : KnownMatchesWord c h w' aim' p1
+      known-own =
+          let k = ruled.known p (in-here front back p) in record {
+            out = d.out;
+            lived = d.lived;
+            aims = ⊎_elim
+                (λ (e', _, _). subst
+                (λ (z : List (WaitRef × List ℕ)). (x : WaitRef × List ℕ) → IsIn x z
+                → x.0.handle ≡ h → (8 * x.0.generation + 2 < word_rank w')
+                × (x.0.generation ≡ w'.generation → x.1 ≡ aim')) (sym e')
+                (in-old p.aims k.aims))
+                (λ (e', same, lt). subst
+                (λ (z : List (WaitRef × List ℕ)). (x : WaitRef × List ℕ) → IsIn x z
+                → x.0.handle ≡ h → (8 * x.0.generation + 2 < word_rank w')
+                × (x.0.generation ≡ w'.generation → x.1 ≡ aim')) (sym e')
+                (λ x i eh. ⊎_elim (λ old. in-old p.aims k.aims x old eh) (λ new. ⊎_elim
+                (λ y. (
+                  subst (λ (z : WaitRef × List ℕ). 8 * z.0.generation + 2 < word_rank w') y lt,
+                  (λ _. sym (ap (λ (z : WaitRef × List ℕ). z.1) y)),
+                ))
+                (λ y. absurd y) new) (in-append x p.aims ((wait_ref h w.generation, aim') ∷ []) i)))
+                d.aims;
+            submitted = λ o lt. ⊎_elim
+                (λ (e', n2, n3).
+                let up = g.grows in let one = g.by_one in let sm = small in let sm' = small' in
+                let same : w'.generation ≡ w.generation = omega arith in
+                subst (λ (z : List (WaitRef × List ℕ)). IsIn (wait_ref h w'.generation, aim') z)
+                (sym e')
+                (in-same h w.generation w'.generation ruled.aim aim' p.aims same
+                (d.same_aim (omega arith) same) (k.submitted o (omega arith))))
+                (λ (e', same, _). subst
+                (λ (z : List (WaitRef × List ℕ)). IsIn (wait_ref h w'.generation, aim') z) (sym e')
+                (in-same h w.generation w'.generation aim' aim'
+                (p.aims ++ (wait_ref h w.generation, aim') ∷ []) same refl
+                (in-right (wait_ref h w.generation, aim') p.aims
+                ((wait_ref h w.generation, aim') ∷ [])
+                (inl refl))))
+                d.aims;
+            held = λ lt more. ⊎_elim
+                (λ (e', n2, n3).
+                let st = (rank-in-bounds c (front ++ p1 ∷ back) h w' g.stands p1
+                (in-here front back p1)
+                (8 * w'.generation + 3) more).1 in
+                let up = g.grows in let one = g.by_one in let sm = small in let sm' = small' in
+                let same : w'.generation ≡ w.generation = omega arith in
+                let was = g.claims_was n3
+                (subst (λ (z : ℕ). 0 < count_at_rank h (8 * z + 3) p1.marks) same more) in
+                subst (λ (z : List (WaitRef × List ℕ)). IsIn (wait_ref h w'.generation, aim') z)
+                (sym e')
+                (in-same h w.generation w'.generation ruled.aim aim' p.aims same
+                (d.same_aim (omega arith) same) (k.held (omega arith) was)))
+                (λ (e', same, _). subst
+                (λ (z : List (WaitRef × List ℕ)). IsIn (wait_ref h w'.generation, aim') z) (sym e')
+                (in-same h w.generation w'.generation aim' aim'
+                (p.aims ++ (wait_ref h w.generation, aim') ∷ []) same refl
+                (in-right (wait_ref h w.generation, aim') p.aims
+                ((wait_ref h w.generation, aim') ∷ [])
+                (inl refl))))
+                d.aims;
+          }
+
+      elsewhere : (i : ℕ) (v : Word) (aim : List ℕ) → i ≢ h → KnownMatchesWord c i v aim p
+          → KnownMatchesWord c i v aim p1
+      elsewhere i v aim ne k =
+          let more : (x : WaitRef × List ℕ) → IsIn x p.aims → IsIn x p1.aims =
+          λ x j. ⊎_elim
+          (λ (e', _, _). subst (λ (z : List (WaitRef × List ℕ)). IsIn x z) (sym e') j)
+          (λ (e', _, _). subst (λ (z : List (WaitRef × List ℕ)). IsIn x z) (sym e')
+          (in-left x p.aims ((wait_ref h w.generation, aim') ∷ []) j)) d.aims in record {
+            out = λ o n. let t = d.out_else (wait_ref i n) ne in let k' = k.out o n in
+                ((λ x. t.0 (k'.0 x)), (λ x. k'.1 (t.1 x)));
+            lived = λ o. k.lived o ∙ ap (λ (z : ℕ). c.start + z) (sym (g.lives_else i ne));
+            aims = λ x j eh. k.aims x
+                (⊎_elim (λ (e', _, _). subst (λ (z : List (WaitRef × List ℕ)). IsIn x z) e' j)
+                (λ (e', _, _). ⊎_elim (λ old. old)
+                (λ new. ⊎_elim
+                (λ y. absurd (ne (sym eh ∙ sym (ap (λ (z : WaitRef × List ℕ). z.0.handle) y))))
+                (λ y. absurd y) new)
+                (in-append x p.aims ((wait_ref h w.generation, aim') ∷ [])
+                (subst (λ (z : List (WaitRef × List ℕ)). IsIn x z) e' j))) d.aims) eh;
+            submitted = λ o lt. more (wait_ref i v.generation, aim) (k.submitted o lt);
+            held = λ lt mark'. more (wait_ref i v.generation, aim)
+                (k.held lt (subst (λ (z : ℕ). 0 < z)
+                (g.notes.times_elsewhere i ne (8 * v.generation + 3)) mark'));
+          }
+
+      pub known-all : (q : Known) → IsIn q (front ++ p1 ∷ back) → KnownMatchesWord c h w' aim' q
+      known-all q i = ⊎_elim
+          (λ x. subst (λ (z : Known). KnownMatchesWord c h w' aim' z) x known-own)
+          (λ o. known-other q o) (in-others front back p1 q i)
+
+      actor-now : IsActor c p1
+      actor-now = record {
+        config = actor.config;
+        number = actor.number;
+        seen =
+            length-set p.seen h (max (seen_rank p h) (word_rank w')) ∙ actor.seen;
+        out = d.is_out;
+      }
+
+      pub invariant-kept : (homes' : List (maybe.Option (Option R)))
+          (home' : maybe.Option (Option R))
+          → length homes' ≡ length s.homes
+          → ((i : ℕ) → i ≢ h → get_elem? homes' i ≡ get_elem? s.homes i)
+          → get_elem? homes' h ≡ some home'
+          → SlotMatchesWord label aim_in Fits h w' aim' home'
+          → (w'.state ≡ HandedOut → (i : ℕ) (v : Word) → get_elem? r.ws i ≡ some v
+          → v.state ≡ HandedOut → owner c i ≡ owner c h → i ≡ h)
+          → TableInvariant label aim_in Fits c
+          record {
+            words = set s.words h (packed_word w');
+            homes = homes';
+            views =
+                set s.views id (p1 ∷ []);
+          }
+      invariant-kept homes' home' wide others' mine slot alone =
+          let next = along label aim_in Fits c s r id h p f e w' a d.row d.allowed d.free in
+          invariant-after label aim_in Fits c s r id h p f range homes' home' wide others' mine w'
+          p1
+          g.notes g.stands alone
+          record { aim = aim'; slot = slot; known = known-all } elsewhere actor-now next.0
+          (reached-now label aim_in Fits c s r id h p f e w' a d.row d.allowed d.free) next.2
+
+      own-by-event : (x : Event) → is_allowed c p.number p.marks h w.generation x ≡ true
+          → IsByOwner x
+          → p.number ≡ owner c h
+      own-by-event event.HandOut y o = same-nat p.number (owner c h) y
+      own-by-event event.Release y o = same-nat p.number (owner c h) y
+      own-by-event event.Define y o = same-nat p.number (owner c h) y
+      own-by-event event.Stage y o = same-nat p.number (owner c h) y
+      own-by-event event.Submit y o = same-nat p.number (owner c h) y
+      own-by-event event.Claim y o = absurd o
+      own-by-event (event.Io class) y o = absurd o
+      own-by-event event.Shared y o = absurd o
+      own-by-event event.Local y o = same-nat p.number (owner c h) y
+      own-by-event event.Reclaim y o = same-nat p.number (owner c h) y
+
+      pub event-made : EventMade e h w w' a p p1
+      event-made = let x : Passes p.config h w w' e p p1 = subst
+          (λ (z : Config). Passes z h w w' e p p1) (sym actor.config)
+          (passes label aim_in Fits c s r id h p f e w' a d.row d.allowed d.free g) in record {
+            moment = x.moment;
+            then = x.then;
+            is_step = x.is_step;
+            row = d.row;
+            is = refl;
+            before = before-here label aim_in Fits c s r id h p f;
+            now = g.now;
+            mine = λ o. subst (λ (z : Config). p.number ≡ owner z h) (sym actor.config)
+                (own-by-event e d.allowed o);
+            lived = subst (λ (z : Config). p.number ≡ owner z h → w.generation ≡ generation_of z p h)
+                (sym actor.config) (λ o. (ruled.known p (in-here front back p)).lived o);
+          }

@@ -1,0 +1,114 @@
+-- Jobs whose texts are written one after the other.
+use Rattle.std.proofs.Common.{◌≡◌, ◌≢◌, ℕ, ◌+◌, ◌<◌, ◌≤◌, List, [], ◌∷◌, ◌++◌, take, drop, length}
+use Rattle.std.proofs.Common.{get_or, refl, sym, ap, ◌∙◌, subst, arith, append-nil, length-append}
+use Rattle.std.specs.Prelude.{Option, ⊤, cond}
+use Rattle.std.proofs.lemmas.Grind.{flat_map-append}
+use Rattle.std.proofs.lemmas.List.{take_more, take_all, take-append-drop}
+use Rattle.std.proofs.lemmas.List.Concat.{flat_map-cons}
+use Rattle.std.proofs.lemmas.List.Sums.{sum_by-cons, get_or-le-sum_by}
+use Rattle.page_check.specs.Told.{Told}
+use Rattle.scan_rounds.specs.ListOptions.{ListOptions}
+use Rattle.scan_rounds.specs.Jobs.{IsListed, AreAnswered, entries_of_job, unread_among, is_unread}
+use Rattle.scan_rounds.specs.Jobs.{count_unskipped}
+use Rattle.scan_rounds.specs.BlockFilter.{BlockFilter}
+use Rattle.scan_rounds.specs.declared.job.Job.{Job}
+use Rattle.aioscan_cmd.specs.RequestList.{Request}
+use Rattle.aioscan_cmd.specs.Output.{IsOutput, format_of_options}
+use Rattle.aioscan_cmd.specs.ListerState.{unskipped_job_requests, JobTextWritten}
+use Rattle.aioscan_cmd.specs.ListerState.{AllJobTextsWritten}
+use Rattle.aioscan_cmd.specs.declared.report.Outcome.{Outcome}
+use Rattle.aioscan_cmd.specs.declared.report.Outcome.TheVariants.{Done}
+use Rattle.aioscan_cmd.proofs.OutputsAppend.{lists_append, lists_more, lists_same, lists_none}
+
+pub among_all : (jobs : List Job) (i n : ℕ) (d job : Job) → i < length jobs → job ≡ get_or jobs i d
+    → n ≤ unread_among (job ∷ []) → n ≤ unread_among jobs
+among_all jobs i n d job inside is few =
+    let f : Job → ℕ = λ j. cond (is_unread j.ending) 1 0 in
+    let P : Job → Type 0 = λ j. n ≤ unread_among (j ∷ []) in
+    let here = subst P is few in
+    omega (
+      arith,
+      sum_by-cons f (get_or jobs i d) [],
+      get_or-le-sum_by f jobs i d inside,
+    )
+
+-- the blocks of some jobs are as many as the jobs have that are not left out
+pub requests_length : (skips : Option BlockFilter) (jobs : List Job)
+    → length (unskipped_job_requests skips jobs) ≡ count_unskipped skips jobs
+requests_length skips [] = refl
+requests_length skips (job ∷ jobs) =
+    omega (
+      arith,
+      ap length (flat_map-cons (entries_of_job skips) job jobs),
+      length-append (entries_of_job skips job) (unskipped_job_requests skips jobs),
+      requests_length skips jobs,
+      sum_by-cons (λ (j : Job). length (entries_of_job skips j)) job jobs,
+    )
+
+pub requests_one_more : (skips : Option BlockFilter) (jobs : List Job) (job : Job)
+    → unskipped_job_requests skips (jobs ++ job ∷ []) ≡ unskipped_job_requests skips jobs
+    ++ entries_of_job skips job
+requests_one_more skips jobs job =
+    flat_map-append (entries_of_job skips) jobs (job ∷ [])
+    ∙ ap (λ (l : List Request). unskipped_job_requests skips jobs ++ l)
+    (append-nil (entries_of_job skips job))
+
+-- the texts of the first k jobs were written
+abbrev pub FirstListed : List Job → ℕ → Option (List ℕ) → Option (List ℕ) → List ℕ → Type 0
+FirstListed jobs k b a w =
+    (skips : Option BlockFilter) (m : ListOptions) (told : Option Told) (asked : List Job)
+    → AreAnswered skips m told asked jobs
+    → IsOutput (format_of_options m) told (unskipped_job_requests skips (take k asked)) b a Done w
+
+module _ (jobs : List Job) (k : ℕ) (job : Job) (b between a : Option (List ℕ))
+    (inside : k < length jobs) (is : job ≡ get_or jobs k job) where
+  -- and then that of the next, up to its end or not
+  pub next_listed : (o : Outcome) (v w : List ℕ) → FirstListed jobs k b between v
+      → JobTextWritten job between a o w
+      → (skips : Option BlockFilter) (m : ListOptions) (told : Option Told) (asked : List Job)
+      → AreAnswered skips m told asked jobs
+      → IsOutput (format_of_options m) told
+      (unskipped_job_requests skips (take (k + 1) asked)) b a o (v ++ w)
+  next_listed o v w before here skips m told asked all =
+      let below : k < length asked = omega (arith, all.as_many) in
+      let one = all.each k job below in
+      let this = get_or asked k job in
+      let P : Job → Type 0 = λ j. IsListed skips m told (λ _. ⊤) this j in
+      let more : unskipped_job_requests skips (take (k + 1) asked)
+      ≡ unskipped_job_requests skips (take k asked) ++ entries_of_job skips this =
+      ap (unskipped_job_requests skips) (take_more asked k job below)
+      ∙ requests_one_more skips (take k asked) this in
+      lists_same (format_of_options m) told _ _ b a o (v ++ w) (sym more)
+      (lists_append (format_of_options m) told (unskipped_job_requests skips (take k asked))
+      (entries_of_job skips this) b between a o v w (before skips m told asked all)
+      (here skips m told this (subst P (sym is) one)))
+
+  pub next_done : (o : Outcome) (v w : List ℕ) → o ≡ Done → FirstListed jobs k b between v
+      → JobTextWritten job between a o w → FirstListed jobs (k + 1) b a (v ++ w)
+  next_done o v w done before here = λ skips m told asked all.
+      (let P : Outcome → Type 0 =
+      λ x. IsOutput (format_of_options m) told
+      (unskipped_job_requests skips (take (k + 1) asked)) b a x (v ++ w) in
+      subst P done (next_listed o v w before here skips m told asked all))
+
+  pub next_stopped : (o : Outcome) (v w : List ℕ) → o ≢ Done → FirstListed jobs k b between v
+      → JobTextWritten job between a o w → AllJobTextsWritten jobs b a o (v ++ w)
+  next_stopped o v w stops before here = λ skips m told asked all.
+      (let front = unskipped_job_requests skips (take (k + 1) asked) in
+      let back = unskipped_job_requests skips (drop (k + 1) asked) in
+      let parts : unskipped_job_requests skips asked ≡ front ++ back =
+      ap (unskipped_job_requests skips) (sym (take-append-drop (k + 1) asked))
+      ∙ flat_map-append (entries_of_job skips) (take (k + 1) asked) (drop (k + 1) asked) in
+      lists_same (format_of_options m) told _ _ b a o (v ++ w) (sym parts)
+      (lists_more (format_of_options m) told front back b a o (v ++ w) stops
+      (next_listed o v w before here skips m told asked all)))
+
+pub all_listed : (jobs : List Job) (k : ℕ) (b a : Option (List ℕ)) (w : List ℕ)
+    → length jobs ≤ k → FirstListed jobs k b a w → AllJobTextsWritten jobs b a Done w
+all_listed jobs k b a w all listed = λ skips m told asked answered.
+    lists_same (format_of_options m) told _ _ b a Done w
+    (ap (unskipped_job_requests skips) (take_all k asked (omega (arith, answered.as_many))))
+    (listed skips m told asked answered)
+
+pub none_listed : (jobs : List Job) (s : Option (List ℕ)) → FirstListed jobs 0 s s []
+none_listed jobs s = λ skips m told asked all. lists_none (format_of_options m) told s

@@ -1,0 +1,128 @@
+-- Runs that listed blocks, all of them or up to a stop.
+use Rattle.std.proofs.Common.{◌≡◌, ℕ, ◌+◌, ◌<◌, ◌≤◌, List, length, get_or, refl, ap, arith, subst}
+use Rattle.std.proofs.Common.{true, false}
+use Rattle.std.specs.Prelude.{Option, Some, None, slice_index}
+use Rattle.page_check.specs.Told.{Told, relation_block_count}
+use Rattle.aio_disk.specs.Counts.{raised_by}
+use Rattle.aio_handle.specs.Execution.{last_count}
+use Rattle.aioscan_cmd.specs.Command.{Command, relations_of}
+use Rattle.aioscan_cmd.specs.RequestList.{request_list}
+use Rattle.aioscan_cmd.specs.Outcomes.{is_refused}
+use Rattle.aioscan_cmd.specs.Lengths.{HasLengths}
+use Rattle.aioscan_cmd.specs.Output.{ObservedState, observed_state, IsOutput, map_pages_known}
+use Rattle.aioscan_cmd.specs.Output.{command_format}
+use Rattle.aioscan_cmd.specs.Run.{IsFileRun, EarlierFit, FitsInOrder, lengths_known, limit_known}
+use Rattle.aioscan_cmd.specs.declared.report.Outcome.{Outcome}
+use Rattle.aioscan_cmd.specs.declared.report.Outcome.TheVariants.{Done, Invalid, Usage, CannotOpen}
+use Rattle.aioscan_cmd.specs.declared.report.Outcome.TheVariants.{NoLength, Unread, CannotWrite}
+use Rattle.aioscan_cmd.specs.declared.report.Outcome.TheVariants.{NoMemory, Missing, TooLong}
+use Rattle.aioscan_cmd.proofs.OutputsAppend.{lists_same}
+use Rattle.aioscan_cmd.proofs.FileRequestsAppend.{request_list-same}
+
+-- the lengths fit
+lengths_fit : (told : Option Told) (segment relations : ℕ) (lengths : List ℕ)
+    → HasLengths told segment relations lengths
+    → EarlierFit (limit_known told segment) (lengths_known told (slice_index lengths)) relations
+lengths_fit None segment relations lengths has = λ q below. has.fit q
+lengths_fit (Some t) segment relations lengths has = λ q below.
+    (let is : get_or lengths q 0 ≡ relation_block_count t q = has.are q (omega (arith, has.all)) in
+    omega (arith, has.fit q))
+
+fits_where_listed : (limit : ℕ) (lengths : ℕ → ℕ) (relations : ℕ) (o : Outcome)
+    → is_refused o ≡ false → EarlierFit limit lengths relations
+    → FitsInOrder limit lengths relations o
+fits_where_listed limit lengths relations Done is fit = fit
+fits_where_listed limit lengths relations (Invalid r b) is fit = fit
+fits_where_listed limit lengths relations (Missing r b) is fit = fit
+fits_where_listed limit lengths relations (Unread r b) is fit = fit
+fits_where_listed limit lengths relations CannotWrite is fit = fit
+fits_where_listed limit lengths relations NoMemory is fit = tt
+fits_where_listed limit lengths relations Usage is fit = tt
+fits_where_listed limit lengths relations CannotOpen is fit = tt
+fits_where_listed limit lengths relations (NoLength r) is fit = absurd (cc)
+fits_where_listed limit lengths relations (TooLong r) is fit = absurd (cc)
+
+same_requests : (told : Option Told) (segment relations : ℕ) (command : Command)
+    (lengths : List ℕ) (map_page : ℕ → List ℕ) → relations ≡ length (relations_of command)
+    → HasLengths told segment relations lengths
+    → request_list (slice_index lengths) map_page command
+    ≡ request_list (lengths_known told (slice_index lengths)) map_page command
+same_requests None segment relations command lengths map_page all has = refl
+same_requests (Some t) segment relations command lengths map_page all has =
+    request_list-same (slice_index lengths) (relation_block_count t) map_page command
+    (λ r below. has.are r (omega (arith, has.all)))
+
+refused_not : (o : Outcome) → is_refused o ≡ false → is_refused o ≡ true → ⊥
+refused_not o not is = absurd (cc)
+
+-- blocks were listed, all of them or up to a stop
+pub ran_listed : (told now : Option Told) (segment relations : ℕ) (command : Command)
+    (lengths : List ℕ) (given : ℕ → List ℕ) (output after : Option (List ℕ)) (read : ℕ)
+    (o : Outcome) (w : List ℕ) → now ≡ told → relations ≡ length (relations_of command)
+    → HasLengths told segment relations lengths
+    → IsOutput (command_format command) now (request_list (slice_index lengths)
+    (map_pages_known now command.settings.zero given) command) output after o w
+    → (read < last_count → read ≤ length (request_list (slice_index lengths)
+    (map_pages_known now command.settings.zero given) command))
+    → IsFileRun told relations command (observed_state output 0) (observed_state after read) o w
+ran_listed told now segment relations command lengths given output after read o w same all has lists
+    few =
+    let map_page = map_pages_known told command.settings.zero given in
+    let requests = same_requests told segment relations command lengths map_page all has in
+    let L : Option Told → Type 0 =
+    λ n. IsOutput (command_format command) n (request_list (slice_index lengths)
+    (map_pages_known n command.settings.zero given) command) output after o w in
+    let F : Option Told → Type 0 = λ n. read < last_count → read ≤ length (request_list
+    (slice_index lengths) (map_pages_known n command.settings.zero given) command) in
+    let fewer = subst F same few in record {
+      answered = slice_index lengths;
+      map_page = given;
+      segment = segment;
+      in_order = fits_where_listed _ _ relations o lists.begun
+          (lengths_fit told segment relations lengths has);
+      lists = λ is. lists_same (command_format command) told _ _ output after o w requests
+          (subst L same lists);
+      few_reads = λ below. omega (arith, fewer below, ap length requests);
+      untouched = λ is. absurd (refused_not o lists.begun is);
+    }
+
+shelf_few : (read reads now most : ℕ) → now ≡ raised_by read reads
+    → (read < last_count → read ≤ 0 + most) → now < last_count → now ≤ reads + most
+shelf_few read reads now most back few below = omega (arith, back, few)
+
+shelf_untouched : (output after : Option (List ℕ)) (read reads now : ℕ)
+    → now ≡ raised_by read reads → observed_state after read ≡ observed_state output 0
+    → observed_state after now ≡ observed_state output reads
+shelf_untouched output after read reads now back same =
+    let none : read ≡ 0 = ap (λ (s : ObservedState). s.reads) same in
+    let kept : now ≡ reads = omega (arith, back, none) in
+    let output_same : after ≡ output = ap (λ (s : ObservedState). s.written) same in
+    rw (kept, output_same) refl
+
+-- a disk that was not read before is taken back
+pub ran_on_shelf : (told now : Option Told) (relations count : ℕ) (command : Command)
+    (output after : Option (List ℕ)) (read reads total : ℕ) (o : Outcome) (w : List ℕ)
+    → now ≡ told → count ≡ relations → total ≡ raised_by read reads
+    → IsFileRun now count command (observed_state output 0) (observed_state after read) o w
+    → IsFileRun told relations command (observed_state output reads)
+    (observed_state after total) o w
+ran_on_shelf told now relations count command output after read reads total o w same all back run =
+    rw (← same, ← all) (record {
+      answered = run.answered;
+      map_page = run.map_page;
+      segment = run.segment;
+      in_order = run.in_order;
+      lists = run.lists;
+      few_reads = shelf_few read reads total _ back run.few_reads;
+      untouched = λ is. (let kept = run.untouched is in
+          (shelf_untouched output after read reads total back kept.0, kept.1));
+    })
+
+-- the same run, said of the same contents
+pub ran_same : (told now : Option Told) (relations count : ℕ) (command : Command)
+    (output : Option (List ℕ)) (reads before : ℕ) (after : ObservedState) (o : Outcome) (w : List ℕ)
+    → now ≡ told → count ≡ relations → before ≡ reads
+    → IsFileRun now count command (observed_state output before) after o w
+    → IsFileRun told relations command (observed_state output reads) after o w
+ran_same told now relations count command output reads before after o w same all kept ran =
+    rw (← same, ← all, ← kept) ran

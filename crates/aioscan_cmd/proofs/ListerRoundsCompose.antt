@@ -1,0 +1,228 @@
+-- Rounds that have listed what was asked for.
+use Rattle.std.proofs.Common.{◌≡◌, ◌≢◌, ℕ, List, [], ◌++◌, refl, sym, ap, ◌∙◌, subst, arith}
+use Rattle.std.proofs.Common.{append_assoc, append-nil, inl, inr, ◌⊎◌, ⊎_elim}
+use Rattle.std.specs.Prelude.{Option}
+use Rattle.page_check.specs.Told.{Told}
+use Rattle.scan_rounds.specs.ListOptions.{ListOptions}
+use Rattle.scan_rounds.specs.Jobs.{AreAnswered}
+use Rattle.scan_rounds.specs.BlockFilter.{BlockFilter, unskipped_entries}
+use Rattle.scan_rounds.specs.declared.job.Job.{Job}
+use Rattle.aioscan_cmd.specs.RequestList.{Request}
+use Rattle.aioscan_cmd.specs.Output.{IsOutput, WriteFaultsCounted, ListFormat, format_of_options}
+use Rattle.aioscan_cmd.specs.ListerState.{unskipped_job_requests, AllJobTextsWritten, IsOver}
+use Rattle.aioscan_cmd.specs.ListerState.{CutsOffJobs, HasListed, PreservesListing}
+use Rattle.aioscan_cmd.specs.ListerState.{lister_error_stream, lister_options, lister_filter}
+use Rattle.aioscan_cmd.specs.ErrorLine.{ErrorStream, Warns, error_stream}
+use Rattle.aioscan_cmd.specs.declared.report.Line.{Line}
+use Rattle.aioscan_cmd.specs.declared.lister.Lister.{Lister}
+use Rattle.aioscan_cmd.specs.declared.report.Outcome.{Outcome}
+use Rattle.aioscan_cmd.specs.declared.report.Outcome.TheVariants.{Done, Invalid, Usage, CannotOpen}
+use Rattle.aioscan_cmd.specs.declared.report.Outcome.TheVariants.{NoLength, Unread, CannotWrite}
+use Rattle.aioscan_cmd.specs.declared.report.Outcome.TheVariants.{NoMemory, Missing, TooLong}
+use Rattle.heap_scan.specs.Sums.{sums_joined, no_sums}
+use Rattle.heap_scan.specs.declared.sums.PageSums.{PageSums}
+use Rattle.aioscan_cmd.specs.Sums.{AllPagesGiven, HasSums, saturated_sums, total_of_jobs}
+use Rattle.aioscan_cmd.proofs.JobSumsAdd.{none_summed, round_summed}
+use Rattle.aioscan_cmd.proofs.WriteFaultsCompose.{written_then}
+use Rattle.aioscan_cmd.proofs.UnskippedBlocksAppend.{unskipped_after_cut, none_unskipped}
+use Rattle.aioscan_cmd.proofs.OutputsAppend.{lists_none, lists_append, lists_more}
+use Rattle.aioscan_cmd.proofs.ErrorTextsAppend.{warns_also, warns_none, warns_then}
+
+no_blocks_listed : (m : ListFormat) (told : Option Told) (s : Option (List ℕ)) (o : Outcome)
+    → o ≡ Done → IsOutput m told [] s s o []
+no_blocks_listed m told s o done =
+    let P : Outcome → Type 0 = λ x. IsOutput m told [] s s x [] in
+    subst P (sym done) (lists_none m told s)
+
+is_done : (o : Outcome) → (o ≡ Done) ⊎ (o ≢ Done)
+is_done Done = inl refl
+is_done (Invalid r b) = inr (λ e. cc)
+is_done (Missing r b) = inr (λ e. cc)
+is_done (Unread r b) = inr (λ e. cc)
+is_done CannotWrite = inr (λ e. cc)
+is_done NoMemory = inr (λ e. cc)
+is_done Usage = inr (λ e. cc)
+is_done CannotOpen = inr (λ e. cc)
+is_done (NoLength r) = inr (λ e. cc)
+is_done (TooLong r) = inr (λ e. cc)
+
+nothing_written : (faults : ℕ) (o : Outcome) → o ≡ Done → WriteFaultsCounted faults faults o
+nothing_written faults o done = record {
+  later = omega arith;
+  cannot_write = λ is. absurd (cc);
+}
+
+module _ {W O E : Type 0} (told : Option Told) (written : O → Option (List ℕ)) (faults : O → ℕ)
+    (err_written : E → Option (List ℕ)) (err_faults : E → ℕ) where
+  abbrev Goes : Lister W O E → Lister W O E → Type 0
+  Goes s t = PreservesListing told written faults err_written err_faults s t
+
+  abbrev Listed : Option BlockFilter → ListOptions → List Request → Option (List ℕ) → ℕ
+      → ErrorStream → Lister W O E → Type 0
+  Listed skips m all before faults_before errors l =
+      HasListed told written faults err_written err_faults skips m all before faults_before errors l
+
+  abbrev errors : Lister W O E → ErrorStream
+  errors l = lister_error_stream told written faults err_written err_faults l
+
+  -- jobs that were put leave the error stream as it was
+  same_errors : (was : Lister W O E) (asked : List Job) (old : Lister W O E)
+      → CutsOffJobs was asked old → errors was ≡ errors old
+  same_errors was asked old puts =
+      ap (λ (l : Line). error_stream l (err_written was.err.now) (err_faults was.err.now))
+      (sym puts.line)
+      ∙ ap (λ (e : E). error_stream old.line (err_written e) (err_faults e)) (sym puts.err)
+
+  -- the jobs that were put have been written
+  pub round_written : (was old new : Lister W O E) (asked jobs : List Job)
+      → CutsOffJobs was asked old
+      → AreAnswered (lister_filter old) (lister_options old) told asked jobs → old.outcome ≡ Done
+      → new.blocks ≡ old.blocks → lister_options new ≡ lister_options old
+      → lister_filter new ≡ lister_filter old
+      → new.out.ghost_name ≡ old.out.ghost_name
+      → new.err.ghost_name ≡ old.err.ghost_name
+      → Warns (AllJobTextsWritten jobs (written old.out.now) (written new.out.now) new.outcome)
+      (errors old) (errors new)
+      → WriteFaultsCounted (faults old.out.now) (faults new.out.now) new.outcome
+      → (new.outcome ≡ Done → AllPagesGiven jobs)
+      → new.sums ≡ saturated_sums (sums_joined old.sums (total_of_jobs jobs)) → Goes was new
+  round_written was old new asked jobs puts answered done same manner_same skips_same loan err_loan
+      lists writes gave sums = (
+        loan ∙ puts.loans.0,
+        err_loan ∙ puts.loans.1,
+        λ skips m all before faults_before errors_before so_far.
+            (let was_done : was.outcome ≡ Done = sym puts.outcome ∙ done in
+            let manner_is : lister_options old ≡ m = puts.manner_kept ∙ so_far.manner_is in
+            let skips_are : lister_filter old ≡ skips = puts.skips_kept ∙ so_far.skips_are in
+            let A : ListOptions → Type 0 = λ x. AreAnswered skips x told asked jobs in
+            let B : Option BlockFilter → Type 0 = λ x. AreAnswered x (lister_options old)
+            told asked jobs in
+            let here = subst A manner_is (subst B skips_are answered) in
+            let P : Outcome → Type 0 =
+            λ x. Warns (IsOutput (format_of_options m) told so_far.asked before
+            (written was.out.now) x) errors_before (errors was) in
+            let Q : O → Type 0 =
+            λ o. Warns (IsOutput (format_of_options m) told so_far.asked before
+            (written o) Done) errors_before (errors was) in
+            let T : ErrorStream → Type 0 =
+            λ e. Warns (IsOutput (format_of_options m) told so_far.asked before
+            (written old.out.now) Done) errors_before e in
+            let V : O → Type 0 = λ o. WriteFaultsCounted faults_before (faults o) was.outcome in
+            let first = subst T (same_errors was asked old puts)
+            (subst Q (sym puts.out) (subst P was_done so_far.lists)) in
+            let was_written = subst V (sym puts.out) so_far.writes in record {
+              asked = so_far.asked ++ unskipped_job_requests skips asked;
+              rest = unskipped_entries skips old.blocks;
+              cut = so_far.cut
+                  ∙ ap (λ (l : List Request). so_far.asked ++ l) (so_far.left was_done
+                  ∙ unskipped_after_cut skips asked was.blocks old.blocks puts.cut)
+                  ∙ sym (append_assoc so_far.asked (unskipped_job_requests skips asked)
+                  (unskipped_entries skips old.blocks));
+              left = λ _. ap (unskipped_entries skips) (sym same);
+              manner_is = manner_same ∙ manner_is;
+              skips_are = skips_same ∙ skips_are;
+              lists = warns_then _ _ _ _ _ _
+                  (λ v w before_it now_it. lists_append (format_of_options m) told so_far.asked
+                  (unskipped_job_requests skips asked) before
+                  (written old.out.now) (written new.out.now)
+                  new.outcome v w before_it (now_it skips m told asked here)) first lists;
+              sums = λ all_given.
+                  (let S : PageSums → Type 0 = λ s. HasSums m told so_far.asked s in
+                  round_summed skips m told so_far.asked asked jobs old.sums new.sums
+                  (subst S (sym puts.sums) (so_far.sums was_done)) here (gave all_given) sums);
+              writes = written_then _ _ _ _ was_written.later writes;
+            }),
+      )
+
+  -- nothing more is written once the run has ended
+  pub round_passed : (was old : Lister W O E) (asked : List Job) → CutsOffJobs was asked old
+      → old.outcome ≢ Done → Goes was old
+  round_passed was old asked puts over = (
+    puts.loans.0,
+    puts.loans.1,
+    λ skips m all before faults_before errors_before so_far.
+        (let P : Outcome → Type 0 =
+        λ x. Warns (IsOutput (format_of_options m) told so_far.asked before (written was.out.now) x)
+        errors_before (errors was) in
+        let Q : O → Type 0 =
+        λ o. Warns (IsOutput (format_of_options m) told so_far.asked before (written o)
+        old.outcome) errors_before (errors was) in
+        let T : ErrorStream → Type 0 =
+        λ e. Warns (IsOutput (format_of_options m) told so_far.asked before
+        (written old.out.now) old.outcome) errors_before e in
+        let U : Outcome → Type 0 = λ x. WriteFaultsCounted faults_before (faults was.out.now) x in
+        let V : O → Type 0 = λ o. WriteFaultsCounted faults_before
+        (faults o) old.outcome in record {
+          asked = so_far.asked;
+          rest = so_far.rest;
+          cut = so_far.cut;
+          left = λ done. absurd (over done);
+          manner_is = puts.manner_kept ∙ so_far.manner_is;
+          skips_are = puts.skips_kept ∙ so_far.skips_are;
+          lists = subst T (same_errors was asked old puts)
+              (subst Q (sym puts.out) (subst P (sym puts.outcome) so_far.lists));
+          sums = λ done. absurd (over done);
+          writes = subst V (sym puts.out) (subst U (sym puts.outcome) so_far.writes);
+        }),
+  )
+
+  -- from the first round to the last
+  ended : (all : List Request) (s t : Lister W O E) → s.outcome ≡ Done
+      → unskipped_entries (lister_filter s) s.blocks ≡ all → s.sums ≡ no_sums → Goes s t
+      → Listed (lister_filter s) (lister_options s) all (written s.out.now)
+      (faults s.out.now) (errors s) t
+  ended all s t done same none goes =
+      goes.2 (lister_filter s) (lister_options s) all (written s.out.now)
+      (faults s.out.now) (errors s) (record {
+        asked = [];
+        rest = all;
+        cut = refl;
+        left = λ _. sym same;
+        manner_is = refl;
+        skips_are = refl;
+        lists = warns_none _ s.line s.line _ _ refl
+            (no_blocks_listed (format_of_options (lister_options s)) told
+            (written s.out.now) s.outcome done);
+        sums = λ _. none_summed (lister_filter s) (lister_options s) told s.sums none;
+        writes = nothing_written (faults s.out.now) s.outcome done;
+      })
+
+  pub all_listed : (all : List Request) (s t : Lister W O E) → s.outcome ≡ Done
+      → unskipped_entries (lister_filter s) s.blocks ≡ all → s.sums ≡ no_sums → Goes s t → IsOver t
+      → Warns (IsOutput (format_of_options (lister_options s)) told all
+      (written s.out.now) (written t.out.now) t.outcome) (errors s) (errors t)
+  all_listed all s t done same no_sum goes over =
+      let at = ended all s t done same no_sum goes in
+      let P : List Request → Type 0 =
+      λ l. Warns (IsOutput (format_of_options (lister_options s)) told l
+      (written s.out.now) (written t.out.now) t.outcome) (errors s) (errors t) in
+      let more : t.outcome ≢ Done → P all =
+      λ stops. subst P (sym at.cut)
+      (warns_also _ _ _ _ (λ w listed. lists_more (format_of_options (lister_options s))
+      told at.asked at.rest _ _ t.outcome w stops listed) at.lists) in
+      ⊎_elim more
+      (λ none. ⊎_elim
+      (λ is. (let whole : all ≡ at.asked =
+      at.cut ∙ ap (λ (l : List Request). at.asked ++ l) (at.left is
+      ∙ (ap (unskipped_entries (lister_filter s)) none ∙ none_unskipped (lister_filter s)))
+      ∙ append-nil at.asked in subst P (sym whole) at.lists))
+      more (is_done t.outcome))
+      over
+
+  pub all_written : (all : List Request) (s t : Lister W O E) → s.outcome ≡ Done
+      → unskipped_entries (lister_filter s) s.blocks ≡ all → s.sums ≡ no_sums → Goes s t
+      → WriteFaultsCounted (faults s.out.now) (faults t.out.now) t.outcome
+  all_written all s t done same none goes = (ended all s t done same none goes).writes
+
+  pub all_summed : (all : List Request) (s t : Lister W O E) → s.outcome ≡ Done
+      → unskipped_entries (lister_filter s) s.blocks ≡ all → s.sums ≡ no_sums → Goes s t → IsOver t
+      → t.outcome ≡ Done → HasSums (lister_options s) told all t.sums
+  all_summed all s t done same no_sum goes over is =
+      let at = ended all s t done same no_sum goes in
+      let P : List Request → Type 0 = λ l. HasSums (lister_options s) told l t.sums in
+      ⊎_elim (λ stops. absurd (stops is))
+      (λ none. (let whole : all ≡ at.asked =
+      at.cut ∙ ap (λ (l : List Request). at.asked ++ l) (at.left is
+      ∙ (ap (unskipped_entries (lister_filter s)) none ∙ none_unskipped (lister_filter s)))
+      ∙ append-nil at.asked in subst P (sym whole) (at.sums is)))
+      over

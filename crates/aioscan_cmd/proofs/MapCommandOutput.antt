@@ -1,0 +1,161 @@
+-- What a command with a map asks for, and that it was listed.
+use Rattle.std.proofs.Common.{◌≡◌, ◌≢◌, ℕ, ◌+◌, ◌≤◌, List, [], ◌++◌, length, map, refl, sym, ap}
+use Rattle.std.proofs.Common.{◌∙◌, subst, arith, length-append}
+use Rattle.std.specs.Prelude.{Option, Some, None, slice_index, slice_index_or, ⊤}
+use Rattle.std.specs.List.{range_with_len}
+use Rattle.page_check.specs.Told.{Told}
+use Rattle.vis_map.specs.Bits.{Map}
+use Rattle.vis_map.specs.MapRequest.{unmarked_entries}
+use Rattle.vis_map.specs.declared.map.Skip.{Skip}
+use Rattle.scan_rounds.specs.Jobs.{said_end, unread_in}
+use Rattle.scan_rounds.specs.ListOptions.{ListOptions}
+use Rattle.scan_rounds.specs.Rounds.{IsMapRead}
+use Rattle.scan_rounds.specs.BlockFilter.{unskipped_entries}
+use Rattle.scan_rounds.specs.ConsumedPages.{HasPages, PagesConsumed}
+use Rattle.scan_rounds.proofs.ReadMaps.{map_taken}
+use Rattle.scan_rounds.specs.declared.backend.Backend.{Backend}
+use Rattle.scan_rounds.specs.declared.job.Ending.{Ending as JobEnding}
+use Rattle.scan_rounds.specs.declared.job.Ending.TheVariants as ending
+use Rattle.aioscan_cmd.specs.Command.{MapOption, options_of_settings}
+use Rattle.aioscan_cmd.specs.RemainingRequests.{map_page_count, resolved_request_list}
+use Rattle.aioscan_cmd.specs.RemainingRequests.{resolved_requests, resolved_settings}
+use Rattle.aioscan_cmd.specs.ListerState.{outcome_of_ending}
+use Rattle.aioscan_cmd.specs.Output.{IsOutput, map_pages_known, command_format, format_of_options}
+use Rattle.aioscan_cmd.specs.RequestList.{Request, block_range, with_map}
+use Rattle.aioscan_cmd.specs.declared.cutter.ResolvedCommand.{ResolvedCommand}
+use Rattle.aioscan_cmd.specs.declared.report.Outcome.{Outcome}
+use Rattle.aioscan_cmd.specs.declared.report.Outcome.TheVariants.{Done, Unread}
+use Rattle.aioscan_cmd.proofs.MapPagesThenBlocks.{added_known, map_listed, range_count}
+use Rattle.aioscan_cmd.proofs.MapPagesThenBlocks.{rounds_listed, format_with_map}
+use Rattle.aioscan_cmd.proofs.MapPagesThenBlocks.{whole_list}
+use Rattle.aioscan_cmd.proofs.OutputsAppend.{lists_append, lists_more, lists_same}
+use Rattle.aioscan_cmd.proofs.BlocksOfOneRelation.{AreOf, unskipped_of_relation}
+
+-- a map that a scan has read
+module _ {W D : Type 0} (m m' : ListOptions) (told : Option Told) (bs cs : List (Backend W D))
+    (k k' : ℕ) (found : Map) (warnings : List ℕ) (end : JobEnding) (some : 1 ≤ length bs)
+    (manner : m' ≡ m) (count : k' ≡ k)
+    (read : IsMapRead m' told bs cs 1 k' found warnings end) where
+  taken : PagesConsumed (HasPages found warnings) m.zero told (λ _. ⊤) (block_range 1 0 k)
+      (said_end end)
+  taken = map_taken m m' told bs cs 1 k k' found warnings end some manner count read
+
+  pub map_part : (by : MapOption) (s : Option (List ℕ))
+      → IsOutput (format_with_map m (Some by)) told (block_range 1 0 k) s s
+      (outcome_of_ending 1 end) warnings
+  map_part by s = map_listed m told s by (λ _. ⊤) k found warnings end taken
+
+  pub map_added : end ≡ ending.Pages → found.added
+      ≡ map (map_pages_known told m.zero (λ b. slice_index_or found.added b []))
+      (range_with_len 0 k)
+  map_added all =
+      added_known m.zero told (λ _. ⊤) k found warnings
+      (subst (λ (e : JobEnding). PagesConsumed (HasPages found warnings) m.zero told (λ _. ⊤)
+      (block_range 1 0 k) (said_end e)) all taken)
+
+pub unread_out : (r : ℕ) (end : JobEnding) (o : Outcome) (q b : ℕ) → o ≡ outcome_of_ending r end
+    → o ≡ Unread q b → unread_in end ≡ 1
+unread_out r (ending.Unread n) o q b is out = refl
+unread_out r ending.Pages o q b is out = absurd (cc)
+unread_out r (ending.Invalid n) o q b is out = absurd (cc)
+unread_out r (ending.PastEnd n) o q b is out = absurd (cc)
+unread_out r ending.NoMemory o q b is out = absurd (cc)
+
+-- without a map all that the FILE words ask for
+module _ (a : ResolvedCommand) (none : (a.command.now).map ≡ None) (told : Option Told)
+    (given : ℕ → List ℕ) where
+  abbrev all_with : Option MapOption → List Request
+  all_with o = with_map o (slice_index a.lengths.now)
+      (map_pages_known told (a.command.now).settings.zero given) (resolved_requests a)
+
+  pub without_map : (b n : Option (List ℕ)) (o : Outcome) (w : List ℕ)
+      → IsOutput (format_of_options (options_of_settings (resolved_settings a))) told
+      (resolved_requests a) b n o w
+      → IsOutput (command_format a.command.now) told (resolved_request_list a told given) b n o w
+  without_map b n o w lists =
+      let P : Option MapOption → Type 0 =
+      λ x. IsOutput (format_with_map (options_of_settings (resolved_settings a)) x) told
+      (all_with x) b n o w in
+      subst P (sym none) lists
+
+  pub as_many : length (resolved_request_list a told given) ≡ length (resolved_requests a)
+  as_many = ap (λ (x : Option MapOption). length (all_with x)) none
+
+module _ (a : ResolvedCommand) (by : MapOption) (with_it : (a.command.now).map ≡ Some by)
+    (told : Option Told) (given : ℕ → List ℕ) where
+  abbrev m : ListOptions
+  m = options_of_settings (resolved_settings a)
+
+  abbrev mp : ℕ → List ℕ
+  mp = map_pages_known told (a.command.now).settings.zero given
+
+  abbrev list_with : Option MapOption → List Request
+  list_with o = with_map o (slice_index a.lengths.now) mp (resolved_requests a)
+
+  abbrev pages_read : List Request
+  pages_read = block_range 1 0 (map_page_count a)
+
+  abbrev rest : List Request
+  rest = unmarked_entries (map mp (range_with_len 0 (map_page_count a)))
+      by.skip (resolved_requests a)
+
+  as_asked : (b n : Option (List ℕ)) (o : Outcome) (w : List ℕ)
+      → IsOutput (format_with_map m (Some by)) told (list_with (Some by)) b n o w
+      → IsOutput (command_format a.command.now) told (resolved_request_list a told given) b n o w
+  as_asked b n o w lists =
+      let P : Option MapOption → Type 0 =
+      λ x. IsOutput (format_with_map m x) told (list_with x) b n o w in
+      subst P (sym with_it) lists
+
+  asked_length : length (resolved_request_list a told given) ≡ map_page_count a + length rest
+  asked_length =
+      ap (λ (x : Option MapOption). length (list_with x)) with_it
+      ∙ length-append pages_read rest
+      ∙ ap (λ (n : ℕ). n + length rest) (range_count 1 0 (map_page_count a))
+
+  pub pages_asked : map_page_count a ≤ length (resolved_request_list a told given)
+  pages_asked = omega (arith, asked_length)
+
+  -- reading the map stopped
+  pub map_stopped : (s : Option (List ℕ)) (o : Outcome) (w : List ℕ) → o ≢ Done
+      → IsOutput (format_with_map m (Some by)) told pages_read s s o w
+      → IsOutput (command_format a.command.now) told (resolved_request_list a told given) s s o w
+  map_stopped s o w stops lists =
+      as_asked s s o w (lists_more (format_with_map m (Some by)) told pages_read
+      rest s s o w stops lists)
+
+  module _ (skip : Skip) (added : List (List ℕ)) (skip_is : by.skip ≡ skip)
+      (known : added ≡ map mp (range_with_len 0 (map_page_count a))) where
+    abbrev kept : List Request
+    kept = unskipped_entries (Some (record { pages = added; skip = skip })) (resolved_requests a)
+
+    whole : pages_read ++ kept ≡ list_with (Some by)
+    whole =
+        ap (λ (x : Skip). pages_read
+        ++ unskipped_entries (Some (record { pages = added; skip = x })) (resolved_requests a))
+        (sym skip_is) ∙ whole_list by (slice_index a.lengths.now) mp (resolved_requests a)
+        (map_page_count a) added refl known
+
+    pub all_asked : map_page_count a + length kept ≡ length (resolved_request_list a told given)
+    all_asked =
+        sym (ap (λ (n : ℕ). n + length kept) (range_count 1 0 (map_page_count a)))
+        ∙ sym (length-append pages_read kept) ∙ ap length whole
+        ∙ sym (ap (λ (x : Option MapOption). length (list_with x)) with_it)
+
+    -- the map was read, and then the rounds
+    pub map_followed : (s n : Option (List ℕ)) (first last : Outcome) (v w : List ℕ)
+        → first ≡ Done → AreOf 0 (resolved_requests a)
+        → IsOutput (format_with_map m (Some by)) told pages_read s s first v
+        → IsOutput (format_of_options m) told kept s n last w
+        → IsOutput (command_format a.command.now) told
+        (resolved_request_list a told given) s n last (v ++ w)
+    map_followed s n first last v w done zero before rounds =
+        let front = subst (λ (o : Outcome). IsOutput (format_with_map m (Some by))
+        told pages_read s s o v) done before in
+        let back = rounds_listed m told (Some by) kept s n last w
+        (unskipped_of_relation 0 (Some (record { pages = added; skip = skip }))
+        (resolved_requests a) zero) rounds
+        in
+        as_asked s n last (v ++ w)
+        (lists_same (format_with_map m (Some by)) told _ _ s n last (v ++ w) whole
+        (lists_append (format_with_map m (Some by)) told pages_read kept s s n last v w front back))

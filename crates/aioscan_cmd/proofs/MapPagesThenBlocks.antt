@@ -1,0 +1,180 @@
+-- Listing by a map: its pages, and then the blocks that it does not mark.
+use Rattle.std.proofs.Common.{◌≡◌, ℕ, zero, suc, ◌+◌, ◌≤◌, Bool, List, [], ◌∷◌, ◌++◌, length}
+use Rattle.std.proofs.Common.{map, take, refl, sym, ap, ◌∙◌, arith, length-take}
+use Rattle.std.specs.Prelude.{Option, Some, None, slice_index_or, ⊤}
+use Rattle.std.specs.List.{range_with_len}
+use Rattle.std.proofs.lemmas.List.{length-map, take_all}
+use Rattle.std.proofs.lemmas.List.FromFn.{length-range_with_len}
+use Rattle.page_check.specs.Told.{Told}
+use Rattle.page_check.specs.SynchronousAnswer.{Reader, End, found_page, reader_of, zeroing}
+use Rattle.page_check.specs.SynchronousAnswer.{found_at}
+use Rattle.page_check.specs.SynchronousAnswer.{entry_given, readable_pages, read_count}
+use Rattle.page_check.proofs.AnswersOfLists.{all_given, length_whole}
+use Rattle.heap_scan.specs.Job.{IsJobAnswer, block_entry}
+use Rattle.heap_scan.specs.Listing.{listing}
+use Rattle.heap_scan.specs.Sums.{sums_of}
+use Rattle.heap_tuple.specs.Listing.{text_with}
+use Rattle.vis_map.specs.Bits.{Map}
+use Rattle.vis_map.specs.MapRequest.{greatest_of, unmarked_entries, needed_pages}
+use Rattle.scan_rounds.specs.Jobs.{said_end}
+use Rattle.scan_rounds.specs.ListOptions.{ListOptions}
+use Rattle.scan_rounds.specs.BlockFilter.{unskipped_entries}
+use Rattle.scan_rounds.specs.ConsumedPages.{HasPages, PagesConsumed}
+use Rattle.scan_rounds.specs.declared.job.Ending.{Ending as JobEnding}
+use Rattle.scan_rounds.proofs.Blocks.{answer_wider}
+use Rattle.scan_rounds.proofs.JobListed.{none_warned}
+use Rattle.aioscan_cmd.specs.Command.{MapOption}
+use Rattle.aioscan_cmd.specs.ListerState.{outcome_of_ending}
+use Rattle.aioscan_cmd.specs.Output.{IsOutput, ListFormat, map_pages_known, format_of_options}
+use Rattle.aioscan_cmd.specs.RequestList.{Page, Request, block_range, without_map_pages, with_map}
+use Rattle.aioscan_cmd.specs.declared.report.Outcome.{Outcome}
+use Rattle.aioscan_cmd.proofs.SinkTextsAppend.{SinkGrew-nothing, SinkGrew-same}
+use Rattle.aioscan_cmd.proofs.JobTextOutput.{text_listed}
+use Rattle.aioscan_cmd.proofs.PagesOfOneRelation.{first_pages_of, map_listing, other_listing}
+use Rattle.aioscan_cmd.proofs.PagesOfOneRelation.{pages_are_of}
+use Rattle.aioscan_cmd.proofs.BlocksOfOneRelation.{AreOf, range_of}
+
+-- the way of a command with this map
+abbrev pub format_with_map : ListOptions → Option MapOption → ListFormat
+format_with_map m by = record { zero = m.zero; text_of = without_map_pages by (text_with m.tuples) }
+
+module _ (m : ListOptions) (told : Option Told) (s : Option (List ℕ)) where
+  -- the pages of the map were read, up to this ending, and have no text
+  pub map_listed : (by : MapOption) (may : Request → Type 0) (k : ℕ) (found : Map)
+      (warnings : List ℕ) (end : JobEnding)
+      → PagesConsumed (HasPages found warnings) m.zero told may (block_range 1 0 k) (said_end end)
+      → IsOutput (format_with_map m (Some by)) told (block_range 1 0 k) s s
+      (outcome_of_ending 1 end) warnings
+  map_listed by may k found warnings end given =
+      let found_by = reader_of m.zero told in
+      let blocks = block_range 1 0 k in
+      let text_of = without_map_pages (Some by) (text_with m.tuples) in
+      let pages_of_map = pages_are_of 1 found_by blocks given.pages (range_of 1 0 k)
+      given.answers.first in
+      let answer : IsJobAnswer text_of found_by (λ _. ⊤) blocks [] warnings
+      (sums_of given.pages) (said_end end) = record {
+        pages = given.pages;
+        text_is = sym (map_listing by (text_with m.tuples) given.pages pages_of_map);
+        warnings_are = given.held.warnings_are;
+        sums_are = refl;
+        answers = answer_wider found_by may (λ _. ⊤) blocks _ (λ e may. tt) given.answers;
+      } in
+      text_listed 1 blocks (range_of 1 0 k) (format_with_map m (Some by)) told [] warnings
+      (sums_of given.pages) s s end answer (SinkGrew-nothing s)
+      (λ off. given.held.warnings_are ∙ none_warned given.pages (given.none_zeroed off))
+
+-- pages of relation 0 have the same text, whether or not there is a map
+module _ (m : ListOptions) (told : Option Told) (by : Option MapOption) (xs : List Request)
+    (b a : Option (List ℕ)) (o : Outcome) (w : List ℕ) (all : AreOf 0 xs)
+    (lists : IsOutput (format_of_options m) told xs b a o w) where
+  of_zero : (k : ℕ) → listing (text_with m.tuples) (take k lists.answer.pages)
+      ≡ listing (without_map_pages by (text_with m.tuples)) (take k lists.answer.pages)
+  of_zero k = other_listing by (text_with m.tuples) (take k lists.answer.pages)
+      (first_pages_of 0 k lists.answer.pages
+      (pages_are_of 0 (reader_of m.zero told) xs lists.answer.pages all
+      lists.answer.answers.first))
+
+  pub rounds_listed : IsOutput (format_with_map m by) told xs b a o w
+  rounds_listed = record {
+    begun = lists.begun;
+    text = lists.text;
+    all_warnings = lists.all_warnings;
+    sums = lists.sums;
+    answer = record {
+      pages = lists.answer.pages;
+      text_is = lists.answer.text_is
+          ∙ other_listing by (text_with m.tuples) lists.answer.pages
+          (pages_are_of 0 (reader_of m.zero told) xs lists.answer.pages all
+          lists.answer.answers.first);
+      warnings_are = lists.answer.warnings_are;
+      sums_are = lists.answer.sums_are;
+      answers = lists.answer.answers;
+    };
+    here = lists.here;
+    grew = lists.grew;
+    whole = lists.whole;
+    among = lists.among;
+    all = lists.all;
+    reached = (
+      lists.reached.0,
+      SinkGrew-same b a _ _ (ap (λ (l : List ℕ). l ++ lists.reached.0) (of_zero lists.whole))
+          lists.reached.1,
+    );
+    warned = lists.warned;
+    quiet = lists.quiet;
+  }
+
+-- the elements of a list, by their places
+shifted : {X : Type 0} (f : ℕ → X) (a n : ℕ)
+    → map f (range_with_len (suc a) n) ≡ map (λ b. f (suc b)) (range_with_len a n)
+shifted f a zero = refl
+shifted {X} f a (suc n) =
+    let next : suc a + 1 ≡ suc (a + 1) = omega arith in
+    ap (λ (l : List X). f (suc a) ∷ l)
+    (ap (λ (x : ℕ). map f (range_with_len x n)) next ∙ shifted f (a + 1) n)
+
+by_places : {X : Type 0} (d : X) (xs : List X)
+    → map (λ b. slice_index_or xs b d) (range_with_len 0 (length xs)) ≡ xs
+by_places d [] = refl
+by_places {X} d (x ∷ xs) =
+    let one : 0 + 1 ≡ suc 0 = omega arith in
+    ap (λ (l : List X). x ∷ l)
+    (ap (λ (n : ℕ). map (λ b. slice_index_or (x ∷ xs) b d) (range_with_len n (length xs))) one
+    ∙ (shifted (λ b. slice_index_or (x ∷ xs) b d) 0 (length xs) ∙ by_places d xs))
+
+pages_of_blocks : (f : Reader) (r first n : ℕ)
+    → map (λ (g : Page). g.page) (map (entry_given f) (block_range r first n))
+    ≡ map (λ b. found_page (f r b)) (range_with_len first n)
+pages_of_blocks f r first zero = refl
+pages_of_blocks f r first (suc n) =
+    ap (λ (l : List (List ℕ)). found_page (f r first) ∷ l) (pages_of_blocks f r (first + 1) n)
+
+pub range_count : (r first n : ℕ) → length (block_range r first n) ≡ n
+range_count r first n =
+    length-map (range_with_len first n) (block_entry r) ∙ length-range_with_len first n
+
+-- a map that was read to its end has the pages that synchronous reads give, or else those that were
+-- given
+pub added_known : (on : Bool) (told : Option Told) (may : Request → Type 0) (k : ℕ) (found : Map)
+    (warnings : List ℕ)
+    → PagesConsumed (HasPages found warnings) on told may (block_range 1 0 k) (Some End)
+    → found.added
+    ≡ map (map_pages_known told on (λ b. slice_index_or found.added b [])) (range_with_len 0 k)
+added_known on None may k found warnings given =
+    let many : length found.added ≡ k =
+    ap length given.held.added ∙ length-map given.pages (λ (g : Page). g.page)
+    ∙ given.answers.endings.0 ∙ range_count 1 0 k in
+    sym (by_places [] found.added)
+    ∙ ap (λ (n : ℕ). map (λ b. slice_index_or found.added b []) (range_with_len 0 n)) many
+added_known on (Some t) may k found warnings given =
+    let f = zeroing on (found_at t) in
+    let blocks = block_range 1 0 k in
+    let n = read_count f blocks in
+    let end = given.answers.endings.0 in
+    let whole : length given.pages ≡ length blocks = length_whole (Some f) blocks given.pages end in
+    let all : readable_pages f blocks ≡ given.pages =
+    all_given f blocks given.pages given.answers.first end.0 in
+    let long : length blocks ≤ n =
+    omega (
+      arith,
+      whole,
+      end.0,
+      length-map (take n blocks) (entry_given f),
+      length-take n blocks,
+    ) in
+    given.held.added ∙ ap (λ (l : List Page). map (λ g. g.page) l) (sym all)
+    ∙ ap (λ (l : List Request). map (λ (g : Page). g.page) (map (entry_given f) l))
+    (take_all n blocks long)
+    ∙ pages_of_blocks f 1 0 k
+
+-- all that is asked for: the pages of the map, and what it leaves
+pub whole_list : (by : MapOption) (lengths : ℕ → ℕ) (mp : ℕ → List ℕ) (xs : List Request) (k : ℕ)
+    (added : List (List ℕ)) → k ≡ needed_pages (lengths 1)
+    (greatest_of (map (λ (e : Request). e.block) xs))
+    → added ≡ map mp (range_with_len 0 k)
+    → block_range 1 0 k ++ unskipped_entries (Some (record { pages = added; skip = by.skip })) xs
+    ≡ with_map (Some by) lengths mp xs
+whole_list by lengths mp xs k added count same =
+    ap (λ (l : List (List ℕ)). block_range 1 0 k ++ unmarked_entries l by.skip xs) same
+    ∙ ap (λ (n : ℕ). block_range 1 0 n ++ unmarked_entries (map mp (range_with_len 0 n)) by.skip xs)
+    count

@@ -1,0 +1,223 @@
+-- Lists of blocks that were listed one after the other.
+use Rattle.std.proofs.Common.{◌≡◌, ◌≢◌, ◌+◌, ℕ, List, [], ◌++◌, length, take, refl, sym, ap}
+use Rattle.std.proofs.Common.{◌∙◌, subst, arith, append_assoc, length-append}
+use Rattle.std.specs.Prelude.{Option, Some, None, slice_get, ⊤}
+use Rattle.std.proofs.Math.Seq.{take-append-add}
+use Rattle.std.proofs.lemmas.List.{take_all}
+use Rattle.page_check.specs.Told.{Told}
+use Rattle.page_check.specs.SynchronousAnswer.{Ending, End, Reader, reader_of}
+use Rattle.page_check.proofs.AnswersInOrder.{answered_none, slice_get_front, slice_get_back}
+use Rattle.page_check.proofs.AnswersOfLists.{length_whole}
+use Rattle.page_check.proofs.AnswersOfBlocks.{answered_no_block}
+use Rattle.heap_scan.specs.Job.{IsJobAnswer}
+use Rattle.heap_scan.specs.Listing.{TextOf, listing}
+use Rattle.heap_scan.specs.Sums.{sums_joined, no_sums, sums_of}
+use Rattle.heap_scan.specs.Warnings.{warnings_of}
+use Rattle.heap_scan.proofs.Jobs.{job_append, job_more, listing-append, warnings-append, IsEarly}
+use Rattle.heap_scan.proofs.SumsOverPages.{sums_of-none}
+use Rattle.aio_disk.specs.Sink.{SinkGrew}
+use Rattle.aioscan_cmd.specs.RequestList.{Request, Page}
+use Rattle.aioscan_cmd.specs.Outcomes.{ending_of}
+use Rattle.aioscan_cmd.specs.Output.{OutputGrew, IsOutput, ListFormat}
+use Rattle.aioscan_cmd.specs.declared.report.Outcome.{Outcome}
+use Rattle.aioscan_cmd.specs.declared.report.Outcome.TheVariants.{Done, Invalid, Usage, CannotOpen}
+use Rattle.aioscan_cmd.specs.declared.report.Outcome.TheVariants.{NoLength, Unread, CannotWrite}
+use Rattle.aioscan_cmd.specs.declared.report.Outcome.TheVariants.{NoMemory, Missing, TooLong}
+use Rattle.aioscan_cmd.proofs.SinkTextsAppend.{SinkGrew-nothing, SinkGrew-append, SinkGrew-same}
+use Rattle.aioscan_cmd.proofs.SinkTextsAppend.{SinkGrewByPrefix-nothing}
+use Rattle.aioscan_cmd.proofs.SinkTextsAppend.{SinkGrewByPrefix-append}
+
+pub no_listing : (text_of : TextOf) → listing text_of (let none : List Page = [] in none) ≡ []
+unfolding listing
+no_listing text_of = refl
+
+no_pages_sums : sums_of (let none : List Page = [] in none) ≡ no_sums
+no_pages_sums = sums_of-none (Unit {0})
+
+pub no_warnings : warnings_of (let none : List Page = [] in none) ≡ []
+unfolding warnings_of
+no_warnings = refl
+
+-- no blocks have no pages
+pub no_answer : (text_of : TextOf) (found : Option Reader)
+    → IsJobAnswer text_of found (λ (e : Request). ⊤) [] [] [] no_sums (Some End)
+no_answer text_of found = record {
+  pages = [];
+  text_is = sym (no_listing text_of);
+  warnings_are = sym no_warnings;
+  sums_are = sym no_pages_sums;
+  answers = answered_no_block found (λ _. ⊤);
+}
+
+-- no page was listed, and then any text was written
+pub reached_none : (text_of : TextOf) (b a : Option (List ℕ)) (more : List ℕ) → SinkGrew b a more
+    → SinkGrew b a (listing text_of (let none : List Page = [] in none) ++ more)
+reached_none text_of b a more grew =
+    SinkGrew-same b a more _ (ap (λ (l : List ℕ). l ++ more) (sym (no_listing text_of))) grew
+
+-- no blocks
+pub lists_none : (m : ListFormat) (told : Option Told) (s : Option (List ℕ))
+    → IsOutput m told [] s s Done []
+unfolding no_answer
+lists_none m told s = record {
+  begun = refl;
+  text = [];
+  all_warnings = [];
+  sums = no_sums;
+  answer = no_answer m.text_of (reader_of m.zero told);
+  here = λ e is. absurd (cc);
+  grew = SinkGrew-nothing s;
+  whole = 0;
+  among = omega arith;
+  all = λ _. refl;
+  reached = ([], reached_none m.text_of s s [] (SinkGrew-nothing s));
+  warned = sym no_warnings;
+  quiet = λ _. refl;
+}
+
+OutputGrew-append : (o : Outcome) (b m a : Option (List ℕ)) (xs ys : List ℕ) → SinkGrew b m xs
+    → OutputGrew o m a ys → OutputGrew o b a (xs ++ ys)
+OutputGrew-append CannotWrite b m a xs ys first second = SinkGrewByPrefix-append b m a xs ys first
+    second
+OutputGrew-append NoMemory b m a xs ys first second =
+    SinkGrewByPrefix-append b m a xs ys first second
+OutputGrew-append Done b m a xs ys first second = SinkGrew-append b m a xs ys first second
+OutputGrew-append (Invalid r c) b m a xs ys first second = SinkGrew-append b m a xs ys first second
+OutputGrew-append (Missing r c) b m a xs ys first second = SinkGrew-append b m a xs ys first second
+OutputGrew-append (Unread r c) b m a xs ys first second = SinkGrew-append b m a xs ys first second
+OutputGrew-append Usage b m a xs ys first second = SinkGrew-append b m a xs ys first second
+OutputGrew-append CannotOpen b m a xs ys first second = SinkGrew-append b m a xs ys first second
+OutputGrew-append (NoLength r) b m a xs ys first second = SinkGrew-append b m a xs ys first second
+OutputGrew-append (TooLong r) b m a xs ys first second = SinkGrew-append b m a xs ys first second
+
+-- the warnings of pages that were all listed whole
+module _ (m : ListFormat) (told : Option Told) (requests : List Request) (b a : Option (List ℕ))
+    (o : Outcome) (w : List ℕ) (lists : IsOutput m told requests b a o w) where
+  pub all_warned : lists.whole ≡ length lists.answer.pages → w ≡ warnings_of lists.answer.pages
+  all_warned all =
+      lists.warned ∙ ap (λ (k : ℕ). warnings_of (take k lists.answer.pages)) all
+      ∙ ap warnings_of (take_all (length lists.answer.pages) lists.answer.pages (omega arith))
+
+-- some blocks to their end, and then some more
+pub lists_append : (m : ListFormat) (told : Option Told) (xs ys : List Request)
+    (b between a : Option (List ℕ)) (o : Outcome) (v w : List ℕ)
+    → IsOutput m told xs b between Done v → IsOutput m told ys between a o w
+    → IsOutput m told (xs ++ ys) b a o (v ++ w)
+unfolding job_append
+lists_append m told xs ys b between a o v w front back =
+    let text_of = m.text_of in
+    let found = reader_of m.zero told in
+    let texts : List Page → List ℕ = listing text_of in
+    let ps = front.answer.pages in
+    let qs = back.answer.pages in
+    let n = length ps in
+    let size : length (ps ++ qs) ≡ n + length qs = length-append ps qs in
+    let all : n ≡ length xs = length_whole found xs ps front.answer.answers.endings.0 in
+    let among = back.among in
+    let more = back.reached.0 in
+    let taken : take (n + back.whole) (ps ++ qs) ≡ ps ++ take back.whole qs =
+    take-append-add ps qs back.whole in record {
+      begun = back.begun;
+      text = front.text ++ back.text;
+      all_warnings = front.all_warnings ++ back.all_warnings;
+      sums = sums_joined front.sums back.sums;
+      answer =
+          job_append text_of found (λ _. ⊤) xs ys front.text back.text front.all_warnings
+          back.all_warnings front.sums back.sums (ending_of o) front.answer back.answer;
+      here = λ e is. (
+          ap (slice_get (xs ++ ys)) (size ∙ ap (λ (i : ℕ). i + length qs) all)
+          ∙ slice_get_back xs ys (length qs) ∙ back.here e is);
+      grew =
+          OutputGrew-append o b between a front.text back.text front.grew back.grew;
+      whole = n + back.whole;
+      among = omega (arith, size);
+      all = λ is. (let every = back.all is in omega (arith, size));
+      reached = (
+        more,
+        SinkGrew-same b a _ _
+            (ap (λ (l : List ℕ). l ++ (texts (take back.whole qs) ++ more)) front.answer.text_is
+            ∙ sym (append_assoc (texts ps) (texts (take back.whole qs)) more)
+            ∙ ap (λ (l : List ℕ). l ++ more)
+            (sym (listing-append text_of ps (take back.whole qs)) ∙ ap texts (sym taken)))
+            (SinkGrew-append b between a front.text (texts (take back.whole qs) ++ more) front.grew
+            back.reached.1),
+      );
+      warned =
+          ap (λ (l : List ℕ). l ++ w) (all_warned m told xs b between Done v front (front.all refl))
+          ∙ ap (λ (l : List ℕ). warnings_of ps ++ l) back.warned
+          ∙ sym (warnings-append ps (take back.whole qs)) ∙ ap warnings_of (sym taken);
+      quiet = λ off. (
+          ap (λ (l : List ℕ). l ++ w) (front.quiet off) ∙ back.quiet off);
+    }
+
+none_early : IsEarly None
+none_early = λ k d below. absurd (omega arith)
+
+one_early : (end : Ending) → end ≢ End → IsEarly (Some end)
+one_early end early = λ k d below. (let first : k ≡ 0 = omega arith in rw first early)
+
+early : (o : Outcome) → o ≢ Done → IsEarly (ending_of o)
+early Done stops = absurd (stops refl)
+early (Invalid r b) stops = one_early _ (λ e. cc)
+early (Missing r b) stops = one_early _ (λ e. cc)
+early (Unread r b) stops = one_early _ (λ e. cc)
+early CannotWrite stops = none_early
+early NoMemory stops = none_early
+early Usage stops = none_early
+early CannotOpen stops = none_early
+early (NoLength r) stops = none_early
+early (TooLong r) stops = none_early
+
+-- listing stopped, whatever is asked for behind
+pub lists_more : (m : ListFormat) (told : Option Told) (xs ys : List Request)
+    (b a : Option (List ℕ)) (o : Outcome) (w : List ℕ)
+    → o ≢ Done → IsOutput m told xs b a o w → IsOutput m told (xs ++ ys) b a o w
+unfolding job_more
+lists_more m told xs ys b a o w stops front = record {
+  begun = front.begun;
+  text = front.text;
+  all_warnings = front.all_warnings;
+  sums = front.sums;
+  answer =
+      job_more m.text_of (reader_of m.zero told) (λ _. ⊤) xs ys front.text
+      front.all_warnings front.sums (ending_of o) (early o stops) front.answer;
+  here = λ e is. slice_get_front xs ys (length front.answer.pages) e (front.here e is);
+  grew = front.grew;
+  whole = front.whole;
+  among = front.among;
+  all = front.all;
+  reached = front.reached;
+  warned = front.warned;
+  quiet = front.quiet;
+}
+
+pub lists_same : (m : ListFormat) (told : Option Told) (xs ys : List Request)
+    (b a : Option (List ℕ)) (o : Outcome) (w : List ℕ)
+    → xs ≡ ys → IsOutput m told xs b a o w → IsOutput m told ys b a o w
+lists_same m told xs ys b a o w same lists =
+    let P : List Request → Type 0 = λ l. IsOutput m told l b a o w in subst P same lists
+
+-- there was no memory before a page was given
+pub lists_nothing : (m : ListFormat) (told : Option Told) (xs : List Request) (s : Option (List ℕ))
+    → IsOutput m told xs s s NoMemory []
+lists_nothing m told xs s = record {
+  begun = refl;
+  text = [];
+  all_warnings = [];
+  sums = no_sums;
+  answer = record {
+    pages = [];
+    text_is = sym (no_listing m.text_of);
+    warnings_are = sym no_warnings;
+    sums_are = sym no_pages_sums;
+    answers = answered_none (reader_of m.zero told) (λ _. ⊤) xs;
+  };
+  here = λ e is. absurd (cc);
+  grew = SinkGrewByPrefix-nothing s s [] refl;
+  whole = 0;
+  among = omega arith;
+  all = λ is. absurd (cc);
+  reached = ([], reached_none m.text_of s s [] (SinkGrew-nothing s));
+  warned = sym no_warnings;
+  quiet = λ _. refl;
+}

@@ -1,0 +1,258 @@
+-- What is known of one run over contents that are told.
+use Rattle.std.proofs.Common.{◌≡◌, ℕ, ◌≤◌, List, ◌++◌, length, take, refl, sym, ap, ◌∙◌, arith}
+use Rattle.std.proofs.Common.{length-append, subst}
+use Rattle.std.specs.Prelude.{Option, Some, None, slice_get}
+use Rattle.std.proofs.Math.Seq.{take-append_seam}
+use Rattle.std.proofs.lemmas.List.{take-append-le}
+use Rattle.page_check.specs.Told.{Told, relation_block_count}
+use Rattle.page_check.specs.SynchronousAnswer.{Found, Page as FoundPage, Zeroed, Damaged, Absent}
+use Rattle.page_check.specs.SynchronousAnswer.{Reader, found_page, zeroing, End, PastEnd}
+use Rattle.page_check.specs.SynchronousAnswer.{Invalid as EndsInvalid, found_at, entry_found}
+use Rattle.page_check.specs.SynchronousAnswer.{readable_pages, first_stop, found_ending}
+use Rattle.page_check.specs.SynchronousAnswer.{stop_ending}
+use Rattle.page_check.proofs.AnswersOfLists.{all_given, first_stop-length}
+use Rattle.heap_scan.specs.Listing.{TextOf, listing}
+use Rattle.heap_scan.specs.Warnings.{warnings_of}
+use Rattle.heap_scan.proofs.Jobs.{listing-append}
+use Rattle.aio_disk.specs.Sink.{SinkGrew, SinkGrewByPrefix}
+use Rattle.aioscan_cmd.specs.Command.{Command}
+use Rattle.aioscan_cmd.specs.RequestList.{Request, Page, request, request_list}
+use Rattle.aioscan_cmd.specs.Output.{ObservedState, IsOutput, ListFormat, command_format}
+use Rattle.aioscan_cmd.specs.Run.{SynchronousRun, file_run, IsFileRun, IsCutAt, IsWarned}
+use Rattle.aioscan_cmd.specs.Run.{IsWarnedUpTo}
+use Rattle.aioscan_cmd.specs.Run.{Writes, outcome_of_found, outcome_of_stop}
+use Rattle.aioscan_cmd.specs.declared.report.Outcome.{Outcome}
+use Rattle.aioscan_cmd.specs.declared.report.Outcome.TheVariants.{Done, Invalid, Usage, CannotOpen}
+use Rattle.aioscan_cmd.specs.declared.report.Outcome.TheVariants.{NoLength, Unread, CannotWrite}
+use Rattle.aioscan_cmd.specs.declared.report.Outcome.TheVariants.{NoMemory, Missing, TooLong}
+use Rattle.aioscan_cmd.proofs.SinkTextsAppend.{SinkGrew-same, SinkGrewByPrefix-same}
+use Rattle.aioscan_cmd.proofs.SinkTextsAppend.{SinkGrewByPrefix-more}
+use Rattle.aioscan_cmd.proofs.OutputsAppend.{all_warned}
+
+-- the outcome where reading ends
+done_by : (f : Found) (r b block : ℕ) → found_ending f block ≡ End → outcome_of_found f r b ≡ Done
+done_by (FoundPage bytes) r b block is = refl
+done_by Zeroed r b block is = refl
+done_by Damaged r b block is = absurd (cc)
+done_by Absent r b block is = absurd (cc)
+
+done_at : (f : Reader) (stop : Option Request) → stop_ending f stop ≡ End
+    → outcome_of_stop f stop ≡ Done
+done_at f None is = refl
+done_at f (Some e) is = done_by (entry_found f e) e.relation e.block e.block is
+
+invalid_by : (f : Found) (r b : ℕ) → found_ending f b ≡ EndsInvalid b
+    → outcome_of_found f r b ≡ Invalid r b
+invalid_by (FoundPage bytes) r b is = absurd (cc)
+invalid_by Zeroed r b is = absurd (cc)
+invalid_by Damaged r b is = refl
+invalid_by Absent r b is = absurd (cc)
+
+missing_by : (f : Found) (r b : ℕ) → found_ending f b ≡ PastEnd b
+    → outcome_of_found f r b ≡ Missing r b
+missing_by (FoundPage bytes) r b is = absurd (cc)
+missing_by Zeroed r b is = absurd (cc)
+missing_by Damaged r b is = absurd (cc)
+missing_by Absent r b is = refl
+
+-- a run over contents that are told: its pages are the first of synchronous reads
+module _ (m : ListFormat) (t : Told) (requests : List Request) (b a : ObservedState) (o : Outcome)
+    (w : List ℕ) (lists : IsOutput m (Some t) requests b.written a.written o w) where
+  abbrev f : Reader
+  f = zeroing m.zero (found_at t)
+
+  abbrev texts : List Page → List ℕ
+  texts pages = listing m.text_of pages
+
+  abbrev all_pages : List Page
+  all_pages = readable_pages f requests
+
+  -- all of them
+  text_all : length lists.answer.pages ≡ length all_pages → lists.text ≡ texts all_pages
+  text_all all =
+      lists.answer.text_is
+      ∙ ap texts (sym (all_given f requests lists.answer.pages lists.answer.answers.first all))
+
+  -- and reading stops behind them
+  stop_here : (e : Request) → slice_get requests (length lists.answer.pages) ≡ Some e
+      → length lists.answer.pages ≡ length all_pages → first_stop f requests ≡ Some e
+  stop_here e here all =
+      first_stop-length f requests ∙ ap (slice_get requests) (sym all) ∙ here
+
+  text_begins : SinkGrewByPrefix b.written a.written lists.text
+      → SinkGrewByPrefix b.written a.written (texts all_pages)
+  text_begins grew =
+      let rest = lists.answer.answers.first.0 in
+      let same : lists.text ++ texts rest ≡ texts all_pages =
+      ap (λ (l : List ℕ). l ++ texts rest) lists.answer.text_is
+      ∙ sym (listing-append m.text_of lists.answer.pages rest)
+      ∙ ap texts (sym lists.answer.answers.first.1) in
+      SinkGrewByPrefix-same b.written a.written _ _ same
+      (SinkGrewByPrefix-more b.written a.written lists.text (texts rest) grew)
+
+  first_pages : lists.answer.pages ≡ take (length lists.answer.pages) all_pages
+  first_pages =
+      sym (ap (take (length lists.answer.pages)) lists.answer.answers.first.1
+      ∙ take-append_seam lists.answer.pages lists.answer.answers.first.0)
+
+  text_first : lists.text ≡ texts (take (length lists.answer.pages) all_pages)
+  text_first = lists.answer.text_is ∙ ap texts first_pages
+
+  among : length lists.answer.pages ≤ length all_pages
+  among =
+      omega (
+        arith,
+        ap length lists.answer.answers.first.1,
+        length-append lists.answer.pages lists.answer.answers.first.0,
+      )
+
+  -- the block of an outcome could not be read
+  cut_at : (r k : ℕ) → slice_get requests (length lists.answer.pages) ≡ Some (request r k)
+      → SinkGrew b.written a.written lists.text
+      → (run : SynchronousRun) → run.requests ≡ requests → run.pages ≡ all_pages
+      → run.text_of ≡ m.text_of → IsCutAt run b.written a.written r k
+  cut_at r k here grew run requests_are pages_are text_is =
+      let P : List Request → Type 0 =
+      λ l. slice_get l (length lists.answer.pages) ≡ Some (request r k) in
+      let Q : List Page → Type 0 = λ l. length lists.answer.pages ≤ length l in
+      let R : List Page → Type 0 = λ l. SinkGrew b.written a.written
+      (texts (take (length lists.answer.pages) l)) in
+      let T : TextOf → Type 0 = λ text_of. SinkGrew b.written a.written
+      (listing text_of (take (length lists.answer.pages) run.pages)) in record {
+        k = length lists.answer.pages;
+        here = subst P (sym requests_are) here;
+        among = subst Q (sym pages_are) among;
+        grew = subst T (sym text_is)
+            (subst R (sym pages_are) (SinkGrew-same b.written a.written _ _ text_first grew));
+      }
+
+  -- all of them were listed whole
+  warned_all : lists.whole ≡ length lists.answer.pages
+      → length lists.answer.pages ≡ length all_pages → w ≡ warnings_of all_pages
+  warned_all whole all =
+      all_warned m (Some t) requests b.written a.written o w lists whole
+      ∙ ap warnings_of
+      (sym (all_given f requests lists.answer.pages lists.answer.answers.first all))
+
+  warned_first : lists.whole ≡ length lists.answer.pages
+      → w ≡ warnings_of (take (length lists.answer.pages) all_pages)
+  warned_first whole =
+      all_warned m (Some t) requests b.written a.written o w lists whole
+      ∙ ap warnings_of first_pages
+
+  -- the first of them were listed whole
+  whole_pages : take lists.whole lists.answer.pages ≡ take lists.whole all_pages
+  whole_pages =
+      sym (ap (take lists.whole) lists.answer.answers.first.1
+      ∙ take-append-le lists.whole lists.answer.pages lists.answer.answers.first.0 lists.among)
+
+  warned_up_to : (run : SynchronousRun) → run.pages ≡ all_pages
+      → run.text_of ≡ m.text_of → IsWarnedUpTo run b.written a.written w
+  warned_up_to run pages_are text_is =
+      let few = among in
+      let within = lists.among in
+      let Q : List Page → Type 0 = λ l. lists.whole ≤ length l in
+      let R : List Page → Type 0 = λ l. SinkGrew b.written a.written (texts l ++ lists.reached.0) in
+      let T : TextOf → Type 0 = λ text_of. SinkGrew b.written a.written
+      (listing text_of (take lists.whole run.pages) ++ lists.reached.0) in
+      let here : take lists.whole lists.answer.pages ≡ take lists.whole run.pages =
+      whole_pages ∙ ap (take lists.whole) (sym pages_are) in record {
+        k = lists.whole;
+        among = subst Q (sym pages_are) (omega arith);
+        reached = (
+          lists.reached.0,
+          subst T (sym text_is) (subst R here lists.reached.1),
+        );
+        are = lists.warned ∙ ap warnings_of here;
+      }
+
+pub untouched_same : (b a : ObservedState) → a ≡ b → a.written ≡ b.written
+untouched_same b a same = ap (λ (s : ObservedState). s.written) same
+
+module _ (t : Told) (n : ℕ) (c : Command) (b a : ObservedState) where
+  abbrev m : ListFormat
+  m = command_format c
+
+  abbrev found : Reader
+  found = zeroing m.zero (found_at t)
+
+  abbrev blocks : List Request
+  blocks = request_list (relation_block_count t) (λ block. found_page (found 1 block)) c
+
+  abbrev run : SynchronousRun
+  run = file_run t c
+
+  pub writes : (o : Outcome) (w : List ℕ) → IsFileRun (Some t) n c b a o w
+      → Writes run b.written a.written o
+  writes Done w ran =
+      let lists = ran.lists refl in
+      let end = lists.answer.answers.endings.0 in (
+        done_at found (first_stop found blocks) end.1,
+        SinkGrew-same b.written a.written _ _ (text_all m t blocks b a Done w lists end.0)
+            lists.grew,
+      )
+  writes (Invalid r k) w ran =
+      let lists = ran.lists refl in
+      let end = lists.answer.answers.endings.0 in
+      let stop = stop_here m t blocks b a (Invalid r k) w lists (request r k)
+      (lists.here (request r k) refl) end.0 in (
+        ap (outcome_of_stop found) stop
+            ∙ invalid_by (found r k) r k (sym (ap (stop_ending found) stop) ∙ end.1),
+        SinkGrew-same b.written a.written _ _
+            (text_all m t blocks b a (Invalid r k) w lists end.0) lists.grew,
+      )
+  writes (Missing r k) w ran =
+      let lists = ran.lists refl in
+      let end = lists.answer.answers.endings.0 in
+      let stop = stop_here m t blocks b a (Missing r k) w lists (request r k)
+      (lists.here (request r k) refl) end.0 in (
+        ap (outcome_of_stop found) stop
+            ∙ missing_by (found r k) r k (sym (ap (stop_ending found) stop) ∙ end.1),
+        SinkGrew-same b.written a.written _ _
+            (text_all m t blocks b a (Missing r k) w lists end.0) lists.grew,
+      )
+  writes (Unread r k) w ran =
+      let lists = ran.lists refl in
+      cut_at m t blocks b a (Unread r k) w lists r k (lists.here (request r k) refl) lists.grew
+      run refl refl refl
+  writes CannotWrite w ran =
+      let lists = ran.lists refl in
+      text_begins m t blocks b a CannotWrite w lists lists.grew
+  writes NoMemory w ran =
+      let lists = ran.lists refl in
+      text_begins m t blocks b a NoMemory w lists lists.grew
+  writes Usage w ran = untouched_same b a (ran.untouched refl).0
+  writes CannotOpen w ran = untouched_same b a (ran.untouched refl).0
+  writes (NoLength r) w ran = untouched_same b a (ran.untouched refl).0
+  writes (TooLong r) w ran = untouched_same b a (ran.untouched refl).0
+
+  -- and what it has warned of
+  pub warned : (o : Outcome) (w : List ℕ) → IsFileRun (Some t) n c b a o w
+      → IsWarned run b.written a.written o w
+  unfolding cut_at
+  warned Done w ran =
+      let lists = ran.lists refl in
+      warned_all m t blocks b a Done w lists (lists.all refl)
+      lists.answer.answers.endings.0.0
+  warned (Invalid r k) w ran =
+      let lists = ran.lists refl in
+      warned_all m t blocks b a (Invalid r k) w lists (lists.all refl)
+      lists.answer.answers.endings.0.0
+  warned (Missing r k) w ran =
+      let lists = ran.lists refl in
+      warned_all m t blocks b a (Missing r k) w lists (lists.all refl)
+      lists.answer.answers.endings.0.0
+  warned (Unread r k) w ran =
+      let lists = ran.lists refl in (
+        cut_at m t blocks b a (Unread r k) w lists r k (lists.here (request r k) refl)
+            lists.grew run refl refl refl,
+        warned_first m t blocks b a (Unread r k) w lists (lists.all refl),
+      )
+  warned CannotWrite w ran =
+      warned_up_to m t blocks b a CannotWrite w (ran.lists refl) run refl refl
+  warned NoMemory w ran =
+      warned_up_to m t blocks b a NoMemory w (ran.lists refl) run refl refl
+  warned Usage w ran = (ran.untouched refl).1
+  warned CannotOpen w ran = (ran.untouched refl).1
+  warned (NoLength r) w ran = (ran.untouched refl).1
+  warned (TooLong r) w ran = (ran.untouched refl).1

@@ -1,0 +1,68 @@
+use Rattle.std.proofs.Common.{◌≡◌, ◌∙◌, ap, arith, refl, subst, inl, inr}
+use Rattle.std.specs.Prelude.{Some}
+use Rattle.heap_scan.specs.declared.sums.PageSums.{PageSums}
+use Rattle.aio_disk.specs.Counts.{CountRose}
+use Rattle.aio_disk.specs.Shelf.{Files, are_there, shelf_told}
+use Rattle.aioscan_cmd.specs.Command.{relations_of}
+use Rattle.aioscan_cmd.specs.GeneratedPages.{summary_line}
+use Rattle.aioscan_cmd.specs.Output.{OutputGrew}
+use Rattle.aioscan_cmd.specs.declared.report.Outcome.TheVariants.{NoMemory}
+use Rattle.aioscan_cmd.proofs.GeneratedScans.{all_listed, listed_sums_generated, generated_contents}
+use Rattle.aioscan_cmd.proofs.GeneratedScans.{generated_there}
+use Rattle.aioscan_cmd.proofs.GeneratedScans.{none_to_warn, one_relation}
+use Rattle.aioscan_cmd.proofs.GeneratedRuns.{ran_generated, ran_generated_without_memory}
+use Rattle.aioscan_cmd.proofs.ErrorTextsAppend.{warns_none}
+use Rattle.aioscan_cmd.proofs.generated_scan.list_generated.Goals as goal
+
+pub returns-in_default-clause-ran : goal.returns-in_default-clause-ran
+returns-in_default-clause-ran g c =
+    warns_none _ _ _ _ _ c.without_reads.ensures.line
+    (λ k. ran_generated_without_memory _ c.args.pages _ k _ _ c.without_reads.ensures.outcome refl)
+
+pub returns-then-is_done-clause-ran : goal.returns-then-is_done-clause-ran
+returns-then-is_done-clause-ran g c =
+    let generated = c.requires.generated in
+    let command = c.args.command.now in
+    let told = ap (λ (files : Files). shelf_told (Some files) (relations_of command))
+    c.in-Ok.ensures ∙ generated_contents c.args.pages command generated in
+    let done = c.is_done.ensures.done c.if-is_done.true in
+    let sums = listed_sums_generated c.args.pages command generated _ _ _ told done
+    c.list_files-end.ensures.sums in
+    let b = g.O.Sink.written c.args.out.now in
+    let a = g.O.Sink.written c.write_summary.new.out in
+    let P : PageSums → Type 0 = λ s. OutputGrew c.write_summary.result b a (summary_line s) in
+    let ran = c.list_files-end.ensures.ran in
+    let none = none_to_warn c.args.pages command generated _ _ _ _ c.list_files-end.result.outcome _
+    told (one_relation c.args.pages command generated) ran.are (inl done) in record {
+      warnings = ran.warnings;
+      tells = ran.tells;
+      are = λ k. ran_generated command.settings.zero c.args.pages generated.3 b a k
+          c.write_summary.result ran.warnings c.write_summary.ensures.ends none
+          (subst P sums c.write_summary.ensures.grew);
+    }
+
+pub returns-clause-ran : goal.returns-clause-ran
+returns-clause-ran g c =
+    let generated = c.requires.generated in
+    let command = c.args.command.now in
+    let told = ap (λ (files : Files). shelf_told (Some files) (relations_of command))
+    c.in-Ok.ensures ∙ generated_contents c.args.pages command generated in
+    let still : ¬ CountRose 0 0 = λ rose. absurd (omega (arith, rose)) in
+    let there = ap (λ (files : Files). are_there files.named (relations_of command))
+    c.in-Ok.ensures ∙ generated_there c.args.pages command generated in
+    let one = one_relation c.args.pages command generated in
+    let ran = c.list_files-end.ensures.ran in
+    let ended = all_listed c.args.pages command generated _ _ _ _ c.list_files-end.result.outcome _
+    told one ran.are _ _ _ _ c.list_files-end.ensures.causes c.list_files-end.ensures.words
+    (c.list_files-end.ensures.sure there) still still still in
+    let none = none_to_warn c.args.pages command generated _ _ _ _ c.list_files-end.result.outcome _
+    told one ran.are ended in
+    let memory : c.list_files-end.result.outcome ≡ NoMemory = elim ended [
+      | inl done ↦ absurd (c.is_done.ensures.other c.if-is_done.false done)
+      | inr no_memory ↦ no_memory
+    ] in record {
+      warnings = ran.warnings;
+      tells = ran.tells;
+      are = λ k. ran_generated_without_memory command.settings.zero c.args.pages
+          (g.O.Sink.written c.args.out.now) k _ ran.warnings memory none;
+    }

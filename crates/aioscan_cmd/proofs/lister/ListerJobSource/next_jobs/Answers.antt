@@ -1,0 +1,30 @@
+use Rattle.std.proofs.Common.{arith, ap, length, length-append, take, None}
+use Rattle.scan_rounds.specs.BlockFilter.{unskipped_entries}
+use Rattle.scan_rounds.proofs.UnskippedCount.{none_left_out}
+use Rattle.aioscan_cmd.specs.ListerState.{unskipped_job_requests, lister_filter}
+use Rattle.aioscan_cmd.proofs.JobTextsAppend.{requests_length}
+use Rattle.aioscan_cmd.proofs.UnskippedBlocksAppend.{unskipped_after_cut}
+use Rattle.aioscan_cmd.proofs.lister.ListerJobSource.next_jobs.Goals as goal
+
+pub returns-in-Done-clause-left : goal.returns-in-Done-clause-left
+returns-in-Done-clause-left g c =
+    let jobs = take c.fill.result c.fill.new.jobs in
+    omega (
+      arith,
+      ap length c.fill.ensures.cut,
+      length-append (unskipped_job_requests None jobs) c.fill.new.blocks,
+      requests_length None jobs,
+      none_left_out jobs,
+    )
+
+pub returns-in-Done-clause-due : goal.returns-in-Done-clause-due
+returns-in-Done-clause-due g c =
+    let jobs = take c.fill.result c.fill.new.jobs in
+    let skips = lister_filter c.args.self.now in
+    omega (
+      arith,
+      ap length (unskipped_after_cut skips jobs c.args.self.now.blocks
+          c.fill.new.blocks c.fill.ensures.cut),
+      length-append (unskipped_job_requests skips jobs) (unskipped_entries skips c.fill.new.blocks),
+      requests_length skips jobs,
+    )

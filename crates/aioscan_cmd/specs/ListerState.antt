@@ -1,0 +1,121 @@
+-- What the rounds of a run have listed.
+use Rattle.std.specs.Prelude.{◌≡◌, ◌≢◌, ◌⊎◌, ℕ, ◌++◌, List, [], Option, None, Some, ⊤}
+use Rattle.std.specs.List.{flat_map}
+use Rattle.page_check.specs.Told.{Told}
+use Rattle.scan_rounds.specs.ListOptions.{ListOptions, list_options}
+use Rattle.scan_rounds.specs.Jobs.{IsListed, AreAnswered, entries_of_job}
+use Rattle.scan_rounds.specs.BlockFilter.{BlockFilter, unskipped_entries, map_filter}
+use Rattle.scan_rounds.specs.declared.job.Ending.{Ending as JobEnding}
+use Rattle.scan_rounds.specs.declared.job.Ending.TheVariants as ending
+use Rattle.scan_rounds.specs.declared.job.Job.{Job}
+use Rattle.aioscan_cmd.specs.RequestList.{Request}
+use Rattle.aioscan_cmd.specs.Output.{IsOutput, WriteFaultsCounted, format_of_options}
+use Rattle.aioscan_cmd.specs.ErrorLine.{ErrorStream, Warns, error_stream}
+use Rattle.aioscan_cmd.specs.Sums.{HasSums}
+use Rattle.aioscan_cmd.specs.declared.lister.MapFilter.{MapFilter}
+use Rattle.aioscan_cmd.specs.declared.lister.Lister.{Lister}
+use Rattle.aioscan_cmd.specs.declared.report.Outcome.{Outcome}
+use Rattle.aioscan_cmd.specs.declared.report.Outcome.TheVariants.{Done, Invalid, Usage, CannotOpen}
+use Rattle.aioscan_cmd.specs.declared.report.Outcome.TheVariants.{NoLength, Unread, CannotWrite}
+use Rattle.aioscan_cmd.specs.declared.report.Outcome.TheVariants.{NoMemory, Missing, TooLong}
+
+-- the blocks that jobs ask for, except those that are left out
+abbrev pub unskipped_job_requests : Option BlockFilter → List Job → List Request
+unskipped_job_requests skips jobs = flat_map (entries_of_job skips) jobs
+
+-- the outcome where a job of this relation ended so
+abbrev pub outcome_of_ending : ℕ → JobEnding → Outcome
+outcome_of_ending r ending.Pages = Done
+outcome_of_ending r (ending.Invalid b) = Invalid r b
+outcome_of_ending r (ending.Unread b) = Unread r b
+outcome_of_ending r (ending.PastEnd b) = Missing r b
+outcome_of_ending r ending.NoMemory = NoMemory
+
+-- 1 where the outcome names a block that was not read
+abbrev pub unread_count : Outcome → ℕ
+unread_count (Unread r b) = 1
+unread_count Done = 0
+unread_count (Invalid r b) = 0
+unread_count (Missing r b) = 0
+unread_count Usage = 0
+unread_count CannotOpen = 0
+unread_count (NoLength r) = 0
+unread_count CannotWrite = 0
+unread_count NoMemory = 0
+unread_count (TooLong r) = 0
+
+-- the text of a job was written: the blocks that it was asked for were listed, with these warnings
+abbrev pub JobTextWritten : Job → Option (List ℕ) → Option (List ℕ) → Outcome → List ℕ → Type 0
+JobTextWritten job before now outcome warnings =
+    (skips : Option BlockFilter) (m : ListOptions) (told : Option Told) (asked : Job)
+    → IsListed skips m told (λ _. ⊤) asked job
+    → IsOutput (format_of_options m) told (entries_of_job skips asked) before now outcome warnings
+
+-- and the texts of some jobs
+abbrev pub AllJobTextsWritten : List Job → Option (List ℕ) → Option (List ℕ)
+    → Outcome → List ℕ → Type 0
+AllJobTextsWritten jobs before now outcome warnings =
+    (skips : Option BlockFilter) (m : ListOptions) (told : Option Told) (asked : List Job)
+    → AreAnswered skips m told asked jobs
+    → IsOutput (format_of_options m) told (unskipped_job_requests skips asked)
+    before now outcome warnings
+
+-- the blocks that are left out, where there is a map
+abbrev pub filter_of_map : Option MapFilter → Option BlockFilter
+filter_of_map None = None
+filter_of_map (Some by) = map_filter by.map.now by.skip
+
+module _ {W O E : Type 0} where
+  -- something has ended the run, or no block is left
+  abbrev pub IsOver : Lister W O E → Type 0
+  IsOver l = (l.outcome ≢ Done) ⊎ (l.blocks ≡ [])
+
+  -- the options by which it lists pages
+  abbrev pub lister_options : Lister W O E → ListOptions
+  lister_options l = list_options l.zero l.tuples
+
+  -- the blocks that it leaves out
+  abbrev pub lister_filter : Lister W O E → Option BlockFilter
+  lister_filter l = filter_of_map l.by_map
+
+  -- these jobs were cut off, where nothing has ended the run; nothing was written
+  pub record CutsOffJobs (s : Lister W O E) (asked : List Job) (t : Lister W O E) : Type 0 where
+    pub loans : (t.out.ghost_name ≡ s.out.ghost_name) × (t.err.ghost_name ≡ s.err.ghost_name)
+    pub out : t.out.now ≡ s.out.now
+    pub err : t.err.now ≡ s.err.now
+    pub line : t.line ≡ s.line
+    pub manner_kept : lister_options t ≡ lister_options s
+    pub skips_kept : lister_filter t ≡ lister_filter s
+    pub outcome : t.outcome ≡ s.outcome
+    pub sums : t.sums ≡ s.sums
+    pub cut : s.blocks ≡ unskipped_job_requests None asked ++ t.blocks
+
+  module _ (told : Option Told) (written : O → Option (List ℕ)) (faults : O → ℕ)
+      (err_written : E → Option (List ℕ)) (err_faults : E → ℕ) where
+    abbrev pub lister_error_stream : Lister W O E → ErrorStream
+    lister_error_stream l = error_stream l.line (err_written l.err.now) (err_faults l.err.now)
+
+    -- of these blocks the first were listed: all that are not left, where nothing has ended the run
+    pub record HasListed (skips : Option BlockFilter) (m : ListOptions) (all : List Request)
+        (before : Option (List ℕ)) (faults_before : ℕ) (errors : ErrorStream)
+        (l : Lister W O E) : Type 0 where
+      pub asked : List Request
+      pub rest : List Request
+      pub cut : all ≡ asked ++ rest
+      pub left : l.outcome ≡ Done → rest ≡ unskipped_entries skips l.blocks
+      pub manner_is : lister_options l ≡ m
+      pub skips_are : lister_filter l ≡ skips
+      pub lists : Warns (IsOutput (format_of_options m) told asked before
+          (written l.out.now) l.outcome) errors (lister_error_stream l)
+      pub sums : l.outcome ≡ Done → HasSums m told asked l.sums
+      pub writes : WriteFaultsCounted faults_before (faults l.out.now) l.outcome
+
+    -- some rounds have led from one state to the other: whatever was listed by the first, with
+    -- what they have listed it has been by the second
+    abbrev pub PreservesListing : Lister W O E → Lister W O E → Type 0
+    PreservesListing s t =
+        (t.out.ghost_name ≡ s.out.ghost_name) × (t.err.ghost_name ≡ s.err.ghost_name)
+        × ((skips : Option BlockFilter) (m : ListOptions) (all : List Request)
+        (before : Option (List ℕ)) (faults_before : ℕ) (errors : ErrorStream)
+        → HasListed skips m all before faults_before errors s
+        → HasListed skips m all before faults_before errors t)

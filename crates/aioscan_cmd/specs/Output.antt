@@ -1,0 +1,89 @@
+-- What a run has listed of a list of blocks, whether or not the contents are told.
+use Rattle.std.specs.Prelude.{◌≡◌, ◌≤◌, ◌++◌, ℕ, List, [], length, take, Option, slice_get}
+use Rattle.std.specs.Prelude.{Some, None, Bool, ⊤, false}
+use Rattle.page_check.specs.SynchronousAnswer.{found_at, found_page, reader_of, zeroing}
+use Rattle.page_check.specs.Told.{Told}
+use Rattle.heap_scan.specs.Job.{IsJobAnswer}
+use Rattle.heap_scan.specs.Listing.{TextOf, listing}
+use Rattle.heap_scan.specs.Warnings.{warnings_of}
+use Rattle.heap_scan.specs.declared.sums.PageSums.{PageSums}
+use Rattle.heap_tuple.specs.Listing.{text_with}
+use Rattle.scan_rounds.specs.ListOptions.{ListOptions}
+use Rattle.aio_disk.specs.Counts.{CountRose}
+use Rattle.aio_disk.specs.Sink.{SinkGrew, SinkGrewByPrefix}
+use Rattle.aioscan_cmd.specs.Command.{Command}
+use Rattle.aioscan_cmd.specs.RequestList.{Request, without_map_pages}
+use Rattle.aioscan_cmd.specs.Outcomes.{is_refused, is_output_cut_off, named_block, ending_of}
+use Rattle.aioscan_cmd.specs.declared.report.Outcome.{Outcome}
+use Rattle.aioscan_cmd.specs.declared.report.Outcome.TheVariants.{Done, Invalid, Usage, CannotOpen}
+use Rattle.aioscan_cmd.specs.declared.report.Outcome.TheVariants.{NoLength, Unread, CannotWrite}
+use Rattle.aioscan_cmd.specs.declared.report.Outcome.TheVariants.{NoMemory, Missing, TooLong}
+
+-- the format of a listing: whether damaged pages are given as zeros, and what text a page has
+pub record ListFormat : Type 0 where
+  pub zero : Bool
+  pub text_of : TextOf
+
+abbrev pub format_of_options : ListOptions → ListFormat
+format_of_options m = record { zero = m.zero; text_of = text_with m.tuples }
+
+-- that of a command
+abbrev pub command_format : Command → ListFormat
+command_format command = record {
+  zero = command.settings.zero;
+  text_of = without_map_pages command.map (text_with command.settings.tuples);
+}
+
+-- the state that is observed: the output, where it is told, and how often the disk was read
+pub record ObservedState : Type 0 where
+  pub written : Option (List ℕ)
+  pub reads : ℕ
+
+abbrev pub observed_state : Option (List ℕ) → ℕ → ObservedState
+observed_state output count = record { written = output; reads = count }
+
+-- the output grew by this text; by a begin of it where a write failed or there was no memory
+abbrev pub OutputGrew : Outcome → Option (List ℕ) → Option (List ℕ) → List ℕ → Type 0
+OutputGrew CannotWrite before after text = SinkGrewByPrefix before after text
+OutputGrew NoMemory before after text = SinkGrewByPrefix before after text
+OutputGrew Done before after text = SinkGrew before after text
+OutputGrew (Invalid r b) before after text = SinkGrew before after text
+OutputGrew (Missing r b) before after text = SinkGrew before after text
+OutputGrew (Unread r b) before after text = SinkGrew before after text
+OutputGrew Usage before after text = SinkGrew before after text
+OutputGrew CannotOpen before after text = SinkGrew before after text
+OutputGrew (NoLength r) before after text = SinkGrew before after text
+OutputGrew (TooLong r) before after text = SinkGrew before after text
+
+-- pages that answer these blocks, with this outcome, were listed in this format; these are the
+-- warnings of those whose text was written whole
+pub record IsOutput (m : ListFormat) (told : Option Told) (requests : List Request)
+    (before now : Option (List ℕ)) (outcome : Outcome) (warnings : List ℕ) : Type 0 where
+  pub begun : is_refused outcome ≡ false
+  pub text : List ℕ
+  pub all_warnings : List ℕ
+  pub sums : PageSums
+  pub answer : IsJobAnswer m.text_of (reader_of m.zero told) (λ _. ⊤) requests text
+      all_warnings sums (ending_of outcome)
+  pub here : (e : Request) → named_block outcome ≡ Some e
+      → slice_get requests (length answer.pages) ≡ Some e
+  pub grew : OutputGrew outcome before now text
+  -- the text of so many pages was written whole: of all, unless a write failed or there was no
+  -- memory
+  pub whole : ℕ
+  pub among : whole ≤ length answer.pages
+  pub all : is_output_cut_off outcome ≡ false → whole ≡ length answer.pages
+  pub reached : (more : List ℕ)
+      × SinkGrew before now (listing m.text_of (take whole answer.pages) ++ more)
+  pub warned : warnings ≡ warnings_of (take whole answer.pages)
+  pub quiet : m.zero ≡ false → warnings ≡ []
+
+-- what a run's writes have counted: no fault was forgotten, and one is named only where it rose
+pub record WriteFaultsCounted (faults_before faults_now : ℕ) (outcome : Outcome) : Type 0 where
+  pub later : faults_before ≤ faults_now
+  pub cannot_write : outcome ≡ CannotWrite → CountRose faults_before faults_now
+
+-- the pages of the map where contents are told, or else those that were given
+abbrev pub map_pages_known : Option Told → Bool → (ℕ → List ℕ) → ℕ → List ℕ
+map_pages_known (Some told) zero given = λ block. found_page (zeroing zero (found_at told) 1 block)
+map_pages_known None zero given = given

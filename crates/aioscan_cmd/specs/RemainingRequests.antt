@@ -1,0 +1,86 @@
+-- What is left of a request list when jobs were cut off from its front.
+use Rattle.std.specs.Prelude.{◌≡◌, ℕ, ◌+◌, ◌-◌, ◌^◌, ◌<◌, ◌≤◌, ◌++◌, List, [], ◌∷◌, drop, length}
+use Rattle.std.specs.Prelude.{map, slice_index, slice_index_or, Option, Some}
+use Rattle.vis_map.specs.MapRequest.{greatest_of, needed_pages}
+use Rattle.vis_map.specs.declared.map.Skip.{Skip}
+use Rattle.std.specs.List.{flat_map}
+use Rattle.page_check.specs.Told.{Told}
+use Rattle.scan_rounds.specs.declared.settings.ScanSettings.{ScanSettings}
+use Rattle.aioscan_cmd.specs.Command.{IsMapOf, MapOption, number_limit, relations_of}
+use Rattle.aioscan_cmd.specs.Command.{relation_number, first_block, asked_count}
+use Rattle.aioscan_cmd.specs.RequestList.{Request, block_range, request_list, one_file_requests}
+use Rattle.aioscan_cmd.specs.RequestList.{all_file_requests}
+use Rattle.aioscan_cmd.specs.Output.{map_pages_known}
+use Rattle.aioscan_cmd.specs.declared.cutter.ResolvedCommand.{ResolvedCommand}
+use Rattle.aioscan_cmd.specs.declared.cutter.JobRange.{JobRange}
+
+-- how the files are read, with the segment size of the disks
+abbrev pub resolved_settings : ResolvedCommand → ScanSettings
+resolved_settings a = record ((a.command.now).settings) { segment = a.segment }
+
+-- the relations are those of the command, each with a length that fits
+pub record IsResolved (a : ResolvedCommand) : Type 0 where
+  pub relations_are : a.relations.now ≡ relations_of a.command.now
+  pub lengths_are : length a.lengths.now ≡ length a.relations.now
+  pub fit : (r : ℕ) → slice_index a.lengths.now r ≤ number_limit
+  pub segment_is : 1 ≤ a.segment
+
+-- and there are so many
+abbrev pub ResolvesRelations : ℕ → ResolvedCommand → Type 0
+ResolvesRelations count a = IsResolved a × (count ≡ length a.relations.now)
+
+-- the blocks that the FILE words ask for
+abbrev pub resolved_requests : ResolvedCommand → List Request
+resolved_requests a = all_file_requests (slice_index a.lengths.now) a.command.now
+
+-- all blocks that are asked for, where the map has given these pages
+abbrev pub resolved_request_list : ResolvedCommand → Option Told → (ℕ → List ℕ) → List Request
+resolved_request_list a told given =
+    request_list (slice_index a.lengths.now)
+    (map_pages_known told (a.command.now).settings.zero given) a.command.now
+
+-- the command has a map, which leaves out these blocks
+pub record HasMap (a : ResolvedCommand) (skip : Skip) : Type 0 where
+  pub map : MapOption
+  pub given : (a.command.now).map ≡ Some map
+  pub skip_is : map.skip ≡ skip
+  pub of : IsMapOf (a.command.now).generated (a.command.now).files map
+
+-- the greatest block that the FILE words ask for
+abbrev pub greatest_requested_block : ResolvedCommand → Option ℕ
+greatest_requested_block a = greatest_of (map (λ (e : Request). e.block) (resolved_requests a))
+
+-- how many pages of the map are read
+abbrev pub map_page_count : ResolvedCommand → ℕ
+map_page_count a = needed_pages (slice_index a.lengths.now 1) (greatest_requested_block a)
+
+-- the blocks that a FILE word adds
+abbrev pub resolved_file_requests : ResolvedCommand → List ℕ → List Request
+resolved_file_requests a name = one_file_requests (slice_index a.lengths.now) a.command.now name
+
+-- but for the first so many
+abbrev pub remaining_of_file : ResolvedCommand → List ℕ → ℕ → List Request
+remaining_of_file a name done =
+    let r = relation_number name (relations_of a.command.now) in
+    block_range r (first_block a.command.now + done)
+    (asked_count a.command.now (slice_index a.lengths.now r) - done)
+
+-- those of some FILE words, but for the first so many of the first
+abbrev pub remaining_of_names : ResolvedCommand → List (List ℕ) → ℕ → List Request
+remaining_of_names a [] done = []
+remaining_of_names a (name ∷ names) done =
+    remaining_of_file a name done ++ flat_map (resolved_file_requests a) names
+
+-- those of the FILE words from one on
+unfoldable pub remaining_requests : ResolvedCommand → ℕ → ℕ → List Request
+remaining_requests a file done = remaining_of_names a (drop file (a.command.now).files) done
+
+-- the FILE word at a place
+abbrev pub file_name_of_place : ResolvedCommand → ℕ → List ℕ
+file_name_of_place a file = slice_index_or (a.command.now).files file []
+
+-- 1 to 64 blocks of a relation that there is, each with a number
+pub record IsJobRange (relations : ℕ) (cut : JobRange) : Type 0 where
+  pub relation_in : cut.relation < relations
+  pub few : (1 ≤ cut.count) × (cut.count ≤ 64)
+  pub within : cut.first + cut.count ≤ 2 ^ 32

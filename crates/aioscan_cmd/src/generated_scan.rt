@@ -1,0 +1,101 @@
+//! Scans generated pages, over a shelf of their own, and writes the line of their sums.
+ghost use Rattle.std.specs.Prelude.{◌≡◌, ◌≤◌, ℕ, IfOk, Some, string_bytes};
+ghost use Rattle.aio_disk.specs.Counts.{ShelfCounts};
+ghost use Rattle.aioscan_cmd.specs.Command.{AsksForGeneratedPages};
+ghost use Rattle.aioscan_cmd.specs.GeneratedPages.{generated_shelf_files, summary_line};
+ghost use Rattle.aioscan_cmd.specs.Output.{OutputGrew, WriteFaultsCounted, observed_state};
+ghost use Rattle.aioscan_cmd.specs.Run.{IsGeneratedOutcome, IsGeneratedRun};
+ghost use Rattle.aioscan_cmd.specs.ErrorLine.{Warns, error_stream};
+ghost use Rattle.aioscan_cmd.specs.Totals.{AreRunNumbers};
+
+use crate::generated::make_file;
+use crate::relation_files::list_files;
+use crate::report::RunEnd;
+use crate::words::Command;
+use crate::{Line, Outcome};
+use aio_disk::{MemShelf, Sink, SteadyShelf, WriteFault};
+use heap_scan::PageSums;
+use std::alloc::{AllocError, Global};
+use std::sync::Wait;
+use std::thread::Threads;
+
+// A shelf of so many generated pages, which has one file.
+fn generated_shelf(alloc: Global, pages: u32) -> Result<SteadyShelf, AllocError>
+    requires { pages ≤ 4096 }
+    ensures { IfOk result (λ shelf. shelf.files ≡ generated_shelf_files pages) }
+{
+    let mut files = Vec::with_capacity(alloc, 1)?;
+    files.push((String::from_str(alloc, "made")?, make_file(alloc, pages)?))?;
+    MemShelf::steady(alloc, files, 0)
+}
+
+/// A sink that keeps nothing: the texts of generated pages are not written.
+#[derive(Drop)]
+pub(crate) struct NullSink;
+
+impl Sink for NullSink {
+    ghost use Rattle.std.specs.Prelude.{None};
+
+    ghost written = { λ sink. None };
+
+    ghost faults = { λ sink. 0 };
+
+    fn write(&mut self, _bytes: &[u8]) -> Result<(), WriteFault> {
+        Ok(())
+    }
+}
+
+// The line of these sums.
+fn summary(alloc: Global, sums: PageSums) -> Result<String, AllocError>
+    ensures { IfOk result (λ text. string_bytes text ≡ summary_line sums) }
+{
+    let PageSums { pages, zero, items } = sums;
+    format!(in alloc; "pages {pages} new {zero} items {items}\n")
+}
+
+// Writes the line of these sums by one write.
+fn write_summary<O: Sink>(alloc: Global, sums: PageSums, out: &mut O) -> Outcome
+    ensures grew { OutputGrew result (O.written out.old) (O.written out.new) (summary_line sums) }
+    ensures writes { WriteFaultsCounted (O.faults out.old) (O.faults out.new) result }
+    ensures ends { IsGeneratedOutcome result }
+{
+    let Ok(text) = summary(alloc, sums) else {
+        return Outcome::NoMemory;
+    };
+    match out.write(text.as_str().as_bytes()) {
+        Ok(()) => Outcome::Done,
+        Err(WriteFault::Device) => Outcome::CannotWrite,
+        Err(WriteFault::Memory) => Outcome::NoMemory,
+    }
+}
+
+/// Scans so many generated pages, and writes the line of their sums.
+pub(crate) fn list_generated<O: Sink, E: Sink, R: Threads + Wait + Sync>(
+    rt: &R,
+    alloc: Global,
+    command: &Command<'_>,
+    pages: u32,
+    out: &mut O,
+    err: &mut E,
+) -> RunEnd
+    requires generated { AsksForGeneratedPages pages command.now }
+    ensures ran { Warns (λ warnings. (k : ℕ) → IsGeneratedRun command.now.settings.zero pages
+        (observed_state (O.written out.old) k) (observed_state (O.written out.new) k)
+        result.outcome warnings) (error_stream Line.Whole (E.written err.old) (E.faults err.old))
+        (error_stream result.line (E.written err.new) (E.faults err.new)) }
+    ensures writes { WriteFaultsCounted (O.faults out.old) (O.faults out.new) result.outcome }
+    ensures counted { (s : ShelfCounts) → AreRunNumbers (Some pages) (Some command.now) s s
+        result.outcome result.numbers }
+{
+    let Ok(mut shelf) = generated_shelf(alloc, pages) else {
+        return RunEnd::without_reads(Outcome::NoMemory);
+    };
+    let end = list_files(rt, alloc, command, &mut shelf, &mut NullSink, err);
+    if end.outcome.is_done() {
+        return RunEnd {
+            outcome: write_summary(alloc, end.sums, out),
+            ..end
+        };
+    }
+    end
+}

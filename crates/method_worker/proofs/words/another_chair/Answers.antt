@@ -1,6 +1,0 @@
-use Rattle.std.proofs.Common.{rules}
-use Rattle.method_worker.proofs.Keeping.{splits}
-use Rattle.method_worker.proofs.words.another_chair.Goals as goal
-
-pub split_seat-requires : goal.split_seat-requires
-split_seat-requires c = (c.requires.fits.0, search rules, splits _ _)

@@ -1,0 +1,29 @@
+-- The rule of the closing word.
+use Rattle.std.specs.Prelude.{ℕ, List, ◌∷◌, ◌++◌, ◌≡◌, ◌%◌, ◌/◌, slice_index}
+use mathlib.Core.Option.{some}
+use lib.ListN.{get_elem?}
+use Rattle.atomic_table.specs.Table.{State}
+use Rattle.method_worker.specs.declared.log.Notes.{Notes}
+
+abbrev pub word_notes : List ℕ → List ℕ → Notes
+word_notes closes loads = record { closes = closes; loads = loads }
+
+-- the number stands in the list
+abbrev pub ListHas : List ℕ → ℕ → Type 0
+ListHas xs n = (before : List ℕ) × (after : List ℕ) × (xs ≡ before ++ n ∷ after)
+
+-- some seat has closed the queue under that number of reopenings
+abbrev pub IsClosedIn : List Notes → ℕ → Type 0
+IsClosedIn views number = (port : ℕ) × (v : Notes) × (get_elem? views port ≡ some v)
+    × ListHas v.closes number
+
+-- the closing word is odd only where some seat has closed the queue under its number
+abbrev pub ClosingWordIsLawful : {S : Type 0} → State S Notes → Type 0
+ClosingWordIsLawful s = slice_index s.words 0 % 2 ≡ 1
+    → IsClosedIn s.views (slice_index s.words 0 / 2)
+
+-- beside this seat's notes there are such of the other seats that one seat has closed the queue
+-- under the number of this closing word
+abbrev pub IsClosedUnder : Notes → ℕ → Type 0
+IsClosedUnder v word = (views : List Notes) × (port : ℕ) × (get_elem? views port ≡ some v)
+    × IsClosedIn views (word / 2)

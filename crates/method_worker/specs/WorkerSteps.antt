@@ -1,0 +1,55 @@
+-- What a worker does with the references that it pops.
+use Rattle.std.specs.Prelude.{◌≡◌, ℕ, ◌⊎◌, Bool, true, false, List, [], ◌∷◌}
+use Rattle.aio_word.specs.declared.Known.{Known}
+use Rattle.aio_word.specs.declared.WaitRef.{WaitRef}
+use Rattle.aio_handle.specs.ClaimAttempt.{ClaimWon, ClaimLost}
+use Rattle.method_worker.specs.QueueViews.{SeatView}
+use Rattle.method_worker.specs.SeatCalls.{SeatPops, FoundClosed}
+
+-- a moment of a worker: its seat, and what its actor knows
+pub record WorkerState : Type 0 where
+  pub seat : SeatView
+  pub known : Known
+
+abbrev pub worker_state : SeatView → Known → WorkerState
+worker_state s p = record { seat = s; known = p }
+
+-- the actor claimed the incarnation and executed it, or found that it could not be claimed, and did
+-- nothing else
+abbrev pub ExecutesIfClaimed : WaitRef → Known → Known → Type 0
+ExecutesIfClaimed t p q = ((reads : ℕ) × (reads' : ℕ) × (faults : ℕ) × (faults' : ℕ)
+    × ClaimWon t p q reads reads' faults faults') ⊎ ClaimLost t p q
+
+-- the seat popped one reference, and then the actor tried it
+abbrev pub PopsAndExecutes : WorkerState → WorkerState → Type 0
+PopsAndExecutes m m' = (t : WaitRef) × (word : ℕ) × SeatPops (t ∷ []) (word ∷ []) m.seat m'.seat
+    × ExecutesIfClaimed t m.known m'.known
+
+-- the seat found no entry, and the actor did nothing
+abbrev pub FindsNoEntry : WorkerState → WorkerState → ℕ → Type 0
+FindsNoEntry m m' word = SeatPops [] (word ∷ []) m.seat m'.seat × (m'.known ≡ m.known)
+
+-- one turn: where there may be more, it tried one reference or found none; else it found the queue
+-- empty and closed
+abbrev pub WorkerStep : ℕ → ℕ → WorkerState → WorkerState → Bool → Type 0
+WorkerStep handles number m m' true = PopsAndExecutes m m' ⊎ ((word : ℕ) × FindsNoEntry m m' word)
+WorkerStep handles number m m' false = (word : ℕ) × FindsNoEntry m m' word
+    × FoundClosed handles number word m'.seat
+
+-- turns after which there may be more, from one moment to another: each begins where the one before
+-- it ended; the beginnings of all but the first, the last of them in front
+abbrev pub StepSequence : ℕ → ℕ → List WorkerState → WorkerState → WorkerState → Type 0
+StepSequence handles number [] m m' = WorkerStep handles number m m' true
+StepSequence handles number (k ∷ before) m m' = StepSequence handles number before m k
+    × WorkerStep handles number k m' true
+
+-- from one moment to another the worker made such turns, or none
+abbrev pub IsWorking : ℕ → ℕ → WorkerState → WorkerState → Type 0
+IsWorking handles number m m' = (m' ≡ m)
+    ⊎ ((turns : List WorkerState) × StepSequence handles number turns m m')
+
+-- the worker made turns, and in the last one found the queue empty and closed
+pub record WorksUntilClosed (handles : ℕ) (number : ℕ) (m m' : WorkerState) : Type 0 where
+  pub last : WorkerState
+  pub before : IsWorking handles number m last
+  pub ended : WorkerStep handles number last m' false

@@ -1,0 +1,49 @@
+-- A stream's actor has a free handle where it needs one.
+use Rattle.std.proofs.Common.{◌≡◌, ℕ, ◌<◌, List, [], ◌++◌, sym, ◌∙◌, subst}
+use Rattle.std.proofs.Common.{arith, ⊎_elim}
+use Rattle.page_check.specs.Told.{Told}
+use Rattle.std.specs.Prelude.{Option}
+use Rattle.aio_word.specs.declared.Config.{Config}
+use Rattle.aio_word.specs.declared.Known.{Known}
+use Rattle.aio_word.specs.declared.WaitRef.{WaitRef}
+use Rattle.aio_word.specs.Events.{wait_ref}
+use Rattle.aio_word.specs.Stands.{IsIn}
+use Rattle.aio_handle.specs.Free.{HasNoneFree, IsRoom}
+use Rattle.aio_handle.specs.CallEvents.{generation_of}
+use Rattle.aio_callback.specs.ReadIoView.{ReadIoView}
+use Rattle.read_stream.specs.declared.reads.Reads.{Reads}
+use Rattle.read_stream.specs.declared.scope.Scope.{Scope}
+use Rattle.read_stream.specs.StreamIos.{Issued, HasIdleHandle, references, known_at_open}
+use Rattle.read_stream.specs.StreamIos.{ios_allowed}
+
+module _ {W : Type 0} (c : Scope W) (told : Option Told) (relations : ℕ) (k : Config) (p : Known)
+    (s : Reads W) (same : c.was.value.known.config ≡ k) (i : Issued c told relations p s) where
+  abbrev room : IsRoom k (known_at_open c) c.most
+  room = subst (λ (z : Config). IsRoom z (known_at_open c) c.most) same i.room_was
+
+  -- with no I/O staged or in flight, each handle is in the middle of no life
+  pub idle-at-rest : p.number < k.backends → s.batch ≡ [] → s.in_flight.items ≡ []
+      → HasIdleHandle k p
+  idle-at-rest backend batch in_flight =
+      let (h, inside, own, full) =
+      room.exact (subst (λ (z : ℕ). z < k.backends) i.number backend) in
+      let t : WaitRef = wait_ref h (generation_of k p h) in
+      record {
+        handle = h;
+        inside = inside;
+        own = i.number ∙ own;
+        none = λ amid. ⊎_elim
+            (λ over. let (defined, reclaimed) = amid in omega arith)
+            (λ j. absurd (subst (λ (z : List WaitRef). IsIn t z) in_flight
+            (subst (λ (z : List (WaitRef × ReadIoView)). IsIn t (references z ++ s.in_flight.items))
+            batch j)))
+            (i.owed t);
+      }
+
+  -- fewer lives ended than each handle could have: so one that is idle is free
+  pub handle_is_free : ios_allowed s < c.most → HasIdleHandle k p → HasNoneFree k p → ⊥
+  handle_is_free io_budget idle none =
+      let left = room.for_each idle.handle idle.inside (sym i.number ∙ idle.own) in
+      let lived = i.lived idle.handle in
+      ⊎_elim (λ last. omega arith) (λ amid. idle.none amid)
+      (none idle.handle idle.inside idle.own)

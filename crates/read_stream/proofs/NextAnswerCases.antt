@@ -1,0 +1,98 @@
+-- What may be answered next, by what is known of the block at that place.
+use Rattle.std.proofs.Common.{◌≡◌, ℕ, ◌+◌, ◌≤◌, Bool, true, false, List, length, refl, sym, subst}
+use Rattle.std.proofs.Common.{ap}
+use Rattle.std.specs.Prelude.{Option, Some, None, IfSome, slice_get, cond}
+use Rattle.page_check.specs.Told.{Told}
+use Rattle.page_check.specs.SynchronousAnswer.{Entry, Found, End, Invalid, PastEnd, Unread}
+use Rattle.page_check.specs.SynchronousAnswer.{Page as FoundPage, Zeroed, Damaged, Absent}
+use Rattle.page_check.specs.SynchronousAnswer.{found_at, zeroed_if_damaged, reader_of}
+use Rattle.page_check.specs.SynchronousAnswer.{read_count}
+use Rattle.page_check.specs.IsAnswer.{Page, Stop, IsNext}
+use Rattle.page_check.proofs.NextAnswer as found
+use Rattle.page_check.proofs.ValidPages.{zero_page_valid}
+use Rattle.aio_callback.specs.Good.{IsGivenAs}
+
+-- the first k entries can be read
+abbrev pub ReadableUpTo : {P : Type 0} → Bool → Option Told → ℕ → List (Entry P) → Type 0
+ReadableUpTo zero told k es = IfSome (reader_of zero told) (λ f. k ≤ read_count f es)
+
+pub readable-then : {P : Type 0} (told : Option Told) (zero zero' : Bool) (k k' : ℕ)
+    (es es' : List (Entry P)) → zero' ≡ zero → k' ≡ k → es' ≡ es → ReadableUpTo zero told k es
+    → ReadableUpTo zero' told k' es'
+readable-then told zero zero' k k' es es' a b c far = rw (a, b, c) far
+
+-- a page is found as it is, with damaged pages zeroed or not
+page-found : (zero : Bool) (f : Found) (page : List ℕ) → f ≡ FoundPage page
+    → cond zero (zeroed_if_damaged f) f ≡ FoundPage page
+page-found false f page is = is
+page-found true f page is = ap zeroed_if_damaged is
+
+-- a damaged one is found zeroed where damaged ones are
+zeros-found : (zero : Bool) (f : Found) → zero ≡ true → f ≡ Damaged
+    → cond zero (zeroed_if_damaged f) f ≡ Zeroed
+zeros-found false f on is = absurd (cc)
+zeros-found true f on is = ap zeroed_if_damaged is
+
+-- and found damaged where they are not
+damage-found : (zero : Bool) (f : Found) → zero ≡ false → f ≡ Damaged
+    → cond zero (zeroed_if_damaged f) f ≡ Damaged
+damage-found false f off is = is
+damage-found true f off is = absurd (cc)
+
+-- no page is found either way
+absence-found : (zero : Bool) (f : Found) → f ≡ Absent
+    → cond zero (zeroed_if_damaged f) f ≡ Absent
+absence-found false f is = is
+absence-found true f is = ap zeroed_if_damaged is
+
+module _ {P : Type 0} (zero : Bool) (may : Entry P → Type 0) (es : List (Entry P)) (k : ℕ)
+    (e : Entry P) (at : slice_get es k ≡ Some e) where
+  -- where the contents are told, this is found for the entry
+  abbrev Finds : Option Told → Found → Type 0
+  Finds told shown = IfSome (reader_of zero told) (λ f. f e.relation e.block ≡ shown)
+
+  finds : (told : Option Told) (was shown : Found)
+      → ((f : Found) → f ≡ was → cond zero (zeroed_if_damaged f) f ≡ shown)
+      → IfSome told (λ t. found_at t e.relation e.block ≡ was) → Finds told shown
+  finds None was shown turns is = tt
+  finds (Some t) was shown turns is = turns (found_at t e.relation e.block) is
+
+  -- a page, zeroed or not, only where damaged pages are
+  pub next-page : (told : Option Told) (page : List ℕ) (zeroed : Bool) → ReadableUpTo zero told k es
+      → (zeroed ≡ true → zero ≡ true) → IsGivenAs told e.relation e.block page zeroed
+      → IsNext (reader_of zero told) may es k
+      (Page (record { entry = e; page = page; zeroed = zeroed }))
+      × ReadableUpTo zero told (k + 1) es
+  next-page told page false far on good =
+      found.next-page may es k e at (reader_of zero told) (FoundPage page) far refl good.valid
+      (finds told (FoundPage page) (FoundPage page) (λ f is. page-found zero f page is)
+      good.told_page)
+  next-page told page true far on bad =
+      subst (λ (z : List ℕ). IsNext (reader_of zero told) may es k
+      (Page (record { entry = e; page = z; zeroed = true })) × ReadableUpTo zero told (k + 1) es)
+      (sym bad.zeros)
+      (found.next-page may es k e at (reader_of zero told) Zeroed far refl zero_page_valid
+      (finds told Damaged Zeroed (λ f is. zeros-found zero f (on refl) is) bad.told_bad))
+
+  pub next-invalid : (told : Option Told) → ReadableUpTo zero told k es → zero ≡ false
+      → IfSome told (λ t. found_at t e.relation e.block ≡ Damaged)
+      → IsNext (reader_of zero told) may es k (Stop (Invalid e.block))
+  next-invalid told far off bad =
+      found.next-invalid may es k e at (reader_of zero told) far
+      (finds told Damaged Damaged (λ f is. damage-found zero f off is) bad)
+
+  pub next-past-end : (told : Option Told) → ReadableUpTo zero told k es
+      → IfSome told (λ t. found_at t e.relation e.block ≡ Absent)
+      → IsNext (reader_of zero told) may es k (Stop (PastEnd e.block))
+  next-past-end told far past =
+      found.next-past-end may es k e at (reader_of zero told) far
+      (finds told Absent Absent (absence-found zero) past)
+
+  pub next-unread : (told : Option Told) → may e
+      → IsNext (reader_of zero told) may es k (Stop (Unread e.block))
+  next-unread told cause = found.next-unread may es k e at (reader_of zero told) cause
+
+pub next-end : {P : Type 0} (zero : Bool) (may : Entry P → Type 0) (es : List (Entry P)) (k : ℕ)
+    (told : Option Told) → ReadableUpTo zero told k es → k ≡ length es
+    → IsNext (reader_of zero told) may es k (Stop End)
+next-end zero may es k told far all = found.next-end may es k (reader_of zero told) far all

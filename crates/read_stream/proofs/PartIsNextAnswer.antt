@@ -1,0 +1,112 @@
+-- What a record that was taken in has for a block is what may be answered next.
+use Rattle.std.proofs.Common.{◌≡◌, ℕ, ◌+◌, ◌-◌, Bool, true, false, List, ◌∷◌, drop, refl, sym}
+use Rattle.std.proofs.Common.{subst, arith, ◌∙◌}
+use Rattle.std.specs.Prelude.{Option, Some, IfSome, slice_get}
+use Rattle.page_check.specs.Told.{Told}
+use Rattle.page_check.specs.SynchronousAnswer.{Entry, reader_of, found_at, Damaged, Absent}
+use Rattle.page_check.specs.IsAnswer.{IsNext, Stop as SaidStop}
+use Rattle.aio_word.specs.declared.Class.{Class}
+use Rattle.aio_word.specs.declared.Class.TheVariants.{Failed}
+use Rattle.aio_word.specs.declared.Kind.TheVariants as kind
+use Rattle.aio_word.specs.declared.Known.{Known}
+use Rattle.aio_word.specs.Events.{make_mark}
+use Rattle.aio_callback.specs.Good.{IsGivenAs}
+use Rattle.aio_callback.specs.Cases.{stream_ids}
+use Rattle.aio_callback.specs.Finishes.{record_reference}
+use Rattle.aio_callback.specs.ReadIoView.{ReadIoView, record_page, record_zeroed}
+use Rattle.read_stream.specs.declared.answer.Ending.{Ending}
+use Rattle.read_stream.specs.declared.answer.Ending.TheVariants as ending
+use Rattle.read_stream.specs.declared.parts.Part.TheVariants as part
+use Rattle.read_stream.specs.declared.scope.Scope.{Scope}
+use Rattle.read_stream.specs.StreamAnswers.{stream_entry, stream_entries, synchronous_ending}
+use Rattle.read_stream.specs.StreamAnswers.{page_answer, IsFailedRead}
+use Rattle.read_stream.specs.StreamAnswers.{MayBeUnread}
+use Rattle.read_stream.specs.StreamIos.{IsTakenIn, known_at_open}
+use Rattle.read_stream.specs.Parts.{CoversBlock, IsPart}
+use Rattle.read_stream.specs.ActorProgress.{MarkedSince}
+use Rattle.read_stream.proofs.ListPositions.{here-at, mapped-at}
+use Rattle.read_stream.proofs.NextAnswerCases.{ReadableUpTo, next-page, next-invalid, next-past-end}
+use Rattle.read_stream.proofs.NextAnswerCases.{next-unread}
+
+-- the callbacks of a stream say whether damaged pages are zeroed
+pub ids-apart : (zero one : Bool) → stream_ids zero ≡ stream_ids one → zero ≡ one
+ids-apart false false e = refl
+ids-apart true true e = refl
+ids-apart false true e = absurd (cc)
+ids-apart true false e = absurd (cc)
+
+-- a record of a failed read says so
+pub failed_read : {W : Type 0} (c : Scope W) (told : Option Told) (relations : ℕ) (p : Known)
+    (io : ReadIoView) → IsTakenIn c told relations p io → (b : ℕ) → io.first ≡ b
+    → io.label.ended ≡ Failed → IsFailedRead c.was.value p c.relation b io
+failed_read c told relations p io taken b first failed = record {
+  relation_is = taken.aimed.relation;
+  first = first;
+  failed = failed;
+  submitted = taken.submitted;
+  taken = subst (λ (z : Class). MarkedSince (known_at_open c) p
+      (make_mark (record_reference io) (kind.Local z))) failed taken.local;
+  alone = λ one. subst
+      (λ (z : Class). MarkedSince (known_at_open c) p (make_mark (record_reference io) (kind.Io z)))
+      failed (taken.alone one);
+}
+
+module _ {W P : Type 0} (c : Scope W) (told : Option Told) (relations : ℕ) (list : List (ℕ × P))
+    (k b : ℕ) (info : P) (rest : List (ℕ × P)) (here : drop k list ≡ (b, info) ∷ rest)
+    (far : ReadableUpTo c.zero told k (stream_entries c.relation list)) (p : Known)
+    (io : ReadIoView) (taken : IsTakenIn c told relations p io) (has : CoversBlock io b) where
+  abbrev e : Entry P
+  e = stream_entry c.relation (b, info)
+
+  at : slice_get (stream_entries c.relation list) k ≡ Some e
+  at = mapped-at (stream_entry c.relation) list k (b, info) (here-at list k (b, info) rest here)
+
+  given-page : IsPart told io b part.Page → IsGivenAs told c.relation b
+      (record_page io (b - io.first)) (record_zeroed io (b - io.first))
+  given-page is =
+      let given = (taken.fits.ended taken.ended).good (b - io.first) is.0 in
+      let (low, below) = has in
+      let same : io.first + (b - io.first) ≡ b = omega arith in
+      subst (λ (r : ℕ). IsGivenAs told r b (record_page io (b - io.first))
+      (record_zeroed io (b - io.first))) taken.aimed.relation
+      (subst (λ (n : ℕ). IsGivenAs told io.relation n (record_page io (b - io.first))
+      (record_zeroed io (b - io.first))) same given)
+
+  -- a page of the record
+  pub page_is_next : IsPart told io b part.Page
+      → IsNext (reader_of c.zero told) (MayBeUnread c.was.value p) (stream_entries c.relation list)
+      k (page_answer c.relation b info (record_page io (b - io.first))
+      (record_zeroed io (b - io.first)))
+      × ReadableUpTo c.zero told (k + 1) (stream_entries c.relation list)
+  page_is_next is = next-page c.zero (MayBeUnread c.was.value p) (stream_entries c.relation list) k
+      e at told (record_page io (b - io.first)) (record_zeroed io (b - io.first)) far
+      (λ z. ids-apart c.zero true (sym taken.aimed.ids ∙ is.1 z)) (given-page is)
+
+  maybe-unread : io.first ≡ b → io.label.ended ≡ Failed → MayBeUnread c.was.value p e
+  maybe-unread first failed = (io, failed_read c told relations p io taken b first failed)
+
+  -- what stops the stream at the block
+  pub stop_is_next : (end : Ending) → IsPart told io b (part.Stop end)
+      → IsNext (reader_of c.zero told) (MayBeUnread c.was.value p) (stream_entries c.relation list)
+      k (SaidStop (synchronous_ending end))
+  stop_is_next ending.End is = absurd is
+  stop_is_next (ending.Invalid n) is =
+      subst (λ (z : ℕ). IsNext (reader_of c.zero told) (MayBeUnread c.was.value p)
+      (stream_entries c.relation list) k (SaidStop (synchronous_ending (ending.Invalid z))))
+      (sym is.0)
+      (next-invalid c.zero (MayBeUnread c.was.value p) (stream_entries c.relation list) k e at told
+      far (ids-apart c.zero false (sym taken.aimed.ids ∙ is.1))
+      (subst (λ (r : ℕ). IfSome told (λ t. found_at t r b ≡ Damaged)) taken.aimed.relation is.2))
+  stop_is_next (ending.Unread n) is =
+      subst (λ (z : ℕ). IsNext (reader_of c.zero told) (MayBeUnread c.was.value p)
+      (stream_entries c.relation list) k (SaidStop (synchronous_ending (ending.Unread z))))
+      (sym is.0)
+      (next-unread c.zero (MayBeUnread c.was.value p) (stream_entries c.relation list) k e at told
+      (maybe-unread is.1 is.2))
+  stop_is_next (ending.PastEnd n) is =
+      subst (λ (z : ℕ). IsNext (reader_of c.zero told) (MayBeUnread c.was.value p)
+      (stream_entries c.relation list) k (SaidStop (synchronous_ending (ending.PastEnd z))))
+      (sym is.0)
+      (next-past-end c.zero (MayBeUnread c.was.value p) (stream_entries c.relation list) k e at told
+      far
+      (subst (λ (r : ℕ). IfSome told (λ t. found_at t r b ≡ Absent)) taken.aimed.relation is.1))

@@ -1,0 +1,63 @@
+-- The block at the front of a stream's queue.
+use Rattle.std.proofs.Common.{◌≡◌, ℕ, ◌+◌, ◌-◌, ◌<◌, ◌≤◌, List, [], ◌∷◌, ◌++◌, length, map, ap, sym}
+use Rattle.std.proofs.Common.{arith, ◌∙◌, append_assoc, suc}
+use Rattle.std.specs.Prelude.{Option, Some, None, slice_get}
+use Rattle.std.specs.List.{range_with_len}
+use Rattle.std.proofs.lemmas.List.{length-map}
+use Rattle.page_check.specs.Told.{Told}
+use Rattle.aio_word.specs.declared.Known.{Known}
+use Rattle.read_plan.specs.declared.runs.Run.{Run}
+use Rattle.read_stream.specs.declared.queue.Want.{Want}
+use Rattle.read_stream.specs.declared.stream.ReadStream.{ReadStream}
+use Rattle.read_stream.specs.WantedBlocks.{block_number, blocks_of_want, wanted_blocks}
+use Rattle.read_stream.specs.WantedBlocks.{pending_blocks}
+use Rattle.read_stream.specs.StreamState.{UnderwayWith}
+use Rattle.read_stream.proofs.WantedBlocks.{few_in_queue}
+
+pub front_is : (xs ys : List ℕ) (a b : ℕ) → xs ≡ a ∷ ys → slice_get xs 0 ≡ Some b → a ≡ b
+front_is xs ys a b e first =
+    let f : Some a ≡ Some b = sym (ap (λ (z : List ℕ). slice_get z 0) e) ∙ first in cc
+
+-- the first of some numbers in a row
+pub range_first : (first count : ℕ) → 1 ≤ count
+    → range_with_len first count ≡ first ∷ range_with_len (first + 1) (count - 1)
+range_first first count some =
+    let n : count ≡ suc (count - 1) = omega arith in
+    ap (λ (z : ℕ). range_with_len first z) n
+
+module _ {W S P : Type 0} (left : S → List (ℕ × P)) (told : Option Told)
+    (relations handles : ℕ) where
+  -- the block at the front is the first of what is wanted first
+  pub front_want : (p : Known) (s : ReadStream W S P) (w : Want) (ws : List Want) (b block : ℕ)
+      → s.desk.now.wants.items ≡ w ∷ ws → blocks_of_want w ≡ b ∷ []
+      → slice_get (map block_number s.desk.now.queue.items) 0 ≡ Some block
+      → UnderwayWith left told relations handles [] [] 0 p s → b ≡ block
+  front_want p s w ws b block first one at u =
+      let more : List ℕ = wanted_blocks ws ++ (pending_blocks s.plan.pending ++ []) in
+      front_is (map block_number s.desk.now.queue.items) more b block
+      (u.going.front
+      ∙ (ap (λ (z : List Want). wanted_blocks z ++ (pending_blocks s.plan.pending ++ [])) first
+      ∙ (append_assoc (blocks_of_want w) (wanted_blocks ws) (pending_blocks s.plan.pending ++ [])
+      ∙ ap (λ (z : List ℕ). z ++ more) one))) at
+
+  -- where nothing is wanted or pending, no block is at the front
+  pub no_front : (p : Known) (s : ReadStream W S P) (block : ℕ)
+      → s.desk.now.wants.items ≡ [] → s.plan.pending ≡ None
+      → slice_get (map block_number s.desk.now.queue.items) 0 ≡ Some block
+      → UnderwayWith left told relations handles [] [] 0 p s → ⊥
+  no_front p s block none idle at u =
+      let empty : map block_number s.desk.now.queue.items ≡ [] = u.going.front
+      ∙ (ap (λ (z : List Want). wanted_blocks z ++ (pending_blocks s.plan.pending ++ [])) none
+      ∙ ap (λ (z : Option Run). pending_blocks z ++ []) idle) in
+      let e : None ≡ Some block = sym (ap (λ (z : List ℕ). slice_get z 0) empty) ∙ at in cc
+
+  -- one more I/O may be made for a block at hand
+  pub may_read : (p : Known) (s : ReadStream W S P) (hand : List ℕ)
+      → UnderwayWith left told relations handles hand [] 0 p s → 1 ≤ length hand
+      → 0 < s.desk.now.reads.io_budget
+  may_read p s hand u some =
+      let few = few_in_queue s.desk.now.combine handles s.desk.now.wants.items
+      (map block_number s.desk.now.queue.items) hand (pending_blocks s.plan.pending) []
+      u.going.wants u.going.front in
+      let n = length-map s.desk.now.queue.items block_number in
+      let c = u.going.io_budget in omega arith

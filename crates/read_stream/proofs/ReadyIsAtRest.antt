@@ -1,0 +1,26 @@
+-- A stream that is closed.
+use Rattle.std.proofs.Common.{◌≡◌, ℕ, List, [], ◌++◌, ap, subst, ⊎_elim}
+use Rattle.std.specs.Prelude.{Option}
+use Rattle.page_check.specs.Told.{Told}
+use Rattle.aio_word.specs.declared.Known.{Known}
+use Rattle.aio_word.specs.declared.WaitRef.{WaitRef}
+use Rattle.aio_word.specs.Stands.{IsIn}
+use Rattle.aio_handle.specs.Closing.{HasNoTokens}
+use Rattle.aio_callback.specs.ReadIoView.{ReadIoView}
+use Rattle.read_stream.specs.declared.reads.Reads.{Reads}
+use Rattle.read_stream.specs.declared.scope.Scope.{Scope}
+use Rattle.read_stream.specs.StreamIos.{Issued, IsReady, references}
+
+none-in : {A : Type 0} (x : A) (xs ys : List A) → xs ≡ [] → ys ≡ [] → IsIn x (xs ++ ys) → ⊥
+none-in {A} x xs ys e f i = subst (λ (z : List A). IsIn x ([] ++ z)) f
+    (subst (λ (z : List A). IsIn x (z ++ ys)) e i)
+
+pub at-rest : {W : Type 0} (c : Scope W) (told : Option Told) (relations : ℕ) (p : Known)
+    (s : Reads W) (room total : ℕ) → Issued c told relations p s → IsReady room total s
+    → HasNoTokens p
+at-rest c told relations p s room total i r = (
+  i.out,
+  (λ t. ⊎_elim (λ over. over)
+      (λ j. absurd (none-in t (references s.batch) s.in_flight.items
+      (ap (λ (z : List (WaitRef × ReadIoView)). references z) r.batch) r.in_flight j)) (i.owed t)),
+)

@@ -1,0 +1,258 @@
+-- The state of a stream's I/Os, over the calls of their actor.
+use Rattle.std.proofs.Common.{◌≡◌, ◌≢◌, ℕ, ◌+◌, ◌<◌, ◌≤◌, List, [], ◌∷◌, ◌++◌, length, refl, sym}
+use Rattle.std.proofs.Common.{ap, ◌∙◌, arith, append_assoc, subst, inl, inr, ⊎_elim, length-append}
+use Rattle.std.specs.Prelude.{Option, None}
+use Rattle.page_check.specs.Told.{Told}
+use Rattle.aio_word.specs.declared.Kind.TheVariants as kind
+use Rattle.aio_word.specs.declared.Known.{Known}
+use Rattle.aio_word.specs.declared.Mark.{Mark}
+use Rattle.aio_word.specs.declared.WaitRef.{WaitRef}
+use Rattle.aio_word.specs.Events.{mark_count}
+use Rattle.aio_word.specs.Stands.{IsIn}
+use Rattle.aio_word.specs.Tokens.{IsStaged}
+use Rattle.aio_word.proofs.ReplacedElement.{in-append, in-left, in-right}
+use Rattle.aio_handle.specs.UnchangedTokens.{TokenUnchanged}
+use Rattle.aio_handle.specs.Execution.{ExecutesAll}
+use Rattle.aio_handle.specs.LifeWords.{staged_word, unclaimed_word}
+use Rattle.aio_handle.proofs.TokensStay.{unchanged-by-execution}
+use Rattle.aio_batch.specs.StagedTokens.{AreStagedTokens}
+use Rattle.aio_batch.specs.NextSubmission.{IsNextSubmission}
+use Rattle.aio_batch.proofs.StagedTokensKept.{staged_tokens-kept, submission-keeps}
+use Rattle.aio_callback.specs.ReadIoView.{ReadIoView, record_aim}
+use Rattle.circular_buffer.specs.Buffer.{buffer}
+use Rattle.read_stream.specs.declared.reads.Reads.{Reads}
+use Rattle.read_stream.specs.declared.scope.Scope.{Scope}
+use Rattle.read_stream.specs.StreamIos.{IsForBlocks, IsAimed, IsNewIncarnation, Issued}
+use Rattle.read_stream.specs.StreamIos.{IssuedExcept, HeldByCaller, references}
+use Rattle.read_stream.specs.StreamIos.{record_count, known_at_open}
+use Rattle.read_stream.proofs.OwnerCountsKept.{OwnerCountsUnchanged, owner-counts-then}
+use Rattle.read_stream.proofs.OwnerCountsKept.{owner-counts-taking-up, owner-counts-submitting}
+use Rattle.read_stream.proofs.TakenInRecordKept.{taken-later}
+use Rattle.read_stream.proofs.InFlightUnchanged.{stream-ios-kept, stream-io-in, stream-ios-push}
+use Rattle.read_stream.proofs.BatchPushKeepsIssued.{issued-put}
+
+pub in-references : (u : WaitRef × ReadIoView) (xs : List (WaitRef × ReadIoView)) → IsIn u xs
+    → IsIn u.0 (references xs)
+in-references u [] i = absurd i
+in-references u (x ∷ xs) i =
+    ⊎_elim (λ e. inl (ap (λ (z : WaitRef × ReadIoView). z.0) e)) (λ j. inr (in-references u xs j)) i
+
+pub is-none : {A : Type 0} (xs : List A) → length xs ≤ 0 → xs ≡ []
+is-none [] le = refl
+is-none (x ∷ xs) le = absurd (omega arith)
+
+module _ {W : Type 0} (c : Scope W) where
+  pub issued-kept : (caller_refs : List WaitRef) (told : Option Told) (relations : ℕ) (p q : Known)
+      (s : Reads W) → OwnerCountsUnchanged p q → q.out ≡ None
+      → ((t : WaitRef) → IsIn t (references s.batch ++ s.in_flight.items) → TokenUnchanged t p q)
+      → IssuedExcept caller_refs c told relations p s
+      → IssuedExcept caller_refs c told relations q s
+  issued-kept caller_refs told relations p q s i out kept k = record {
+    room = k.room;
+    number = i.number ∙ k.number;
+    config = i.config ∙ k.config;
+    out = out;
+    free = k.free;
+    held = staged_tokens-kept p q s.batch
+        (λ u j. kept u.0 (in-left u.0 (references s.batch) s.in_flight.items
+        (in-references u s.batch j))) k.held;
+    staged = k.staged;
+    stream_ios = stream-ios-kept c p q s.in_flight.items
+        (λ t j. kept t (in-right t (references s.batch) s.in_flight.items j)) k.stream_ios;
+    ended = λ r j. taken-later c told relations p q r i (k.ended r j);
+    owed = λ t. ⊎_elim
+        (λ over. let a = i.defined t in let b = i.reclaimed t in inl (omega arith))
+        (λ j. inr j) (k.owed t);
+    most = k.most;
+    small = k.small;
+    room_was = k.room_was;
+    taken = i.locals ∙ k.taken;
+    lived = λ h. (let a = i.lived h in let b = k.lived h in omega arith);
+    since = (
+      k.since.0 ++ i.more,
+      i.grown ∙ (ap (λ (z : List Mark). z ++ i.more) k.since.1
+          ∙ append_assoc (known_at_open c).marks k.since.0 i.more),
+    );
+  }
+
+  pub issued-taking-up : (caller_refs : List WaitRef) (told : Option Told) (relations : ℕ)
+      (p q : Known) (s : Reads W) (a b d e : ℕ) → ExecutesAll [] p q a b d e
+      → IssuedExcept caller_refs c told relations p s
+      → IssuedExcept caller_refs c told relations q s
+  issued-taking-up caller_refs told relations p q s a b d e k i =
+      issued-kept caller_refs told relations p q s (owner-counts-taking-up p q a b d e k)
+      (k.grows.out ∙ i.out) (λ t j. unchanged-by-execution t [] p q a b d e k) i
+
+  -- one I/O of the batch was submitted, and its token lies with the caller
+  pub issued-lent : (told : Option Told) (relations : ℕ) (p q : Known)
+      (s : Reads W) (after : List (WaitRef × ReadIoView)) (t : WaitRef) (a b d e : ℕ)
+      → IsNextSubmission record_aim s.batch after t p q a b d e → AreStagedTokens q after
+      → IssuedExcept [] c told relations p s
+      → HeldByCaller c told relations q (record s { batch = after }) t
+  issued-lent told relations p q s after t a b d e n held k =
+      let xs : List (WaitRef × ReadIoView) = n.token ∷ after in
+      let was : AreStagedTokens p xs =
+      subst (λ (z : List (WaitRef × ReadIoView)). AreStagedTokens p z) n.first k.held in
+      let staged-t : IsStaged p t =
+      subst (λ (z : WaitRef). IsStaged p z) (sym n.reference) was.0 in
+      let stage-since = staged-t.since in
+      let stage-until = staged-t.until in
+      let i : OwnerCountsUnchanged p q = owner-counts-then p n.between q
+      (owner-counts-submitting t.handle (staged_word t.generation) (unclaimed_word t.generation)
+      (record_aim n.token.1) p n.between n.made)
+      (owner-counts-taking-up n.between q a b d e n.begun) in
+      let out : q.out ≡ None = n.begun.grows.out ∙ (ap (λ (z : Known). z.out) n.made.is ∙ k.out) in
+      let whole : length s.batch ≡ length (n.token ∷ after) =
+      ap (λ (z : List (WaitRef × ReadIoView)). length z) n.first in
+      let lengths : length s.batch ≡ length after + 1 = omega arith in
+      let kept : (u : WaitRef) → IsIn u s.in_flight.items → TokenUnchanged u p q =
+      λ u j. submission-keeps record_aim s.batch after t u p q a b d e k.held n
+      (λ st. absurd (let f = (stream-io-in c p s.in_flight.items u k.stream_ios j).in_flight.since
+      in
+      let y = st.until in omega arith)) in
+      let was-staged = k.staged n.token
+      (subst (λ (z : List (WaitRef × ReadIoView)). IsIn n.token z) (sym n.first) (inl refl)) in
+      record {
+        issued = record {
+          room = record {
+            free = k.room.free;
+            in_flight = k.room.in_flight;
+            ended = k.room.ended;
+            few = let f = k.room.few in omega arith;
+          };
+          number = i.number ∙ k.number;
+          config = i.config ∙ k.config;
+          out = out;
+          free = k.free;
+          held = held;
+          staged = λ x j. k.staged x
+              (subst (λ (z : List (WaitRef × ReadIoView)). IsIn x z) (sym n.first) (inr j));
+          stream_ios = stream-ios-kept c p q s.in_flight.items kept k.stream_ios;
+          ended = λ r j. taken-later c told relations p q r i (k.ended r j);
+          owed = λ x. ⊎_elim
+              (λ over. let y = i.defined x in let z = i.reclaimed x in inl (omega arith))
+              (λ j. inr (subst
+              (λ (z : WaitRef). IsIn x ((z ∷ []) ++ references after ++ s.in_flight.items))
+              (sym n.reference)
+              (subst (λ (z : List (WaitRef × ReadIoView)).
+              IsIn x (references z ++ s.in_flight.items)) n.first j)))
+              (k.owed x);
+          most = let f = k.most in omega arith;
+          small = k.small;
+          room_was = k.room_was;
+          taken = i.locals ∙ k.taken;
+          lived = λ h. (let x = i.lived h in let y = k.lived h in omega arith);
+          since = (
+            k.since.0 ++ i.more,
+            i.grown ∙ (ap (λ (z : List Mark). z ++ i.more) k.since.1
+                ∙ append_assoc (known_at_open c).marks k.since.0 i.more),
+          );
+        };
+        stream_ios = record {
+          in_flight = n.in_flight;
+          aimed = (n.token.1, was-staged.0, n.aim);
+          new = subst (λ (z : WaitRef). IsNewIncarnation c z) (sym n.reference) was-staged.1;
+        };
+        apart = λ u j e'. (let f = (stream-io-in c p s.in_flight.items u k.stream_ios
+            j).in_flight.since in
+            let g : 0 < mark_count t kind.Submitted p.marks =
+            subst (λ (z : WaitRef). 0 < mark_count z kind.Submitted p.marks) e' f in
+            omega arith);
+      }
+
+  in-behind : (x t : WaitRef) (bs fs : List WaitRef) → IsIn x ((t ∷ []) ++ bs ++ fs)
+      → IsIn x (bs ++ (fs ++ t ∷ []))
+  in-behind x t bs fs i = ⊎_elim
+      (λ e. in-right x bs (fs ++ t ∷ []) (in-right x fs (t ∷ []) (inl e)))
+      (λ j. ⊎_elim (λ b. in-left x bs (fs ++ t ∷ []) b)
+      (λ f. in-right x bs (fs ++ t ∷ []) (in-left x fs (t ∷ []) f)) (in-append x bs fs j)) i
+
+  -- a token in flight is put behind the others
+  more-in-flight : (told : Option Told) (relations : ℕ) (p : Known) (s : Reads W) (t : WaitRef)
+      → record_count s < c.total → HeldByCaller c told relations p s t
+      → Issued c told relations p
+      (record s { in_flight = buffer (s.in_flight.items ++ t ∷ []) s.in_flight.capacity })
+  more-in-flight told relations p s t room l =
+      let k = l.issued in
+      let more = length-append s.in_flight.items (t ∷ []) in
+      record {
+        room = record {
+          free = k.room.free;
+          in_flight = k.room.in_flight;
+          ended = k.room.ended;
+          few = omega arith;
+        };
+        number = k.number;
+        config = k.config;
+        out = k.out;
+        free = k.free;
+        held = k.held;
+        staged = k.staged;
+        stream_ios = stream-ios-push c p s.in_flight.items t k.stream_ios l.stream_ios
+            (λ u j e. l.apart u j (sym e));
+        ended = k.ended;
+        owed = λ x. ⊎_elim (λ over. inl over)
+            (λ j. inr (in-behind x t (references s.batch) s.in_flight.items j)) (k.owed x);
+        most = let f = k.most in omega arith;
+        small = k.small;
+        room_was = k.room_was;
+        taken = k.taken;
+        lived = k.lived;
+        since = k.since;
+      }
+
+  -- one I/O of the batch was submitted, and its token stands behind those in flight
+  pub issued-submitted : (told : Option Told) (relations : ℕ) (p q : Known) (s : Reads W)
+      (after : List (WaitRef × ReadIoView)) (t : WaitRef) (a b d e : ℕ)
+      → IsNextSubmission record_aim s.batch after t p q a b d e → AreStagedTokens q after
+      → Issued c told relations p s
+      → Issued c told relations q (record s {
+        batch = after;
+        in_flight = buffer (s.in_flight.items ++ t ∷ []) s.in_flight.capacity;
+      })
+  issued-submitted told relations p q s after t a b d e n held k =
+      let whole : length s.batch ≡ length (n.token ∷ after) =
+      ap (λ (z : List (WaitRef × ReadIoView)). length z) n.first in
+      let few = k.room.few in
+      more-in-flight told relations q (record s { batch = after }) t (omega arith)
+      (issued-lent told relations p q s after t a b d e n held k)
+
+  -- a batch of one I/O
+  pub only-one : (p q : Known) (s s' : Reads W) (x : WaitRef × ReadIoView)
+      (after : List (WaitRef × ReadIoView)) (t : WaitRef) (a b d e : ℕ) → length s.batch ≤ 0
+      → s' ≡ record s { batch = s.batch ++ x ∷ [] }
+      → (n : IsNextSubmission record_aim s'.batch after t p q a b d e)
+      → (n.token ≡ x) × (after ≡ [])
+  only-one p q s s' x after t a b d e none is n =
+      let batch : s'.batch ≡ x ∷ [] = ap (λ (z : Reads W). z.batch) is
+      ∙ ap (λ (z : List (WaitRef × ReadIoView)). z ++ x ∷ []) (is-none s.batch none) in
+      let heads : x ∷ [] ≡ n.token ∷ after = sym batch ∙ n.first in
+      (cc, cc)
+
+  -- it was submitted, and lies with the caller
+  pub lent-at-once : (told : Option Told) (relations : ℕ) (p q : Known) (s s' : Reads W)
+      (x : WaitRef × ReadIoView) (after : List (WaitRef × ReadIoView)) (t : WaitRef) (a b d e : ℕ)
+      → s' ≡ record s { batch = s.batch ++ x ∷ [] } → IsStaged p x.0 → IsAimed c x.1
+      → IsNewIncarnation c x.0 → ((u : WaitRef × ReadIoView) → IsIn u s.batch → u.0 ≢ x.0)
+      → record_count s < c.total
+      → IssuedExcept (x.0 ∷ []) c told relations p s
+      → IsNextSubmission record_aim s'.batch after t p q a b d e → AreStagedTokens q after
+      → HeldByCaller c told relations q (record s' { batch = after }) t
+  lent-at-once told relations p q s s' x after t a b d e is new aimed fresh apart room k n held =
+      issued-lent told relations p q s' after t a b d e n held
+      (issued-put c told relations p s s' x is new aimed fresh apart room k)
+
+  -- and it is to read what its record was aimed at
+  pub for-at-once : (p q : Known) (s s' : Reads W) (x : WaitRef × ReadIoView)
+      (after : List (WaitRef × ReadIoView)) (t : WaitRef) (a b d e : ℕ) → length s.batch ≤ 0
+      → s' ≡ record s { batch = s.batch ++ x ∷ [] } → IsAimed c x.1
+      → IsNextSubmission record_aim s'.batch after t p q a b d e
+      → IsForBlocks c x.1.first x.1.count q t
+  for-at-once p q s s' x after t a b d e none is aimed n =
+      let token = (only-one p q s s' x after t a b d e none is n).0 in (
+        n.token.1,
+        subst (λ (z : WaitRef × ReadIoView). IsAimed c z.1) (sym token) aimed,
+        n.aim,
+        ap (λ (z : WaitRef × ReadIoView). z.1.first) token,
+        ap (λ (z : WaitRef × ReadIoView). z.1.count) token,
+      )

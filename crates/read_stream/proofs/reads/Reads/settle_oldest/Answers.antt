@@ -1,0 +1,44 @@
+use Rattle.std.proofs.Common.{◌≡◌, ◌∷◌, List, sym, ap, ◌∙◌, subst, drop}
+use Rattle.aio_word.specs.declared.WaitRef.{WaitRef}
+use Rattle.circular_buffer.specs.Buffer.{Buffer}
+use Rattle.read_plan.specs.declared.runs.Run.{Run}
+use Rattle.aio_word.specs.declared.Known.{Known}
+use Rattle.read_stream.specs.declared.reads.Reads.{Reads}
+use Rattle.read_stream.specs.StreamIos.{Issued, InFlightForRuns, run_of}
+use Rattle.read_stream.proofs.ReadsMatchRuns.{in-flight-first}
+use Rattle.read_stream.proofs.QueueMovesKeepIssued.{first-of, less-in-flight, nothing-of}
+use Rattle.read_stream.proofs.QueueMovesKeepIssued.{same-queue}
+use Rattle.read_stream.proofs.reads.Reads.settle_oldest.Goals as goal
+
+pub settle-requires-clause-lent : goal.settle-requires-clause-lent
+settle-requires-clause-lent g c =
+    let xs : List WaitRef = c.args.self.now.in_flight.items in
+    (less-in-flight c.args.scope.now g.W.World.told g.W.World.relations
+    c.args.context.now.actor.now.known c.args.self.now c.in-Some.token (drop 1 xs)
+    c.pop_front.new.self
+    (first-of xs c.in-Some.token (sym c.pop_front.ensures.value ∙ c.in-Some.is))
+    c.pop_front.ensures.items c.requires.issued).0
+
+pub returns-in-Some-clause-run : goal.returns-in-Some-clause-run
+returns-in-Some-clause-run g c = λ runs stream_ios.
+    (let xs : List WaitRef = c.args.self.now.in_flight.items in
+    let t : WaitRef = c.in-Some.token in
+    let p : Known = c.args.context.now.actor.now.known in
+    let q : Known = c.settle.new.context.actor.now.known in
+    let first = first-of xs t (sym c.pop_front.ensures.value ∙ c.in-Some.is) in
+    let left : c.settle.new.self.in_flight.items ≡ drop 1 xs =
+    ap (λ (z : Buffer WaitRef). z.items) (c.settle.ensures.all.2 ∙ c.pop_front.ensures.items) in
+    subst (λ (z : List WaitRef). (rest : List Run) × (runs ≡ run_of c.settle.result ∷ rest)
+    × InFlightForRuns c.args.scope.now q z rest) (sym left)
+    (in-flight-first c.args.scope.now p q t (drop 1 xs) c.settle.result runs
+    c.settle.ensures.serves.went.aims c.settle.ensures.aim
+    (subst (λ (z : List WaitRef). InFlightForRuns c.args.scope.now p z runs) first stream_ios)))
+
+pub returns-in-None-clause-issued : goal.returns-in-None-clause-issued
+returns-in-None-clause-issued g c =
+    let W : Type 0 = g.row.W.Denot in
+    let s : Reads W = c.args.self.now in
+    let none = nothing-of s.in_flight.items (sym c.pop_front.ensures.value ∙ c.in-None.is) in
+    let e = same-queue s.in_flight c.pop_front.new.self c.pop_front.ensures.items none in
+    subst (λ (z : Buffer WaitRef). Issued c.args.scope.now g.W.World.told g.W.World.relations
+    c.args.context.now.actor.now.known (record s { in_flight = z })) (sym e) c.requires.issued

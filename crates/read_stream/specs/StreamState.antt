@@ -1,0 +1,129 @@
+-- The state of a stream, between its calls and in the middle of one.
+use Rattle.std.specs.Prelude.{◌≡◌, ℕ, ◌+◌, ◌<◌, ◌≤◌, ◌++◌, List, [], length, map, drop, true}
+use Rattle.std.specs.Prelude.{Option, IfSome, IsSomeAnd, ⊤}
+use Rattle.page_check.specs.Told.{Told}
+use Rattle.page_check.specs.SynchronousAnswer.{Entry, read_count, reader_of}
+use Rattle.page_check.specs.IsAnswer.{Next as Said, Stop as SaidStop, IsNext}
+use Rattle.aio_word.specs.declared.Known.{Known}
+use Rattle.aio_word.specs.Stands.{IsIn}
+use Rattle.aio_handle.specs.ContractViews.{ActorView, IsSameActor}
+use Rattle.read_stream.specs.declared.answer.Ending.{Ending}
+use Rattle.read_stream.specs.declared.answer.Ending.TheVariants as ending
+use Rattle.read_stream.specs.declared.queue.Want.{Want}
+use Rattle.read_stream.specs.declared.stream.ReadStream.{ReadStream}
+use Rattle.read_stream.specs.StreamAnswers.{stream_entries, synchronous_ending, pages_given}
+use Rattle.read_stream.specs.StreamAnswers.{step_answer, IsFailedRead}
+use Rattle.read_stream.specs.StreamAnswers.{MayBeUnread, IfStopped, IfRunning}
+use Rattle.read_stream.specs.StreamIos.{Issued, ReadsForRuns, IsTakenIn, record_count, ios_allowed}
+use Rattle.read_stream.specs.Desks.{AreValidSettings}
+use Rattle.read_stream.specs.WantedBlocks.{IsWant, source_item, block_number, wanted_blocks}
+use Rattle.read_stream.specs.WantedBlocks.{pending_blocks, wanted_runs}
+use Rattle.read_stream.specs.PagesAtHand.{IsAtHand, IsLent, count_some, blocks_at_hand, spent_ios}
+use Rattle.read_stream.specs.PagesAtHand.{record_blocks_left}
+use Rattle.read_stream.specs.PagesAtHand.{current_page}
+
+-- the record of a failed read is kept
+abbrev pub IfUnread : Ending → (ℕ → Type 0) → Type 0
+IfUnread ending.End holds = ⊤
+IfUnread (ending.Invalid block) holds = ⊤
+IfUnread (ending.Unread block) holds = holds block
+IfUnread (ending.PastEnd block) holds = ⊤
+
+module _ {W S P : Type 0} (left : S → List (ℕ × P)) (told : Option Told)
+    (relations handles : ℕ) where
+  -- the blocks that the source gave when the stream was opened
+  abbrev pub list_at_open : ReadStream W S P → List (ℕ × P)
+  list_at_open s = left s.source_was.value
+
+  abbrev pub entries_at_open : ReadStream W S P → List (Entry P)
+  entries_at_open s = stream_entries s.scope.relation (list_at_open s)
+
+  -- what holds of a stream at any time, whose actor knows p
+  pub record StreamInvariant (p : Known) (s : ReadStream W S P) : Type 0 where
+    pub place : s.scope.relation < relations
+    pub settings : AreValidSettings s.desk.now.combine s.desk.now.ios s.desk.now.limit
+        s.desk.now.segment
+    pub scope : (s.scope.combine ≡ s.desk.now.combine) × (s.scope.total ≡ s.desk.now.ios + 1)
+    pub zero : s.scope.zero ≡ s.desk.now.zero
+    pub queue : s.desk.now.limit ≤ s.desk.now.queue.capacity
+    pub wants : s.desk.now.limit ≤ s.desk.now.wants.capacity
+    pub short : length (list_at_open s) ≤ s.scope.most
+    pub issued : Issued s.scope told relations p s.desk.now.reads
+    pub staged : length s.desk.now.reads.batch < 32
+    pub current : IfSome s.current (IsTakenIn s.scope told relations p)
+    pub all : record_count s.desk.now.reads + count_some s.current ≡ s.scope.total
+
+  -- a stream that has not ended: what is left of the list is what it has taken, then what its
+  -- source has left. The blocks that it has taken are those at hand, those that are wanted, those
+  -- of the pending run and those behind
+  pub record IsRunning (hand behind : List ℕ) (spent : ℕ) (p : Known) (s : ReadStream W S P)
+      : Type 0 where
+    pub few : s.given ≤ length (list_at_open s)
+    pub readable : IfSome (reader_of s.scope.zero told)
+        (λ f. s.given ≤ read_count f (entries_at_open s))
+    pub blocks : map source_item s.desk.now.queue.items ++ left s.source
+        ≡ drop s.given (list_at_open s)
+    pub over : s.over ≡ true → left s.source ≡ []
+    pub front : map block_number s.desk.now.queue.items
+        ≡ hand ++ (wanted_blocks s.desk.now.wants.items
+        ++ (pending_blocks s.plan.pending ++ behind))
+    pub wants : (w : Want) → IsIn w s.desk.now.wants.items → IsWant s.desk.now.combine handles w
+    -- the I/Os that were started and not taken up are for the runs that are wanted
+    pub runs : ReadsForRuns s.scope p s.desk.now.reads (wanted_runs s.desk.now.wants.items)
+    -- each block that is taken raises the budget by one I/O
+    pub io_budget : length s.desk.now.queue.items
+        ≤ s.desk.now.reads.io_budget + length (wanted_runs s.desk.now.wants.items) + spent
+    pub ahead : s.plan.blocks_ahead ≡ length s.desk.now.queue.items
+    pub within : length s.desk.now.queue.items ≤ s.desk.now.limit
+    pub in_use : s.plan.ios_in_progress + length s.desk.now.reads.free.items ≡ s.scope.total
+    -- a block that was looked for in the pool has a record to be read by
+    pub spare : 0 < length s.desk.now.reads.free.items + count_some s.current
+    pub combine : s.plan.combine ≡ s.desk.now.combine
+    pub max_ios : s.plan.max_ios ≡ s.desk.now.ios
+    pub limit : s.plan.limit ≡ s.desk.now.limit
+    pub most : ios_allowed s.desk.now.reads + length (left s.source) ≤ length (list_at_open s)
+
+  -- between two calls
+  pub record IsBetweenCalls (p : Known) (s : ReadStream W S P) : Type 0 where
+    pub steady : StreamInvariant p s
+    pub made : ios_allowed s.desk.now.reads ≤ length (list_at_open s)
+    pub going : IfRunning s.step (IsRunning (record_blocks_left s.current s.step) [] 0 p s)
+    pub lent : IsLent told s.scope.relation s.pin s.current s.step
+    pub stopped : IfStopped s.step (λ e. IsNext (reader_of s.scope.zero told)
+        (MayBeUnread s.scope.was.value p) (entries_at_open s) s.given
+        (SaidStop (synchronous_ending e)))
+    pub kept : IfStopped s.step (λ e. IfUnread e (λ b. IsSomeAnd s.current
+        (IsFailedRead s.scope.was.value p s.scope.relation b)))
+
+  pub record IsOpen (s : ReadStream W S P) : Type 0 where
+    pub same : IsSameActor s.scope.was.value s.actor_is.value
+    pub backend : s.actor_is.value.known.number < s.actor_is.value.known.config.backends
+    pub between : IsBetweenCalls s.actor_is.value.known s
+
+  -- the same stream after a call that left its actor so and gave this answer
+  pub record Follows (old new : ReadStream W S P) (actor : ActorView) (answer : Said P)
+      : Type 0 where
+    pub desk : new.desk.ghost_name ≡ old.desk.ghost_name
+    pub source : new.source_was.value ≡ old.source_was.value
+    pub actor_was : new.scope.was.value ≡ old.scope.was.value
+    pub actor_is : new.actor_is.value ≡ actor
+    pub relation : new.scope.relation ≡ old.scope.relation
+    pub zero : new.scope.zero ≡ old.scope.zero
+    pub given : new.given ≡ old.given + pages_given answer
+    pub found : answer ≡ step_answer new.scope.relation new.step (current_page new)
+    pub is_open : IsOpen new
+
+  -- in the middle of a call
+  pub record UnderwayWith (hand behind : List ℕ) (spent : ℕ) (p : Known) (s : ReadStream W S P)
+      : Type 0 where
+    pub steady : StreamInvariant p s
+    pub going : IsRunning hand behind spent p s
+
+  -- before the block at the front of the queue is served
+  abbrev pub Underway : Known → ReadStream W S P → Type 0
+  Underway p s = UnderwayWith (record_blocks_left s.current s.step) [] 0 p s
+
+  -- the block's page is to be had from the pin or the record
+  pub record Reaches (block : ℕ) (p : Known) (s : ReadStream W S P) : Type 0 where
+    pub underway : UnderwayWith (blocks_at_hand s.current block) [] (spent_ios s.current block) p s
+    pub at_hand : IsAtHand told s.scope.relation s.pin s.current block

@@ -1,0 +1,252 @@
+-- Rounds, and then further ones.
+use Rattle.std.proofs.Common.{◌≡◌, ℕ, zero, suc, ◌+◌, ◌<◌, ◌≤◌, List, [], ◌∷◌, ◌++◌, length, map}
+use Rattle.std.proofs.Common.{take, sum_by, refl, sym, ap, ◌∙◌, subst, arith, append-nil}
+use Rattle.std.proofs.Common.{append_assoc}
+use Rattle.std.specs.Prelude.{Option, Some, slice_index_or, ⊤}
+use Rattle.std.proofs.lemmas.List.Sums.{sum_by-cons}
+use Rattle.page_check.specs.SynchronousAnswer.{Entry, reader_of}
+use Rattle.std.specs.List.{All}
+use Rattle.std.proofs.lemmas.List.{length-map}
+use Rattle.page_check.specs.Told.{Told}
+use Rattle.aio_disk.specs.Counts.{raised_by}
+use Rattle.aio_word.specs.declared.Mark.{Mark}
+use Rattle.aio_word.proofs.MoreMarksKeep.{io-more, failed-more}
+use Rattle.aio_handle.specs.Execution.{CountersFollowMarks}
+use Rattle.aio_handle.specs.ContractViews.{TableView}
+use Rattle.method_worker.specs.QueueViews.{QueueView}
+use Rattle.scan_rounds.specs.DiskActors.{DiskGhosts, IsBackend, IsDiskActor, DiskActorAdvanced}
+use Rattle.scan_rounds.specs.Progress.{AreWaiting, RoundsAdvanced}
+use Rattle.scan_rounds.specs.Jobs.{IsFresh, IsListed, AreAnswered, blocks_among, entries_of_job}
+use Rattle.scan_rounds.specs.ListOptions.{ListOptions}
+use Rattle.scan_rounds.specs.BlockFilter.{BlockFilter}
+use Rattle.scan_rounds.specs.JobSources.{JobSourceAdvanced}
+use Rattle.scan_rounds.specs.Rounds.{AllAdvanced, AllHaveOptions, backend_disk_actor, results_taken}
+use Rattle.read_stream.specs.ActorProgress.{local_marks}
+use Rattle.scan_rounds.specs.declared.job.Job.{Job}
+use Rattle.scan_rounds.proofs.Blocks.{answer_wider}
+use Rattle.scan_rounds.specs.declared.disk_actor.DiskActor.{DiskActor}
+use Rattle.scan_rounds.specs.declared.backend.Backend.{Backend}
+use Rattle.scan_rounds.specs.declared.rounds.Counts.{Counts}
+use Rattle.scan_rounds.proofs.RoundOfBackends.{goes_at}
+use Rattle.scan_rounds.proofs.CountRaised.{raised_none, raised_twice}
+
+results_taken-disk_actors : {W D : Type 0} (bs : List (Backend W D))
+    → results_taken bs ≡ sum_by (λ (h : DiskActor W D). local_marks h.actor.known.marks)
+    (map backend_disk_actor bs)
+results_taken-disk_actors bs = sum_by-map-is bs
+  where
+    sum_by-map-is : {W D : Type 0} (bs : List (Backend W D))
+        → sum_by (λ (b : Backend W D). local_marks b.disk_actor.actor.known.marks) bs
+        ≡ sum_by (λ (h : DiskActor W D). local_marks h.actor.known.marks)
+        (map backend_disk_actor bs)
+    sum_by-map-is [] = refl
+    sum_by-map-is {W} {D} (b ∷ bs) =
+        let f : Backend W D → ℕ = λ x. local_marks x.disk_actor.actor.known.marks in
+        let h : DiskActor W D → ℕ = λ x. local_marks x.actor.known.marks in
+        let rest = sum_by-map-is bs in
+        let x = sum_by-cons f b bs in
+        let y = sum_by-cons h b.disk_actor (map backend_disk_actor bs) in omega arith
+
+pub pays_then : (r s t f g h : ℕ) (ms more : List Mark) → CountersFollowMarks r s f g ms
+    → CountersFollowMarks s t g h more
+    → CountersFollowMarks r t f h (ms ++ more)
+pays_then r s t f g h ms more a b = record {
+  read_each = λ lt.
+      let m = io-more ms more in
+      let y = b.read_each lt in
+      let x = a.read_each (omega arith) in omega arith;
+  fault_each = λ lt.
+      let m = failed-more ms more in
+      let y = b.fault_each lt in
+      let x = a.fault_each (omega arith) in omega arith;
+}
+
+pub some_same : {D : Type 0} (o : Option D) (d e : D) → o ≡ Some d → o ≡ Some e → d ≡ e
+some_same o d e x y = cc
+
+module _ {W D : Type 0} (m : DiskGhosts D) (told : Option Told) (relations : ℕ)
+    (t : TableView) where
+  pub stays_put : (h : DiskActor W D) → IsDiskActor m told relations t h
+      → DiskActorAdvanced m told relations t h h
+  stays_put h is = record {
+    same = (refl, refl, refl);
+    more = [];
+    marks = sym (append-nil h.actor.known.marks);
+    before = is.disk;
+    after = is.disk;
+    had = is.held;
+    has = is.held;
+    pays = record { read_each = λ below. omega arith; fault_each = λ below. omega arith };
+  }
+
+  pub goes_then : (h k l : DiskActor W D) → DiskActorAdvanced m told relations t h k
+      → DiskActorAdvanced m told relations t k l → DiskActorAdvanced m told relations t h l
+  goes_then h k l a b =
+      let one : a.after ≡ b.before = some_same k.disk a.after b.before a.has b.had in
+      let second : CountersFollowMarks (m.reads a.after) (m.reads b.after) (m.faults a.after)
+      (m.faults b.after)
+      b.more =
+      subst (λ (d : D). CountersFollowMarks (m.reads d) (m.reads b.after) (m.faults d)
+      (m.faults b.after) b.more)
+      (sym one) b.pays in record {
+        same = (b.same.0 ∙ a.same.0, b.same.1 ∙ a.same.1, b.same.2 ∙ a.same.2);
+        more = a.more ++ b.more;
+        marks = b.marks ∙ (ap (λ (ms : List Mark). ms ++ b.more) a.marks
+            ∙ append_assoc h.actor.known.marks a.more b.more);
+        before = a.before;
+        after = b.after;
+        had = a.had;
+        has = b.has;
+        pays = pays_then _ _ _ _ _ _ a.more b.more a.pays second;
+      }
+
+  pub all_stay : (bs : List (Backend W D)) (q : QueueView) → All (IsBackend m told relations t q) bs
+      → AllAdvanced m told relations t (map backend_disk_actor bs) (map backend_disk_actor bs)
+  all_stay bs q all = record {
+    as_many = refl;
+    each = λ i d lt.
+        (let inside : i < length bs = omega (arith, length-map bs backend_disk_actor) in
+        goes_at m told relations t bs bs i d inside inside
+        (λ e. stays_put (slice_index_or bs i e).disk_actor (all i e inside).disk_actor));
+  }
+
+  pub all_then : (hs ks ls : List (DiskActor W D)) → AllAdvanced m told relations t hs ks
+      → AllAdvanced m told relations t ks ls → AllAdvanced m told relations t hs ls
+  all_then hs ks ls a b = record {
+    as_many = b.as_many ∙ a.as_many;
+    each = λ i d lt. goes_then _ _ _ (a.each i d lt) (b.each i d (omega (arith, a.as_many)));
+  }
+
+  pub as_many_disk_actors : (bs cs : List (Backend W D))
+      → AllAdvanced m told relations t (map backend_disk_actor bs) (map backend_disk_actor cs)
+      → length cs ≡ length bs
+  as_many_disk_actors bs cs go = sym (length-map cs backend_disk_actor)
+      ∙ (go.as_many ∙ length-map bs backend_disk_actor)
+
+  pub gone_nowhere : (q : QueueView) (bs : List (Backend W D)) (counts : Counts)
+      (blocks kept unread : ℕ) → AreWaiting m told relations t q bs counts → unread ≡ 0
+      → RoundsAdvanced m told relations t bs bs counts counts blocks kept unread
+  gone_nowhere q bs counts blocks kept unread w none = record {
+    go_on = all_stay bs q w.backends;
+    room = omega arith;
+    taken = omega arith;
+    more = 0;
+    raised = raised_none counts.unread;
+    enough = omega arith;
+  }
+
+  -- backends with the same actors and disks
+  pub gone_as : (bs as' cs ds : List (Backend W D)) (a b : Counts) (n i k : ℕ) → as' ≡ bs
+      → map backend_disk_actor ds ≡ map backend_disk_actor cs
+      → RoundsAdvanced m told relations t as' cs a b n i k
+      → RoundsAdvanced m told relations t bs ds a b n i k
+  gone_as bs as' cs ds a b n i k begun same gone' =
+      let gone = subst (λ (xs : List (Backend W D)). RoundsAdvanced m told relations t xs cs a b n i
+      k) begun
+      gone' in record {
+        go_on = subst (λ (hs : List (DiskActor W D)). AllAdvanced m told relations t
+            (map backend_disk_actor bs) hs) (sym same) gone.go_on;
+        room = gone.room;
+        taken = (let f : DiskActor W D → ℕ = λ h. local_marks h.actor.known.marks in
+            let x = results_taken-disk_actors cs in let y = results_taken-disk_actors ds in
+            let z = ap (sum_by f) same in omega (arith, gone.taken));
+        more = gone.more;
+        raised = gone.raised;
+        enough = gone.enough;
+      }
+
+  pub gone_then : (bs cs ds : List (Backend W D)) (a b c : Counts)
+      (n k i j x y all kept most : ℕ) → RoundsAdvanced m told relations t bs cs a b n i x
+      → RoundsAdvanced m told relations t cs ds b c k j y → n + k ≤ all → i + j ≤ kept
+      → most ≤ x + y → RoundsAdvanced m told relations t bs ds a c all kept most
+  gone_then bs cs ds a b c n k i j x y all kept most one two blocks fewer unread = record {
+    go_on = all_then _ _ _ one.go_on two.go_on;
+    room = omega (arith, one.room, two.room);
+    taken = omega (arith, one.taken, two.taken);
+    more = one.more + two.more;
+    raised = two.raised ∙ (ap (raised_by two.more) one.raised
+        ∙ raised_twice one.more two.more a.unread);
+    enough = omega (arith, one.enough, two.enough);
+  }
+
+module _ {W D A : Type 0} {m : DiskGhosts D} {told : Option Told} {relations : ℕ} {t : TableView}
+    {q : QueueView} {blocks_left unskipped_left unread : A → ℕ} {options : A → ListOptions}
+    {block_filter : A → Option BlockFilter}
+    {follows : A → A → Type 0} where
+  -- before the first round
+  pub no_rounds : (bs : List (Backend W D)) (js : List Job) (a : A) (counts : Counts)
+      → AreWaiting m told relations t q bs counts → AllHaveOptions (options a) bs → follows a a
+      → JobSourceAdvanced m told relations t q blocks_left unskipped_left unread options
+      block_filter follows bs bs js js a a counts counts
+  no_rounds bs js a counts waiting list_in itself = record {
+    waiting = waiting;
+    backends = refl;
+    places = refl;
+    left_fewer = omega arith;
+    due_fewer = omega arith;
+    all_list_in = list_in;
+    options_are = refl;
+    filter_is = refl;
+    gone = gone_nowhere m told relations t q bs counts _ _ _ waiting (omega arith);
+    goes_on = itself;
+  }
+
+  -- some rounds, and then further ones by some of the places
+  pub rounds_then : {bs cs ds : List (Backend W D)} {js ks ls fs gs : List Job} {a b c : A}
+      {before between after : Counts}
+      → ((x y z : A) → follows x y → follows y z → follows x z)
+      → JobSourceAdvanced m told relations t q blocks_left unskipped_left unread options
+      block_filter follows bs cs js ks a b before between
+      → JobSourceAdvanced m told relations t q blocks_left unskipped_left unread options
+      block_filter follows cs ds fs gs b c between after → length ls ≡ length ks
+      → JobSourceAdvanced m told relations t q blocks_left unskipped_left unread options
+      block_filter follows bs ds js ls a c before after
+  rounds_then {bs} {cs} {ds} {js} {ks} {ls} {fs} {gs} {a} {b} {c} on one two same = record {
+    waiting = two.waiting;
+    backends = two.backends ∙ one.backends;
+    places = same ∙ one.places;
+    left_fewer = omega (arith, one.left_fewer, two.left_fewer);
+    due_fewer = omega (arith, one.due_fewer, two.due_fewer);
+    all_list_in = subst (λ (n : ListOptions). AllHaveOptions n ds) one.options_are two.all_list_in;
+    options_are = two.options_are ∙ one.options_are;
+    filter_is = two.filter_is ∙ one.filter_is;
+    gone = gone_then m told relations t bs cs ds _ _ _ _ _ _ _ _ _ _ _ _ one.gone two.gone
+        (omega (arith, one.left_fewer, two.left_fewer))
+        (omega (arith, one.due_fewer, two.due_fewer)) (omega arith);
+    goes_on = on a b c one.goes_on two.goes_on;
+  }
+
+-- jobs that are fresh ask for at least one block each
+pub some_blocks : (relations n : ℕ) (js : List Job) → All (IsFresh relations) (take n js) → 0 < n
+    → 0 < length js → 0 < blocks_among (take n js)
+some_blocks relations (suc n) (j ∷ js) fresh some there =
+    let first = fresh 0 j (omega arith) in
+    let sum = sum_by-cons (λ (k : Job). k.count) j (take n js) in
+    omega (arith, first.few)
+some_blocks relations zero js fresh some there = absurd (omega arith)
+some_blocks relations (suc n) [] fresh some there = absurd (omega arith)
+
+-- whatever may be unread
+pub anyway : {block_filter : Option BlockFilter} (how : ListOptions) (told : Option Told)
+    (may : Entry (Unit {0}) → Type 0) (j k : Job) → IsListed block_filter how told may j k
+    → IsListed block_filter how told (λ _. ⊤) j k
+anyway {block_filter} how told may j k is = record {
+  same = is.same;
+  answer = record {
+    pages = is.answer.pages;
+    text_is = is.answer.text_is;
+    warnings_are = is.answer.warnings_are;
+    sums_are = is.answer.sums_are;
+    answers = answer_wider (reader_of how.zero told) may (λ _. ⊤) (entries_of_job block_filter j) _
+        (λ e may. tt) is.answer.answers;
+  };
+  quiet = is.quiet;
+}
+
+-- by the job source's options and filter, before and after it gave the jobs
+pub answered_as : (block_filter block_filter' : Option BlockFilter) (how how' : ListOptions)
+    (told : Option Told) (js ks : List Job) → block_filter' ≡ block_filter → how' ≡ how
+    → AreAnswered block_filter how told js ks → AreAnswered block_filter' how' told js ks
+answered_as block_filter block_filter' how how' told js ks out same is =
+    subst (λ (n : ListOptions). AreAnswered block_filter' n told js ks) (sym same)
+    (subst (λ (s : Option BlockFilter). AreAnswered s how told js ks) (sym out) is)

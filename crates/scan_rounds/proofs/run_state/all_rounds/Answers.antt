@@ -1,0 +1,63 @@
+use Rattle.std.proofs.Common.{rules, refl, sym, subst, arith, ◌∙◌}
+use Rattle.scan_rounds.specs.ListOptions.{ListOptions}
+use Rattle.scan_rounds.specs.Rounds.{AllHaveOptions}
+use Rattle.scan_rounds.proofs.RoundsCompose.{as_many_disk_actors, gone_as, no_rounds, rounds_then}
+use Rattle.scan_rounds.proofs.run_state.all_rounds.Goals as goal
+
+pub loop-backends-init : goal.loop-backends-init
+loop-backends-init g c =
+    let may = c.requires.may in
+    record {
+      goes = no_rounds _ _ _ _ may.waiting may.all_list_in
+          (g.met.A.JobSource.follows_itself c.args.job_source.now);
+      many = (may.waiting.some, may.places, omega arith);
+      room = may.room;
+    }
+
+pub next_turn-requires-clause-may : goal.next_turn-requires-clause-may
+next_turn-requires-clause-may g c κs within =
+    let i = c.loop-backends.invariant in
+    record {
+      waiting = i.goes.waiting;
+      places = search rules;
+      room = i.room;
+      all_list_in = subst (λ (n : ListOptions). AllHaveOptions n c.loop-backends.backends)
+          (sym i.goes.options_are) i.goes.all_list_in;
+      filter_is = i.goes.filter_is ∙ c.requires.may.filter_is;
+    }
+
+pub loop-backends-preserved : goal.loop-backends-preserved
+loop-backends-preserved g c =
+    let i = c.loop-backends.invariant in
+    let e = c.next_turn.ensures.goes in
+    record {
+      goes = rounds_then g.met.A.JobSource.follows_on i.goes e (search rules);
+      many = search rules;
+      room = (let asked = e.gone.room in let room = i.room in let fewer = e.left_fewer in
+          omega arith);
+    }
+
+pub returns-then-not-next_turn-clause-goes : goal.returns-then-not-next_turn-clause-goes
+returns-then-not-next_turn-clause-goes g c =
+    let e = rounds_then g.met.A.JobSource.follows_on c.loop-backends.invariant.goes
+    c.next_turn.ensures.goes (search rules) in
+    let closed = c.close_queue.ensures in
+    let gone = gone_as _ _ _ _ _ _ _ _ _ _ _ _ _ refl closed.disk_actors e.gone in
+    record {
+      waiting = closed.waiting;
+      backends = as_many_disk_actors _ _ _ _ _ _ gone.go_on;
+      places = e.places;
+      left_fewer = e.left_fewer;
+      due_fewer = e.due_fewer;
+      all_list_in = closed.options _ e.all_list_in;
+      options_are = e.options_are;
+      filter_is = e.filter_is;
+      gone = gone;
+      goes_on = e.goes_on;
+    }
+
+pub returns-then-not-next_turn-clause-over : goal.returns-then-not-next_turn-clause-over
+returns-then-not-next_turn-clause-over g c = c.next_turn.ensures.over (search rules)
+
+pub loop-backends-smaller : goal.loop-backends-smaller
+loop-backends-smaller g c = c.next_turn.ensures.nearer (search rules)

@@ -1,0 +1,96 @@
+use Rattle.std.proofs.Common.{rules, refl, sym, ap, ◌∙◌, subst, arith, length, List, ◌+◌, ◌≤◌}
+use Rattle.std.specs.List.{All}
+use Rattle.scan_rounds.specs.Jobs.{IsFresh, AreAnswered, count_unskipped}
+use Rattle.scan_rounds.specs.Rounds.{results_taken}
+use Rattle.scan_rounds.specs.BlockFilter.{filter_of}
+use Rattle.scan_rounds.specs.declared.job.Job.{Job}
+use Rattle.scan_rounds.proofs.RoundsCompose.{gone_nowhere, answered_as, as_many_disk_actors}
+use Rattle.scan_rounds.proofs.RoundsCompose.{some_blocks}
+use Rattle.scan_rounds.proofs.JobsInSequence.{few_jobs}
+use Rattle.scan_rounds.proofs.run_state.next_turn.Goals as goal
+
+pub returns-then-count-eq0-clause-goes : goal.returns-then-count-eq0-clause-goes
+returns-then-count-eq0-clause-goes g c =
+    let may = c.requires.may in
+    let e = c.next_jobs-count.ensures in
+    record {
+      waiting = may.waiting;
+      backends = refl;
+      places = e.few.1;
+      left_fewer = (let left = e.left in omega arith);
+      due_fewer = (let due = e.due in omega arith);
+      all_list_in = may.all_list_in;
+      options_are = e.options;
+      filter_is = e.block_filter;
+      gone = gone_nowhere _ _ _ _ _ _ _ _ _ _ may.waiting (let told = e.unread in omega arith);
+      goes_on = (e.none (search rules)).0;
+    }
+
+pub take_turn-requires-clause-fresh : goal.take_turn-requires-clause-fresh
+take_turn-requires-clause-fresh g c κs within =
+    subst (λ (js : List Job). All (IsFresh g.W.World.relations) js)
+    (sym c.split_at_mut-front.ensures.front) c.next_jobs-count.ensures.fresh
+
+pub take_turn-requires-clause-room : goal.take_turn-requires-clause-room
+take_turn-requires-clause-room g c κs within = (
+  c.requires.may.waiting.room,
+  (let few = few_jobs _ _ c.next_jobs-count.ensures.fresh in
+      let same = ap length c.split_at_mut-front.ensures.front in
+      let left = c.next_jobs-count.ensures.left in let room = c.requires.may.room in omega arith),
+)
+
+pub returns-clause-goes : goal.returns-clause-goes
+returns-clause-goes g c =
+    let may = c.requires.may in
+    let e = c.take_turn.ensures in
+    let backends = as_many_disk_actors _ _ _ _ _ _ e.go_on in
+    let same = ap length c.split_at_mut-front.ensures.front in
+    let few = few_jobs _ _ c.next_jobs-count.ensures.fresh in
+    let left = c.next_jobs-count.ensures.left in
+    let less = c.finish_jobs.ensures.left in
+    let due = c.next_jobs-count.ensures.due in
+    let owed = c.finish_jobs.ensures.due in
+    let kept = ap (count_unskipped (g.A.JobSource.block_filter c.args.job_source.now))
+    c.split_at_mut-front.ensures.front in
+    record {
+      waiting = record {
+        some = (let some = may.waiting.some in omega arith);
+        backends = e.backends;
+        idle = e.idle;
+        room = e.room.0;
+        few_unread = e.results;
+      };
+      backends = backends;
+      places = search rules;
+      left_fewer = omega arith;
+      due_fewer = omega arith;
+      all_list_in = e.options _ may.all_list_in;
+      options_are = c.finish_jobs.ensures.options ∙ c.next_jobs-count.ensures.options;
+      filter_is = c.finish_jobs.ensures.block_filter ∙ c.next_jobs-count.ensures.block_filter;
+      gone = record {
+        go_on = e.go_on;
+        room = (let r = e.room.1 in omega arith);
+        taken = (let n = subst (λ s. results_taken c.take_turn.new.backends
+            ≤ results_taken c.args.backends.now + count_unskipped s
+            c.split_at_mut-front.result.0.now) (sym may.filter_is) e.taken in omega arith);
+        more = _;
+        raised = e.unread;
+        enough = (let a = c.next_jobs-count.ensures.unread in
+            let b = c.finish_jobs.ensures.unread in
+            omega arith);
+      };
+      goes_on = c.finish_jobs.ensures.follows _ _ c.next_jobs-count.ensures.puts
+          (answered_as _ _ _ _ _ _ _ (c.next_jobs-count.ensures.block_filter ∙ may.filter_is)
+          c.next_jobs-count.ensures.options
+          (subst (λ (js : List Job). AreAnswered (filter_of c.args.skipping)
+          (g.A.JobSource.options c.args.job_source.now) g.W.World.told js c.take_turn.new.jobs)
+          c.split_at_mut-front.ensures.front (e.answered _ may.all_list_in)));
+    }
+
+pub returns-clause-nearer : goal.returns-clause-nearer
+returns-clause-nearer g c on =
+    let some = some_blocks _ _ _ c.next_jobs-count.ensures.fresh (search rules)
+    (let same = c.next_jobs-count.ensures.few.1 in let jobs = c.requires.may.places in
+    let some = c.requires.may.waiting.some in omega arith) in
+    let left = c.next_jobs-count.ensures.left in
+    let less = c.finish_jobs.ensures.left in omega arith

@@ -1,0 +1,181 @@
+-- An actor with its disk, between its calls, and what a round makes of it.
+use Rattle.std.specs.Prelude.{◌≡◌, ◌≢◌, ℕ, ◌+◌, ◌^◌, ◌<◌, ◌≤◌, ◌++◌, Bool, List, Option, Some, None}
+use Rattle.std.specs.Prelude.{IfSome, length}
+use Rattle.page_check.specs.SynchronousAnswer.{Entry}
+use Rattle.page_check.specs.Told.{Told}
+use Rattle.aio_word.specs.declared.Mark.{Mark}
+use Rattle.aio_word.specs.Events.{lives_ended}
+use Rattle.aio_handle.specs.Closing.{HasNoTokens}
+use Rattle.aio_handle.specs.Execution.{CountersFollowMarks}
+use Rattle.aio_handle.specs.Free.{IsRoom}
+use Rattle.aio_handle.specs.ContractViews.{TableView, ActorView, IsActorOf, IsSameActor}
+use Rattle.read_stream.specs.StreamAnswers.{MayBeUnread}
+use Rattle.read_stream.specs.Desks.{IsFreeDesk}
+use Rattle.read_stream.specs.ActorProgress.{local_marks}
+use Rattle.read_stream.specs.declared.desk.Desk.{Desk}
+use Rattle.method_worker.specs.QueueViews.{QueueView, IsSeatOf}
+use Rattle.vis_map.specs.Bits.{Map}
+use Rattle.scan_rounds.specs.ListOptions.{ListOptions, list_options}
+use Rattle.scan_rounds.specs.Jobs.{IsFresh, IsListed, entries_of_job, said_end}
+use Rattle.scan_rounds.specs.BlockFilter.{BlockFilter, unskipped_range, filter_of}
+use Rattle.scan_rounds.specs.ConsumedPages.{HasPages, PagesPredicate, PagesConsumed}
+use Rattle.scan_rounds.specs.declared.job.Ending.{Ending}
+use Rattle.scan_rounds.specs.declared.source.Blocks.{Blocks}
+use Rattle.scan_rounds.specs.Rings.{IsRingOf}
+use Rattle.scan_rounds.specs.declared.disk_actor.DiskActor.{DiskActor}
+use Rattle.scan_rounds.specs.declared.backend.Backend.{Backend}
+use Rattle.scan_rounds.specs.declared.job.Job.{Job}
+use Rattle.scan_rounds.specs.declared.worker.Worker.{Worker}
+
+-- the ghost functions of a disk
+pub record DiskGhosts (D : Type 0) : Type 0 where
+  pub tells : D → Option Told
+  pub has : D → ℕ
+  pub reads : D → ℕ
+  pub faults : D → ℕ
+
+abbrev pub disk_ghosts : {D : Type 0} → (D → Option Told) → (D → ℕ) → (D → ℕ) → (D → ℕ)
+    → DiskGhosts D
+disk_ghosts tells has reads faults =
+    record { tells = tells; has = has; reads = reads; faults = faults }
+
+-- each of its handles can have so many lives more, at least
+abbrev pub HasRoom : ℕ → ActorView → Type 0
+HasRoom least a = (room : ℕ) × IsRoom a.known.config a.known room × (least ≤ room)
+
+-- the blocks that a stream is to give
+abbrev pub entries_of_blocks : Blocks → List (Entry (Unit {0}))
+entries_of_blocks b = unskipped_range (filter_of b.skipping) b.relation b.first b.count
+
+-- the pages of a map: so many of a relation, from the first on
+abbrev pub map_blocks : ℕ → ℕ → Blocks
+map_blocks relation pages =
+    record { relation = relation; first = 0; count = pages; skipping = None }
+
+-- the options with which a backend lists
+abbrev pub backend_options : {W D : Type 0} → Backend W D → ListOptions
+backend_options b = list_options b.desk.zero b.tuples
+
+module _ {W D : Type 0} (m : DiskGhosts D) (told : Option Told) (relations : ℕ)
+    (t : TableView) where
+  -- the actor is of the table and has nothing out, and its disk tells the world
+  pub record IsDiskActor (h : DiskActor W D) : Type 0 where
+    pub disk : D
+    pub held : h.disk ≡ Some disk
+    pub tells : (m.tells disk ≡ told) × (m.has disk ≡ relations)
+    pub of : IsActorOf t h.actor
+    pub rest : HasNoTokens h.actor.known
+
+  -- the same actor went on by these marks, and its disk has counted a read for each I/O that it
+  -- has executed on the way, and a fault for each that failed
+  pub record DiskActorAdvanced (h k : DiskActor W D) : Type 0 where
+    pub same : IsSameActor h.actor k.actor
+    pub more : List Mark
+    pub marks : k.actor.known.marks ≡ h.actor.known.marks ++ more
+    pub before : D
+    pub after : D
+    pub had : h.disk ≡ Some before
+    pub has : k.disk ≡ Some after
+    pub pays : CountersFollowMarks (m.reads before) (m.reads after) (m.faults before)
+        (m.faults after) more
+
+  -- the actor may read these blocks at this desk
+  pub record MayRead (h : DiskActor W D) (d : Desk W (Unit {0})) (b : Blocks) : Type 0 where
+    pub disk_actor : IsDiskActor h
+    pub backend : h.actor.known.number < h.actor.known.config.backends
+    pub room : HasRoom b.count h.actor
+    pub desk : IsFreeDesk d
+    pub relation_in : b.relation < relations
+    pub within : b.first + b.count ≤ 2 ^ 32
+
+  -- it has read them, up to this ending, and this is held of their pages
+  pub record HasRead (holds : PagesPredicate) (h k : DiskActor W D) (d e : Desk W (Unit {0}))
+      (b : Blocks) (end : Ending) : Type 0 where
+    pub disk_actor : IsDiskActor k
+    pub goes : DiskActorAdvanced h k
+    pub lived : (n : ℕ) → lives_ended n k.actor.known.marks
+        ≤ lives_ended n h.actor.known.marks + b.count
+    pub taken : local_marks k.actor.known.marks
+        ≤ local_marks h.actor.known.marks + length (entries_of_blocks b)
+    pub desk : IsFreeDesk e × (e.zero ≡ d.zero)
+    pub given : PagesConsumed holds d.zero told (MayBeUnread h.actor k.actor.known)
+        (entries_of_blocks b) (said_end end)
+
+  -- the actor may list the job's blocks at this desk
+  pub record MayList (h : DiskActor W D) (d : Desk W (Unit {0})) (j : Job) : Type 0 where
+    pub disk_actor : IsDiskActor h
+    pub backend : h.actor.known.number < h.actor.known.config.backends
+    pub room : HasRoom 64 h.actor
+    pub desk : IsFreeDesk d
+    pub fresh : IsFresh relations j
+
+  -- it has listed those that are not left out, with their tuples or without
+  pub record HasListed (block_filter : Option BlockFilter) (tuples : Bool) (h k : DiskActor W D)
+      (d e : Desk W (Unit {0})) (j l : Job) : Type 0 where
+    pub disk_actor : IsDiskActor k
+    pub goes : DiskActorAdvanced h k
+    pub lived : (n : ℕ) → lives_ended n k.actor.known.marks ≤ lives_ended n h.actor.known.marks + 64
+    pub taken : local_marks k.actor.known.marks
+        ≤ local_marks h.actor.known.marks + length (entries_of_job block_filter j)
+    pub desk : IsFreeDesk e × (e.zero ≡ d.zero)
+    pub listed : IsListed block_filter (list_options d.zero tuples) told
+        (MayBeUnread h.actor k.actor.known) j l
+
+  module _ (q : QueueView) where
+    pub record IsBackend (b : Backend W D) : Type 0 where
+      pub disk_actor : IsDiskActor b.disk_actor
+      pub backend : b.disk_actor.actor.known.number < b.disk_actor.actor.known.config.backends
+      pub desk : IsFreeDesk b.desk
+      pub seat : IfSome b.seat (IsSeatOf q)
+      pub ring : IfSome b.ring (IsRingOf q)
+
+    -- it may do its job, if it has one
+    pub record IsReady (b : Backend W D) : Type 0 where
+      pub is : IsBackend b
+      pub room : HasRoom 64 b.disk_actor.actor
+      pub fresh : b.job.count ≢ 0 → IsFresh relations b.job
+
+    -- it has done its job, if it had one, without the blocks that are left out
+    pub record JobDone (block_filter : Option BlockFilter) (b c : Backend W D) : Type 0 where
+      pub is : IsBackend c
+      pub goes : DiskActorAdvanced b.disk_actor c.disk_actor
+      pub lived : (h : ℕ) → lives_ended h c.disk_actor.actor.known.marks
+          ≤ lives_ended h b.disk_actor.actor.known.marks + 64
+      pub taken : local_marks c.disk_actor.actor.known.marks
+          ≤ local_marks b.disk_actor.actor.known.marks + length (entries_of_job block_filter b.job)
+      pub idle : b.job.count ≡ 0 → c.job ≡ b.job
+      pub listed : b.job.count ≢ 0
+          → IsListed block_filter (backend_options b) told
+          (MayBeUnread b.disk_actor.actor c.disk_actor.actor.known) b.job c.job
+      pub options_same : backend_options c ≡ backend_options b
+
+    -- it has read so many pages of a map, up to this ending, and keeps all but its actor and its
+    -- disk
+    pub record HasReadMap (b c : Backend W D) (relation pages : ℕ) (map : Map)
+        (warnings : List ℕ) (end : Ending) : Type 0 where
+      pub is : IsBackend c
+      pub few : pages ≤ 65
+      pub read : HasRead (HasPages map warnings) b.disk_actor c.disk_actor b.desk c.desk
+          (map_blocks relation pages) end
+      pub job_kept : c.job ≡ b.job
+      pub options_same : backend_options c ≡ backend_options b
+
+    pub record IsWorker (w : Worker W D) : Type 0 where
+      pub disk_actor : IsDiskActor w.disk_actor
+      pub worker : w.disk_actor.actor.known.config.backends ≤ w.disk_actor.actor.known.number
+      pub seat : IsSeatOf q w.seat
+
+    pub record WorkerServed (w v : Worker W D) : Type 0 where
+      pub is : IsWorker v
+      pub goes : DiskActorAdvanced w.disk_actor v.disk_actor
+
+-- as they stand among what a thread is given
+unfoldable pub MayRun : {W D : Type 0} → DiskGhosts D → Option Told → ℕ → TableView → QueueView
+    → Backend W D
+    → Type 0
+MayRun m told relations t q b = IsReady m told relations t q b
+
+unfoldable pub MayServe : {W D : Type 0} → DiskGhosts D → Option Told → ℕ → TableView → QueueView
+    → Worker W D
+    → Type 0
+MayServe m told relations t q w = IsWorker m told relations t q w

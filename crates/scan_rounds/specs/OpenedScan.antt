@@ -1,0 +1,189 @@
+-- The settings of a scan, and what they make.
+use Rattle.std.specs.Prelude.{◌≡◌, ℕ, ◌≤◌, ◌+◌, ◌*◌, ◌/◌, ◌++◌, List, [], length, map, min, max}
+use Rattle.std.specs.Prelude.{◌-◌, ◌^◌, Option, Some, vec_capacity, option_to_list}
+use Rattle.std.specs.Prelude.{Bool, true, false}
+use Rattle.std.specs.Option.{is_some}
+use Rattle.std.specs.List.{All, flat_map}
+use Rattle.std.specs.Vec.Iter.{into_iter_items}
+use Rattle.page_check.specs.Told.{Told}
+use Rattle.aio_word.specs.declared.Config.{Config}
+use Rattle.aio_handle.specs.ContractViews.{AreNewActors}
+use Rattle.method_worker.specs.QueueViews.{IsSeatOf}
+use Rattle.read_stream.specs.Desks.{IsFreeDesk}
+use Rattle.read_stream.specs.declared.desk.Desk.{Desk}
+use Rattle.read_stream.specs.declared.desk.Settings.{Settings}
+use Rattle.scan_rounds.specs.ListOptions.{list_options}
+use Rattle.scan_rounds.specs.DiskActors.{DiskGhosts}
+use Rattle.scan_rounds.specs.Rings.{IsRingOf}
+use Rattle.scan_rounds.specs.Rounds.{AreIdle, backend_disk_actor, worker_disk_actor, results_taken}
+use Rattle.scan_rounds.specs.Scans.{IsScan, actor_of, disk_of, scan_options, opened_disks}
+use Rattle.scan_rounds.specs.declared.backend.Backend.{Backend}
+use Rattle.scan_rounds.specs.declared.disk_actor.DiskActor.{DiskActor}
+use Rattle.scan_rounds.specs.declared.memory.Lists.{Lists}
+use Rattle.scan_rounds.specs.declared.memory.Memory.{Memory}
+use Rattle.scan_rounds.specs.declared.open.Parts.{Parts}
+use Rattle.scan_rounds.specs.declared.scan.Scan.{Scan}
+use Rattle.scan_rounds.specs.declared.settings.MethodKind.{MethodKind}
+use Rattle.scan_rounds.specs.declared.settings.MethodKind.TheVariants as method
+use Rattle.scan_rounds.specs.declared.settings.ScanSettings.{ScanSettings}
+use Rattle.scan_rounds.specs.declared.worker.Worker.{Worker}
+
+-- how many workers there are by a method
+abbrev pub workers_of_method : MethodKind → ℕ → ℕ
+workers_of_method method.Sync workers = 0
+workers_of_method method.Worker workers = workers
+workers_of_method method.Ring workers = 0
+
+abbrev pub workers_of_settings : ScanSettings → ℕ
+workers_of_settings s = workers_of_method s.method s.workers
+
+-- how many seats of the queue backends and workers have by a method
+abbrev pub seats_of_method : MethodKind → ℕ → ℕ → ℕ
+seats_of_method method.Sync backends workers = 0
+seats_of_method method.Worker backends workers = backends + workers
+seats_of_method method.Ring backends workers = backends
+
+abbrev pub seats_of_settings : ScanSettings → ℕ
+seats_of_settings s = seats_of_method s.method s.backends s.workers
+
+-- how many rings there are by a method
+abbrev pub rings_of_method : MethodKind → ℕ → ℕ
+rings_of_method method.Sync backends = 0
+rings_of_method method.Worker backends = 0
+rings_of_method method.Ring backends = backends
+
+abbrev pub rings_of_settings : ScanSettings → ℕ
+rings_of_settings s = rings_of_method s.method s.backends
+
+-- the settings are in their ranges
+pub record AreSettings (s : ScanSettings) : Type 0 where
+  pub workers_in_range : (1 ≤ s.workers) × (s.workers ≤ 32)
+  pub backends_in_range : (1 ≤ s.backends) × (s.backends ≤ 16)
+  pub combine_in_range : (1 ≤ s.combine) × (s.combine ≤ 128)
+  pub concurrency_in_range : (1 ≤ s.concurrency) × (s.concurrency ≤ 256)
+  pub handles_in_range : (1 ≤ s.handles) × (s.handles ≤ 64)
+  pub buffers_in_range : (16 ≤ s.buffers) × (s.buffers ≤ 16384)
+  pub segment_in_range : 1 ≤ s.segment
+
+-- the table of a scan, whose handles begin at this generation
+abbrev pub config_of : ScanSettings → ℕ → Config
+config_of s start =
+    record {
+      backends = s.backends;
+      per_backend = s.handles;
+      runners = workers_of_settings s;
+      start = start;
+    }
+
+-- the settings of its streams
+pub record AreStreamsOf (s : ScanSettings) (r : Settings) : Type 0 where
+  pub combine : r.combine ≡ s.combine
+  pub ios : r.ios ≡ min s.concurrency s.handles
+  pub limit : r.limit ≡ max 1 (min (r.ios * s.combine) (s.buffers / s.backends))
+  pub full : r.full ≡ s.full
+  pub batch : r.batch ≡ s.batch
+  pub segment : r.segment ≡ s.segment
+  pub zero : r.zero ≡ s.zero
+
+-- whether backends have seats of the queue by a method
+abbrev pub has_seats : MethodKind → Bool
+has_seats method.Sync = false
+has_seats method.Worker = true
+has_seats method.Ring = true
+
+-- whether they have rings
+abbrev pub has_rings : MethodKind → Bool
+has_rings method.Sync = false
+has_rings method.Worker = false
+has_rings method.Ring = true
+
+-- how the streams of a desk read
+abbrev pub settings_of_desk : {W : Type 0} → Desk W (Unit {0}) → Settings
+settings_of_desk d =
+    record {
+      combine = d.combine;
+      ios = d.ios;
+      limit = d.limit;
+      full = d.full;
+      batch = d.batched;
+      segment = d.segment;
+      zero = d.zero;
+    }
+
+-- a desk for the streams of a scan
+pub record IsDeskFor {W : Type 0} (s : ScanSettings) (d : Desk W (Unit {0})) : Type 0 where
+  pub free : IsFreeDesk d
+  pub streams : AreStreamsOf s (settings_of_desk d)
+
+-- its streams read as the settings say, and it has a seat and a ring where the method wants them
+pub record IsSetUp {W D : Type 0} (s : ScanSettings) (b : Backend W D) : Type 0 where
+  pub streams : AreStreamsOf s (settings_of_desk b.desk)
+  pub seat : is_some b.seat ≡ has_seats s.method
+  pub ring : is_some b.ring ≡ has_rings s.method
+
+module _ {W D : Type 0} where
+  -- empty lists, with room for this many
+  pub record HasLists (backends workers : ℕ) (l : Lists W D) : Type 0 where
+    pub backends_fit : (l.backends.items ≡ []) × (backends ≤ vec_capacity l.backends)
+    pub workers_fit : (l.workers.items ≡ []) × (workers ≤ vec_capacity l.workers)
+    pub actors_fit : (l.actors.items ≡ []) × (backends + workers ≤ vec_capacity l.actors)
+    pub disks_fit : (l.disks.items ≡ []) × (backends + workers ≤ vec_capacity l.disks)
+
+  -- the memory of a scan with these settings, in which nothing was done
+  pub record IsMemory (s : ScanSettings) (start : ℕ) (m : Memory W D) : Type 0 where
+    pub config : m.shared.table.config ≡ config_of s start
+    pub actors_are : length m.actors.items ≡ s.backends + workers_of_settings s
+    pub actors : AreNewActors m.shared.table 0 m.actors.items
+    pub seats_are : length m.seats.items ≡ seats_of_settings s
+    pub seats : All (IsSeatOf m.shared.queue) m.seats.items
+    pub rings_are : length m.rings.items ≡ rings_of_settings s
+    pub rings : All (IsRingOf m.shared.queue) m.rings.items
+    pub desks_are : length m.desks.items ≡ s.backends
+    pub desks : All (IsDeskFor s) m.desks.items
+    pub jobs_suffice : s.backends ≤ length m.jobs.items
+    pub lists : HasLists s.backends (workers_of_settings s) m.lists
+
+  -- the first actors and disks of the parts are those of this list, and these are left
+  pub record GivesDiskActors (p left : Parts W D) (hs : List (DiskActor W D)) : Type 0 where
+    pub actors : into_iter_items p.actors
+        ≡ map actor_of hs ++ into_iter_items left.actors
+    pub disks : map Some (into_iter_items p.disks)
+        ≡ map disk_of hs ++ map Some (into_iter_items left.disks)
+
+  -- the first parts are those of the backends, which have no job, and these are left
+  pub record GivesBackends (tuples : Bool) (p left : Parts W D) (bs : List (Backend W D))
+      : Type 0 where
+    pub disk_actors : GivesDiskActors p left (map backend_disk_actor bs)
+    pub desks : into_iter_items p.desks
+        ≡ map (λ (b : Backend W D). b.desk) bs ++ into_iter_items left.desks
+    pub seats : into_iter_items p.seats
+        ≡ flat_map (λ (b : Backend W D). option_to_list b.seat) bs ++ into_iter_items left.seats
+    pub rings : into_iter_items p.rings
+        ≡ flat_map (λ (b : Backend W D). option_to_list b.ring) bs ++ into_iter_items left.rings
+    pub idle : AreIdle bs
+    pub all_tuples : All (λ (b : Backend W D). b.tuples ≡ tuples) bs
+    -- each takes a seat and a ring, as long as there are some
+    pub seats_left : length (into_iter_items left.seats)
+        ≡ length (into_iter_items p.seats) - length bs
+    pub rings_left : length (into_iter_items left.rings)
+        ≡ length (into_iter_items p.rings) - length bs
+
+  -- the first parts are those of the workers, and these are left
+  pub record GivesWorkers (p left : Parts W D) (ws : List (Worker W D)) : Type 0 where
+    pub disk_actors : GivesDiskActors p left (map worker_disk_actor ws)
+    pub seats : into_iter_items p.seats
+        ≡ map (λ (w : Worker W D). w.seat) ws ++ into_iter_items left.seats
+    pub desks : left.desks ≡ p.desks
+
+-- a scan with these settings, just opened over these disks, whose handles begin at this generation
+pub record IsOpened {W D : Type 0} (m : DiskGhosts D) (told : Option Told) (relations : ℕ)
+    (settings : ScanSettings) (start : ℕ) (disks : List D) (s : Scan W D) : Type 0 where
+  pub is : IsScan m told relations s
+  pub config : s.shared.table.config ≡ config_of settings start
+  pub set_up : All (IsSetUp settings) s.backends.items
+  pub opened : opened_disks s ≡ disks
+  pub taken : results_taken s.backends.items ≡ 0
+  -- up to the last generation
+  pub room : s.room ≡ 2 ^ 58 - 1 - start
+  pub unread : s.unread ≡ 0
+  pub options_are : scan_options s ≡ list_options settings.zero settings.tuples

@@ -1,0 +1,72 @@
+//! What a run of several rounds lists, and what becomes of it.
+ghost use Rattle.std.specs.Prelude.{◌≡◌, ◌≤◌, ◌<◌, ◌+◌, ℕ, List, Option, length, take, false};
+ghost use Rattle.std.specs.List.{All};
+ghost use Rattle.scan_rounds.specs.ListOptions.{ListOptions};
+ghost use Rattle.scan_rounds.specs.Jobs.{IsFresh, AreAnswered, blocks_among, count_unskipped};
+ghost use Rattle.scan_rounds.specs.Jobs.{unread_among};
+ghost use Rattle.scan_rounds.specs.BlockFilter.{BlockFilter};
+ghost use Rattle.scan_rounds.specs.declared.job.Job.{Job};
+
+use crate::job::Job;
+use page_check::World;
+
+/// Gives the jobs of a run, round by round, and takes them back when they have ended.
+pub trait JobSource<W: World>: Drop {
+    /// How many more blocks it asks for at most.
+    ghost blocks_left: { Self → ℕ };
+
+    /// How many of them are not left out, at most.
+    ghost unskipped_left: { Self → ℕ };
+
+    /// Which blocks are left out of its jobs.
+    ghost block_filter: { Self → Option BlockFilter };
+
+    /// How many of the jobs that it has taken ended in Unread, as far as it says.
+    ghost unread: { Self → ℕ };
+
+    /// In the first state it puts these jobs, and is then in the second.
+    ghost puts: { Self → List Job → Self → Type 0 };
+
+    /// Some rounds have led from the first state to the second.
+    ghost follows: { Self → Self → Type 0 };
+
+    /// With which options it takes blocks to be listed.
+    ghost options: { Self → ListOptions };
+
+    /// It wants no further round.
+    ghost is_over: { Self → Type 0 };
+
+    /// Gives the next jobs into the first places: the answer is how many, 0 where there are none.
+    fn next_jobs(&mut self, jobs: &mut [Job]) -> usize
+        requires some { 1 ≤ length jobs.old }
+        ensures few { (result ≤ length jobs.new) × (length jobs.new ≡ length jobs.old) }
+        ensures fresh { All (IsFresh W.relations) (take result jobs.new) }
+        ensures left { blocks_left self.new + blocks_among (take result jobs.new)
+            ≤ blocks_left self.old }
+        ensures due { unskipped_left self.new + count_unskipped (block_filter self.old)
+            (take result jobs.new) ≤ unskipped_left self.old }
+        ensures unread { unread self.new ≡ unread self.old }
+        ensures block_filter { block_filter self.new ≡ block_filter self.old }
+        ensures options { options self.new ≡ options self.old }
+        ensures puts { puts self.old (take result jobs.new) self.new }
+        ensures none { result ≡ 0 → follows self.old self.new × is_over self.new };
+
+    /// Takes back the jobs that it gave last, each with its text and its ending. Whether there is
+    /// to be another round.
+    fn finish_jobs(&mut self, jobs: &[Job]) -> bool
+        ensures follows { (was : Self) (asked : List Job) → puts was asked self.old
+            → AreAnswered (block_filter self.old) (options self.old) W.told asked jobs.now
+            → follows was self.new }
+        ensures left { blocks_left self.new ≤ blocks_left self.old }
+        ensures due { unskipped_left self.new ≤ unskipped_left self.old }
+        ensures block_filter { block_filter self.new ≡ block_filter self.old }
+        ensures options { options self.new ≡ options self.old }
+        ensures unread { unread self.new ≤ unread self.old + unread_among jobs.now }
+        ensures over { result ≡ false → is_over self.new };
+
+    /// No round leads back to the same state.
+    ghost follows_itself: { (a : Self) → follows a a };
+
+    /// Rounds, and then further ones.
+    ghost follows_on: { (a b c : Self) → follows a b → follows b c → follows a c };
+}

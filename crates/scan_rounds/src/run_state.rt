@@ -1,0 +1,154 @@
+//! The rounds of a job source, one after the other.
+ghost use Rattle.std.specs.Prelude.{◌≡◌, ◌<◌, ◌+◌, ◌*◌, ◌-◌, map, false, true};
+ghost use Rattle.scan_rounds.specs.JobSources.{JobSourceAdvanced, MayRunRounds};
+ghost use Rattle.scan_rounds.specs.DiskActors.{disk_ghosts};
+ghost use Rattle.scan_rounds.specs.ListOptions.{ListOptions};
+ghost use Rattle.scan_rounds.specs.Progress.{AreWaiting};
+ghost use Rattle.scan_rounds.specs.Rounds.{AllHaveOptions, backend_disk_actor};
+ghost use Rattle.scan_rounds.specs.BlockFilter.{filter_of};
+
+use crate::backend::Backend;
+use crate::job::Job;
+use crate::job_source::JobSource;
+use crate::rounds::Counts;
+use crate::shared::SharedState;
+use crate::skipping::Skipping;
+use crate::turn::take_turn;
+use aio_disk::Disk;
+use page_check::World;
+use std::sync::Wait;
+use std::thread::Threads;
+
+// One turn of a job source. Whether there is to be another.
+fn next_turn<W: World + Send + Sync, D: Disk, R: Threads + Wait + Sync, A: JobSource<W>>(
+    rt: &R,
+    shared: &SharedState<W>,
+    skipping: Option<Skipping<'_>>,
+    backends: &mut [Backend<W, D>],
+    jobs: &mut [Job],
+    job_source: &mut A,
+    counts: &mut Counts,
+) -> bool
+    requires may { MayRunRounds (disk_ghosts D.told D.relations D.reads D.faults) W.told W.relations
+        shared.now.table shared.now.queue A.blocks_left A.options A.block_filter
+        (filter_of skipping) backends.old jobs.old job_source.old counts.old }
+    ensures goes { JobSourceAdvanced (disk_ghosts D.told D.relations D.reads D.faults)
+        W.told W.relations shared.now.table shared.now.queue A.blocks_left A.unskipped_left A.unread
+        A.options A.block_filter A.follows backends.old backends.new jobs.old jobs.new
+        job_source.old job_source.new counts.old counts.new }
+    ensures over { result ≡ false → A.is_over job_source.new }
+    ensures nearer { result ≡ true → A.blocks_left job_source.new < A.blocks_left job_source.old }
+{
+    let count = job_source.next_jobs(jobs);
+    if count == 0 {
+        return false;
+    }
+    let (front, _) = jobs.split_at_mut(count);
+    *counts = take_turn(rt, shared, skipping, backends, front, *counts);
+    job_source.finish_jobs(front)
+}
+
+// The first backend closes the queue, where it has a seat.
+fn close_queue<W: World, D: Disk, R: Wait>(
+    rt: &R,
+    shared: &SharedState<W>,
+    backends: &mut [Backend<W, D>],
+    counts: Counts,
+)
+    requires waiting { AreWaiting (disk_ghosts D.told D.relations D.reads D.faults)
+        W.told W.relations shared.now.table shared.now.queue backends.old counts }
+    ensures waiting { AreWaiting (disk_ghosts D.told D.relations D.reads D.faults)
+        W.told W.relations shared.now.table shared.now.queue backends.new counts }
+    ensures disk_actors { map backend_disk_actor backends.new
+        ≡ map backend_disk_actor backends.old }
+    ensures options { (m : ListOptions) → AllHaveOptions m backends.old
+        → AllHaveOptions m backends.new }
+{
+    backends[0].close(rt, shared);
+}
+
+// All rounds of a job source, in turns: a round by itself first, and then more and more in one
+// turn. Then the queue is closed.
+fn all_rounds<W: World + Send + Sync, D: Disk, R: Threads + Wait + Sync, A: JobSource<W>>(
+    rt: &R,
+    shared: &SharedState<W>,
+    skipping: Option<Skipping<'_>>,
+    backends: &mut [Backend<W, D>],
+    jobs: &mut [Job],
+    job_source: &mut A,
+    counts: &mut Counts,
+)
+    requires may { MayRunRounds (disk_ghosts D.told D.relations D.reads D.faults) W.told W.relations
+        shared.now.table shared.now.queue A.blocks_left A.options A.block_filter
+        (filter_of skipping) backends.old jobs.old job_source.old counts.old }
+    ensures goes { JobSourceAdvanced (disk_ghosts D.told D.relations D.reads D.faults)
+        W.told W.relations shared.now.table shared.now.queue A.blocks_left A.unskipped_left A.unread
+        A.options A.block_filter A.follows backends.old backends.new jobs.old jobs.new
+        job_source.old job_source.new counts.old counts.new }
+    ensures over { A.is_over job_source.new }
+{
+    let mut many = backends.len();
+    loop {
+        let (front, _) = jobs.split_at_mut(many);
+        if !next_turn(rt, shared, skipping, backends, front, job_source, counts) {
+            close_queue(rt, shared, backends, *counts);
+            return;
+        }
+        many = jobs.len().min(many.saturating_mul(2));
+    }
+}
+
+/// What goes through all rounds of a run, and comes back.
+#[derive(Drop)]
+pub(crate) struct RunState<W: World, D: Disk, A: Drop> {
+    pub(crate) backends: Vec<Backend<W, D>>,
+    pub(crate) jobs: Vec<Job>,
+    pub(crate) job_source: A,
+    pub(crate) counts: Counts,
+}
+
+/// All rounds of a job source; then the queue is closed.
+pub(crate) fn run_rounds<
+    W: World + Send + Sync,
+    D: Disk,
+    R: Threads + Wait + Sync,
+    A: JobSource<W>,
+>(
+    rt: &R,
+    shared: &SharedState<W>,
+    skipping: Option<Skipping<'_>>,
+    run_state: RunState<W, D, A>,
+) -> RunState<W, D, A>
+    requires may { MayRunRounds (disk_ghosts D.told D.relations D.reads D.faults) W.told W.relations
+        shared.now.table shared.now.queue A.blocks_left A.options A.block_filter
+        (filter_of skipping) run_state.backends.items run_state.jobs.items run_state.job_source
+        run_state.counts }
+    ensures goes { JobSourceAdvanced (disk_ghosts D.told D.relations D.reads D.faults)
+        W.told W.relations shared.now.table shared.now.queue A.blocks_left A.unskipped_left A.unread
+        A.options A.block_filter A.follows run_state.backends.items result.backends.items
+        run_state.jobs.items result.jobs.items run_state.job_source result.job_source
+        run_state.counts result.counts }
+    ensures over { A.is_over result.job_source }
+{
+    let RunState {
+        mut backends,
+        mut jobs,
+        mut job_source,
+        mut counts,
+    } = run_state;
+    all_rounds(
+        rt,
+        shared,
+        skipping,
+        backends.as_mut_slice(),
+        jobs.as_mut_slice(),
+        &mut job_source,
+        &mut counts,
+    );
+    RunState {
+        backends,
+        jobs,
+        job_source,
+        counts,
+    }
+}
