@@ -1,4 +1,4 @@
-use Rattle.std.proofs.Common.{rules, ◌≡◌, [], ◌∷◌, length, ap, ◌∙◌, Some, Ok, Err, Result}
+use Rattle.std.proofs.Common.{rules, ◌≡◌, [], ◌∷◌, ◌++◌, List, length, ap, ◌∙◌, Some, Ok, Err, Result}
 use Rattle.std.specs.Result.{IfOk, result_ok}
 use Rattle.aio_word.specs.declared.WaitRef.{WaitRef}
 use Rattle.aio_callback.specs.ReadIoView.{ReadIoView, record_aim}
@@ -16,7 +16,9 @@ returns-clause-room g c =
     let staged : WaitRef × ReadIoView = c.stage-token.result in
     let taken : ReadIoView = c.in-Ready.local.1 in
     let next = c.in_ok-token-2.ensures.next in
-    let pushed : c.push.new.self ≡ staged ∷ [] = search rules in
+    let pushed : c.push.new.self ≡ staged ∷ [] =
+    (at_value _ _ _ c.in_ok-ok-2.ensures.value c.push.ensures.ok).1
+    ∙ ap (λ (ts : List (WaitRef × ReadIoView)). ts ++ staged ∷ []) c.requires.empty in
     let first = next.first in
     let same : next.token ≡ staged = cc in
     let aim : record_aim taken ≡ record_aim aimed = c.in-Ready.ensures.record.1 _ next.aim
@@ -31,7 +33,9 @@ returns-clause-room g c =
 pub returns-clause-empty : goal.returns-clause-empty
 returns-clause-empty g c =
     let staged : WaitRef × ReadIoView = c.stage-token.result in
-    let pushed : c.push.new.self ≡ staged ∷ [] = search rules in
+    let pushed : c.push.new.self ≡ staged ∷ [] =
+    (at_value _ _ _ c.in_ok-ok-2.ensures.value c.push.ensures.ok).1
+    ∙ ap (λ (ts : List (WaitRef × ReadIoView)). ts ++ staged ∷ []) c.requires.empty in
     let first = c.in_ok-token-2.ensures.next.first in
     let empty : c.submit_next.new.self ≡ [] = cc in
     empty
