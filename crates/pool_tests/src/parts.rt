@@ -72,14 +72,16 @@ fn fill_in_turn<W: World, R: Wait>(
     Ok(Some([zero, one, three]))
 }
 
-// Two parts of 17 and 16 frames, and four of 25. Pages that were looked up before are replaced.
+// Two parts of 17 and 16 frames, and four of 25. Pages that were looked up before are replaced. Each
+// part loses one of the new pages to its ring, once the hand of the clock has passed it.
 #[test]
 fn each_relation_has_all_frames_in_turn(rt: HostRuntime) -> Result<(), AllocError> {
-    for frames in [33, 100] {
+    for (frames, left) in [(33, 31), (100, 96)] {
         let Some(filled) = fill_in_turn::<Brand, HostRuntime>(&rt, rt.alloc(), frames)? else {
             panic!(&rt; "a page is sane")
         };
-        assert_eq!(rt; filled, [(frames, frames); 3], "{frames} frames");
+        let later = (frames, left);
+        assert_eq!(rt; filled, [(frames, frames), later, later], "{frames} frames");
     }
     Ok(())
 }
