@@ -22,8 +22,9 @@ use Rattle.aio_callback.specs.ReadIoView.{ReadIoView, record_aim}
 use Rattle.circular_buffer.specs.Buffer.{buffer}
 use Rattle.read_stream.specs.declared.reads.Reads.{Reads}
 use Rattle.read_stream.specs.declared.scope.Scope.{Scope}
+use Rattle.read_stream.specs.ActorProgress.{AllSubmitted}
 use Rattle.read_stream.specs.StreamIos.{IsForBlocks, IsAimed, IsNewIncarnation, Issued}
-use Rattle.read_stream.specs.StreamIos.{IssuedExcept, HeldByCaller, references}
+use Rattle.read_stream.specs.StreamIos.{IssuedExcept, HeldByCaller, IsStreamIo, references}
 use Rattle.read_stream.specs.StreamIos.{record_count, known_at_open}
 use Rattle.read_stream.proofs.OwnerCountsKept.{OwnerCountsUnchanged, owner-counts-then}
 use Rattle.read_stream.proofs.OwnerCountsKept.{owner-counts-taking-up, owner-counts-submitting}
@@ -256,3 +257,19 @@ module _ {W : Type 0} (c : Scope W) where
         ap (λ (z : WaitRef × ReadIoView). z.1.first) token,
         ap (λ (z : WaitRef × ReadIoView). z.1.count) token,
       )
+
+  -- where nothing is staged, and the caller's tokens are in flight, all is submitted
+  pub all-submitted : (caller_refs : List WaitRef) (told : Option Told) (relations : ℕ) (p : Known)
+      (s : Reads W) → IssuedExcept caller_refs c told relations p s → s.batch ≡ []
+      → ((t : WaitRef) → IsIn t caller_refs → IsStreamIo c p t) → AllSubmitted p
+  all-submitted caller_refs told relations p s k none callers = λ t defined.
+      (let in-flight : IsStreamIo c p t → 0 < mark_count t kind.Submitted p.marks
+      + mark_count t kind.Reclaimed p.marks =
+      λ io. (let since = io.in_flight.since in omega arith) in
+      ⊎_elim (λ over. omega arith)
+      (λ j. in-flight (⊎_elim
+      (λ i. ⊎_elim (λ of. callers t of)
+      (λ b. absurd (subst (λ (z : List (WaitRef × ReadIoView)). IsIn t (references z)) none b))
+      (in-append t caller_refs (references s.batch) i))
+      (λ f. stream-io-in c p s.in_flight.items t k.stream_ios f)
+      (in-append t (caller_refs ++ references s.batch) s.in_flight.items j))) (k.owed t))

@@ -1,5 +1,5 @@
 -- How far an actor has advanced: marks that leave nothing half done, and the counts of its executor.
-use Rattle.std.specs.Prelude.{◌≡◌, ℕ, ◌++◌, ◌==◌, List, count_by}
+use Rattle.std.specs.Prelude.{◌≡◌, ℕ, ◌+◌, ◌<◌, ◌++◌, ◌==◌, List, count_by}
 use Rattle.aio_word.specs.declared.Kind.TheVariants as kind
 use Rattle.aio_word.specs.declared.Known.{Known}
 use Rattle.aio_word.specs.declared.Mark.{Mark}
@@ -33,3 +33,9 @@ local_marks marks = count_by (λ m. kind_place m.kind == 6) marks
 -- the mark stands behind those that the actor had when the stream was opened
 abbrev pub MarkedSince : Known → Known → Mark → Type 0
 MarkedSince was p m = (more : List Mark) × (p.marks ≡ was.marks ++ more) × IsIn m more
+
+-- each incarnation that the actor has defined it has submitted, or it is over. A backend that waits
+-- then owes nobody a submission: no circle of backends waits for each other
+abbrev pub AllSubmitted : Known → Type 0
+AllSubmitted p = (t : WaitRef) → 0 < mark_count t kind.Defined p.marks
+    → 0 < mark_count t kind.Submitted p.marks + mark_count t kind.Reclaimed p.marks

@@ -1,6 +1,7 @@
 //! How a stream has the page of a block by the pool.
 ghost use Rattle.std.specs.Prelude.{◌≡◌, ◌<◌, [], ◌∷◌, List, ℕ};
 ghost use Rattle.aio_word.specs.Tokens.{HasSeenDone};
+ghost use Rattle.read_stream.specs.ActorProgress.{AllSubmitted};
 ghost use Rattle.read_stream.specs.IoContexts.{IsValidContext, ContextAdvanced};
 ghost use Rattle.read_stream.specs.StreamState.{Reaches, UnderwayWith};
 ghost use Rattle.read_stream.specs.Changes.{LookAheadUnchanged, ConsumerUnchanged};
@@ -67,6 +68,7 @@ impl<'d, 'p, W: World, S: BlockSource<P> + Drop, P: Copy> ReadStream<'d, 'p, W, 
             context.new.actor.now.known self.new }
         ensures moves { LookAheadUnchanged self.old self.new }
     {
+        self.submit(rt, context);
         self.wait_for(rt, context, reference);
         let found = self.pool.lookup(rt, self.tag(block));
         match found {
@@ -88,6 +90,7 @@ impl<'d, 'p, W: World, S: BlockSource<P> + Drop, P: Copy> ReadStream<'d, 'p, W, 
             context.old }
         requires underway { (hand : List ℕ) × UnderwayWith S.left W.told W.relations W.handles hand
             [] 0 context.old.actor.now.known self.old }
+        requires submitted { AllSubmitted context.old.actor.now.known }
         requires range { reference.handle < W.handles }
         ensures serves { ContextAdvanced E.told E.relations E.reads E.faults M.stands_on context.old
             context.new }
@@ -100,7 +103,6 @@ impl<'d, 'p, W: World, S: BlockSource<P> + Drop, P: Copy> ReadStream<'d, 'p, W, 
         ensures moves { LookAheadUnchanged self.old self.new }
         ensures done { HasSeenDone context.new.actor.now.known reference }
     {
-        self.submit(rt, context);
         wait(rt, context.table, context.actor, reference, context.runner);
         self.plan.waited();
     }

@@ -1,5 +1,6 @@
 //! The calls that take a stream's I/Os in.
 ghost use Rattle.std.specs.Prelude.{◌≡◌, ◌<◌, ◌+◌, [], ◌∷◌, IfSome, IfNone, ℕ, List};
+ghost use Rattle.read_stream.specs.ActorProgress.{AllSubmitted};
 ghost use Rattle.read_stream.specs.IoContexts.{IsValidContext, ContextAdvanced};
 ghost use Rattle.read_plan.specs.declared.runs.Run.{Run};
 ghost use Rattle.read_stream.specs.StreamIos.{Issued, HeldByCaller, IsTakenIn, HasIdleHandle};
@@ -32,6 +33,7 @@ impl<W: World> Reads<W> {
             context.old }
         requires lent { HeldByCaller scope.now W.told W.relations context.old.actor.now.known
             self.old token }
+        requires submitted { AllSubmitted context.old.actor.now.known }
         ensures serves { ContextAdvanced E.told E.relations E.reads E.faults M.stands_on context.old
             context.new }
         ensures issued { Issued scope.now W.told W.relations context.new.actor.now.known self.new }
@@ -65,6 +67,7 @@ impl<W: World> Reads<W> {
         requires handed { IsValidContext E.told E.relations W.told W.relations scope.now
             context.old }
         requires issued { Issued scope.now W.told W.relations context.old.actor.now.known self.old }
+        requires staged { self.old.batch ≡ [] }
         ensures serves { ContextAdvanced E.told E.relations E.reads E.faults M.stands_on context.old
             context.new }
         ensures issued { Issued scope.now W.told W.relations context.new.actor.now.known self.new }
@@ -100,6 +103,7 @@ impl<W: World> Reads<W> {
         requires handed { IsValidContext E.told E.relations W.told W.relations scope.now
             context.old }
         requires issued { Issued scope.now W.told W.relations context.old.actor.now.known self.old }
+        requires staged { self.old.batch ≡ [] }
         ensures serves { ContextAdvanced E.told E.relations E.reads E.faults M.stands_on context.old
             context.new }
         ensures issued { Issued scope.now W.told W.relations context.new.actor.now.known self.new }
@@ -113,7 +117,7 @@ impl<W: World> Reads<W> {
         ensures same_state { IfNone result ((self.old.ended.items ≡ [])
             × (record_count self.new ≡ record_count self.old)
             × (self.new.in_flight ≡ self.old.in_flight)) }
-        ensures runs { self.old.batch ≡ [] → (run : Run) (runs : List Run)
+        ensures runs { (run : Run) (runs : List Run)
             → ReadsForRuns scope.now context.old.actor.now.known self.old (run ∷ runs)
             → IsRecordForRun run result × ReadsForRuns scope.now context.new.actor.now.known
             self.new runs }
@@ -124,8 +128,8 @@ impl<W: World> Reads<W> {
         }
     }
 
-    // Takes the oldest I/O in flight in, and keeps its record with its pages. Where nothing was
-    // staged, one of the handles is in the middle of no life then.
+    // Takes the oldest I/O in flight in, and keeps its record with its pages. One of the handles is
+    // in the middle of no life then.
     pub(crate) fn take_in<M: Method<ReadIo, W>, E: Execute<ReadIo, W>, T: Wait>(
         &mut self,
         rt: &T,
@@ -135,14 +139,14 @@ impl<W: World> Reads<W> {
         requires handed { IsValidContext E.told E.relations W.told W.relations scope.now
             context.old }
         requires issued { Issued scope.now W.told W.relations context.old.actor.now.known self.old }
+        requires staged { self.old.batch ≡ [] }
         ensures serves { ContextAdvanced E.told E.relations E.reads E.faults M.stands_on context.old
             context.new }
         ensures issued { Issued scope.now W.told W.relations context.new.actor.now.known self.new }
         ensures all { (record_count self.new ≡ record_count self.old)
             × (ios_allowed self.new ≡ ios_allowed self.old) × (self.new.batch ≡ self.old.batch)
             × (self.new.free ≡ self.old.free) × (self.new.io_budget ≡ self.old.io_budget) }
-        ensures idle { self.old.batch ≡ [] → HasIdleHandle context.old.table.now.config
-            context.new.actor.now.known }
+        ensures idle { HasIdleHandle context.old.table.now.config context.new.actor.now.known }
         ensures runs { (runs : List Run) → ReadsForRuns scope.now context.old.actor.now.known
             self.old runs → ReadsForRuns scope.now context.new.actor.now.known self.new runs }
     {

@@ -52,7 +52,7 @@ unreachable-requires g c =
     c.take_in.new.self (c.requires.handed.scope.1 ∙ sym (ap (λ z. z.now.config) same))
     c.take_in.ensures.issued (omega arith)
     (subst (λ z. HasIdleHandle z.now.config c.take_in.new.context.actor.now.known) (sym table)
-    (c.take_in.ensures.idle c.submit.ensures.none)) c.in-None.ensures.none.1
+    c.take_in.ensures.idle) c.in-None.ensures.none.1
 
 pub returns-clause-runs : goal.returns-clause-runs
 returns-clause-runs g c = λ runs f.

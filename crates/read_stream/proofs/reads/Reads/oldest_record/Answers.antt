@@ -36,7 +36,7 @@ returns-in-Some-clause-some g c =
     (l.1, l.2)
 
 pub returns-in-Some-clause-runs : goal.returns-in-Some-clause-runs
-returns-in-Some-clause-runs g c = λ batch run runs f.
+returns-in-Some-clause-runs g c = λ run runs f.
     (let W : Type 0 = g.row.W.Denot in
     let s : Reads W = c.args.self.now in
     let io : ReadIoView = c.in-Some.io in
@@ -46,7 +46,7 @@ returns-in-Some-clause-runs g c = λ batch run runs f.
     (ap (λ (z : Buffer ReadIoView). z.items) c.pop_front.ensures.items) refl refl f)
 
 pub returns-in-None-clause-runs : goal.returns-in-None-clause-runs
-returns-in-None-clause-runs g c = λ batch run runs f.
+returns-in-None-clause-runs g c = λ run runs f.
     (let W : Type 0 = g.row.W.Denot in
     let s : Reads W = c.args.self.now in
     let none = nothing-of s.ended.items (sym c.pop_front.ensures.value ∙ c.in-None.is) in
@@ -54,6 +54,6 @@ returns-in-None-clause-runs g c = λ batch run runs f.
     let all = c.settle_oldest.ensures.all in
     reads-settled c.args.scope.now c.args.context.now.actor.now.known
     c.settle_oldest.new.context.actor.now.known
-    s c.settle_oldest.new.self c.settle_oldest.result run runs none batch
-    (ap (λ (z : Buffer ReadIoView). z.items) (all.2 ∙ e) ∙ none) (all.1 ∙ batch)
+    s c.settle_oldest.new.self c.settle_oldest.result run runs none c.requires.staged
+    (ap (λ (z : Buffer ReadIoView). z.items) (all.2 ∙ e) ∙ none) (all.1 ∙ c.requires.staged)
     c.settle_oldest.ensures.run c.settle_oldest.ensures.none f)

@@ -1,11 +1,12 @@
-use Rattle.std.proofs.Common.{◌≡◌, List, ap, ◌∙◌, arith, length, refl}
+use Rattle.std.proofs.Common.{◌≡◌, List, [], ◌∷◌, ap, ◌∙◌, arith, length, refl, subst, ⊎_elim}
 use Rattle.aio_word.specs.declared.Known.{Known}
 use Rattle.aio_word.specs.declared.WaitRef.{WaitRef}
 use Rattle.aio_callback.specs.ReadIoView.{ReadIoView, record_aim}
+use Rattle.read_stream.specs.StreamIos.{IsStreamIo}
 use Rattle.read_stream.proofs.ActorAdvancedLaws.{advanced_submitting}
 use Rattle.read_stream.proofs.ContextAdvancedLaws.{context_advanced_by, context_advanced_then}
 use Rattle.read_stream.proofs.ReadsMatchRuns.{reads-at-once}
-use Rattle.read_stream.proofs.SubmitKeepsIssued.{lent-at-once, for-at-once}
+use Rattle.read_stream.proofs.SubmitKeepsIssued.{all-submitted, lent-at-once, only-one, for-at-once}
 use Rattle.read_stream.proofs.reads.Reads.read.Goals as goal
 
 pub settle-requires-clause-lent : goal.settle-requires-clause-lent
@@ -19,6 +20,20 @@ settle-requires-clause-lent g c =
     c.put.new.self c.stage-token.result c.submit_next.new.self c.in-Some.token _ _ _ _
     c.put.ensures token.0 token.1 token.2 c.stage-token.ensures.apart (omega arith)
     c.stage-token.ensures.issued c.in-Some.ensures.next c.in-Some.ensures.tokens
+
+pub settle-requires-clause-submitted : goal.settle-requires-clause-submitted
+settle-requires-clause-submitted g c =
+    let few = c.stage-token.ensures.batch in
+    let none : length c.submit.new.self.batch ≡ 0 =
+    ap (λ (z : List (WaitRef × ReadIoView)). length z) c.submit.ensures.none in
+    let held = settle-requires-clause-lent g c in
+    all-submitted c.args.scope.now (c.in-Some.token ∷ []) g.W.World.told g.W.World.relations
+    c.submit_next.new.actor.known _ held.issued
+    (only-one c.args.scope.now _ _ c.stage-token.new.self c.put.new.self c.stage-token.result
+    c.submit_next.new.self c.in-Some.token _ _ _ _ (omega arith) c.put.ensures
+    c.in-Some.ensures.next).1
+    (λ t i. ⊎_elim (λ e. subst (λ (z : WaitRef). IsStreamIo c.args.scope.now
+    c.submit_next.new.actor.known z) e held.stream_ios) (λ j. absurd j) i)
 
 pub returns-clause-serves : goal.returns-clause-serves
 returns-clause-serves g c =

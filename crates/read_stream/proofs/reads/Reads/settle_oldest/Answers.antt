@@ -1,4 +1,4 @@
-use Rattle.std.proofs.Common.{◌≡◌, ◌∷◌, List, sym, ap, ◌∙◌, subst, drop}
+use Rattle.std.proofs.Common.{◌≡◌, [], ◌∷◌, List, sym, ap, ◌∙◌, subst, drop}
 use Rattle.aio_word.specs.declared.WaitRef.{WaitRef}
 use Rattle.circular_buffer.specs.Buffer.{Buffer}
 use Rattle.read_plan.specs.declared.runs.Run.{Run}
@@ -8,6 +8,7 @@ use Rattle.read_stream.specs.StreamIos.{Issued, InFlightForRuns, run_of}
 use Rattle.read_stream.proofs.ReadsMatchRuns.{in-flight-first}
 use Rattle.read_stream.proofs.QueueMovesKeepIssued.{first-of, less-in-flight, nothing-of}
 use Rattle.read_stream.proofs.QueueMovesKeepIssued.{same-queue}
+use Rattle.read_stream.proofs.SubmitKeepsIssued.{all-submitted}
 use Rattle.read_stream.proofs.reads.Reads.settle_oldest.Goals as goal
 
 pub settle-requires-clause-lent : goal.settle-requires-clause-lent
@@ -18,6 +19,12 @@ settle-requires-clause-lent g c =
     c.pop_front.new.self
     (first-of xs c.in-Some.token (sym c.pop_front.ensures.value ∙ c.in-Some.is))
     c.pop_front.ensures.items c.requires.issued).0
+
+pub settle-requires-clause-submitted : goal.settle-requires-clause-submitted
+settle-requires-clause-submitted g c =
+    all-submitted c.args.scope.now [] g.W.World.told g.W.World.relations
+    c.args.context.now.actor.now.known c.args.self.now c.requires.issued c.requires.staged
+    (λ t i. absurd i)
 
 pub returns-in-Some-clause-run : goal.returns-in-Some-clause-run
 returns-in-Some-clause-run g c = λ runs stream_ios.

@@ -33,9 +33,9 @@ returns-in-Some-clause-runs g c = λ runs. reads-taken-in c.args.scope.now
     c.in-Some.ensures.all.1
 
 pub returns-in-None-clause-idle : goal.returns-in-None-clause-idle
-returns-in-None-clause-idle g c = λ batch.
+returns-in-None-clause-idle g c =
     subst (λ (z : ActorView). HasIdleHandle c.args.context.now.table.now.config z.known)
     (sym c.in-None.ensures.same_state.1)
     (idle-at-rest c.args.scope.now g.W.World.told g.W.World.relations _
     c.args.context.now.actor.now.known c.args.self.now c.requires.handed.scope.1 c.requires.issued
-    c.requires.handed.backend batch c.in-None.ensures.none)
+    c.requires.handed.backend c.requires.staged c.in-None.ensures.none)

@@ -5,12 +5,26 @@ use Rattle.buf_pool.specs.declared.descriptor.Tag.{Tag}
 use Rattle.read_stream.specs.declared.stream.ReadStream.{ReadStream}
 use Rattle.read_stream.specs.StreamState.{Reaches}
 use Rattle.read_stream.proofs.ContextAdvancedLaws.{context_advanced_then}
+use Rattle.read_stream.proofs.SubmitKeepsIssued.{all-submitted}
 use Rattle.read_stream.proofs.BlockAtHand.{reaches_pinned}
 use Rattle.read_stream.proofs.stream.ReadStream.join.Goals as goal
 
+pub wait_for-requires-clause-underway : goal.wait_for-requires-clause-underway
+wait_for-requires-clause-underway g c =
+    (c.args.block ∷ [], c.submit.ensures.underway (c.args.block ∷ []) c.requires.underway)
+
+pub wait_for-requires-clause-submitted : goal.wait_for-requires-clause-submitted
+wait_for-requires-clause-submitted g c =
+    let n : ReadStream g.row.W.Denot g.row.S.Denot g.row.P.Denot = c.submit.new.self in
+    let u = c.submit.ensures.underway (c.args.block ∷ []) c.requires.underway in
+    all-submitted n.scope [] g.W.World.told g.W.World.relations
+    c.submit.new.context.actor.now.known n.desk.now.reads u.steady.issued c.submit.ensures.staged
+    (λ t i. absurd i)
+
 pub read_block-requires-clause-underway : goal.read_block-requires-clause-underway
 read_block-requires-clause-underway g c =
-    c.wait_for.ensures.underway (c.args.block ∷ []) c.requires.underway
+    c.wait_for.ensures.underway (c.args.block ∷ [])
+    (c.submit.ensures.underway (c.args.block ∷ []) c.requires.underway)
 
 pub returns-in-Hit-clause-reaches : goal.returns-in-Hit-clause-reaches
 returns-in-Hit-clause-reaches g c =
@@ -20,11 +34,17 @@ returns-in-Hit-clause-reaches g c =
     c.wait_for.new.context.actor.now.known z) (sym c.hold.ensures)
     (reaches_pinned g.S.BlockSource.left g.W.World.told g.W.World.relations g.W.World.handles
     c.wait_for.new.context.actor.now.known n c.in-Hit.pin c.args.block
-    (c.wait_for.ensures.stays.current ∙ c.requires.none.0)
+    (c.wait_for.ensures.stays.current ∙ (c.submit.ensures.stays.current ∙ c.requires.none.0))
     (subst (λ (z : Tag). IsGood g.W.World.told z.relation z.block (pinned_page c.in-Hit.pin))
     c.tag.ensures c.in-Hit.ensures.1)
-    (c.wait_for.ensures.underway (c.args.block ∷ []) c.requires.underway))
+    (c.wait_for.ensures.underway (c.args.block ∷ [])
+    (c.submit.ensures.underway (c.args.block ∷ []) c.requires.underway)))
+
+pub returns-in-Hit-clause-serves : goal.returns-in-Hit-clause-serves
+returns-in-Hit-clause-serves g c =
+    context_advanced_then c.wait_for.ensures.serves c.submit.ensures.serves
 
 pub returns-in-Busy-clause-serves : goal.returns-in-Busy-clause-serves
 returns-in-Busy-clause-serves g c =
-    context_advanced_then c.read_block.ensures.serves c.wait_for.ensures.serves
+    context_advanced_then c.read_block.ensures.serves
+    (context_advanced_then c.wait_for.ensures.serves c.submit.ensures.serves)

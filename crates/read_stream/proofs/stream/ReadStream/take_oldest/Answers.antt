@@ -18,7 +18,7 @@ unreachable-requires g c =
     let ws : List Want = drop 1 s.desk.now.wants.items in
     let first = first-of s.desk.now.wants.items (want.Run c.args.run) c.requires.run in
     subst (λ (z : Option ReadIoView). IsRecordForRun c.args.run z) c.in_default.is
-    (c.oldest_record.ensures.runs c.requires.staged c.args.run (wanted_runs ws)
+    (c.oldest_record.ensures.runs c.args.run (wanted_runs ws)
     (subst (λ (z : List Want). ReadsForRuns s.scope c.args.context.now.actor.now.known
     s.desk.now.reads (wanted_runs z)) first c.requires.underway.going.runs)).0
 
@@ -29,7 +29,7 @@ returns-clause-reaches g c =
     let ws : List Want = drop 1 s.desk.now.wants.items in
     let first = first-of s.desk.now.wants.items (want.Run c.args.run) c.requires.run in
     let all = c.oldest_record.ensures.all in
-    let one = c.oldest_record.ensures.runs c.requires.staged c.args.run (wanted_runs ws)
+    let one = c.oldest_record.ensures.runs c.args.run (wanted_runs ws)
     (subst (λ (z : List Want). ReadsForRuns s.scope c.args.context.now.actor.now.known
     s.desk.now.reads (wanted_runs z)) first c.requires.underway.going.runs) in
     let far = same_far m.plan c.waited.new.self _ c.waited.ensures in

@@ -8,7 +8,7 @@ use Rattle.read_stream.specs.declared.stream.ReadStream.{ReadStream}
 use Rattle.read_stream.specs.WantedBlocks.{pending_blocks}
 use Rattle.read_stream.proofs.ReadsMatchRuns.{reads-later}
 use Rattle.read_stream.proofs.ActorAdvancedLaws.{advanced_taking_up}
-use Rattle.read_stream.proofs.ContextAdvancedLaws.{context_advanced_by, context_advanced_then}
+use Rattle.read_stream.proofs.ContextAdvancedLaws.{context_advanced_by}
 use Rattle.read_stream.proofs.SubmitKeepsIssued.{issued-taking-up}
 use Rattle.read_stream.proofs.SameQueueKeepsUnderway.{underway_reads}
 use Rattle.read_stream.proofs.PlanChangeKeepsUnderway.{underway_plan, same_far}
@@ -16,21 +16,18 @@ use Rattle.read_stream.proofs.stream.ReadStream.wait_for.Goals as goal
 
 pub returns-clause-serves : goal.returns-clause-serves
 returns-clause-serves g c =
-    let x : IoContext g.row.W.Denot g.row.M.Denot g.row.E.Denot = c.submit.new.context in
-    context_advanced_then
-    (context_advanced_by x c.wait.new.actor x.method.now c.wait.new.runner c.wait.ensures.same
+    let x : IoContext g.row.W.Denot g.row.M.Denot g.row.E.Denot = c.args.context.now in
+    context_advanced_by x c.wait.new.actor x.method.now c.wait.new.runner c.wait.ensures.same
     c.wait.ensures.told
-    (advanced_taking_up x.actor.now.known c.wait.new.actor.known _ _ _ _ c.wait.ensures.marks) refl)
-    c.submit.ensures.serves
+    (advanced_taking_up x.actor.now.known c.wait.new.actor.known _ _ _ _ c.wait.ensures.marks) refl
 
 pub returns-clause-underway : goal.returns-clause-underway
-returns-clause-underway g c = λ hand u.
-    let n : ReadStream g.row.W.Denot g.row.S.Denot g.row.P.Denot = c.submit.new.self in
+returns-clause-underway g c = λ hand v.
+    let n : ReadStream g.row.W.Denot g.row.S.Denot g.row.P.Denot = c.args.self.now in
     let reads : Reads g.row.W.Denot = n.desk.now.reads in
-    let p : Known = c.submit.new.context.actor.now.known in
+    let p : Known = c.args.context.now.actor.now.known in
     let q : Known = c.wait.new.actor.known in
     let went = advanced_taking_up p q _ _ _ _ c.wait.ensures.marks in
-    let v = c.submit.ensures.underway hand u in
     let far = same_far n.plan c.waited.new.self _ c.waited.ensures in
     underway_plan g.S.BlockSource.left g.W.World.told g.W.World.relations g.W.World.handles q n
     c.waited.new.self hand [] [] 0 far.0
