@@ -3,6 +3,7 @@ use Rattle.std.proofs.Common.{◌≡◌, ℕ, ◌+◌, ◌≤◌, true, false, L
 use Rattle.std.proofs.Common.{arith}
 use Rattle.std.specs.Prelude.{Option, Some, None, IfSome, slice_get}
 use Rattle.std.proofs.lemmas.Option.{slice_get_past}
+use Rattle.page_check.specs.PageBytes.{IsPage}
 use Rattle.page_check.specs.Verdict.{IsValid}
 use Rattle.page_check.specs.SynchronousAnswer.{Entry, Given, End, Invalid, PastEnd, Unread}
 use Rattle.page_check.specs.SynchronousAnswer.{Found, Page as FoundPage, Zeroed, Damaged, Absent}
@@ -26,17 +27,21 @@ zeros_in Absent zeroed = absurd (cc)
 
 module _ {P : Type 0} (may : Entry P → Type 0) (es : List (Entry P)) (k : ℕ) (e : Entry P)
     (here : slice_get es k ≡ Some e) where
-  -- the page of the entry, or zeros in its place, and then the next one is reached
+  -- the page of the entry, or zeros in its place, where it has a page's bytes; and then the next
+  -- one is reached
   pub next-page : (found : Option Reader) (shown : Found) → IsReached found es k
       → is_page shown ≡ true → IsValid (found_page shown)
       → IfSome found (λ f. entry_found f e ≡ shown)
-      → IsNext found may es k (Page (found_given shown e)) × IsReached found es (k + 1)
-  next-page None shown far page valid is =
-      ((record { valid = valid; zeros = zeros_in shown }, here), tt)
+      → (IsPage (found_page shown) → IsNext found may es k (Page (found_given shown e)))
+      × IsReached found es (k + 1)
+  next-page None shown far page valid is = (
+    λ bytes. (record { is_page = bytes; valid = valid; zeros = zeros_in shown }, here),
+    tt,
+  )
   next-page (Some f) shown far page valid is =
       let below = count-more f es k e here far (ap is_page is ∙ page) in
       let given = ap {B = Option (Given P)} (λ (r : Found). Some (found_given r e)) is in
-      (readable_pages-at f es k e here below ∙ given, omega (arith, below))
+      (λ _. readable_pages-at f es k e here below ∙ given, omega (arith, below))
 
   stops_at : (f : Reader) → k ≤ read_count f es → can_read f e ≡ false
       → (k ≡ length (readable_pages f es))

@@ -13,6 +13,7 @@ use Rattle.page_check.specs.IsAnswer.{Answers, IsAnswer}
 use Rattle.page_check.specs.Fields.{u16_at, u32_at, header_of}
 use Rattle.page_check.specs.declared.verdict.Verdict.TheVariants.{Zero, Sane, Bad}
 use Rattle.page_check.specs.declared.fields.Kind.TheVariants.{Unused, Normal, Redirect, Dead}
+use Rattle.page_check.specs.PageBytes.{IsPage}
 use Rattle.page_check.specs.Verdict.{verdict_of}
 use Rattle.page_check.specs.LinePointers.{line_pointer_count, line_pointer_of, line_pointers_of}
 
@@ -41,6 +42,14 @@ zeros = refl
 one_byte : verdict_of (replicate 8000 0 ++ (1 ∷ replicate 191 0)) ≡ Bad
 unfolding verdict_of header_of u16_at u32_at
 one_byte = refl
+
+-- a list of 100 bytes can be valid, but is no page that may be given
+abbrev short : List ℕ
+short = page_with 0 24 8192 8192 (replicate 76 0)
+
+short_is_not_given : (verdict_of short ≡ Sane) × (IsPage short → ⊥)
+unfolding verdict_of header_of u16_at u32_at
+short_is_not_given = (refl, λ page. absurd (omega (arith, page.size)))
 
 normal : line_pointers_of (page_with 0 28 8152 8192 (216 ∷ 159 ∷ 80 ∷ 0 ∷ replicate 8164 0))
     ≡ (record { offset = 8152; kind = Normal; length = 40 } ∷ [])

@@ -4,6 +4,7 @@ use Rattle.std.specs.Prelude.{◌≡◌, ℕ, true, List, [], ◌∷◌, ◌++�
 use Rattle.std.specs.Prelude.{slice_get, ⊤}
 use Rattle.std.specs.Prelude.{Option, Some, None}
 use Rattle.std.specs.List.{All}
+use Rattle.page_check.specs.PageBytes.{IsPage}
 use Rattle.page_check.specs.Verdict.{IsValid}
 use Rattle.page_check.specs.SynchronousAnswer.{Entry, Given, Ending, End, Invalid, PastEnd, Unread}
 use Rattle.page_check.specs.SynchronousAnswer.{Reader, zero_page, readable_pages, list_ending}
@@ -31,8 +32,10 @@ module _ {P : Type 0} where
     pub named : block ≡ next.block
     pub cause : may next
 
-  -- a page that may be given where nothing is told: a valid one, and zeros where it was zeroed
+  -- a page that may be given where nothing is told: one of 8192 bytes that is valid, and zeros
+  -- where it was zeroed
   pub record IsGiven (given : Given P) : Type 0 where
+    pub is_page : IsPage given.page
     pub valid : IsValid given.page
     pub zeros : given.zeroed ≡ true → given.page ≡ zero_page
 
@@ -80,6 +83,11 @@ module _ {P : Type 0} where
   abbrev pub IsNext : Option Reader → (Entry P → Type 0) → List (Entry P) → ℕ → Next P → Type 0
   IsNext found may entries k (Page given) = IsNextPage found entries k given
   IsNext found may entries k (Stop end) = IsEnding found may entries k end
+
+  -- this holds of the page, where the answer is one
+  abbrev pub IfPage : Next P → (List ℕ → Type 0) → Type 0
+  IfPage (Page given) holds = holds given.page
+  IfPage (Stop end) holds = ⊤
 
   -- the answers with one more
   abbrev pub with_next : List (Given P) → Next P → Answers P

@@ -1,3 +1,4 @@
+pub mod PageBytes
 pub mod Fields
 pub mod Verdict
 pub mod LinePointers

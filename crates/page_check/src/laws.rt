@@ -1,7 +1,8 @@
-//! Laws on what a scan may have answered to a list of blocks, each the contract of a function that
-//! does nothing. They hold of contents that are told, and of contents that are not.
+//! Laws on pages, and on what a scan may have answered to a list of blocks, each the contract of a
+//! function that does nothing. They hold of contents that are told, and of contents that are not.
 ghost use Rattle.std.specs.Prelude.{◌≡◌, ◌≢◌, ◌≤◌, ◌+◌, ◌⊎◌, ◌++◌, ◌∷◌, [], ℕ, List, length};
 ghost use Rattle.std.specs.Prelude.{Option, Some, IfSome, slice_get, All, true};
+ghost use Rattle.page_check.specs.PageBytes.{IsPage};
 ghost use Rattle.page_check.specs.Verdict.{IsValid};
 ghost use Rattle.page_check.specs.SynchronousAnswer.{Entry, Given, Ending, End, Invalid, PastEnd};
 ghost use Rattle.page_check.specs.SynchronousAnswer.{Unread, Damaged, Absent, Found, is_page};
@@ -20,6 +21,14 @@ pub trait MayBeUnread<P> {
 
 impl<P> MayBeUnread<P> for Brand {
     ghost may = { λ entry. ⊥ };
+}
+
+/// A page that is lent has 8192 bytes. The first one is read, which shows of each that it is a byte.
+#[inline]
+pub fn a_page_has_8192_bytes(page: &crate::Page)
+    ensures { IsPage page.now }
+{
+    let _first = page.bytes()[0];
 }
 
 /// Answers come one by one: none at first, then any that may be next, and an ending again.
@@ -42,7 +51,7 @@ pub fn what_is_found_is_answered_next<P, M: MayBeUnread<P>>()
     ensures page { (found : Option Reader) (entries : List (Entry P)) (k : ℕ) (e : Entry P)
         (shown : Found) → slice_get entries k ≡ Some e
         → IfSome found (λ f. k ≤ read_count f entries)
-        → is_page shown ≡ true → IsValid (found_page shown)
+        → is_page shown ≡ true → IsValid (found_page shown) → IsPage (found_page shown)
         → IfSome found (λ f. entry_found f e ≡ shown)
         → IsNext found M.may entries k (Page (found_given shown e))
         × IfSome found (λ f. k + 1 ≤ read_count f entries) }

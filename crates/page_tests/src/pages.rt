@@ -160,6 +160,7 @@ fn a_page_is_zeros_until_it_is_filled(rt: HostRuntime) -> Result<(), Fail> {
 
 #[test]
 fn laws_have_a_caller(rt: HostRuntime) -> Result<(), Fail> {
+    laws::a_page_has_8192_bytes(&Page::zeros());
     laws::answers_come_one_by_one::<(), Brand>();
     laws::what_is_found_is_answered_next::<(), Brand>();
     laws::answers_to_joined_lists::<(), Brand>();

@@ -3,7 +3,9 @@ use Rattle.page_check.proofs.laws.what_is_found_is_answered_next.Goals as goal
 
 pub returns-clause-page : goal.returns-clause-page
 returns-clause-page g c =
-    λ found es k e shown here. next-page g.M.MayBeUnread.may es k e here found shown
+    λ found es k e shown here far page valid bytes is.
+    let next = next-page g.M.MayBeUnread.may es k e here found shown far page valid is in
+    (next.0 bytes, next.1)
 
 pub returns-clause-invalid : goal.returns-clause-invalid
 returns-clause-invalid g c =
