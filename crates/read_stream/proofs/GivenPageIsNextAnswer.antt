@@ -2,9 +2,10 @@
 use Rattle.std.proofs.Common.{◌≡◌, ℕ, ◌+◌, ◌-◌, ◌≤◌, List, [], ◌∷◌, ◌++◌, length, map, drop, ap}
 use Rattle.std.proofs.Common.{sym, subst, arith, ◌∙◌}
 use Rattle.std.specs.Prelude.{Option, Some, None, IfSome, IsSomeAnd, false, slice_get}
+use Rattle.page_check.specs.PageBytes.{IsPage}
 use Rattle.page_check.specs.Told.{Told}
 use Rattle.page_check.specs.SynchronousAnswer.{read_count, reader_of}
-use Rattle.page_check.specs.IsAnswer.{IsNext, Stop as SaidStop}
+use Rattle.page_check.specs.IsAnswer.{IsNext, IfPage, Stop as SaidStop}
 use Rattle.aio_word.specs.declared.Known.{Known}
 use Rattle.aio_word.specs.Stands.{IsIn}
 use Rattle.aio_callback.specs.ReadIoView.{ReadIoView}
@@ -51,10 +52,11 @@ module _ {W S P : Type 0} (left : S → List (ℕ × P)) (told : Option Told)
       ≤ read_count f (stream_entries s.scope.relation (left s.source_was.value)))
       → IfSome o (IsTakenIn s.scope told relations p)
       → HasCurrentPage told s.scope.relation pin o a.block
-      → IsNext (reader_of s.scope.zero told) (MayBeUnread s.scope.was.value p)
+      → (IsPage (page_at pin o a.block) → IsNext (reader_of s.scope.zero told)
+      (MayBeUnread s.scope.was.value p)
       (stream_entries s.scope.relation (left s.source_was.value)) s.given
       (page_answer s.scope.relation a.block a.per_buffer_data (page_at pin o a.block)
-      (zeroed_at pin o a.block))
+      (zeroed_at pin o a.block)))
       × IfSome (reader_of s.scope.zero told) (λ f. s.given + 1
       ≤ read_count f (stream_entries s.scope.relation (left s.source_was.value)))
   next-shown p s a (Some pin) None rest here far taken is =
@@ -81,24 +83,28 @@ module _ {W S P : Type 0} (left : S → List (ℕ × P)) (told : Option Told)
     here = left-of left told relations handles p s (blocks_at_hand s.current a.block) []
         (spent_ios s.current a.block) a first u.going
 
-    next : IsNext (reader_of s.scope.zero told) (MayBeUnread s.scope.was.value p)
+    next : (IsPage (page_at s.pin s.current a.block) → IsNext (reader_of s.scope.zero told)
+        (MayBeUnread s.scope.was.value p)
         (stream_entries s.scope.relation (left s.source_was.value)) s.given
         (page_answer s.scope.relation a.block a.per_buffer_data (page_at s.pin s.current a.block)
-        (zeroed_at s.pin s.current a.block))
+        (zeroed_at s.pin s.current a.block)))
         × IfSome (reader_of s.scope.zero told) (λ f. s.given + 1
         ≤ read_count f (stream_entries s.scope.relation (left s.source_was.value)))
     next = next-shown p s a s.pin s.current
         (map source_item (drop 1 s.desk.now.queue.items) ++ left s.source) here u.going.readable
         u.steady.current is
 
-    pub given_next : IsNext (reader_of s.scope.zero told) (MayBeUnread s.scope.was.value p)
+    pub given_next : IfPage (step_answer n.scope.relation n.step (current_page n)) IsPage
+        → IsNext (reader_of s.scope.zero told) (MayBeUnread s.scope.was.value p)
         (stream_entries s.scope.relation (left s.source_was.value)) s.given
         (step_answer n.scope.relation n.step (current_page n))
     given_next =
         let P' : Scope W → Option (Pin W) → Option ReadIoView → Step P → Type 0 =
-        λ c pin o t. IsNext (reader_of s.scope.zero told) (MayBeUnread s.scope.was.value p)
-        (stream_entries s.scope.relation (left s.source_was.value)) s.given
-        (step_answer c.relation t (current_page (record n { pin = pin; current = o; step = t }))) in
+        λ c pin o t. let said =
+        step_answer c.relation t (current_page (record n { pin = pin; current = o; step = t })) in
+        IfPage said IsPage
+        → IsNext (reader_of s.scope.zero told) (MayBeUnread s.scope.was.value p)
+        (stream_entries s.scope.relation (left s.source_was.value)) s.given said in
         subst (λ (z : Scope W). P' z n.pin n.current n.step) (sym k.keeps.scope)
         (subst (λ (z : Option (Pin W)). P' s.scope z n.current n.step) (sym k.pin)
         (subst (λ (z : Option ReadIoView). P' s.scope s.pin z n.step) (sym k.current)

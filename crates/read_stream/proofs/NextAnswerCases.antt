@@ -2,6 +2,7 @@
 use Rattle.std.proofs.Common.{◌≡◌, ℕ, ◌+◌, ◌≤◌, Bool, true, false, List, length, refl, sym, subst}
 use Rattle.std.proofs.Common.{ap}
 use Rattle.std.specs.Prelude.{Option, Some, None, IfSome, slice_get, cond}
+use Rattle.page_check.specs.PageBytes.{IsPage}
 use Rattle.page_check.specs.Told.{Told}
 use Rattle.page_check.specs.SynchronousAnswer.{Entry, Found, End, Invalid, PastEnd, Unread}
 use Rattle.page_check.specs.SynchronousAnswer.{Page as FoundPage, Zeroed, Damaged, Absent}
@@ -60,16 +61,16 @@ module _ {P : Type 0} (zero : Bool) (may : Entry P → Type 0) (es : List (Entry
   -- a page, zeroed or not, only where damaged pages are
   pub next-page : (told : Option Told) (page : List ℕ) (zeroed : Bool) → ReadableUpTo zero told k es
       → (zeroed ≡ true → zero ≡ true) → IsGivenAs told e.relation e.block page zeroed
-      → IsNext (reader_of zero told) may es k
-      (Page (record { entry = e; page = page; zeroed = zeroed }))
+      → (IsPage page → IsNext (reader_of zero told) may es k
+      (Page (record { entry = e; page = page; zeroed = zeroed })))
       × ReadableUpTo zero told (k + 1) es
   next-page told page false far on good =
       found.next-page may es k e at (reader_of zero told) (FoundPage page) far refl good.valid
       (finds told (FoundPage page) (FoundPage page) (λ f is. page-found zero f page is)
       good.told_page)
   next-page told page true far on bad =
-      subst (λ (z : List ℕ). IsNext (reader_of zero told) may es k
-      (Page (record { entry = e; page = z; zeroed = true })) × ReadableUpTo zero told (k + 1) es)
+      subst (λ (z : List ℕ). (IsPage z → IsNext (reader_of zero told) may es k
+      (Page (record { entry = e; page = z; zeroed = true }))) × ReadableUpTo zero told (k + 1) es)
       (sym bad.zeros)
       (found.next-page may es k e at (reader_of zero told) Zeroed far refl zero_page_valid
       (finds told Damaged Zeroed (λ f is. zeros-found zero f (on refl) is) bad.told_bad))

@@ -2,6 +2,7 @@
 use Rattle.std.proofs.Common.{◌≡◌, ℕ, ◌+◌, ◌-◌, Bool, true, false, List, ◌∷◌, drop, refl, sym}
 use Rattle.std.proofs.Common.{subst, arith, ◌∙◌}
 use Rattle.std.specs.Prelude.{Option, Some, IfSome, slice_get}
+use Rattle.page_check.specs.PageBytes.{IsPage}
 use Rattle.page_check.specs.Told.{Told}
 use Rattle.page_check.specs.SynchronousAnswer.{Entry, reader_of, found_at, Damaged, Absent}
 use Rattle.page_check.specs.IsAnswer.{IsNext, Stop as SaidStop}
@@ -74,9 +75,10 @@ module _ {W P : Type 0} (c : Scope W) (told : Option Told) (relations : ℕ) (li
 
   -- a page of the record
   pub page_is_next : IsPart told io b part.Page
-      → IsNext (reader_of c.zero told) (MayBeUnread c.was.value p) (stream_entries c.relation list)
+      → (IsPage (record_page io (b - io.first)) → IsNext (reader_of c.zero told)
+      (MayBeUnread c.was.value p) (stream_entries c.relation list)
       k (page_answer c.relation b info (record_page io (b - io.first))
-      (record_zeroed io (b - io.first)))
+      (record_zeroed io (b - io.first))))
       × ReadableUpTo c.zero told (k + 1) (stream_entries c.relation list)
   page_is_next is = next-page c.zero (MayBeUnread c.was.value p) (stream_entries c.relation list) k
       e at told (record_page io (b - io.first)) (record_zeroed io (b - io.first)) far

@@ -1,5 +1,6 @@
 //! Laws on what a stream answers, each the contract of a function that does nothing.
 ghost use Rattle.std.specs.Prelude.{◌≡◌, ◌≤◌, ◌+◌, ◌-◌, ◌∷◌, ℕ, List, drop, Option, IfSome};
+ghost use Rattle.page_check.specs.PageBytes.{IsPage};
 ghost use Rattle.page_check.specs.Told.{Told};
 ghost use Rattle.page_check.specs.SynchronousAnswer.{read_count, reader_of};
 ghost use Rattle.page_check.specs.IsAnswer.{IsNext, Stop as SaidStop};
@@ -22,7 +23,7 @@ pub(crate) fn parts_are_answers<W: World, P: Copy>()
         (k b : ℕ) (info : P) (rest : List (ℕ × P)) → drop k list ≡ (b, info) ∷ rest
         → IfSome (reader_of c.zero told) (λ f. k ≤ read_count f (stream_entries c.relation list))
         → (p : Known) (io : ReadIoView) → IsTakenIn c told relations p io → CoversBlock io b
-        → IsPart told io b Page
+        → IsPart told io b Page → IsPage (record_page io (b - io.first))
         → IsNext (reader_of c.zero told) (MayBeUnread c.was.value p)
         (stream_entries c.relation list) k
         (page_answer c.relation b info (record_page io (b - io.first))

@@ -2,7 +2,8 @@
 ghost use Rattle.std.specs.Prelude.{◌≡◌, ◌≢◌, ◌+◌, ◌-◌, ◌^◌, ◌<◌, [], List, ℕ};
 ghost use Rattle.std.specs.Prelude.{IsTrue, slice_get};
 ghost use Rattle.page_check.specs.SynchronousAnswer.{reader_of};
-ghost use Rattle.page_check.specs.IsAnswer.{IsNext};
+ghost use Rattle.page_check.specs.PageBytes.{IsPage};
+ghost use Rattle.page_check.specs.IsAnswer.{IsNext, IfPage};
 ghost use Rattle.read_stream.specs.IoContexts.{IsValidContext, ContextAdvanced};
 ghost use Rattle.read_stream.specs.StreamAnswers.{stream_entries, MayBeUnread, pages_given};
 ghost use Rattle.read_stream.specs.StreamAnswers.{step_answer};
@@ -43,7 +44,9 @@ impl<'d, 'p, W: World, S: BlockSource<P> + Drop, P: Copy> ReadStream<'d, 'p, W, 
         requires is_open { IsOpen S.left W.told W.relations W.handles self.old }
         ensures serves { ContextAdvanced E.told E.relations E.reads E.faults M.stands_on context.old
             context.new }
-        ensures answer { IsNext (reader_of self.old.scope.zero W.told)
+        ensures answer { IfPage (step_answer self.new.scope.relation self.new.step
+            (current_page self.new)) IsPage
+            → IsNext (reader_of self.old.scope.zero W.told)
             (MayBeUnread self.old.scope.was.value context.new.actor.now.known)
             (stream_entries self.old.scope.relation (S.left self.old.source_was.value))
             self.old.given
@@ -171,7 +174,9 @@ impl<'d, 'p, W: World, S: BlockSource<P> + Drop, P: Copy> ReadStream<'d, 'p, W, 
         ensures between { IsBetweenCalls S.left W.told W.relations W.handles
             context.new.actor.now.known self.new }
         ensures keeps { SameStream self.old self.new }
-        ensures answer { IsNext (reader_of self.old.scope.zero W.told)
+        ensures answer { IfPage (step_answer self.new.scope.relation self.new.step
+            (current_page self.new)) IsPage
+            → IsNext (reader_of self.old.scope.zero W.told)
             (MayBeUnread self.old.scope.was.value context.new.actor.now.known)
             (stream_entries self.old.scope.relation (S.left self.old.source_was.value))
             self.old.given

@@ -1,7 +1,8 @@
 //! A read stream.
 ghost use Rattle.std.specs.Prelude.{◌≡◌, ◌<◌, ◌≤◌, ◌+◌, ℕ, length, []};
 ghost use Rattle.page_check.specs.SynchronousAnswer.{reader_of};
-ghost use Rattle.page_check.specs.IsAnswer.{IsNext, Stop as SaidStop};
+ghost use Rattle.page_check.specs.PageBytes.{IsPage};
+ghost use Rattle.page_check.specs.IsAnswer.{IsNext, IfPage, Stop as SaidStop};
 ghost use Rattle.aio_word.specs.Events.{lives_ended};
 ghost use Rattle.aio_handle.specs.Closing.{HasNoTokens};
 ghost use Rattle.aio_handle.specs.Free.{IsRoom};
@@ -26,6 +27,7 @@ use aio_callback::ReadIo;
 use aio_handle::{Actor, Execute, Table};
 use block_source::BlockSource;
 use buf_pool::{Pin, Pool};
+use page_check::laws::a_page_has_8192_bytes;
 use page_check::{Page, World};
 use read_plan::Plan;
 use std::snapshot::Snapshot;
@@ -159,6 +161,7 @@ impl<'d, 'p, W: World, S: BlockSource<P> + Drop, P: Copy> ReadStream<'d, 'p, W, 
         requires is_open { IsOpen S.left W.told W.relations W.handles self.now }
         ensures answer { synchronous_answer self.now.scope.relation result
             ≡ step_answer self.now.scope.relation self.now.step (current_page self.now) }
+        ensures page { IfPage (synchronous_answer self.now.scope.relation result) IsPage }
         ensures zeroed { IfZeroed (synchronous_answer self.now.scope.relation result)
             (self.now.scope.zero ≡ true) }
     {
@@ -181,13 +184,16 @@ impl<'d, 'p, W: World, S: BlockSource<P> + Drop, P: Copy> ReadStream<'d, 'p, W, 
         requires shown { HasCurrentPage W.told self.now.scope.relation self.now.pin self.now.current
             block }
         requires record { IfSome self.now.current (λ io. io.label.ended ≢ Unended) }
-        ensures { result.now ≡ page_at self.now.pin self.now.current block }
+        ensures value { result.now ≡ page_at self.now.pin self.now.current block }
+        ensures bytes { IsPage result.now }
     {
-        match (&self.pin, &self.current) {
+        let page = match (&self.pin, &self.current) {
             (Some(pin), _) => pin.page(),
             (None, Some(io)) => io.page(block - io.first()),
             (None, None) => unreachable!(),
-        }
+        };
+        a_page_has_8192_bytes(page);
+        page
     }
 
     // Whether the page of the block that the last step found was zeroed.

@@ -32,7 +32,7 @@ returns-clause-serves g c = context_advanced_then c.serve.ensures.serves
     (context_advanced_then c.submit.ensures.serves c.look_ahead.ensures.serves))
 
 pub returns-clause-answer : goal.returns-clause-answer
-returns-clause-answer g c =
+returns-clause-answer g c bytes =
     let s : ReadStream g.row.W.Denot g.row.S.Denot g.row.P.Denot = c.args.self.now in
     let l : ReadStream g.row.W.Denot g.row.S.Denot g.row.P.Denot = c.release_page.new.self in
     let m : ReadStream g.row.W.Denot g.row.S.Denot g.row.P.Denot = c.look_ahead.new.self in
@@ -47,7 +47,7 @@ returns-clause-answer g c =
     next_answer_kept g.S.BlockSource.left g.W.World.told g.W.World.relations g.W.World.handles
     c.serve.new.context.actor.now.known s t (step_answer n.scope.relation n.step (current_page n))
     keeps given
-    c.serve.ensures.answer
+    (c.serve.ensures.answer bytes)
 
 pub returns-clause-follows : goal.returns-clause-follows
 returns-clause-follows g c =

@@ -29,7 +29,7 @@ returns-in_default-clause-between g c =
     c.requires.underway).1
 
 pub returns-in_default-clause-answer : goal.returns-in_default-clause-answer
-returns-in_default-clause-answer g c =
+returns-in_default-clause-answer g c _ =
     let s : ReadStream g.row.W.Denot g.row.S.Denot g.row.P.Denot = c.args.self.now in
     let p : Known = c.args.context.now.actor.now.known in
     let none = nothing-of s.desk.now.queue.items (sym c.front.ensures ∙ c.in_default.is) in
@@ -58,7 +58,7 @@ returns-in-Some-find-clause-between g c =
     c.in-Some-find.ending first c.find.ensures.reaches.underway c.in-Some-find.ensures.stop).1
 
 pub returns-in-Some-find-clause-answer : goal.returns-in-Some-find-clause-answer
-returns-in-Some-find-clause-answer g c =
+returns-in-Some-find-clause-answer g c _ =
     let s : ReadStream g.row.W.Denot g.row.S.Denot g.row.P.Denot = c.args.self.now in
     let n : ReadStream g.row.W.Denot g.row.S.Denot g.row.P.Denot = c.find.new.self in
     let a : QueuedBlock g.row.P.Denot = c.in-Some.asked in
@@ -84,7 +84,7 @@ returns-in-None-clause-between g c =
     c.find.ensures.reaches.underway c.in-None.ensures.page
 
 pub returns-in-None-clause-answer : goal.returns-in-None-clause-answer
-returns-in-None-clause-answer g c =
+returns-in-None-clause-answer g c bytes =
     let s : ReadStream g.row.W.Denot g.row.S.Denot g.row.P.Denot = c.args.self.now in
     let n : ReadStream g.row.W.Denot g.row.S.Denot g.row.P.Denot = c.find.new.self in
     let m : ReadStream g.row.W.Denot g.row.S.Denot g.row.P.Denot = c.give.new.self in
@@ -97,4 +97,4 @@ returns-in-None-clause-answer g c =
     c.find.ensures.moves.given
     (given_next g.S.BlockSource.left g.W.World.told g.W.World.relations g.W.World.handles
     c.find.new.context.actor.now.known n m c.in-Some.asked first c.give.ensures
-    c.find.ensures.reaches.underway c.in-None.ensures.page)
+    c.find.ensures.reaches.underway c.in-None.ensures.page bytes)
