@@ -16,11 +16,11 @@ use Rattle.page_check.specs.SynchronousAnswer.{found_by_verdict, is_page, found_
 use Rattle.page_check.specs.SynchronousAnswer.{readable_pages}
 use Rattle.page_check.specs.SynchronousAnswer.{can_read, entry_given}
 use Rattle.page_check.specs.IsAnswer.{Next as Said, Page, Stop, IsAnswer, IsNext, AreFirst}
+use Rattle.page_check.specs.IsAnswer.{IfPage}
 use Rattle.page_check.proofs.SynchronousReads.{read_count-cons, readable_pages-none}
 use Rattle.page_check.proofs.SynchronousReads.{readable_pages-stop}
 use Rattle.page_check.proofs.ValidPages.{zero_page_valid}
 use Rattle.page_check.proofs.ListPlaces.{count-within, readable_pages-length}
-use Rattle.scan_rounds.specs.ConsumedPages.{IfPage}
 
 abbrev pub E : Type 0
 E = Entry (Unit {0})

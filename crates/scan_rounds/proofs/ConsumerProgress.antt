@@ -8,7 +8,7 @@ use Rattle.page_check.specs.Told.{Told}
 use Rattle.page_check.specs.Verdict.{IsValid}
 use Rattle.page_check.specs.SynchronousAnswer.{reader_of, Ending as SaidEnding, End}
 use Rattle.page_check.specs.SynchronousAnswer.{Invalid, PastEnd, Unread}
-use Rattle.page_check.specs.IsAnswer.{Next as Said, Page, Stop, IsAnswer, IsNext}
+use Rattle.page_check.specs.IsAnswer.{Next as Said, Page, Stop, IsAnswer, IsNext, IfPage}
 use Rattle.page_check.proofs.AnswersInOrder.{answered_none, answered_next}
 use Rattle.aio_word.specs.declared.Known.{Known}
 use Rattle.aio_handle.specs.ContractViews.{ActorView}
@@ -16,7 +16,7 @@ use Rattle.read_stream.specs.StreamAnswers.{stream_entries, MayBeUnread, synchro
 use Rattle.read_stream.specs.StreamAnswers.{pages_given, IfZeroed}
 use Rattle.read_stream.specs.declared.answer.Next.{Next as StreamNext}
 use Rattle.scan_rounds.specs.Jobs.{said_end, ending_for}
-use Rattle.scan_rounds.specs.ConsumedPages.{PagesPredicate, IfPage, PagesConsumed, StillHolds}
+use Rattle.scan_rounds.specs.ConsumedPages.{PagesPredicate, PagesConsumed, StillHolds}
 use Rattle.scan_rounds.specs.ConsumedPages.{AnswerConsumed}
 use Rattle.scan_rounds.specs.declared.job.Ending.{Ending}
 use Rattle.scan_rounds.proofs.AnswerPages.{E, G, first_valid, page_within, page_anyway}

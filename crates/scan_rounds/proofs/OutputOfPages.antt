@@ -5,7 +5,7 @@ use Rattle.std.specs.Prelude.{Option, Some, None, Result, Ok, Err, OnOk, OnErr}
 use Rattle.std.specs.List.{All}
 use Rattle.std.proofs.lemmas.List.Elements.{All-push}
 use Rattle.page_check.specs.Verdict.{IsValid}
-use Rattle.page_check.specs.IsAnswer.{Next as Said, Page, Stop}
+use Rattle.page_check.specs.IsAnswer.{Next as Said, Page, Stop, IfPage}
 use Rattle.heap_scan.specs.Listing.{TextOf, listing, text_for}
 use Rattle.heap_scan.specs.Warnings.{warning_for, warnings_of}
 use Rattle.heap_scan.proofs.Jobs.{listing-append, warnings-append}
@@ -13,7 +13,7 @@ use Rattle.heap_scan.proofs.SumsOverPages.{sums_fit, sums_of-none, sums_of-push}
 use Rattle.heap_scan.specs.Sums.{FitSums, no_sums, sums_of, sums_with_page}
 use Rattle.heap_scan.specs.declared.sums.PageSums.{PageSums}
 use Rattle.scan_rounds.specs.JobOutput.{JobOutput, AnswerAppended, job_output}
-use Rattle.scan_rounds.specs.ConsumedPages.{HasText, IfPage, AnswerConsumed}
+use Rattle.scan_rounds.specs.ConsumedPages.{HasText, AnswerConsumed}
 use Rattle.scan_rounds.specs.declared.job.Ending.{Ending}
 use Rattle.scan_rounds.specs.declared.job.Ending.TheVariants as ending
 use Rattle.scan_rounds.specs.declared.job.Job.{Job}

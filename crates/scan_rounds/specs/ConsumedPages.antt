@@ -1,5 +1,5 @@
 -- What becomes of the pages that a stream gives.
-use Rattle.std.specs.Prelude.{◌≡◌, ℕ, List, ◌∷◌, [], ◌++◌, map, Bool, false, Option, Some, None, ⊤}
+use Rattle.std.specs.Prelude.{◌≡◌, ℕ, List, ◌∷◌, [], ◌++◌, map, Bool, false, Option, Some, None}
 use Rattle.std.specs.List.{All}
 use Rattle.page_check.specs.IsAnswer.{IsAnswer, Next as Said, Page, Stop}
 use Rattle.page_check.specs.SynchronousAnswer.{Entry, Given, Ending as SaidEnding, reader_of}
@@ -17,11 +17,6 @@ use Rattle.scan_rounds.specs.declared.job.Job.{Job}
 -- what is said of the pages that were taken
 abbrev pub PagesPredicate : Type 1
 PagesPredicate = List (Given (Unit {0})) → Type 0
-
--- the page of an answer that is one
-abbrev pub IfPage : Said (Unit {0}) → (List ℕ → Type 0) → Type 0
-IfPage (Page given) holds = holds given.page
-IfPage (Stop end) holds = ⊤
 
 -- what was held of some pages is held still
 abbrev pub StillHolds : PagesPredicate → PagesPredicate → Type 0

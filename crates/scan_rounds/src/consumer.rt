@@ -4,7 +4,8 @@ ghost use Rattle.std.specs.List.{All};
 ghost use Rattle.page_check.specs.SynchronousAnswer.{Given};
 ghost use Rattle.page_check.specs.Verdict.{IsValid};
 ghost use Rattle.read_stream.specs.StreamAnswers.{synchronous_answer};
-ghost use Rattle.scan_rounds.specs.ConsumedPages.{IfPage, AnswerConsumed};
+ghost use Rattle.page_check.specs.IsAnswer.{IfPage};
+ghost use Rattle.scan_rounds.specs.ConsumedPages.{AnswerConsumed};
 
 use crate::job::Ending;
 use read_stream::Next;

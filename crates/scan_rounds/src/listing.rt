@@ -6,7 +6,7 @@ ghost use Rattle.heap_scan.specs.Warnings.{warning_line};
 ghost use Rattle.heap_tuple.specs.Listing.{text_with};
 ghost use Rattle.read_stream.specs.StreamAnswers.{synchronous_answer};
 ghost use Rattle.scan_rounds.specs.JobOutput.{AnswerAppended, job_output};
-ghost use Rattle.scan_rounds.specs.ConsumedPages.{IfPage};
+ghost use Rattle.page_check.specs.IsAnswer.{IfPage};
 
 use crate::consumer::Consumer;
 use crate::job::{Ending, Job};
