@@ -23,7 +23,8 @@ impl<P> MayBeUnread<P> for Brand {
     ghost may = { λ entry. ⊥ };
 }
 
-/// A page that is lent has 8192 bytes. The first one is read, which shows of each that it is a byte.
+/// A page that is lent has 8192 bytes. The first one is read, which shows of each that it is a
+/// byte.
 #[inline]
 pub fn a_page_has_8192_bytes(page: &crate::Page)
     ensures { IsPage page.now }
