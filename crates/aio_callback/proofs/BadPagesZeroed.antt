@@ -1,12 +1,13 @@
 -- Bad pages that are set to zeros one after the other.
 use Rattle.std.proofs.Common.{◌≡◌, ℕ, zero, suc, ◌+◌, ◌<◌, Bool, true, false, ◌||◌, List, []}
 use Rattle.std.proofs.Common.{◌∷◌, ◌++◌, take, drop, length, get_or, slice_set, refl, sym, ap}
-use Rattle.std.proofs.Common.{◌∙◌, arith, if◌then◌else◌}
+use Rattle.std.proofs.Common.{◌∙◌, arith, if◌then◌else◌, cond}
+use Rattle.std.specs.Prelude.{count_by}
 use Rattle.std.proofs.lemmas.List.{take_all}
-use Rattle.std.proofs.lemmas.List.Sums.{count_by_more_no, count_by_more_yes}
+use Rattle.std.proofs.lemmas.List.Sums.{count_by_more_no, count_by_more_yes, sum_by-cons}
 use Rattle.page_check.specs.SynchronousAnswer.{zero_page}
 use Rattle.aio_callback.specs.Chain.{is_bad, zeros_if_bad, mark_if_bad, zeros_for_bad}
-use Rattle.aio_callback.specs.Chain.{marks_for_bad, bad_among}
+use Rattle.aio_callback.specs.Chain.{marks_for_bad, bad_among, none_zeroed}
 
 abbrev pub front_zeros : ℕ → List (List ℕ) → List (List ℕ)
 front_zeros n pages = zeros_for_bad (take n pages) ++ drop n pages
@@ -131,6 +132,25 @@ marks_all (p ∷ ps) marks zero e f = absurd (omega arith)
 marks_all (p ∷ ps) [] (suc n) e f = absurd (omega arith)
 marks_all (p ∷ ps) (m ∷ ms) (suc n) e f =
     ap (λ (l : List Bool). mark_if_bad (p, m) ∷ l) (marks_all ps ms n (omega arith) (omega arith))
+
+unmarked : (bad : Bool) → (bad || false) ≡ bad
+unmarked true = refl
+unmarked false = refl
+
+-- where none was marked before, as many are marked as are bad
+pub marked_count : (pages : List (List ℕ)) (n : ℕ)
+    → count_by (λ b. b) (take n (front_marks n pages (none_zeroed (length pages))))
+    ≡ bad_among (take n pages)
+marked_count [] zero = refl
+marked_count [] (suc n) = refl
+marked_count (p ∷ ps) zero = refl
+marked_count (p ∷ ps) (suc n) =
+    let marks : List Bool = take n (front_marks n ps (none_zeroed (length ps))) in
+    let more = λ (b : Bool) (k : ℕ). cond b 1 0 + k in
+    sum_by-cons (λ (b : Bool). cond b 1 0) (mark_if_bad (p, false)) marks
+    ∙ (ap (λ (b : Bool). more b (count_by (λ x. x) marks)) (unmarked (is_bad p))
+    ∙ (ap (more (is_bad p)) (marked_count ps n)
+    ∙ sym (sum_by-cons (λ (x : List ℕ). cond (is_bad x) 1 0) p (take n ps))))
 
 pub record IsAllDone (pages : List (List ℕ)) (marks : List Bool) (now : List (List ℕ))
     (now_marks : List Bool) (count : ℕ) : Type 0 where

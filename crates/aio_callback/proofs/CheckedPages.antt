@@ -2,7 +2,7 @@
 use Rattle.std.proofs.Common.{◌≡◌, ℕ, zero, suc, ◌<◌, ◌≤◌, Bool, true, false, cond, nat_lt, ◌==◌}
 use Rattle.std.proofs.Common.{if◌then◌else◌, List, [], ◌∷◌, take, length, get_or, refl, sym, ap}
 use Rattle.std.proofs.Common.{◌∙◌, arith, Option, Some, None, pos}
-use Rattle.std.specs.List.{position_or_len}
+use Rattle.std.specs.List.{position_or_len, list_any}
 use Rattle.std.proofs.lemmas.List.Quantifiers.{position-Some}
 use Rattle.std.proofs.lemmas.List.Sums.{fails_before_first}
 use Rattle.std.proofs.lemmas.List.{length-take, get_or-take}
@@ -18,7 +18,7 @@ use Rattle.aio_callback.specs.Chain.{first_bad}
 use Rattle.aio_callback.specs.Chain.{stopped_at, raw_result, after_file, after_buffer, Outcome}
 use Rattle.aio_callback.specs.declared.chain.CallbackId.TheVariants.{ZeroBuffer}
 use Rattle.aio_callback.specs.Chain.{chain_result, is_checked, good_count, chain_start, after_zero}
-use Rattle.aio_callback.specs.Chain.{bad_among, zeroed_first}
+use Rattle.aio_callback.specs.Chain.{bad_among, zeroed_first, is_check}
 use Rattle.page_check.specs.SynchronousAnswer.{zero_page}
 use Rattle.aio_callback.proofs.ChainLowersResult.{chain_below, warned_same}
 use Rattle.aio_callback.proofs.ChainChangesPages.{zeros_not_bad, held_pages, begun_holds}
@@ -133,11 +133,7 @@ zero_tells c o le t =
 
 -- a callback that checks pages is among them
 abbrev has_check : List CallbackId → Bool
-has_check [] = false
-has_check (Buffer ∷ ids) = true
-has_check (ZeroBuffer ∷ ids) = true
-has_check (File ∷ ids) = has_check ids
-has_check (Count ∷ ids) = has_check ids
+has_check ids = list_any is_check ids
 
 checked_has : (ids : List CallbackId) → is_checked ids ≡ true → has_check ids ≡ true
 checked_has [] e = e

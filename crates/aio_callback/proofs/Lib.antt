@@ -1,6 +1,7 @@
 pub mod ChainLowersResult
 pub mod ChainChangesPages
 pub mod CheckedPages
+pub mod ChecksByPlaces
 pub mod AnswerCompletes
 pub mod StreamReadEnds
 pub mod FinishesGrow

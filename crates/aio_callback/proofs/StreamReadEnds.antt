@@ -3,7 +3,7 @@ use Rattle.std.proofs.Common.{◌≡◌, ◌≢◌, ℕ, ◌+◌, ◌<◌, ◌�
 use Rattle.std.proofs.Common.{cond, ◌==◌, nat_lt, List, [], take, get_or, refl, sym}
 use Rattle.std.proofs.Common.{ap, ◌∙◌, subst}
 use Rattle.std.proofs.Common.{arith, Option, Some, None, pos, if◌then◌else◌, ℤ, zero, suc, length}
-use Rattle.std.specs.Prelude.{IfSome}
+use Rattle.std.specs.Prelude.{IfSome, count_by}
 use Rattle.std.proofs.Math.Logic.{⊎_elim}
 use Rattle.std.proofs.Math.Nat.{eq-or-lt_of_le}
 use Rattle.std.proofs.lemmas.List.{length-take, get_or-take}
@@ -28,8 +28,9 @@ use Rattle.aio_callback.specs.Chain.{natural_part}
 use Rattle.aio_callback.specs.ReadIoView.{ReadIoView, IsToldRead, ReadFits, IsCompletedRead}
 use Rattle.aio_callback.specs.ReadIoView.{record_zeroed}
 use Rattle.aio_callback.specs.Cases.{stream_ids, IsOneOf, Whole, Rest, Warned, Invalid}
-use Rattle.aio_callback.specs.Cases.{Unread, PastEnd, given_count}
+use Rattle.aio_callback.specs.Cases.{Unread, PastEnd, given_count, zeroed_among}
 use Rattle.aio_callback.proofs.AnswerCompletes.{found_bad, told_at}
+use Rattle.aio_callback.proofs.BadPagesZeroed.{front_marks, marked_count}
 
 not_below : (a b : ℕ) → (a < b → ⊥) → b ≤ a
 not_below a b absent = omega arith
@@ -145,43 +146,72 @@ of_first : (told : Option Told) (r : ReadIoView) (n : ℕ) (pages : List (List �
 of_first told r n pages p le h good None e is = good is
 of_first told r n pages p le h good (Some i) e is = stopped told r n i pages le h e is
 
+-- which pages the callbacks of a stream mark
+abbrev marks_of : Bool → ℕ → List (List ℕ) → Raw → List Bool
+marks_of on count pages answer = (chain_result count (stream_ids on) (chain_start answer pages)).zeroed
+
+front_by : (b : Bool) (n : ℕ) (pages : List (List ℕ))
+    → (after_zero (outcome_of (if b then result_of 1 Partial 0 (pos n)
+    else result_of 0 Good 0 (pos n)) pages (none_zeroed (length pages)))).zeroed
+    ≡ front_marks n pages (none_zeroed (length pages))
+unfolding after_zero
+front_by true n pages = refl
+front_by false n pages = refl
+
+-- they are as many as are bad among those that were read
+zeroed_bad : (r : ReadIoView) (n : ℕ) (pages : List (List ℕ)) → 0 < n
+    → r.zeroed ≡ marks_of true r.count pages (Read n)
+    → bad_among (take n pages) ≡ zeroed_among r n
+zeroed_bad r n pages some marks =
+    let front = ap (λ (p : AioResult).
+    (after_zero (outcome_of p pages (none_zeroed (length pages)))).zeroed)
+    (file_some r.count n some) ∙ front_by (nat_lt n r.count) n pages in
+    sym (ap (λ (ms : List Bool). count_by (λ b. b) (take n ms)) (marks ∙ front)
+    ∙ marked_count pages n)
+
 -- of the number of bad pages
 of_bad : (told : Option Told) (r : ReadIoView) (n : ℕ) (p : AioResult) → 0 < n → n ≤ r.count
     → p.result ≡ pos n → r.label.ended ≡ class_of r.count (Read n)
-    → (r.result ≡ p → IsOneOf true told r) → (k : ℕ) → r.result ≡ warned k p → IsOneOf true told r
-of_bad told r n p some le number ended good zero is = good is
-of_bad told r n p some le number ended good (suc k) is =
-    Warned (suc k) n refl (is ∙ ap (λ (z : ℤ). result_of 4 Warning (suc k) z) number) some le ended
+    → (r.result ≡ p → IsOneOf true told r) → (k : ℕ) → k ≡ zeroed_among r n
+    → r.result ≡ warned k p → IsOneOf true told r
+of_bad told r n p some le number ended good zero zeroed is = good is
+of_bad told r n p some le number ended good (suc k) zeroed is =
+    Warned (suc k) n refl (omega arith) zeroed
+    (is ∙ ap (λ (z : ℤ). result_of 4 Warning (suc k) z) number) some le ended
 
 -- what an owner makes of it where no page is bad, and where n pages were read
 of_looked : (on : Bool) (told : Option Told) (r : ReadIoView) (n : ℕ) (pages : List (List ℕ))
     (p : AioResult) → p.result ≡ pos n → 0 < n → n ≤ r.count
     → IfSome told (λ t. ReadsPages t r.relation r.first n pages)
     → r.label.ended ≡ class_of r.count (Read n) → (r.result ≡ p → IsOneOf on told r)
-    → r.result ≡ looked on pages p → IsOneOf on told r
-of_looked false told r n pages p number some le h ended good is =
+    → r.zeroed ≡ marks_of on r.count pages (Read n) → r.result ≡ looked on pages p
+    → IsOneOf on told r
+of_looked false told r n pages p number some le h ended good marks is =
     of_first told r n pages p le h good (first_bad (take n pages)) refl
     (is ∙ ap (λ (z : ℤ). stopped_at p (first_bad (take (natural_part z) pages))) number)
-of_looked true told r n pages p number some le h ended good is =
+of_looked true told r n pages p number some le h ended good marks is =
     of_bad told r n p some le number ended good (bad_among (take n pages))
+    (zeroed_bad r n pages some marks)
     (is ∙ ap (λ (z : ℤ). warned (bad_among (take (natural_part z) pages)) p) number)
 
 part : (on : Bool) (told : Option Told) (r : ReadIoView) (n : ℕ) (pages : List (List ℕ)) → 0 < n
     → n < r.count → IfSome told (λ t. ReadsPages t r.relation r.first n pages)
     → r.label.ended ≡ class_of r.count (Read n)
+    → r.zeroed ≡ marks_of on r.count pages (Read n)
     → r.result ≡ checked on pages (result_of 1 Partial 0 (pos n)) → IsOneOf on told r
-part on told r n pages some less h ended is =
+part on told r n pages some less h ended marks is =
     of_looked on told r n pages (result_of 1 Partial 0 (pos n)) refl some (omega arith) h ended
-    (λ e. Rest n e some less (ended ∙ class_part r.count n less))
+    (λ e. Rest n e some less (ended ∙ class_part r.count n less)) marks
     (is ∙ part_looked on pages n)
 
 whole : (on : Bool) (told : Option Told) (r : ReadIoView) (pages : List (List ℕ)) → 0 < r.count
     → IfSome told (λ t. ReadsPages t r.relation r.first r.count pages)
     → r.label.ended ≡ class_of r.count (Read r.count)
+    → r.zeroed ≡ marks_of on r.count pages (Read r.count)
     → r.result ≡ checked on pages (result_of 0 Good 0 (pos r.count)) → IsOneOf on told r
-whole on told r pages some h ended is =
+whole on told r pages some h ended marks is =
     of_looked on told r r.count pages (result_of 0 Good 0 (pos r.count)) refl some
-    (omega arith) h ended (λ e. Whole e (ended ∙ class_whole r.count))
+    (omega arith) h ended (λ e. Whole e (ended ∙ class_whole r.count)) marks
     (is ∙ whole_looked on pages r.count)
 
 of_three : (n count : ℕ) → n ≤ count → (n ≡ 0) ⊎ (((0 < n) × (n < count)) ⊎ (n ≡ count))
@@ -196,31 +226,33 @@ of_stream on count pages answer = checked on pages (after_file count (raw_result
 
 after_read : (on : Bool) (told : Option Told) (r : ReadIoView) (n : ℕ) (pages : List (List ℕ))
     → 0 < r.count → IfSome told (λ t. ReadsPages t r.relation r.first n pages)
-    → r.result ≡ of_stream on r.count pages (Read n) → r.label.ended ≡ class_of r.count (Read n)
+    → r.result ≡ of_stream on r.count pages (Read n)
+    → r.zeroed ≡ marks_of on r.count pages (Read n) → r.label.ended ≡ class_of r.count (Read n)
     → (n ≡ 0) ⊎ (((0 < n) × (n < r.count)) ⊎ (n ≡ r.count)) → IsOneOf on told r
-after_read on told r n pages some h is ended (inl z) =
+after_read on told r n pages some h is marks ended (inl z) =
     let none = subst (λ (k : ℕ). IfSome told (λ t. ReadsPages t r.relation r.first k pages)) z h in
     PastEnd
     (is ∙ (ap (λ (k : ℕ). of_stream on r.count pages (Read k)) z ∙ error_stays on pages 2))
     (ended ∙ class_part r.count n (omega arith))
     (nothing_read told r.relation r.first pages none)
-after_read on told r n pages some h is ended (inr (inl p)) =
-    part on told r n pages p.0 p.1 h ended
+after_read on told r n pages some h is marks ended (inr (inl p)) =
+    part on told r n pages p.0 p.1 h ended marks
     (is ∙ ap (checked on pages) (file_part r.count n p.0 p.1))
-after_read on told r n pages some h is ended (inr (inr e)) =
+after_read on told r n pages some h is marks ended (inr (inr e)) =
     let all = subst (λ (k : ℕ). IfSome told (λ t. ReadsPages t r.relation r.first k pages)) e h in
     whole on told r pages some all (ended ∙ ap (λ (k : ℕ). class_of r.count (Read k)) e)
+    (marks ∙ ap (λ (k : ℕ). marks_of on r.count pages (Read k)) e)
     (is ∙ (ap (λ (k : ℕ). of_stream on r.count pages (Read k)) e
     ∙ ap (checked on pages) (file_whole r.count some)))
 
 after_answer : (on : Bool) (told : Option Told) (r : ReadIoView) (answer : Raw)
     (pages : List (List ℕ)) → 0 < r.count → IsToldRead told r answer pages
-    → r.result ≡ of_stream on r.count pages answer → r.label.ended ≡ class_of r.count answer
-    → IsOneOf on told r
-after_answer on told r Failed pages some h is ended =
+    → r.result ≡ of_stream on r.count pages answer → r.zeroed ≡ marks_of on r.count pages answer
+    → r.label.ended ≡ class_of r.count answer → IsOneOf on told r
+after_answer on told r Failed pages some h is marks ended =
     Unread (is ∙ error_stays on pages 1) ended
-after_answer on told r (Read n) pages some h is ended =
-    after_read on told r n pages some h.1 is ended (of_three n r.count h.0)
+after_answer on told r (Read n) pages some h is marks ended =
+    after_read on told r n pages some h.1 is marks ended (of_three n r.count h.0)
 
 stream_result : (on : Bool) (count : ℕ) (pages : List (List ℕ)) (answer : Raw)
     → (chain_result count (stream_ids on) (chain_start answer pages)).result
@@ -232,11 +264,11 @@ completed_one : (on : Bool) (told : Option Told) (r : ReadIoView) → 0 < r.coun
     → IsCompletedRead told r
     → r.ids ≡ stream_ids on → IsOneOf on told r
 completed_one on told r some c ids =
+    let outcome = c.outcome
+    ∙ ap (λ (l : List CallbackId). chain_result r.count l (chain_start c.answer c.read)) ids in
     after_answer on told r c.answer c.read some c.told_read
-    (ap (λ (o : Outcome). o.result) (c.outcome
-    ∙ ap (λ (l : List CallbackId). chain_result r.count l (chain_start c.answer c.read)) ids)
-    ∙ stream_result on r.count c.read c.answer)
-    c.class
+    (ap (λ (o : Outcome). o.result) outcome ∙ stream_result on r.count c.read c.answer)
+    (ap (λ (o : Outcome). o.zeroed) outcome) c.class
 
 pub six_ways : (told : Option Told) (relations : ℕ) (r : ReadIoView) (on : Bool)
     → ReadFits told relations r → r.label.ended ≢ class.Unended → r.ids ≡ stream_ids on

@@ -1,7 +1,7 @@
 -- What the owner of a read with the callbacks of a stream (Count, Buffer, File, and with damaged
 -- pages zeroed Count, ZeroBuffer, File) makes of it once it has ended.
 use Rattle.std.specs.Prelude.{◌≡◌, ℕ, ◌+◌, ◌<◌, ◌≤◌, Bool, true, false, cond, List, [], ◌∷◌}
-use Rattle.std.specs.Prelude.{Option, IfSome, pos}
+use Rattle.std.specs.Prelude.{Option, IfSome, pos, take, count_by}
 use Rattle.page_check.specs.Told.{Told}
 use Rattle.page_check.specs.SynchronousAnswer.{Damaged, Absent, found_at}
 use Rattle.aio_result.specs.declared.AioResult.{AioResult}
@@ -21,6 +21,10 @@ stream_ids zero = Count ∷ cond zero ZeroBuffer Buffer ∷ File ∷ []
 abbrev pub given_count : AioResult → ℕ
 given_count p = natural_part p.result
 
+-- how many of its first n pages were set to zeros
+abbrev pub zeroed_among : ReadIoView → ℕ → ℕ
+zeroed_among r n = count_by (λ zeroed. zeroed) (take n r.zeroed)
+
 pub data IsOneOf (zero : Bool) (told : Option Told) (r : ReadIoView) : Type 0 where
   -- all pages were read, and are good
   Whole : (r.result ≡ result_of 0 Good 0 (pos r.count)) → (r.label.ended ≡ class.Whole)
@@ -28,9 +32,10 @@ pub data IsOneOf (zero : Bool) (told : Option Told) (r : ReadIoView) : Type 0 wh
   -- fewer pages were read than asked for, and are good
   Rest : (n : ℕ) → (r.result ≡ result_of 1 Partial 0 (pos n)) → 0 < n → n < r.count
       → (r.label.ended ≡ class.Short) → IsOneOf zero told r
-  -- all pages were read, or fewer, and k of them were bad and are zeroed
-  Warned : (k n : ℕ) → zero ≡ true → (r.result ≡ result_of 4 Warning k (pos n)) → 0 < n
-      → n ≤ r.count → (r.label.ended ≡ class_of r.count (Read n)) → IsOneOf zero told r
+  -- all pages were read, or fewer, and k of them were bad and are zeroed, at least one
+  Warned : (k n : ℕ) → zero ≡ true → 0 < k → k ≡ zeroed_among r n
+      → (r.result ≡ result_of 4 Warning k (pos n)) → 0 < n → n ≤ r.count
+      → (r.label.ended ≡ class_of r.count (Read n)) → IsOneOf zero told r
   -- the page behind the first i is bad
   Invalid : (i : ℕ) → zero ≡ false → (r.result ≡ result_of 2 Error i (pos i)) → i < r.count
       → IfSome told (λ t. found_at t r.relation (r.first + i) ≡ Damaged) → IsOneOf zero told r

@@ -1,10 +1,11 @@
 -- The chain of callbacks of a read: from the raw answer and the pages that were read to the result
 -- and the pages that are held. The callbacks run from the last registered to the first.
-use Rattle.std.specs.Prelude.{ℕ, ◌≤◌, Bool, true, false, ◌||◌, ◌==◌, cond, nat_lt}
+use Rattle.std.specs.Prelude.{◌≡◌, ℕ, ◌≤◌, ◌<◌, ◌⊎◌, Bool, true, false, ◌||◌, ◌&&◌, ◌==◌, cond}
+use Rattle.std.specs.Prelude.{nat_lt, slice_get}
 use Rattle.std.specs.Prelude.{List, [], ◌∷◌, ◌++◌, length, map, take, drop, position, count_by}
 use Rattle.std.specs.Prelude.{replicate, Option, Some, None, if◌then◌else◌, zero, suc, ℤ, pos}
 use Rattle.std.specs.Prelude.{negsuc}
-use Rattle.std.specs.List.{zip}
+use Rattle.std.specs.List.{zip, list_any}
 use Rattle.page_check.specs.declared.verdict.Verdict.{Verdict}
 use Rattle.page_check.specs.declared.verdict.Verdict.TheVariants.{Bad}
 use Rattle.page_check.specs.Verdict.{verdict_of}
@@ -151,16 +152,25 @@ is_file File = true
 is_file _ = false
 
 abbrev pub has_file : List CallbackId → Bool
-has_file [] = false
-has_file (id ∷ ids) = is_file id || has_file ids
+has_file ids = list_any is_file ids
 
--- some registered Buffer or ZeroBuffer runs after some File
+-- a Buffer or ZeroBuffer is registered before a File, and so runs after it
+pub record ChecksBehindFile (ids : List CallbackId) : Type 0 where
+  pub check : ℕ
+  pub file : ℕ
+  pub order : check < file
+  pub checks : (slice_get ids check ≡ Some Buffer) ⊎ (slice_get ids check ≡ Some ZeroBuffer)
+  pub reads : slice_get ids file ≡ Some File
+
+abbrev pub is_check : CallbackId → Bool
+is_check Buffer = true
+is_check ZeroBuffer = true
+is_check _ = false
+
+-- whether one is
 abbrev pub is_checked : List CallbackId → Bool
 is_checked [] = false
-is_checked (Buffer ∷ ids) = has_file ids || is_checked ids
-is_checked (ZeroBuffer ∷ ids) = has_file ids || is_checked ids
-is_checked (File ∷ ids) = is_checked ids
-is_checked (Count ∷ ids) = is_checked ids
+is_checked (id ∷ ids) = (is_check id && has_file ids) || is_checked ids
 
 -- how many pages are good
 abbrev pub good_count : List CallbackId → AioResult → ℕ

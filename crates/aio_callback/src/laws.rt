@@ -1,9 +1,11 @@
 //! Laws on records, each the contract of a function that does nothing.
-ghost use Rattle.std.specs.Prelude.{◌≡◌, ◌≢◌, ◌≤◌, ℕ, Bool, false, List, length, Option, Some};
+ghost use Rattle.std.specs.Prelude.{◌≡◌, ◌≢◌, ◌≤◌, ◌↔◌, ℕ, Bool, true, false, List, length};
+ghost use Rattle.std.specs.Prelude.{Option, Some};
 ghost use Rattle.page_check.specs.Told.{Told};
 ghost use Rattle.aio_word.specs.declared.Class.TheVariants.{Unended};
 ghost use Rattle.aio_callback.specs.declared.chain.Raw.{Raw};
-ghost use Rattle.aio_callback.specs.Chain.{good_count};
+ghost use Rattle.aio_callback.specs.declared.chain.CallbackId.{CallbackId};
+ghost use Rattle.aio_callback.specs.Chain.{good_count, is_checked, ChecksBehindFile};
 ghost use Rattle.aio_callback.specs.ReadIoView.{ReadIoView, ReadFits, IsToldRead, HasAnswer};
 ghost use Rattle.aio_callback.specs.ReadIoView.{with_pages};
 ghost use Rattle.aio_callback.specs.ReadIoView.{record_aim, ReadsAs, record_zeroed};
@@ -20,6 +22,12 @@ pub fn stream_records_end_in_six_ways()
     ensures not_zeroed { (told : Option Told) (relations : ℕ) (r : ReadIoView)
         → ReadFits told relations r → r.label.ended ≢ Unended → r.ids ≡ stream_ids false
         → (i : ℕ) → record_zeroed r i ≡ false }
+{}
+
+/// The good pages of a record are counted exactly where a Buffer or ZeroBuffer is registered before a
+/// File. Callbacks run from the last to the first, so it then checks what the File has looked at.
+pub fn pages_are_checked_behind_a_file()
+    ensures { (ids : List CallbackId) → (is_checked ids ≡ true) ↔ ChecksBehindFile ids }
 {}
 
 /// A record whose first pages were lent and read, and that was then given what the read answered,

@@ -42,7 +42,7 @@ module _ (zero : Bool) (told : Option Told) (io : ReadIoView) (block : ℕ)
   part_rest (Rest n is some few ended) le fine =
       let m : g ≡ n = ap (λ (z : AioResult). given_count z) is in
       let (a, b) = has in omega arith
-  part_rest (Warned k n on is some most ended) le fine =
+  part_rest (Warned k n on any zeroed is some most ended) le fine =
       let m : g ≡ n = ap (λ (z : AioResult). given_count z) is in
       let (a, b) = has in omega arith
   part_rest (Invalid i off is below bad) le fine =
@@ -57,7 +57,7 @@ module _ (zero : Bool) (told : Option Told) (io : ReadIoView) (block : ℕ)
       absurd (not-good (sym (ap (λ (z : AioResult). z.status) is) ∙ error))
   part_invalid (Rest n is some few ended) at error two =
       absurd (not-partial (sym (ap (λ (z : AioResult). z.status) is) ∙ error))
-  part_invalid (Warned k n on is some most ended) at error two =
+  part_invalid (Warned k n on any zeroed is some most ended) at error two =
       absurd (not-warning (sym (ap (λ (z : AioResult). z.status) is) ∙ error))
   part_invalid (Invalid i off is below bad) at error two =
       let m : g ≡ i = ap (λ (z : AioResult). given_count z) is in
@@ -76,7 +76,7 @@ module _ (zero : Bool) (told : Option Told) (io : ReadIoView) (block : ℕ)
       absurd (not-good (sym (ap (λ (z : AioResult). z.status) is) ∙ error))
   part_unread (Rest n is some few ended) at error not_two one =
       absurd (not-partial (sym (ap (λ (z : AioResult). z.status) is) ∙ error))
-  part_unread (Warned k n on is some most ended) at error not_two one =
+  part_unread (Warned k n on any zeroed is some most ended) at error not_two one =
       absurd (not-warning (sym (ap (λ (z : AioResult). z.status) is) ∙ error))
   part_unread (Invalid i off is below bad) at error not_two one =
       absurd (not_two (ap (λ (z : AioResult). z.id) is))
@@ -93,7 +93,7 @@ module _ (zero : Bool) (told : Option Told) (io : ReadIoView) (block : ℕ)
       absurd (not-good (sym (ap (λ (z : AioResult). z.status) is) ∙ error))
   part_past (Rest n is some few ended) at error not_two not_one =
       absurd (not-partial (sym (ap (λ (z : AioResult). z.status) is) ∙ error))
-  part_past (Warned k n on is some most ended) at error not_two not_one =
+  part_past (Warned k n on any zeroed is some most ended) at error not_two not_one =
       absurd (not-warning (sym (ap (λ (z : AioResult). z.status) is) ∙ error))
   part_past (Invalid i off is below bad) at error not_two not_one =
       absurd (not_two (ap (λ (z : AioResult). z.id) is))

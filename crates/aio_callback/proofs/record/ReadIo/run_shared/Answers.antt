@@ -1,4 +1,4 @@
-use Rattle.std.proofs.Common.{take, arith, rules, inr}
+use Rattle.std.proofs.Common.{take, arith, inr}
 use Rattle.std.specs.List.{length_refill}
 use Rattle.aio_callback.proofs.ChainLowersResult.{good_within}
 use Rattle.aio_callback.proofs.record.ReadIo.run_shared.Goals as goal
