@@ -24,8 +24,8 @@ pub fn stream_records_end_in_six_ways()
         → (i : ℕ) → record_zeroed r i ≡ false }
 {}
 
-/// The good pages of a record are counted exactly where a Buffer or ZeroBuffer is registered before a
-/// File. Callbacks run from the last to the first, so it then checks what the File has looked at.
+/// Pages are checked exactly where a Buffer or ZeroBuffer is registered before a File. Callbacks run
+/// from the last to the first, so it then checks what the File has looked at.
 pub fn pages_are_checked_behind_a_file()
     ensures { (ids : List CallbackId) → (is_checked ids ≡ true) ↔ ChecksBehindFile ids }
 {}
