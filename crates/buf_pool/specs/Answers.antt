@@ -1,6 +1,6 @@
 -- What the calls of the index answer, and what they leave.
 use Rattle.std.specs.Prelude.{◌≡◌, ℕ, ◌+◌, ◌-◌, ◌^◌, ◌<◌, ◌⊎◌, ⊤, Bool, true, false}
-use Rattle.std.specs.Prelude.{List, Option, Some, None, length, slice_set}
+use Rattle.std.specs.Prelude.{List, length, slice_set}
 use Rattle.aio_word.specs.declared.WaitRef.{WaitRef}
 use Rattle.buf_pool.specs.declared.descriptor.Tag.{Tag}
 use Rattle.buf_pool.specs.declared.descriptor.Descriptor.{Descriptor}
@@ -68,10 +68,9 @@ PinAnswers old new tag (look.Hit f) =
 PinAnswers old new tag (look.Busy reference) = IsInProgressWith old tag reference × (new ≡ old)
 PinAnswers old new tag look.Absent = (IsAbsent old tag ⊎ IsPinnedFully old tag) × (new ≡ old)
 
--- no page is there, or one without pins
-abbrev pub HasNoPin : Option ℕ → Type 0
-HasNoPin None = ⊤
-HasNoPin (Some pins) = pins ≡ 0
+-- the page of the tag is in this frame, with a pin
+abbrev pub IsPinnedAt : List Descriptor → Tag → ℕ → Type 0
+IsPinnedAt frames tag f = (pins : ℕ) × (descriptor_at frames f ≡ Valid tag (pins + 1))
 
 -- the entry after its I/O ended: valid without pins, or dropped
 abbrev pub entry_after_io : Tag → Bool → Descriptor

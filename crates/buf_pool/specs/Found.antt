@@ -27,15 +27,15 @@ IsFound told handles tag (found.Hit pin) =
 IsFound told handles tag (found.Busy reference) = reference.handle < handles
 IsFound told handles tag found.Absent = ⊤
 
--- the reference of an I/O is in range
-abbrev pub IsLookInRange : ℕ → Look → Type 0
-IsLookInRange handles (look.Hit _) = ⊤
-IsLookInRange handles (look.Busy reference) = reference.handle < handles
-IsLookInRange handles look.Absent = ⊤
+-- the frame is such a one, and the reference of an I/O is in range
+abbrev pub IsLookOf : ℕ → (ℕ → Type 0) → Look → Type 0
+IsLookOf handles IsFrame (look.Hit f) = IsFrame f
+IsLookOf handles IsFrame (look.Busy reference) = reference.handle < handles
+IsLookOf handles IsFrame look.Absent = ⊤
 
--- the reference of an I/O is in range
-abbrev pub IsBegunInRange : ℕ → Begun → Type 0
-IsBegunInRange handles (begun.Yes _) = ⊤
-IsBegunInRange handles (begun.Busy reference) = reference.handle < handles
-IsBegunInRange handles (begun.Hit _) = ⊤
-IsBegunInRange handles begun.NoRoom = ⊤
+-- the frame is such a one, and the reference of an I/O is in range
+abbrev pub IsBegunOf : ℕ → (ℕ → Type 0) → Begun → Type 0
+IsBegunOf handles IsFrame (begun.Yes f) = IsFrame f
+IsBegunOf handles IsFrame (begun.Busy reference) = reference.handle < handles
+IsBegunOf handles IsFrame (begun.Hit f) = IsFrame f
+IsBegunOf handles IsFrame begun.NoRoom = ⊤

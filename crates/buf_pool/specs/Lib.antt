@@ -1,9 +1,11 @@
 pub mod Frames
 pub mod Lawful
 pub mod Answers
+pub mod Parts
 pub mod Probes
 pub mod Sound
 pub mod Wanted
 pub mod Carried
 pub mod Pinned
 pub mod Found
+pub mod Divided

@@ -1,7 +1,7 @@
 //! The index of the pool.
 ghost use Rattle.std.specs.Prelude.{◌≡◌, ℕ, ◌-◌, ◌+◌, ◌^◌, ◌<◌, ◌≤◌, length, false, Some};
 ghost use Rattle.std.specs.Prelude.{MatchOption};
-ghost use Rattle.std.specs.Prelude.{IsSomeAnd, IfOk, IfSome, List, replicate, slice_set};
+ghost use Rattle.std.specs.Prelude.{IsTrue, ◌↔◌, IsSomeAnd, IfOk, IfSome, List, replicate, slice_set};
 ghost use Rattle.std.specs.Prelude.{if◌then◌else◌};
 ghost use Rattle.aio_word.specs.declared.WaitRef.{WaitRef};
 ghost use Rattle.buf_pool.specs.declared.descriptor.Tag.{Tag};
@@ -45,7 +45,7 @@ pub enum Begun {
     Busy(WaitRef),
     /// It is there already, in this frame.
     Hit(u32),
-    /// Each frame awaits a page or is pinned.
+    /// Each frame awaits a page or is pinned. In a pool that is each frame of the tag's part.
     NoRoom,
 }
 
@@ -77,7 +77,7 @@ impl<W: World> Model for PoolIndex<W> {
 impl<W: World> PoolIndex<W> {
     ghost use Rattle.buf_pool.specs.Answers.{IsNotInProgress, LookAnswers, IsFull, IsVictim};
     ghost use Rattle.buf_pool.specs.Answers.{BeginAnswers};
-    ghost use Rattle.buf_pool.specs.Answers.{entry_after_io, PinAnswers, HasNoPin};
+    ghost use Rattle.buf_pool.specs.Answers.{entry_after_io, IsPinnedAt};
 
     /// An index of so many frames, 16 to 16384, all of them free. All memory of the index is taken
     /// here.
@@ -203,31 +203,13 @@ impl<W: World> PoolIndex<W> {
         }
     }
 
-    /// What the entry of the tag says, with one pin more where it is a page. Absent also where the
-    /// page has as many pins as can be counted.
-    pub(crate) fn look_and_pin(&mut self, tag: Tag) -> Look
-        ensures answer { PinAnswers self.old self.new tag result }
-        ensures lawful { PoolLawful W.handles self.new }
+    /// Whether the frame has the page of the tag, with a pin.
+    pub(crate) fn has_pin(&self, tag: Tag, frame: u32) -> bool
+        ensures { IsTrue result ↔ IsPinnedAt self.now tag frame }
     {
-        let look = self.look(tag);
-        if let Look::Hit(frame) = look {
-            match self.pins(frame) {
-                Some(pins) if pins < u32::MAX => self.pin(frame),
-                _ => return Look::Absent,
-            }
-        }
-        look
-    }
-
-    /// One pin less on the page in the frame, where there is one with a pin.
-    pub(crate) fn unpin_one(&mut self, frame: u32)
-        ensures one { (pins : ℕ) → pins_at self.old frame ≡ Some (pins + 1)
-            → self.new ≡ frames_with_pins self.old frame pins }
-        ensures none { HasNoPin (pins_at self.old frame) → self.new ≡ self.old }
-    {
-        match self.pins(frame) {
-            Some(pins) if pins > 0 => self.unpin(frame),
-            _ => {}
+        match self.frames.get(frame as usize) {
+            Some(Descriptor::Valid(held, pins)) => *held == tag && *pins > 0,
+            Some(Descriptor::Free | Descriptor::InProgress(..)) | None => false,
         }
     }
 

@@ -1,35 +1,18 @@
 //! The pool behind its locks.
-ghost use Rattle.std.specs.Prelude.{◌*◌, ◌<◌, ◌≤◌};
+ghost use Rattle.std.specs.Prelude.{◌≡◌, ◌<◌, ◌≤◌, IfOk};
 
 use crate::descriptor::Tag;
 use crate::index::{Begun, Look};
 use crate::part::Part;
-use crate::parts::Parts;
 use crate::pin::Pin;
+use crate::share::{Share, part_count};
 use aio_callback::Places;
 use aio_word::WaitRef;
 use crossbeam_utils::CachePadded;
 use page_check::{Page, World};
 use std::alloc::{AllocError, Global};
+use std::marker::Model;
 use std::sync::Wait;
-
-/// The least frames of a part, and the most parts (`NUM_BUFFER_PARTITIONS` of `lwlock.h`).
-const LEAST_FRAMES: u32 = 16;
-
-const MOST_PARTS: u32 = 128;
-
-// How many parts a pool of so many frames has: the greatest power of two that leaves each part its
-// least frames, and no more than the most.
-fn part_count(frames: u32) -> u32
-    requires { 16 ≤ frames }
-    ensures { (1 ≤ result) × (16 * result ≤ frames) }
-{
-    let mut count = 1;
-    while count < MOST_PARTS && 2 * count <= frames / LEAST_FRAMES {
-        count *= 2;
-    }
-    count
-}
 
 /// What `lookup` finds.
 pub enum Found<'p, W: World> {
@@ -42,42 +25,64 @@ pub enum Found<'p, W: World> {
 }
 
 /// The pool: parts with some of the frames each. What is in a frame's memory is always the told,
-/// valid page of the tag that it carries.
+/// valid page of the tag that it carries. Contracts see the pool as the number of its frames.
 #[derive(Drop)]
 pub struct Pool<W: World> {
     // Each on cache lines of its own, so that who locks one does not take a neighbour's away.
-    parts: Parts<CachePadded<Part<W>>>,
+    parts: Vec<CachePadded<Part<W>>>,
+}
+
+impl<W: World> Model for Pool<W> {
+    ghost use Rattle.std.specs.Prelude.{ℕ};
+    ghost use Rattle.buf_pool.specs.Divided.{frames_of, AreParts};
+
+    ghost Value = { ℕ };
+
+    ghost view = { λ p. frames_of p.parts.items };
+
+    ghost invariant = { λ p. AreParts (frames_of p.parts.items) p.parts.items };
 }
 
 impl<W: World> Pool<W> {
-    ghost use Rattle.buf_pool.specs.Found.{IsFound, IsLookInRange, IsBegunInRange};
+    ghost use Rattle.buf_pool.specs.Found.{IsFound, IsLookOf, IsBegunOf};
+    ghost use Rattle.buf_pool.specs.Parts.{IsFrameFor, FallsTo};
 
     /// A pool of so many frames, 16 to 16384, all of them free. All memory of the pool is taken
     /// here.
     pub fn open(alloc: Global, frames: u32) -> Result<Pool<W>, AllocError>
         requires { (16 ≤ frames) × (frames ≤ 16384) }
+        ensures frames { IfOk result (λ pool. pool ≡ frames) }
     {
         let count = part_count(frames);
         let mut parts = Vec::with_capacity(alloc, count as usize)?;
+        let mut first = 0;
         for part in 0..count {
+            let share = Share {
+                part,
+                pool_frames: frames,
+            };
             // The frames that are over are shared out to the first parts.
             let size = frames / count + u32::from(part < frames % count);
-            parts.push(CachePadded::new(Part::open(alloc, size)?))?;
+            parts.push(CachePadded::new(Part::open(alloc, share, first, size)?))?;
+            first += size;
         }
-        Ok(Pool {
-            parts: Parts::of(parts),
-        })
+        Ok(Pool { parts })
     }
 
-    // The part to which the tag falls. Blocks that follow each other fall to different parts.
-    fn part(&self, tag: Tag) -> &Part<W> {
-        self.parts
-            .at(u64::from(tag.relation) + u64::from(tag.block))
+    // The part to which the tag falls. Blocks that follow each other fall to different parts. There
+    // are as many parts as a power of two.
+    fn part(&self, tag: Tag) -> &Part<W>
+        ensures frames { result.now.share.pool_frames ≡ self.now }
+        ensures tag { FallsTo result.now.share tag }
+    {
+        let mask = self.parts.len() as u64 - 1;
+        let sum = u64::from(tag.relation) + u64::from(tag.block);
+        &self.parts[(sum & mask) as usize]
     }
 
     /// What the index has of the tag now.
     pub fn peek<R: Wait>(&self, rt: &R, tag: Tag) -> Look
-        ensures { IsLookInRange W.handles result }
+        ensures { IsLookOf W.handles (IsFrameFor self.now tag) result }
     {
         self.part(tag).look(rt, tag)
     }
@@ -95,7 +100,7 @@ impl<W: World> Pool<W> {
         match part.pin_page(frame, tag) {
             Some(pin) => Found::Hit(pin),
             None => {
-                part.unpin_one(rt, frame);
+                part.unpin_one(rt, tag, frame);
                 Found::Absent
             }
         }
@@ -105,14 +110,14 @@ impl<W: World> Pool<W> {
     pub fn unpin<R: Wait>(&self, rt: &R, pin: Pin<'_, W>) {
         let Pin { frame, tag, claim } = pin;
         let _ = claim.leave();
-        self.part(tag).unpin_one(rt, frame);
+        self.part(tag).unpin_one(rt, tag, frame);
     }
 
     /// Begins the reading of the tag's page by the I/O of the reference, as `PoolIndex::begin` in
-    /// the tag's part.
+    /// the tag's part. NoRoom means that each frame of that part awaits a page or is pinned.
     pub fn begin<R: Wait>(&self, rt: &R, tag: Tag, reference: WaitRef) -> Begun
         requires { reference.handle < W.handles }
-        ensures { IsBegunInRange W.handles result }
+        ensures { IsBegunOf W.handles (IsFrameFor self.now tag) result }
     {
         self.part(tag).begin(rt, tag, reference)
     }
