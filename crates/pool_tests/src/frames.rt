@@ -23,13 +23,36 @@ fn is_mine<W: World, R: Wait>(rt: &R, pool: &Pool<W>, tag: Tag) -> bool {
 /// What a pool answers where each of its frames awaits a page.
 #[derive(Clone, Copy)]
 struct Full {
-    /// Whether each of the neighbouring blocks had a frame.
-    taken: bool,
+    /// How many frame numbers the neighbouring blocks had.
+    taken: u32,
     /// To one block more.
     further: Begun,
     /// To one of those blocks again.
     again: Begun,
     mine: bool,
+}
+
+/// Begins as many neighbouring blocks as the pool has frames; how many numbers of frames they had.
+fn begin_all<W: World, R: Wait>(
+    rt: &R,
+    alloc: Global,
+    pool: &Pool<W>,
+    frames: u32,
+) -> Result<u32, AllocError>
+    requires { W.handles ≡ 2 }
+{
+    let mut seen = Vec::from_elem(alloc, false, frames as usize)?;
+    let mut taken = 0u32;
+    for block in 0..frames {
+        if let Begun::Yes(frame) = pool.begin(rt, Tag { relation: 0, block }, MINE)
+            && let Some(mark) = seen.get_mut(frame as usize)
+            && !*mark
+        {
+            *mark = true;
+            taken = taken.saturating_add(1);
+        }
+    }
+    Ok(taken)
 }
 
 /// Begins as many neighbouring blocks as the pool has frames, one more, and one again.
@@ -38,11 +61,7 @@ fn fill_pool<W: World, R: Wait>(rt: &R, alloc: Global, frames: u32) -> Result<Fu
     requires frames { (16 ≤ frames) × (frames ≤ 16384) }
 {
     let pool: Pool<W> = Pool::open(alloc, frames)?;
-    let mut taken = true;
-    for block in 0..frames {
-        let begun = pool.begin(rt, Tag { relation: 0, block }, MINE);
-        taken = taken && matches!(begun, Begun::Yes(_));
-    }
+    let taken = begin_all(rt, alloc, &pool, frames)?;
     let further = Tag {
         relation: 0,
         block: frames,
@@ -57,10 +76,11 @@ fn fill_pool<W: World, R: Wait>(rt: &R, alloc: Global, frames: u32) -> Result<Fu
 
 #[test]
 fn as_many_blocks_are_begun_as_there_are_frames(rt: HostRuntime) -> Result<(), AllocError> {
-    // One part; one part with a frame more; 4 parts of 25; 8 and 128 parts of 16.
-    for frames in [16, 17, 100, 128, 2048] {
+    // One part; one part with a frame more; parts of 17 and 16; 4 parts of 25; 8 and 128 parts of
+    // 16; 4 parts, three of them of 26 and one of 25.
+    for frames in [16, 17, 33, 100, 128, 2048, 103] {
         let full = fill_pool::<Brand, HostRuntime>(&rt, rt.alloc(), frames)?;
-        assert!(&rt; full.taken, "{frames} frames");
+        assert_eq!(rt; full.taken, frames, "{frames} frames");
         assert_eq!(rt; full.further, Begun::NoRoom, "{frames} frames");
         assert_eq!(rt; full.again, Begun::Busy(MINE), "{frames} frames");
         assert!(&rt; full.mine, "{frames} frames");

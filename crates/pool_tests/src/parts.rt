@@ -2,8 +2,8 @@
 ghost use Rattle.std.specs.Prelude.{◌≡◌, ◌<◌, ◌≤◌, None};
 ghost use Rattle.page_check.specs.Verdict.{IsValid};
 
-use crate::pages::{page_of, read_into};
-use buf_pool::{Found, Look, Pool, Tag};
+use crate::pages::{MINE, page_of, read_into};
+use buf_pool::{Begun, Found, Look, Pool, Tag};
 use page_check::{Page, World};
 use std::alloc::{AllocError, Global};
 use std::marker::Brand;
@@ -120,5 +120,42 @@ fn a_long_read_leaves_the_pages_that_were_looked_up(rt: HostRuntime) -> Result<(
         let there = read_beside::<Brand, HostRuntime>(&rt, rt.alloc(), frames)?;
         assert_eq!(rt; there, Some(frames - parts), "{frames} frames");
     }
+    Ok(())
+}
+
+/// Begins as many blocks of one part as it has frames, one more of that part, and one of another.
+fn fill_one_part<W: World, R: Wait>(rt: &R, alloc: Global) -> Result<[Begun; 3], AllocError>
+    requires { W.handles ≡ 2 }
+{
+    let pool: Pool<W> = Pool::open(alloc, 32)?;
+    let mut last = Begun::NoRoom;
+    for half in 0u32..16 {
+        let tag = Tag {
+            relation: 0,
+            block: 2 * half,
+        };
+        last = pool.begin(rt, tag, MINE);
+    }
+    let same = Tag {
+        relation: 0,
+        block: 32,
+    };
+    let other = Tag {
+        relation: 0,
+        block: 1,
+    };
+    Ok([
+        last,
+        pool.begin(rt, same, MINE),
+        pool.begin(rt, other, MINE),
+    ])
+}
+
+// Two parts of 16 frames.
+#[test]
+fn a_part_runs_out_by_itself(rt: HostRuntime) -> Result<(), AllocError> {
+    let begun = fill_one_part::<Brand, HostRuntime>(&rt, rt.alloc())?;
+    let expected = [Begun::Yes(15), Begun::NoRoom, Begun::Yes(16)];
+    assert_eq!(rt; begun, expected);
     Ok(())
 }
