@@ -13,8 +13,9 @@ use Rattle.aioscan_cmd.specs.Command.{first_block, asked_count}
 use Rattle.aioscan_cmd.proofs.DistinctNames.{place_of_name}
 use Rattle.aioscan_cmd.specs.RequestList.{block_range}
 use Rattle.aioscan_cmd.specs.RequestList.{Request, request_list, one_file_requests}
-use Rattle.aioscan_cmd.specs.RequestList.{all_file_requests}
-use Rattle.aioscan_cmd.specs.RequestList.{with_map}
+use Rattle.aioscan_cmd.specs.RequestList.{all_file_requests, all_file_parts, one_file_parts}
+use Rattle.aioscan_cmd.specs.RequestList.{Part, range_parts, request_parts}
+use Rattle.aioscan_cmd.specs.RequestList.{with_map, with_map_part}
 
 -- the number of a relation that the words name is one of those that there are
 pub relation_number-below : (command : Command) (k : ℕ) (name : List ℕ) → k < length command.files
@@ -69,3 +70,39 @@ request_list-same f g map_page command same =
     ap (with_map command.map f map_page) (all_file_requests-same f g command same)
     ∙ with_map-same f g map_page command.files command.map (all_file_requests g command)
     (no_files g command) same
+
+-- the same of its parts
+all_file_parts-same : (f g : ℕ → ℕ) (command : Command)
+    → ((r : ℕ) → r < length (relations_of command) → f r ≡ g r)
+    → all_file_parts f command ≡ all_file_parts g command
+unfolding all_file_parts
+all_file_parts-same f g command same =
+    flat_map-same (one_file_parts f command) (one_file_parts g command) [] command.files
+    (λ k below.
+    (let name = get_or command.files k [] in
+    let r = relation_number name (relations_of command) in
+    let length_is : f r ≡ g r = same r (relation_number-below command k name below refl) in
+    ap (λ (n : ℕ). range_parts r (first_block command) (asked_count command n)) length_is))
+
+with_map_part-same : (f g : ℕ → ℕ) (map_page : ℕ → List ℕ) (files : List (List ℕ))
+    (by : Option MapOption) (requests : List Request) (parts : List Part)
+    → (files ≡ [] → requests ≡ [])
+    → ((r : ℕ) → r < length (relations_with files by) → f r ≡ g r)
+    → with_map_part by f map_page requests parts ≡ with_map_part by g map_page requests parts
+with_map_part-same f g map_page files None requests parts none same = refl
+with_map_part-same f g map_page [] (Some m) requests parts none same = rw (none refl) refl
+with_map_part-same f g map_page (file ∷ files) (Some m) requests parts none same =
+    let others = filter (λ other. not (bytes_eq other file)) (distinct files) in
+    ap (λ (n : ℕ). with_map_part (Some m) (λ _. n) map_page requests parts)
+    (same 1 (omega (arith, length-append others (m.name ∷ []))))
+
+pub request_parts-same : (f g : ℕ → ℕ) (map_page : ℕ → List ℕ) (command : Command)
+    → ((r : ℕ) → r < length (relations_of command) → f r ≡ g r)
+    → request_parts f map_page command ≡ request_parts g map_page command
+request_parts-same f g map_page command same =
+    ap (λ (l : List Request). with_map_part command.map f map_page l (all_file_parts f command))
+    (all_file_requests-same f g command same)
+    ∙ ap (with_map_part command.map f map_page (all_file_requests g command))
+    (all_file_parts-same f g command same)
+    ∙ with_map_part-same f g map_page command.files command.map (all_file_requests g command)
+    (all_file_parts g command) (no_files g command) same

@@ -16,7 +16,6 @@ use Rattle.aioscan_cmd.specs.declared.report.Outcome.TheVariants.{NoMemory}
 use Rattle.aioscan_cmd.proofs.SinkTextsAppend.{SinkGrewByPrefix-nothing}
 use Rattle.aioscan_cmd.proofs.GeneratedPagesValid.{generated_block_count}
 use Rattle.aioscan_cmd.proofs.GeneratedPageReads.{generated_outcome_done, all_quiet}
-use Rattle.aioscan_cmd.proofs.RefusedRuns.{warned_of_none}
 
 -- the one relation of generated pages is not too long
 abbrev LengthsFitGenerated : ℕ → Outcome → Type 0
@@ -61,18 +60,15 @@ module _ (z : Bool) (n : ℕ) (few : n ≤ 4096) where
         ]
       ]
 
+  -- there is nothing to warn of
   generated_warned : (b a : Option (List ℕ)) (o : Outcome) (w : List ℕ)
-      → IsGeneratedOutcome o → w ≡ []
-      → OutputGrew o b a text → IsWarned (generated_run z n) b a o w
-  generated_warned b a o w ends none grew =
-      let P : Outcome → Type 0 = λ x. OutputGrew x b a text in
+      → IsGeneratedOutcome o → w ≡ [] → IsWarned (generated_run z n) b a o w
+  generated_warned b a o w ends none =
       let Q : Outcome → Type 0 = λ x. IsWarned (generated_run z n) b a x w in elim ends [
         | inl done ↦ subst Q (sym done) (none ∙ sym (all_quiet z n few))
         | inr other ↦ elim other [
-          | inl cut ↦ subst Q (sym cut)
-              (warned_of_none (generated_run z n) b a w text none (subst P cut grew))
-          | inr memory ↦ subst Q (sym memory)
-              (warned_of_none (generated_run z n) b a w text none (subst P memory grew))
+          | inl cut ↦ subst Q (sym cut) none
+          | inr memory ↦ subst Q (sym memory) none
         ]
       ]
 
@@ -86,7 +82,7 @@ module _ (z : Bool) (n : ℕ) (few : n ≤ 4096) where
     writes = generated_writes b a o ends grew;
     reads = refl;
     quiet = none;
-    warned = generated_warned b a o w ends none grew;
+    warned = generated_warned b a o w ends none;
   }
 
 -- there was no memory
@@ -102,5 +98,5 @@ ran_generated_without_memory z n s k o w is none =
       writes = SinkGrewByPrefix-nothing s s _ refl;
       reads = refl;
       quiet = none;
-      warned = warned_of_none _ s s w [] none (SinkGrewByPrefix-nothing s s [] refl);
+      warned = none;
     })

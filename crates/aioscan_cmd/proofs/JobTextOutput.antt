@@ -1,17 +1,18 @@
 -- The text of one job was written, or its write failed.
 use Rattle.std.proofs.Common.{◌≡◌, ◌≢◌, ℕ, ◌≤◌, List, [], ◌∷◌, take, length, refl, sym, ap, ◌∙◌}
-use Rattle.std.proofs.Common.{subst, arith, append-nil, false, true}
+use Rattle.std.proofs.Common.{subst, arith, append-nil, false, true, map, inl, inr, length-append, length-take}
 use Rattle.std.specs.Prelude.{Option, Some, None, slice_get, ⊤, cond}
-use Rattle.std.proofs.lemmas.List.{take_all}
+use Rattle.std.proofs.lemmas.List.{take_all, length-map}
 use Rattle.std.proofs.lemmas.List.Sums.{sum_by-cons}
 use Rattle.page_check.specs.Told.{Told}
 use Rattle.page_check.specs.SynchronousAnswer.{Reader, Found, Page as FoundPage, Zeroed, Damaged}
 use Rattle.page_check.specs.SynchronousAnswer.{Absent, Ending, End, Invalid as SaidInvalid}
 use Rattle.page_check.specs.SynchronousAnswer.{PastEnd as SaidPastEnd, entry_found, found_ending}
 use Rattle.page_check.specs.SynchronousAnswer.{stop_ending, first_stop, reader_of}
-use Rattle.page_check.specs.IsAnswer.{EndsAt}
+use Rattle.page_check.specs.SynchronousAnswer.{entry_given, read_count}
+use Rattle.page_check.specs.IsAnswer.{AreFirst, EndsAt, IsEnding, OneEnding}
 use Rattle.page_check.proofs.AnswersOfLists.{first_stop-length}
-use Rattle.heap_scan.specs.Job.{IsJobAnswer}
+use Rattle.heap_scan.specs.Job.{IsJobAnswer, endings_of}
 use Rattle.heap_scan.specs.Listing.{listing}
 use Rattle.heap_scan.specs.Warnings.{warnings_of}
 use Rattle.heap_scan.specs.declared.sums.PageSums.{PageSums}
@@ -20,7 +21,7 @@ use Rattle.scan_rounds.specs.declared.job.Ending.{Ending as JobEnding}
 use Rattle.scan_rounds.specs.declared.job.Ending.TheVariants as ending
 use Rattle.scan_rounds.specs.declared.job.Job.{Job}
 use Rattle.aio_disk.specs.Sink.{SinkGrew, SinkGrewByPrefix}
-use Rattle.aioscan_cmd.specs.RequestList.{Page, Request, request}
+use Rattle.aioscan_cmd.specs.RequestList.{Page, Request, blocks_of_parts, request}
 use Rattle.aioscan_cmd.specs.Outcomes.{ending_of, is_refused, named_block, is_output_cut_off}
 use Rattle.aioscan_cmd.specs.Output.{OutputGrew, IsOutput, WriteFaultsCounted, ListFormat}
 use Rattle.aioscan_cmd.specs.Output.{format_of_options}
@@ -28,9 +29,10 @@ use Rattle.aioscan_cmd.specs.ListerState.{unread_count, outcome_of_ending, JobTe
 use Rattle.aioscan_cmd.specs.declared.report.Outcome.{Outcome}
 use Rattle.aioscan_cmd.specs.declared.report.Outcome.TheVariants.{CannotWrite, NoMemory}
 use Rattle.aioscan_cmd.proofs.BlocksOfOneRelation.{AreOf, job_entries_of_relation}
-use Rattle.aioscan_cmd.proofs.SinkTextsAppend.{SinkGrew-same, SinkGrewByPrefix-some}
+use Rattle.aioscan_cmd.proofs.CutsInParts.{cut_alone}
+use Rattle.aioscan_cmd.proofs.SinkTextsAppend.{SinkGrew-same}
 use Rattle.aioscan_cmd.proofs.SinkTextsAppend.{SinkGrewByPrefix-whole}
-use Rattle.aioscan_cmd.proofs.OutputsAppend.{no_warnings, reached_none}
+use Rattle.aioscan_cmd.proofs.OutputsAppend.{no_listing, no_warnings, with_blocks}
 
 -- an entry of blocks of one relation
 entry_here : (r : ℕ) (blocks : List Request) → AreOf r blocks → (k b : ℕ) (e : Request)
@@ -61,6 +63,26 @@ stop_entry : (f : Reader) (end : Ending) (b : ℕ)
 stop_entry f end b at early None is = absurd (early is)
 stop_entry f end b at early (Some e) is = (e, refl, at (entry_found f e) e.block is)
 
+-- there are no more pages than blocks
+pages_few : (found : Option Reader) (blocks : List Request) (pages : List Page)
+    → AreFirst found blocks pages → length pages ≤ length blocks
+pages_few None blocks pages first =
+    omega (
+      arith,
+      ap length first.1.1,
+      length-append (map (λ (g : Page). g.entry) pages) first.1.0,
+      length-map pages (λ (g : Page). g.entry),
+    )
+pages_few (Some f) blocks pages first =
+    let n = read_count f blocks in
+    omega (
+      arith,
+      ap length first.1,
+      length-append pages first.0,
+      length-map (take n blocks) (entry_given f),
+      length-take n blocks,
+    )
+
 module _ (r : ℕ) (blocks : List Request) (all_of : AreOf r blocks) where
   invalid_here : (found : Option Reader) (k b : ℕ) → EndsAt found blocks k (SaidInvalid b)
       → slice_get blocks k ≡ Some (request r b)
@@ -90,30 +112,38 @@ module _ (r : ℕ) (blocks : List Request) (all_of : AreOf r blocks) where
     abbrev texts : List Page → List ℕ
     texts pages = listing m.text_of pages
 
+    alone : blocks_of_parts (blocks ∷ []) ≡ blocks
+    alone = append-nil blocks
+
+    abbrev as_part : (end : Option Ending) → Answer end
+        → IsJobAnswer m.text_of (reader_of m.zero told) (λ _. ⊤) (blocks_of_parts (blocks ∷ []))
+        text warnings sums end
+    as_part end answer = with_blocks m told blocks (blocks_of_parts (blocks ∷ [])) text warnings
+        sums end (sym alone) answer
+
     -- the job's text was written whole, and its warnings behind it
     listed_whole : (o : Outcome) → is_refused o ≡ false → (answer : Answer (ending_of o))
         → ((e : Request) → named_block o ≡ Some e
         → slice_get blocks (length answer.pages) ≡ Some e)
         → OutputGrew o b a text → SinkGrew b a text → (m.zero ≡ false → warnings ≡ [])
-        → IsOutput m told blocks b a o warnings
-    listed_whole o begun answer here grew all quiet =
+        → (is_output_cut_off o ≡ true → o ≡ NoMemory)
+        → IsOutput m told (blocks ∷ []) b a o warnings
+    listed_whole o begun answer here grew all quiet memory =
         let n = length answer.pages in
         let every = take_all n answer.pages (omega arith) in record {
           begun = begun;
           text = text;
           all_warnings = warnings;
           sums = sums;
-          answer = answer;
-          here = here;
+          answer = as_part (ending_of o) answer;
+          here = λ e is. (ap (λ (l : List Request). slice_get l n) alone ∙ here e is);
           grew = grew;
           whole = n;
           among = omega arith;
           all = λ _. refl;
-          reached = (
-            [],
-            SinkGrew-same b a text _
-                (answer.text_is ∙ ap texts (sym every)
-                ∙ sym (append-nil (texts (take n answer.pages)))) all,
+          stopped = λ is. inr (
+            memory is,
+            SinkGrew-same b a text _ (answer.text_is ∙ ap texts (sym every)) all,
           );
           warned = answer.warnings_are ∙ ap warnings_of (sym every);
           quiet = quiet;
@@ -121,53 +151,60 @@ module _ (r : ℕ) (blocks : List Request) (all_of : AreOf r blocks) where
 
     pub text_listed : (end : JobEnding) → Answer (said_end end) → SinkGrew b a text
         → (m.zero ≡ false → warnings ≡ [])
-        → IsOutput m told blocks b a (outcome_of_ending r end) warnings
+        → IsOutput m told (blocks ∷ []) b a (outcome_of_ending r end) warnings
     text_listed ending.Pages answer grew quiet =
         listed_whole (outcome_of_ending r ending.Pages) refl answer
-        (λ e is. absurd (cc)) grew grew quiet
+        (λ e is. absurd (cc)) grew grew quiet (λ is. absurd (cc))
     text_listed (ending.Invalid n) answer grew quiet =
         listed_whole (outcome_of_ending r (ending.Invalid n)) refl answer
         (λ e is. (invalid_here (reader_of m.zero told) (length answer.pages) n
-        answer.answers.endings.0 ∙ is)) grew grew quiet
+        answer.answers.endings.0 ∙ is)) grew grew quiet (λ is. absurd (cc))
     text_listed (ending.PastEnd n) answer grew quiet =
         listed_whole (outcome_of_ending r (ending.PastEnd n)) refl answer
         (λ e is. (missing_here (reader_of m.zero told) (length answer.pages) n
-        answer.answers.endings.0 ∙ is)) grew grew quiet
+        answer.answers.endings.0 ∙ is)) grew grew quiet (λ is. absurd (cc))
     text_listed (ending.Unread n) answer grew quiet =
         listed_whole (outcome_of_ending r (ending.Unread n)) refl answer
         (λ e is. (let stop = answer.answers.endings.0 in
         entry_here r blocks all_of (length answer.pages) n stop.next stop.here stop.named ∙ is))
-        grew grew quiet
+        grew grew quiet (λ is. absurd (cc))
     text_listed ending.NoMemory answer grew quiet =
         listed_whole (outcome_of_ending r ending.NoMemory) refl answer (λ e is. absurd (cc))
-        (SinkGrewByPrefix-whole b a text grew) grew quiet
+        (SinkGrewByPrefix-whole b a text grew) grew quiet (λ is. refl)
 
     -- the write failed or there was no memory for it, so that nothing was warned of
-    without_end : (end : Option Ending) → Answer end → Answer None
-    without_end end answer = record {
-      pages = answer.pages;
-      text_is = answer.text_is;
-      warnings_are = answer.warnings_are;
-      sums_are = answer.sums_are;
-      answers = record { first = answer.answers.first; endings = tt };
-    }
+    abbrev without_end : (kept : Option Ending) → kept ≡ None → (end : Option Ending) → Answer end
+        → Answer kept
+    without_end kept none end answer =
+        let P : Option Ending → Type 0 = λ e. OneEnding
+        (IsEnding (reader_of m.zero told) (λ _. ⊤) blocks (length answer.pages)) (endings_of e) in
+        record {
+          pages = answer.pages;
+          text_is = answer.text_is;
+          warnings_are = answer.warnings_are;
+          sums_are = answer.sums_are;
+          answers = record { first = answer.answers.first; endings = subst P (sym none) tt };
+        }
 
     unwritten : (o : Outcome) (end : JobEnding) → is_refused o ≡ false → is_output_cut_off o ≡ true
         → named_block o ≡ None → ending_of o ≡ None → Answer (said_end end) → OutputGrew o b a text
-        → SinkGrewByPrefix b a text → IsOutput m told blocks b a o []
-    unwritten o end begun cut stops ends answer grew first =
-        let some = SinkGrewByPrefix-some b a text first in record {
+        → text ≢ [] → SinkGrewByPrefix b a text → IsOutput m told (blocks ∷ []) b a o []
+    unwritten o end begun cut stops ends answer grew some first =
+        let few = pages_few (reader_of m.zero told) blocks answer.pages answer.answers.first in
+        record {
           begun = begun;
           text = text;
           all_warnings = warnings;
           sums = sums;
-          answer = subst Answer (sym ends) (without_end (said_end end) answer);
+          answer = as_part (ending_of o)
+              (without_end (ending_of o) ends (said_end end) answer);
           here = λ e is. absurd (cc);
           grew = grew;
           whole = 0;
           among = omega arith;
           all = λ is. absurd (cc);
-          reached = (some.0, reached_none m.text_of b a some.0 some.1);
+          stopped = λ is. inl (cut_alone m.text_of blocks answer.pages b a text few answer.text_is
+              some (no_listing m.text_of) first);
           warned = sym no_warnings;
           quiet = λ _. refl;
         }
@@ -178,27 +215,29 @@ module _ (job : Job) (b a : Option (List ℕ)) where
   job_written o is grew = λ skips m told asked listed.
       (let w = job.warnings.items in
       let blocks = entries_of_job skips asked in
-      let Q : Outcome → Type 0 = λ x. IsOutput (format_of_options m) told blocks b a x w in
-      let R : ℕ → Type 0 = λ r. IsOutput (format_of_options m) told blocks b a
+      let Q : Outcome → Type 0 = λ x. IsOutput (format_of_options m) told (blocks ∷ []) b a x w in
+      let R : ℕ → Type 0 = λ r. IsOutput (format_of_options m) told (blocks ∷ []) b a
       (outcome_of_ending r job.ending) w in
       subst Q (sym is) (subst R (sym listed.same.0)
       (text_listed asked.relation blocks (job_entries_of_relation skips asked)
       (format_of_options m) told job.text.items w
       job.tally b a job.ending listed.answer grew listed.quiet)))
 
-  pub job_unwritten : SinkGrewByPrefix b a job.text.items → JobTextWritten job b a CannotWrite []
-  job_unwritten grew = λ skips m told asked listed.
+  pub job_unwritten : job.text.items ≢ [] → SinkGrewByPrefix b a job.text.items
+      → JobTextWritten job b a CannotWrite []
+  job_unwritten some grew = λ skips m told asked listed.
       unwritten asked.relation (entries_of_job skips asked)
       (job_entries_of_relation skips asked) (format_of_options m)
       told job.text.items job.warnings.items job.tally b a CannotWrite job.ending refl refl refl
-      refl listed.answer grew grew
+      refl listed.answer grew some grew
 
-  pub job_out_of_memory : SinkGrewByPrefix b a job.text.items → JobTextWritten job b a NoMemory []
-  job_out_of_memory grew = λ skips m told asked listed.
+  pub job_out_of_memory : job.text.items ≢ [] → SinkGrewByPrefix b a job.text.items
+      → JobTextWritten job b a NoMemory []
+  job_out_of_memory some grew = λ skips m told asked listed.
       unwritten asked.relation (entries_of_job skips asked)
       (job_entries_of_relation skips asked) (format_of_options m)
       told job.text.items job.warnings.items job.tally b a NoMemory job.ending refl refl refl refl
-      listed.answer grew grew
+      listed.answer grew some grew
 
 ended_unread : (r : ℕ) (end : JobEnding)
     → unread_count (outcome_of_ending r end) ≡ cond (is_unread end) 1 0

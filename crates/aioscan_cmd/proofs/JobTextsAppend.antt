@@ -1,9 +1,8 @@
 -- Jobs whose texts are written one after the other.
 use Rattle.std.proofs.Common.{◌≡◌, ◌≢◌, ℕ, ◌+◌, ◌<◌, ◌≤◌, List, [], ◌∷◌, ◌++◌, take, drop, length}
-use Rattle.std.proofs.Common.{get_or, refl, sym, ap, ◌∙◌, subst, arith, append-nil, length-append}
+use Rattle.std.proofs.Common.{get_or, refl, sym, ap, ◌∙◌, subst, arith, length-append}
 use Rattle.std.specs.Prelude.{Option, ⊤, cond}
-use Rattle.std.proofs.lemmas.Grind.{flat_map-append}
-use Rattle.std.proofs.lemmas.List.{take_more, take_all, take-append-drop}
+use Rattle.std.proofs.lemmas.List.{take_more, take_all, take-append-drop, map-append}
 use Rattle.std.proofs.lemmas.List.Concat.{flat_map-cons}
 use Rattle.std.proofs.lemmas.List.Sums.{sum_by-cons, get_or-le-sum_by}
 use Rattle.page_check.specs.Told.{Told}
@@ -12,9 +11,9 @@ use Rattle.scan_rounds.specs.Jobs.{IsListed, AreAnswered, entries_of_job, unread
 use Rattle.scan_rounds.specs.Jobs.{count_unskipped}
 use Rattle.scan_rounds.specs.BlockFilter.{BlockFilter}
 use Rattle.scan_rounds.specs.declared.job.Job.{Job}
-use Rattle.aioscan_cmd.specs.RequestList.{Request}
 use Rattle.aioscan_cmd.specs.Output.{IsOutput, format_of_options}
 use Rattle.aioscan_cmd.specs.ListerState.{unskipped_job_requests, JobTextWritten}
+use Rattle.aioscan_cmd.specs.ListerState.{unskipped_job_parts}
 use Rattle.aioscan_cmd.specs.ListerState.{AllJobTextsWritten}
 use Rattle.aioscan_cmd.specs.declared.report.Outcome.{Outcome}
 use Rattle.aioscan_cmd.specs.declared.report.Outcome.TheVariants.{Done}
@@ -45,20 +44,17 @@ requests_length skips (job ∷ jobs) =
       sum_by-cons (λ (j : Job). length (entries_of_job skips j)) job jobs,
     )
 
-pub requests_one_more : (skips : Option BlockFilter) (jobs : List Job) (job : Job)
-    → unskipped_job_requests skips (jobs ++ job ∷ []) ≡ unskipped_job_requests skips jobs
-    ++ entries_of_job skips job
-requests_one_more skips jobs job =
-    flat_map-append (entries_of_job skips) jobs (job ∷ [])
-    ∙ ap (λ (l : List Request). unskipped_job_requests skips jobs ++ l)
-    (append-nil (entries_of_job skips job))
+pub parts_one_more : (skips : Option BlockFilter) (jobs : List Job) (job : Job)
+    → unskipped_job_parts skips (jobs ++ job ∷ []) ≡ unskipped_job_parts skips jobs
+    ++ entries_of_job skips job ∷ []
+parts_one_more skips jobs job = map-append (entries_of_job skips) jobs (job ∷ [])
 
 -- the texts of the first k jobs were written
 abbrev pub FirstListed : List Job → ℕ → Option (List ℕ) → Option (List ℕ) → List ℕ → Type 0
 FirstListed jobs k b a w =
     (skips : Option BlockFilter) (m : ListOptions) (told : Option Told) (asked : List Job)
     → AreAnswered skips m told asked jobs
-    → IsOutput (format_of_options m) told (unskipped_job_requests skips (take k asked)) b a Done w
+    → IsOutput (format_of_options m) told (unskipped_job_parts skips (take k asked)) b a Done w
 
 module _ (jobs : List Job) (k : ℕ) (job : Job) (b between a : Option (List ℕ))
     (inside : k < length jobs) (is : job ≡ get_or jobs k job) where
@@ -68,19 +64,19 @@ module _ (jobs : List Job) (k : ℕ) (job : Job) (b between a : Option (List ℕ
       → (skips : Option BlockFilter) (m : ListOptions) (told : Option Told) (asked : List Job)
       → AreAnswered skips m told asked jobs
       → IsOutput (format_of_options m) told
-      (unskipped_job_requests skips (take (k + 1) asked)) b a o (v ++ w)
+      (unskipped_job_parts skips (take (k + 1) asked)) b a o (v ++ w)
   next_listed o v w before here skips m told asked all =
       let below : k < length asked = omega (arith, all.as_many) in
       let one = all.each k job below in
       let this = get_or asked k job in
       let P : Job → Type 0 = λ j. IsListed skips m told (λ _. ⊤) this j in
-      let more : unskipped_job_requests skips (take (k + 1) asked)
-      ≡ unskipped_job_requests skips (take k asked) ++ entries_of_job skips this =
-      ap (unskipped_job_requests skips) (take_more asked k job below)
-      ∙ requests_one_more skips (take k asked) this in
+      let more : unskipped_job_parts skips (take (k + 1) asked)
+      ≡ unskipped_job_parts skips (take k asked) ++ entries_of_job skips this ∷ [] =
+      ap (unskipped_job_parts skips) (take_more asked k job below)
+      ∙ parts_one_more skips (take k asked) this in
       lists_same (format_of_options m) told _ _ b a o (v ++ w) (sym more)
-      (lists_append (format_of_options m) told (unskipped_job_requests skips (take k asked))
-      (entries_of_job skips this) b between a o v w (before skips m told asked all)
+      (lists_append (format_of_options m) told (unskipped_job_parts skips (take k asked))
+      (entries_of_job skips this ∷ []) b between a o v w (before skips m told asked all)
       (here skips m told this (subst P (sym is) one)))
 
   pub next_done : (o : Outcome) (v w : List ℕ) → o ≡ Done → FirstListed jobs k b between v
@@ -88,17 +84,17 @@ module _ (jobs : List Job) (k : ℕ) (job : Job) (b between a : Option (List ℕ
   next_done o v w done before here = λ skips m told asked all.
       (let P : Outcome → Type 0 =
       λ x. IsOutput (format_of_options m) told
-      (unskipped_job_requests skips (take (k + 1) asked)) b a x (v ++ w) in
+      (unskipped_job_parts skips (take (k + 1) asked)) b a x (v ++ w) in
       subst P done (next_listed o v w before here skips m told asked all))
 
   pub next_stopped : (o : Outcome) (v w : List ℕ) → o ≢ Done → FirstListed jobs k b between v
       → JobTextWritten job between a o w → AllJobTextsWritten jobs b a o (v ++ w)
   next_stopped o v w stops before here = λ skips m told asked all.
-      (let front = unskipped_job_requests skips (take (k + 1) asked) in
-      let back = unskipped_job_requests skips (drop (k + 1) asked) in
-      let parts : unskipped_job_requests skips asked ≡ front ++ back =
-      ap (unskipped_job_requests skips) (sym (take-append-drop (k + 1) asked))
-      ∙ flat_map-append (entries_of_job skips) (take (k + 1) asked) (drop (k + 1) asked) in
+      (let front = unskipped_job_parts skips (take (k + 1) asked) in
+      let back = unskipped_job_parts skips (drop (k + 1) asked) in
+      let parts : unskipped_job_parts skips asked ≡ front ++ back =
+      ap (unskipped_job_parts skips) (sym (take-append-drop (k + 1) asked))
+      ∙ map-append (entries_of_job skips) (take (k + 1) asked) (drop (k + 1) asked) in
       lists_same (format_of_options m) told _ _ b a o (v ++ w) (sym parts)
       (lists_more (format_of_options m) told front back b a o (v ++ w) stops
       (next_listed o v w before here skips m told asked all)))
@@ -107,7 +103,7 @@ pub all_listed : (jobs : List Job) (k : ℕ) (b a : Option (List ℕ)) (w : List
     → length jobs ≤ k → FirstListed jobs k b a w → AllJobTextsWritten jobs b a Done w
 all_listed jobs k b a w all listed = λ skips m told asked answered.
     lists_same (format_of_options m) told _ _ b a Done w
-    (ap (unskipped_job_requests skips) (take_all k asked (omega (arith, answered.as_many))))
+    (ap (unskipped_job_parts skips) (take_all k asked (omega (arith, answered.as_many))))
     (listed skips m told asked answered)
 
 pub none_listed : (jobs : List Job) (s : Option (List ℕ)) → FirstListed jobs 0 s s []

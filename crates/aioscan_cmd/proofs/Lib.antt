@@ -9,6 +9,8 @@ pub mod DistinctNames
 pub mod LengthsAppend
 pub mod SinkTextsAppend
 pub mod OutputsAppend
+pub mod PartsOfRequests
+mod CutsInParts
 mod BlocksOfOneRelation
 mod JobTextOutput
 mod PagesOfOneRelation

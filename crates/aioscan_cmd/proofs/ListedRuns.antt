@@ -6,7 +6,7 @@ use Rattle.page_check.specs.Told.{Told, relation_block_count}
 use Rattle.aio_disk.specs.Counts.{raised_by}
 use Rattle.aio_handle.specs.Execution.{last_count}
 use Rattle.aioscan_cmd.specs.Command.{Command, relations_of}
-use Rattle.aioscan_cmd.specs.RequestList.{request_list}
+use Rattle.aioscan_cmd.specs.RequestList.{request_list, request_parts}
 use Rattle.aioscan_cmd.specs.Outcomes.{is_refused}
 use Rattle.aioscan_cmd.specs.Lengths.{HasLengths}
 use Rattle.aioscan_cmd.specs.Output.{ObservedState, observed_state, IsOutput, map_pages_known}
@@ -17,7 +17,7 @@ use Rattle.aioscan_cmd.specs.declared.report.Outcome.TheVariants.{Done, Invalid,
 use Rattle.aioscan_cmd.specs.declared.report.Outcome.TheVariants.{NoLength, Unread, CannotWrite}
 use Rattle.aioscan_cmd.specs.declared.report.Outcome.TheVariants.{NoMemory, Missing, TooLong}
 use Rattle.aioscan_cmd.proofs.OutputsAppend.{lists_same}
-use Rattle.aioscan_cmd.proofs.FileRequestsAppend.{request_list-same}
+use Rattle.aioscan_cmd.proofs.FileRequestsAppend.{request_list-same, request_parts-same}
 
 -- the lengths fit
 lengths_fit : (told : Option Told) (segment relations : ℕ) (lengths : List ℕ)
@@ -52,6 +52,16 @@ same_requests (Some t) segment relations command lengths map_page all has =
     request_list-same (slice_index lengths) (relation_block_count t) map_page command
     (λ r below. has.are r (omega (arith, has.all)))
 
+same_parts : (told : Option Told) (segment relations : ℕ) (command : Command)
+    (lengths : List ℕ) (map_page : ℕ → List ℕ) → relations ≡ length (relations_of command)
+    → HasLengths told segment relations lengths
+    → request_parts (slice_index lengths) map_page command
+    ≡ request_parts (lengths_known told (slice_index lengths)) map_page command
+same_parts None segment relations command lengths map_page all has = refl
+same_parts (Some t) segment relations command lengths map_page all has =
+    request_parts-same (slice_index lengths) (relation_block_count t) map_page command
+    (λ r below. has.are r (omega (arith, has.all)))
+
 refused_not : (o : Outcome) → is_refused o ≡ false → is_refused o ≡ true → ⊥
 refused_not o not is = absurd (cc)
 
@@ -60,7 +70,7 @@ pub ran_listed : (told now : Option Told) (segment relations : ℕ) (command : C
     (lengths : List ℕ) (given : ℕ → List ℕ) (output after : Option (List ℕ)) (read : ℕ)
     (o : Outcome) (w : List ℕ) → now ≡ told → relations ≡ length (relations_of command)
     → HasLengths told segment relations lengths
-    → IsOutput (command_format command) now (request_list (slice_index lengths)
+    → IsOutput (command_format command) now (request_parts (slice_index lengths)
     (map_pages_known now command.settings.zero given) command) output after o w
     → (read < last_count → read ≤ length (request_list (slice_index lengths)
     (map_pages_known now command.settings.zero given) command))
@@ -69,8 +79,9 @@ ran_listed told now segment relations command lengths given output after read o 
     few =
     let map_page = map_pages_known told command.settings.zero given in
     let requests = same_requests told segment relations command lengths map_page all has in
+    let parts = same_parts told segment relations command lengths map_page all has in
     let L : Option Told → Type 0 =
-    λ n. IsOutput (command_format command) n (request_list (slice_index lengths)
+    λ n. IsOutput (command_format command) n (request_parts (slice_index lengths)
     (map_pages_known n command.settings.zero given) command) output after o w in
     let F : Option Told → Type 0 = λ n. read < last_count → read ≤ length (request_list
     (slice_index lengths) (map_pages_known n command.settings.zero given) command) in
@@ -80,7 +91,7 @@ ran_listed told now segment relations command lengths given output after read o 
       segment = segment;
       in_order = fits_where_listed _ _ relations o lists.begun
           (lengths_fit told segment relations lengths has);
-      lists = λ is. lists_same (command_format command) told _ _ output after o w requests
+      lists = λ is. lists_same (command_format command) told _ _ output after o w parts
           (subst L same lists);
       few_reads = λ below. omega (arith, fewer below, ap length requests);
       untouched = λ is. absurd (refused_not o lists.begun is);

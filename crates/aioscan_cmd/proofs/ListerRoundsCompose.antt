@@ -5,11 +5,12 @@ use Rattle.std.specs.Prelude.{Option}
 use Rattle.page_check.specs.Told.{Told}
 use Rattle.scan_rounds.specs.ListOptions.{ListOptions}
 use Rattle.scan_rounds.specs.Jobs.{AreAnswered}
-use Rattle.scan_rounds.specs.BlockFilter.{BlockFilter, unskipped_entries}
+use Rattle.scan_rounds.specs.BlockFilter.{BlockFilter}
 use Rattle.scan_rounds.specs.declared.job.Job.{Job}
-use Rattle.aioscan_cmd.specs.RequestList.{Request}
+use Rattle.aioscan_cmd.specs.RequestList.{Request, Part, blocks_of_parts}
 use Rattle.aioscan_cmd.specs.Output.{IsOutput, WriteFaultsCounted, ListFormat, format_of_options}
 use Rattle.aioscan_cmd.specs.ListerState.{unskipped_job_requests, AllJobTextsWritten, IsOver}
+use Rattle.aioscan_cmd.specs.ListerState.{unskipped_job_parts, unskipped_parts}
 use Rattle.aioscan_cmd.specs.ListerState.{CutsOffJobs, HasListed, PreservesListing}
 use Rattle.aioscan_cmd.specs.ListerState.{lister_error_stream, lister_options, lister_filter}
 use Rattle.aioscan_cmd.specs.ErrorLine.{ErrorStream, Warns, error_stream}
@@ -24,7 +25,8 @@ use Rattle.heap_scan.specs.declared.sums.PageSums.{PageSums}
 use Rattle.aioscan_cmd.specs.Sums.{AllPagesGiven, HasSums, saturated_sums, total_of_jobs}
 use Rattle.aioscan_cmd.proofs.JobSumsAdd.{none_summed, round_summed}
 use Rattle.aioscan_cmd.proofs.WriteFaultsCompose.{written_then}
-use Rattle.aioscan_cmd.proofs.UnskippedBlocksAppend.{unskipped_after_cut, none_unskipped}
+use Rattle.aioscan_cmd.proofs.PartsOfRequests.{blocks-append}
+use Rattle.aioscan_cmd.proofs.UnskippedBlocksAppend.{job_blocks, unskipped_after_cut}
 use Rattle.aioscan_cmd.proofs.OutputsAppend.{lists_none, lists_append, lists_more}
 use Rattle.aioscan_cmd.proofs.ErrorTextsAppend.{warns_also, warns_none, warns_then}
 
@@ -46,6 +48,14 @@ is_done CannotOpen = inr (λ e. cc)
 is_done (NoLength r) = inr (λ e. cc)
 is_done (TooLong r) = inr (λ e. cc)
 
+-- the blocks of some parts and of those of jobs
+joined_blocks : (skips : Option BlockFilter) (parts : List Part) (jobs : List Job)
+    → blocks_of_parts parts ++ unskipped_job_requests skips jobs
+    ≡ blocks_of_parts (parts ++ unskipped_job_parts skips jobs)
+joined_blocks skips parts jobs =
+    ap (λ (l : List Request). blocks_of_parts parts ++ l) (sym (job_blocks skips jobs))
+    ∙ sym (blocks-append parts (unskipped_job_parts skips jobs))
+
 nothing_written : (faults : ℕ) (o : Outcome) → o ≡ Done → WriteFaultsCounted faults faults o
 nothing_written faults o done = record {
   later = omega arith;
@@ -57,7 +67,7 @@ module _ {W O E : Type 0} (told : Option Told) (written : O → Option (List ℕ
   abbrev Goes : Lister W O E → Lister W O E → Type 0
   Goes s t = PreservesListing told written faults err_written err_faults s t
 
-  abbrev Listed : Option BlockFilter → ListOptions → List Request → Option (List ℕ) → ℕ
+  abbrev Listed : Option BlockFilter → ListOptions → List Part → Option (List ℕ) → ℕ
       → ErrorStream → Lister W O E → Type 0
   Listed skips m all before faults_before errors l =
       HasListed told written faults err_written err_faults skips m all before faults_before errors l
@@ -111,25 +121,29 @@ module _ {W O E : Type 0} (told : Option Told) (written : O → Option (List ℕ
             let first = subst T (same_errors was asked old puts)
             (subst Q (sym puts.out) (subst P was_done so_far.lists)) in
             let was_written = subst V (sym puts.out) so_far.writes in record {
-              asked = so_far.asked ++ unskipped_job_requests skips asked;
-              rest = unskipped_entries skips old.blocks;
+              asked = so_far.asked ++ unskipped_job_parts skips asked;
+              rest = unskipped_parts skips old.blocks;
               cut = so_far.cut
-                  ∙ ap (λ (l : List Request). so_far.asked ++ l) (so_far.left was_done
+                  ∙ ap (λ (l : List Part). so_far.asked ++ l) (so_far.left was_done
                   ∙ unskipped_after_cut skips asked was.blocks old.blocks puts.cut)
-                  ∙ sym (append_assoc so_far.asked (unskipped_job_requests skips asked)
-                  (unskipped_entries skips old.blocks));
-              left = λ _. ap (unskipped_entries skips) (sym same);
+                  ∙ sym (append_assoc so_far.asked (unskipped_job_parts skips asked)
+                  (unskipped_parts skips old.blocks));
+              left = λ _. ap (unskipped_parts skips) (sym same);
               manner_is = manner_same ∙ manner_is;
               skips_are = skips_same ∙ skips_are;
               lists = warns_then _ _ _ _ _ _
                   (λ v w before_it now_it. lists_append (format_of_options m) told so_far.asked
-                  (unskipped_job_requests skips asked) before
+                  (unskipped_job_parts skips asked) before
                   (written old.out.now) (written new.out.now)
                   new.outcome v w before_it (now_it skips m told asked here)) first lists;
               sums = λ all_given.
-                  (let S : PageSums → Type 0 = λ s. HasSums m told so_far.asked s in
-                  round_summed skips m told so_far.asked asked jobs old.sums new.sums
-                  (subst S (sym puts.sums) (so_far.sums was_done)) here (gave all_given) sums);
+                  (let S : PageSums → Type 0 = λ s. HasSums m told
+                  (blocks_of_parts so_far.asked) s in
+                  let T : List Request → Type 0 = λ l. HasSums m told l new.sums in
+                  subst T (joined_blocks skips so_far.asked asked)
+                  (round_summed skips m told (blocks_of_parts so_far.asked) asked jobs old.sums
+                  new.sums (subst S (sym puts.sums) (so_far.sums was_done)) here (gave all_given)
+                  sums));
               writes = written_then _ _ _ _ was_written.later writes;
             }),
       )
@@ -167,8 +181,8 @@ module _ {W O E : Type 0} (told : Option Told) (written : O → Option (List ℕ
   )
 
   -- from the first round to the last
-  ended : (all : List Request) (s t : Lister W O E) → s.outcome ≡ Done
-      → unskipped_entries (lister_filter s) s.blocks ≡ all → s.sums ≡ no_sums → Goes s t
+  ended : (all : List Part) (s t : Lister W O E) → s.outcome ≡ Done
+      → unskipped_parts (lister_filter s) s.blocks ≡ all → s.sums ≡ no_sums → Goes s t
       → Listed (lister_filter s) (lister_options s) all (written s.out.now)
       (faults s.out.now) (errors s) t
   ended all s t done same none goes =
@@ -187,13 +201,13 @@ module _ {W O E : Type 0} (told : Option Told) (written : O → Option (List ℕ
         writes = nothing_written (faults s.out.now) s.outcome done;
       })
 
-  pub all_listed : (all : List Request) (s t : Lister W O E) → s.outcome ≡ Done
-      → unskipped_entries (lister_filter s) s.blocks ≡ all → s.sums ≡ no_sums → Goes s t → IsOver t
+  pub all_listed : (all : List Part) (s t : Lister W O E) → s.outcome ≡ Done
+      → unskipped_parts (lister_filter s) s.blocks ≡ all → s.sums ≡ no_sums → Goes s t → IsOver t
       → Warns (IsOutput (format_of_options (lister_options s)) told all
       (written s.out.now) (written t.out.now) t.outcome) (errors s) (errors t)
   all_listed all s t done same no_sum goes over =
       let at = ended all s t done same no_sum goes in
-      let P : List Request → Type 0 =
+      let P : List Part → Type 0 =
       λ l. Warns (IsOutput (format_of_options (lister_options s)) told l
       (written s.out.now) (written t.out.now) t.outcome) (errors s) (errors t) in
       let more : t.outcome ≢ Done → P all =
@@ -203,26 +217,27 @@ module _ {W O E : Type 0} (told : Option Told) (written : O → Option (List ℕ
       ⊎_elim more
       (λ none. ⊎_elim
       (λ is. (let whole : all ≡ at.asked =
-      at.cut ∙ ap (λ (l : List Request). at.asked ++ l) (at.left is
-      ∙ (ap (unskipped_entries (lister_filter s)) none ∙ none_unskipped (lister_filter s)))
+      at.cut ∙ ap (λ (l : List Part). at.asked ++ l) (at.left is
+      ∙ ap (unskipped_parts (lister_filter s)) none)
       ∙ append-nil at.asked in subst P (sym whole) at.lists))
       more (is_done t.outcome))
       over
 
-  pub all_written : (all : List Request) (s t : Lister W O E) → s.outcome ≡ Done
-      → unskipped_entries (lister_filter s) s.blocks ≡ all → s.sums ≡ no_sums → Goes s t
+  pub all_written : (all : List Part) (s t : Lister W O E) → s.outcome ≡ Done
+      → unskipped_parts (lister_filter s) s.blocks ≡ all → s.sums ≡ no_sums → Goes s t
       → WriteFaultsCounted (faults s.out.now) (faults t.out.now) t.outcome
   all_written all s t done same none goes = (ended all s t done same none goes).writes
 
-  pub all_summed : (all : List Request) (s t : Lister W O E) → s.outcome ≡ Done
-      → unskipped_entries (lister_filter s) s.blocks ≡ all → s.sums ≡ no_sums → Goes s t → IsOver t
-      → t.outcome ≡ Done → HasSums (lister_options s) told all t.sums
+  pub all_summed : (all : List Part) (s t : Lister W O E) → s.outcome ≡ Done
+      → unskipped_parts (lister_filter s) s.blocks ≡ all → s.sums ≡ no_sums → Goes s t → IsOver t
+      → t.outcome ≡ Done → HasSums (lister_options s) told (blocks_of_parts all) t.sums
   all_summed all s t done same no_sum goes over is =
       let at = ended all s t done same no_sum goes in
-      let P : List Request → Type 0 = λ l. HasSums (lister_options s) told l t.sums in
+      let P : List Part → Type 0 = λ l. HasSums (lister_options s) told (blocks_of_parts l)
+      t.sums in
       ⊎_elim (λ stops. absurd (stops is))
       (λ none. (let whole : all ≡ at.asked =
-      at.cut ∙ ap (λ (l : List Request). at.asked ++ l) (at.left is
-      ∙ (ap (unskipped_entries (lister_filter s)) none ∙ none_unskipped (lister_filter s)))
+      at.cut ∙ ap (λ (l : List Part). at.asked ++ l) (at.left is
+      ∙ ap (unskipped_parts (lister_filter s)) none)
       ∙ append-nil at.asked in subst P (sym whole) (at.sums is)))
       over

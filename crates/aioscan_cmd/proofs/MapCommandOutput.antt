@@ -1,5 +1,6 @@
 -- What a command with a map asks for, and that it was listed.
-use Rattle.std.proofs.Common.{◌≡◌, ◌≢◌, ℕ, ◌+◌, ◌≤◌, List, [], ◌++◌, length, map, refl, sym, ap}
+use Rattle.std.proofs.Common.{◌≡◌, ◌≢◌, ℕ, ◌+◌, ◌≤◌, List, [], ◌∷◌, ◌++◌, length, map, refl, sym}
+use Rattle.std.proofs.Common.{ap}
 use Rattle.std.proofs.Common.{◌∙◌, subst, arith, length-append}
 use Rattle.std.specs.Prelude.{Option, Some, None, slice_index, slice_index_or, ⊤}
 use Rattle.std.specs.List.{range_with_len}
@@ -10,7 +11,7 @@ use Rattle.vis_map.specs.declared.map.Skip.{Skip}
 use Rattle.scan_rounds.specs.Jobs.{said_end, unread_in}
 use Rattle.scan_rounds.specs.ListOptions.{ListOptions}
 use Rattle.scan_rounds.specs.Rounds.{IsMapRead}
-use Rattle.scan_rounds.specs.BlockFilter.{unskipped_entries}
+use Rattle.scan_rounds.specs.BlockFilter.{BlockFilter, unskipped_entries}
 use Rattle.scan_rounds.specs.ConsumedPages.{HasPages, PagesConsumed}
 use Rattle.scan_rounds.proofs.ReadMaps.{map_taken}
 use Rattle.scan_rounds.specs.declared.backend.Backend.{Backend}
@@ -18,18 +19,20 @@ use Rattle.scan_rounds.specs.declared.job.Ending.{Ending as JobEnding}
 use Rattle.scan_rounds.specs.declared.job.Ending.TheVariants as ending
 use Rattle.aioscan_cmd.specs.Command.{MapOption, options_of_settings}
 use Rattle.aioscan_cmd.specs.RemainingRequests.{map_page_count, resolved_request_list}
+use Rattle.aioscan_cmd.specs.RemainingRequests.{resolved_parts, resolved_request_parts}
 use Rattle.aioscan_cmd.specs.RemainingRequests.{resolved_requests, resolved_settings}
-use Rattle.aioscan_cmd.specs.ListerState.{outcome_of_ending}
+use Rattle.aioscan_cmd.specs.ListerState.{outcome_of_ending, unskipped_parts}
 use Rattle.aioscan_cmd.specs.Output.{IsOutput, map_pages_known, command_format, format_of_options}
-use Rattle.aioscan_cmd.specs.RequestList.{Request, block_range, with_map}
+use Rattle.aioscan_cmd.specs.RequestList.{Part, Request, block_range, with_map, with_map_part}
 use Rattle.aioscan_cmd.specs.declared.cutter.ResolvedCommand.{ResolvedCommand}
 use Rattle.aioscan_cmd.specs.declared.report.Outcome.{Outcome}
 use Rattle.aioscan_cmd.specs.declared.report.Outcome.TheVariants.{Done, Unread}
 use Rattle.aioscan_cmd.proofs.MapPagesThenBlocks.{added_known, map_listed, range_count}
 use Rattle.aioscan_cmd.proofs.MapPagesThenBlocks.{rounds_listed, format_with_map}
-use Rattle.aioscan_cmd.proofs.MapPagesThenBlocks.{whole_list}
+use Rattle.aioscan_cmd.proofs.MapPagesThenBlocks.{whole_list, whole_parts}
 use Rattle.aioscan_cmd.proofs.OutputsAppend.{lists_append, lists_more, lists_same}
 use Rattle.aioscan_cmd.proofs.BlocksOfOneRelation.{AreOf, unskipped_of_relation}
+use Rattle.aioscan_cmd.proofs.UnskippedBlocksAppend.{resolved_unskipped, unskipped_none}
 
 -- a map that a scan has read
 module _ {W D : Type 0} (m m' : ListOptions) (told : Option Told) (bs cs : List (Backend W D))
@@ -41,7 +44,7 @@ module _ {W D : Type 0} (m m' : ListOptions) (told : Option Told) (bs cs : List 
   taken = map_taken m m' told bs cs 1 k k' found warnings end some manner count read
 
   pub map_part : (by : MapOption) (s : Option (List ℕ))
-      → IsOutput (format_with_map m (Some by)) told (block_range 1 0 k) s s
+      → IsOutput (format_with_map m (Some by)) told (block_range 1 0 k ∷ []) s s
       (outcome_of_ending 1 end) warnings
   map_part by s = map_listed m told s by (λ _. ⊤) k found warnings end taken
 
@@ -68,15 +71,22 @@ module _ (a : ResolvedCommand) (none : (a.command.now).map ≡ None) (told : Opt
   all_with o = with_map o (slice_index a.lengths.now)
       (map_pages_known told (a.command.now).settings.zero given) (resolved_requests a)
 
+  abbrev all_parts_with : Option MapOption → List Part
+  all_parts_with o = with_map_part o (slice_index a.lengths.now)
+      (map_pages_known told (a.command.now).settings.zero given) (resolved_requests a)
+      (resolved_parts a)
+
   pub without_map : (b n : Option (List ℕ)) (o : Outcome) (w : List ℕ)
       → IsOutput (format_of_options (options_of_settings (resolved_settings a))) told
-      (resolved_requests a) b n o w
-      → IsOutput (command_format a.command.now) told (resolved_request_list a told given) b n o w
+      (unskipped_parts None (resolved_parts a)) b n o w
+      → IsOutput (command_format a.command.now) told (resolved_request_parts a told given) b n o w
   without_map b n o w lists =
       let P : Option MapOption → Type 0 =
       λ x. IsOutput (format_with_map (options_of_settings (resolved_settings a)) x) told
-      (all_with x) b n o w in
-      subst P (sym none) lists
+      (all_parts_with x) b n o w in
+      subst P (sym none)
+      (lists_same (format_of_options (options_of_settings (resolved_settings a))) told _ _ b n o w
+      (unskipped_none (resolved_parts a)) lists)
 
   pub as_many : length (resolved_request_list a told given) ≡ length (resolved_requests a)
   as_many = ap (λ (x : Option MapOption). length (all_with x)) none
@@ -99,12 +109,20 @@ module _ (a : ResolvedCommand) (by : MapOption) (with_it : (a.command.now).map �
   rest = unmarked_entries (map mp (range_with_len 0 (map_page_count a)))
       by.skip (resolved_requests a)
 
+  abbrev parts_with : Option MapOption → List Part
+  parts_with o = with_map_part o (slice_index a.lengths.now) mp (resolved_requests a)
+      (resolved_parts a)
+
+  abbrev rest_parts : List Part
+  rest_parts = map (unmarked_entries (map mp (range_with_len 0 (map_page_count a))) by.skip)
+      (resolved_parts a)
+
   as_asked : (b n : Option (List ℕ)) (o : Outcome) (w : List ℕ)
-      → IsOutput (format_with_map m (Some by)) told (list_with (Some by)) b n o w
-      → IsOutput (command_format a.command.now) told (resolved_request_list a told given) b n o w
+      → IsOutput (format_with_map m (Some by)) told (parts_with (Some by)) b n o w
+      → IsOutput (command_format a.command.now) told (resolved_request_parts a told given) b n o w
   as_asked b n o w lists =
       let P : Option MapOption → Type 0 =
-      λ x. IsOutput (format_with_map m x) told (list_with x) b n o w in
+      λ x. IsOutput (format_with_map m x) told (parts_with x) b n o w in
       subst P (sym with_it) lists
 
   asked_length : length (resolved_request_list a told given) ≡ map_page_count a + length rest
@@ -118,16 +136,26 @@ module _ (a : ResolvedCommand) (by : MapOption) (with_it : (a.command.now).map �
 
   -- reading the map stopped
   pub map_stopped : (s : Option (List ℕ)) (o : Outcome) (w : List ℕ) → o ≢ Done
-      → IsOutput (format_with_map m (Some by)) told pages_read s s o w
-      → IsOutput (command_format a.command.now) told (resolved_request_list a told given) s s o w
+      → IsOutput (format_with_map m (Some by)) told (pages_read ∷ []) s s o w
+      → IsOutput (command_format a.command.now) told (resolved_request_parts a told given) s s o w
   map_stopped s o w stops lists =
-      as_asked s s o w (lists_more (format_with_map m (Some by)) told pages_read
-      rest s s o w stops lists)
+      as_asked s s o w (lists_more (format_with_map m (Some by)) told (pages_read ∷ [])
+      rest_parts s s o w stops lists)
 
   module _ (skip : Skip) (added : List (List ℕ)) (skip_is : by.skip ≡ skip)
       (known : added ≡ map mp (range_with_len 0 (map_page_count a))) where
     abbrev kept : List Request
     kept = unskipped_entries (Some (record { pages = added; skip = skip })) (resolved_requests a)
+
+    abbrev kept_parts : List Part
+    kept_parts = unskipped_parts (Some (record { pages = added; skip = skip })) (resolved_parts a)
+
+    whole_in_parts : pages_read ∷ kept_parts ≡ parts_with (Some by)
+    whole_in_parts =
+        ap (λ (x : Skip). pages_read
+        ∷ unskipped_parts (Some (record { pages = added; skip = x })) (resolved_parts a))
+        (sym skip_is) ∙ whole_parts by (slice_index a.lengths.now) mp (resolved_requests a)
+        (resolved_parts a) (map_page_count a) added refl known
 
     whole : pages_read ++ kept ≡ list_with (Some by)
     whole =
@@ -145,17 +173,19 @@ module _ (a : ResolvedCommand) (by : MapOption) (with_it : (a.command.now).map �
     -- the map was read, and then the rounds
     pub map_followed : (s n : Option (List ℕ)) (first last : Outcome) (v w : List ℕ)
         → first ≡ Done → AreOf 0 (resolved_requests a)
-        → IsOutput (format_with_map m (Some by)) told pages_read s s first v
-        → IsOutput (format_of_options m) told kept s n last w
+        → IsOutput (format_with_map m (Some by)) told (pages_read ∷ []) s s first v
+        → IsOutput (format_of_options m) told kept_parts s n last w
         → IsOutput (command_format a.command.now) told
-        (resolved_request_list a told given) s n last (v ++ w)
+        (resolved_request_parts a told given) s n last (v ++ w)
     map_followed s n first last v w done zero before rounds =
         let front = subst (λ (o : Outcome). IsOutput (format_with_map m (Some by))
-        told pages_read s s o v) done before in
-        let back = rounds_listed m told (Some by) kept s n last w
-        (unskipped_of_relation 0 (Some (record { pages = added; skip = skip }))
-        (resolved_requests a) zero) rounds
-        in
+        told (pages_read ∷ []) s s o v) done before in
+        let skips : Option BlockFilter = Some (record { pages = added; skip = skip }) in
+        let Z : List Request → Type 0 = λ l. AreOf 0 l in
+        let back = rounds_listed m told (Some by) kept_parts s n last w
+        (subst Z (sym (resolved_unskipped skips a))
+        (unskipped_of_relation 0 skips (resolved_requests a) zero)) rounds in
         as_asked s n last (v ++ w)
-        (lists_same (format_with_map m (Some by)) told _ _ s n last (v ++ w) whole
-        (lists_append (format_with_map m (Some by)) told pages_read kept s s n last v w front back))
+        (lists_same (format_with_map m (Some by)) told _ _ s n last (v ++ w) whole_in_parts
+        (lists_append (format_with_map m (Some by)) told (pages_read ∷ []) kept_parts s s n last
+        v w front back))

@@ -1,6 +1,6 @@
 -- Listing by a map: its pages, and then the blocks that it does not mark.
 use Rattle.std.proofs.Common.{◌≡◌, ℕ, zero, suc, ◌+◌, ◌≤◌, Bool, List, [], ◌∷◌, ◌++◌, length}
-use Rattle.std.proofs.Common.{map, take, refl, sym, ap, ◌∙◌, arith, length-take}
+use Rattle.std.proofs.Common.{map, take, drop, refl, sym, ap, ◌∙◌, arith, length-take}
 use Rattle.std.specs.Prelude.{Option, Some, None, slice_index_or, ⊤}
 use Rattle.std.specs.List.{range_with_len}
 use Rattle.std.proofs.lemmas.List.{length-map, take_all}
@@ -24,14 +24,16 @@ use Rattle.scan_rounds.specs.declared.job.Ending.{Ending as JobEnding}
 use Rattle.scan_rounds.proofs.Blocks.{answer_wider}
 use Rattle.scan_rounds.proofs.JobListed.{none_warned}
 use Rattle.aioscan_cmd.specs.Command.{MapOption}
-use Rattle.aioscan_cmd.specs.ListerState.{outcome_of_ending}
+use Rattle.aioscan_cmd.specs.ListerState.{outcome_of_ending, unskipped_parts}
 use Rattle.aioscan_cmd.specs.Output.{IsOutput, ListFormat, map_pages_known, format_of_options}
-use Rattle.aioscan_cmd.specs.RequestList.{Page, Request, block_range, without_map_pages, with_map}
+use Rattle.aioscan_cmd.specs.RequestList.{Page, Part, Request, block_range, blocks_of_parts}
+use Rattle.aioscan_cmd.specs.RequestList.{without_map_pages, with_map, with_map_part}
 use Rattle.aioscan_cmd.specs.declared.report.Outcome.{Outcome}
+use Rattle.aioscan_cmd.proofs.CutsInParts.{cut_in_text, stopped_by}
 use Rattle.aioscan_cmd.proofs.SinkTextsAppend.{SinkGrew-nothing, SinkGrew-same}
 use Rattle.aioscan_cmd.proofs.JobTextOutput.{text_listed}
-use Rattle.aioscan_cmd.proofs.PagesOfOneRelation.{first_pages_of, map_listing, other_listing}
-use Rattle.aioscan_cmd.proofs.PagesOfOneRelation.{pages_are_of}
+use Rattle.aioscan_cmd.proofs.PagesOfOneRelation.{map_listing, other_listing, pages_are_of}
+use Rattle.aioscan_cmd.proofs.PagesOfOneRelation.{some_pages_of}
 use Rattle.aioscan_cmd.proofs.BlocksOfOneRelation.{AreOf, range_of}
 
 -- the way of a command with this map
@@ -43,7 +45,7 @@ module _ (m : ListOptions) (told : Option Told) (s : Option (List ℕ)) where
   pub map_listed : (by : MapOption) (may : Request → Type 0) (k : ℕ) (found : Map)
       (warnings : List ℕ) (end : JobEnding)
       → PagesConsumed (HasPages found warnings) m.zero told may (block_range 1 0 k) (said_end end)
-      → IsOutput (format_with_map m (Some by)) told (block_range 1 0 k) s s
+      → IsOutput (format_with_map m (Some by)) told (block_range 1 0 k ∷ []) s s
       (outcome_of_ending 1 end) warnings
   map_listed by may k found warnings end given =
       let found_by = reader_of m.zero told in
@@ -64,14 +66,17 @@ module _ (m : ListOptions) (told : Option Told) (s : Option (List ℕ)) where
       (λ off. given.held.warnings_are ∙ none_warned given.pages (given.none_zeroed off))
 
 -- pages of relation 0 have the same text, whether or not there is a map
-module _ (m : ListOptions) (told : Option Told) (by : Option MapOption) (xs : List Request)
-    (b a : Option (List ℕ)) (o : Outcome) (w : List ℕ) (all : AreOf 0 xs)
+module _ (m : ListOptions) (told : Option Told) (by : Option MapOption) (xs : List Part)
+    (b a : Option (List ℕ)) (o : Outcome) (w : List ℕ) (all : AreOf 0 (blocks_of_parts xs))
     (lists : IsOutput (format_of_options m) told xs b a o w) where
-  of_zero : (k : ℕ) → listing (text_with m.tuples) (take k lists.answer.pages)
-      ≡ listing (without_map_pages by (text_with m.tuples)) (take k lists.answer.pages)
-  of_zero k = other_listing by (text_with m.tuples) (take k lists.answer.pages)
-      (first_pages_of 0 k lists.answer.pages
-      (pages_are_of 0 (reader_of m.zero told) xs lists.answer.pages all
+  abbrev pages : List Page
+  pages = lists.answer.pages
+
+  of_zero : (k n : ℕ) → listing (text_with m.tuples) (take n (drop k pages))
+      ≡ listing (without_map_pages by (text_with m.tuples)) (take n (drop k pages))
+  of_zero k n = other_listing by (text_with m.tuples) (take n (drop k pages))
+      (some_pages_of 0 k n pages
+      (pages_are_of 0 (reader_of m.zero told) (blocks_of_parts xs) pages all
       lists.answer.answers.first))
 
   pub rounds_listed : IsOutput (format_with_map m by) told xs b a o w
@@ -84,7 +89,7 @@ module _ (m : ListOptions) (told : Option Told) (by : Option MapOption) (xs : Li
       pages = lists.answer.pages;
       text_is = lists.answer.text_is
           ∙ other_listing by (text_with m.tuples) lists.answer.pages
-          (pages_are_of 0 (reader_of m.zero told) xs lists.answer.pages all
+          (pages_are_of 0 (reader_of m.zero told) (blocks_of_parts xs) lists.answer.pages all
           lists.answer.answers.first);
       warnings_are = lists.answer.warnings_are;
       sums_are = lists.answer.sums_are;
@@ -95,11 +100,12 @@ module _ (m : ListOptions) (told : Option Told) (by : Option MapOption) (xs : Li
     whole = lists.whole;
     among = lists.among;
     all = lists.all;
-    reached = (
-      lists.reached.0,
-      SinkGrew-same b a _ _ (ap (λ (l : List ℕ). l ++ lists.reached.0) (of_zero lists.whole))
-          lists.reached.1,
-    );
+    stopped = λ is.
+        (let text_of = text_with m.tuples in
+        let other = without_map_pages by text_of in
+        stopped_by text_of other xs xs pages pages b b a a o lists.whole lists.whole
+        (cut_in_text text_of other xs pages b a lists.whole of_zero)
+        (λ grew. SinkGrew-same b a _ _ (of_zero 0 lists.whole) grew) (lists.stopped is));
     warned = lists.warned;
     quiet = lists.quiet;
   }
@@ -178,3 +184,16 @@ whole_list by lengths mp xs k added count same =
     ap (λ (l : List (List ℕ)). block_range 1 0 k ++ unmarked_entries l by.skip xs) same
     ∙ ap (λ (n : ℕ). block_range 1 0 n ++ unmarked_entries (map mp (range_with_len 0 n)) by.skip xs)
     count
+
+-- and in parts
+pub whole_parts : (by : MapOption) (lengths : ℕ → ℕ) (mp : ℕ → List ℕ) (xs : List Request)
+    (parts : List Part) (k : ℕ) (added : List (List ℕ)) → k ≡ needed_pages (lengths 1)
+    (greatest_of (map (λ (e : Request). e.block) xs))
+    → added ≡ map mp (range_with_len 0 k)
+    → block_range 1 0 k
+    ∷ unskipped_parts (Some (record { pages = added; skip = by.skip })) parts
+    ≡ with_map_part (Some by) lengths mp xs parts
+whole_parts by lengths mp xs parts k added count same =
+    ap (λ (l : List (List ℕ)). block_range 1 0 k ∷ map (unmarked_entries l by.skip) parts) same
+    ∙ ap (λ (n : ℕ). block_range 1 0 n
+    ∷ map (unmarked_entries (map mp (range_with_len 0 n)) by.skip) parts) count

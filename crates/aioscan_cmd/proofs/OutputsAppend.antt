@@ -1,6 +1,6 @@
--- Lists of blocks that were listed one after the other.
+-- Parts that were listed one after the other.
 use Rattle.std.proofs.Common.{◌≡◌, ◌≢◌, ◌+◌, ℕ, List, [], ◌++◌, length, take, refl, sym, ap}
-use Rattle.std.proofs.Common.{◌∙◌, subst, arith, append_assoc, length-append}
+use Rattle.std.proofs.Common.{◌∙◌, subst, arith, length-append, inr}
 use Rattle.std.specs.Prelude.{Option, Some, None, slice_get, ⊤}
 use Rattle.std.proofs.Math.Seq.{take-append-add}
 use Rattle.std.proofs.lemmas.List.{take_all}
@@ -9,20 +9,24 @@ use Rattle.page_check.specs.SynchronousAnswer.{Ending, End, Reader, reader_of}
 use Rattle.page_check.proofs.AnswersInOrder.{answered_none, slice_get_front, slice_get_back}
 use Rattle.page_check.proofs.AnswersOfLists.{length_whole}
 use Rattle.page_check.proofs.AnswersOfBlocks.{answered_no_block}
-use Rattle.heap_scan.specs.Job.{IsJobAnswer}
+use Rattle.page_check.specs.IsAnswer.{IsAnswer}
+use Rattle.heap_scan.specs.Job.{IsJobAnswer, endings_of}
 use Rattle.heap_scan.specs.Listing.{TextOf, listing}
 use Rattle.heap_scan.specs.Sums.{sums_joined, no_sums, sums_of}
+use Rattle.heap_scan.specs.declared.sums.PageSums.{PageSums}
 use Rattle.heap_scan.specs.Warnings.{warnings_of}
-use Rattle.heap_scan.proofs.Jobs.{job_append, job_more, listing-append, warnings-append, IsEarly}
+use Rattle.heap_scan.proofs.Jobs.{job_append, job_more, warnings-append, IsEarly}
 use Rattle.heap_scan.proofs.SumsOverPages.{sums_of-none}
 use Rattle.aio_disk.specs.Sink.{SinkGrew}
-use Rattle.aioscan_cmd.specs.RequestList.{Request, Page}
+use Rattle.aioscan_cmd.specs.RequestList.{Request, Page, Part, blocks_of_parts}
 use Rattle.aioscan_cmd.specs.Outcomes.{ending_of}
 use Rattle.aioscan_cmd.specs.Output.{OutputGrew, IsOutput, ListFormat}
 use Rattle.aioscan_cmd.specs.declared.report.Outcome.{Outcome}
 use Rattle.aioscan_cmd.specs.declared.report.Outcome.TheVariants.{Done, Invalid, Usage, CannotOpen}
 use Rattle.aioscan_cmd.specs.declared.report.Outcome.TheVariants.{NoLength, Unread, CannotWrite}
 use Rattle.aioscan_cmd.specs.declared.report.Outcome.TheVariants.{NoMemory, Missing, TooLong}
+use Rattle.aioscan_cmd.proofs.CutsInParts.{cut_behind, cut_more, stopped_by, whole_behind}
+use Rattle.aioscan_cmd.proofs.PartsOfRequests.{blocks-append}
 use Rattle.aioscan_cmd.proofs.SinkTextsAppend.{SinkGrew-nothing, SinkGrew-append, SinkGrew-same}
 use Rattle.aioscan_cmd.proofs.SinkTextsAppend.{SinkGrewByPrefix-nothing}
 use Rattle.aioscan_cmd.proofs.SinkTextsAppend.{SinkGrewByPrefix-append}
@@ -49,13 +53,12 @@ no_answer text_of found = record {
   answers = answered_no_block found (λ _. ⊤);
 }
 
--- no page was listed, and then any text was written
-pub reached_none : (text_of : TextOf) (b a : Option (List ℕ)) (more : List ℕ) → SinkGrew b a more
-    → SinkGrew b a (listing text_of (let none : List Page = [] in none) ++ more)
-reached_none text_of b a more grew =
-    SinkGrew-same b a more _ (ap (λ (l : List ℕ). l ++ more) (sym (no_listing text_of))) grew
+-- no page was listed
+pub listed_none : (text_of : TextOf) (s : Option (List ℕ))
+    → SinkGrew s s (listing text_of (let none : List Page = [] in none))
+listed_none text_of s = SinkGrew-same s s [] _ (sym (no_listing text_of)) (SinkGrew-nothing s)
 
--- no blocks
+-- no parts
 pub lists_none : (m : ListFormat) (told : Option Told) (s : Option (List ℕ))
     → IsOutput m told [] s s Done []
 unfolding no_answer
@@ -70,7 +73,7 @@ lists_none m told s = record {
   whole = 0;
   among = omega arith;
   all = λ _. refl;
-  reached = ([], reached_none m.text_of s s [] (SinkGrew-nothing s));
+  stopped = λ is. absurd (cc);
   warned = sym no_warnings;
   quiet = λ _. refl;
 }
@@ -90,16 +93,31 @@ OutputGrew-append CannotOpen b m a xs ys first second = SinkGrew-append b m a xs
 OutputGrew-append (NoLength r) b m a xs ys first second = SinkGrew-append b m a xs ys first second
 OutputGrew-append (TooLong r) b m a xs ys first second = SinkGrew-append b m a xs ys first second
 
+-- the same answer, where the blocks are known by another list
+abbrev pub with_blocks : (m : ListFormat) (told : Option Told) (xs ys : List Request)
+    (text warnings : List ℕ) (sums : PageSums) (end : Option Ending) → xs ≡ ys
+    → IsJobAnswer m.text_of (reader_of m.zero told) (λ _. ⊤) xs text warnings sums end
+    → IsJobAnswer m.text_of (reader_of m.zero told) (λ _. ⊤) ys text warnings sums end
+with_blocks m told xs ys text warnings sums end same answer =
+    let P : List Request → Type 0 = λ l. IsAnswer (reader_of m.zero told) (λ _. ⊤) l
+    (record { pages = answer.pages; endings = endings_of end }) in record {
+      pages = answer.pages;
+      text_is = answer.text_is;
+      warnings_are = answer.warnings_are;
+      sums_are = answer.sums_are;
+      answers = subst P same answer.answers;
+    }
+
 -- the warnings of pages that were all listed whole
-module _ (m : ListFormat) (told : Option Told) (requests : List Request) (b a : Option (List ℕ))
-    (o : Outcome) (w : List ℕ) (lists : IsOutput m told requests b a o w) where
+module _ (m : ListFormat) (told : Option Told) (parts : List Part) (b a : Option (List ℕ))
+    (o : Outcome) (w : List ℕ) (lists : IsOutput m told parts b a o w) where
   pub all_warned : lists.whole ≡ length lists.answer.pages → w ≡ warnings_of lists.answer.pages
   all_warned all =
       lists.warned ∙ ap (λ (k : ℕ). warnings_of (take k lists.answer.pages)) all
       ∙ ap warnings_of (take_all (length lists.answer.pages) lists.answer.pages (omega arith))
 
--- some blocks to their end, and then some more
-pub lists_append : (m : ListFormat) (told : Option Told) (xs ys : List Request)
+-- some parts to their end, and then some more
+pub lists_append : (m : ListFormat) (told : Option Told) (xs ys : List Part)
     (b between a : Option (List ℕ)) (o : Outcome) (v w : List ℕ)
     → IsOutput m told xs b between Done v → IsOutput m told ys between a o w
     → IsOutput m told (xs ++ ys) b a o (v ++ w)
@@ -112,36 +130,34 @@ lists_append m told xs ys b between a o v w front back =
     let qs = back.answer.pages in
     let n = length ps in
     let size : length (ps ++ qs) ≡ n + length qs = length-append ps qs in
-    let all : n ≡ length xs = length_whole found xs ps front.answer.answers.endings.0 in
+    let us = blocks_of_parts xs in
+    let vs = blocks_of_parts ys in
+    let both = blocks-append xs ys in
+    let all : n ≡ length us = length_whole found us ps front.answer.answers.endings.0 in
     let among = back.among in
-    let more = back.reached.0 in
+    let grew = SinkGrew-same b between _ _ front.answer.text_is front.grew in
+    let joined = job_append text_of found (λ _. ⊤) us vs front.text back.text front.all_warnings
+    back.all_warnings front.sums back.sums (ending_of o) front.answer back.answer in
     let taken : take (n + back.whole) (ps ++ qs) ≡ ps ++ take back.whole qs =
     take-append-add ps qs back.whole in record {
       begun = back.begun;
       text = front.text ++ back.text;
       all_warnings = front.all_warnings ++ back.all_warnings;
       sums = sums_joined front.sums back.sums;
-      answer =
-          job_append text_of found (λ _. ⊤) xs ys front.text back.text front.all_warnings
-          back.all_warnings front.sums back.sums (ending_of o) front.answer back.answer;
+      answer = with_blocks m told (us ++ vs) (blocks_of_parts (xs ++ ys)) _ _ _ _ (sym both)
+          joined;
       here = λ e is. (
-          ap (slice_get (xs ++ ys)) (size ∙ ap (λ (i : ℕ). i + length qs) all)
-          ∙ slice_get_back xs ys (length qs) ∙ back.here e is);
+          ap (λ (l : List Request). slice_get l (length (ps ++ qs))) both
+          ∙ ap (slice_get (us ++ vs)) (size ∙ ap (λ (i : ℕ). i + length qs) all)
+          ∙ slice_get_back us vs (length qs) ∙ back.here e is);
       grew =
           OutputGrew-append o b between a front.text back.text front.grew back.grew;
       whole = n + back.whole;
       among = omega (arith, size);
       all = λ is. (let every = back.all is in omega (arith, size));
-      reached = (
-        more,
-        SinkGrew-same b a _ _
-            (ap (λ (l : List ℕ). l ++ (texts (take back.whole qs) ++ more)) front.answer.text_is
-            ∙ sym (append_assoc (texts ps) (texts (take back.whole qs)) more)
-            ∙ ap (λ (l : List ℕ). l ++ more)
-            (sym (listing-append text_of ps (take back.whole qs)) ∙ ap texts (sym taken)))
-            (SinkGrew-append b between a front.text (texts (take back.whole qs) ++ more) front.grew
-            back.reached.1),
-      );
+      stopped = λ is. stopped_by text_of text_of ys (xs ++ ys) qs (ps ++ qs) between b a a o
+          back.whole (n + back.whole) (cut_behind text_of xs ys ps qs b between a back.whole all grew)
+          (whole_behind text_of xs ys ps qs b between a back.whole all grew) (back.stopped is);
       warned =
           ap (λ (l : List ℕ). l ++ w) (all_warned m told xs b between Done v front (front.all refl))
           ∙ ap (λ (l : List ℕ). warnings_of ps ++ l) back.warned
@@ -169,36 +185,44 @@ early (NoLength r) stops = none_early
 early (TooLong r) stops = none_early
 
 -- listing stopped, whatever is asked for behind
-pub lists_more : (m : ListFormat) (told : Option Told) (xs ys : List Request)
+pub lists_more : (m : ListFormat) (told : Option Told) (xs ys : List Part)
     (b a : Option (List ℕ)) (o : Outcome) (w : List ℕ)
     → o ≢ Done → IsOutput m told xs b a o w → IsOutput m told (xs ++ ys) b a o w
 unfolding job_more
-lists_more m told xs ys b a o w stops front = record {
-  begun = front.begun;
-  text = front.text;
-  all_warnings = front.all_warnings;
-  sums = front.sums;
-  answer =
-      job_more m.text_of (reader_of m.zero told) (λ _. ⊤) xs ys front.text
-      front.all_warnings front.sums (ending_of o) (early o stops) front.answer;
-  here = λ e is. slice_get_front xs ys (length front.answer.pages) e (front.here e is);
-  grew = front.grew;
-  whole = front.whole;
-  among = front.among;
-  all = front.all;
-  reached = front.reached;
-  warned = front.warned;
-  quiet = front.quiet;
-}
+lists_more m told xs ys b a o w stops front =
+    let us = blocks_of_parts xs in
+    let vs = blocks_of_parts ys in
+    let both = blocks-append xs ys in
+    let longer = job_more m.text_of (reader_of m.zero told) (λ _. ⊤) us vs front.text
+    front.all_warnings front.sums (ending_of o) (early o stops) front.answer in
+    let pages = front.answer.pages in record {
+      begun = front.begun;
+      text = front.text;
+      all_warnings = front.all_warnings;
+      sums = front.sums;
+      answer = with_blocks m told (us ++ vs) (blocks_of_parts (xs ++ ys)) _ _ _ _ (sym both)
+          longer;
+      here = λ e is. (ap (λ (l : List Request). slice_get l (length pages)) both
+          ∙ slice_get_front us vs (length pages) e (front.here e is));
+      grew = front.grew;
+      whole = front.whole;
+      among = front.among;
+      all = front.all;
+      stopped = λ is. stopped_by m.text_of m.text_of xs (xs ++ ys) pages pages b b a a o front.whole
+          front.whole (cut_more m.text_of xs ys pages b a front.whole) (λ grew. grew)
+          (front.stopped is);
+      warned = front.warned;
+      quiet = front.quiet;
+    }
 
-pub lists_same : (m : ListFormat) (told : Option Told) (xs ys : List Request)
+pub lists_same : (m : ListFormat) (told : Option Told) (xs ys : List Part)
     (b a : Option (List ℕ)) (o : Outcome) (w : List ℕ)
     → xs ≡ ys → IsOutput m told xs b a o w → IsOutput m told ys b a o w
 lists_same m told xs ys b a o w same lists =
-    let P : List Request → Type 0 = λ l. IsOutput m told l b a o w in subst P same lists
+    let P : List Part → Type 0 = λ l. IsOutput m told l b a o w in subst P same lists
 
 -- there was no memory before a page was given
-pub lists_nothing : (m : ListFormat) (told : Option Told) (xs : List Request) (s : Option (List ℕ))
+pub lists_nothing : (m : ListFormat) (told : Option Told) (xs : List Part) (s : Option (List ℕ))
     → IsOutput m told xs s s NoMemory []
 lists_nothing m told xs s = record {
   begun = refl;
@@ -210,14 +234,14 @@ lists_nothing m told xs s = record {
     text_is = sym (no_listing m.text_of);
     warnings_are = sym no_warnings;
     sums_are = sym no_pages_sums;
-    answers = answered_none (reader_of m.zero told) (λ _. ⊤) xs;
+    answers = answered_none (reader_of m.zero told) (λ _. ⊤) (blocks_of_parts xs);
   };
   here = λ e is. absurd (cc);
   grew = SinkGrewByPrefix-nothing s s [] refl;
   whole = 0;
   among = omega arith;
   all = λ is. absurd (cc);
-  reached = ([], reached_none m.text_of s s [] (SinkGrew-nothing s));
+  stopped = λ is. inr (refl, listed_none m.text_of s);
   warned = sym no_warnings;
   quiet = λ _. refl;
 }

@@ -54,6 +54,13 @@ rest_pages_of : (r : ℕ) (g : Page) (pages : List Page) → ArePagesOf r (g ∷
     → ArePagesOf r pages
 rest_pages_of r g pages all k x here = all (suc k) x here
 
+pub some_pages_of : (r k n : ℕ) (pages : List Page) → ArePagesOf r pages
+    → ArePagesOf r (take n (drop k pages))
+some_pages_of r zero n pages all = first_pages_of r n pages all
+some_pages_of r (suc k) n [] all = first_pages_of r n [] all
+some_pages_of r (suc k) n (g ∷ pages) all =
+    some_pages_of r k n pages (rest_pages_of r g pages all)
+
 -- the pages of a map have no text
 pub map_listing : (m : MapOption) (text_of : TextOf) (pages : List Page) → ArePagesOf 1 pages
     → listing (without_map_pages (Some m) text_of) pages ≡ []

@@ -1,6 +1,6 @@
 -- Runs that listed nothing: they were refused, or there was no memory.
 use Rattle.std.proofs.Common.{◌≡◌, ℕ, ◌+◌, ◌<◌, List, [], length, refl, arith, subst, true, false}
-use Rattle.std.proofs.Common.{sym, ◌∙◌, inr}
+use Rattle.std.proofs.Common.{sym, inr}
 use Rattle.std.specs.Prelude.{Option, Some, None, IfSome, nat_lt, cond}
 use Rattle.std.proofs.lemmas.Bool.Decides.{nat_tests}
 use Rattle.page_check.specs.Told.{Told, relation_block_count}
@@ -9,15 +9,13 @@ use Rattle.aioscan_cmd.specs.Command.{Command, relations_of}
 use Rattle.aioscan_cmd.specs.Lengths.{HasNoLengths}
 use Rattle.aioscan_cmd.specs.Output.{ObservedState, observed_state, command_format}
 use Rattle.aioscan_cmd.specs.Run.{IsFileRun, IsSourceRun, IsCommandRun, EarlierFit, lengths_known}
-use Rattle.aioscan_cmd.specs.Run.{IsWarnedUpTo}
-use Rattle.aioscan_cmd.specs.Run.{SynchronousRun, limit_known}
+use Rattle.aioscan_cmd.specs.Run.{limit_known}
 use Rattle.aioscan_cmd.specs.declared.report.Outcome.{Outcome}
 use Rattle.aioscan_cmd.specs.declared.report.Outcome.TheVariants.{Done, Invalid, Usage, CannotOpen}
 use Rattle.aioscan_cmd.specs.declared.report.Outcome.TheVariants.{NoLength, Unread, CannotWrite}
 use Rattle.aioscan_cmd.specs.declared.report.Outcome.TheVariants.{NoMemory, Missing, TooLong}
-use Rattle.aioscan_cmd.proofs.OutputsAppend.{lists_nothing, no_warnings, reached_none}
-use Rattle.aioscan_cmd.proofs.SinkTextsAppend.{SinkGrewByPrefix-nothing, SinkGrewByPrefix-some}
-use Rattle.aio_disk.specs.Sink.{SinkGrewByPrefix}
+use Rattle.aioscan_cmd.proofs.OutputsAppend.{lists_nothing}
+use Rattle.aioscan_cmd.proofs.SinkTextsAppend.{SinkGrewByPrefix-nothing}
 
 -- lengths of which the one at r is the first that is too long
 abbrev long_at : ℕ → ℕ → ℕ → ℕ
@@ -157,16 +155,6 @@ ran_unopened told relations command output after reads now o w is none kept same
     (ran_still told relations command output reads now CannotOpen same
     (ran_without_disk told relations command (observed_state output reads)))))
 
--- no text was written yet, and nothing was warned of
-pub warned_of_none : (run : SynchronousRun) (b a : Option (List ℕ)) (w text : List ℕ) → w ≡ []
-    → SinkGrewByPrefix b a text → IsWarnedUpTo run b a w
-warned_of_none run b a w text none grew = let some = SinkGrewByPrefix-some b a text grew in record {
-  k = 0;
-  among = omega arith;
-  reached = (some.0, reached_none run.text_of b a some.0 some.1);
-  are = none ∙ sym no_warnings;
-}
-
 unread_by : (files : Option Files) (c : Command) (generated : Option ℕ) (s : ObservedState)
     → IsSourceRun files c generated s s NoMemory []
 unread_by files c None s =
@@ -177,8 +165,7 @@ unread_by files c (Some n) s = record {
   writes = SinkGrewByPrefix-nothing s.written s.written _ refl;
   reads = refl;
   quiet = refl;
-  warned = warned_of_none _ s.written s.written [] [] refl
-      (SinkGrewByPrefix-nothing s.written s.written [] refl);
+  warned = refl;
 }
 
 -- words that may be a command could not be read for want of memory

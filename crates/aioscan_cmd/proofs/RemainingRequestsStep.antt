@@ -1,115 +1,92 @@
--- The next blocks are cut off from the front of what is left.
-use Rattle.std.proofs.Common.{◌≡◌, ℕ, zero, suc, ◌+◌, ◌*◌, ◌-◌, ◌^◌, ◌<◌, ◌≤◌, List, [], ◌∷◌, ◌++◌}
-use Rattle.std.proofs.Common.{map, drop, length, get_or, refl, sym, ap, ◌∙◌, arith, append_assoc}
+-- The next part is cut off from the front of what is left.
+use Rattle.std.proofs.Common.{◌≡◌, ℕ, ◌+◌, ◌*◌, ◌-◌, ◌^◌, ◌<◌, ◌≤◌, List, [], ◌∷◌, ◌++◌}
+use Rattle.std.proofs.Common.{map, drop, length, get_or, refl, sym, ap, ◌∙◌, arith}
 use Rattle.std.proofs.Common.{length-append, Bor}
-use Rattle.std.specs.Prelude.{Option, Some, None, slice_index}
-use Rattle.std.specs.List.{flat_map, range_with_len}
+use Rattle.std.specs.Prelude.{Option, Some, None, slice_index, min}
+use Rattle.std.specs.List.{flat_map}
 use Rattle.std.proofs.lemmas.List.FromFn.{length-map-range_with_len}
-use Rattle.std.proofs.lemmas.List.{map-append, drop_more, drop_all, length-map, get_or-map}
+use Rattle.std.proofs.lemmas.List.{drop_more, drop_all, length-map, get_or-map}
 use Rattle.std.proofs.lemmas.List.Concat.{flat_map-cons}
 use Rattle.heap_scan.specs.Job.{block_entry}
 use Rattle.aioscan_cmd.specs.Command.{Command, IsBelowIfGiven, number_limit, number_limit}
 use Rattle.aioscan_cmd.specs.Command.{relations_of}
 use Rattle.aioscan_cmd.specs.Command.{relation_number, first_block, asked_count}
-use Rattle.aioscan_cmd.specs.RequestList.{Request, block_range, all_file_requests}
-use Rattle.aioscan_cmd.specs.RemainingRequests.{resolved_requests, resolved_file_requests}
+use Rattle.aioscan_cmd.specs.RequestList.{Part, block_range, all_file_requests, all_file_parts}
+use Rattle.aioscan_cmd.specs.RequestList.{blocks_of_parts, one_file_requests, range_parts}
+use Rattle.aioscan_cmd.specs.RemainingRequests.{resolved_requests, resolved_parts}
+use Rattle.aioscan_cmd.specs.RemainingRequests.{resolved_file_parts}
 use Rattle.aioscan_cmd.specs.RemainingRequests.{remaining_of_file, remaining_of_names}
-use Rattle.aioscan_cmd.specs.RemainingRequests.{remaining_requests}
+use Rattle.aioscan_cmd.specs.RemainingRequests.{remaining_parts}
 use Rattle.aioscan_cmd.specs.RemainingRequests.{file_name_of_place, IsResolved}
 use Rattle.aioscan_cmd.specs.declared.cutter.ResolvedCommand.{ResolvedCommand}
 use Rattle.aioscan_cmd.proofs.FileRequestsAppend.{relation_number-below}
-
-range_parts : (a b m n k : ℕ) → b ≡ a + m → k ≡ m + n
-    → range_with_len a k ≡ range_with_len a m ++ range_with_len b n
-range_parts a b zero n k from all =
-    let start : b ≡ a = omega arith in
-    let same : k ≡ n = omega arith in rw (start, same) refl
-range_parts a b (suc m) n k from all =
-    let one : k ≡ suc (m + n) = omega arith in
-    ap (λ (c : ℕ). range_with_len a c) one
-    ∙ ap (λ (l : List ℕ). a ∷ l) (range_parts (a + 1) b m n (m + n) (omega arith) refl)
+use Rattle.aioscan_cmd.proofs.PartsOfRequests.{file_blocks, next_part, no_parts}
 
 pub block_range_length : (r first count : ℕ) → length (block_range r first count) ≡ count
 block_range_length r first count = length-map-range_with_len (block_entry r) first count
 
--- the first so many blocks of a range, and those behind them
-pub range_cut : (r first count done next : ℕ) → next ≤ count - done
-    → block_range r (first + done) (count - done)
-    ≡ block_range r (first + done) next
-    ++ block_range r (first + (done + next)) (count - (done + next))
-range_cut r first count done next few =
-    let parts = range_parts (first + done) (first + (done + next)) next (count - (done + next))
-    (count - done) (omega arith) (omega arith) in
-    ap (map (block_entry r)) parts
-    ∙ map-append (block_entry r) (range_with_len (first + done) next)
-    (range_with_len (first + (done + next)) (count - (done + next)))
-
-pub none_left : (r first count done : ℕ) → count ≤ done
-    → block_range r (first + done) (count - done) ≡ []
-none_left r first count done all =
-    let none : count - done ≡ 0 = omega arith in
-    ap (λ (n : ℕ). block_range r (first + done) n) none
-
 module _ (a : ResolvedCommand) where
-  whole_here : (name : List ℕ) → remaining_of_file a name 0 ≡ resolved_file_requests a name
+  whole_here : (name : List ℕ) → remaining_of_file a name 0 ≡ resolved_file_parts a name
   whole_here name =
       let r = relation_number name (relations_of a.command.now) in
       let f = first_block a.command.now in
       let n = asked_count a.command.now (slice_index a.lengths.now r) in
       let start : f + 0 ≡ f = omega arith in
       let all : n - 0 ≡ n = omega arith in
-      ap (λ (m : ℕ). block_range r (f + 0) m) all ∙ ap (λ (m : ℕ). block_range r m n) start
+      ap (λ (m : ℕ). range_parts r (f + 0) m) all ∙ ap (λ (m : ℕ). range_parts r m n) start
 
   whole_in : (names : List (List ℕ))
-      → remaining_of_names a names 0 ≡ flat_map (resolved_file_requests a) names
+      → remaining_of_names a names 0 ≡ flat_map (resolved_file_parts a) names
   whole_in [] = refl
   whole_in (name ∷ names) =
-      ap (λ (l : List Request). l ++ flat_map (resolved_file_requests a) names) (whole_here name)
-      ∙ sym (flat_map-cons (resolved_file_requests a) name names)
+      ap (λ (l : List Part). l ++ flat_map (resolved_file_parts a) names) (whole_here name)
+      ∙ sym (flat_map-cons (resolved_file_parts a) name names)
 
-  pub remaining_requests-all : remaining_requests a 0 0 ≡ resolved_requests a
-  unfolding remaining_requests all_file_requests
-  remaining_requests-all = whole_in (a.command.now).files
+  pub remaining_parts-all : remaining_parts a 0 0 ≡ resolved_parts a
+  unfolding remaining_parts all_file_parts
+  remaining_parts-all = whole_in (a.command.now).files
 
-  abbrev behind : ℕ → List Request
-  behind file = flat_map (resolved_file_requests a) (drop (file + 1) (a.command.now).files)
+  -- the blocks of all parts
+  pub resolved_blocks : blocks_of_parts (resolved_parts a) ≡ resolved_requests a
+  resolved_blocks = file_blocks (slice_index a.lengths.now) a.command.now
 
-  remaining_requests-here : (file done : ℕ) → file < length (a.command.now).files
-      → remaining_requests a file done ≡ remaining_of_file a
+  abbrev behind : ℕ → List Part
+  behind file = flat_map (resolved_file_parts a) (drop (file + 1) (a.command.now).files)
+
+  remaining_parts-here : (file done : ℕ) → file < length (a.command.now).files
+      → remaining_parts a file done ≡ remaining_of_file a
       (file_name_of_place a file) done ++ behind file
-  unfolding remaining_requests
-  remaining_requests-here file done inside =
+  unfolding remaining_parts
+  remaining_parts-here file done inside =
       ap (λ (l : List (List ℕ)). remaining_of_names a l done)
       (drop_more (a.command.now).files file [] inside)
 
-  -- the next blocks of a FILE word are the next of all
-  pub remaining_requests-cut : (file done next : ℕ) (blocks : List Request)
+  -- the next part of a FILE word is the next of all
+  pub remaining_parts-cut : (file done next : ℕ) (part : Part)
       → file < length (a.command.now).files
-      → remaining_of_file a (file_name_of_place a file) done ≡ blocks ++ remaining_of_file a
+      → remaining_of_file a (file_name_of_place a file) done ≡ part ∷ remaining_of_file a
       (file_name_of_place a file) (done + next)
-      → remaining_requests a file done ≡ blocks ++ remaining_requests a file (done + next)
-  remaining_requests-cut file done next blocks inside cut =
-      remaining_requests-here file done inside
-      ∙ ap (λ (l : List Request). l ++ behind file) cut
-      ∙ append_assoc blocks (remaining_of_file a (file_name_of_place a file)
-      (done + next)) (behind file)
-      ∙ ap (λ (l : List Request). blocks ++ l)
-      (sym (remaining_requests-here file (done + next) inside))
+      → remaining_parts a file done ≡ part ∷ remaining_parts a file (done + next)
+  remaining_parts-cut file done next part inside cut =
+      remaining_parts-here file done inside
+      ∙ ap (λ (l : List Part). l ++ behind file) cut
+      ∙ ap (λ (l : List Part). part ∷ l)
+      (sym (remaining_parts-here file (done + next) inside))
 
   -- a FILE word of which no block is left
-  pub remaining_requests-next : (file done : ℕ) → file < length (a.command.now).files
+  pub remaining_parts-next : (file done : ℕ) → file < length (a.command.now).files
       → remaining_of_file a (file_name_of_place a file) done ≡ []
-      → remaining_requests a file done ≡ remaining_requests a (file + 1) 0
-  unfolding remaining_requests
-  remaining_requests-next file done inside none =
-      remaining_requests-here file done inside
-      ∙ ap (λ (l : List Request). l ++ behind file) none
+      → remaining_parts a file done ≡ remaining_parts a (file + 1) 0
+  unfolding remaining_parts
+  remaining_parts-next file done inside none =
+      remaining_parts-here file done inside
+      ∙ ap (λ (l : List Part). l ++ behind file) none
       ∙ sym (whole_in (drop (file + 1) (a.command.now).files))
 
-  pub remaining_requests-end : (file done : ℕ) → length (a.command.now).files ≤ file
-      → remaining_requests a file done ≡ []
-  unfolding remaining_requests
-  remaining_requests-end file done all =
+  pub remaining_parts-end : (file done : ℕ) → length (a.command.now).files ≤ file
+      → remaining_parts a file done ≡ []
+  unfolding remaining_parts
+  remaining_parts-end file done all =
       ap (λ (l : List (List ℕ)). remaining_of_names a l done)
       (drop_all file (a.command.now).files all)
 
@@ -120,17 +97,19 @@ few_of (Some last) first n command is below small = rw is (omega arith)
 
 few_in : (a : ResolvedCommand) → IsResolved a → IsBelowIfGiven (a.command.now).to number_limit
     → (names : List (List ℕ))
-    → length (flat_map (resolved_file_requests a) names) ≤ number_limit * length names
+    → length (flat_map (one_file_requests (slice_index a.lengths.now) a.command.now) names)
+    ≤ number_limit * length names
 few_in a is below [] = omega arith
 few_in a is below (name ∷ names) =
     let r = relation_number name (relations_of a.command.now) in
     let n = asked_count a.command.now (slice_index a.lengths.now r) in
+    let f = one_file_requests (slice_index a.lengths.now) a.command.now in
     let here : n ≤ number_limit =
     few_of (a.command.now).to 0 (slice_index a.lengths.now r) a.command.now refl below (is.fit r) in
     omega (
       arith,
-      ap length (flat_map-cons (resolved_file_requests a) name names),
-      length-append (resolved_file_requests a name) (flat_map (resolved_file_requests a) names),
+      ap length (flat_map-cons f name names),
+      length-append (f name) (flat_map f names),
       block_range_length r (first_block a.command.now) n,
       few_in a is below names,
     )
@@ -174,25 +153,31 @@ none_here a file done number count number_is count_is all =
     let r = relation_number (file_name_of_place a file) (relations_of a.command.now) in
     let n : count ≡ asked_count a.command.now (slice_index a.lengths.now r) =
     count_is ∙ ap (λ (x : ℕ). asked_count a.command.now (slice_index a.lengths.now x)) number_is in
-    none_left r (first_block a.command.now)
-    (asked_count a.command.now (slice_index a.lengths.now r))
-    done (omega (arith, n))
+    no_parts r (first_block a.command.now + done)
+    (asked_count a.command.now (slice_index a.lengths.now r) - done) (omega (arith, n))
 
 pub cut_here : (a : ResolvedCommand) (file done number first count next : ℕ)
     → number ≡ relation_number (file_name_of_place a file) (relations_of a.command.now)
     → first ≡ first_block a.command.now
-    → count ≡ asked_count a.command.now (slice_index a.lengths.now number) → next ≤ count - done
+    → count ≡ asked_count a.command.now (slice_index a.lengths.now number) → done < count
+    → next ≡ min 64 (count - done)
     → remaining_of_file a (file_name_of_place a file) done
-    ≡ block_range number (first + done) next ++ remaining_of_file a
+    ≡ block_range number (first + done) next ∷ remaining_of_file a
     (file_name_of_place a file) (done + next)
-cut_here a file done number first count next number_is first_is count_is few =
+cut_here a file done number first count next number_is first_is count_is some size =
     let r = relation_number (file_name_of_place a file) (relations_of a.command.now) in
     let f = first_block a.command.now in
     let m = asked_count a.command.now (slice_index a.lengths.now r) in
     let n : count ≡ m =
     count_is ∙ ap (λ (x : ℕ). asked_count a.command.now (slice_index a.lengths.now x)) number_is in
-    range_cut r f m done next (omega (arith, n))
-    ∙ ap (λ (l : List Request). l ++ remaining_of_file a (file_name_of_place a file) (done + next))
+    let at : f + done + next ≡ f + (done + next) = omega arith in
+    let left : m - done - next ≡ m - (done + next) = omega arith in
+    next_part r (f + done) (m - done) next (omega (arith, n, size)) (omega (arith, n))
+    ∙ ap (λ (l : List Part). block_range r (f + done) next ∷ l)
+    (ap (λ (x : ℕ). range_parts r x (m - done - next)) at
+    ∙ ap (range_parts r (f + (done + next))) left)
+    ∙ ap (λ (p : Part). p
+    ∷ remaining_of_file a (file_name_of_place a file) (done + next))
     (ap (λ (x : ℕ). block_range x (f + done) next) (sym number_is)
     ∙ ap (λ (x : ℕ). block_range number (x + done) next) (sym first_is))
 

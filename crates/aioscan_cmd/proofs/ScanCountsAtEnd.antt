@@ -14,8 +14,8 @@ use Rattle.scan_rounds.specs.declared.settings.MethodKind.{MethodKind}
 use Rattle.scan_rounds.specs.declared.settings.MethodKind.TheVariants as method
 use Rattle.scan_rounds.specs.declared.settings.ScanSettings.{ScanSettings}
 use Rattle.aioscan_cmd.specs.Command.{Command, relations_of}
-use Rattle.aioscan_cmd.specs.RemainingRequests.{resolved_request_list}
-use Rattle.aioscan_cmd.specs.RequestList.{Request}
+use Rattle.aioscan_cmd.specs.RemainingRequests.{resolved_request_list, resolved_request_parts}
+use Rattle.aioscan_cmd.specs.RequestList.{Part}
 use Rattle.aioscan_cmd.specs.Disks.{IsUnreadDisk}
 use Rattle.aioscan_cmd.specs.Lengths.{HasLengths}
 use Rattle.aioscan_cmd.specs.Outcomes.{is_refused}
@@ -225,11 +225,11 @@ none_by_workers s t runners by_runners by_workers same are none is kind =
     is ∙ none (are ∙ ap workers_of_settings same ∙ no_workers_by t.method t.workers kind)
 
 -- there was no memory for a scan
-pub nothing_listed : (m : ListFormat) (told : Option Told) (requests : List Request)
-    (s : Option (List ℕ)) (o : Outcome) → o ≡ NoMemory → IsOutput m told requests s s o []
-nothing_listed m told requests s o is =
-    let P : Outcome → Type 0 = λ x. IsOutput m told requests s s x [] in
-    subst P (sym is) (lists_nothing m told requests s)
+pub nothing_listed : (m : ListFormat) (told : Option Told) (parts : List Part)
+    (s : Option (List ℕ)) (o : Outcome) → o ≡ NoMemory → IsOutput m told parts s s o []
+nothing_listed m told parts s o is =
+    let P : Outcome → Type 0 = λ x. IsOutput m told parts s s x [] in
+    subst P (sym is) (lists_nothing m told parts s)
 
 -- or for a disk
 pub scanned_nothing : (asked : ResolvedCommand) (given : ℕ → List ℕ) (told : Option Told)
@@ -242,7 +242,7 @@ scanned_nothing asked given told s before now faults reads o is opens others = r
   opens = opens;
   others = others;
   lists = λ _. nothing_listed (command_format asked.command.now) told
-      (resolved_request_list asked told given) s o is;
+      (resolved_request_parts asked told given) s o is;
   cannot_open = λ refused. absurd (cc);
   unread = λ r b unread. absurd (cc);
 }

@@ -57,7 +57,7 @@ SinkGrewByPrefix-append (Some b) m a xs ys first second =
           ∙ ap (λ (l : List ℕ). b ++ l) (sym (take-append-add xs ys h.0))),
     )
 
-take_within : (k : ℕ) (xs ys : List ℕ) → (j : ℕ) × (take k xs ≡ take j (xs ++ ys))
+pub take_within : (k : ℕ) (xs ys : List ℕ) → (j : ℕ) × (take k xs ≡ take j (xs ++ ys))
 take_within zero xs ys = (0, refl)
 take_within (suc k) [] ys = (0, refl)
 take_within (suc k) (x ∷ xs) ys =

@@ -2,7 +2,7 @@
 use Rattle.std.specs.Prelude.{◌≡◌, ◌≢◌, ◌⊎◌, ℕ, ◌<◌, ◌≤◌, List, [], Option, true}
 use Rattle.page_check.specs.Told.{Told}
 use Rattle.aio_disk.specs.Counts.{CountRose, ShelfCounts}
-use Rattle.aioscan_cmd.specs.RemainingRequests.{resolved_request_list}
+use Rattle.aioscan_cmd.specs.RemainingRequests.{resolved_request_parts}
 use Rattle.aioscan_cmd.specs.Outcomes.{is_refused}
 use Rattle.aioscan_cmd.specs.Output.{IsOutput, command_format}
 use Rattle.aioscan_cmd.specs.Run.{SynchronousRun, EarlierFit}
@@ -38,7 +38,7 @@ pub record HasScanned (asked : ResolvedCommand) (given : ℕ → List ℕ) (told
   pub others : (now.length_faults ≡ before.length_faults) × (now.faults ≡ before.faults)
       × (now.reads ≡ before.reads)
   pub lists : outcome ≢ CannotOpen → IsOutput (command_format asked.command.now) told
-      (resolved_request_list asked told given) written now_written outcome warnings
+      (resolved_request_parts asked told given) written now_written outcome warnings
   pub cannot_open : outcome ≡ CannotOpen → CountRose before.open_faults now.open_faults
       × (now_written ≡ written) × (faults ≡ 0) × (reads ≡ 0) × (warnings ≡ [])
   pub unread : (r b : ℕ) → outcome ≡ Unread r b → 0 < faults

@@ -1,5 +1,5 @@
 -- What the rounds of a run have listed.
-use Rattle.std.specs.Prelude.{◌≡◌, ◌≢◌, ◌⊎◌, ℕ, ◌++◌, List, [], Option, None, Some, ⊤}
+use Rattle.std.specs.Prelude.{◌≡◌, ◌≢◌, ◌⊎◌, ℕ, ◌++◌, List, [], ◌∷◌, map, Option, None, Some, ⊤}
 use Rattle.std.specs.List.{flat_map}
 use Rattle.page_check.specs.Told.{Told}
 use Rattle.scan_rounds.specs.ListOptions.{ListOptions, list_options}
@@ -8,7 +8,7 @@ use Rattle.scan_rounds.specs.BlockFilter.{BlockFilter, unskipped_entries, map_fi
 use Rattle.scan_rounds.specs.declared.job.Ending.{Ending as JobEnding}
 use Rattle.scan_rounds.specs.declared.job.Ending.TheVariants as ending
 use Rattle.scan_rounds.specs.declared.job.Job.{Job}
-use Rattle.aioscan_cmd.specs.RequestList.{Request}
+use Rattle.aioscan_cmd.specs.RequestList.{Request, Part, blocks_of_parts}
 use Rattle.aioscan_cmd.specs.Output.{IsOutput, WriteFaultsCounted, format_of_options}
 use Rattle.aioscan_cmd.specs.ErrorLine.{ErrorStream, Warns, error_stream}
 use Rattle.aioscan_cmd.specs.Sums.{HasSums}
@@ -22,6 +22,14 @@ use Rattle.aioscan_cmd.specs.declared.report.Outcome.TheVariants.{NoMemory, Miss
 -- the blocks that jobs ask for, except those that are left out
 abbrev pub unskipped_job_requests : Option BlockFilter → List Job → List Request
 unskipped_job_requests skips jobs = flat_map (entries_of_job skips) jobs
+
+-- in parts, one for each job
+abbrev pub unskipped_job_parts : Option BlockFilter → List Job → List Part
+unskipped_job_parts skips jobs = map (entries_of_job skips) jobs
+
+-- parts without the blocks that are left out
+abbrev pub unskipped_parts : Option BlockFilter → List Part → List Part
+unskipped_parts skips parts = map (unskipped_entries skips) parts
 
 -- the outcome where a job of this relation ended so
 abbrev pub outcome_of_ending : ℕ → JobEnding → Outcome
@@ -49,7 +57,8 @@ abbrev pub JobTextWritten : Job → Option (List ℕ) → Option (List ℕ) → 
 JobTextWritten job before now outcome warnings =
     (skips : Option BlockFilter) (m : ListOptions) (told : Option Told) (asked : Job)
     → IsListed skips m told (λ _. ⊤) asked job
-    → IsOutput (format_of_options m) told (entries_of_job skips asked) before now outcome warnings
+    → IsOutput (format_of_options m) told (entries_of_job skips asked ∷ [])
+    before now outcome warnings
 
 -- and the texts of some jobs
 abbrev pub AllJobTextsWritten : List Job → Option (List ℕ) → Option (List ℕ)
@@ -57,7 +66,7 @@ abbrev pub AllJobTextsWritten : List Job → Option (List ℕ) → Option (List 
 AllJobTextsWritten jobs before now outcome warnings =
     (skips : Option BlockFilter) (m : ListOptions) (told : Option Told) (asked : List Job)
     → AreAnswered skips m told asked jobs
-    → IsOutput (format_of_options m) told (unskipped_job_requests skips asked)
+    → IsOutput (format_of_options m) told (unskipped_job_parts skips asked)
     before now outcome warnings
 
 -- the blocks that are left out, where there is a map
@@ -88,26 +97,26 @@ module _ {W O E : Type 0} where
     pub skips_kept : lister_filter t ≡ lister_filter s
     pub outcome : t.outcome ≡ s.outcome
     pub sums : t.sums ≡ s.sums
-    pub cut : s.blocks ≡ unskipped_job_requests None asked ++ t.blocks
+    pub cut : s.blocks ≡ unskipped_job_parts None asked ++ t.blocks
 
   module _ (told : Option Told) (written : O → Option (List ℕ)) (faults : O → ℕ)
       (err_written : E → Option (List ℕ)) (err_faults : E → ℕ) where
     abbrev pub lister_error_stream : Lister W O E → ErrorStream
     lister_error_stream l = error_stream l.line (err_written l.err.now) (err_faults l.err.now)
 
-    -- of these blocks the first were listed: all that are not left, where nothing has ended the run
-    pub record HasListed (skips : Option BlockFilter) (m : ListOptions) (all : List Request)
+    -- of these parts the first were listed: all that are not left, where nothing has ended the run
+    pub record HasListed (skips : Option BlockFilter) (m : ListOptions) (all : List Part)
         (before : Option (List ℕ)) (faults_before : ℕ) (errors : ErrorStream)
         (l : Lister W O E) : Type 0 where
-      pub asked : List Request
-      pub rest : List Request
+      pub asked : List Part
+      pub rest : List Part
       pub cut : all ≡ asked ++ rest
-      pub left : l.outcome ≡ Done → rest ≡ unskipped_entries skips l.blocks
+      pub left : l.outcome ≡ Done → rest ≡ unskipped_parts skips l.blocks
       pub manner_is : lister_options l ≡ m
       pub skips_are : lister_filter l ≡ skips
       pub lists : Warns (IsOutput (format_of_options m) told asked before
           (written l.out.now) l.outcome) errors (lister_error_stream l)
-      pub sums : l.outcome ≡ Done → HasSums m told asked l.sums
+      pub sums : l.outcome ≡ Done → HasSums m told (blocks_of_parts asked) l.sums
       pub writes : WriteFaultsCounted faults_before (faults l.out.now) l.outcome
 
     -- some rounds have led from one state to the other: whatever was listed by the first, with
@@ -115,7 +124,7 @@ module _ {W O E : Type 0} where
     abbrev pub PreservesListing : Lister W O E → Lister W O E → Type 0
     PreservesListing s t =
         (t.out.ghost_name ≡ s.out.ghost_name) × (t.err.ghost_name ≡ s.err.ghost_name)
-        × ((skips : Option BlockFilter) (m : ListOptions) (all : List Request)
+        × ((skips : Option BlockFilter) (m : ListOptions) (all : List Part)
         (before : Option (List ℕ)) (faults_before : ℕ) (errors : ErrorStream)
         → HasListed skips m all before faults_before errors s
         → HasListed skips m all before faults_before errors t)

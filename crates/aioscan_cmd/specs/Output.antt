@@ -1,6 +1,6 @@
 -- What a run has listed of a list of blocks, whether or not the contents are told.
-use Rattle.std.specs.Prelude.{◌≡◌, ◌≤◌, ◌++◌, ℕ, List, [], length, take, Option, slice_get}
-use Rattle.std.specs.Prelude.{Some, None, Bool, ⊤, false}
+use Rattle.std.specs.Prelude.{◌≡◌, ◌≢◌, ◌⊎◌, ◌<◌, ◌≤◌, ◌++◌, ℕ, List, [], length, take, drop, Option}
+use Rattle.std.specs.Prelude.{slice_get, slice_index_or, Some, None, Bool, ⊤, true, false}
 use Rattle.page_check.specs.SynchronousAnswer.{found_at, found_page, reader_of, zeroing}
 use Rattle.page_check.specs.Told.{Told}
 use Rattle.heap_scan.specs.Job.{IsJobAnswer}
@@ -12,7 +12,8 @@ use Rattle.scan_rounds.specs.ListOptions.{ListOptions}
 use Rattle.aio_disk.specs.Counts.{CountRose}
 use Rattle.aio_disk.specs.Sink.{SinkGrew, SinkGrewByPrefix}
 use Rattle.aioscan_cmd.specs.Command.{Command}
-use Rattle.aioscan_cmd.specs.RequestList.{Request, without_map_pages}
+use Rattle.aioscan_cmd.specs.RequestList.{Request, Part, Page, blocks_of_parts}
+use Rattle.aioscan_cmd.specs.RequestList.{without_map_pages}
 use Rattle.aioscan_cmd.specs.Outcomes.{is_refused, is_output_cut_off, named_block, ending_of}
 use Rattle.aioscan_cmd.specs.declared.report.Outcome.{Outcome}
 use Rattle.aioscan_cmd.specs.declared.report.Outcome.TheVariants.{Done, Invalid, Usage, CannotOpen}
@@ -55,26 +56,53 @@ OutputGrew CannotOpen before after text = SinkGrew before after text
 OutputGrew (NoLength r) before after text = SinkGrew before after text
 OutputGrew (TooLong r) before after text = SinkGrew before after text
 
--- pages that answer these blocks, with this outcome, were listed in this format; these are the
--- warnings of those whose text was written whole
-pub record IsOutput (m : ListFormat) (told : Option Told) (requests : List Request)
+-- of these pages those of the part behind the first so many
+abbrev pub pages_of_part : List Part → ℕ → List Page → List Page
+pages_of_part parts n pages =
+    take (length (slice_index_or parts n []))
+    (drop (length (blocks_of_parts (take n parts))) pages)
+
+-- A write was cut: the first n parts were written whole, which have so many pages, and of the text
+-- of the next, which is not empty, a begin.
+pub record IsCutInPart (text_of : TextOf) (parts : List Part) (pages : List Page)
+    (before now : Option (List ℕ)) (whole : ℕ) : Type 0 where
+  pub n : ℕ
+  pub inside : n < length parts
+  pub whole_is : whole ≡ length (blocks_of_parts (take n parts))
+  pub some : listing text_of (pages_of_part parts n pages) ≢ []
+  pub begun : ℕ
+  pub grew : SinkGrew before now
+      (listing text_of (take whole pages)
+      ++ take begun (listing text_of (pages_of_part parts n pages)))
+
+-- The output stopped behind the whole texts of so many pages: at a write that was cut, or, where
+-- there was no memory to list a page, right behind them.
+abbrev pub StoppedBehind : TextOf → List Part → List Page → Option (List ℕ) → Option (List ℕ)
+    → Outcome → ℕ → Type 0
+StoppedBehind text_of parts pages before now outcome whole =
+    IsCutInPart text_of parts pages before now whole
+    ⊎ ((outcome ≡ NoMemory) × SinkGrew before now (listing text_of (take whole pages)))
+
+-- pages that answer the blocks of these parts, with this outcome, were listed in this format; these
+-- are the warnings of those whose text was written whole
+pub record IsOutput (m : ListFormat) (told : Option Told) (parts : List Part)
     (before now : Option (List ℕ)) (outcome : Outcome) (warnings : List ℕ) : Type 0 where
   pub begun : is_refused outcome ≡ false
   pub text : List ℕ
   pub all_warnings : List ℕ
   pub sums : PageSums
-  pub answer : IsJobAnswer m.text_of (reader_of m.zero told) (λ _. ⊤) requests text
+  pub answer : IsJobAnswer m.text_of (reader_of m.zero told) (λ _. ⊤) (blocks_of_parts parts) text
       all_warnings sums (ending_of outcome)
   pub here : (e : Request) → named_block outcome ≡ Some e
-      → slice_get requests (length answer.pages) ≡ Some e
+      → slice_get (blocks_of_parts parts) (length answer.pages) ≡ Some e
   pub grew : OutputGrew outcome before now text
   -- the text of so many pages was written whole: of all, unless a write failed or there was no
   -- memory
   pub whole : ℕ
   pub among : whole ≤ length answer.pages
   pub all : is_output_cut_off outcome ≡ false → whole ≡ length answer.pages
-  pub reached : (more : List ℕ)
-      × SinkGrew before now (listing m.text_of (take whole answer.pages) ++ more)
+  pub stopped : is_output_cut_off outcome ≡ true
+      → StoppedBehind m.text_of parts answer.pages before now outcome whole
   pub warned : warnings ≡ warnings_of (take whole answer.pages)
   pub quiet : m.zero ≡ false → warnings ≡ []
 

@@ -1,4 +1,4 @@
--- What is left of a request list when jobs were cut off from its front.
+-- What is left of a request list when parts were cut off from its front.
 use Rattle.std.specs.Prelude.{◌≡◌, ℕ, ◌+◌, ◌-◌, ◌^◌, ◌<◌, ◌≤◌, ◌++◌, List, [], ◌∷◌, drop, length}
 use Rattle.std.specs.Prelude.{map, slice_index, slice_index_or, Option, Some}
 use Rattle.vis_map.specs.MapRequest.{greatest_of, needed_pages}
@@ -8,8 +8,9 @@ use Rattle.page_check.specs.Told.{Told}
 use Rattle.scan_rounds.specs.declared.settings.ScanSettings.{ScanSettings}
 use Rattle.aioscan_cmd.specs.Command.{IsMapOf, MapOption, number_limit, relations_of}
 use Rattle.aioscan_cmd.specs.Command.{relation_number, first_block, asked_count}
-use Rattle.aioscan_cmd.specs.RequestList.{Request, block_range, request_list, one_file_requests}
-use Rattle.aioscan_cmd.specs.RequestList.{all_file_requests}
+use Rattle.aioscan_cmd.specs.RequestList.{Request, Part, request_list, request_parts}
+use Rattle.aioscan_cmd.specs.RequestList.{all_file_requests, all_file_parts, one_file_parts}
+use Rattle.aioscan_cmd.specs.RequestList.{range_parts}
 use Rattle.aioscan_cmd.specs.Output.{map_pages_known}
 use Rattle.aioscan_cmd.specs.declared.cutter.ResolvedCommand.{ResolvedCommand}
 use Rattle.aioscan_cmd.specs.declared.cutter.JobRange.{JobRange}
@@ -33,10 +34,20 @@ ResolvesRelations count a = IsResolved a × (count ≡ length a.relations.now)
 abbrev pub resolved_requests : ResolvedCommand → List Request
 resolved_requests a = all_file_requests (slice_index a.lengths.now) a.command.now
 
+-- in parts
+abbrev pub resolved_parts : ResolvedCommand → List Part
+resolved_parts a = all_file_parts (slice_index a.lengths.now) a.command.now
+
 -- all blocks that are asked for, where the map has given these pages
 abbrev pub resolved_request_list : ResolvedCommand → Option Told → (ℕ → List ℕ) → List Request
 resolved_request_list a told given =
     request_list (slice_index a.lengths.now)
+    (map_pages_known told (a.command.now).settings.zero given) a.command.now
+
+-- in parts
+abbrev pub resolved_request_parts : ResolvedCommand → Option Told → (ℕ → List ℕ) → List Part
+resolved_request_parts a told given =
+    request_parts (slice_index a.lengths.now)
     (map_pages_known told (a.command.now).settings.zero given) a.command.now
 
 -- the command has a map, which leaves out these blocks
@@ -54,26 +65,26 @@ greatest_requested_block a = greatest_of (map (λ (e : Request). e.block) (resol
 abbrev pub map_page_count : ResolvedCommand → ℕ
 map_page_count a = needed_pages (slice_index a.lengths.now 1) (greatest_requested_block a)
 
--- the blocks that a FILE word adds
-abbrev pub resolved_file_requests : ResolvedCommand → List ℕ → List Request
-resolved_file_requests a name = one_file_requests (slice_index a.lengths.now) a.command.now name
+-- the parts of the blocks that a FILE word adds
+abbrev pub resolved_file_parts : ResolvedCommand → List ℕ → List Part
+resolved_file_parts a name = one_file_parts (slice_index a.lengths.now) a.command.now name
 
--- but for the first so many
-abbrev pub remaining_of_file : ResolvedCommand → List ℕ → ℕ → List Request
+-- those of its blocks but for the first so many
+abbrev pub remaining_of_file : ResolvedCommand → List ℕ → ℕ → List Part
 remaining_of_file a name done =
     let r = relation_number name (relations_of a.command.now) in
-    block_range r (first_block a.command.now + done)
+    range_parts r (first_block a.command.now + done)
     (asked_count a.command.now (slice_index a.lengths.now r) - done)
 
--- those of some FILE words, but for the first so many of the first
-abbrev pub remaining_of_names : ResolvedCommand → List (List ℕ) → ℕ → List Request
+-- those of some FILE words, but for the first so many blocks of the first
+abbrev pub remaining_of_names : ResolvedCommand → List (List ℕ) → ℕ → List Part
 remaining_of_names a [] done = []
 remaining_of_names a (name ∷ names) done =
-    remaining_of_file a name done ++ flat_map (resolved_file_requests a) names
+    remaining_of_file a name done ++ flat_map (resolved_file_parts a) names
 
 -- those of the FILE words from one on
-unfoldable pub remaining_requests : ResolvedCommand → ℕ → ℕ → List Request
-remaining_requests a file done = remaining_of_names a (drop file (a.command.now).files) done
+unfoldable pub remaining_parts : ResolvedCommand → ℕ → ℕ → List Part
+remaining_parts a file done = remaining_of_names a (drop file (a.command.now).files) done
 
 -- the FILE word at a place
 abbrev pub file_name_of_place : ResolvedCommand → ℕ → List ℕ

@@ -1,6 +1,6 @@
 -- What a run asks for, and what one thread's synchronous reads of it give.
 use Rattle.std.specs.Prelude.{◌≡◌, ◌⊎◌, ℕ, ◌+◌, ◌<◌, ◌≤◌, List, length, take, slice_get, Option}
-use Rattle.std.specs.Prelude.{◌++◌, [], Bool, Some, None, IfSome, false, true}
+use Rattle.std.specs.Prelude.{[], Bool, Some, None, IfSome, false, true}
 use Rattle.page_check.specs.Told.{Told, relation_block_count}
 use Rattle.page_check.specs.SynchronousAnswer.{Found, Page as FoundPage, Zeroed, Damaged, Absent}
 use Rattle.page_check.specs.SynchronousAnswer.{entry_found, found_page, zeroing}
@@ -15,9 +15,10 @@ use Rattle.aio_handle.specs.Execution.{last_count}
 use Rattle.aioscan_cmd.specs.Command.{Command, length_limit, relations_of}
 use Rattle.aioscan_cmd.specs.GeneratedPages.{generated_told, summary_line}
 use Rattle.aioscan_cmd.specs.RequestList.{Request, Page, block_range, without_map_pages, request}
-use Rattle.aioscan_cmd.specs.RequestList.{request_list}
+use Rattle.aioscan_cmd.specs.RequestList.{Part, request_list, request_parts}
 use Rattle.aioscan_cmd.specs.Outcomes.{is_refused}
-use Rattle.aioscan_cmd.specs.Output.{ObservedState, IsOutput, map_pages_known, command_format}
+use Rattle.aioscan_cmd.specs.Output.{ObservedState, IsOutput, StoppedBehind, map_pages_known}
+use Rattle.aioscan_cmd.specs.Output.{command_format}
 use Rattle.aioscan_cmd.specs.declared.report.Outcome.{Outcome}
 use Rattle.aioscan_cmd.specs.declared.report.Outcome.TheVariants.{Done, Invalid, Usage, CannotOpen}
 use Rattle.aioscan_cmd.specs.declared.report.Outcome.TheVariants.{NoLength, Unread, CannotWrite}
@@ -35,8 +36,8 @@ outcome_of_stop found None = Done
 outcome_of_stop found (Some e) = outcome_of_found (entry_found found e) e.relation e.block
 
 -- over contents that are told: how many relations there are, how many blocks each has and may have,
--- the blocks that are asked for, their pages, how that ends, by what text each page is listed, and
--- what is written
+-- the blocks that are asked for, their pages, how that ends, by what text each page is listed, in
+-- which parts, and what is written
 pub record SynchronousRun : Type 0 where
   pub relations : ℕ
   pub lengths : ℕ → ℕ
@@ -45,13 +46,15 @@ pub record SynchronousRun : Type 0 where
   pub pages : List Page
   pub outcome : Outcome
   pub text_of : TextOf
+  -- one for each write and its warnings; none where no page is listed
+  pub parts : Option (List Part)
   pub text : List ℕ
 
 abbrev pub file_run : Told → Command → SynchronousRun
 file_run told command =
     let found = zeroing command.settings.zero (found_at told) in
-    let requests = request_list (relation_block_count told) (λ block. found_page (found 1 block))
-    command in
+    let map_page : ℕ → List ℕ = λ block. found_page (found 1 block) in
+    let requests = request_list (relation_block_count told) map_page command in
     let pages = readable_pages found requests in
     let text_of = without_map_pages command.map (text_with command.settings.tuples) in record {
       relations = length (relations_of command);
@@ -61,6 +64,7 @@ file_run told command =
       pages = pages;
       outcome = outcome_of_stop found (first_stop found requests);
       text_of = text_of;
+      parts = Some (request_parts (relation_block_count told) map_page command);
       text = listing text_of pages;
     }
 
@@ -77,6 +81,7 @@ generated_run zero n =
       pages = pages;
       outcome = outcome_of_stop found (first_stop found requests);
       text_of = text_with false;
+      parts = None;
       text = summary_line (sums_of pages);
     }
 
@@ -121,14 +126,21 @@ Writes run before after CannotOpen = after ≡ before
 Writes run before after (NoLength r) = after ≡ before
 Writes run before after (TooLong r) = after ≡ before
 
--- the text of the first pages was written whole, and these are their warnings
-pub record IsWarnedUpTo (run : SynchronousRun) (before after : Option (List ℕ))
-    (warnings : List ℕ) : Type 0 where
+-- the text of the first k pages was written whole, where the output stopped, and these are their
+-- warnings
+pub record IsWarnedUpTo (run : SynchronousRun) (parts : List Part) (before after : Option (List ℕ))
+    (outcome : Outcome) (warnings : List ℕ) : Type 0 where
   pub k : ℕ
   pub among : k ≤ length run.pages
-  pub reached : (more : List ℕ)
-      × SinkGrew before after (listing run.text_of (take k run.pages) ++ more)
+  pub stopped : StoppedBehind run.text_of parts run.pages before after outcome k
   pub are : warnings ≡ warnings_of (take k run.pages)
+
+-- where no page is listed, nothing is warned of
+abbrev pub IsWarnedWhereCut : SynchronousRun → Option (List Part) → Option (List ℕ)
+    → Option (List ℕ) → Outcome → List ℕ → Type 0
+IsWarnedWhereCut run None before after outcome warnings = warnings ≡ []
+IsWarnedWhereCut run (Some parts) before after outcome warnings =
+    IsWarnedUpTo run parts before after outcome warnings
 
 -- what a run with this outcome has warned of: of the pages that it has listed
 abbrev pub IsWarned : SynchronousRun → Option (List ℕ) → Option (List ℕ) → Outcome → List ℕ
@@ -138,8 +150,10 @@ IsWarned run before after (Invalid r b) warnings = warnings ≡ warnings_of run.
 IsWarned run before after (Missing r b) warnings = warnings ≡ warnings_of run.pages
 IsWarned run before after (Unread r b) warnings =
     (cut : IsCutAt run before after r b) × (warnings ≡ warnings_of (take cut.k run.pages))
-IsWarned run before after CannotWrite warnings = IsWarnedUpTo run before after warnings
-IsWarned run before after NoMemory warnings = IsWarnedUpTo run before after warnings
+IsWarned run before after CannotWrite warnings =
+    IsWarnedWhereCut run run.parts before after CannotWrite warnings
+IsWarned run before after NoMemory warnings =
+    IsWarnedWhereCut run run.parts before after NoMemory warnings
 IsWarned run before after Usage warnings = warnings ≡ []
 IsWarned run before after CannotOpen warnings = warnings ≡ []
 IsWarned run before after (NoLength r) warnings = warnings ≡ []
@@ -184,7 +198,7 @@ pub record IsFileRun (told : Option Told) (relations : ℕ) (command : Command)
       outcome
   pub lists : is_refused outcome ≡ false
       → IsOutput (command_format command) told
-      (request_list (lengths_known told answered)
+      (request_parts (lengths_known told answered)
       (map_pages_known told command.settings.zero map_page) command) before.written now.written
       outcome warnings
   -- as far as the count goes, there were no more reads than blocks that were asked for

@@ -5,7 +5,7 @@ ghost use Rattle.scan_rounds.specs.Rounds.{results_taken};
 ghost use Rattle.scan_rounds.specs.Scans.{IsScan, IsSameScan, scan_options};
 ghost use Rattle.aioscan_cmd.specs.Command.{options_of_settings};
 ghost use Rattle.aioscan_cmd.specs.RemainingRequests.{HasMap, IsResolved, resolved_request_list};
-ghost use Rattle.aioscan_cmd.specs.RemainingRequests.{resolved_requests};
+ghost use Rattle.aioscan_cmd.specs.RemainingRequests.{resolved_request_parts, resolved_requests};
 ghost use Rattle.aioscan_cmd.specs.RemainingRequests.{resolved_settings};
 ghost use Rattle.aioscan_cmd.specs.ErrorLine.{Warns, error_stream};
 ghost use Rattle.aioscan_cmd.specs.Output.{IsOutput, WriteFaultsCounted, command_format};
@@ -50,7 +50,7 @@ fn list_by_map<W: World + Send + Sync, D: Disk, O: Sink, E: Sink, R: Threads + W
     ensures same { IsSameScan scan.old scan.new }
     ensures listed { (given : ℕ → List ℕ)
         × Warns (IsOutput (command_format asked.entry.command.now) W.told
-        (resolved_request_list asked.entry W.told given) (O.written out.old) (O.written out.new)
+        (resolved_request_parts asked.entry W.told given) (O.written out.old) (O.written out.new)
         result.0)
         (error_stream Line.Whole (E.written err.old) (E.faults err.old))
         (error_stream result.1 (E.written err.new) (E.faults err.new))
@@ -102,7 +102,7 @@ pub(crate) fn list_asked<
     ensures same { IsSameScan scan.old scan.new }
     ensures listed { (given : ℕ → List ℕ)
         × Warns (IsOutput (command_format asked.entry.command.now) W.told
-        (resolved_request_list asked.entry W.told given) (O.written out.old) (O.written out.new)
+        (resolved_request_parts asked.entry W.told given) (O.written out.old) (O.written out.new)
         result.0)
         (error_stream Line.Whole (E.written err.old) (E.faults err.old))
         (error_stream result.1 (E.written err.new) (E.faults err.new))

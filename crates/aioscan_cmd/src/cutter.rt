@@ -1,13 +1,13 @@
 //! Cuts the blocks that a command asks for into jobs, without a list of them.
-ghost use Rattle.std.specs.Prelude.{◌≡◌, ◌≤◌, ◌<◌, ◌+◌, ◌++◌, ◌^◌, [], length};
+ghost use Rattle.std.specs.Prelude.{◌≡◌, ◌≤◌, ◌<◌, ◌+◌, ◌∷◌, ◌^◌, [], length};
 ghost use Rattle.std.specs.Prelude.{IfSome, IfNone};
 ghost use Rattle.aioscan_cmd.specs.Command.{number_limit};
 ghost use Rattle.scan_rounds.specs.OpenedScan.{AreSettings};
-ghost use Rattle.aioscan_cmd.specs.RequestList.{block_range};
-ghost use Rattle.aioscan_cmd.specs.RemainingRequests.{IsResolved, IsJobRange, remaining_requests};
+ghost use Rattle.aioscan_cmd.specs.RequestList.{block_range, blocks_of_parts};
+ghost use Rattle.aioscan_cmd.specs.RemainingRequests.{IsResolved, IsJobRange, remaining_parts};
 ghost use Rattle.aioscan_cmd.specs.RemainingRequests.{remaining_of_file, file_name_of_place};
 ghost use Rattle.aioscan_cmd.specs.RemainingRequests.{HasMap, greatest_requested_block};
-ghost use Rattle.aioscan_cmd.specs.RemainingRequests.{map_page_count, resolved_requests};
+ghost use Rattle.aioscan_cmd.specs.RemainingRequests.{map_page_count, resolved_parts};
 ghost use Rattle.aioscan_cmd.specs.RemainingRequests.{resolved_settings};
 ghost use Rattle.vis_map.specs.declared.map.Skip.{Skip};
 
@@ -92,7 +92,7 @@ fn cut_off(asked: ResolvedCommand<'_, '_>, place: Place) -> Option<JobRange>
     ensures some { IfSome result (λ c.
         (remaining_of_file asked.entry (file_name_of_place asked.entry place.file) place.done
         ≡ block_range c.relation c.first c.count
-        ++ remaining_of_file asked.entry
+        ∷ remaining_of_file asked.entry
         (file_name_of_place asked.entry place.file) (place.done + c.count))
         × IsJobRange (length asked.entry.relations.now) c × (place.done + c.count ≤ number_limit)) }
     ensures none { IfNone result
@@ -121,11 +121,11 @@ fn cut_off(asked: ResolvedCommand<'_, '_>, place: Place) -> Option<JobRange>
 fn cut_next(asked: ResolvedCommand<'_, '_>, place: Place) -> Option<(Place, JobRange)>
     requires asked { IsResolved asked }
     ensures some { IfSome result (λ c.
-        (remaining_requests asked.entry place.file place.done
-        ≡ block_range c.1.relation c.1.first c.1.count ++ remaining_requests
+        (remaining_parts asked.entry place.file place.done
+        ≡ block_range c.1.relation c.1.first c.1.count ∷ remaining_parts
         asked.entry c.0.file c.0.done)
         × IsJobRange (length asked.entry.relations.now) c.1) }
-    ensures none { IfNone result (remaining_requests asked.entry place.file place.done ≡ []) }
+    ensures none { IfNone result (remaining_parts asked.entry place.file place.done ≡ []) }
 {
     let mut done = place.done;
     for file in place.file..asked.command.files().len() {
@@ -138,8 +138,8 @@ fn cut_next(asked: ResolvedCommand<'_, '_>, place: Place) -> Option<(Place, JobR
     None
 }
 
-/// The blocks that are asked for, but for those that were cut off. That list is how contracts see
-/// it.
+/// The blocks that are asked for, but for those that were cut off. Contracts see it as the list of
+/// the parts that are left, one for each further job.
 #[derive(Drop)]
 pub(crate) struct Cutter<'a, 'w, W: World> {
     asked: ResolvedCommand<'a, 'w>,
@@ -149,12 +149,12 @@ pub(crate) struct Cutter<'a, 'w, W: World> {
 
 impl<'a, 'w, W: World> Model for Cutter<'a, 'w, W> {
     ghost use Rattle.std.specs.Prelude.{List};
-    ghost use Rattle.aioscan_cmd.specs.RequestList.{Request};
-    ghost use Rattle.aioscan_cmd.specs.RemainingRequests.{remaining_requests, ResolvesRelations};
+    ghost use Rattle.aioscan_cmd.specs.RequestList.{Part};
+    ghost use Rattle.aioscan_cmd.specs.RemainingRequests.{remaining_parts, ResolvesRelations};
 
-    ghost Value = { List Request };
+    ghost Value = { List Part };
 
-    ghost view = { λ c. remaining_requests c.asked c.place.file c.place.done };
+    ghost view = { λ c. remaining_parts c.asked c.place.file c.place.done };
 
     ghost invariant = { λ c. ResolvesRelations W.relations c.asked };
 }
@@ -164,8 +164,8 @@ impl<'a, 'w, W: World> Cutter<'a, 'w, W> {
     pub(crate) fn of(asked: ResolvedCommand<'a, 'w>) -> Cutter<'a, 'w, W>
         requires asked { IsResolved asked }
         requires world { W.relations ≡ length asked.relations.now }
-        ensures all { result ≡ resolved_requests asked.entry }
-        ensures few { length result ≤ 2 ^ 31 }
+        ensures all { result ≡ resolved_parts asked.entry }
+        ensures few { length (blocks_of_parts result) ≤ 2 ^ 31 }
     {
         // No more than 1024 files of 2097152 blocks.
         let _ = asked.command.files();
@@ -177,10 +177,11 @@ impl<'a, 'w, W: World> Cutter<'a, 'w, W> {
         }
     }
 
-    /// Cuts off the next blocks: at most 64, of one FILE word. None where no block is left.
+    /// Cuts off the next blocks: 64 of one FILE word, or all that are left of it. None where no
+    /// block is left.
     pub(crate) fn next(&mut self) -> Option<JobRange>
         ensures some { IfSome result (λ c.
-            (self.old ≡ block_range c.relation c.first c.count ++ self.new)
+            (self.old ≡ block_range c.relation c.first c.count ∷ self.new)
             × IsJobRange W.relations c) }
         ensures none { IfNone result ((self.old ≡ []) × (self.new ≡ [])) }
     {

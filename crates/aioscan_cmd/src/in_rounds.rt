@@ -6,10 +6,10 @@ ghost use Rattle.scan_rounds.specs.Rounds.{results_taken};
 ghost use Rattle.scan_rounds.specs.Scans.{IsScan, IsSameScan, scan_options};
 ghost use Rattle.scan_rounds.specs.BlockFilter.{unskipped_entries};
 ghost use Rattle.aioscan_cmd.specs.Command.{options_of_settings};
-ghost use Rattle.aioscan_cmd.specs.RemainingRequests.{IsResolved, resolved_requests};
-ghost use Rattle.aioscan_cmd.specs.RemainingRequests.{resolved_settings};
+ghost use Rattle.aioscan_cmd.specs.RemainingRequests.{IsResolved, resolved_parts};
+ghost use Rattle.aioscan_cmd.specs.RemainingRequests.{resolved_requests, resolved_settings};
 ghost use Rattle.aioscan_cmd.specs.ErrorLine.{Warns, error_stream};
-ghost use Rattle.aioscan_cmd.specs.ListerState.{filter_of_map};
+ghost use Rattle.aioscan_cmd.specs.ListerState.{filter_of_map, unskipped_parts};
 ghost use Rattle.aioscan_cmd.specs.Output.{IsOutput, WriteFaultsCounted, format_of_options};
 ghost use Rattle.aioscan_cmd.specs.Sums.{HasSums};
 
@@ -76,7 +76,7 @@ pub(crate) fn list_rounds<
     ensures same { IsSameScan scan.old scan.new }
     ensures lists { Warns (IsOutput
         (format_of_options (options_of_settings (resolved_settings asked.entry))) W.told
-        (unskipped_entries (filter_of_map by_map.entry) (resolved_requests asked.entry))
+        (unskipped_parts (filter_of_map by_map.entry) (resolved_parts asked.entry))
         (O.written out.old) (O.written out.new) result.0)
         (error_stream line (E.written err.old) (E.faults err.old))
         (error_stream result.1 (E.written err.new) (E.faults err.new)) }

@@ -1,13 +1,13 @@
 //! Lists by rounds what a command asks for.
 ghost use Rattle.std.specs.Prelude.{◌≡◌, ◌≢◌, ◌≤◌, ◌++◌, ◌∷◌, [], length, take, false, None};
-ghost use Rattle.std.specs.Prelude.{IsErrOf};
+ghost use Rattle.std.specs.Prelude.{IsErrOf, OnErr};
 ghost use Rattle.std.specs.List.{All};
 ghost use Rattle.scan_rounds.specs.Jobs.{IsFresh, unread_among};
 ghost use Rattle.aioscan_cmd.specs.Output.{WriteFaultsCounted};
-ghost use Rattle.aioscan_cmd.specs.ListerState.{unskipped_job_requests, unread_count};
+ghost use Rattle.aioscan_cmd.specs.ListerState.{unskipped_job_parts, unread_count};
 ghost use Rattle.aioscan_cmd.specs.ListerState.{outcome_of_ending};
 ghost use Rattle.aioscan_cmd.specs.ListerState.{JobTextWritten, AllJobTextsWritten};
-ghost use Rattle.aioscan_cmd.specs.ErrorLine.{Warns, error_stream};
+ghost use Rattle.aioscan_cmd.specs.ErrorLine.{Tells, Warns, error_stream};
 ghost use Rattle.aio_disk.specs.Counts.{CountRose};
 ghost use Rattle.aio_disk.specs.Sink.{SinkTakes};
 ghost use Rattle.aio_disk.specs.declared.fault.WriteFault.TheVariants.{Device};
@@ -54,7 +54,7 @@ pub(crate) struct Lister<'a, 'e, 'm, 'w, W: World, O: Sink, E: Sink> {
 fn fill<W: World>(blocks: &mut Cutter<'_, '_, W>, jobs: &mut [Job]) -> usize
     ensures few { (result ≤ length jobs.new) × (length jobs.new ≡ length jobs.old) }
     ensures fresh { All (IsFresh W.relations) (take result jobs.new) }
-    ensures cut { blocks.old ≡ unskipped_job_requests None (take result jobs.new) ++ blocks.new }
+    ensures cut { blocks.old ≡ unskipped_job_parts None (take result jobs.new) ++ blocks.new }
     ensures none { 1 ≤ length jobs.old → result ≡ 0 → blocks.new ≡ [] }
 {
     for place in 0..jobs.len() {
@@ -84,11 +84,25 @@ fn write_text<O: Sink>(text: &[u8], out: &mut O) -> Result<(), WriteFault>
     ensures takes { SinkTakes (O.written out.old) (O.written out.new) result text.now }
     ensures later { O.faults out.old ≤ O.faults out.new }
     ensures device { IsErrOf result Device → CountRose (O.faults out.old) (O.faults out.new) }
+    ensures some { OnErr result (text.now ≢ []) }
 {
     if text.is_empty() {
         return Ok(());
     }
     out.write(text)
+}
+
+// Writes the warnings of a job whose text was written whole, whatever ended the job.
+fn end_job<E: Sink>(job: &Job, line: Line, err: &mut E) -> (Outcome, Line)
+    ensures ended { result.0 ≡ outcome_of_ending job.now.relation job.now.ending }
+    ensures told { Tells job.now.warnings.items
+        (error_stream line (E.written err.old) (E.faults err.old))
+        (error_stream result.1 (E.written err.new) (E.faults err.new)) }
+{
+    (
+        outcome_of(job.relation, job.ending),
+        write_warnings(line, job.warnings.as_slice(), err),
+    )
 }
 
 // Writes a job's text, and its warnings where that was written whole.
@@ -101,10 +115,7 @@ fn write_job<O: Sink, E: Sink>(job: &Job, out: &mut O, line: Line, err: &mut E) 
     ensures gave { result.0 ≡ Outcome.Done → AllPagesGiven (job.now ∷ []) }
 {
     match write_text(job.text.as_slice(), out) {
-        Ok(()) => (
-            outcome_of(job.relation, job.ending),
-            write_warnings(line, job.warnings.as_slice(), err),
-        ),
+        Ok(()) => end_job(job, line, err),
         Err(WriteFault::Device) => (Outcome::CannotWrite, line),
         Err(WriteFault::Memory) => (Outcome::NoMemory, line),
     }
@@ -166,12 +177,14 @@ impl<'a, 'e, 'm, 'w, W: World, O: Sink, E: Sink> JobSource<W> for Lister<'a, 'e,
     ghost use Rattle.std.specs.Prelude.{length};
     ghost use Rattle.std.proofs.Common.{refl, ◌∙◌};
     ghost use Rattle.scan_rounds.specs.BlockFilter.{unskipped_entries};
+    ghost use Rattle.aioscan_cmd.specs.RequestList.{blocks_of_parts};
     ghost use Rattle.aioscan_cmd.specs.ListerState.{unread_count, lister_options, lister_filter};
     ghost use Rattle.aioscan_cmd.specs.ListerState.{IsOver, CutsOffJobs, PreservesListing};
 
-    ghost blocks_left = { λ l. length l.blocks };
+    ghost blocks_left = { λ l. length (blocks_of_parts l.blocks) };
 
-    ghost unskipped_left = { λ l. length (unskipped_entries (lister_filter l) l.blocks) };
+    ghost unskipped_left = { λ l. length
+        (unskipped_entries (lister_filter l) (blocks_of_parts l.blocks)) };
 
     ghost block_filter = { lister_filter };
 

@@ -5,7 +5,7 @@ ghost use Rattle.std.specs.List.{All};
 ghost use Rattle.aio_disk.specs.Shelf.{shelf_told};
 ghost use Rattle.scan_rounds.specs.OpenedScan.{AreSettings};
 ghost use Rattle.aioscan_cmd.specs.Command.{options_of_settings, relations_of};
-ghost use Rattle.aioscan_cmd.specs.RemainingRequests.{IsResolved, resolved_request_list};
+ghost use Rattle.aioscan_cmd.specs.RemainingRequests.{IsResolved, resolved_request_parts};
 ghost use Rattle.aioscan_cmd.specs.RemainingRequests.{resolved_requests, resolved_settings};
 ghost use Rattle.aioscan_cmd.specs.Disks.{IsUnreadDisk, required_disks};
 ghost use Rattle.aioscan_cmd.specs.Lengths.{HasLengths};
@@ -53,7 +53,7 @@ fn list_disks<W: World + Send + Sync, D: Disk, O: Sink, E: Sink, R: Threads + Wa
         ≡ W.handles }
     ensures listed { (given : ℕ → List ℕ)
         × Warns (IsOutput (command_format asked.entry.command.now) W.told
-        (resolved_request_list asked.entry W.told given) (O.written out.old) (O.written out.new)
+        (resolved_request_parts asked.entry W.told given) (O.written out.old) (O.written out.new)
         result.1.outcome)
         (error_stream Line.Whole (E.written err.old) (E.faults err.old))
         (error_stream result.1.line (E.written err.new) (E.faults err.new))

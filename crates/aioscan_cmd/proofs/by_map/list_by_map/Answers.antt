@@ -1,7 +1,7 @@
-use Rattle.std.proofs.Common.{rules, arith, refl, [], ℕ, List, ap, sym, ◌∙◌, subst}
+use Rattle.std.proofs.Common.{rules, arith, refl, [], ◌∷◌, ℕ, List, ap, sym, ◌∙◌, subst}
 use Rattle.std.specs.Prelude.{Some, slice_index_or}
 use Rattle.aioscan_cmd.specs.Command.{options_of_settings}
-use Rattle.aioscan_cmd.specs.RemainingRequests.{map_page_count, resolved_request_list}
+use Rattle.aioscan_cmd.specs.RemainingRequests.{map_page_count, resolved_request_parts}
 use Rattle.aioscan_cmd.specs.RemainingRequests.{resolved_settings}
 use Rattle.aioscan_cmd.specs.Output.{IsOutput, command_format}
 use Rattle.aioscan_cmd.specs.RequestList.{block_range}
@@ -35,7 +35,7 @@ pub returns-in_default-clause-listed : goal.returns-in_default-clause-listed
 returns-in_default-clause-listed g c = (
   λ _. [],
   warns_none _ _ _ _ _ refl (lists_nothing (command_format c.args.asked.command.now) g.W.World.told
-      (resolved_request_list c.args.asked g.W.World.told (λ _. [])) _),
+      (resolved_request_parts c.args.asked g.W.World.told (λ _. [])) _),
   omega arith,
 )
 
@@ -96,7 +96,7 @@ returns g c =
               c.in_default-outcome_of.not-Done
               (subst (λ (o : Outcome). IsOutput
               (format_with_map (options_of_settings (resolved_settings c.args.asked))
-              (Some by.map)) told (block_range 1 0 (map_page_count c.args.asked))
+              (Some by.map)) told (block_range 1 0 (map_page_count c.args.asked) ∷ [])
               (g.O.Sink.written c.args.out.now) (g.O.Sink.written c.args.out.now) o
               c.map-ending.new.warnings.items) (sym c.outcome_of.ensures)
               (map_part _ _ told bs cs _ _ found c.map-ending.new.warnings.items

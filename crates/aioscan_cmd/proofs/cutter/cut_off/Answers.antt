@@ -21,7 +21,7 @@ returns-clause-some c =
     let few =
     c.asked_count-count.ensures.few (c.requires.asked.fit c.number_of-relation.result) in (
       cut_here c.args.asked _ _ _ _ _ _ at.0 c.first_block.ensures.block
-          c.asked_count-count.ensures.count (omega arith),
+          c.asked_count-count.ensures.count (omega arith) (omega arith),
       record {
         relation_in = at.1;
         few = (omega arith, omega arith);

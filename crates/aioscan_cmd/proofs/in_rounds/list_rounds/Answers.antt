@@ -1,25 +1,28 @@
-use Rattle.std.proofs.Common.{◌∙◌, rules, refl, sym, ap, subst}
+use Rattle.std.proofs.Common.{◌∙◌, List, length, rules, refl, sym, ap, arith, subst}
 use Rattle.scan_rounds.specs.ListOptions.{ListOptions}
 use Rattle.scan_rounds.specs.BlockFilter.{unskipped_entries}
 use Rattle.aioscan_cmd.specs.Command.{options_of_settings}
-use Rattle.aioscan_cmd.specs.RemainingRequests.{resolved_requests, resolved_settings}
+use Rattle.aioscan_cmd.specs.RemainingRequests.{resolved_parts, resolved_settings}
+use Rattle.aioscan_cmd.specs.RequestList.{Part, Request, blocks_of_parts}
 use Rattle.aioscan_cmd.specs.ErrorLine.{Tells, error_stream}
-use Rattle.aioscan_cmd.specs.ListerState.{filter_of_map}
+use Rattle.aioscan_cmd.specs.ListerState.{filter_of_map, unskipped_parts}
 use Rattle.aioscan_cmd.specs.Output.{IsOutput, WriteFaultsCounted, format_of_options}
 use Rattle.aioscan_cmd.specs.Sums.{HasSums}
 use Rattle.aioscan_cmd.proofs.ListerRoundsCompose.{all_listed, all_written, all_summed}
 use Rattle.aioscan_cmd.proofs.JobSumsAdd.{zero_sums}
+use Rattle.aioscan_cmd.proofs.RemainingRequestsStep.{resolved_blocks}
+use Rattle.aioscan_cmd.proofs.UnskippedBlocksAppend.{resolved_unskipped}
 use Rattle.aioscan_cmd.proofs.in_rounds.list_rounds.Goals as goal
 
 pub returns-clause-lists : goal.returns-clause-lists
 returns-clause-lists g c =
     let t = c.run_jobs-lister.result in
     let skips = filter_of_map c.args.by_map in
-    let kept = unskipped_entries skips (resolved_requests c.args.asked) in
+    let kept = unskipped_parts skips (resolved_parts c.args.asked) in
     let before = error_stream c.args.line (g.E.Sink.written c.args.err.now)
     (g.E.Sink.faults c.args.err.now) in
     let listed = all_listed g.W.World.told g.O.Sink.written g.O.Sink.faults g.E.Sink.written
-    g.E.Sink.faults kept _ t refl (ap (unskipped_entries skips) c.of-blocks.ensures.all)
+    g.E.Sink.faults kept _ t refl (ap (unskipped_parts skips) c.of-blocks.ensures.all)
     (zero_sums c.default.result c.default.ensures) c.run_jobs-lister.ensures.followed.goes_on
     c.run_jobs-lister.ensures.followed.over in
     let manner_is = ap options_of_settings c.settings-settings.ensures.settings in
@@ -50,20 +53,35 @@ returns-clause-writes g c =
     let skips = filter_of_map c.args.by_map in
     subst P (search (rules, loan, c.out-1.given.1))
     (all_written g.W.World.told g.O.Sink.written g.O.Sink.faults g.E.Sink.written
-    g.E.Sink.faults (unskipped_entries skips (resolved_requests c.args.asked))
-    _ c.run_jobs-lister.result refl (ap (unskipped_entries skips) c.of-blocks.ensures.all)
+    g.E.Sink.faults (unskipped_parts skips (resolved_parts c.args.asked))
+    _ c.run_jobs-lister.result refl (ap (unskipped_parts skips) c.of-blocks.ensures.all)
     (zero_sums c.default.result c.default.ensures) c.run_jobs-lister.ensures.followed.goes_on)
 
 pub returns-clause-sums : goal.returns-clause-sums
 returns-clause-sums g c = λ done.
     (let manner_is = ap options_of_settings c.settings-settings.ensures.settings in
     let skips = filter_of_map c.args.by_map in
-    let kept = unskipped_entries skips (resolved_requests c.args.asked) in
-    let Z : ListOptions → Type 0 =
-    λ m. HasSums m g.W.World.told kept c.run_jobs-lister.result.sums in
-    subst Z manner_is
+    let kept = unskipped_parts skips (resolved_parts c.args.asked) in
+    let sums = c.run_jobs-lister.result.sums in
+    let Z : ListOptions → Type 0 = λ m. HasSums m g.W.World.told (blocks_of_parts kept) sums in
+    let B : List Request → Type 0 = λ l. HasSums
+    (options_of_settings (resolved_settings c.args.asked)) g.W.World.told l sums in
+    subst B (resolved_unskipped skips c.args.asked) (subst Z manner_is
     (all_summed g.W.World.told g.O.Sink.written g.O.Sink.faults g.E.Sink.written
     g.E.Sink.faults kept _ c.run_jobs-lister.result refl
-    (ap (unskipped_entries skips) c.of-blocks.ensures.all)
+    (ap (unskipped_parts skips) c.of-blocks.ensures.all)
     (zero_sums c.default.result c.default.ensures)
-    c.run_jobs-lister.ensures.followed.goes_on c.run_jobs-lister.ensures.followed.over done))
+    c.run_jobs-lister.ensures.followed.goes_on c.run_jobs-lister.ensures.followed.over done)))
+
+pub returns-clause-taken : goal.returns-clause-taken
+returns-clause-taken g c =
+    let skips = filter_of_map c.args.by_map in
+    let followed = c.run_jobs-lister.ensures.followed in
+    omega (
+      arith,
+      followed.taken,
+      ap (λ (l : List Part). length (unskipped_entries skips (blocks_of_parts l)))
+          c.of-blocks.ensures.all,
+      ap (λ (l : List Request). length (unskipped_entries skips l))
+          (resolved_blocks c.args.asked),
+    )

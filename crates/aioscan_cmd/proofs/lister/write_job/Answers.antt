@@ -2,27 +2,29 @@ use Rattle.std.proofs.Common.{rules, refl}
 use Rattle.aioscan_cmd.proofs.JobTextOutput.{job_written, job_unwritten, job_out_of_memory}
 use Rattle.aioscan_cmd.proofs.JobTextOutput.{one_unread}
 use Rattle.aioscan_cmd.proofs.JobTextOutput.{stopped_by_job}
-use Rattle.aioscan_cmd.proofs.ErrorTextsAppend.{tells_same, warns_none}
+use Rattle.aioscan_cmd.proofs.ErrorTextsAppend.{warns_none}
 use Rattle.aioscan_cmd.proofs.lister.write_job.Goals as goal
 
 pub returns-in-Ok-clause-lists : goal.returns-in-Ok-clause-lists
 returns-in-Ok-clause-lists g c = record {
   warnings = c.args.job.now.warnings.items;
-  tells = tells_same _ _ _ _ (search rules) c.write_warnings.ensures;
-  are = job_written c.args.job.now _ _ _ c.outcome_of.ensures (search rules);
+  tells = c.end_job.ensures.told;
+  are = job_written c.args.job.now _ _ _ c.end_job.ensures.ended (search rules);
 }
 
 pub returns-in-Ok-clause-writes : goal.returns-in-Ok-clause-writes
 returns-in-Ok-clause-writes g c =
-    stopped_by_job c.args.job.now _ _ _ c.outcome_of.ensures (search rules)
+    stopped_by_job c.args.job.now _ _ _ c.end_job.ensures.ended (search rules)
 
 pub returns-in-Ok-clause-unread : goal.returns-in-Ok-clause-unread
-returns-in-Ok-clause-unread g c = one_unread c.args.job.now _ c.outcome_of.ensures
+returns-in-Ok-clause-unread g c = one_unread c.args.job.now _ c.end_job.ensures.ended
 
 pub returns-in-Err-Device-clause-lists : goal.returns-in-Err-Device-clause-lists
 returns-in-Err-Device-clause-lists g c =
-    warns_none _ _ _ _ _ refl (job_unwritten c.args.job.now _ _ (search rules))
+    warns_none _ _ _ _ _ refl (job_unwritten c.args.job.now _ _
+    (search rules) (search rules))
 
 pub returns-in-Err-Memory-clause-lists : goal.returns-in-Err-Memory-clause-lists
 returns-in-Err-Memory-clause-lists g c =
-    warns_none _ _ _ _ _ refl (job_out_of_memory c.args.job.now _ _ (search rules))
+    warns_none _ _ _ _ _ refl (job_out_of_memory c.args.job.now _ _
+    (search rules) (search rules))

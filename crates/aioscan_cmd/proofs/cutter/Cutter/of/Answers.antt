@@ -1,12 +1,13 @@
-use Rattle.std.proofs.Common.{ℕ, length, arith, ap, subst}
+use Rattle.std.proofs.Common.{ℕ, List, length, arith, ap, subst}
 use Rattle.std.specs.Prelude.{Option}
 use Rattle.aioscan_cmd.specs.Command.{IsBelowIfGiven, number_limit}
-use Rattle.aioscan_cmd.proofs.RemainingRequestsStep.{remaining_requests-all, few_requests}
-use Rattle.aioscan_cmd.proofs.RemainingRequestsStep.{few_files}
+use Rattle.aioscan_cmd.specs.RequestList.{Part, blocks_of_parts}
+use Rattle.aioscan_cmd.proofs.RemainingRequestsStep.{remaining_parts-all, few_requests}
+use Rattle.aioscan_cmd.proofs.RemainingRequestsStep.{few_files, resolved_blocks}
 use Rattle.aioscan_cmd.proofs.cutter.Cutter.of.Goals as goal
 
 pub returns-clause-all : goal.returns-clause-all
-returns-clause-all g c = remaining_requests-all c.args.asked
+returns-clause-all g c = remaining_parts-all c.args.asked
 
 pub returns-clause-few : goal.returns-clause-few
 returns-clause-few g c =
@@ -14,4 +15,10 @@ returns-clause-few g c =
     let few = few_requests c.args.asked c.requires.asked
     (subst P c.last_block.ensures.block c.last_block.ensures.below)
     (few_files c.args.asked c.files.result.now c.files.ensures.files c.files.ensures.few) in
-    omega (arith, few, ap length (remaining_requests-all c.args.asked))
+    omega (
+      arith,
+      few,
+      ap (λ (parts : List Part). length (blocks_of_parts parts))
+          (remaining_parts-all c.args.asked),
+      ap length (resolved_blocks c.args.asked),
+    )

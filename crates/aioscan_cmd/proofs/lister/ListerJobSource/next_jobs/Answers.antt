@@ -2,8 +2,9 @@ use Rattle.std.proofs.Common.{arith, ap, length, length-append, take, None}
 use Rattle.scan_rounds.specs.BlockFilter.{unskipped_entries}
 use Rattle.scan_rounds.proofs.UnskippedCount.{none_left_out}
 use Rattle.aioscan_cmd.specs.ListerState.{unskipped_job_requests, lister_filter}
+use Rattle.aioscan_cmd.specs.RequestList.{blocks_of_parts}
 use Rattle.aioscan_cmd.proofs.JobTextsAppend.{requests_length}
-use Rattle.aioscan_cmd.proofs.UnskippedBlocksAppend.{unskipped_after_cut}
+use Rattle.aioscan_cmd.proofs.UnskippedBlocksAppend.{blocks_after_cut}
 use Rattle.aioscan_cmd.proofs.lister.ListerJobSource.next_jobs.Goals as goal
 
 pub returns-in-Done-clause-left : goal.returns-in-Done-clause-left
@@ -11,8 +12,9 @@ returns-in-Done-clause-left g c =
     let jobs = take c.fill.result c.fill.new.jobs in
     omega (
       arith,
-      ap length c.fill.ensures.cut,
-      length-append (unskipped_job_requests None jobs) c.fill.new.blocks,
+      ap length (blocks_after_cut None jobs c.args.self.now.blocks c.fill.new.blocks
+          c.fill.ensures.cut),
+      length-append (unskipped_job_requests None jobs) (blocks_of_parts c.fill.new.blocks),
       requests_length None jobs,
       none_left_out jobs,
     )
@@ -23,8 +25,9 @@ returns-in-Done-clause-due g c =
     let skips = lister_filter c.args.self.now in
     omega (
       arith,
-      ap length (unskipped_after_cut skips jobs c.args.self.now.blocks
-          c.fill.new.blocks c.fill.ensures.cut),
-      length-append (unskipped_job_requests skips jobs) (unskipped_entries skips c.fill.new.blocks),
+      ap length (blocks_after_cut skips jobs c.args.self.now.blocks c.fill.new.blocks
+          c.fill.ensures.cut),
+      length-append (unskipped_job_requests skips jobs)
+          (unskipped_entries skips (blocks_of_parts c.fill.new.blocks)),
       requests_length skips jobs,
     )
