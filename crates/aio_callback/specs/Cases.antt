@@ -32,7 +32,7 @@ pub data IsOneOf (zero : Bool) (told : Option Told) (r : ReadIoView) : Type 0 wh
   -- fewer pages were read than asked for, and are good
   Rest : (n : ℕ) → (r.result ≡ result_of 1 Partial 0 (pos n)) → 0 < n → n < r.count
       → (r.label.ended ≡ class.Short) → IsOneOf zero told r
-  -- all pages were read, or fewer, and k of them were bad and are zeroed, at least one
+  -- all pages were read, or fewer; k of them, at least one, were bad and are zeroed
   Warned : (k n : ℕ) → zero ≡ true → 0 < k → k ≡ zeroed_among r n
       → (r.result ≡ result_of 4 Warning k (pos n)) → 0 < n → n ≤ r.count
       → (r.label.ended ≡ class_of r.count (Read n)) → IsOneOf zero told r

@@ -167,7 +167,7 @@ is_check Buffer = true
 is_check ZeroBuffer = true
 is_check _ = false
 
--- whether one is
+-- whether one is so registered
 abbrev pub is_checked : List CallbackId → Bool
 is_checked [] = false
 is_checked (id ∷ ids) = (is_check id && has_file ids) || is_checked ids

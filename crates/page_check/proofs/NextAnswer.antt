@@ -35,7 +35,7 @@ module _ {P : Type 0} (may : Entry P → Type 0) (es : List (Entry P)) (k : ℕ)
       → (IsPage (found_page shown) → IsNext found may es k (Page (found_given shown e)))
       × IsReached found es (k + 1)
   next-page None shown far page valid is = (
-    λ bytes. (record { is_page = bytes; valid = valid; zeros = zeros_in shown }, here),
+    λ bytes. (record { bytes = bytes; valid = valid; zeros = zeros_in shown }, here),
     tt,
   )
   next-page (Some f) shown far page valid is =

@@ -35,7 +35,7 @@ module _ {P : Type 0} where
   -- a page that may be given where nothing is told: one of 8192 bytes that is valid, and zeros
   -- where it was zeroed
   pub record IsGiven (given : Given P) : Type 0 where
-    pub is_page : IsPage given.page
+    pub bytes : IsPage given.page
     pub valid : IsValid given.page
     pub zeros : given.zeroed ≡ true → given.page ≡ zero_page
 
