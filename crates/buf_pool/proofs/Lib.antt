@@ -5,4 +5,5 @@ pub mod FrameChanges
 pub mod VictimFrames
 pub mod PartFrames
 pub mod OwnTags
+pub mod PinnedEntries
 pub mod PartsInPlace

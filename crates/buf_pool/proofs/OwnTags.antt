@@ -1,8 +1,8 @@
 -- The tags of a part stay its own, where one frame gets another entry.
-use Rattle.std.proofs.Common.{◌≡◌, ℕ, zero, suc, ◌+◌, ◌<◌, ◌≤◌, Bool, true, false, List, Option, Some, None, length, set}
-use Rattle.std.proofs.Common.{IfSome, MatchOption, IsTrue, nat_lt, ⊎_elim, ◌∙◌, ap, sym, subst, refl, arith, eqb, ◌&&◌}
+use Rattle.std.proofs.Common.{◌≡◌, ℕ, ◌<◌, ◌≤◌, Bool, true, false, List, Option, Some, None, length, set}
+use Rattle.std.proofs.Common.{IfSome, MatchOption, ⊎_elim, ◌∙◌, ap, sym, subst, refl, arith}
 use Rattle.std.proofs.lemmas.List.{get_or-set_same, get_or-set_other, length-set, get_or_past}
-use Rattle.std.proofs.lemmas.Bool.{cases_eq, cases_lt, ltb-true, lt-ltb, and_parts, eqb-true}
+use Rattle.std.proofs.lemmas.Bool.{cases_eq, cases_lt}
 use Rattle.aio_word.specs.declared.WaitRef.{WaitRef}
 use Rattle.buf_pool.specs.declared.descriptor.Tag.{Tag}
 use Rattle.buf_pool.specs.declared.descriptor.Descriptor.{Descriptor}
@@ -85,30 +85,3 @@ pub said_of_pins : (o : Option ℕ) (pins : ℕ) (P : ℕ → Type 0) → o ≡ 
 said_of_pins o pins P e h =
     let family : Option ℕ → Type 0 = λ x. IfSome x P in
     subst family e h
-
--- tags with equal parts are equal
-pub same_tag : (a b : Tag) → (eqb a.relation b.relation && eqb a.block b.block) ≡ true → a ≡ b
-same_tag a b e =
-    let both = and_parts (eqb a.relation b.relation) (eqb a.block b.block) e in
-    let relations = eqb-true a.relation b.relation both.0 in
-    let blocks = eqb-true a.block b.block both.1 in
-    λ i. record { relation = relations i; block = blocks i }
-
-count_of : Descriptor → ℕ
-count_of Free = 0
-count_of (InProgress tag reference) = 0
-count_of (Valid tag pins) = pins
-
--- a page has a pin where its count of pins is above 0
-pub pinned_where : (entry : Descriptor) (tag : Tag) (pins : ℕ) → entry ≡ Valid tag pins
-    → (IsTrue (nat_lt 0 pins) → (x : ℕ) × (entry ≡ Valid tag (x + 1)))
-    × ((x : ℕ) × (entry ≡ Valid tag (x + 1)) → IsTrue (nat_lt 0 pins))
-unfolding count_of
-pinned_where entry tag zero e = (
-  λ clash. absurd (let no : 0 < 0 = ltb-true 0 0 clash in omega (arith, no)),
-  λ h. absurd (let clash : zero ≡ h.0 + 1 = ap count_of (sym e ∙ h.1) in omega (arith, clash)),
-)
-pinned_where entry tag (suc pins) e = (
-  λ _. (pins, let s : suc pins ≡ pins + 1 = omega arith in e ∙ ap (Valid tag) s),
-  λ _. lt-ltb 0 (suc pins) (omega arith),
-)

@@ -1,7 +1,7 @@
 use Rattle.std.proofs.Common.{◌≡◌, ◌∙◌, sym, ap}
 use Rattle.buf_pool.specs.declared.descriptor.Descriptor.TheVariants.{Free, Valid}
 use Rattle.buf_pool.specs.Frames.{descriptor_at}
-use Rattle.buf_pool.proofs.OwnTags.{pinned_where, same_tag}
+use Rattle.buf_pool.proofs.PinnedEntries.{pinned_where, same_tag}
 use Rattle.buf_pool.proofs.index.PoolIndex.has_pin.Goals as goal
 
 pub returns-then-eq : goal.returns-then-eq
