@@ -24,12 +24,8 @@ pub fn stream_records_end_in_six_ways()
         → (i : ℕ) → record_zeroed r i ≡ false }
 {}
 
-/// Pages are checked exactly where a Buffer or ZeroBuffer is registered before a File. Callbacks run
-<<<<<<< HEAD
-/// from the last to the first, so it then checks what the File has looked at.
-=======
-/// from the last to the first, so it runs after that File.
->>>>>>> 5f39f3e (page_check, aio_callback: names and comments of what a page is and when pages are checked)
+/// Pages are checked exactly where a Buffer or ZeroBuffer is registered before a File. Callbacks
+/// run from the last to the first, so it runs after that File.
 pub fn pages_are_checked_behind_a_file()
     ensures { (ids : List CallbackId) → (is_checked ids ≡ true) ↔ ChecksBehindFile ids }
 {}
