@@ -1,8 +1,7 @@
 -- The six ways in which a record with the callbacks of a stream ends.
-use Rattle.std.proofs.Common.{◌≡◌, ◌≢◌, ℕ, ◌+◌, ◌<◌, ◌≤◌, ◌⊎◌, inl, inr, Bool, true, false}
-use Rattle.std.proofs.Common.{cond, ◌==◌, nat_lt, List, [], take, get_or, refl, sym}
-use Rattle.std.proofs.Common.{ap, ◌∙◌, subst}
-use Rattle.std.proofs.Common.{arith, Option, Some, None, pos, if◌then◌else◌, ℤ, zero, suc, length}
+use Rattle.std.proofs.Common.{◌≡◌, ◌≢◌, ℕ, ◌+◌, ◌<◌, ◌≤◌, ◌⊎◌, inl, inr, Bool, true, false, length}
+use Rattle.std.proofs.Common.{cond, ◌==◌, nat_lt, List, [], take, get_or, refl, sym, zero, suc}
+use Rattle.std.proofs.Common.{ap, ◌∙◌, subst, arith, Option, Some, None, pos, if◌then◌else◌, ℤ}
 use Rattle.std.specs.Prelude.{IfSome, count_by}
 use Rattle.std.proofs.Math.Logic.{⊎_elim}
 use Rattle.std.proofs.Math.Nat.{eq-or-lt_of_le}
@@ -20,11 +19,9 @@ use Rattle.aio_callback.specs.declared.chain.Raw.{Raw}
 use Rattle.aio_callback.specs.declared.chain.Raw.TheVariants.{Read, Failed}
 use Rattle.aio_callback.specs.declared.chain.CallbackId.{CallbackId}
 use Rattle.aio_callback.specs.Chain.{result_of, is_bad, first_bad, stopped_at}
-use Rattle.aio_callback.specs.Chain.{raw_result, class_of}
+use Rattle.aio_callback.specs.Chain.{raw_result, class_of, bad_among, natural_part}
 use Rattle.aio_callback.specs.Chain.{after_file, after_buffer, chain_result, outcome_of, good_count}
 use Rattle.aio_callback.specs.Chain.{Outcome, chain_start, none_zeroed, after_zero, warned}
-use Rattle.aio_callback.specs.Chain.{bad_among}
-use Rattle.aio_callback.specs.Chain.{natural_part}
 use Rattle.aio_callback.specs.ReadIoView.{ReadIoView, IsToldRead, ReadFits, IsCompletedRead}
 use Rattle.aio_callback.specs.ReadIoView.{record_zeroed}
 use Rattle.aio_callback.specs.Cases.{stream_ids, IsOneOf, Whole, Rest, Warned, Invalid}
