@@ -28,7 +28,7 @@ use Rattle.aioscan_cmd.proofs.GeneratedPageReads.{generated_outcome_done, all_qu
 use Rattle.aioscan_cmd.proofs.GeneratedPageReads.{generated_sums}
 use Rattle.aioscan_cmd.proofs.GeneratedRuns.{generated_fits}
 use Rattle.aioscan_cmd.proofs.ExactOutcomes.{complete}
-use Rattle.aioscan_cmd.proofs.RunsOverTold.{writes, warned}
+use Rattle.aioscan_cmd.proofs.FileRunsOverTold.{writes, warned}
 
 -- where no open failed, their count does not matter
 abbrev but_opens : ShelfCounts → ShelfCounts

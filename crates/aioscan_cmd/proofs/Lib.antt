@@ -24,6 +24,7 @@ mod RefusedRuns
 mod ListedRuns
 mod SumsOverTold
 mod RunsOverTold
+mod FileRunsOverTold
 mod ExactOutcomes
 pub mod TopClauses
 mod GeneratedPageReads

@@ -15,7 +15,7 @@ use Rattle.aioscan_cmd.specs.declared.report.Outcome.{Outcome}
 use Rattle.aioscan_cmd.specs.declared.report.Outcome.TheVariants.{Done, Usage, CannotWrite}
 use Rattle.aioscan_cmd.specs.declared.report.Outcome.TheVariants.{NoMemory}
 use Rattle.aioscan_cmd.proofs.ExactOutcomes.{exact, complete}
-use Rattle.aioscan_cmd.proofs.RunsOverTold.{writes, warned, untouched_same}
+use Rattle.aioscan_cmd.proofs.FileRunsOverTold.{writes, warned, untouched_same}
 
 -- over a shelf that tells, what holds of each run holds of this one
 told_by : (told : Option Told) (c : Command) (b a : ObservedState) (o : Outcome) (w : List ℕ)
