@@ -29,7 +29,7 @@ use Rattle.scan_rounds.proofs.NewDiskActors.{AreFresh, disk_actors_fresh, many_d
 use Rattle.scan_rounds.proofs.NewDiskActors.{rooms_of_new}
 use Rattle.scan_rounds.proofs.NewDiskActors.{none_taken, paid_of_new, backends_of_new}
 use Rattle.scan_rounds.proofs.NewDiskActors.{workers_of_new}
-use Rattle.scan_rounds.proofs.SeatsAndRings.{seated_by, ringed_by}
+use Rattle.scan_rounds.proofs.SeatsAndRings.{beside_workers, seated_by, ringed_by}
 
 same_options : {a b c d : Bool} → a ≡ b → c ≡ d → list_options a c ≡ list_options b d
 same_options same also = rw (same, also) refl
@@ -149,13 +149,15 @@ module _ {W D : Type 0} where
             some = omega (arith, few, range);
             backends_stand = backends_of_new t (opened_disks s)
                 bs ws all_fresh m told relations tell s.shared.queue (omega (arith, backends))
-                (λ k b lt. (all_desks k b lt).free) all_seats.0 all_rings;
+                (λ k b lt. (all_desks k b lt).free) all_seats.0
+                (λ some k b lt. all_seated k b lt ∙ beside_workers settings.method settings.workers
+                (let runners = ap (λ (c : Config). c.runners) made.config in
+                omega (arith, some, runners))) all_rings;
             workers_stand = workers_of_new t (opened_disks s) bs ws all_fresh m told relations tell
                 s.shared.queue (omega (arith, backends))
                 (front_all (IsSeatOf s.shared.queue) seat_in ws (into_iter_items q.seats)
                 (into_iter_items r.seats) made.workers.seats all_seats.1);
             paid = paid_of_new t (opened_disks s) bs ws all_fresh m told relations disks_as_many;
-            idle = made.backends.idle;
             all_list_in = λ k b lt. same_options (all_desks k b lt).streams.zero
                 (made.backends.all_tuples k b lt) ∙ sym made.options_are;
             room = subst P same rooms;

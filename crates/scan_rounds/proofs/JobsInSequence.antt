@@ -16,6 +16,7 @@ use Rattle.page_check.specs.Told.{Told}
 use Rattle.aio_word.specs.Tokens.{failed_results}
 use Rattle.aio_handle.specs.ContractViews.{TableView}
 use Rattle.method_worker.specs.QueueViews.{QueueView}
+use Rattle.read_stream.specs.StreamAnswers.{MayBeUnread}
 use Rattle.scan_rounds.specs.DiskActors.{DiskGhosts, IsBackend, HasRoom, backend_options}
 use Rattle.scan_rounds.specs.Jobs.{IsFresh, IsListed, AreAnswered, entries_of_job, is_unread}
 use Rattle.scan_rounds.specs.Jobs.{blocks_among}
@@ -23,12 +24,11 @@ use Rattle.scan_rounds.specs.ListOptions.{ListOptions}
 use Rattle.scan_rounds.specs.Rounds.{AllAdvanced, AllHaveOptions, backend_disk_actor}
 use Rattle.scan_rounds.specs.BlockFilter.{BlockFilter}
 use Rattle.scan_rounds.proofs.SharesInParallel.{answers_joined}
-use Rattle.scan_rounds.specs.Turns.{BackendDidJob, MayTurn, HasTurned}
+use Rattle.scan_rounds.specs.Turns.{BackendDidJob, MayTurn, HasTurned, ListedAlone}
 use Rattle.scan_rounds.specs.declared.backend.Backend.{Backend}
 use Rattle.scan_rounds.specs.declared.job.Job.{Job}
-use Rattle.scan_rounds.proofs.RoundsCompose.{anyway, goes_then, stays_put}
+use Rattle.scan_rounds.proofs.RoundsCompose.{anyway, goes_at, goes_then, stays_put}
 use Rattle.scan_rounds.proofs.LeastRoom.{fewer, left_after}
-use Rattle.scan_rounds.proofs.RoundOfBackends.{goes_at}
 use Rattle.scan_rounds.proofs.UnreadLeavesResult.{results_more, unread_counted}
 
 -- fresh jobs are no more than their blocks
@@ -56,6 +56,13 @@ share_fits share tasks takers some is =
           in let parts = add-mul tasks 1 takers in absurd (omega (arith, bounds.1)))),
     )
 
+pub none_listed : {W D : Type 0} {told : Option Told} {block_filter : Option BlockFilter}
+    (b : Backend W D) (js : List Job) → length js ≡ 0 → ListedAlone told block_filter b b js js
+none_listed b js none few = record {
+  jobs_are = refl;
+  each = λ i d j lt. absurd (omega arith);
+}
+
 module _ {W D : Type 0} (m : DiskGhosts D) (told : Option Told) (relations : ℕ) (t : TableView)
     (q : QueueView) where
   -- each has room for fewer, too
@@ -63,7 +70,6 @@ module _ {W D : Type 0} (m : DiskGhosts D) (told : Option Told) (relations : ℕ
       → MayTurn m told relations t q share bs js → MayTurn m told relations t q n bs js
   may_fewer share n bs js le may = record {
     backends = may.backends;
-    idle = may.idle;
     room = λ i d lt. fewer (64 * n) (64 * share) (slice_index_or bs i d).disk_actor.actor
         (omega arith) (may.room i d lt);
     fresh = may.fresh;
@@ -77,7 +83,6 @@ module _ {W D : Type 0} (m : DiskGhosts D) (told : Option Told) (relations : ℕ
     as_many = is.as_many;
     jobs_are = is.jobs_are;
     backends = is.backends;
-    idle = is.idle;
     goes = is.goes;
     lived = λ i d lt h. (let few = is.lived i d lt h in omega arith);
     options_same = is.options_same;
@@ -95,7 +100,6 @@ module _ {W D : Type 0} (m : DiskGhosts D) (told : Option Told) (relations : ℕ
     as_many = refl;
     jobs_are = refl;
     backends = may.backends;
-    idle = may.idle;
     goes = λ i d lt. stays_put m told relations t _ (may.backends i d lt).disk_actor;
     lived = λ i d lt h. omega arith;
     options_same = λ i d lt. refl;
@@ -114,6 +118,19 @@ module _ {W D : Type 0} (m : DiskGhosts D) (told : Option Told) (relations : ℕ
         let more = results_more b.disk_actor.actor.known.marks did.goes.more in
         let same = ap failed_results did.goes.marks in omega arith
 
+    -- a job, and none behind it
+    pub one_alone : (d : Backend W D) (js ls : List Job) → (length js ≡ 0 → d ≡ c)
+        → length ls ≡ length js → ListedAlone told block_filter b d (j ∷ js) (l ∷ ls)
+    one_alone d js ls unmoved same few = record {
+      jobs_are = omega arith;
+      each = elim [
+        | zero ↦ λ e k lt. subst (λ (x : Backend W D). IsListed block_filter (backend_options b)
+            told (MayBeUnread b.disk_actor.actor x.disk_actor.actor.known) j l)
+            (sym (unmoved (omega arith))) did.listed
+        | suc i ↦ λ e k lt. absurd (omega arith)
+      ];
+    }
+
     -- what is left of the backend's room
     pub may_later : (n : ℕ) (js : List Job) → HasRoom (64 * (n + 1)) b.disk_actor.actor
         → b.disk_actor.actor.known.number < b.disk_actor.actor.known.config.backends
@@ -125,8 +142,6 @@ module _ {W D : Type 0} (m : DiskGhosts D) (told : Option Told) (relations : ℕ
         record {
           backends = All-cons (IsBackend m told relations t q) c [] did.is
               (All-nil (IsBackend m told relations t q));
-          idle = All-cons (λ (x : Backend W D). x.job.count ≡ 0) c [] did.idle
-              (All-nil (λ (x : Backend W D). x.job.count ≡ 0));
           room = All-cons (λ (x : Backend W D). HasRoom (64 * n) x.disk_actor.actor) c [] room
               (All-nil (λ (x : Backend W D). HasRoom (64 * n) x.disk_actor.actor));
           fresh = fresh;
@@ -140,7 +155,6 @@ module _ {W D : Type 0} (m : DiskGhosts D) (told : Option Told) (relations : ℕ
       as_many = refl;
       jobs_are = omega (arith, is.jobs_are);
       backends = is.backends;
-      idle = is.idle;
       goes = elim [
         | zero ↦ λ e lt. goes_then m told relations t _ _ _ did.goes (is.goes 0 c (omega arith))
         | suc i ↦ λ e lt. absurd (omega arith)

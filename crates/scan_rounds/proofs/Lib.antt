@@ -6,16 +6,13 @@ mod OutputOfPages
 mod MapPages
 pub mod JobListed
 mod WorkerAtRest
-mod JobsExchanged
 mod UnreadLeavesResult
 mod LeastRoom
 mod CountRaised
 mod Sums
-mod RoundOfBackends
 pub mod RoundsCompose
 mod QueueClosed
 mod ScanAfterRounds
-mod ScanAfterOneRound
 mod SharesInParallel
 mod JobsInSequence
 mod ShareSplit

@@ -1,7 +1,7 @@
 -- New actors with their disks.
 use Rattle.std.proofs.Common.{◌≡◌, ℕ, ◌+◌, ◌-◌, ◌*◌, ◌^◌, ◌<◌, ◌≤◌, List, [], ◌++◌, length, map}
 use Rattle.std.proofs.Common.{refl, sym, ap, ◌∙◌, subst, arith, length-append, zero}
-use Rattle.std.specs.Prelude.{Option, Some, IfSome, slice_index_or}
+use Rattle.std.specs.Prelude.{Option, Some, IfSome, is_some, slice_index_or, true}
 use Rattle.std.specs.List.{All}
 use Rattle.std.specs.Vec.Iter.{into_iter_items}
 use Rattle.std.proofs.Math.Nat.{mul-lt-mul_of_pos_right, mul-div_cancel}
@@ -189,9 +189,10 @@ module _ {W D : Type 0} where
         pub backends_of_new : (q : QueueView) → length bs ≤ t.config.backends
             → All (λ (b : Backend W D). IsFreeDesk b.desk) bs
             → All (λ (b : Backend W D). IfSome b.seat (IsSeatOf q)) bs
+            → (1 ≤ t.config.runners → All (λ (b : Backend W D). is_some b.seat ≡ true) bs)
             → All (λ (b : Backend W D). IfSome b.ring (IsRingOf q)) bs
             → All (IsBackend m told relations t q) bs
-        backends_of_new q few desks seats rings k b lt =
+        backends_of_new q few desks seats seated rings k b lt =
             let within : k < length all = let many = many_disk_actors bs ws in
             omega (arith, lt, many) in
             let is = backend_actor k b lt in
@@ -201,6 +202,7 @@ module _ {W D : Type 0} where
               backend = subst P (sym is) (omega (arith, lt, few));
               desk = desks k b lt;
               seat = seats k b lt;
+              seated = λ some. seated some k b lt;
               ring = rings k b lt;
             }
 

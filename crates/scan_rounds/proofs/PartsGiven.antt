@@ -159,7 +159,6 @@ module _ {W D : Type 0} where
       desks = mapped desk_in _ _ _ bs cs g.desks h.desks;
       seats = flattened seats_in _ _ _ bs cs g.seats h.seats;
       rings = flattened rings_in _ _ _ bs cs g.rings h.rings;
-      idle = All-append (λ (b : Backend W D). b.job.count ≡ 0) bs cs g.idle h.idle;
       all_tuples = All-append (λ (b : Backend W D). b.tuples ≡ tuples) bs cs g.all_tuples
           h.all_tuples;
       seats_left = left_more _ _ _ bs cs g.seats_left h.seats_left;
@@ -195,7 +194,6 @@ module _ {W D : Type 0} where
     desks = refl;
     seats = refl;
     rings = refl;
-    idle = All-nil (λ (b : Backend W D). b.job.count ≡ 0);
     all_tuples = All-nil (λ (b : Backend W D). b.tuples ≡ tuples);
     seats_left = omega arith;
     rings_left = omega arith;

@@ -1,27 +1,23 @@
 -- The first backend has closed the queue.
-use Rattle.std.proofs.Common.{◌≡◌, ℕ, zero, suc, ◌+◌, ◌<◌, ◌≤◌, List, [], ◌∷◌, length, map, sum_by}
+use Rattle.std.proofs.Common.{◌≡◌, ℕ, zero, suc, ◌+◌, ◌<◌, List, [], ◌∷◌, map, sum_by}
 use Rattle.std.proofs.Common.{sym, ap, ◌∙◌, subst, arith}
-use Rattle.std.specs.Prelude.{Bool, Option, IfSome, slice_index_or, slice_set}
+use Rattle.std.specs.Prelude.{Bool, Option, IfSome, is_some, slice_index_or, slice_set}
 use Rattle.std.proofs.lemmas.List.Sums.{sum_by-cons}
 use Rattle.std.specs.List.{All}
 use Rattle.page_check.specs.Told.{Told}
 use Rattle.aio_handle.specs.ContractViews.{TableView}
 use Rattle.aio_word.specs.Tokens.{failed_results}
 use Rattle.method_worker.specs.QueueViews.{QueueView, IsSeatOf}
-use Rattle.scan_rounds.specs.DiskActors.{DiskGhosts, IsBackend, IsDiskActor, DiskActorAdvanced}
-use Rattle.scan_rounds.specs.DiskActors.{HasRoom, JobDone, backend_options}
-use Rattle.read_stream.specs.StreamAnswers.{MayBeUnread}
+use Rattle.scan_rounds.specs.DiskActors.{DiskGhosts, IsBackend, IsDiskActor}
+use Rattle.scan_rounds.specs.DiskActors.{HasRoom, backend_options}
 use Rattle.scan_rounds.specs.Progress.{AreWaiting}
-use Rattle.scan_rounds.specs.Jobs.{IsListed}
 use Rattle.scan_rounds.specs.Rings.{IsRingOf}
 use Rattle.scan_rounds.specs.ListOptions.{ListOptions, list_options}
-use Rattle.scan_rounds.specs.BlockFilter.{BlockFilter}
-use Rattle.scan_rounds.specs.Rounds.{AllJobsDone, AreIdle, HaveRoom, IsLeastRoom, AllHaveOptions}
+use Rattle.scan_rounds.specs.Rounds.{HaveRoom, IsLeastRoom, AllHaveOptions}
 use Rattle.scan_rounds.specs.Rounds.{backend_disk_actor}
 use Rattle.scan_rounds.specs.Rounds.{failed_results_taken}
 use Rattle.read_stream.specs.Desks.{IsFreeDesk}
 use Rattle.read_stream.specs.declared.desk.Desk.{Desk}
-use Rattle.scan_rounds.specs.declared.job.Job.{Job}
 use Rattle.scan_rounds.specs.declared.disk_actor.DiskActor.{DiskActor}
 use Rattle.scan_rounds.specs.declared.backend.Backend.{Backend}
 use Rattle.scan_rounds.specs.declared.rounds.Counts.{Counts}
@@ -53,14 +49,16 @@ module _ {W D : Type 0} where
 same_waiting : {W D : Type 0} (m : DiskGhosts D) (told : Option Told) (relations : ℕ)
     (t : TableView) (q : QueueView) (b c : Backend W D) → c.disk_actor ≡ b.disk_actor
     → c.desk ≡ b.desk → c.ring ≡ b.ring → IfSome c.seat (IsSeatOf q)
-    → IsBackend m told relations t q b → IsBackend m told relations t q c
-same_waiting m told relations t q b c disk_actor desk ring seat is = record {
+    → is_some c.seat ≡ is_some b.seat → IsBackend m told relations t q b
+    → IsBackend m told relations t q c
+same_waiting m told relations t q b c disk_actor desk ring seat kept is = record {
   disk_actor = subst (λ (h : DiskActor _ _). IsDiskActor m told relations t h) (sym disk_actor)
       is.disk_actor;
   backend = subst (λ (h : DiskActor _ _). h.actor.known.number < h.actor.known.config.backends)
       (sym disk_actor) is.backend;
   desk = subst (λ d. IsFreeDesk d) (sym desk) is.desk;
   seat = seat;
+  seated = λ some. kept ∙ is.seated some;
   ring = subst (λ r. IfSome r (IsRingOf q)) (sym ring) is.ring;
 }
 
@@ -71,11 +69,6 @@ module _ {W D : Type 0} (m : DiskGhosts D) (told : Option Told) (relations : ℕ
       → All (IsBackend m told relations t q) (c ∷ bs)
   first_backend a c bs all is zero d lt = is
   first_backend a c bs all is (suc i) d lt = all (suc i) d lt
-
-  first_idle : (a c : Backend W D) (bs : List (Backend W D)) → AreIdle (a ∷ bs)
-      → c.job.count ≡ 0 → AreIdle (c ∷ bs)
-  first_idle a c bs all is zero d lt = is
-  first_idle a c bs all is (suc i) d lt = all (suc i) d lt
 
   first_room : (n : ℕ) (a c : Backend W D) (bs : List (Backend W D)) → c.disk_actor ≡ a.disk_actor
       → HaveRoom n (a ∷ bs) → HaveRoom n (c ∷ bs)
@@ -93,19 +86,18 @@ module _ {W D : Type 0} (m : DiskGhosts D) (told : Option Told) (relations : ℕ
   -- the first of them has closed the queue
   pub first_closed : (bs : List (Backend W D)) (b c : Backend W D) (counts : Counts)
       → AreWaiting m told relations t q bs counts → b ≡ slice_index_or bs 0 b
-      → c.disk_actor ≡ b.disk_actor → c.desk ≡ b.desk → c.job ≡ b.job → c.ring ≡ b.ring
-      → IfSome c.seat (IsSeatOf q) → AreWaiting m told relations t q (slice_set bs 0 c) counts
+      → c.disk_actor ≡ b.disk_actor → c.desk ≡ b.desk → c.ring ≡ b.ring
+      → IfSome c.seat (IsSeatOf q) → is_some c.seat ≡ is_some b.seat
+      → AreWaiting m told relations t q (slice_set bs 0 c) counts
       × (map backend_disk_actor (slice_set bs 0 c) ≡ map backend_disk_actor bs)
-  first_closed [] b c counts w is disk_actor desk job ring seat = absurd (omega (arith, w.some))
-  first_closed (a ∷ bs) b c counts w is disk_actor desk job ring seat =
+  first_closed [] b c counts w is disk_actor desk ring seat kept = absurd (omega (arith, w.some))
+  first_closed (a ∷ bs) b c counts w is disk_actor desk ring seat kept =
       let was : b ≡ a = is in
       let same : c.disk_actor ≡ a.disk_actor = disk_actor
       ∙ ap (λ (x : Backend W D). x.disk_actor) was in
-      let none : c.job.count ≡ 0 = ap (λ (j : Job). j.count)
-      (job ∙ ap (λ (x : Backend W D). x.job) was) ∙ w.idle 0 a (omega arith) in
       let stands = same_waiting m told relations t q a c same
       (desk ∙ ap (λ (x : Backend W D). x.desk) was) (ring ∙ ap (λ (x : Backend W D). x.ring) was)
-      seat (w.backends 0 a (omega arith)) in
+      seat (kept ∙ ap (λ (x : Backend W D). is_some x.seat) was) (w.backends 0 a (omega arith)) in
       let f : Backend W D → ℕ = λ x. failed_results x.disk_actor.actor.known.marks in
       let results : failed_results_taken (c ∷ bs) ≡ failed_results_taken (a ∷ bs)
       = sum_by-cons f c bs ∙ (ap (λ (h : DiskActor W D). failed_results h.actor.known.marks
@@ -113,56 +105,8 @@ module _ {W D : Type 0} (m : DiskGhosts D) (told : Option Told) (relations : ℕ
         record {
           some = omega arith;
           backends = first_backend a c bs w.backends stands;
-          idle = first_idle a c bs w.idle none;
           room = first_least a c bs counts.room same w.room;
           few_unread = omega (arith, w.few_unread);
         },
         ap (λ (h : DiskActor W D). h ∷ map backend_disk_actor bs) same,
       )
-
-  ran_closed : {block_filter : Option BlockFilter} (b c d : Backend W D)
-      → d.disk_actor ≡ c.disk_actor → d.desk ≡ c.desk → d.job ≡ c.job → d.tuples ≡ c.tuples
-      → d.ring ≡ c.ring → IfSome d.seat (IsSeatOf q) → JobDone m told relations t q block_filter b c
-      → JobDone m told relations t q block_filter b d
-  ran_closed {block_filter} b c d disk_actor desk job tuples ring seat ran = record {
-    is = same_waiting m told relations t q c d disk_actor desk ring seat ran.is;
-    goes = subst (λ (h : DiskActor W D). DiskActorAdvanced m told relations t b.disk_actor h)
-        (sym disk_actor) ran.goes;
-    lived = rw disk_actor ran.lived;
-    taken = rw disk_actor ran.taken;
-    idle = λ none. job ∙ ran.idle none;
-    listed = λ some. subst (λ (h : DiskActor W D). IsListed block_filter (backend_options b) told
-        (MayBeUnread b.disk_actor.actor h.actor.known) b.job d.job) (sym disk_actor)
-        (subst (λ (j : Job). IsListed block_filter (backend_options b) told
-        (MayBeUnread b.disk_actor.actor c.disk_actor.actor.known) b.job j) (sym job)
-        (ran.listed some));
-    options_same = same_options c d desk tuples ∙ ran.options_same;
-  }
-
-  first_ran : {block_filter : Option BlockFilter} (bs cs : List (Backend W D)) (c d : Backend W D)
-      → AllJobsDone m told relations t q block_filter bs (c ∷ cs) → d.disk_actor ≡ c.disk_actor
-      → d.desk ≡ c.desk → d.job ≡ c.job → d.tuples ≡ c.tuples → d.ring ≡ c.ring
-      → IfSome d.seat (IsSeatOf q) → (i : ℕ) (e : Backend W D) → i < length bs
-      → JobDone m told relations t q block_filter (slice_index_or bs i e)
-      (slice_index_or (d ∷ cs) i e)
-  first_ran bs cs c d all disk_actor desk job tuples ring seat zero e lt =
-      ran_closed _ c d disk_actor desk job tuples ring seat (all.each 0 e lt)
-  first_ran bs cs c d all disk_actor desk job tuples ring seat (suc i) e lt = all.each (suc i) e lt
-
-  -- and the first has closed the queue
-  pub all_closed : {block_filter : Option BlockFilter} (bs cs : List (Backend W D))
-      (c d : Backend W D) → AllJobsDone m told relations t q block_filter bs cs → 1 ≤ length bs
-      → c ≡ slice_index_or cs 0 c → d.disk_actor ≡ c.disk_actor → d.desk ≡ c.desk → d.job ≡ c.job
-      → d.tuples ≡ c.tuples → d.ring ≡ c.ring → IfSome d.seat (IsSeatOf q)
-      → AllJobsDone m told relations t q block_filter bs (slice_set cs 0 d)
-  all_closed bs [] c d all some is disk_actor desk job tuples ring seat =
-      absurd (omega (arith, all.as_many))
-  all_closed bs (x ∷ cs) c d all some is disk_actor desk job tuples ring seat =
-      let was : c ≡ x = is in record {
-        as_many = all.as_many;
-        each = first_ran bs cs x d all (disk_actor ∙ ap (λ (y : Backend W D). y.disk_actor) was)
-            (desk ∙ ap (λ (y : Backend W D). y.desk) was)
-            (job ∙ ap (λ (y : Backend W D). y.job) was)
-            (tuples ∙ ap (λ (y : Backend W D). y.tuples) was)
-            (ring ∙ ap (λ (y : Backend W D). y.ring) was) seat;
-      }

@@ -6,7 +6,7 @@ use Rattle.std.specs.Prelude.{Option, Some, slice_index_or, ⊤}
 use Rattle.std.proofs.lemmas.List.Sums.{sum_by-cons}
 use Rattle.page_check.specs.SynchronousAnswer.{Entry, reader_of}
 use Rattle.std.specs.List.{All}
-use Rattle.std.proofs.lemmas.List.{length-map}
+use Rattle.std.proofs.lemmas.List.{get_or-map, length-map}
 use Rattle.page_check.specs.Told.{Told}
 use Rattle.aio_disk.specs.Counts.{raised_by}
 use Rattle.aio_word.specs.declared.Mark.{Mark}
@@ -20,14 +20,15 @@ use Rattle.scan_rounds.specs.Jobs.{IsFresh, IsListed, AreAnswered, blocks_among,
 use Rattle.scan_rounds.specs.ListOptions.{ListOptions}
 use Rattle.scan_rounds.specs.BlockFilter.{BlockFilter}
 use Rattle.scan_rounds.specs.JobSources.{JobSourceAdvanced}
-use Rattle.scan_rounds.specs.Rounds.{AllAdvanced, AllHaveOptions, backend_disk_actor, results_taken}
+use Rattle.scan_rounds.specs.Rounds.{AllAdvanced, AllHaveOptions, AreListed, backend_disk_actor}
+use Rattle.scan_rounds.specs.Rounds.{results_taken}
 use Rattle.read_stream.specs.ActorProgress.{local_marks}
+use Rattle.read_stream.specs.StreamAnswers.{MayBeUnread}
 use Rattle.scan_rounds.specs.declared.job.Job.{Job}
 use Rattle.scan_rounds.proofs.Blocks.{answer_wider}
 use Rattle.scan_rounds.specs.declared.disk_actor.DiskActor.{DiskActor}
 use Rattle.scan_rounds.specs.declared.backend.Backend.{Backend}
 use Rattle.scan_rounds.specs.declared.rounds.Counts.{Counts}
-use Rattle.scan_rounds.proofs.RoundOfBackends.{goes_at}
 use Rattle.scan_rounds.proofs.CountRaised.{raised_none, raised_twice}
 
 results_taken-disk_actors : {W D : Type 0} (bs : List (Backend W D))
@@ -46,6 +47,36 @@ results_taken-disk_actors bs = sum_by-map-is bs
         let rest = sum_by-map-is bs in
         let x = sum_by-cons f b bs in
         let y = sum_by-cons h b.disk_actor (map backend_disk_actor bs) in omega arith
+
+-- what backends have taken is their actors'
+pub taken_as : {W D : Type 0} (cs ds : List (Backend W D))
+    → map backend_disk_actor ds ≡ map backend_disk_actor cs → results_taken ds ≡ results_taken cs
+taken_as {W} {D} cs ds same =
+    let f : DiskActor W D → ℕ = λ h. local_marks h.actor.known.marks in
+    results_taken-disk_actors ds ∙ (ap (sum_by f) same ∙ sym (results_taken-disk_actors cs))
+
+-- so is what may be unread of what they have listed
+pub listed_as : {W D : Type 0} (block_filter : Option BlockFilter) (how : ListOptions)
+    (told : Option Told) (bs cs ds : List (Backend W D)) (js ks : List Job)
+    → length js ≤ length cs → map backend_disk_actor ds ≡ map backend_disk_actor cs
+    → AreListed block_filter how told bs cs js ks → AreListed block_filter how told bs ds js ks
+listed_as {W} {D} block_filter how told bs cs ds js ks few same is = record {
+  jobs_are = is.jobs_are;
+  each = λ i d j lt.
+      subst (λ (h : DiskActor W D). IsListed block_filter how told
+      (MayBeUnread (slice_index_or bs i d).disk_actor.actor h.actor.known) (slice_index_or js i j)
+      (slice_index_or ks i j)) (at i d (omega arith)) (is.each i d j lt);
+}
+  where
+    as_many : length ds ≡ length cs
+    as_many = sym (length-map ds backend_disk_actor)
+        ∙ (ap length same ∙ length-map cs backend_disk_actor)
+
+    at : (i : ℕ) (d : Backend W D) → i < length cs
+        → (slice_index_or cs i d).disk_actor ≡ (slice_index_or ds i d).disk_actor
+    at i d lt = sym (get_or-map backend_disk_actor cs i d d.disk_actor lt)
+        ∙ (ap (λ (hs : List (DiskActor W D)). slice_index_or hs i d.disk_actor) (sym same)
+        ∙ get_or-map backend_disk_actor ds i d d.disk_actor (omega (arith, as_many)))
 
 pub pays_then : (r s t f g h : ℕ) (ms more : List Mark) → CountersFollowMarks r s f g ms
     → CountersFollowMarks s t g h more
@@ -66,6 +97,18 @@ some_same o d e x y = cc
 
 module _ {W D : Type 0} (m : DiskGhosts D) (told : Option Told) (relations : ℕ)
     (t : TableView) where
+  -- a fact of the actors of two backends, among those of all
+  pub goes_at : (bs fs : List (Backend W D)) (i : ℕ) (d : DiskActor W D) → i < length bs
+      → i < length fs → ((e : Backend W D) → DiskActorAdvanced m told relations t
+      (slice_index_or bs i e).disk_actor (slice_index_or fs i e).disk_actor)
+      → DiskActorAdvanced m told relations t (slice_index_or (map backend_disk_actor bs) i d)
+      (slice_index_or (map backend_disk_actor fs) i d)
+  goes_at (b ∷ bs) (f ∷ fs) zero d lt lt' goes = goes b
+  goes_at (b ∷ bs) (f ∷ fs) (suc i) d lt lt' goes =
+      goes_at bs fs i d (omega arith) (omega arith) goes
+  goes_at [] fs i d lt lt' goes = absurd (omega arith)
+  goes_at (b ∷ bs) [] i d lt lt' goes = absurd (omega arith)
+
   pub stays_put : (h : DiskActor W D) → IsDiskActor m told relations t h
       → DiskActorAdvanced m told relations t h h
   stays_put h is = record {
@@ -106,7 +149,7 @@ module _ {W D : Type 0} (m : DiskGhosts D) (told : Option Told) (relations : ℕ
     as_many = refl;
     each = λ i d lt.
         (let inside : i < length bs = omega (arith, length-map bs backend_disk_actor) in
-        goes_at m told relations t bs bs i d inside inside
+        goes_at bs bs i d inside inside
         (λ e. stays_put (slice_index_or bs i e).disk_actor (all i e inside).disk_actor));
   }
 
@@ -147,9 +190,7 @@ module _ {W D : Type 0} (m : DiskGhosts D) (told : Option Told) (relations : ℕ
         go_on = subst (λ (hs : List (DiskActor W D)). AllAdvanced m told relations t
             (map backend_disk_actor bs) hs) (sym same) gone.go_on;
         room = gone.room;
-        taken = (let f : DiskActor W D → ℕ = λ h. local_marks h.actor.known.marks in
-            let x = results_taken-disk_actors cs in let y = results_taken-disk_actors ds in
-            let z = ap (sum_by f) same in omega (arith, gone.taken));
+        taken = (let x = taken_as cs ds same in omega (arith, gone.taken));
         more = gone.more;
         raised = gone.raised;
         enough = gone.enough;

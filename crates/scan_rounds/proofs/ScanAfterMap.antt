@@ -21,7 +21,7 @@ use Rattle.scan_rounds.specs.DiskActors.{backend_options, map_blocks}
 use Rattle.scan_rounds.specs.Jobs.{is_unread, said_end, unread_in}
 use Rattle.scan_rounds.specs.ListOptions.{ListOptions}
 use Rattle.scan_rounds.specs.Progress.{AreWaiting}
-use Rattle.scan_rounds.specs.Rounds.{AllAdvanced, AllHaveOptions, AllServed, AreIdle, HaveRoom}
+use Rattle.scan_rounds.specs.Rounds.{AllAdvanced, AllHaveOptions, AllServed, HaveRoom}
 use Rattle.scan_rounds.specs.Rounds.{IsFirstRead}
 use Rattle.scan_rounds.specs.Rounds.{IsMapRead}
 use Rattle.scan_rounds.specs.ConsumedPages.{HasPages, PagesConsumed}
@@ -29,18 +29,16 @@ use Rattle.scan_rounds.specs.Rounds.{IsLeastRoom, backend_disk_actor, failed_res
 use Rattle.scan_rounds.specs.Rounds.{results_taken}
 use Rattle.scan_rounds.specs.Scans.{IsScan, scan_options}
 use Rattle.scan_rounds.specs.declared.job.Ending.{Ending}
-use Rattle.scan_rounds.specs.declared.job.Job.{Job}
 use Rattle.scan_rounds.specs.declared.shared.SharedState.{SharedState}
 use Rattle.scan_rounds.specs.declared.disk_actor.DiskActor.{DiskActor}
 use Rattle.scan_rounds.specs.declared.backend.Backend.{Backend}
 use Rattle.scan_rounds.specs.declared.scan.Scan.{Scan}
 use Rattle.scan_rounds.specs.declared.worker.Worker.{Worker}
 use Rattle.scan_rounds.proofs.ScanAfterRounds.{scan_again}
-use Rattle.scan_rounds.proofs.RoundsCompose.{stays_put}
+use Rattle.scan_rounds.proofs.RoundsCompose.{goes_at, stays_put}
 use Rattle.scan_rounds.proofs.UnskippedCount.{few_in_range}
 use Rattle.scan_rounds.proofs.LeastRoom.{least_falls}
 use Rattle.scan_rounds.proofs.CountRaised.{raised_within}
-use Rattle.scan_rounds.proofs.RoundOfBackends.{goes_at}
 use Rattle.scan_rounds.proofs.Sums.{at_least, at_most}
 use Rattle.scan_rounds.proofs.UnreadLeavesResult.{results_more, unread_after}
 
@@ -81,11 +79,6 @@ module _ {W D : Type 0} (m : DiskGhosts D) (told : Option Told) (relations : ℕ
   stand_read : All (IsBackend m told relations t q) cs
   stand_read i d lt = each_of (λ b c. IsBackend m told relations t q c) (λ e r. r.is)
       (λ k e below. all k e below) i d (inside i lt)
-
-  idle_read : AreIdle bs → AreIdle cs
-  idle_read idle i d lt = each_of (λ b c. c.job.count ≡ 0)
-      (λ e r. ap (λ (j : Job). j.count) r.job_kept ∙ idle 0 e some)
-      (λ k e below. idle k e below) i d (inside i lt)
 
   pub goes_read : (i : ℕ) (d : Backend W D) → i < length bs
       → DiskActorAdvanced m told relations t (slice_index_or bs i d).disk_actor
@@ -170,13 +163,12 @@ module _ {W D : Type 0} (m : DiskGhosts D) (told : Option Told) (relations : ℕ
       (λ i d le lt. (let same = same_count f i d le in omega arith)) in
       omega arith
 
-  pub waiting_read : (before room unread : ℕ) → AreIdle bs → IsLeastRoom cs room
+  pub waiting_read : (before room unread : ℕ) → IsLeastRoom cs room
       → before ≤ failed_results_taken bs → unread ≡ raised_by (unread_in end) before
       → AreWaiting m told relations t q cs (record { room = room; unread = unread })
-  waiting_read before room unread idle least few raised = record {
+  waiting_read before room unread least few raised = record {
     some = omega (arith, read.as_many);
     backends = stand_read;
-    idle = idle_read idle;
     room = least;
     few_unread = raised_within unread (unread_in end) before _ _ raised few results_read;
   }
@@ -239,7 +231,7 @@ module _ {W D : Type 0} (m : DiskGhosts D) (told : Option Told) (relations : ℕ
       scan_again m told relations s s' s.backends.items s.workers.items is
       (ap (λ (c : SharedState W). c.table) shared) refl refl
       (rw (shared, now, left) (waiting_read m told relations t q s.backends.items cs relation
-      pages found warnings end stands some read s.unread room s'.unread is.idle least
+      pages found warnings end stands some read s.unread room s'.unread least
       is.few_unread unread))
       (rw (shared, workers) (workers_stay m told relations t q s.workers.items is.workers_stand))
       (rw (shared, now) (go_on_read m told relations t q s.backends.items cs relation pages

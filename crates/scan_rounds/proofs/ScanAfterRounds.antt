@@ -44,6 +44,7 @@ module _ {W D : Type 0} (m : DiskGhosts D) (told : Option Told) (relations : ℕ
     backend = is.backend;
     desk = is.desk;
     seat = seat_again q r b.seat line words is.seat;
+    seated = is.seated;
     ring = ring_again q r b.ring line words is.ring;
   }
 
@@ -144,7 +145,6 @@ module _ {W D : Type 0} (m : DiskGhosts D) (told : Option Told) (relations : ℕ
     some = is.some;
     backends = backends_again m told relations s.shared.table s.shared.queue r line words
         s.backends.items is.backends_stand;
-    idle = is.idle;
     room = is.room;
     few_unread = is.few_unread;
   })
@@ -180,7 +180,6 @@ module _ {W D : Type 0} (m : DiskGhosts D) (told : Option Told) (relations : ℕ
         backends_stand = waiting.backends;
         workers_stand = λ i d lt. (worked.each i d (omega (arith, worked.as_many))).is;
         paid = paid_all;
-        idle = waiting.idle;
         all_list_in = all;
         room = waiting.room;
         few_unread = waiting.few_unread;

@@ -1,6 +1,6 @@
 -- The seats and the rings of a new scan's backends.
-use Rattle.std.proofs.Common.{◌≡◌, ℕ, ◌+◌, ◌≤◌, List, length, arith}
-use Rattle.std.specs.Prelude.{Bool, is_some}
+use Rattle.std.proofs.Common.{◌≡◌, ℕ, ◌+◌, ◌≤◌, List, length, arith, refl}
+use Rattle.std.specs.Prelude.{Bool, is_some, true}
 use Rattle.std.specs.List.{All}
 use Rattle.std.specs.Vec.Iter.{into_iter_items}
 use Rattle.scan_rounds.specs.OpenedScan.{GivesBackends, has_rings, has_seats, rings_of_method}
@@ -19,6 +19,13 @@ pub enough_seats : (kind : MethodKind) (all backends workers left : ℕ)
 enough_seats method.Sync all backends workers left is le = omega arith
 enough_seats method.Worker all backends workers left is le = omega (arith, is, le)
 enough_seats method.Ring all backends workers left is le = omega arith
+
+-- beside workers backends have seats
+pub beside_workers : (kind : MethodKind) (workers : ℕ) → 1 ≤ workers_of_method kind workers
+    → has_seats kind ≡ true
+beside_workers method.Sync workers some = absurd (omega (arith, some))
+beside_workers method.Worker workers some = refl
+beside_workers method.Ring workers some = refl
 
 module _ {W D : Type 0} where
   -- each backend has a seat, or none has

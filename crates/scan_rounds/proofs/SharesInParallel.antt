@@ -1,7 +1,7 @@
 -- Backends that turn side by side: what each may do, and what all have done.
 use Rattle.std.proofs.Common.{◌≡◌, ℕ, zero, suc, ◌+◌, ◌*◌, ◌<◌, ◌≤◌, List, [], ◌∷◌, ◌++◌, length}
 use Rattle.std.proofs.Common.{arith, cond, length-append}
-use Rattle.std.proofs.Common.{map, refl, subst, sym}
+use Rattle.std.proofs.Common.{ap, map, refl, subst, sym}
 use Rattle.std.specs.Prelude.{Option, flat_map, slice_index_or, ⊤}
 use Rattle.std.specs.List.{All}
 use Rattle.std.proofs.lemmas.List.Elements.{All-nil, All-cons, All-head, All-tail, All-append}
@@ -17,8 +17,9 @@ use Rattle.scan_rounds.specs.DiskActors.{backend_options}
 use Rattle.scan_rounds.specs.Jobs.{IsFresh, IsListed, AreAnswered, entries_of_job, is_unread}
 use Rattle.scan_rounds.specs.ListOptions.{ListOptions}
 use Rattle.scan_rounds.specs.BlockFilter.{BlockFilter}
-use Rattle.scan_rounds.specs.Shares.{Share}
-use Rattle.scan_rounds.specs.Turns.{MayTurn, HasTurned}
+use Rattle.scan_rounds.specs.Shares.{AreFilled, Share}
+use Rattle.scan_rounds.specs.Rounds.{AllHaveOptions, AreListed}
+use Rattle.scan_rounds.specs.Turns.{MayTurn, HasTurned, ListedAlone}
 use Rattle.scan_rounds.specs.declared.backend.Backend.{Backend}
 use Rattle.scan_rounds.specs.declared.job.Job.{Job}
 
@@ -67,7 +68,6 @@ module _ {W D : Type 0} (m : DiskGhosts D) (told : Option Told) (relations : ℕ
     as_many = omega (arith, length-append cs ds, length-append gs bs, one.as_many, two.as_many);
     jobs_are = omega (arith, length-append vs ws, length-append xs ys, one.jobs_are, two.jobs_are);
     backends = All-append (IsBackend m told relations t q) cs ds one.backends two.backends;
-    idle = All-append (λ (b : Backend W D). b.job.count ≡ 0) cs ds one.idle two.idle;
     goes = each_joined (λ (b c : Backend W D). DiskActorAdvanced m told relations t b.disk_actor
         c.disk_actor) gs bs cs ds one.as_many one.goes two.goes;
     lived = each_joined (λ (b c : Backend W D). (h : ℕ)
@@ -108,7 +108,6 @@ module _ {W D : Type 0} (m : DiskGhosts D) (told : Option Told) (relations : ℕ
     as_many = refl;
     jobs_are = refl;
     backends = λ i d lt. absurd (omega arith);
-    idle = λ i d lt. absurd (omega arith);
     goes = λ i d lt. absurd (omega arith);
     lived = λ i d lt. absurd (omega arith);
     options_same = λ i d lt. absurd (omega arith);
@@ -140,7 +139,6 @@ module _ {W D : Type 0} (m : DiskGhosts D) (told : Option Told) (relations : ℕ
       → MayTurn m told relations t q share bs ks → MayTurn m told relations t q share (b ∷ []) js
   may_share share i b bs xs js ys ks lt is part may = record {
     backends = one (IsBackend m told relations t q) may.backends;
-    idle = one (λ (x : Backend W D). x.job.count ≡ 0) may.idle;
     room = one (λ (x : Backend W D). HasRoom (64 * share) x.disk_actor.actor) may.room;
     fresh = all_front (IsFresh relations) js ys (all_back (IsFresh relations) xs (js ++ ys)
         (subst (λ (l : List Job). All (IsFresh relations) l) part may.fresh));
@@ -183,3 +181,83 @@ module _ {W D : Type 0} (m : DiskGhosts D) (told : Option Told) (relations : ℕ
       (subst (λ (x : List Job). Turned before after x ks) tasks
       (subst (λ (x : List Job). Turned before after own x) done
       (shares_turned block_filter more shares all))))
+
+-- shares of one job at most, one behind the other: each job is its own backend's
+placed : {W D : Type 0} (block_filter : Option BlockFilter) (how : ListOptions)
+    (told : Option Told) (b c : Backend W D) (bs cs : List (Backend W D))
+    (xs vs ys ws : List Job) → length xs ≤ 1 → (length xs < 1 → ys ≡ [])
+    → AreListed block_filter how told (b ∷ []) (c ∷ []) xs vs
+    → AreListed block_filter how told bs cs ys ws
+    → AreListed block_filter how told (b ∷ bs) (c ∷ cs) (xs ++ ys) (vs ++ ws)
+placed block_filter how told b c bs cs (x ∷ []) (v ∷ []) ys ws few full one rest = record {
+  jobs_are = omega (arith, rest.jobs_are);
+  each = elim [
+    | zero ↦ λ d j lt. one.each 0 d j (omega arith)
+    | suc i ↦ λ d j lt. rest.each i d j (omega arith)
+  ];
+}
+placed block_filter how told b c bs cs [] [] ys ws few full one rest =
+    let none = ap length (full (omega arith)) in record {
+      jobs_are = rest.jobs_are;
+      each = λ i d j lt. absurd (omega arith);
+    }
+placed block_filter how told b c bs cs [] (v ∷ vs) ys ws few full one rest =
+    absurd (omega (arith, one.jobs_are))
+placed block_filter how told b c bs cs (x ∷ []) [] ys ws few full one rest =
+    absurd (omega (arith, one.jobs_are))
+placed block_filter how told b c bs cs (x ∷ []) (v ∷ w ∷ vs) ys ws few full one rest =
+    absurd (omega (arith, one.jobs_are))
+placed block_filter how told b c bs cs (x ∷ y ∷ xs) vs ys ws few full one rest =
+    absurd (omega arith)
+
+shares_placed : {W D : Type 0} (block_filter : Option BlockFilter) (how : ListOptions)
+    (told : Option Told) (shares : List (Share (Backend W D) Job)) → AreFilled 1 shares
+    → All (λ (s : Share (Backend W D) Job). ListedAlone told block_filter s.before s.after s.tasks
+    s.done) shares
+    → AllHaveOptions how (map (λ (s : Share (Backend W D) Job). s.before) shares)
+    → AreListed block_filter how told (map (λ (s : Share (Backend W D) Job). s.before) shares)
+    (map (λ (s : Share (Backend W D) Job). s.after) shares)
+    (flat_map (λ (s : Share (Backend W D) Job). s.tasks) shares)
+    (flat_map (λ (s : Share (Backend W D) Job). s.done) shares)
+shares_placed block_filter how told [] filled all options = record {
+  jobs_are = refl;
+  each = λ i d j lt. absurd (omega arith);
+}
+shares_placed {W} {D} block_filter how told (s ∷ shares) filled all options =
+    let Own : Share (Backend W D) Job → Type 0 = λ r. ListedAlone told block_filter r.before
+    r.after r.tasks r.done in
+    let Options : Backend W D → Type 0 = λ b. backend_options b ≡ how in
+    let befores = map (λ (r : Share (Backend W D) Job). r.before) shares in
+    let own = subst (λ (n : ListOptions). AreListed block_filter n told (s.before ∷ [])
+    (s.after ∷ []) s.tasks s.done) (All-head Options s.before befores options)
+    (All-head Own s shares all filled.0) in
+    placed block_filter how told s.before s.after _ _ s.tasks s.done _ _ filled.0 filled.1 own
+    (shares_placed block_filter how told shares filled.2 (All-tail Own s shares all)
+    (All-tail Options s.before befores options))
+
+pub alone_as : {W D : Type 0} {told : Option Told} {block_filter : Option BlockFilter}
+    (b c d e : Backend W D) (js ks ls ns : List Job) → b ≡ d → c ≡ e → js ≡ ls → ks ≡ ns
+    → ListedAlone told block_filter b c js ks → ListedAlone told block_filter d e ls ns
+alone_as b c d e js ks ls ns one two tasks done is = rw (sym one, sym two, sym tasks, sym done) is
+
+pub all_placed : {W D : Type 0} (block_filter : Option BlockFilter) (how : ListOptions)
+    (told : Option Told) (bs cs : List (Backend W D)) (js ks : List Job)
+    (shares : List (Share (Backend W D) Job)) → AreFilled 1 shares
+    → map (λ (s : Share (Backend W D) Job). s.before) shares ≡ bs
+    → map (λ (s : Share (Backend W D) Job). s.after) shares ≡ cs
+    → flat_map (λ (s : Share (Backend W D) Job). s.tasks) shares ≡ js
+    → flat_map (λ (s : Share (Backend W D) Job). s.done) shares ≡ ks
+    → All (λ (s : Share (Backend W D) Job). ListedAlone told block_filter s.before s.after s.tasks
+    s.done) shares → AllHaveOptions how bs → AreListed block_filter how told bs cs js ks
+all_placed {W} {D} block_filter how told bs cs js ks shares filled one two tasks done all options =
+    let before = map (λ (s : Share (Backend W D) Job). s.before) shares in
+    let after = map (λ (s : Share (Backend W D) Job). s.after) shares in
+    let own = flat_map (λ (s : Share (Backend W D) Job). s.tasks) shares in
+    let Listed : List (Backend W D) → List (Backend W D) → List Job → List Job → Type 0 =
+    AreListed block_filter how told in
+    subst (λ (x : List (Backend W D)). Listed x cs js ks) one
+    (subst (λ (x : List (Backend W D)). Listed before x js ks) two
+    (subst (λ (x : List Job). Listed before after x ks) tasks
+    (subst (λ (x : List Job). Listed before after own x) done
+    (shares_placed block_filter how told shares filled all
+    (subst (λ (x : List (Backend W D)). AllHaveOptions how x) (sym one) options)))))

@@ -4,22 +4,11 @@ use Rattle.std.specs.Prelude.{Option}
 use Rattle.page_check.specs.Told.{Told}
 use Rattle.aio_handle.specs.ContractViews.{TableView}
 use Rattle.method_worker.specs.QueueViews.{QueueView}
-use Rattle.scan_rounds.specs.DiskActors.{DiskGhosts, IsReady, IsWorker, MayRun, MayServe}
-use Rattle.scan_rounds.specs.declared.backend.Backend.{Backend}
+use Rattle.scan_rounds.specs.DiskActors.{DiskGhosts, IsWorker, MayServe}
 use Rattle.scan_rounds.specs.declared.worker.Worker.{Worker}
 
 module _ {W D : Type 0} (m : DiskGhosts D) (told : Option Told) (relations : ℕ) (t : TableView)
     (q : QueueView) where
-  pub is_ready : (b : Backend W D) → MayRun m told relations t q b
-      → IsReady m told relations t q b
-  unfolding MayRun
-  is_ready b may = may
-
-  pub may_run : (b : Backend W D) → IsReady m told relations t q b
-      → MayRun m told relations t q b
-  unfolding MayRun
-  may_run b is = is
-
   pub is_worker : (w : Worker W D) → MayServe m told relations t q w
       → IsWorker m told relations t q w
   unfolding MayServe

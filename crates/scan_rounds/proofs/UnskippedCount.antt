@@ -30,10 +30,6 @@ few_in_range (Some s) relation first count =
     let few = filtered_few (λ e. not (is_marked s.pages s.skip e.block))
     (job_entries relation first count) in omega arith)
 
-pub few_unskipped : (block_filter : Option BlockFilter) (j : Job)
-    → length (entries_of_job block_filter j) ≤ j.count
-few_unskipped block_filter j = few_in_range block_filter j.relation j.first j.count
-
 -- where there is no map, all that are asked for
 pub none_left_out : (jobs : List Job) → count_unskipped None jobs ≡ blocks_among jobs
 none_left_out [] = refl

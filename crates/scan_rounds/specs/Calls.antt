@@ -8,6 +8,7 @@ use Rattle.scan_rounds.specs.ListOptions.{ListOptions}
 use Rattle.scan_rounds.specs.BlockFilter.{BlockFilter}
 use Rattle.scan_rounds.specs.Jobs.{IsFresh, count_unskipped, unread_among, unread_in}
 use Rattle.scan_rounds.specs.DiskActors.{DiskGhosts}
+use Rattle.scan_rounds.specs.Progress.{IsClosedByFirst}
 use Rattle.scan_rounds.specs.Rounds.{AreListed, IsMapRead, results_taken}
 use Rattle.scan_rounds.specs.Scans.{IsOpenedAgain, IsSameScan, IsScan, scan_options}
 use Rattle.scan_rounds.specs.declared.job.Ending.{Ending}
@@ -47,6 +48,7 @@ module _ {W D : Type 0} (m : DiskGhosts D) (told : Option Told) (relations : ℕ
     pub scan : IsScan m told relations n
     pub same : IsSameScan s n
     pub reopened : IsOpenedAgain s.backends.items s.shared.queue n.shared.queue
+    pub closed : IsClosedByFirst n.shared.queue n.backends.items
     pub listed : AreListed block_filter (scan_options s)
         told s.backends.items n.backends.items asked jobs
     pub room : s.room ≤ n.room + 64
@@ -70,6 +72,7 @@ module _ {W D : Type 0} (m : DiskGhosts D) (told : Option Told) (relations : ℕ
     pub scan : IsScan m told relations n
     pub same : IsSameScan s n
     pub reopened : IsOpenedAgain s.backends.items s.shared.queue n.shared.queue
+    pub closed : IsClosedByFirst n.shared.queue n.backends.items
     pub goes_on : follows job_source end
     pub over : is_over end
     pub options_are : options end ≡ options job_source

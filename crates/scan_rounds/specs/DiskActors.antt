@@ -1,6 +1,6 @@
 -- An actor with its disk, between its calls, and what a round makes of it.
-use Rattle.std.specs.Prelude.{◌≡◌, ◌≢◌, ℕ, ◌+◌, ◌^◌, ◌<◌, ◌≤◌, ◌++◌, Bool, List, Option, Some, None}
-use Rattle.std.specs.Prelude.{IfSome, length}
+use Rattle.std.specs.Prelude.{◌≡◌, ℕ, ◌+◌, ◌^◌, ◌<◌, ◌≤◌, ◌++◌, Bool, List, Option, Some, None}
+use Rattle.std.specs.Prelude.{IfSome, is_some, length, true}
 use Rattle.page_check.specs.SynchronousAnswer.{Entry}
 use Rattle.page_check.specs.Told.{Told}
 use Rattle.aio_word.specs.declared.Mark.{Mark}
@@ -127,27 +127,8 @@ module _ {W D : Type 0} (m : DiskGhosts D) (told : Option Told) (relations : ℕ
       pub backend : b.disk_actor.actor.known.number < b.disk_actor.actor.known.config.backends
       pub desk : IsFreeDesk b.desk
       pub seat : IfSome b.seat (IsSeatOf q)
+      pub seated : 1 ≤ t.config.runners → is_some b.seat ≡ true
       pub ring : IfSome b.ring (IsRingOf q)
-
-    -- it may do its job, if it has one
-    pub record IsReady (b : Backend W D) : Type 0 where
-      pub is : IsBackend b
-      pub room : HasRoom 64 b.disk_actor.actor
-      pub fresh : b.job.count ≢ 0 → IsFresh relations b.job
-
-    -- it has done its job, if it had one, without the blocks that are left out
-    pub record JobDone (block_filter : Option BlockFilter) (b c : Backend W D) : Type 0 where
-      pub is : IsBackend c
-      pub goes : DiskActorAdvanced b.disk_actor c.disk_actor
-      pub lived : (h : ℕ) → lives_ended h c.disk_actor.actor.known.marks
-          ≤ lives_ended h b.disk_actor.actor.known.marks + 64
-      pub taken : local_marks c.disk_actor.actor.known.marks
-          ≤ local_marks b.disk_actor.actor.known.marks + length (entries_of_job block_filter b.job)
-      pub idle : b.job.count ≡ 0 → c.job ≡ b.job
-      pub listed : b.job.count ≢ 0
-          → IsListed block_filter (backend_options b) told
-          (MayBeUnread b.disk_actor.actor c.disk_actor.actor.known) b.job c.job
-      pub options_same : backend_options c ≡ backend_options b
 
     -- it has read so many pages of a map, up to this ending, and keeps all but its actor and its
     -- disk
@@ -157,7 +138,6 @@ module _ {W D : Type 0} (m : DiskGhosts D) (told : Option Told) (relations : ℕ
       pub few : pages ≤ 65
       pub read : HasRead (HasPages map warnings) b.disk_actor c.disk_actor b.desk c.desk
           (map_blocks relation pages) end
-      pub job_kept : c.job ≡ b.job
       pub options_same : backend_options c ≡ backend_options b
 
     pub record IsWorker (w : Worker W D) : Type 0 where
@@ -169,12 +149,7 @@ module _ {W D : Type 0} (m : DiskGhosts D) (told : Option Told) (relations : ℕ
       pub is : IsWorker v
       pub goes : DiskActorAdvanced w.disk_actor v.disk_actor
 
--- as they stand among what a thread is given
-unfoldable pub MayRun : {W D : Type 0} → DiskGhosts D → Option Told → ℕ → TableView → QueueView
-    → Backend W D
-    → Type 0
-MayRun m told relations t q b = IsReady m told relations t q b
-
+-- as it stands among what a thread is given
 unfoldable pub MayServe : {W D : Type 0} → DiskGhosts D → Option Told → ℕ → TableView → QueueView
     → Worker W D
     → Type 0

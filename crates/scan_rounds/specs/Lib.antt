@@ -8,6 +8,7 @@ pub mod Rings
 pub mod DiskActors
 pub mod Rounds
 pub mod Progress
+pub mod RoundStates
 pub mod JobSources
 pub mod OpenedScan
 pub mod Scans

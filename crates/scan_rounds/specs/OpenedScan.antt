@@ -15,7 +15,7 @@ use Rattle.read_stream.specs.declared.desk.Settings.{Settings}
 use Rattle.scan_rounds.specs.ListOptions.{list_options}
 use Rattle.scan_rounds.specs.DiskActors.{DiskGhosts}
 use Rattle.scan_rounds.specs.Rings.{IsRingOf}
-use Rattle.scan_rounds.specs.Rounds.{AreIdle, backend_disk_actor, worker_disk_actor, results_taken}
+use Rattle.scan_rounds.specs.Rounds.{backend_disk_actor, worker_disk_actor, results_taken}
 use Rattle.scan_rounds.specs.Scans.{IsScan, actor_of, disk_of, scan_options, opened_disks}
 use Rattle.scan_rounds.specs.declared.backend.Backend.{Backend}
 use Rattle.scan_rounds.specs.declared.disk_actor.DiskActor.{DiskActor}
@@ -150,7 +150,7 @@ module _ {W D : Type 0} where
     pub disks : map Some (into_iter_items p.disks)
         ≡ map disk_of hs ++ map Some (into_iter_items left.disks)
 
-  -- the first parts are those of the backends, which have no job, and these are left
+  -- the first parts are those of the backends, and these are left
   pub record GivesBackends (tuples : Bool) (p left : Parts W D) (bs : List (Backend W D))
       : Type 0 where
     pub disk_actors : GivesDiskActors p left (map backend_disk_actor bs)
@@ -160,7 +160,6 @@ module _ {W D : Type 0} where
         ≡ flat_map (λ (b : Backend W D). option_to_list b.seat) bs ++ into_iter_items left.seats
     pub rings : into_iter_items p.rings
         ≡ flat_map (λ (b : Backend W D). option_to_list b.ring) bs ++ into_iter_items left.rings
-    pub idle : AreIdle bs
     pub all_tuples : All (λ (b : Backend W D). b.tuples ≡ tuples) bs
     -- each takes a seat and a ring, as long as there are some
     pub seats_left : length (into_iter_items left.seats)

@@ -1,15 +1,29 @@
 -- The backends of a scan between two rounds, and what some rounds have made of them.
-use Rattle.std.specs.Prelude.{◌≡◌, ℕ, ◌+◌, ◌*◌, ◌≤◌, List, length, map, Option}
+use Rattle.std.specs.Prelude.{◌≡◌, ℕ, ◌+◌, ◌*◌, ◌≤◌, List, [], ◌∷◌, ◌++◌, length, map, Option}
+use Rattle.std.specs.Prelude.{IfSome, slice_index_or}
 use Rattle.std.specs.List.{All}
 use Rattle.page_check.specs.Told.{Told}
 use Rattle.aio_disk.specs.Counts.{raised_by}
 use Rattle.aio_handle.specs.ContractViews.{TableView}
-use Rattle.method_worker.specs.QueueViews.{QueueView}
+use Rattle.method_worker.specs.QueueViews.{QueueView, SeatView}
+use Rattle.scan_rounds.specs.BlockFilter.{BlockFilter}
 use Rattle.scan_rounds.specs.DiskActors.{DiskGhosts, IsBackend}
-use Rattle.scan_rounds.specs.Rounds.{AreIdle, IsLeastRoom, AllAdvanced, backend_disk_actor}
+use Rattle.scan_rounds.specs.Jobs.{IsFresh, count_unskipped, unread_among}
+use Rattle.scan_rounds.specs.ListOptions.{ListOptions}
+use Rattle.scan_rounds.specs.Rounds.{AllHaveOptions, AreListed}
+use Rattle.scan_rounds.specs.Rounds.{IsLeastRoom, AllAdvanced, backend_disk_actor}
 use Rattle.scan_rounds.specs.Rounds.{failed_results_taken, results_taken}
 use Rattle.scan_rounds.specs.declared.backend.Backend.{Backend}
+use Rattle.scan_rounds.specs.declared.job.Job.{Job}
 use Rattle.scan_rounds.specs.declared.rounds.Counts.{Counts}
+
+-- the seat has closed the queue, last under the number of its reopenings
+abbrev pub HasClosed : QueueView → SeatView → Type 0
+HasClosed q s = (before : List ℕ) × (s.closes ≡ before ++ q.reopened ∷ [])
+
+-- so has the first of these backends, where it has a seat
+pub record IsClosedByFirst {W D : Type 0} (q : QueueView) (bs : List (Backend W D)) : Type 0 where
+  pub seat : (b : Backend W D) → IfSome (slice_index_or bs 0 b).seat (HasClosed q)
 
 module _ {W D : Type 0} (m : DiskGhosts D) (told : Option Told) (relations : ℕ)
     (t : TableView) where
@@ -17,7 +31,6 @@ module _ {W D : Type 0} (m : DiskGhosts D) (told : Option Told) (relations : ℕ
   pub record AreWaiting (q : QueueView) (bs : List (Backend W D)) (counts : Counts) : Type 0 where
     pub some : 1 ≤ length bs
     pub backends : All (IsBackend m told relations t q) bs
-    pub idle : AreIdle bs
     pub room : IsLeastRoom bs counts.room
     -- each job that ended in Unread has left the result of a failed I/O
     pub few_unread : counts.unread ≤ failed_results_taken bs
@@ -33,3 +46,25 @@ module _ {W D : Type 0} (m : DiskGhosts D) (told : Option Told) (relations : ℕ
     pub more : ℕ
     pub raised : after.unread ≡ raised_by more before.unread
     pub enough : unread ≤ more
+
+  -- a round may be made of these jobs, one for each of the first backends
+  pub record MayMakeRound (q : QueueView) (bs : List (Backend W D)) (js : List Job)
+      (counts : Counts) : Type 0 where
+    pub waiting : AreWaiting q bs counts
+    pub few : length js ≤ length bs
+    pub fresh : All (IsFresh relations) js
+    pub room : 64 ≤ counts.room
+
+  -- it was made, without the blocks that are left out
+  pub record RoundMade (q : QueueView) (block_filter : Option BlockFilter)
+      (bs cs : List (Backend W D)) (js ks : List Job) (before after : Counts) : Type 0 where
+    pub waiting : AreWaiting q cs after
+    pub closed : IsClosedByFirst q cs
+    pub go_on : AllAdvanced m told relations t (map backend_disk_actor bs)
+        (map backend_disk_actor cs)
+    pub listed : (how : ListOptions) → AllHaveOptions how bs
+        → AreListed block_filter how told bs cs js ks
+    pub all_list_in : (how : ListOptions) → AllHaveOptions how bs → AllHaveOptions how cs
+    pub room : before.room ≤ after.room + 64
+    pub unread : after.unread ≡ raised_by (unread_among ks) before.unread
+    pub taken : results_taken cs ≤ results_taken bs + count_unskipped block_filter js

@@ -8,7 +8,7 @@ use Rattle.vis_map.specs.Bits.{Map}
 use Rattle.method_worker.specs.QueueViews.{QueueView}
 use Rattle.read_stream.specs.StreamAnswers.{MayBeUnread}
 use Rattle.aio_word.specs.Tokens.{failed_results}
-use Rattle.scan_rounds.specs.DiskActors.{DiskGhosts, JobDone, WorkerServed, HasReadMap, HasRoom}
+use Rattle.scan_rounds.specs.DiskActors.{DiskGhosts, WorkerServed, HasReadMap, HasRoom}
 use Rattle.scan_rounds.specs.DiskActors.{DiskActorAdvanced, backend_options}
 use Rattle.read_stream.specs.ActorProgress.{local_marks}
 use Rattle.scan_rounds.specs.ListOptions.{ListOptions}
@@ -27,20 +27,6 @@ module _ {W D : Type 0} where
 
   abbrev pub worker_disk_actor : Worker W D → DiskActor W D
   worker_disk_actor w = w.disk_actor
-
-  -- the jobs of the first backends and those of the list have changed places
-  pub record JobsExchanged (bs cs : List (Backend W D)) (js ks : List Job) : Type 0 where
-    pub backends_are : length cs ≡ length bs
-    pub jobs_are : length ks ≡ length js
-    pub handed : (i : ℕ) (d : Backend W D) (j : Job) → i < length js
-        → (slice_index_or cs i d ≡ record (slice_index_or bs i d) { job = slice_index_or js i j })
-        × (slice_index_or ks i j ≡ (slice_index_or bs i d).job)
-    pub others : (i : ℕ) (d : Backend W D) → length js ≤ i → i < length bs
-        → slice_index_or cs i d ≡ slice_index_or bs i d
-
-  -- no backend has a job
-  abbrev pub AreIdle : List (Backend W D) → Type 0
-  AreIdle bs = All (λ (b : Backend W D). b.job.count ≡ 0) bs
 
   -- each backend has room for so many lives more
   abbrev pub HaveRoom : ℕ → List (Backend W D) → Type 0
@@ -92,12 +78,6 @@ module _ {W D : Type 0} (m : DiskGhosts D) (told : Option Told) (relations : ℕ
 
 module _ {W D : Type 0} (m : DiskGhosts D) (told : Option Told) (relations : ℕ) (t : TableView)
     (q : QueueView) where
-  pub record AllJobsDone (block_filter : Option BlockFilter) (bs cs : List (Backend W D))
-      : Type 0 where
-    pub as_many : length cs ≡ length bs
-    pub each : (i : ℕ) (d : Backend W D) → i < length bs
-        → JobDone m told relations t q block_filter (slice_index_or bs i d) (slice_index_or cs i d)
-
   pub record AllServed (ws vs : List (Worker W D)) : Type 0 where
     pub as_many : length vs ≡ length ws
     pub each : (i : ℕ) (d : Worker W D) → i < length ws

@@ -13,7 +13,7 @@ use Rattle.aio_handle.specs.ContractViews.{ActorView, actor_known}
 use Rattle.method_worker.specs.QueueViews.{QueueView}
 use Rattle.scan_rounds.specs.ListOptions.{ListOptions, list_options}
 use Rattle.scan_rounds.specs.DiskActors.{DiskGhosts, IsBackend, IsWorker}
-use Rattle.scan_rounds.specs.Rounds.{AreIdle, AllHaveOptions, IsLeastRoom, failed_results_taken}
+use Rattle.scan_rounds.specs.Rounds.{AllHaveOptions, IsLeastRoom, failed_results_taken}
 use Rattle.scan_rounds.specs.Rounds.{backend_disk_actor, worker_disk_actor}
 use Rattle.scan_rounds.specs.declared.backend.Backend.{Backend}
 use Rattle.scan_rounds.specs.declared.disk_actor.DiskActor.{DiskActor}
@@ -72,7 +72,6 @@ module _ {W D : Type 0} (m : DiskGhosts D) (told : Option Told) (relations : ℕ
     pub workers_stand : All (IsWorker m told relations s.shared.table s.shared.queue)
         s.workers.items
     pub paid : AllCountersMatch (opened_disks s) (scan_disk_actors s)
-    pub idle : AreIdle s.backends.items
     pub all_list_in : AllHaveOptions (scan_options s) s.backends.items
     pub room : IsLeastRoom s.backends.items s.room
     -- each job that ended in Unread has left the result of a failed I/O

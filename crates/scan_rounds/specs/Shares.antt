@@ -1,5 +1,6 @@
 -- Tasks that are shared out to takers: each does neighbouring ones.
-use Rattle.std.specs.Prelude.{◌≡◌, ℕ, ◌≤◌, ◌++◌, List, length, map, flat_map, slice_index_or, ◌<◌}
+use Rattle.std.specs.Prelude.{◌≡◌, ℕ, ◌≤◌, ◌++◌, List, [], ◌∷◌, length, map, flat_map, ⊤, ◌<◌}
+use Rattle.std.specs.Prelude.{slice_index_or}
 use Rattle.std.specs.List.{All}
 use denote.Ref.{MutBor}
 use denote.Param.Members.{Shared}
@@ -10,6 +11,13 @@ pub record Share (T J : Type 0) : Type 0 where
   pub after : T
   pub tasks : List J
   pub done : List J
+
+-- each share has at most so many tasks, and behind one that has fewer there are none
+abbrev pub AreFilled : {T J : Type 0} → ℕ → List (Share T J) → Type 0
+AreFilled size [] = ⊤
+AreFilled {T} {J} size (s ∷ shares) = (length s.tasks ≤ size)
+    × (length s.tasks < size → flat_map (λ (r : Share T J). r.tasks) shares ≡ [])
+    × AreFilled size shares
 
 module _ {F T J : Type 0} (g : Shared F (MutBor T × (MutBor (List J) × Unit {0}))
     (Unit {0} × (MutBor T × (MutBor (List J) × Unit {0})))) (f : F) where
@@ -30,8 +38,9 @@ module _ {F T J : Type 0} (g : Shared F (MutBor T × (MutBor (List J) × Unit {0
     pub are : (taker_after.now ≡ s.after) × (tasks_after.now ≡ s.done)
 
   -- the takers have done all the tasks, each its share, one share behind the other
-  pub record AreShared (ts us : List T) (js ks : List J) : Type 0 where
+  pub record AreShared (size : ℕ) (ts us : List T) (js ks : List J) : Type 0 where
     pub shares : List (Share T J)
+    pub filled : AreFilled size shares
     pub takers : map (λ (s : Share T J). s.before) shares ≡ ts
     pub takers_after : map (λ (s : Share T J). s.after) shares ≡ us
     pub tasks : flat_map (λ (s : Share T J). s.tasks) shares ≡ js

@@ -1,6 +1,7 @@
 -- What a turn makes of backends and jobs: each backend does its share of the jobs, one after the
 -- other.
-use Rattle.std.specs.Prelude.{◌≡◌, ℕ, ◌+◌, ◌*◌, ◌<◌, ◌≤◌, List, length, slice_index_or, Option}
+use Rattle.std.specs.Prelude.{◌≡◌, ℕ, ◌+◌, ◌*◌, ◌<◌, ◌≤◌, List, [], ◌∷◌, length, slice_index_or}
+use Rattle.std.specs.Prelude.{Option}
 use Rattle.std.specs.List.{All}
 use Rattle.page_check.specs.Told.{Told}
 use Rattle.aio_word.specs.Events.{lives_ended}
@@ -12,7 +13,8 @@ use Rattle.scan_rounds.specs.DiskActors.{DiskGhosts, IsBackend, DiskActorAdvance
 use Rattle.scan_rounds.specs.Jobs.{IsFresh, IsListed, AreAnswered, entries_of_job, count_unskipped}
 use Rattle.scan_rounds.specs.Jobs.{unread_among}
 use Rattle.scan_rounds.specs.ListOptions.{ListOptions}
-use Rattle.scan_rounds.specs.Rounds.{AllHaveOptions, AreIdle, HaveRoom, failed_results_taken}
+use Rattle.scan_rounds.specs.Rounds.{AllHaveOptions, AreListed, HaveRoom}
+use Rattle.scan_rounds.specs.Rounds.{failed_results_taken}
 use Rattle.scan_rounds.specs.Rounds.{results_taken}
 use Rattle.scan_rounds.specs.BlockFilter.{BlockFilter}
 use Rattle.scan_rounds.specs.declared.backend.Backend.{Backend}
@@ -20,11 +22,10 @@ use Rattle.scan_rounds.specs.declared.job.Job.{Job}
 
 module _ {W D : Type 0} (m : DiskGhosts D) (told : Option Told) (relations : ℕ) (t : TableView)
     (q : QueueView) where
-  -- a backend that had this job, and what has become of both
+  -- a backend that was given this job, and what has become of both
   pub record BackendDidJob (block_filter : Option BlockFilter) (b : Backend W D) (j : Job)
       (f : Backend W D) (l : Job) : Type 0 where
     pub is : IsBackend m told relations t q f
-    pub idle : f.job.count ≡ 0
     pub goes : DiskActorAdvanced m told relations t b.disk_actor f.disk_actor
     pub lived : (h : ℕ) → lives_ended h f.disk_actor.actor.known.marks
         ≤ lives_ended h b.disk_actor.actor.known.marks + 64
@@ -37,7 +38,6 @@ module _ {W D : Type 0} (m : DiskGhosts D) (told : Option Told) (relations : ℕ
   -- each of these backends may do so many of these jobs
   pub record MayTurn (share : ℕ) (bs : List (Backend W D)) (js : List Job) : Type 0 where
     pub backends : All (IsBackend m told relations t q) bs
-    pub idle : AreIdle bs
     pub room : HaveRoom (64 * share) bs
     pub fresh : All (IsFresh relations) js
 
@@ -48,7 +48,6 @@ module _ {W D : Type 0} (m : DiskGhosts D) (told : Option Told) (relations : ℕ
     pub as_many : length cs ≡ length bs
     pub jobs_are : length ks ≡ length js
     pub backends : All (IsBackend m told relations t q) cs
-    pub idle : AreIdle cs
     pub goes : (i : ℕ) (d : Backend W D) → i < length bs
         → DiskActorAdvanced m told relations t (slice_index_or bs i d).disk_actor
         (slice_index_or cs i d).disk_actor
@@ -61,3 +60,9 @@ module _ {W D : Type 0} (m : DiskGhosts D) (told : Option Told) (relations : ℕ
     pub unread : failed_results_taken bs + unread_among ks ≤ failed_results_taken cs
     pub answered : (how : ListOptions) → AllHaveOptions how bs
         → AreAnswered block_filter how told js ks
+
+-- a backend that had one of these jobs at most has listed it
+abbrev pub ListedAlone : {W D : Type 0} → Option Told → Option BlockFilter → Backend W D
+    → Backend W D → List Job → List Job → Type 0
+ListedAlone told block_filter b c js ks = length js ≤ 1
+    → AreListed block_filter (backend_options b) told (b ∷ []) (c ∷ []) js ks

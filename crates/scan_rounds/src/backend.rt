@@ -1,9 +1,12 @@
-//! A backend: an actor with its disk, its desk and its job.
-ghost use Rattle.std.specs.Prelude.{◌≡◌, ◌<◌, [], IfSome};
+//! A backend: an actor with its disk and its desk.
+ghost use Rattle.std.specs.Prelude.{◌≡◌, ◌<◌, [], IfSome, is_some};
 ghost use Rattle.method_worker.specs.QueueViews.{IsSeatOf};
-ghost use Rattle.scan_rounds.specs.DiskActors.{HasReadMap, HasRoom, IsBackend, IsReady, JobDone};
+ghost use Rattle.scan_rounds.specs.DiskActors.{HasReadMap, HasRoom, IsBackend};
 ghost use Rattle.scan_rounds.specs.DiskActors.{disk_ghosts};
 ghost use Rattle.scan_rounds.specs.BlockFilter.{filter_of};
+ghost use Rattle.scan_rounds.specs.Jobs.{IsFresh};
+ghost use Rattle.scan_rounds.specs.Progress.{HasClosed};
+ghost use Rattle.scan_rounds.specs.Turns.{BackendDidJob};
 
 use crate::disk_actor::DiskActor;
 use crate::job::{Ending, Job};
@@ -26,35 +29,32 @@ pub(crate) struct Backend<W: World, D: Disk> {
     pub(crate) seat: Option<QueueSeat>,
     /// None where it executes I/Os one by one, and while a runner has it.
     pub(crate) ring: Option<IdleRingState<W>>,
-    /// It asks for no blocks where the backend has nothing to do.
-    pub(crate) job: Job,
     /// Whether the headers of tuples are listed too.
     pub(crate) tuples: bool,
 }
 
 impl<W: World, D: Disk> Backend<W, D> {
-    /// Does its job, if it has one, without the blocks that are left out.
-    pub(crate) fn run<T: Wait>(
+    /// Lists a job, without the blocks that are left out.
+    pub(crate) fn list<T: Wait>(
         &mut self,
         rt: &T,
         shared: &SharedState<W>,
         skipping: Option<Skipping<'_>>,
+        job: &mut Job,
     )
-        requires { IsReady (disk_ghosts D.told D.relations D.reads D.faults) W.told W.relations
+        requires is { IsBackend (disk_ghosts D.told D.relations D.reads D.faults) W.told W.relations
             shared.now.table shared.now.queue self.old }
-        ensures { JobDone (disk_ghosts D.told D.relations D.reads D.faults) W.told W.relations
-            shared.now.table shared.now.queue (filter_of skipping.entry) self.old
-            self.new }
+        requires room { HasRoom 64 self.old.disk_actor.actor }
+        requires fresh { IsFresh W.relations job.old }
+        ensures did { BackendDidJob (disk_ghosts D.told D.relations D.reads D.faults)
+            W.told W.relations shared.now.table shared.now.queue (filter_of skipping.entry) self.old
+            job.old self.new job.new }
     {
-        if self.job.count == 0 {
-            return;
-        }
         let Backend {
             disk_actor,
             desk,
             seat,
             ring,
-            job,
             tuples,
         } = self;
         match seat.take() {
@@ -111,9 +111,10 @@ impl<W: World, D: Disk> Backend<W, D> {
     pub(crate) fn close<T: Wait>(&mut self, rt: &T, shared: &SharedState<W>)
         requires seat { IfSome self.old.seat (IsSeatOf shared.now.queue) }
         ensures seat { IfSome self.new.seat (IsSeatOf shared.now.queue) }
+        ensures closed { IfSome self.new.seat (HasClosed shared.now.queue) }
         ensures rest { (self.new.disk_actor ≡ self.old.disk_actor) × (self.new.desk ≡ self.old.desk)
-            × (self.new.job ≡ self.old.job) × (self.new.tuples ≡ self.old.tuples)
-            × (self.new.ring ≡ self.old.ring) }
+            × (self.new.tuples ≡ self.old.tuples) × (self.new.ring ≡ self.old.ring) }
+        ensures kept { is_some self.new.seat ≡ is_some self.old.seat }
     {
         if let Some(seat) = &mut self.seat {
             shared.queue.close(rt, seat);

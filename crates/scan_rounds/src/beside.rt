@@ -1,16 +1,17 @@
-//! Backends and workers side by side: all rounds of a run, or one.
+//! Backends and workers side by side, in threads of their own: all rounds of a run, or one.
 ghost use Rattle.std.specs.Prelude.{◌≤◌, ◌<◌, ◌+◌, ◌-◌, length, Option};
 ghost use Rattle.std.specs.List.{All};
 ghost use Rattle.std.specs.Thread.{IsSync};
 ghost use Rattle.scan_rounds.specs.JobSources.{JobSourceAdvanced, MayRunRounds};
-ghost use Rattle.scan_rounds.specs.DiskActors.{MayRun, MayServe, disk_ghosts};
-ghost use Rattle.scan_rounds.specs.Rounds.{AllJobsDone, AllServed};
+ghost use Rattle.scan_rounds.specs.DiskActors.{MayServe, WorkerServed, disk_ghosts};
+ghost use Rattle.scan_rounds.specs.Progress.{IsClosedByFirst};
+ghost use Rattle.scan_rounds.specs.RoundStates.{HasRunRound, MayRunRound};
+ghost use Rattle.scan_rounds.specs.Rounds.{AllServed};
 ghost use Rattle.scan_rounds.specs.BlockFilter.{filter_of};
 
 use crate::backend::Backend;
 use crate::job_source::JobSource;
-use crate::round::{run_backends, run_workers};
-use crate::run_state::{RunState, run_rounds};
+use crate::run_state::{RoundState, RunState, run_round, run_rounds};
 use crate::shared::SharedState;
 use crate::skipping::Skipping;
 use crate::worker::Worker;
@@ -19,6 +20,41 @@ use page_check::World;
 use std::sync::Wait;
 use std::thread;
 use std::thread::Threads;
+
+// Lets a worker serve the queue.
+fn serve_one<W: World, D: Disk, R: Wait>(rt: &R, shared: &SharedState<W>, worker: &mut Worker<W, D>)
+    requires may { MayServe (disk_ghosts D.told D.relations D.reads D.faults) W.told W.relations
+        shared.now.table shared.now.queue worker.old }
+    ensures worked { WorkerServed (disk_ghosts D.told D.relations D.reads D.faults)
+        W.told W.relations shared.now.table shared.now.queue worker.old worker.new }
+{
+    worker.run(rt, shared);
+}
+
+// Each worker serves the queue in a thread of its own, until it is closed and empty.
+fn run_workers<W: World + Send + Sync, D: Disk, R: Threads + Wait + Sync>(
+    rt: &R,
+    shared: &SharedState<W>,
+    workers: &mut [Worker<W, D>],
+)
+    requires may { All (MayServe (disk_ghosts D.told D.relations D.reads D.faults)
+        W.told W.relations shared.now.table shared.now.queue) workers.old }
+    ensures worked { AllServed (disk_ghosts D.told D.relations D.reads D.faults) W.told W.relations
+        shared.now.table shared.now.queue workers.old workers.new }
+{
+    thread::for_each_mut(
+        rt,
+        workers,
+        32,
+        &|_, worker: &mut Worker<W, D>|
+            requires { MayServe (disk_ghosts D.told D.relations D.reads D.faults) W.told W.relations
+                shared.now.table shared.now.queue worker.old }
+            ensures { WorkerServed (disk_ghosts D.told D.relations D.reads D.faults)
+                W.told W.relations shared.entry.now.table shared.entry.now.queue worker.old
+                worker.new }
+        { serve_one(rt, shared, worker) },
+    );
+}
 
 /// The workers serve the queue until it is closed, and come back.
 pub(crate) fn serve_all<W: World + Send + Sync, D: Disk, R: Threads + Wait + Sync>(
@@ -63,6 +99,7 @@ pub(crate) fn run_beside<
         run_state.jobs.items result.1.jobs.items run_state.job_source result.1.job_source
         run_state.counts result.1.counts }
     ensures over { A.is_over result.1.job_source }
+    ensures closed { IsClosedByFirst shared.now.queue result.1.backends.items }
 {
     thread::join(
         rt,
@@ -82,45 +119,10 @@ pub(crate) fn run_beside<
                 A.unskipped_left A.unread A.options A.block_filter A.follows
                 run_state.backends.items result.backends.items run_state.jobs.items
                 result.jobs.items run_state.job_source result.job_source run_state.counts
-                result.counts × A.is_over result.job_source }
+                result.counts × A.is_over result.job_source
+                × IsClosedByFirst shared.entry.now.queue result.backends.items }
         { run_rounds(rt, shared, skipping, run_state) },
     )
-}
-
-/// The backends do their jobs; then the queue is closed.
-pub(crate) fn run_once<W: World + Send + Sync, D: Disk, R: Threads + Wait + Sync>(
-    rt: &R,
-    shared: &SharedState<W>,
-    skipping: Option<Skipping<'_>>,
-    mut backends: Vec<Backend<W, D>>,
-) -> Vec<Backend<W, D>>
-    requires may { All (MayRun (disk_ghosts D.told D.relations D.reads D.faults) W.told W.relations
-        shared.now.table shared.now.queue) backends.items }
-    requires some { 1 ≤ length backends.items }
-    ensures ran { AllJobsDone (disk_ghosts D.told D.relations D.reads D.faults) W.told W.relations
-        shared.now.table shared.now.queue (filter_of skipping.entry) backends.items
-        result.items }
-{
-    run_and_close_once(rt, shared, skipping, backends.as_mut_slice());
-    backends
-}
-
-// The same, over a slice.
-fn run_and_close_once<W: World + Send + Sync, D: Disk, R: Threads + Wait + Sync>(
-    rt: &R,
-    shared: &SharedState<W>,
-    skipping: Option<Skipping<'_>>,
-    backends: &mut [Backend<W, D>],
-)
-    requires may { All (MayRun (disk_ghosts D.told D.relations D.reads D.faults) W.told W.relations
-        shared.now.table shared.now.queue) backends.old }
-    requires some { 1 ≤ length backends.old }
-    ensures ran { AllJobsDone (disk_ghosts D.told D.relations D.reads D.faults) W.told W.relations
-        shared.now.table shared.now.queue (filter_of skipping.entry) backends.old
-        backends.new }
-{
-    run_backends(rt, shared, skipping, backends);
-    backends[0].close(rt, shared);
 }
 
 /// One round beside the workers, which stand first as in `run_beside`.
@@ -129,18 +131,17 @@ pub(crate) fn round_beside<W: World + Send + Sync, D: Disk, R: Threads + Wait + 
     shared: &SharedState<W>,
     skipping: Option<Skipping<'_>>,
     workers: Vec<Worker<W, D>>,
-    backends: Vec<Backend<W, D>>,
-) -> (Vec<Worker<W, D>>, Vec<Backend<W, D>>)
+    round_state: RoundState<W, D>,
+) -> (Vec<Worker<W, D>>, RoundState<W, D>)
     requires serve { All (MayServe (disk_ghosts D.told D.relations D.reads D.faults)
         W.told W.relations shared.now.table shared.now.queue) workers.items }
-    requires may { All (MayRun (disk_ghosts D.told D.relations D.reads D.faults) W.told W.relations
-        shared.now.table shared.now.queue) backends.items }
-    requires some { 1 ≤ length backends.items }
+    requires may { MayRunRound (disk_ghosts D.told D.relations D.reads D.faults) W.told W.relations
+        shared.now.table shared.now.queue round_state }
     ensures worked { AllServed (disk_ghosts D.told D.relations D.reads D.faults) W.told W.relations
         shared.now.table shared.now.queue workers.items result.0.items }
-    ensures ran { AllJobsDone (disk_ghosts D.told D.relations D.reads D.faults) W.told W.relations
-        shared.now.table shared.now.queue (filter_of skipping.entry) backends.items
-        result.1.items }
+    ensures made { HasRunRound (disk_ghosts D.told D.relations D.reads D.faults)
+        W.told W.relations shared.now.table shared.now.queue (filter_of skipping.entry)
+        round_state result.1 }
 {
     thread::join(
         rt,
@@ -150,13 +151,13 @@ pub(crate) fn round_beside<W: World + Send + Sync, D: Disk, R: Threads + Wait + 
             ensures { AllServed (disk_ghosts D.told D.relations D.reads D.faults) W.told W.relations
                 shared.entry.now.table shared.entry.now.queue workers.items result.items }
         { serve_all(rt, shared, workers) },
-        move || -> Vec<Backend<W, D>>
-            requires { All (MayRun (disk_ghosts D.told D.relations D.reads D.faults)
-                W.told W.relations shared.now.table shared.now.queue) backends.items
-                × (1 ≤ length backends.items) × IsSync R.row }
-            ensures { AllJobsDone (disk_ghosts D.told D.relations D.reads D.faults)
+        move || -> RoundState<W, D>
+            requires { MayRunRound (disk_ghosts D.told D.relations D.reads D.faults)
+                W.told W.relations shared.now.table shared.now.queue round_state
+                × IsSync R.row }
+            ensures { HasRunRound (disk_ghosts D.told D.relations D.reads D.faults)
                 W.told W.relations shared.entry.now.table shared.entry.now.queue
-                (filter_of skipping.entry) backends.items result.items }
-        { run_once(rt, shared, skipping, backends) },
+                (filter_of skipping.entry) round_state result }
+        { run_round(rt, shared, skipping, round_state) },
     )
 }

@@ -42,7 +42,6 @@ mod open;
 mod reading;
 mod ring;
 mod ring_scan;
-mod round;
 mod rounds;
 mod run;
 mod run_state;

@@ -13,7 +13,6 @@ ghost use Rattle.scan_rounds.specs.Scans.{IsScan, scan_options, opened_disks};
 
 use crate::backend::Backend;
 use crate::disk_actor::DiskActor;
-use crate::job::Job;
 use crate::memory::{Memory, worker_count};
 use crate::ring::IdleRingState;
 use crate::scan::Scan;
@@ -61,7 +60,7 @@ impl<W: World, D: Disk> Parts<W, D> {
     }
 
     // The next backend. It has a seat if there is one, and a ring if there is one.
-    fn backend(&mut self, alloc: Global, tuples: bool) -> Backend<W, D>
+    fn backend(&mut self, tuples: bool) -> Backend<W, D>
         requires actor { 1 ≤ length (into_iter_items self.old.actors) }
         requires disk { 1 ≤ length (into_iter_items self.old.disks) }
         requires desk { 1 ≤ length (into_iter_items self.old.desks) }
@@ -76,7 +75,6 @@ impl<W: World, D: Disk> Parts<W, D> {
             desk,
             seat: self.seats.next(),
             ring: self.rings.next(),
-            job: Job::new(alloc),
             tuples,
         }
     }
@@ -98,7 +96,6 @@ impl<W: World, D: Disk> Parts<W, D> {
     // So many backends, in this list.
     fn backends(
         &mut self,
-        alloc: Global,
         count: u32,
         tuples: bool,
         mut backends: Vec<Backend<W, D>>,
@@ -111,7 +108,7 @@ impl<W: World, D: Disk> Parts<W, D> {
         ensures count { length result.items ≡ count }
     {
         for _ in 0..count {
-            backends.push_reserved(self.backend(alloc, tuples));
+            backends.push_reserved(self.backend(tuples));
         }
         backends
     }
@@ -157,7 +154,7 @@ fn assemble_scan<W: World, D: Disk>(
         rings: memory.rings.into_iter(),
         desks: memory.desks.into_iter(),
     };
-    let backends = parts.backends(alloc, settings.backends, settings.tuples, lists.backends);
+    let backends = parts.backends(settings.backends, settings.tuples, lists.backends);
     let workers = parts.workers(worker_count(settings), lists.workers);
     Scan {
         alloc,

@@ -1,14 +1,13 @@
-//! What a round does beside its reads: jobs change places, and lives and endings are counted.
+//! What a round counts: the lives that are left, and the jobs that ended in Unread.
 ghost use Rattle.std.specs.Prelude.{◌≡◌, ◌≤◌, length};
 ghost use Rattle.aio_disk.specs.Counts.{raised_by};
 ghost use Rattle.scan_rounds.specs.Jobs.{unread_among, unread_in};
-ghost use Rattle.scan_rounds.specs.Rounds.{IsLeastRoom, JobsExchanged};
+ghost use Rattle.scan_rounds.specs.Rounds.{IsLeastRoom};
 
 use crate::backend::Backend;
 use crate::job::{Ending, Job};
 use aio_disk::Disk;
 use page_check::World;
-use std::mem;
 
 /// What a scan counts over its rounds.
 #[derive(Clone, Copy)]
@@ -17,16 +16,6 @@ pub(crate) struct Counts {
     pub(crate) room: u64,
     /// How many jobs have ended in Unread.
     pub(crate) unread: u64,
-}
-
-// The first jobs of the list and those of the first backends change places.
-pub(crate) fn swap_jobs<W: World, D: Disk>(backends: &mut [Backend<W, D>], jobs: &mut [Job])
-    requires few { length jobs.old ≤ length backends.old }
-    ensures { JobsExchanged backends.old backends.new jobs.old jobs.new }
-{
-    for k in 0..jobs.len() {
-        mem::swap(&mut backends[k].job, &mut jobs[k]);
-    }
 }
 
 /// The count with one more where this is Unread.

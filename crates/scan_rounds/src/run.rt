@@ -1,10 +1,9 @@
 //! One round of a scan, and all rounds of a run, in their parts.
-ghost use Rattle.std.specs.Prelude.{◌≡◌, ◌≤◌, ◌<◌, ◌+◌, ◌*◌, length, Option, IfSome};
+ghost use Rattle.std.specs.Prelude.{◌≡◌, ◌≤◌, ◌<◌, ◌+◌, ◌*◌, length, take, Option, IfSome};
 ghost use Rattle.std.specs.List.{All};
 ghost use Rattle.method_worker.specs.QueueViews.{IsSeatOf};
 ghost use Rattle.scan_rounds.specs.Calls.{HasFollowed, HasRounded, MayFollow, MayRound};
 ghost use Rattle.scan_rounds.specs.DiskActors.{disk_ghosts};
-ghost use Rattle.scan_rounds.specs.Rounds.{JobsExchanged};
 ghost use Rattle.scan_rounds.specs.Scans.{IsOpenedAgain};
 ghost use Rattle.scan_rounds.specs.BlockFilter.{filter_of};
 
@@ -12,8 +11,8 @@ use crate::backend::Backend;
 use crate::beside::{round_beside, run_beside};
 use crate::job::Job;
 use crate::job_source::JobSource;
-use crate::rounds::{Counts, count_unread, least_room, swap_jobs};
-use crate::run_state::RunState;
+use crate::rounds::Counts;
+use crate::run_state::{RoundState, RunState};
 use crate::scan::Scan;
 use crate::shared::SharedState;
 use crate::skipping::Skipping;
@@ -42,16 +41,16 @@ pub(crate) fn reopen_queue<W: World, D: Disk>(
     backends
 }
 
-/// The jobs of these backends and those of the list change places.
-pub(crate) fn exchange<W: World, D: Disk>(
-    mut backends: Vec<Backend<W, D>>,
-    jobs: &mut [Job],
-) -> Vec<Backend<W, D>>
-    requires few { length jobs.old ≤ length backends.items }
-    ensures { JobsExchanged backends.items result.items jobs.old jobs.new }
+// The first jobs of a scan and those of a round change places.
+fn exchange(mut own: Vec<Job>, jobs: &mut [Job]) -> Vec<Job>
+    requires few { length jobs.old ≤ length own.items }
+    ensures own { take (length jobs.old) result.items ≡ jobs.old }
+    ensures as_many { length result.items ≡ length own.items }
+    ensures jobs { jobs.new ≡ take (length jobs.old) own.items }
 {
-    swap_jobs(backends.as_mut_slice(), jobs);
-    backends
+    let (front, _) = own.as_mut_slice().split_at_mut(jobs.len());
+    front.swap_with_slice(jobs);
+    own
 }
 
 impl<W: World + Send + Sync, D: Disk> Scan<W, D> {
@@ -72,20 +71,34 @@ impl<W: World + Send + Sync, D: Disk> Scan<W, D> {
             shared,
             backends,
             workers,
+            jobs: own_jobs,
             room,
             unread,
             ..
         } = self;
         let own_backends = mem::replace(backends, Vec::new(*alloc));
+        let round_state = RoundState {
+            backends: reopen_queue(shared, own_backends),
+            count: jobs.len(),
+            jobs: exchange(mem::replace(own_jobs, Vec::new(*alloc)), jobs),
+            counts: Counts {
+                room: *room,
+                unread: *unread,
+            },
+        };
         let own_workers = mem::replace(workers, Vec::new(*alloc));
-        let waiting = reopen_queue(shared, own_backends);
-        let ready = exchange(waiting, jobs);
-        let (own_workers, done) = round_beside(rt, shared, skipping, own_workers, ready);
-        let idle = exchange(done, jobs);
-        *room = least_room(idle.as_slice());
-        *unread = count_unread(*unread, jobs);
+        let (own_workers, round_state) = round_beside(
+            rt,
+            shared,
+            skipping,
+            own_workers,
+            round_state,
+        );
         *workers = own_workers;
-        *backends = idle;
+        *backends = round_state.backends;
+        *own_jobs = exchange(round_state.jobs, jobs);
+        *room = round_state.counts.room;
+        *unread = round_state.counts.unread;
     }
 
     /// All rounds of a job source, without the blocks that are left out.

@@ -3,9 +3,10 @@ ghost use Rattle.std.specs.Prelude.{◌≡◌, ◌<◌, ◌+◌, ◌*◌, ◌-�
 ghost use Rattle.scan_rounds.specs.JobSources.{JobSourceAdvanced, MayRunRounds};
 ghost use Rattle.scan_rounds.specs.DiskActors.{disk_ghosts};
 ghost use Rattle.scan_rounds.specs.ListOptions.{ListOptions};
-ghost use Rattle.scan_rounds.specs.Progress.{AreWaiting};
+ghost use Rattle.scan_rounds.specs.Progress.{AreWaiting, IsClosedByFirst, MayMakeRound, RoundMade};
 ghost use Rattle.scan_rounds.specs.Rounds.{AllHaveOptions, backend_disk_actor};
 ghost use Rattle.scan_rounds.specs.BlockFilter.{filter_of};
+ghost use Rattle.scan_rounds.specs.RoundStates.{HasRunRound, MayRunRound};
 
 use crate::backend::Backend;
 use crate::job::Job;
@@ -44,7 +45,8 @@ fn next_turn<W: World + Send + Sync, D: Disk, R: Threads + Wait + Sync, A: JobSo
         return false;
     }
     let (front, _) = jobs.split_at_mut(count);
-    *counts = take_turn(rt, shared, skipping, backends, front, *counts);
+    let share = front.len().div_ceil(backends.len());
+    *counts = take_turn(rt, shared, skipping, share, backends, front, *counts);
     job_source.finish_jobs(front)
 }
 
@@ -63,8 +65,28 @@ fn close_queue<W: World, D: Disk, R: Wait>(
         ≡ map backend_disk_actor backends.old }
     ensures options { (m : ListOptions) → AllHaveOptions m backends.old
         → AllHaveOptions m backends.new }
+    ensures closed { IsClosedByFirst shared.now.queue backends.new }
 {
     backends[0].close(rt, shared);
+}
+
+// One round, in which each backend does one job at most; then the queue is closed.
+fn make_round<W: World + Send + Sync, D: Disk, R: Threads + Wait + Sync>(
+    rt: &R,
+    shared: &SharedState<W>,
+    skipping: Option<Skipping<'_>>,
+    backends: &mut [Backend<W, D>],
+    jobs: &mut [Job],
+    counts: &mut Counts,
+)
+    requires may { MayMakeRound (disk_ghosts D.told D.relations D.reads D.faults) W.told W.relations
+        shared.now.table shared.now.queue backends.old jobs.old counts.old }
+    ensures made { RoundMade (disk_ghosts D.told D.relations D.reads D.faults) W.told W.relations
+        shared.now.table shared.now.queue (filter_of skipping.entry) backends.old backends.new
+        jobs.old jobs.new counts.old counts.new }
+{
+    *counts = take_turn(rt, shared, skipping, 1, backends, jobs, *counts);
+    close_queue(rt, shared, backends, *counts);
 }
 
 // All rounds of a job source, in turns: a round by itself first, and then more and more in one
@@ -86,6 +108,7 @@ fn all_rounds<W: World + Send + Sync, D: Disk, R: Threads + Wait + Sync, A: JobS
         A.options A.block_filter A.follows backends.old backends.new jobs.old jobs.new
         job_source.old job_source.new counts.old counts.new }
     ensures over { A.is_over job_source.new }
+    ensures closed { IsClosedByFirst shared.now.queue backends.new }
 {
     let mut many = backends.len();
     loop {
@@ -129,6 +152,7 @@ pub(crate) fn run_rounds<
         run_state.jobs.items result.jobs.items run_state.job_source result.job_source
         run_state.counts result.counts }
     ensures over { A.is_over result.job_source }
+    ensures closed { IsClosedByFirst shared.now.queue result.backends.items }
 {
     let RunState {
         mut backends,
@@ -149,6 +173,52 @@ pub(crate) fn run_rounds<
         backends,
         jobs,
         job_source,
+        counts,
+    }
+}
+
+/// What goes through one round, and comes back.
+#[derive(Drop)]
+pub(crate) struct RoundState<W: World, D: Disk> {
+    pub(crate) backends: Vec<Backend<W, D>>,
+    pub(crate) jobs: Vec<Job>,
+    /// The first of them, as many as this, are those of the round.
+    pub(crate) count: usize,
+    pub(crate) counts: Counts,
+}
+
+/// One round; then the queue is closed.
+pub(crate) fn run_round<W: World + Send + Sync, D: Disk, R: Threads + Wait + Sync>(
+    rt: &R,
+    shared: &SharedState<W>,
+    skipping: Option<Skipping<'_>>,
+    round_state: RoundState<W, D>,
+) -> RoundState<W, D>
+    requires may { MayRunRound (disk_ghosts D.told D.relations D.reads D.faults) W.told W.relations
+        shared.now.table shared.now.queue round_state }
+    ensures made { HasRunRound (disk_ghosts D.told D.relations D.reads D.faults)
+        W.told W.relations shared.now.table shared.now.queue (filter_of skipping.entry)
+        round_state result }
+{
+    let RoundState {
+        mut backends,
+        mut jobs,
+        count,
+        mut counts,
+    } = round_state;
+    let (front, _) = jobs.as_mut_slice().split_at_mut(count);
+    make_round(
+        rt,
+        shared,
+        skipping,
+        backends.as_mut_slice(),
+        front,
+        &mut counts,
+    );
+    RoundState {
+        backends,
+        jobs,
+        count,
         counts,
     }
 }

@@ -2,13 +2,13 @@
 ghost use Rattle.std.specs.Prelude.{◌≡◌, ◌≤◌, ◌<◌, ◌+◌, ◌*◌, ◌∷◌, [], length, map};
 ghost use Rattle.std.specs.List.{All};
 ghost use Rattle.aio_disk.specs.Counts.{raised_by};
-ghost use Rattle.scan_rounds.specs.DiskActors.{HasRoom, IsBackend, disk_ghosts};
+ghost use Rattle.scan_rounds.specs.DiskActors.{IsBackend, disk_ghosts};
 ghost use Rattle.scan_rounds.specs.Jobs.{AreAnswered, IsFresh, count_unskipped, unread_among};
 ghost use Rattle.scan_rounds.specs.ListOptions.{ListOptions};
-ghost use Rattle.scan_rounds.specs.Rounds.{AllAdvanced, AllHaveOptions, AreIdle, IsLeastRoom};
+ghost use Rattle.scan_rounds.specs.Rounds.{AllAdvanced, AllHaveOptions, AreListed, IsLeastRoom};
 ghost use Rattle.scan_rounds.specs.Rounds.{backend_disk_actor, failed_results_taken, results_taken};
 ghost use Rattle.scan_rounds.specs.BlockFilter.{filter_of};
-ghost use Rattle.scan_rounds.specs.Turns.{BackendDidJob, HasTurned, MayTurn};
+ghost use Rattle.scan_rounds.specs.Turns.{HasTurned, ListedAlone, MayTurn};
 
 use crate::backend::Backend;
 use crate::job::Job;
@@ -18,31 +18,8 @@ use crate::sharing::share_out;
 use crate::skipping::Skipping;
 use aio_disk::Disk;
 use page_check::World;
-use std::mem;
 use std::sync::Wait;
 use std::thread::Threads;
-
-// A backend does a job, without the blocks that are left out.
-fn do_job<W: World, D: Disk, R: Wait>(
-    rt: &R,
-    shared: &SharedState<W>,
-    skipping: Option<Skipping<'_>>,
-    backend: &mut Backend<W, D>,
-    job: &mut Job,
-)
-    requires backend { IsBackend (disk_ghosts D.told D.relations D.reads D.faults)
-        W.told W.relations shared.now.table shared.now.queue backend.old }
-    requires idle { backend.old.job.count ≡ 0 }
-    requires room { HasRoom 64 backend.old.disk_actor.actor }
-    requires fresh { IsFresh W.relations job.old }
-    ensures did { BackendDidJob (disk_ghosts D.told D.relations D.reads D.faults) W.told W.relations
-        shared.now.table shared.now.queue (filter_of skipping.entry) backend.old job.old
-        backend.new job.new }
-{
-    mem::swap(&mut backend.job, job);
-    backend.run(rt, shared, skipping);
-    mem::swap(&mut backend.job, job);
-}
 
 // A backend does these jobs, one after the other.
 #[cycle(jobs)]
@@ -58,9 +35,12 @@ fn do_jobs<W: World, D: Disk, R: Wait>(
     ensures done { HasTurned (disk_ghosts D.told D.relations D.reads D.faults) W.told W.relations
         shared.now.table shared.now.queue (filter_of skipping.entry) (64 * length jobs.old)
         (backend.old ∷ []) (backend.new ∷ []) jobs.old jobs.new }
+    ensures alone { ListedAlone W.told (filter_of skipping.entry) backend.old backend.new jobs.old
+        jobs.new }
+    ensures unmoved { length jobs.old ≡ 0 → backend.new ≡ backend.old }
 {
     if let Some((job, later)) = jobs.split_first_mut() {
-        do_job(rt, shared, skipping, backend, job);
+        backend.list(rt, shared, skipping, job);
         do_jobs(rt, shared, skipping, backend, later);
     }
 }
@@ -81,6 +61,8 @@ fn do_jobs_within<W: World, D: Disk, R: Wait>(
     ensures done { HasTurned (disk_ghosts D.told D.relations D.reads D.faults) W.told W.relations
         shared.now.table shared.now.queue (filter_of skipping.entry) (64 * share)
         (backend.old ∷ []) (backend.new ∷ []) jobs.old jobs.new }
+    ensures alone { ListedAlone W.told (filter_of skipping.entry) backend.old backend.new jobs.old
+        jobs.new }
 {
     let _ = share;
     do_jobs(rt, shared, skipping, backend, jobs);
@@ -102,6 +84,8 @@ fn do_shares<W: World + Send + Sync, D: Disk, R: Threads + Wait + Sync>(
     ensures done { HasTurned (disk_ghosts D.told D.relations D.reads D.faults) W.told W.relations
         shared.now.table shared.now.queue (filter_of skipping.entry) (64 * share) backends.old
         backends.new jobs.old jobs.new }
+    ensures by_place { share ≡ 1 → (m : ListOptions) → AllHaveOptions m backends.old
+        → AreListed (filter_of skipping.entry) m W.told backends.old backends.new jobs.old jobs.new }
 {
     share_out(
         rt,
@@ -111,7 +95,9 @@ fn do_shares<W: World + Send + Sync, D: Disk, R: Threads + Wait + Sync>(
                 × (length own.old ≤ share) }
             ensures { HasTurned (disk_ghosts D.told D.relations D.reads D.faults) W.told W.relations
                 shared.entry.now.table shared.entry.now.queue (filter_of skipping.entry)
-                (64 * share) (backend.old ∷ []) (backend.new ∷ []) own.old own.new }
+                (64 * share) (backend.old ∷ []) (backend.new ∷ []) own.old own.new
+                × ListedAlone W.told (filter_of skipping.entry) backend.old backend.new own.old
+                own.new }
         { do_jobs_within(rt, shared, skipping, share, backend, own) },
         share,
         backends,
@@ -119,41 +105,42 @@ fn do_shares<W: World + Send + Sync, D: Disk, R: Threads + Wait + Sync>(
     );
 }
 
-/// The backends do these jobs, each as many neighbouring ones as any, without the blocks that are
+/// The backends do these jobs, each at most `share` neighbouring ones, without the blocks that are
 /// left out.
 pub(crate) fn take_turn<W: World + Send + Sync, D: Disk, R: Threads + Wait + Sync>(
     rt: &R,
     shared: &SharedState<W>,
     skipping: Option<Skipping<'_>>,
+    share: usize,
     backends: &mut [Backend<W, D>],
     jobs: &mut [Job],
     counts: Counts,
 ) -> Counts
     requires backends { All (IsBackend (disk_ghosts D.told D.relations D.reads D.faults) W.told
         W.relations shared.now.table shared.now.queue) backends.old }
-    requires idle { AreIdle backends.old }
     requires some { 1 ≤ length backends.old }
+    requires fit { length jobs.old ≤ share * length backends.old }
     requires fresh { All (IsFresh W.relations) jobs.old }
-    requires room { IsLeastRoom backends.old counts.room × (64 * length jobs.old ≤ counts.room) }
+    requires room { IsLeastRoom backends.old counts.room × (64 * share ≤ counts.room) }
     requires unread { counts.unread ≤ failed_results_taken backends.old }
     ensures backends { All (IsBackend (disk_ghosts D.told D.relations D.reads D.faults) W.told
         W.relations shared.now.table shared.now.queue) backends.new }
-    ensures idle { AreIdle backends.new }
     ensures go_on { AllAdvanced (disk_ghosts D.told D.relations D.reads D.faults) W.told W.relations
         shared.now.table (map backend_disk_actor backends.old)
         (map backend_disk_actor backends.new) }
     ensures answered { (m : ListOptions) → AllHaveOptions m backends.old
         → AreAnswered (filter_of skipping.entry) m W.told jobs.old jobs.new }
+    ensures by_place { share ≡ 1 → (m : ListOptions) → AllHaveOptions m backends.old
+        → AreListed (filter_of skipping.entry) m W.told backends.old backends.new jobs.old jobs.new }
     ensures options { (m : ListOptions) → AllHaveOptions m backends.old
         → AllHaveOptions m backends.new }
     ensures room { IsLeastRoom backends.new result.room
-        × (counts.room ≤ result.room + 64 * length jobs.old) }
+        × (counts.room ≤ result.room + 64 * share) }
     ensures unread { result.unread ≡ raised_by (unread_among jobs.new) counts.unread }
     ensures taken { results_taken backends.new
         ≤ results_taken backends.old + count_unskipped (filter_of skipping.entry) jobs.old }
     ensures results { result.unread ≤ failed_results_taken backends.new }
 {
-    let share = jobs.len().div_ceil(backends.len());
     do_shares(rt, shared, skipping, share, backends, jobs);
     Counts {
         room: least_room(backends),

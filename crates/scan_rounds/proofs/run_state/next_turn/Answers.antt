@@ -6,7 +6,7 @@ use Rattle.scan_rounds.specs.BlockFilter.{filter_of}
 use Rattle.scan_rounds.specs.declared.job.Job.{Job}
 use Rattle.scan_rounds.proofs.RoundsCompose.{gone_nowhere, answered_as, as_many_disk_actors}
 use Rattle.scan_rounds.proofs.RoundsCompose.{some_blocks}
-use Rattle.scan_rounds.proofs.JobsInSequence.{few_jobs}
+use Rattle.scan_rounds.proofs.JobsInSequence.{few_jobs, share_fits}
 use Rattle.scan_rounds.proofs.run_state.next_turn.Goals as goal
 
 pub returns-then-count-eq0-clause-goes : goal.returns-then-count-eq0-clause-goes
@@ -31,10 +31,15 @@ take_turn-requires-clause-fresh g c κs within =
     subst (λ (js : List Job). All (IsFresh g.W.World.relations) js)
     (sym c.split_at_mut-front.ensures.front) c.next_jobs-count.ensures.fresh
 
+pub take_turn-requires-clause-fit : goal.take_turn-requires-clause-fit
+take_turn-requires-clause-fit g c κs within =
+    (share_fits _ _ _ c.requires.may.waiting.some c.div_ceil-share.ensures).0
+
 pub take_turn-requires-clause-room : goal.take_turn-requires-clause-room
 take_turn-requires-clause-room g c κs within = (
   c.requires.may.waiting.room,
-  (let few = few_jobs _ _ c.next_jobs-count.ensures.fresh in
+  (let share = (share_fits _ _ _ c.requires.may.waiting.some c.div_ceil-share.ensures).1 in
+      let few = few_jobs _ _ c.next_jobs-count.ensures.fresh in
       let same = ap length c.split_at_mut-front.ensures.front in
       let left = c.next_jobs-count.ensures.left in let room = c.requires.may.room in omega arith),
 )
@@ -45,6 +50,7 @@ returns-clause-goes g c =
     let e = c.take_turn.ensures in
     let backends = as_many_disk_actors _ _ _ _ _ _ e.go_on in
     let same = ap length c.split_at_mut-front.ensures.front in
+    let share = (share_fits _ _ _ c.requires.may.waiting.some c.div_ceil-share.ensures).1 in
     let few = few_jobs _ _ c.next_jobs-count.ensures.fresh in
     let left = c.next_jobs-count.ensures.left in
     let less = c.finish_jobs.ensures.left in
@@ -56,7 +62,6 @@ returns-clause-goes g c =
       waiting = record {
         some = (let some = may.waiting.some in omega arith);
         backends = e.backends;
-        idle = e.idle;
         room = e.room.0;
         few_unread = e.results;
       };

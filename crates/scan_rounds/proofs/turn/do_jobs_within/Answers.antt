@@ -10,4 +10,5 @@ pub returns : goal.returns
 returns g c = record {
   done = turned_more _ _ _ _ _ (64 * length c.args.jobs.now) (64 * c.args.share) _ _ _ _
       (let few = c.requires.few in omega arith) c.do_jobs.ensures.done;
+  alone = c.do_jobs.ensures.alone;
 }

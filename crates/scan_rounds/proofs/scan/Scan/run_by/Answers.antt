@@ -51,6 +51,7 @@ returns g c =
         };
         reopened = subst (λ own. IsOpenedAgain own.items c.args.self.now.shared.queue
             c.reopen_queue.new.shared.queue) c.replace-own_backends.ensures.value r.reopened;
+        closed = e.closed;
         goes_on = e.goes.goes_on;
         over = e.over;
         options_are = e.goes.options_are;

@@ -1,5 +1,0 @@
-use Rattle.scan_rounds.proofs.ThreadPremises.{is_ready}
-use Rattle.scan_rounds.proofs.round.run_one.Goals as goal
-
-pub run-requires-after_bounds : goal.run-requires-after_bounds
-run-requires-after_bounds g c κs within = is_ready _ _ _ _ _ _ c.requires.may
