@@ -1,4 +1,4 @@
-//! A run that goes wrong at its third event, and lines of totals, one of a table that was used.
+//! Runs that are replayed, and lines of totals, one of a table that was used.
 ghost use Rattle.std.specs.Prelude.{◌≡◌, ◌<◌, IsTrue};
 ghost use Rattle.aio_handle.specs.Closing.{HasNoTokens};
 ghost use Rattle.aio_handle.specs.ContractViews.{IsActorOf, IsSameActor};
@@ -39,6 +39,64 @@ fn a_claim_before_submit_is_bad(rt: HostRuntime) -> Result<(), Fail> {
     let refused = StepRefusal::NotAllowed {
         event: claim,
         word: Some(2),
+    };
+    assert!(rt; machine.step(claim) == Err(refused));
+    Ok(())
+}
+
+/// All events of one life. A claim that comes too late meets the idle handle of the next one.
+#[test]
+fn a_whole_life_is_lawful(rt: HostRuntime) -> Result<(), Fail> {
+    let alloc = rt.alloc();
+    let sixth = |actor, step| Event {
+        generation: 6,
+        ..event(actor, step)
+    };
+    let claim = sixth(1, Step::Claim);
+    let events = [
+        sixth(0, Step::HandOut),
+        sixth(0, Step::Define),
+        sixth(0, Step::Stage),
+        sixth(0, Step::Submit),
+        claim,
+        sixth(1, Step::Io(Class::Short)),
+        sixth(1, Step::Shared),
+        sixth(0, Step::Local),
+        sixth(0, Step::Reclaim),
+    ];
+    let ReplayAnswer::Lawful(mut machine) = replay(alloc, 1, 1, 1, 6, &events) else {
+        panic!(rt; "the events of a life are lawful")
+    };
+    let refused = StepRefusal::NotAllowed {
+        event: claim,
+        word: Some(448),
+    };
+    assert!(rt; machine.step(claim) == Err(refused));
+    Ok(())
+}
+
+/// The last of 32 runners claims the last handle of 16 backends with 64 handles each.
+#[test]
+fn the_greatest_machine_has_1024_handles(rt: HostRuntime) -> Result<(), Fail> {
+    let alloc = rt.alloc();
+    let last = |actor, step| Event {
+        handle: 1023,
+        ..event(actor, step)
+    };
+    let claim = last(47, Step::Claim);
+    let events = [
+        last(15, Step::HandOut),
+        last(15, Step::Define),
+        last(15, Step::Stage),
+        last(15, Step::Submit),
+        claim,
+    ];
+    let ReplayAnswer::Lawful(mut machine) = replay(alloc, 16, 64, 32, 0, &events) else {
+        panic!(rt; "the last runner may claim the last handle")
+    };
+    let refused = StepRefusal::NotAllowed {
+        event: claim,
+        word: Some(12),
     };
     assert!(rt; machine.step(claim) == Err(refused));
     Ok(())
