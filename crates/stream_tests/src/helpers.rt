@@ -1,6 +1,7 @@
 //! What the tests share.
 
 pub(crate) mod answers;
+pub(crate) mod beside;
 pub(crate) mod cases;
 pub(crate) mod counting;
 pub(crate) mod numbers;

@@ -13,7 +13,7 @@ const AGAIN: Case<'static> = Case {
     ..CASE
 };
 
-const ROWS: [Row<'static>; 7] = [
+const ROWS: [Row<'static>; 8] = [
     Row {
         name: "pages come from the pool again",
         case: AGAIN,
@@ -57,6 +57,22 @@ const ROWS: [Row<'static>; 7] = [
         },
         pages: 3,
         reads: Some(&[(2, 1), (0, 1), (1, 1)]),
+        taken: Some(1),
+        ..ROW
+    },
+    Row {
+        name: "a page that the pool had is joined where another backend reads it again",
+        case: Case {
+            blocks: 40,
+            frames: 16,
+            settings: FULL,
+            between: Some(Blocks::From(20, 17)),
+            first: Blocks::From(0, 1),
+            list: Blocks::These(&[(1, 10), (0, 0)]),
+            ..CASE
+        },
+        pages: 2,
+        reads: Some(&[(0, 1), (1, 1), (20, 16), (36, 1), (0, 1)]),
         taken: Some(1),
         ..ROW
     },

@@ -51,6 +51,8 @@ pub(crate) struct Case<'a> {
     /// What another backend has read before it submitted a read of block 0, which nobody has
     /// claimed. Without it no other backend reads.
     pub other: Option<Blocks<'a>>,
+    /// What another backend does so once the stream has answered once.
+    pub between: Option<Blocks<'a>>,
     /// What an earlier stream reads.
     pub first: Blocks<'a>,
     pub list: Blocks<'a>,
@@ -80,6 +82,7 @@ pub(crate) const CASE: Case<'static> = Case {
     frames: 128,
     settings: SETTINGS,
     other: None,
+    between: None,
     first: Blocks::These(&[]),
     list: Blocks::These(&[]),
 };

@@ -3,6 +3,7 @@ ghost use Rattle.std.specs.Prelude.{◌≡◌, ◌*◌, ◌<◌, ◌≤◌};
 ghost use Rattle.read_stream.specs.Desks.{AreValidSettings};
 
 use crate::helpers::answers::Answer;
+use crate::helpers::beside::stream_beside;
 use crate::helpers::cases::{Case, is_in_range};
 use crate::helpers::other_backend::read_before;
 use crate::helpers::streams::{Streamed, two_streams};
@@ -44,28 +45,45 @@ fn read_all<W: World, D: Disk, T: Wait>(
     };
     let mut streamed = None;
     if let (Some(mut other), Some(mut actor)) = (actors.pop(), actors.pop()) {
-        if let Some(blocks) = &case.other {
-            read_before(
+        let ran = match &case.between {
+            Some(blocks) => stream_beside(
                 rt,
                 alloc,
                 case,
+                calls,
                 blocks,
                 &pool,
                 &table,
+                &mut actor,
                 &mut other,
                 &mut runner,
-            )?;
-        }
-        streamed = Some(two_streams(
-            rt,
-            alloc,
-            case,
-            calls,
-            &pool,
-            &table,
-            &mut actor,
-            &mut runner,
-        )?);
+            )?,
+            None => {
+                if let Some(blocks) = &case.other {
+                    read_before(
+                        rt,
+                        alloc,
+                        case,
+                        blocks,
+                        &pool,
+                        &table,
+                        &mut other,
+                        &mut runner,
+                    )?;
+                }
+                two_streams(
+                    rt,
+                    alloc,
+                    case,
+                    calls,
+                    &pool,
+                    &table,
+                    &mut actor,
+                    &mut runner,
+                )?
+            }
+        };
+        streamed = Some(ran);
     }
     let Runner { disk, places: _ } = runner;
     Ok((streamed, disk))

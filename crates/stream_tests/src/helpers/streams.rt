@@ -17,8 +17,8 @@ use read_stream::{Desk, ReadStream};
 use std::alloc::{AllocError, Global};
 use std::sync::Wait;
 
-// Takes the answers of so many calls.
-fn take_answers<W: World, E: Execute<ReadIo, W>, T: Wait>(
+/// Takes the answers of so many calls.
+pub(crate) fn take_answers<W: World, E: Execute<ReadIo, W>, T: Wait>(
     rt: &T,
     table: &Table<ReadIo, W>,
     actor: &mut Actor<ReadIo, W>,
