@@ -68,7 +68,7 @@ struct Row {
 // that blocks 1 and 2, 3 to 5, 6 to 10 and 11 to 19 are handed to the workers at once. A backend
 // for which a worker reads makes no read, so only workers are counted where there are some. No run
 // has more than 64 reads for workers: the queue is never full of what a backend has read already.
-const ROWS: [Row; 6] = [
+const ROWS: [Row; 7] = [
     Row {
         name: "three workers",
         line: "--workers 3 --backends 1 --combine 1 f",
@@ -88,6 +88,14 @@ const ROWS: [Row; 6] = [
         name: "three workers in each of eight turns",
         line: "--workers 3 --backends 1 --combine 1 a b c d e f g h",
         size: (8, 6),
+        from: 3,
+        reads: 3,
+    },
+    // In the second turn each backend has a second job, for which it needs its seat of the queue.
+    Row {
+        name: "two backends that hand their second jobs' reads to six workers",
+        line: "--workers 6 --backends 2 --combine 1 a b c d e f",
+        size: (6, 6),
         from: 3,
         reads: 3,
     },
