@@ -53,8 +53,8 @@ fn a_worker_reads_at_the_same_time_as_another_actor(rt: HostRuntime) -> Result<(
     Ok(())
 }
 
-/// How many relations of how many blocks there are, and from which block of each on its reads wait
-/// until how many are under way.
+/// How many relations of how many blocks there are, from which block of each on its reads wait until
+/// how many are under way, and how many reads workers make at least.
 #[derive(Clone, Copy)]
 struct Row {
     name: &'static str,
@@ -62,12 +62,14 @@ struct Row {
     size: (u32, u32),
     from: u32,
     reads: u32,
+    by_workers: u128,
 }
 
 // A backend reads the first block of a job by itself. Behind it the distance is 2, 4, 8, 16, so
 // that blocks 1 and 2, 3 to 5, 6 to 10 and 11 to 19 are handed to the workers at once. A backend
 // for which a worker reads makes no read, so only workers are counted where there are some. No run
 // has more than 64 reads for workers: the queue is never full of what a backend has read already.
+// Of the reads of a relation that are under way together its backend makes one at most.
 const ROWS: [Row; 7] = [
     Row {
         name: "three workers",
@@ -75,6 +77,7 @@ const ROWS: [Row; 7] = [
         size: (1, 16),
         from: 3,
         reads: 3,
+        by_workers: 2,
     },
     Row {
         name: "nine workers",
@@ -82,6 +85,7 @@ const ROWS: [Row; 7] = [
         size: (1, 32),
         from: 11,
         reads: 9,
+        by_workers: 8,
     },
     // With one backend a turn is one job, here of one relation.
     Row {
@@ -90,6 +94,7 @@ const ROWS: [Row; 7] = [
         size: (8, 6),
         from: 3,
         reads: 3,
+        by_workers: 16,
     },
     // In the second turn each backend has a second job, for which it needs its seat of the queue.
     Row {
@@ -98,6 +103,7 @@ const ROWS: [Row; 7] = [
         size: (6, 6),
         from: 3,
         reads: 3,
+        by_workers: 12,
     },
     // With four backends the first turn has four jobs, and the second has eight.
     Row {
@@ -106,6 +112,7 @@ const ROWS: [Row; 7] = [
         size: (1, 1024),
         from: 0,
         reads: 4,
+        by_workers: 0,
     },
     Row {
         name: "four backends in the second turn",
@@ -113,6 +120,7 @@ const ROWS: [Row; 7] = [
         size: (1, 1024),
         from: 256,
         reads: 4,
+        by_workers: 0,
     },
     Row {
         name: "sixteen backends",
@@ -120,6 +128,7 @@ const ROWS: [Row; 7] = [
         size: (1, 1024),
         from: 0,
         reads: 16,
+        by_workers: 0,
     },
 ];
 
@@ -136,7 +145,8 @@ fn as_many_reads_at_the_same_time_as_actors(rt: HostRuntime) -> Result<(), Fail>
         };
         let shelf = BlockingShelf::with_gate(alloc, blocks, gate)?;
         let text = lines_of(alloc, relations, blocks)?;
-        expect(&rt, row.name, shelf, row.line, (text.as_str(), "", 0))?;
+        let report = expect(&rt, row.name, shelf, row.line, (text.as_str(), "", 0))?;
+        assert!(&rt; report.by_workers >= row.by_workers, "{}", row.name);
     }
     Ok(())
 }
