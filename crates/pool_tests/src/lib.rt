@@ -14,6 +14,8 @@ mod pages;
 #[cfg(test)]
 mod parts;
 #[cfg(test)]
+mod refusals;
+#[cfg(test)]
 mod threads;
 #[cfg(test)]
 mod writers;
