@@ -145,7 +145,8 @@ of_first told r n pages p le h good (Some i) e is = stopped told r n i pages le 
 
 -- which pages the callbacks of a stream mark
 abbrev marks_of : Bool → ℕ → List (List ℕ) → Raw → List Bool
-marks_of on count pages answer = (chain_result count (stream_ids on) (chain_start answer pages)).zeroed
+marks_of on count pages answer =
+    (chain_result count (stream_ids on) (chain_start answer pages)).zeroed
 
 front_by : (b : Bool) (n : ℕ) (pages : List (List ℕ))
     → (after_zero (outcome_of (if b then result_of 1 Partial 0 (pos n)

@@ -19,7 +19,7 @@ pub record HasCause {T E : Type 0} (before now : ℕ) (result : Result T E) : Ty
 pub record RisesBy (other before now : ℕ) : Type 0 where
   pub later : before ≤ now
   pub risen : 0 < other → CountRose before now
-  pub stays : other ≡ 0 → now ≡ before
+  pub unchanged : other ≡ 0 → now ≡ before
 
 -- what a shelf counts: opens that failed; of the disks taken back, those that had failed at a
 -- length, those that had failed at a read, and their reads

@@ -6,7 +6,7 @@ use native.Mathlib.Decide.{ℕ_discrete}
 use Rattle.aio_word.specs.declared.Known.{Known}
 use Rattle.aio_word.specs.Stands.{IsIn}
 use Rattle.aio_word.proofs.ReplacedElement.{in-append}
-use Rattle.aio_handle.specs.Closing.{HasNoTokens}
+use Rattle.aio_handle.specs.Closing.{HasNoOwnerTokens}
 use Rattle.aio_handle.specs.ContractViews.{TableView, ActorView, IsActorOf, actor_known}
 use Rattle.aio_handle.proofs.NewTableMeetsInvariant.{push-old, push-last}
 use Rattle.aio_fixtures.specs.Actors.{AreAtRest}
@@ -17,7 +17,7 @@ known-push [] x = refl
 known-push (y ∷ xs) x = ap (λ (z : List Known). actor_known y ∷ z) (known-push xs x)
 
 pub one-more-actor : (t : TableView) (xs ys : List ActorView) (x : ActorView) → ys ≡ xs ++ x ∷ []
-    → AreAtRest t xs → IsActorOf t x → HasNoTokens x.known → AreAtRest t ys
+    → AreAtRest t xs → IsActorOf t x → HasNoOwnerTokens x.known → AreAtRest t ys
 one-more-actor t xs ys x e a of rest = subst
     (λ (z : List ActorView). AreAtRest t z) (sym e) record {
       of = λ k d lt. dite (ℕ_discrete k (length xs))
@@ -26,7 +26,7 @@ one-more-actor t xs ys x e a of rest = subst
           (λ ne. let before : k < length xs = omega (arith, length-append xs (x ∷ [])) in
           subst (λ (z : ActorView). IsActorOf t z) (sym (push-old xs x d k before)) (a.of k d before));
       quiet = λ p i. ⊎_elim (λ old. a.quiet p old)
-          (λ new. ⊎_elim (λ same. subst (λ (z : Known). HasNoTokens z) same rest)
+          (λ new. ⊎_elim (λ same. subst (λ (z : Known). HasNoOwnerTokens z) same rest)
           (λ none. absurd none) new)
           (in-append p (map actor_known xs) (actor_known x ∷ [])
           (subst (λ (z : List Known). IsIn p z) (known-push xs x) i));

@@ -19,7 +19,7 @@ completed-takes-up t class p q grows = record {
   more = make_mark t kind.Claimed ∷ make_mark t (kind.Io class) ∷ make_mark t kind.Shared ∷ [];
   grows = grows;
   took = claims-completed-one class t.handle t.generation;
-  pays = record {
+  counters_follow = record {
     read_each = λ below. absurd (omega (arith, below));
     fault_each = λ below. absurd (omega (arith, below));
   };
@@ -31,7 +31,7 @@ looked-takes-up h w p q looked = record {
   more = [];
   grows = look-on h w p q looked;
   took = claims-completed-none;
-  pays = record {
+  counters_follow = record {
     read_each = λ below. absurd (omega (arith, below));
     fault_each = λ below. absurd (omega (arith, below));
   };

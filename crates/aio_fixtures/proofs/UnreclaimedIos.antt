@@ -14,7 +14,7 @@ use Rattle.aio_word.specs.Stands.{one_if}
 use Rattle.aio_word.specs.Tokens.{IsDefined, IsStaged, IsInFlight, make_mark}
 use Rattle.aio_word.proofs.MoreMarksKeep.{mark_count-more}
 use Rattle.aio_handle.specs.declared.record.Label.{Label}
-use Rattle.aio_handle.specs.Closing.{AllReclaimed, HasNoTokens}
+use Rattle.aio_handle.specs.Closing.{AllReclaimed, HasNoOwnerTokens}
 use Rattle.aio_handle.specs.Execution.{ExecutesAll}
 use Rattle.aio_handle.specs.LifeWords.{taken_word, idle_word}
 use Rattle.aio_handle.specs.CallEvents.{EventMade, TakesResult}
@@ -45,14 +45,14 @@ taken-out-out : (t : WaitRef) (p q : Known) (l : Label) → TakesResult t p q l 
 taken-out-out t p q l k =
     ap (λ (x : Known). x.out) k.made.is ∙ ap (λ (x : Known). x.out) k.looked.is
 
-pub rests-with-none : (p : Known) → HasUnreclaimed [] p → HasNoTokens p
+pub rests-with-none : (p : Known) → HasUnreclaimed [] p → HasNoOwnerTokens p
 rests-with-none p o = (
   o.out,
   λ t. let x = o.lives t in let none : mark_count t kind.Defined (defined_marks []) ≡ 0 = refl in
       omega arith,
 )
 
-pub none-at-rest : (p : Known) → HasNoTokens p → HasUnreclaimed [] p
+pub none-at-rest : (p : Known) → HasNoOwnerTokens p → HasUnreclaimed [] p
 none-at-rest p rest = record {
   out = rest.0;
   lives = λ t. let x = rest.1 t in let none : mark_count t kind.Defined (defined_marks [])
@@ -172,7 +172,7 @@ begun-unreclaimed u p q over begins out = record {
 }
 
 -- an actor at rest is so once it has taken up others' incarnations
-pub taken-up-rests : (p q : Known) (a b c d : ℕ) → ExecutesAll [] p q a b c d → HasNoTokens p
-    → HasNoTokens q
+pub taken-up-rests : (p q : Known) (a b c d : ℕ) → ExecutesAll [] p q a b c d → HasNoOwnerTokens p
+    → HasNoOwnerTokens q
 taken-up-rests p q a b c d k rests = rests-with-none q
     (taken-up-unreclaimed [] p q a b c d k (none-at-rest p rests))

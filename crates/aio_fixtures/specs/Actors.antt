@@ -2,7 +2,7 @@
 use Rattle.std.specs.Prelude.{◌≡◌, List, [], map}
 use Rattle.std.specs.List.{All}
 use Rattle.aio_handle.specs.ContractViews.{TableView, ActorView, IsActorOf, actor_known}
-use Rattle.aio_handle.specs.Closing.{NoneHasTokens}
+use Rattle.aio_handle.specs.Closing.{NoneHasOwnerTokens}
 use Rattle.aio_handle.specs.declared.record.Label.{Label}
 use Rattle.aio_handle.specs.Labels.{bound_label}
 use Rattle.aio_word.specs.declared.WaitRef.{WaitRef}
@@ -12,7 +12,7 @@ use Rattle.aio_word.specs.Tokens.{IsClaimed}
 -- actors of this table that are at rest
 pub record AreAtRest (table : TableView) (actors : List ActorView) : Type 0 where
   pub of : All (IsActorOf table) actors
-  pub quiet : NoneHasTokens (map actor_known actors)
+  pub quiet : NoneHasOwnerTokens (map actor_known actors)
 
 -- an actor of the table has claimed t, and the record of the token has this label and no aim
 pub record HasClaimed (table : TableView) (actor : ActorView) (t : WaitRef)

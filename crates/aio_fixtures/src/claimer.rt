@@ -6,7 +6,7 @@ ghost use Rattle.aio_word.specs.declared.WaitRef.{WaitRef};
 ghost use Rattle.aio_word.specs.declared.Word.{Word};
 ghost use Rattle.aio_word.specs.Stands.{IsIn};
 ghost use Rattle.aio_word.specs.Tokens.{AppendsMarks, IsClaimed, make_mark};
-ghost use Rattle.aio_handle.specs.Closing.{HasNoTokens};
+ghost use Rattle.aio_handle.specs.Closing.{HasNoOwnerTokens};
 ghost use Rattle.aio_handle.specs.UnchangedTokens.{TokenUnchanged};
 ghost use Rattle.aio_handle.specs.Labels.{bound_label};
 ghost use Rattle.aio_handle.specs.LifeWords.{unclaimed_word};
@@ -76,7 +76,7 @@ pub fn claim_and_complete<W: World>(
     ensures kept { (u : WaitRef) → TokenUnchanged u actor.old.known actor.new.known }
     ensures unreclaimed { (ts : List WaitRef) → HasUnreclaimed ts actor.old.known
         → HasUnreclaimed ts actor.new.known }
-    ensures rests { HasNoTokens actor.old.known → HasNoTokens actor.new.known }
+    ensures rests { HasNoOwnerTokens actor.old.known → HasNoOwnerTokens actor.new.known }
     ensures lost { IsFalse result → ((w : Word)
         × WordLoaded reference.handle w actor.old.known actor.new.known
         × (w ≢ unclaimed_word reference.generation)) }

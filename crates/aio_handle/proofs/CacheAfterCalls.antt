@@ -12,7 +12,7 @@ use Rattle.aio_handle.specs.declared.record.Label.{Label}
 use Rattle.aio_handle.specs.declared.own.OwnHandle.{OwnHandle}
 use Rattle.aio_handle.specs.LifeWords.{completed_word, taken_word}
 use Rattle.aio_handle.specs.Seats.{IsSeated, seat_known}
-use Rattle.aio_handle.specs.Steps.{ReturnsSlot, Claims, TakesCompleted, LoadsWord}
+use Rattle.aio_handle.specs.Steps.{ReturnsSlot, Claims, TakesCompleted, StepLoadsWord}
 use Rattle.aio_handle.specs.OwnHandleCache.{CachesOwnHandles}
 use Rattle.aio_handle.proofs.CallSteps.{looks-seated}
 use Rattle.aio_handle.proofs.PlainEvents.{IsPlain}
@@ -40,7 +40,7 @@ module _ (c : Config) (own : List OwnHandle) (turn claims : ℕ) (b : Bool) wher
       (caches-plain c own turn claims b e h (from g) (to g) aim p q md pl)
 
   caches-loaded : {S : Type 0} (slots h n : ℕ) (m m' : Me S (List Known))
-      → LoadsWord (step slots h 0 0 none) m n m'
+      → StepLoadsWord (step slots h 0 0 none) m n m'
       → CachesOwnHandles c own turn b claims (seat_known m.0)
       → CachesOwnHandles c own turn b claims (seat_known m'.0)
   caches-loaded {S} slots h n m m' (p, q, mine, then, (w, found, lk)) = across claims m m' p q mine
@@ -49,7 +49,7 @@ module _ (c : Config) (own : List OwnHandle) (turn claims : ℕ) (b : Bool) wher
   -- and the seat stays the actor's
   pub seat-after-load : {R X : Type 0} (slots h n number : ℕ) (m m' : Me (Option R) (List Known))
       → IsSeated c number m × X × CachesOwnHandles c own turn b claims (seat_known m.0)
-      → LoadsWord (step slots h 0 0 none) m n m'
+      → StepLoadsWord (step slots h 0 0 none) m n m'
       → IsSeated c number m' × X × CachesOwnHandles c own turn b claims (seat_known m'.0)
   seat-after-load slots h n number m m' (seat, x, r) l = (
     looks-seated slots h 0 0 n m m' c number seat l,

@@ -15,7 +15,7 @@ use Rattle.aio_word.specs.declared.Known.{Known}
 use Rattle.aio_word.specs.Events.{kind_place, count_at_rank, wait_ref, lives_ended, kind_of_step}
 use Rattle.aio_word.specs.Events.{with_mark}
 use Rattle.aio_word.specs.Stands.{one_if}
-use Rattle.aio_word.specs.Tokens.{is_claim, claimed_marks}
+use Rattle.aio_word.specs.Tokens.{is_claim, claimed_mark_count}
 use Rattle.aio_word.proofs.AppendKeepsHandle.{mark_by_parts, count_at_rank-push}
 use Rattle.aio_handle.specs.declared.own.OwnHandle.{OwnHandle}
 use Rattle.aio_handle.specs.LifeWords.{handed_out_word, unclaimed_word, claimed_word, idle_word}
@@ -33,7 +33,8 @@ pub claim-no : (k : Kind) → kind_place k ≢ 3 → one_if (kind_place k == 3) 
 claim-no k ne = grind (arith, nat_tests)
 
 pub claims-push : (h g : ℕ) (k : Kind) (ms : List Mark)
-    → claimed_marks (ms ++ mark_by_parts h g k ∷ []) ≡ claimed_marks ms + one_if (kind_place k == 3)
+    → claimed_mark_count (ms ++ mark_by_parts h g k ∷ []) ≡ claimed_mark_count ms
+    + one_if (kind_place k == 3)
 claims-push h g k ms = sum_by_push (λ (m : Mark). one_if (is_claim m)) ms (mark_by_parts h g k)
 
 pub same-handle : (c : Config) (p q : Known) (h : ℕ) → lives_ended h q.marks ≡ lives_ended h p.marks
@@ -75,7 +76,8 @@ module _ (c : Config) (own : List OwnHandle) (turn claims : ℕ) (b : Bool) wher
         (ap (λ (z : Known). z.marks) m.is) r.unspent;
     turn_in = r.turn_in;
     out = out-same b p q (ap (λ (z : Known). z.out) m.is) r.out;
-    counted = r.counted ∙ ap (λ (z : Known). min (claimed_marks z.marks) (2 ^ 128 - 1)) (sym m.is);
+    counted = r.counted ∙ ap (λ (z : Known). min (claimed_mark_count z.marks) (2 ^ 128 - 1))
+        (sym m.is);
   }
 
   -- over an event that appends no mark
@@ -89,13 +91,13 @@ module _ (c : Config) (own : List OwnHandle) (turn claims : ℕ) (b : Bool) wher
     unspent = only-past-same c p q en em r.unspent;
     turn_in = le;
     out = out;
-    counted = r.counted ∙ ap (λ (z : List Mark). min (claimed_marks z) (2 ^ 128 - 1)) (sym em);
+    counted = r.counted ∙ ap (λ (z : List Mark). min (claimed_mark_count z) (2 ^ 128 - 1)) (sym em);
   }
 
   -- over an event that appends a mark which neither begins nor ends a life
   marked : (p q : Known) (h g : ℕ) (k : Kind) (claims' : ℕ) → 0 < kind_place k → kind_place k < 7
       → q.number ≡ p.number → q.marks ≡ p.marks ++ mark_by_parts h g k ∷ [] → q.out ≡ p.out
-      → claims' ≡ min (claimed_marks p.marks + one_if (kind_place k == 3)) (2 ^ 128 - 1)
+      → claims' ≡ min (claimed_mark_count p.marks + one_if (kind_place k == 3)) (2 ^ 128 - 1)
       → CachesOwnHandles c own turn b claims p → CachesOwnHandles c own turn b claims' q
   marked p q h g k claims' lo hi en em eo ec r = record {
     owns = owns-same c own p q en
@@ -109,7 +111,7 @@ module _ (c : Config) (own : List OwnHandle) (turn claims : ℕ) (b : Bool) wher
     turn_in = r.turn_in;
     out = out-same b p q eo r.out;
     counted = ec ∙ ap (λ (z : ℕ). min z (2 ^ 128 - 1))
-        (sym (ap claimed_marks em ∙ claims-push h g k p.marks));
+        (sym (ap claimed_mark_count em ∙ claims-push h g k p.marks));
   }
 
   pub caches-plain : (e : Event) (h : ℕ) (w w' : Word) (aim : List ℕ) (p q : Known)
@@ -128,7 +130,8 @@ module _ (c : Config) (own : List OwnHandle) (turn claims : ℕ) (b : Bool) wher
           (ap (λ (z : Known). z.marks) m.is ∙ ap (with_mark p.marks h w.generation) lv)
           (plain-out e h w w' aim p q m pl)
           (r.counted ∙ ap (λ (z : ℕ). min z (2 ^ 128 - 1))
-          (let same : claimed_marks p.marks ≡ claimed_marks p.marks + one_if (kind_place k == 3) =
+          (let same : claimed_mark_count p.marks ≡ claimed_mark_count p.marks
+          + one_if (kind_place k == 3) =
           omega arith in same)) r
 
   pub caches-claimed : (h g claims' : ℕ) (aim : List ℕ) (p q : Known)
@@ -138,7 +141,8 @@ module _ (c : Config) (own : List OwnHandle) (turn claims : ℕ) (b : Bool) wher
   caches-claimed h g claims' aim p q m more r = marked p q h g kind.Claimed claims' (omega arith)
       (omega arith) (ap (λ (z : Known). z.number) m.is) (ap (λ (z : Known). z.marks) m.is)
       (ap (λ (z : Known). z.out) m.is)
-      (let was = r.counted in let goal : claims' ≡ min (claimed_marks p.marks + 1) (2 ^ 128 - 1) =
+      (let was = r.counted in let goal : claims'
+      ≡ min (claimed_mark_count p.marks + 1) (2 ^ 128 - 1) =
       omega arith in goal) r
 
   pub caches-handed-out : (h g turn' : ℕ) (aim : List ℕ) (p q : Known)
@@ -167,5 +171,5 @@ caches-initial c own p o em eo = record {
   unspent = λ h g own-h le. ap (count_at_rank h (8 * g + 7)) em;
   turn_in = omega arith;
   out = ((λ x. absurd (false-true x)), (λ t. absurd (none-some t.0 (sym eo ∙ t.1))));
-  counted = ap (λ (z : List Mark). min (claimed_marks z) (2 ^ 128 - 1)) (sym em);
+  counted = ap (λ (z : List Mark). min (claimed_mark_count z) (2 ^ 128 - 1)) (sym em);
 }

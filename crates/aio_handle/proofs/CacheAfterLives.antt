@@ -14,7 +14,7 @@ use Rattle.aio_word.specs.declared.Known.{Known}
 use Rattle.aio_word.specs.Words.{last_generation}
 use Rattle.aio_word.specs.Events.{owner, count_at_rank, lives_ended}
 use Rattle.aio_word.specs.Stands.{seen_rank}
-use Rattle.aio_word.specs.Tokens.{MarksOnceAndSeen, claimed_marks}
+use Rattle.aio_word.specs.Tokens.{MarksOnceAndSeen, claimed_mark_count}
 use Rattle.aio_word.proofs.AppendKeepsHandle.{mark_by_parts, count_at_rank-push}
 use Rattle.aio_handle.specs.declared.own.OwnHandle.{OwnHandle}
 use Rattle.aio_handle.specs.LifeWords.{handed_out_word, defined_word, taken_word, idle_word}
@@ -107,7 +107,8 @@ module _ (c : Config) (own : List OwnHandle) (turn claims : ℕ) (b : Bool) wher
           (λ t. absurd (none-some t.0 (sym (ap (λ (z : Known). z.out) m.is) ∙ t.1))),
         );
         counted = r.counted ∙ ap (λ (z : ℕ). min z (2 ^ 128 - 1))
-            (sym (ap claimed_marks marks ∙ (claims-push h g kind.Defined p.marks ∙ (omega arith))));
+            (sym (ap claimed_mark_count marks ∙
+            (claims-push h g kind.Defined p.marks ∙ (omega arith))));
       }
 
   pub caches-reclaimed : (h g k : ℕ) (class : Class) (aim : List ℕ) (p q : Known)
@@ -161,6 +162,6 @@ module _ (c : Config) (own : List OwnHandle) (turn claims : ℕ) (b : Bool) wher
             (sym (length-set own k record { generation = g + 1; is_defined = false })) r.turn_in;
         out = out-same b p q (ap (λ (z : Known). z.out) m.is) r.out;
         counted = r.counted ∙ ap (λ (z : ℕ). min z (2 ^ 128 - 1))
-            (sym (ap claimed_marks marks ∙
+            (sym (ap claimed_mark_count marks ∙
             (claims-push h g kind.Reclaimed p.marks ∙ (omega arith))));
       }

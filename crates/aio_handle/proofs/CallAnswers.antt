@@ -26,7 +26,7 @@ use Rattle.aio_handle.specs.CallEvents.{EventMade, WordLoaded, CheckAnswer, IsCo
 use Rattle.aio_handle.specs.declared.record.Label.{Label}
 use Rattle.aio_handle.specs.LifeWords.{completed_word, taken_word}
 use Rattle.aio_handle.specs.Seats.{seat_known}
-use Rattle.aio_handle.specs.Steps.{LoadsWord}
+use Rattle.aio_handle.specs.Steps.{StepLoadsWord}
 use Rattle.aio_handle.proofs.CallSteps.{looks-saw}
 use Rattle.aio_handle.proofs.StateAtStep.{word-is}
 use Rattle.aio_handle.proofs.TokensAfterEvent.{begun-of}
@@ -96,7 +96,7 @@ note-looked h w p q x m i = subst (λ (z : Known). IsIn x z.aims) (sym m.is) i
 
 -- what a load tells whoever waits for an I/O in flight, where the word w was found
 pub flight-loaded : {R : Type 0} (slots n : ℕ) (t : WaitRef) (m m' : Me (Option R) (List Known))
-    (w : Word) → LoadsWord (step slots t.handle 0 0 none) m n m' → packed_word w ≡ n
+    (w : Word) → StepLoadsWord (step slots t.handle 0 0 none) m n m' → packed_word w ≡ n
     → IsInFlight (seat_known m.0) t
     → WordLoaded t.handle w (seat_known m.0) (seat_known m'.0) × IsInFlight (seat_known m'.0) t
     × (IsCompleted w t.generation → 8 * t.generation + 6 ≤ seen_rank (seat_known m'.0) t.handle)

@@ -20,8 +20,8 @@ use Rattle.aio_handle.specs.Front.{moved_to_front}
 use Rattle.aio_handle.specs.CallEvents.{EventMade, WordLoaded}
 use Rattle.aio_handle.specs.LifeWords.{idle_word, handed_out_word, unclaimed_word, claimed_word}
 use Rattle.aio_handle.specs.LifeWords.{executed_word, completed_word, taken_word}
-use Rattle.aio_handle.specs.Steps.{MakesEvent, Executes, HandsOut, ReturnsSlot, Claims}
-use Rattle.aio_handle.specs.Steps.{TakesCompleted, LoadsWord}
+use Rattle.aio_handle.specs.Steps.{StepMakesEvent, Executes, HandsOut, ReturnsSlot, Claims}
+use Rattle.aio_handle.specs.Steps.{TakesCompleted, StepLoadsWord}
 use Rattle.aio_handle.specs.Seats.{SlotIsOut, IsSeated, seat_known}
 use Rattle.aio_handle.proofs.SeatAfterStep.{seated-same, seated-more, seated-less, seated-looked}
 use Rattle.aio_handle.proofs.SeatAfterStep.{event-of-step}
@@ -53,7 +53,7 @@ head-same {A} {a} e = ap (head-of a) e
 
 module _ {R : Type 0} (slots h g new n : ℕ) (m m' : Me (Option R) (List Known)) where
   pub makes-made : (e : Event) (from to : ℕ → Word) → ((x : ℕ) → (to x).generation ≡ x)
-      → new ≡ packed_word (to g) → MakesEvent e from to (step slots h new 0 none) m n m'
+      → new ≡ packed_word (to g) → StepMakesEvent e from to (step slots h new 0 none) m n m'
       → EventMade e h (from g) (to g) [] (seat_known m.0) (seat_known m'.0)
   makes-made e from to gen is (p, q, g', mine, then, found, wrote, md) =
       event-of-step e from to [] h g g' new m m' p q m.1 mine then md
@@ -61,7 +61,7 @@ module _ {R : Type 0} (slots h g new n : ℕ) (m m' : Me (Option R) (List Known)
 
   pub makes-seated : (c : Config) (number : ℕ) (e : Event) (from to : ℕ → Word)
       → IsSeated c number m → SlotIsOut (seat_known m.0) h
-      → MakesEvent e from to (step slots h new 0 none) m n m' → IsSeated c number m'
+      → StepMakesEvent e from to (step slots h new 0 none) m n m' → IsSeated c number m'
   makes-seated c number e from to s away (p, q, g', mine, then, found, wrote, md) =
       seated-same c number m m' e h (from g') (to g') [] p q s mine then md away
 
@@ -102,11 +102,11 @@ module _ {R : Type 0} (slots h g new n : ℕ) (m m' : Me (Option R) (List Known)
       (handed_out_word g') [] p q s mine then md
 
   pub looks-seated : (c : Config) (number : ℕ) → IsSeated c number m
-      → LoadsWord (step slots h 0 0 none) m n m' → IsSeated c number m'
+      → StepLoadsWord (step slots h 0 0 none) m n m' → IsSeated c number m'
   looks-seated c number s (p, q, mine, then, (w, found, lk)) =
       seated-looked c number h w m m' p q s mine then lk
 
-  pub looks-saw : LoadsWord (step slots h 0 0 none) m n m' → (w : Word) × (packed_word w ≡ n)
+  pub looks-saw : StepLoadsWord (step slots h 0 0 none) m n m' → (w : Word) × (packed_word w ≡ n)
       × WordLoaded h w (seat_known m.0) (seat_known m'.0)
   looks-saw (p, q, mine, then, (w, found, lk)) = (
     w,

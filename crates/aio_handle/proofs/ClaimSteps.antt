@@ -23,16 +23,16 @@ use Rattle.aio_word.proofs.PackIsInjective.{class-bound, state-bound, bit-bound}
 use Rattle.aio_word.proofs.RowConditions.{same-state}
 use Rattle.aio_word.proofs.EventRows.{claim}
 use Rattle.aio_handle.specs.declared.record.Label.{Label}
-use Rattle.aio_handle.specs.TableInvariant.{SlotHolds, IsActor, TableInvariant}
+use Rattle.aio_handle.specs.TableInvariant.{SlotHolds, IsLawfulActor, TableInvariant}
 use Rattle.aio_handle.specs.KnownChanges.{known_after, known_after_look}
 use Rattle.aio_handle.specs.CallEvents.{EventMade}
 use Rattle.aio_handle.specs.LifeWords.{unclaimed_word, claimed_word}
-use Rattle.aio_handle.specs.Steps.{Claims, LoadsWord}
+use Rattle.aio_handle.specs.Steps.{Claims, StepLoadsWord}
 use Rattle.aio_handle.proofs.SeatLists.{index-below}
 use Rattle.aio_handle.proofs.StateAtStep.{same-number, word-is, StepFinds, step-finds, refined}
 use Rattle.aio_handle.proofs.StateAtStep.{stood-here}
 use Rattle.aio_handle.proofs.StateAtStep.{ruled-here, known-matches-word, actor-here}
-use Rattle.aio_handle.proofs.StepEffects.{NoteEffect, ListEffect, out-unchanged}
+use Rattle.aio_handle.proofs.MarkEffects.{NoteEffect, ListEffect, out-unchanged}
 use Rattle.aio_handle.proofs.LivesCounted.{lives_ended-same}
 use Rattle.aio_handle.proofs.MarkEffects.{effect-with-mark}
 use Rattle.aio_handle.proofs.StepKeepsInvariant.{invariant-kept, event-made}
@@ -67,7 +67,7 @@ module _ {R : Type 0} (label : R → Label) (aim_in : R → List ℕ) (Fits : R 
     (s : State (Option R) (List Known)) (r : TableInvariant label aim_in Fits c s) (id h : ℕ)
     (p : Known)
     (f0 : StepFinds label aim_in Fits c s r id h p) (range : h < handle_count c) (g : ℕ) where
-  actor : IsActor c p
+  actor : IsLawfulActor c p
   actor = actor-here label aim_in Fits c s r id h p f0
 
   module _ (free : f0.w ≡ unclaimed_word g) where
@@ -136,7 +136,7 @@ module _ {R : Type 0} (label : R → Label) (aim_in : R → List ℕ) (Fits : R 
   loads : (slots id h : ℕ) (me : Me (Option R) (List Known)) (p : Known) → me.0 ≡ p ∷ []
       → h < handle_count c
       → Allows (TableInvariant label aim_in Fits c) slots id me h
-      (λ n. n) (LoadsWord (step slots h 0 0 none) me)
+      (λ n. n) (StepLoadsWord (step slots h 0 0 none) me)
   loads slots id h me p mine range s r wide at _ =
       let seat : get_elem? s.views id ≡ some (p ∷ []) = at ∙ ap some mine in
       let f = step-finds label aim_in Fits c s r id h p seat range in
@@ -156,7 +156,7 @@ module _ {R : Type 0} (label : R → Label) (aim_in : R → List ℕ) (Fits : R 
       → words ≡ handle_count config → handle_count config ≡ total → h < total → X
       → X × (h < words)
       × Allows (TableInvariant label aim_in Fits c) slots id me h
-      (λ n. n) (LoadsWord (step slots h 0 0 none) me)
+      (λ n. n) (StepLoadsWord (step slots h 0 0 none) me)
   load-is-allowed config words slots total id h me p mine key sized all lt x =
       let range : h < handle_count config = subst (λ (z : ℕ). h < z) (sym all) lt in (
         x,

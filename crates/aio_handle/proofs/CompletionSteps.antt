@@ -19,7 +19,7 @@ use Rattle.aio_word.specs.Stands.{IsIn}
 use Rattle.aio_word.specs.Tokens.{IsClaimed, IsExecuted}
 use Rattle.aio_word.proofs.EventRows.{io, shared}
 use Rattle.aio_handle.specs.declared.record.Label.{Label}
-use Rattle.aio_handle.specs.TableInvariant.{IsActor, TableInvariant}
+use Rattle.aio_handle.specs.TableInvariant.{IsLawfulActor, TableInvariant}
 use Rattle.aio_handle.specs.KnownChanges.{known_after}
 use Rattle.aio_handle.specs.CallEvents.{EventMade}
 use Rattle.aio_handle.specs.LifeWords.{claimed_word, executed_word, completed_word}
@@ -29,11 +29,11 @@ use Rattle.aio_handle.proofs.StateAtStep.{StepFinds, step-finds, refined, stood-
 use Rattle.aio_handle.proofs.StateAtStep.{known-matches-word}
 use Rattle.aio_handle.proofs.StateAtStep.{actor-here}
 use Rattle.aio_handle.proofs.WordFromMarks.{is-claimed_word, has-claimed, is-executed_word}
-use Rattle.aio_handle.proofs.StepEffects.{NoteEffect, ListEffect, out-unchanged}
+use Rattle.aio_handle.proofs.MarkEffects.{NoteEffect, ListEffect, out-unchanged}
 use Rattle.aio_handle.proofs.LivesCounted.{lives_ended-same}
 use Rattle.aio_handle.proofs.MarkEffects.{effect-with-mark}
 use Rattle.aio_handle.proofs.StepKeepsInvariant.{invariant-kept, event-made}
-use Rattle.aio_handle.proofs.SlotHomeAfterReturn.{slot-at-home, slot-out-with-nobody}
+use Rattle.aio_handle.proofs.SlotOutNotHome.{slot-at-home, slot-out-with-nobody}
 
 some-claim : (n : ℕ) → 0 < n → nat_lt 0 n ≡ true
 some-claim n h = grind (arith, nat_tests)
@@ -48,7 +48,7 @@ module _ {R : Type 0} (label : R → Label) (aim_in : R → List ℕ) (Fits : R 
     (s : State (Option R) (List Known)) (r : TableInvariant label aim_in Fits c s) (id h : ℕ)
     (p : Known)
     (f0 : StepFinds label aim_in Fits c s r id h p) (range : h < handle_count c) (g : ℕ) where
-  actor : IsActor c p
+  actor : IsLawfulActor c p
   actor = actor-here label aim_in Fits c s r id h p f0
 
   module _ (t : IsClaimed p (wait_ref h g)) (class : Class) (ended : class ≢ Unended) where

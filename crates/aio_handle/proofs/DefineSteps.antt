@@ -15,27 +15,27 @@ use Rattle.aio_word.specs.Words.{packed_word}
 use Rattle.aio_word.specs.Events.{handle_count, owner, wait_ref, state_is}
 use Rattle.aio_word.proofs.EventRows.{LawfulAndIdleAtLast, release, define}
 use Rattle.aio_handle.specs.declared.record.Label.{Label}
-use Rattle.aio_handle.specs.TableInvariant.{IsActor, TableInvariant}
+use Rattle.aio_handle.specs.TableInvariant.{IsLawfulActor, TableInvariant}
 use Rattle.aio_handle.specs.KnownChanges.{known_after}
 use Rattle.aio_handle.specs.CallEvents.{EventMade}
 use Rattle.aio_handle.specs.LifeWords.{idle_word, handed_out_word, defined_word}
-use Rattle.aio_handle.specs.Steps.{MakesEvent, Releases}
+use Rattle.aio_handle.specs.Steps.{StepMakesEvent, Releases}
 use Rattle.aio_handle.proofs.SeatLists.{index-below}
 use Rattle.aio_handle.proofs.StateAtStep.{same-number, StepFinds, step-finds, refined, stood-here}
 use Rattle.aio_handle.proofs.StateAtStep.{ruled-here}
 use Rattle.aio_handle.proofs.StateAtStep.{known-matches-word, actor-here}
 use Rattle.aio_handle.proofs.WordFromMarks.{none-some, is-handed_out_word, some-same}
-use Rattle.aio_handle.proofs.StepEffects.{NoteEffect, ListEffect}
+use Rattle.aio_handle.proofs.MarkEffects.{NoteEffect, ListEffect}
 use Rattle.aio_handle.proofs.LivesCounted.{lives_ended-same}
 use Rattle.aio_handle.proofs.MarkEffects.{effect-with-mark, effect-without-mark}
 use Rattle.aio_handle.proofs.StepKeepsInvariant.{invariant-kept, event-made}
-use Rattle.aio_handle.proofs.SlotHomeAfterReturn.{slot-at-home, slot-out-with-nobody}
+use Rattle.aio_handle.proofs.SlotOutNotHome.{slot-at-home, slot-out-with-nobody}
 
 module _ {R : Type 0} (label : R → Label) (aim_in : R → List ℕ) (Fits : R → Type 0) (c : Config)
     (s : State (Option R) (List Known)) (r : TableInvariant label aim_in Fits c s) (id h : ℕ)
     (p : Known)
     (f0 : StepFinds label aim_in Fits c s r id h p) (range : h < handle_count c) (g : ℕ) where
-  actor : IsActor c p
+  actor : IsLawfulActor c p
   actor = actor-here label aim_in Fits c s r id h p f0
 
   module _ (out : p.out ≡ Some (wait_ref h g)) where
@@ -193,7 +193,7 @@ module _ {R : Type 0} (label : R → Label) (aim_in : R → List ℕ) (Fits : R 
       → new ≡ packed_word (defined_word g) → me.0 ≡ p ∷ [] → h < handle_count c
       → p.out ≡ Some (wait_ref h g)
       → Allows (TableInvariant label aim_in Fits c) slots id me h (λ _. new)
-      (MakesEvent event.Define handed_out_word defined_word (step slots h new 0 none) me)
+      (StepMakesEvent event.Define handed_out_word defined_word (step slots h new 0 none) me)
   define-is-allowed slots id h g new me p is mine range out s r wide at _ =
       let seat : get_elem? s.views id ≡ some (p ∷ []) = at ∙ ap some mine in
       let f = step-finds label aim_in Fits c s r id h p seat range in

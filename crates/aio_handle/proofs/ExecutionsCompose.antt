@@ -5,7 +5,8 @@ use Rattle.aio_word.specs.declared.Known.{Known}
 use Rattle.aio_word.specs.declared.WaitRef.{WaitRef}
 use Rattle.aio_word.specs.declared.Kind.TheVariants as kind
 use Rattle.aio_word.specs.declared.Step.TheVariants as event
-use Rattle.aio_word.specs.Tokens.{AppendsMarks, ClaimsAreCompleted, io_marks, failed_marks}
+use Rattle.aio_word.specs.Tokens.{AppendsMarks, ClaimsAreCompleted, io_mark_count}
+use Rattle.aio_word.specs.Tokens.{failed_mark_count}
 use Rattle.aio_word.specs.Tokens.{make_mark}
 use Rattle.aio_word.proofs.MoreMarksKeep.{claims-completed-more, io-more, failed-more}
 use Rattle.aio_handle.specs.Execution.{ExecutesAll}
@@ -20,7 +21,7 @@ executes_nothing p q reads faults g = record {
   more = [];
   grows = g;
   took = claims-completed-none;
-  pays = record { read_each = λ _. omega arith; fault_each = λ _. omega arith };
+  counters_follow = record { read_each = λ _. omega arith; fault_each = λ _. omega arith };
 }
 
 -- two calls that execute, one after the other
@@ -34,15 +35,15 @@ executes_then_held held p q r reads reads' reads'' faults faults' faults'' a b =
   grows = appends-then p q r a.more b.more a.grows b.grows;
   took = subst (λ (z : List Mark). ClaimsAreCompleted z) (append_assoc held a.more b.more)
       (claims-completed-more (held ++ a.more) b.more a.took b.took);
-  pays = record {
+  counters_follow = record {
     read_each = λ lt.
         let m = io-more a.more b.more in
-        let y = b.pays.read_each lt in
-        let x = a.pays.read_each (omega arith) in omega arith;
+        let y = b.counters_follow.read_each lt in
+        let x = a.counters_follow.read_each (omega arith) in omega arith;
     fault_each = λ lt.
         let m = failed-more a.more b.more in
-        let y = b.pays.fault_each lt in
-        let x = a.pays.fault_each (omega arith) in omega arith;
+        let y = b.counters_follow.fault_each lt in
+        let x = a.counters_follow.fault_each (omega arith) in omega arith;
   };
 }
 
@@ -68,15 +69,15 @@ claim_then_executes t u aim p q r reads reads' faults faults' same m a' =
       grows = appends-then p q r (make_mark t kind.Claimed ∷ []) a.more
           (claim-grows t.handle t.generation aim p q m) a.grows;
       took = a.took;
-      pays = record {
+      counters_follow = record {
         read_each = λ lt.
             let n = io-more (make_mark t kind.Claimed ∷ []) a.more in
-            let z : io_marks (make_mark t kind.Claimed ∷ []) ≡ 0 = refl in
-            let x = a.pays.read_each lt in omega arith;
+            let z : io_mark_count (make_mark t kind.Claimed ∷ []) ≡ 0 = refl in
+            let x = a.counters_follow.read_each lt in omega arith;
         fault_each = λ lt.
             let n = failed-more (make_mark t kind.Claimed ∷ []) a.more in
-            let z : failed_marks (make_mark t kind.Claimed ∷ []) ≡ 0 = refl in
-            let x = a.pays.fault_each lt in omega arith;
+            let z : failed_mark_count (make_mark t kind.Claimed ∷ []) ≡ 0 = refl in
+            let x = a.counters_follow.fault_each lt in omega arith;
       };
     }
 

@@ -18,7 +18,8 @@ use Rattle.aio_word.specs.Words.{word_place}
 use Rattle.aio_word.specs.Events.{handle_count, kind_place, is_mark, mark_count, wait_ref}
 use Rattle.aio_word.specs.Events.{make_mark, any_local}
 use Rattle.aio_word.specs.Stands.{IsIn, one_if, mark_total, StandsForHandle, Stands}
-use Rattle.aio_word.specs.Tokens.{is_failed, is_failed_result, failed_marks, failed_results}
+use Rattle.aio_word.specs.Tokens.{is_failed, is_failed_result, failed_mark_count}
+use Rattle.aio_word.specs.Tokens.{failed_result_count}
 use Rattle.aio_word.proofs.ReplacedElement.{sum-in}
 use Rattle.aio_word.proofs.TotalsAgree.{sum_below, sum_below-same, buckets, sums-swapped, sum-same}
 use Rattle.aio_handle.proofs.SeatLists.{entry-at}
@@ -153,8 +154,8 @@ module _ (c : Config) (ws : List Word) (parts : List Known) (s : Stands c ws par
       omega arith)
       (λ none. omega arith)
 
-  pub failed_results_few : sum_by (λ (p : Known). failed_results p.marks) parts
-      ≤ sum_by (λ (p : Known). failed_marks p.marks) parts
+  pub failed_results_few : sum_by (λ (p : Known). failed_result_count p.marks) parts
+      ≤ sum_by (λ (p : Known). failed_mark_count p.marks) parts
   failed_results_few =
       let G : ℕ = sum_by (λ (p : Known). sum_by (λ (m : Mark). m.generation) p.marks) parts + 1 in
       let bound : (p : Known) → IsIn p parts → (m : Mark) → IsIn m p.marks

@@ -28,7 +28,7 @@ use Rattle.aio_handle.proofs.StateAtStep.{same-number, StepFinds, step-finds, re
 use Rattle.aio_handle.proofs.StateAtStep.{ruled-here}
 use Rattle.aio_handle.proofs.StateAtStep.{known-matches-word, actor-here, here-in}
 use Rattle.aio_handle.proofs.WordFromMarks.{none-some, is-idle_word, some-same}
-use Rattle.aio_handle.proofs.StepEffects.{NoteEffect, ListEffect}
+use Rattle.aio_handle.proofs.MarkEffects.{NoteEffect, ListEffect}
 use Rattle.aio_handle.proofs.MarkEffects.{effect-without-mark}
 use Rattle.aio_handle.proofs.StepKeepsInvariant.{invariant-kept, event-made}
 

@@ -22,7 +22,7 @@ use Rattle.aio_word.proofs.ReplacedElement.{in-replaced, in-here, sum-replaced}
 use Rattle.aio_word.proofs.StepKeepsHandles.{KeepsOtherHandles, handle-kept, all-handles-kept}
 use Rattle.aio_handle.specs.declared.record.Label.{Label}
 use Rattle.aio_handle.specs.TableInvariant.{lists_joined, KnownMatchesWord, HandleInvariant}
-use Rattle.aio_handle.specs.TableInvariant.{IsActor, TableInvariant}
+use Rattle.aio_handle.specs.TableInvariant.{IsLawfulActor, TableInvariant}
 use Rattle.aio_handle.specs.KnownChanges.{known_after_look}
 use Rattle.aio_handle.specs.CallEvents.{WordLoaded}
 use Rattle.aio_handle.proofs.StateAtStep.{StepFinds, stood-here, ruled-here, actor-here}
@@ -52,7 +52,7 @@ module _ {R : Type 0} (label : R → Label) (aim_in : R → List ℕ) (Fits : R 
   abbrev ruled : HandleInvariant label aim_in Fits c (front ++ p ∷ back) h w f.home
   ruled = ruled-here label aim_in Fits c s r id h p f
 
-  actor : IsActor c p
+  actor : IsLawfulActor c p
   actor = actor-here label aim_in Fits c s r id h p f
 
   -- with the greatest pair seen
@@ -73,7 +73,7 @@ module _ {R : Type 0} (label : R → Label) (aim_in : R → List ℕ) (Fits : R 
       → owner c i ≡ owner c h → i ≡ h)
       → HandleInvariant label aim_in Fits c (front ++ p' ∷ back) h w' home'
       → ((i : ℕ) (v : Word) (aim : List ℕ) → i ≢ h → KnownMatchesWord c i v aim p
-      → KnownMatchesWord c i v aim p') → IsActor c p'
+      → KnownMatchesWord c i v aim p') → IsLawfulActor c p'
       → (m' : Machine) → IsReachable c m' → MachineHasParts c m' (set r.ws h w')
       (front ++ p' ∷ back)
       → TableInvariant label aim_in Fits c
@@ -120,7 +120,7 @@ module _ {R : Type 0} (label : R → Label) (aim_in : R → List ℕ) (Fits : R 
                   (in-replaced front back p p' q j);
             })
             (at_set r.ws h i w' v ei));
-        actor = λ q j. ⊎_elim (λ e. subst (λ (z : Known). IsActor c z) e actor')
+        actor = λ q j. ⊎_elim (λ e. subst (λ (z : Known). IsLawfulActor c z) e actor')
             (λ was. r.actor q (subst (λ (z : List Known). IsIn q z) (sym now) was))
             (in-replaced front back p p' q (subst (λ (z : List Known). IsIn q z) then j));
         all = ap length then ∙ (same-length front back p p' ∙ (sym (ap length now) ∙ r.all));

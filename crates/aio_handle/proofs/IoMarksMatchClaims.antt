@@ -19,7 +19,7 @@ use Rattle.aio_word.specs.Words.{word_place}
 use Rattle.aio_word.specs.Events.{handle_count, kind_place, count_at_rank, wait_ref, is_mark}
 use Rattle.aio_word.specs.Events.{make_mark}
 use Rattle.aio_word.specs.Stands.{IsIn, one_if, mark_total, StandsForHandle, Stands}
-use Rattle.aio_word.specs.Tokens.{io_marks, claimed_marks}
+use Rattle.aio_word.specs.Tokens.{io_mark_count, claimed_mark_count}
 use Rattle.aio_word.proofs.ReplacedElement.{sum-in}
 use Rattle.aio_word.proofs.AppendKeepsHandle.{mark_by_parts, place-small, counted-in}
 use Rattle.aio_word.proofs.OwnMarksBoundWord.{has-counted, is-that, kind_place-small}
@@ -99,7 +99,7 @@ io-claimed c parts h w s free g = dite (dec_le c.start g)
     (s.none g (inl (omega arith)) kind.Claimed))
 
 pub balance : (c : Config) (parts : List Known) → EndState c parts → (p : Known) → IsIn p parts
-    → io_marks p.marks ≡ claimed_marks p.marks
+    → io_mark_count p.marks ≡ claimed_mark_count p.marks
 balance c parts e p i =
     let G : ℕ = sum_by (λ (m : Mark). m.generation) p.marks + 1 in
     let bound : (m : Mark) → IsIn m p.marks → (m.handle < handle_count c) × (m.generation < G) =

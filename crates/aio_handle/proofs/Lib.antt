@@ -1,14 +1,12 @@
 pub mod SeatLists
 pub mod StateAtStep
 pub mod LivesCounted
-pub mod StepEffects
 pub mod InvariantAfterStep
 pub mod MarkEffects
 pub mod MomentsAroundStep
 pub mod StepKeepsInvariant
 pub mod SlotOutNotHome
 pub mod WordFromMarks
-pub mod SlotHomeAfterReturn
 pub mod HandOutSteps
 pub mod DefineSteps
 pub mod SubmitSteps
@@ -19,7 +17,6 @@ pub mod SeatSplitAndJoin
 pub mod InitialLists
 pub mod NewTableMeetsInvariant
 pub mod ListsOfAllActors
-pub mod TwoListsInOneSeat
 pub mod TokensAfterEvent
 pub mod SeatAfterStep
 pub mod CallSteps
@@ -29,7 +26,6 @@ pub mod ExecutionsCompose
 pub mod SoleActorLife
 pub mod PlainEvents
 pub mod OnlyPastReclaimedAfterMark
-pub mod OwnPlaces
 pub mod CacheAfterEvents
 pub mod CacheAfterLives
 pub mod FreeHandles
@@ -38,5 +34,4 @@ pub mod IoMarksMatchClaims
 pub mod TokensStay
 pub mod ClaimAttemptIsKnown
 pub mod DistinctTokensStay
-pub mod RoomIsExact
 pub mod FailedResultsHaveExecutions

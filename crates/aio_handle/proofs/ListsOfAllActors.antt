@@ -22,7 +22,7 @@ use Rattle.aio_word.proofs.AppendKeepsHandle.{place-small}
 use Rattle.aio_word.proofs.OwnMarksBoundWord.{has-counted}
 use Rattle.aio_word.proofs.TotalsAgree.{totals-agree}
 use Rattle.aio_word.specs.declared.State.{State as WordState}
-use Rattle.aio_handle.specs.Closing.{NoneHasTokens}
+use Rattle.aio_handle.specs.Closing.{NoneHasOwnerTokens}
 use Rattle.aio_handle.specs.TableInvariant.{lists_joined}
 use Rattle.aio_handle.proofs.SeatLists.{entry-at, index-below}
 use Rattle.aio_handle.proofs.WordFromMarks.{idle-or-out}
@@ -92,7 +92,7 @@ none-some t e = cc
 -- where no token is out, each word is Idle
 pub all-idle : {R : Type 0} (label : R → Label) (aim_in : R → List ℕ) (Fits : R → Type 0)
     (c : Config) (s : State (Option R) (List Known)) (r : TableInvariant label aim_in Fits c s)
-    → NoneHasTokens (lists_joined s.views) → (h : ℕ) (w : Word) → get_elem? r.ws h ≡ some w
+    → NoneHasOwnerTokens (lists_joined s.views) → (h : ℕ) (w : Word) → get_elem? r.ws h ≡ some w
     → h < handle_count c
     → owner c h < actor_count c → w.state ≡ Idle
 all-idle label aim_in Fits c s r quiet h w at range inside =
@@ -152,7 +152,7 @@ pub end-state : {R : Type 0} (label : R → Label) (aim_in : R → List ℕ) (Fi
     (c : Config)
     (id : ℕ) (v : List Known) (xs : List ActorView) (ws : List ℕ) (slots : List (Option R))
     → v ≡ map actor_known xs → length xs ≡ actor_count c → IsConfig c
-    → NoneHasTokens (map actor_known xs)
+    → NoneHasOwnerTokens (map actor_known xs)
     → Final (Seen (TableInvariant label aim_in Fits c) id v) ws slots
     → EndState c (map actor_known xs)
     × (by_backends c (map actor_known xs) + by_runners c (map actor_known xs) < 2 ^ 128 - 1)

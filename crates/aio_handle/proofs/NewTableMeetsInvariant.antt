@@ -27,7 +27,7 @@ use Rattle.aio_handle.specs.declared.own.OwnHandle.{OwnHandle}
 use Rattle.aio_handle.specs.Own.{own_at, no_handle}
 use Rattle.aio_handle.specs.OwnHandleCache.{handle_at, MatchesOwnHandles}
 use Rattle.aio_handle.specs.TableInvariant.{initial_known, initial_known_from, initial_lists}
-use Rattle.aio_handle.specs.TableInvariant.{KnownMatchesWord, HandleInvariant, IsActor}
+use Rattle.aio_handle.specs.TableInvariant.{KnownMatchesWord, HandleInvariant, IsLawfulActor}
 use Rattle.aio_handle.specs.TableInvariant.{TableInvariant}
 use Rattle.aio_handle.proofs.InitialLists.{initial-in, none-new, initial-numbers, present-new}
 use Rattle.aio_handle.proofs.InitialLists.{length-new}
@@ -134,7 +134,7 @@ module _ {R : Type 0} (label : R → Label) (aim_in : R → List ℕ) (Fits : R 
         });
     actor = λ p i. let r = initial-in c 0 (actor_count c) p
         (subst (λ (z : List Known). IsIn p z) (append-nil all) i) in
-        subst (λ (z : Known). IsActor c z) r.is
+        subst (λ (z : Known). IsLawfulActor c z) r.is
         record {
           config = refl;
           number = let x = r.high in omega arith;

@@ -19,7 +19,7 @@ use Rattle.aio_word.specs.Tokens.{IsInFlight, IsLocal}
 use Rattle.aio_word.proofs.PackIsInjective.{class-bound}
 use Rattle.aio_word.proofs.EventRows.{local, reclaim}
 use Rattle.aio_handle.specs.declared.record.Label.{Label}
-use Rattle.aio_handle.specs.TableInvariant.{SlotHolds, IsActor, TableInvariant}
+use Rattle.aio_handle.specs.TableInvariant.{SlotHolds, IsLawfulActor, TableInvariant}
 use Rattle.aio_handle.specs.KnownChanges.{known_after}
 use Rattle.aio_handle.specs.CallEvents.{EventMade}
 use Rattle.aio_handle.specs.LifeWords.{idle_word, completed_word, taken_word}
@@ -29,11 +29,11 @@ use Rattle.aio_handle.proofs.StateAtStep.{same-number, StepFinds, step-finds, re
 use Rattle.aio_handle.proofs.StateAtStep.{ruled-here}
 use Rattle.aio_handle.proofs.StateAtStep.{known-matches-word, actor-here}
 use Rattle.aio_handle.proofs.WordFromMarks.{owns, is-completed_word, is-taken_word}
-use Rattle.aio_handle.proofs.StepEffects.{NoteEffect, ListEffect, out-unchanged}
+use Rattle.aio_handle.proofs.MarkEffects.{NoteEffect, ListEffect, out-unchanged}
 use Rattle.aio_handle.proofs.LivesCounted.{lives_ended-same, lives_ended-more}
 use Rattle.aio_handle.proofs.MarkEffects.{effect-with-mark}
 use Rattle.aio_handle.proofs.StepKeepsInvariant.{invariant-kept, event-made}
-use Rattle.aio_handle.proofs.SlotHomeAfterReturn.{slot-at-home, slot-out-with-nobody}
+use Rattle.aio_handle.proofs.SlotOutNotHome.{slot-at-home, slot-out-with-nobody}
 
 -- one more on the packed word
 next-word : (class : Class) (g : ℕ) → g < 2 ^ 58
@@ -44,7 +44,7 @@ module _ {R : Type 0} (label : R → Label) (aim_in : R → List ℕ) (Fits : R 
     (s : State (Option R) (List Known)) (r : TableInvariant label aim_in Fits c s) (id h : ℕ)
     (p : Known)
     (f0 : StepFinds label aim_in Fits c s r id h p) (range : h < handle_count c) (g : ℕ) where
-  actor : IsActor c p
+  actor : IsLawfulActor c p
   actor = actor-here label aim_in Fits c s r id h p f0
 
   module _ (t : IsInFlight p (wait_ref h g)) (saw-it : 8 * g + 6 ≤ seen_rank p h) where

@@ -22,7 +22,7 @@ use Rattle.aio_word.proofs.StepIsMachineStep.{at-get}
 use Rattle.aio_word.proofs.RanksAgree.{stands-from-ranks}
 use Rattle.aio_handle.specs.declared.record.Label.{Label}
 use Rattle.aio_handle.specs.TableInvariant.{lists_joined, KnownMatchesWord, HandleInvariant}
-use Rattle.aio_handle.specs.TableInvariant.{IsActor, TableInvariant}
+use Rattle.aio_handle.specs.TableInvariant.{IsLawfulActor, TableInvariant}
 use Rattle.aio_handle.proofs.SeatLists.{ListIsAt, list-is-at, get_or-at, entry-at}
 
 pub same-number : (a b : ℕ) → a ≡ b → (a == b) ≡ true
@@ -103,7 +103,7 @@ module _ {R : Type 0} (label : R → Label) (aim_in : R → List ℕ) (Fits : R 
     pub known-matches-word : KnownMatchesWord c h w ruled-here.aim p
     known-matches-word = ruled-here.known p (in-here front back p)
 
-    pub actor-here : IsActor c p
+    pub actor-here : IsLawfulActor c p
     actor-here = r.actor p here-in
 
     pub lists-here : (q : Known) → IsIn q (front ++ p ∷ back) → IsLawfulList c q

@@ -23,12 +23,12 @@ use Rattle.aio_word.proofs.AppendKeepsHandle.{place-small, rank-in-bounds}
 use Rattle.aio_word.proofs.ListWithMark.{in-others, others-in}
 use Rattle.aio_handle.specs.declared.record.Label.{Label}
 use Rattle.aio_handle.specs.TableInvariant.{KnownMatchesWord, SlotMatchesWord, HandleInvariant}
-use Rattle.aio_handle.specs.TableInvariant.{IsActor, TableInvariant}
+use Rattle.aio_handle.specs.TableInvariant.{IsLawfulActor, TableInvariant}
 use Rattle.aio_handle.specs.KnownChanges.{known_after}
 use Rattle.aio_handle.specs.CallEvents.{EventMade, IsByOwner, generation_of}
 use Rattle.aio_handle.proofs.StateAtStep.{StepFinds, stood-here, ruled-here, actor-here, others}
 use Rattle.aio_handle.proofs.StateAtStep.{before-here}
-use Rattle.aio_handle.proofs.StepEffects.{StepOfAnyActor, NoteEffect, ListEffect}
+use Rattle.aio_handle.proofs.MarkEffects.{StepOfAnyActor, NoteEffect, ListEffect}
 use Rattle.aio_handle.proofs.InvariantAfterStep.{invariant-after}
 use Rattle.aio_handle.proofs.MomentsAroundStep.{Passes, along, reached-now, passes}
 
@@ -59,7 +59,7 @@ module _ {R : Type 0} (label : R → Label) (aim_in : R → List ℕ) (Fits : R 
   abbrev ruled : HandleInvariant label aim_in Fits c (front ++ p ∷ back) h w f.home
   ruled = ruled-here label aim_in Fits c s r id h p f
 
-  actor : IsActor c p
+  actor : IsLawfulActor c p
   actor = actor-here label aim_in Fits c s r id h p f
 
   before : StandsForHandleByRank c (front ++ p ∷ back) h w
@@ -207,7 +207,7 @@ module _ {R : Type 0} (label : R → Label) (aim_in : R → List ℕ) (Fits : R 
           (λ x. subst (λ (z : Known). KnownMatchesWord c h w' aim' z) x known-own)
           (λ o. known-other q o) (in-others front back p1 q i)
 
-      actor-now : IsActor c p1
+      actor-now : IsLawfulActor c p1
       actor-now = record {
         config = actor.config;
         number = actor.number;

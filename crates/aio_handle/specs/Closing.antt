@@ -20,13 +20,13 @@ AllReclaimed p = (t : WaitRef) → mark_count t kind.Defined p.marks
 
 -- the actor is at rest, with no token out: no handle is handed out, and no incarnation is in the
 -- middle of its life
-abbrev pub HasNoTokens : Known → Type 0
-HasNoTokens p = (p.out ≡ None) × AllReclaimed p
+abbrev pub HasNoOwnerTokens : Known → Type 0
+HasNoOwnerTokens p = (p.out ≡ None) × AllReclaimed p
 
 -- no token of these actors is out. Then no I/O is claimed and not shared either, since its owner
 -- would have it in flight
-abbrev pub NoneHasTokens : List Known → Type 0
-NoneHasTokens parts = (p : Known) → IsIn p parts → HasNoTokens p
+abbrev pub NoneHasOwnerTokens : List Known → Type 0
+NoneHasOwnerTokens parts = (p : Known) → IsIn p parts → HasNoOwnerTokens p
 
 -- the lists of these actors stand for words that are all Idle, and as many incarnations were
 -- claimed as are over

@@ -2,7 +2,8 @@
 use Rattle.std.specs.Prelude.{◌≡◌, ℕ, ◌+◌, ◌-◌, ◌^◌, ◌<◌, ◌≤◌, ◌++◌, List}
 use Rattle.aio_word.specs.declared.Mark.{Mark}
 use Rattle.aio_word.specs.declared.Known.{Known}
-use Rattle.aio_word.specs.Tokens.{ClaimsAreCompleted, AppendsMarks, io_marks, failed_marks}
+use Rattle.aio_word.specs.Tokens.{ClaimsAreCompleted, AppendsMarks, io_mark_count}
+use Rattle.aio_word.specs.Tokens.{failed_mark_count}
 
 -- the last value of a count, at which it stands still
 abbrev pub last_count : ℕ
@@ -11,8 +12,8 @@ last_count = 2 ^ 64 - 1
 -- the counts rise with the marks: `reads` by the number of Io marks, `faults` by at least the
 -- failed ones among them
 pub record CountersFollowMarks (reads reads' faults faults' : ℕ) (more : List Mark) : Type 0 where
-  pub read_each : reads' < last_count → reads' ≡ reads + io_marks more
-  pub fault_each : faults' < last_count → faults + failed_marks more ≤ faults'
+  pub read_each : reads' < last_count → reads' ≡ reads + io_mark_count more
+  pub fault_each : faults' < last_count → faults + failed_mark_count more ≤ faults'
 
 -- the actor went on, and each incarnation that it has executed has its Claimed, Io and Shared
 -- marks, where `held` are the Claimed marks that it came with
@@ -21,4 +22,4 @@ pub record ExecutesAll (held : List Mark) (p q : Known)
   pub more : List Mark
   pub grows : AppendsMarks p q more
   pub took : ClaimsAreCompleted (held ++ more)
-  pub pays : CountersFollowMarks reads reads' faults faults' more
+  pub counters_follow : CountersFollowMarks reads reads' faults faults' more

@@ -6,7 +6,7 @@ use Rattle.aio_word.specs.declared.Known.{Known}
 use Rattle.aio_word.specs.declared.Kind.TheVariants as kind
 use Rattle.aio_word.specs.Words.{last_generation}
 use Rattle.aio_word.specs.Events.{wait_ref, mark_count, owner}
-use Rattle.aio_word.specs.Tokens.{claimed_marks}
+use Rattle.aio_word.specs.Tokens.{claimed_mark_count}
 use Rattle.aio_handle.specs.declared.own.OwnHandle.{OwnHandle}
 use Rattle.aio_handle.specs.CallEvents.{generation_of}
 use Rattle.aio_handle.specs.Free.{HasOneOut}
@@ -45,4 +45,4 @@ pub record CachesOwnHandles (c : Config) (own : List OwnHandle) (turn : ℕ) (is
   pub unspent : OnlyPastReclaimed c p
   pub turn_in : turn ≤ length own
   pub out : (is_out ≡ true) ↔ HasOneOut p
-  pub counted : claims ≡ min (claimed_marks p.marks) (2 ^ 128 - 1)
+  pub counted : claims ≡ min (claimed_mark_count p.marks) (2 ^ 128 - 1)

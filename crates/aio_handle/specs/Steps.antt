@@ -18,10 +18,11 @@ use Rattle.aio_handle.specs.Seats.{SlotIsOut}
 use Rattle.aio_word.specs.declared.Step.TheVariants as step
 
 -- a step that moves no slot
-abbrev pub MakesEvent : {S : Type 0} → Event → (ℕ → Word) → (ℕ → Word) → Step S → Me S (List Known)
+abbrev pub StepMakesEvent : {S : Type 0} → Event → (ℕ → Word) → (ℕ → Word) → Step S
+    → Me S (List Known)
     → ℕ
     → Me S (List Known) → Type 0
-MakesEvent e from to st m n m' = (p : Known) × (q : Known) × (g : ℕ) × (m.0 ≡ p ∷ [])
+StepMakesEvent e from to st m n m' = (p : Known) × (q : Known) × (g : ℕ) × (m.0 ≡ p ∷ [])
     × (m' ≡ (q ∷ [], m.1)) × (n ≡ packed_word (from g)) × (st.first ≡ packed_word (to g))
     × EventMade e st.word (from g) (to g) [] p q
 
@@ -35,8 +36,9 @@ Executes st m n m' = (p : Known) × (q : Known) × (g : ℕ) × (class : Class) 
 abbrev pub NumberLoaded : ℕ → ℕ → Known → Known → Type 0
 NumberLoaded h found p q = (w : Word) × (packed_word w ≡ found) × WordLoaded h w p q
 
-abbrev pub LoadsWord : {S : Type 0} → Step S → Me S (List Known) → ℕ → Me S (List Known) → Type 0
-LoadsWord st m n m' = (p : Known) × (q : Known) × (m.0 ≡ p ∷ []) × (m' ≡ (q ∷ [], m.1))
+abbrev pub StepLoadsWord : {S : Type 0} → Step S → Me S (List Known) → ℕ → Me S (List Known)
+    → Type 0
+StepLoadsWord st m n m' = (p : Known) × (q : Known) × (m.0 ≡ p ∷ []) × (m' ≡ (q ∷ [], m.1))
     × NumberLoaded st.word n p q
 
 -- the handle is handed out, and its empty slot comes with it

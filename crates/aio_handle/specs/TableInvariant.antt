@@ -63,7 +63,7 @@ pub record KnownMatchesWord (c : Config) (h : ℕ) (w : Word) (aim : List ℕ)
       → IsIn (wait_ref h w.generation, aim) p.aims
 
 -- an actor's notes have a place for each handle, and what it has out is its own
-pub record IsActor (c : Config) (p : Known) : Type 0 where
+pub record IsLawfulActor (c : Config) (p : Known) : Type 0 where
   pub config : p.config ≡ c
   pub number : p.number < actor_count c
   pub seen : length p.seen ≡ handle_count c
@@ -105,7 +105,7 @@ module _ {R : Type 0} (label : R → Label) (aim_in : R → List ℕ) (Fits : R 
     pub stands : StandsByRank c ws (lists_joined s.views)
     pub handle : (h : ℕ) (w : Word) (home : maybe.Option (Option R)) → get_elem? ws h ≡ some w
         → get_elem? s.homes h ≡ some home → HandleInvariant c (lists_joined s.views) h w home
-    pub actor : (p : Known) → IsIn p (lists_joined s.views) → IsActor c p
+    pub actor : (p : Known) → IsIn p (lists_joined s.views) → IsLawfulActor c p
     pub all : length (lists_joined s.views) ≡ actor_count c
     pub present : (n : ℕ) → n < actor_count c
         → 0 < sum_by (λ (p : Known). one_if (p.number == n)) (lists_joined s.views)

@@ -2,7 +2,7 @@
 ghost use Rattle.std.specs.Prelude.{◌≡◌, ◌<◌, ◌-◌, ◌^◌, cond, nat_lt, min, IfSome, IfNone};
 ghost use Rattle.aio_word.specs.Events.{handle_count};
 ghost use Rattle.aio_word.specs.Stands.{seen_rank};
-ghost use Rattle.aio_word.specs.Tokens.{MarksOnceAndSeen, claimed_marks};
+ghost use Rattle.aio_word.specs.Tokens.{MarksOnceAndSeen, claimed_mark_count};
 ghost use Rattle.aio_handle.specs.OwnHandleCache.{OnlyPastReclaimed};
 ghost use Rattle.aio_handle.specs.Free.{IsFree, HasNoneFree, IsRoom};
 
@@ -89,10 +89,12 @@ impl<R: Record, W: World> Actor<R, W> {
     // How often it has claimed, as a backend and as a runner.
     pub(crate) fn claims(&self, backends: u32) -> (u128, u128)
         ensures backend { result.0 ≡ min
-            (cond (nat_lt self.now.known.number backends) (claimed_marks self.now.known.marks) 0)
+            (cond (nat_lt self.now.known.number backends) (claimed_mark_count self.now.known.marks)
+            0)
             (2 ^ 128 - 1) }
         ensures runner { result.1 ≡ min
-            (cond (nat_lt self.now.known.number backends) 0 (claimed_marks self.now.known.marks))
+            (cond (nat_lt self.now.known.number backends) 0
+            (claimed_mark_count self.now.known.marks))
             (2 ^ 128 - 1) }
     {
         if self.number < backends {

@@ -5,7 +5,7 @@ ghost use Rattle.aio_word.specs.Events.{actor_count};
 ghost use Rattle.aio_word.specs.Totals.{by_backends as claimed_by_backends};
 ghost use Rattle.aio_word.specs.Totals.{by_runners as claimed_by_runners};
 ghost use Rattle.aio_handle.specs.ContractViews.{IsActorOf, actor_known};
-ghost use Rattle.aio_handle.specs.Closing.{NoneHasTokens, EndState, AreTotals};
+ghost use Rattle.aio_handle.specs.Closing.{NoneHasOwnerTokens, EndState, AreTotals};
 
 use crate::actor::Actor;
 use crate::record::Record;
@@ -98,7 +98,7 @@ impl<R: Record, W: World> Table<R, W> {
     pub fn close(self, actors: Vec<Actor<R, W>>) -> Totals
         requires table { All (IsActorOf self) actors.items }
         requires all { length actors.items ≡ actor_count self.config }
-        requires quiet { NoneHasTokens (map actor_known actors.items) }
+        requires quiet { NoneHasOwnerTokens (map actor_known actors.items) }
         ensures { AreTotals self.config (map actor_known actors.items) result }
     {
         let (by_backends, by_runners) = count_claims(&self.config, actors.as_slice());
@@ -114,7 +114,7 @@ impl<R: Record, W: World> Table<R, W> {
     fn end(self, actors: Vec<Actor<R, W>>) -> Closed<Option<R>, Global>
         requires table { All (IsActorOf self) actors.items }
         requires all { length actors.items ≡ actor_count self.config }
-        requires quiet { NoneHasTokens (map actor_known actors.items) }
+        requires quiet { NoneHasOwnerTokens (map actor_known actors.items) }
         ensures slots { IsFull result.slots }
         ensures ends { EndState self.config (map actor_known actors.items) }
         ensures small { claimed_by_backends self.config

@@ -14,12 +14,12 @@ ghost use Rattle.aio_word.specs.declared.WaitRef.{WaitRef};
 ghost use Rattle.aio_word.specs.declared.Word.{Word};
 ghost use Rattle.aio_word.specs.Events.{make_mark, wait_ref, lives_ended, mark_count, owner};
 ghost use Rattle.aio_word.specs.Stands.{IsIn, Stands, seen_rank};
-ghost use Rattle.aio_word.specs.Tokens.{AppendsMarks, MarksOnceAndSeen, IsClaimed, io_marks};
-ghost use Rattle.aio_word.specs.Tokens.{claimed_marks};
-ghost use Rattle.aio_word.specs.Tokens.{failed_marks, failed_results};
+ghost use Rattle.aio_word.specs.Tokens.{AppendsMarks, MarksOnceAndSeen, IsClaimed, io_mark_count};
+ghost use Rattle.aio_word.specs.Tokens.{claimed_mark_count};
+ghost use Rattle.aio_word.specs.Tokens.{failed_mark_count, failed_result_count};
 ghost use Rattle.aio_word.specs.Words.{last_generation};
 ghost use Rattle.aio_handle.specs.declared.actor.AcquireRefusal.{AcquireRefusal};
-ghost use Rattle.aio_handle.specs.Closing.{EndState, IsExecutedIn, HasNoTokens};
+ghost use Rattle.aio_handle.specs.Closing.{EndState, IsExecutedIn, HasNoOwnerTokens};
 ghost use Rattle.aio_handle.specs.Execution.{ExecutesAll};
 ghost use Rattle.aio_handle.specs.Free.{IsRoom, IsCause};
 ghost use Rattle.aio_handle.specs.TokenLists.{Place, TokenIsAt, TokenUnchangedAt};
@@ -33,7 +33,7 @@ ghost use Rattle.aio_handle.specs.Together.{StandTogether};
 /// Once no token is out, each actor has executed as many I/Os as it has claimed.
 pub fn each_claim_was_executed()
     ensures { (c : Config) (parts : List Known) → EndState c parts → (p : Known) → IsIn p parts
-        → io_marks p.marks ≡ claimed_marks p.marks }
+        → io_mark_count p.marks ≡ claimed_mark_count p.marks }
 {}
 
 /// At every moment, an I/O whose result was taken was executed by one actor, and ended with the
@@ -120,8 +120,8 @@ pub fn claim_keeps_claims()
 /// failed result has a failed execution of its own.
 pub fn failed_results_are_failed_executions()
     ensures { (c : Config) (words : List Word) (parts : List Known) → Stands c words parts
-        → sum_by (λ (p : Known). failed_results p.marks) parts
-        ≤ sum_by (λ (p : Known). failed_marks p.marks) parts }
+        → sum_by (λ (p : Known). failed_result_count p.marks) parts
+        ≤ sum_by (λ (p : Known). failed_mark_count p.marks) parts }
 {}
 
 /// A backend at rest is never refused a handle where fewer lives of each handle have ended since
@@ -130,7 +130,7 @@ pub fn failed_results_are_failed_executions()
 pub fn a_backend_at_rest_with_room_is_served()
     ensures { (c : Config) (p q : Known) (room ended : ℕ) (why : AcquireRefusal)
         → p.number < c.backends → IsRoom c p room → ended < room → q.number ≡ p.number
-        → ((h : ℕ) → lives_ended h q.marks ≤ lives_ended h p.marks + ended) → HasNoTokens q
+        → ((h : ℕ) → lives_ended h q.marks ≤ lives_ended h p.marks + ended) → HasNoOwnerTokens q
         → IsCause c q why → ⊥ }
 {}
 

@@ -1,7 +1,8 @@
 //! What each step tells. These types are for the proofs alone.
 ghost use Rattle.std.specs.Prelude.{◌≡◌, [], ◌++◌};
 ghost use Rattle.aio_word.specs.declared.Step.TheVariants.{Define, Stage};
-ghost use Rattle.aio_handle.specs.Steps.{LoadsWord, MakesEvent, Executes, HandsOut, Releases};
+ghost use Rattle.aio_handle.specs.Steps.{StepLoadsWord, StepMakesEvent, Executes, HandsOut};
+ghost use Rattle.aio_handle.specs.Steps.{Releases};
 ghost use Rattle.aio_handle.specs.Steps.{Reclaims, Claims, Submits, Shares, TakesCompleted};
 ghost use Rattle.aio_handle.specs.LifeWords.{handed_out_word, defined_word, staged_word};
 ghost use Rattle.aio_handle.specs.Seats.{front_of, rest_of};
@@ -62,13 +63,13 @@ impl<R> Play<Option<R>, View> for ReleaseStep {
 pub struct DefineStep;
 
 impl<R> Play<Option<R>, View> for DefineStep {
-    ghost then = { MakesEvent Define handed_out_word defined_word };
+    ghost then = { StepMakesEvent Define handed_out_word defined_word };
 }
 
 pub struct StageStep;
 
 impl<R> Play<Option<R>, View> for StageStep {
-    ghost then = { MakesEvent Stage defined_word staged_word };
+    ghost then = { StepMakesEvent Stage defined_word staged_word };
 }
 
 pub struct SubmitStep;
@@ -114,7 +115,7 @@ impl<R> Play<Option<R>, View> for ReclaimStep {
 pub struct LookStep;
 
 impl<R> Play<Option<R>, View> for LookStep {
-    ghost then = { LoadsWord };
+    ghost then = { StepLoadsWord };
 }
 
 /// Two lists that lie in one seat stand together.

@@ -11,8 +11,9 @@ use Rattle.aio_word.specs.declared.Kind.{Kind}
 use Rattle.aio_word.specs.Events.{count_at_rank, is_mark, kind_place}
 use Rattle.aio_word.specs.Stands.{one_if}
 use Rattle.aio_word.specs.Tokens.{owner_mark_count, claimer_mark_count, is_claim, is_io}
-use Rattle.aio_word.specs.Tokens.{claimed_marks, io_marks}
-use Rattle.aio_word.specs.Tokens.{failed_marks, is_failed, ClaimsAreCompleted, MarksOnceAndSeen}
+use Rattle.aio_word.specs.Tokens.{claimed_mark_count, io_mark_count}
+use Rattle.aio_word.specs.Tokens.{failed_mark_count, is_failed, ClaimsAreCompleted}
+use Rattle.aio_word.specs.Tokens.{MarksOnceAndSeen}
 use Rattle.aio_word.proofs.AppendKeepsHandle.{mark_by_parts, count_at_rank-push}
 use Rattle.aio_word.proofs.OwnMarksBoundWord.{kind_place-small}
 
@@ -52,15 +53,16 @@ pub owner_mark_count-completed : (t : WaitRef) (ms more : List Mark) → ClaimsA
 owner_mark_count-completed t ms more k = let none = k.owners t in
     omega (arith, owner_mark_count-more t ms more)
 
-pub io-more : (ms more : List Mark) → io_marks (ms ++ more) ≡ io_marks ms + io_marks more
+pub io-more : (ms more : List Mark) → io_mark_count (ms ++ more) ≡ io_mark_count ms
+    + io_mark_count more
 io-more ms more = sum_by-append (λ m. one_if (is_io m)) ms more
 
 pub claims-more : (ms more : List Mark)
-    → claimed_marks (ms ++ more) ≡ claimed_marks ms + claimed_marks more
+    → claimed_mark_count (ms ++ more) ≡ claimed_mark_count ms + claimed_mark_count more
 claims-more ms more = sum_by-append (λ m. one_if (is_claim m)) ms more
 
 pub failed-more : (ms more : List Mark)
-    → failed_marks (ms ++ more) ≡ failed_marks ms + failed_marks more
+    → failed_mark_count (ms ++ more) ≡ failed_mark_count ms + failed_mark_count more
 failed-more ms more = sum_by-append (λ m. one_if (is_failed m.kind)) ms more
 
 pub claims-completed-more : (xs ys : List Mark) → ClaimsAreCompleted xs → ClaimsAreCompleted ys
@@ -75,8 +77,8 @@ claims-completed-more xs ys k l = record {
   );
   shared = λ t. let a = k.shared t in let b = l.shared t in
       omega (arith, mark_count-more t 5 xs ys, mark_count-more t 3 xs ys);
-  all = let a : io_marks xs ≡ claimed_marks xs = k.all in
-      let b : io_marks ys ≡ claimed_marks ys = l.all in
+  all = let a : io_mark_count xs ≡ claimed_mark_count xs = k.all in
+      let b : io_mark_count ys ≡ claimed_mark_count ys = l.all in
       omega (arith, io-more xs ys, claims-more xs ys);
 }
 

@@ -14,7 +14,7 @@ use Rattle.aio_word.specs.declared.Word.{Word}
 use Rattle.aio_word.specs.declared.Known.{Known}
 use Rattle.aio_word.specs.Words.{word_place, word_rank}
 use Rattle.aio_word.specs.Events.{handle_count, kind_place, is_mark, count_at_rank, first_word}
-use Rattle.aio_word.specs.Tokens.{is_claim, claimed_marks}
+use Rattle.aio_word.specs.Tokens.{is_claim, claimed_mark_count}
 use Rattle.aio_word.specs.Totals.{incarnations, by_backends, by_runners}
 use Rattle.aio_word.specs.Stands.{IsIn, one_if, total_at_rank}
 use Rattle.aio_word.specs.StandsByRank.{is_due, StandsForHandleByRank, StandsByRank}
@@ -114,7 +114,7 @@ sum-same f g (x ∷ xs) h = let r : sum_by f xs ≡ sum_by g xs =
     let a = sum_by-cons f x xs in let b = sum_by-cons g x xs in omega arith
 
 abbrev pub claim_count : Known → ℕ
-claim_count p = claimed_marks p.marks
+claim_count p = claimed_mark_count p.marks
 
 mark-is : (h g : ℕ) (m : Mark) → kind_place m.kind < 8
     → one_if ((is_claim m && (m.handle == h)) && (m.generation == g)) ≡ one_if

@@ -76,24 +76,24 @@ is_failed_result (kind.Local class) = number_of_class class == 3
 is_failed_result _ = false
 
 -- how many Claimed marks, Io marks, failed Io marks and failed Local marks a list has
-abbrev pub claimed_marks : List Mark → ℕ
-claimed_marks ms = count_by is_claim ms
+abbrev pub claimed_mark_count : List Mark → ℕ
+claimed_mark_count ms = count_by is_claim ms
 
-abbrev pub io_marks : List Mark → ℕ
-io_marks ms = count_by is_io ms
+abbrev pub io_mark_count : List Mark → ℕ
+io_mark_count ms = count_by is_io ms
 
-abbrev pub failed_marks : List Mark → ℕ
-failed_marks ms = count_by (λ m. is_failed m.kind) ms
+abbrev pub failed_mark_count : List Mark → ℕ
+failed_mark_count ms = count_by (λ m. is_failed m.kind) ms
 
-abbrev pub failed_results : List Mark → ℕ
-failed_results ms = count_by (λ m. is_failed_result m.kind) ms
+abbrev pub failed_result_count : List Mark → ℕ
+failed_result_count ms = count_by (λ m. is_failed_result m.kind) ms
 
 -- marks of incarnations that were taken up, each claimed, executed and completed
 pub record ClaimsAreCompleted (more : List Mark) : Type 0 where
   pub owners : (t : WaitRef) → owner_mark_count t more ≡ 0
   pub io : (t : WaitRef) → mark_count t any_io more ≡ mark_count t kind.Claimed more
   pub shared : (t : WaitRef) → mark_count t kind.Shared more ≡ mark_count t kind.Claimed more
-  pub all : io_marks more ≡ claimed_marks more
+  pub all : io_mark_count more ≡ claimed_mark_count more
 
 -- an actor's own list has each mark at most once, and the actor has seen past each
 pub record MarksOnceAndSeen (seen : ℕ → ℕ) (marks : List Mark) : Type 0 where

@@ -9,7 +9,7 @@ pub none_yet : (before : ℕ) → RisesBy 0 before before
 none_yet before = record {
   later = omega arith;
   risen = λ some. absurd (omega (arith, some));
-  stays = λ none. refl;
+  unchanged = λ none. refl;
 }
 
 -- the sum with one more
@@ -28,8 +28,9 @@ rises_more sum one sum' before middle now is first second =
         | inr none ↦ (let one_more : 0 < one = omega arith in
             let rose = second.risen one_more in omega arith)
       ];
-      stays = λ none.
-          (let a = first.stays (omega arith) in let b = second.stays (omega arith) in b ∙ a);
+      unchanged = λ none.
+          (let a = first.unchanged (omega arith) in let b = second.unchanged (omega arith) in b
+          ∙ a);
     }
 
 pub raised_more : (sum one sum' before middle now : ℕ) → sum' ≡ sum + one

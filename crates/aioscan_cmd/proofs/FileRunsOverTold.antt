@@ -121,7 +121,8 @@ module _ (t : Told) (n : ℕ) (c : Command) (b a : ObservedState) where
       )
   by_parts (Unread r k) w ran =
       let lists = ran.lists refl in
-      cut_at m t parts_of_run b a (Unread r k) w lists r k (lists.here (request r k) refl) lists.grew
+      cut_at m t parts_of_run b a (Unread r k) w lists r k (lists.here (request r k) refl)
+      lists.grew
       run refl refl refl
   by_parts CannotWrite w ran =
       let lists = ran.lists refl in

@@ -1,6 +1,7 @@
 -- The text of one job was written, or its write failed.
 use Rattle.std.proofs.Common.{◌≡◌, ◌≢◌, ℕ, ◌≤◌, List, [], ◌∷◌, take, length, refl, sym, ap, ◌∙◌}
-use Rattle.std.proofs.Common.{subst, arith, append-nil, false, true, map, inl, inr, length-append, length-take}
+use Rattle.std.proofs.Common.{subst, arith, append-nil, false, true, map, inl, inr, length-append}
+use Rattle.std.proofs.Common.{length-take}
 use Rattle.std.specs.Prelude.{Option, Some, None, slice_get, ⊤, cond}
 use Rattle.std.proofs.lemmas.List.{take_all, length-map}
 use Rattle.std.proofs.lemmas.List.Sums.{sum_by-cons}

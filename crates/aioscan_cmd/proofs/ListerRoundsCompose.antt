@@ -78,10 +78,10 @@ module _ {W O E : Type 0} (told : Option Told) (written : O → Option (List ℕ
   -- jobs that were put leave the error stream as it was
   same_errors : (was : Lister W O E) (asked : List Job) (old : Lister W O E)
       → CutsOffJobs was asked old → errors was ≡ errors old
-  same_errors was asked old puts =
+  same_errors was asked old gives_jobs =
       ap (λ (l : Line). error_stream l (err_written was.err.now) (err_faults was.err.now))
-      (sym puts.line)
-      ∙ ap (λ (e : E). error_stream old.line (err_written e) (err_faults e)) (sym puts.err)
+      (sym gives_jobs.line)
+      ∙ ap (λ (e : E). error_stream old.line (err_written e) (err_faults e)) (sym gives_jobs.err)
 
   -- the jobs that were put have been written
   pub round_written : (was old new : Lister W O E) (asked jobs : List Job)
@@ -96,18 +96,20 @@ module _ {W O E : Type 0} (told : Option Told) (written : O → Option (List ℕ
       → WriteFaultsCounted (faults old.out.now) (faults new.out.now) new.outcome
       → (new.outcome ≡ Done → AllPagesGiven jobs)
       → new.sums ≡ saturated_sums (sums_joined old.sums (total_of_jobs jobs)) → Goes was new
-  round_written was old new asked jobs puts answered done same manner_same skips_same loan err_loan
+  round_written was old new asked jobs gives_jobs answered done same options_are_same filter_is_same
+      loan err_loan
       lists writes gave sums = (
-        loan ∙ puts.loans.0,
-        err_loan ∙ puts.loans.1,
+        loan ∙ gives_jobs.loans.0,
+        err_loan ∙ gives_jobs.loans.1,
         λ skips m all before faults_before errors_before so_far.
-            (let was_done : was.outcome ≡ Done = sym puts.outcome ∙ done in
-            let manner_is : lister_options old ≡ m = puts.manner_kept ∙ so_far.manner_is in
-            let skips_are : lister_filter old ≡ skips = puts.skips_kept ∙ so_far.skips_are in
+            (let was_done : was.outcome ≡ Done = sym gives_jobs.outcome ∙ done in
+            let options_are : lister_options old ≡ m = gives_jobs.options_same
+            ∙ so_far.options_are in
+            let filter_is : lister_filter old ≡ skips = gives_jobs.filter_same ∙ so_far.filter_is in
             let A : ListOptions → Type 0 = λ x. AreAnswered skips x told asked jobs in
             let B : Option BlockFilter → Type 0 = λ x. AreAnswered x (lister_options old)
             told asked jobs in
-            let here = subst A manner_is (subst B skips_are answered) in
+            let here = subst A options_are (subst B filter_is answered) in
             let P : Outcome → Type 0 =
             λ x. Warns (IsOutput (format_of_options m) told so_far.asked before
             (written was.out.now) x) errors_before (errors was) in
@@ -118,19 +120,19 @@ module _ {W O E : Type 0} (told : Option Told) (written : O → Option (List ℕ
             λ e. Warns (IsOutput (format_of_options m) told so_far.asked before
             (written old.out.now) Done) errors_before e in
             let V : O → Type 0 = λ o. WriteFaultsCounted faults_before (faults o) was.outcome in
-            let first = subst T (same_errors was asked old puts)
-            (subst Q (sym puts.out) (subst P was_done so_far.lists)) in
-            let was_written = subst V (sym puts.out) so_far.writes in record {
+            let first = subst T (same_errors was asked old gives_jobs)
+            (subst Q (sym gives_jobs.out) (subst P was_done so_far.lists)) in
+            let was_written = subst V (sym gives_jobs.out) so_far.writes in record {
               asked = so_far.asked ++ unskipped_job_parts skips asked;
               rest = unskipped_parts skips old.blocks;
               cut = so_far.cut
                   ∙ ap (λ (l : List Part). so_far.asked ++ l) (so_far.left was_done
-                  ∙ unskipped_after_cut skips asked was.blocks old.blocks puts.cut)
+                  ∙ unskipped_after_cut skips asked was.blocks old.blocks gives_jobs.cut)
                   ∙ sym (append_assoc so_far.asked (unskipped_job_parts skips asked)
                   (unskipped_parts skips old.blocks));
               left = λ _. ap (unskipped_parts skips) (sym same);
-              manner_is = manner_same ∙ manner_is;
-              skips_are = skips_same ∙ skips_are;
+              options_are = options_are_same ∙ options_are;
+              filter_is = filter_is_same ∙ filter_is;
               lists = warns_then _ _ _ _ _ _
                   (λ v w before_it now_it. lists_append (format_of_options m) told so_far.asked
                   (unskipped_job_parts skips asked) before
@@ -142,7 +144,8 @@ module _ {W O E : Type 0} (told : Option Told) (written : O → Option (List ℕ
                   let T : List Request → Type 0 = λ l. HasSums m told l new.sums in
                   subst T (joined_blocks skips so_far.asked asked)
                   (round_summed skips m told (blocks_of_parts so_far.asked) asked jobs old.sums
-                  new.sums (subst S (sym puts.sums) (so_far.sums was_done)) here (gave all_given)
+                  new.sums (subst S (sym gives_jobs.sums) (so_far.sums was_done)) here
+                  (gave all_given)
                   sums));
               writes = written_then _ _ _ _ was_written.later writes;
             }),
@@ -151,9 +154,9 @@ module _ {W O E : Type 0} (told : Option Told) (written : O → Option (List ℕ
   -- nothing more is written once the run has ended
   pub round_passed : (was old : Lister W O E) (asked : List Job) → CutsOffJobs was asked old
       → old.outcome ≢ Done → Goes was old
-  round_passed was old asked puts over = (
-    puts.loans.0,
-    puts.loans.1,
+  round_passed was old asked gives_jobs over = (
+    gives_jobs.loans.0,
+    gives_jobs.loans.1,
     λ skips m all before faults_before errors_before so_far.
         (let P : Outcome → Type 0 =
         λ x. Warns (IsOutput (format_of_options m) told so_far.asked before (written was.out.now) x)
@@ -171,12 +174,12 @@ module _ {W O E : Type 0} (told : Option Told) (written : O → Option (List ℕ
           rest = so_far.rest;
           cut = so_far.cut;
           left = λ done. absurd (over done);
-          manner_is = puts.manner_kept ∙ so_far.manner_is;
-          skips_are = puts.skips_kept ∙ so_far.skips_are;
-          lists = subst T (same_errors was asked old puts)
-              (subst Q (sym puts.out) (subst P (sym puts.outcome) so_far.lists));
+          options_are = gives_jobs.options_same ∙ so_far.options_are;
+          filter_is = gives_jobs.filter_same ∙ so_far.filter_is;
+          lists = subst T (same_errors was asked old gives_jobs)
+              (subst Q (sym gives_jobs.out) (subst P (sym gives_jobs.outcome) so_far.lists));
           sums = λ done. absurd (over done);
-          writes = subst V (sym puts.out) (subst U (sym puts.outcome) so_far.writes);
+          writes = subst V (sym gives_jobs.out) (subst U (sym gives_jobs.outcome) so_far.writes);
         }),
   )
 
@@ -192,8 +195,8 @@ module _ {W O E : Type 0} (told : Option Told) (written : O → Option (List ℕ
         rest = all;
         cut = refl;
         left = λ _. sym same;
-        manner_is = refl;
-        skips_are = refl;
+        options_are = refl;
+        filter_is = refl;
         lists = warns_none _ s.line s.line _ _ refl
             (no_blocks_listed (format_of_options (lister_options s)) told
             (written s.out.now) s.outcome done);

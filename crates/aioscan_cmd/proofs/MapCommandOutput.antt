@@ -37,11 +37,11 @@ use Rattle.aioscan_cmd.proofs.UnskippedBlocksAppend.{resolved_unskipped, unskipp
 -- a map that a scan has read
 module _ {W D : Type 0} (m m' : ListOptions) (told : Option Told) (bs cs : List (Backend W D))
     (k k' : ℕ) (found : Map) (warnings : List ℕ) (end : JobEnding) (some : 1 ≤ length bs)
-    (manner : m' ≡ m) (count : k' ≡ k)
+    (options : m' ≡ m) (count : k' ≡ k)
     (read : IsMapRead m' told bs cs 1 k' found warnings end) where
   taken : PagesConsumed (HasPages found warnings) m.zero told (λ _. ⊤) (block_range 1 0 k)
       (said_end end)
-  taken = map_taken m m' told bs cs 1 k k' found warnings end some manner count read
+  taken = map_taken m m' told bs cs 1 k k' found warnings end some options count read
 
   pub map_part : (by : MapOption) (s : Option (List ℕ))
       → IsOutput (format_with_map m (Some by)) told (block_range 1 0 k ∷ []) s s

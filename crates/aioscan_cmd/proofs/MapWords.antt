@@ -5,8 +5,8 @@ use Rattle.std.specs.Str.{bytes_eq}
 use Rattle.clap.specs.Words.{Row, Text, all_of}
 use Rattle.vis_map.specs.declared.map.Skip.{Skip}
 use Rattle.aioscan_cmd.specs.Command.{IsMapOf, MapOption}
-use Rattle.aioscan_cmd.specs.Words.{Source, source_files, is_map_of, is_name, parsed_map, map_of}
-use Rattle.aioscan_cmd.specs.Words.{map_with}
+use Rattle.aioscan_cmd.specs.Words.{Source, source_files, is_map_of, is_name, parsed_map, named_map}
+use Rattle.aioscan_cmd.specs.Words.{parsed_map_option}
 use Rattle.aioscan_cmd.specs.Words.{skip_of, source_of}
 
 -- a command that has a map has one file, whose name is another
@@ -37,12 +37,12 @@ of_one_by file name skip true (Some map) right is =
 of_one_by file name skip false map right is = absurd (cc)
 
 of_one : (file name : Text) (skip : Option Skip) (map : Option MapOption)
-    → map_of file name skip ≡ Some map → IfSome map (IsOfOne (Some (file ∷ [])))
+    → named_map file name skip ≡ Some map → IfSome map (IsOfOne (Some (file ∷ [])))
 of_one file name None map is = absurd (cc)
 of_one file name (Some skip) map is = of_one_by file name skip (is_map_of file name) map refl is
 
 one_file : (name skip : Option Text) (words : Option (List Text)) (map : Option MapOption)
-    → map_with name skip words ≡ Some map → IfSome map (IsOfOne words)
+    → parsed_map_option name skip words ≡ Some map → IfSome map (IsOfOne words)
 one_file None None words None is = tt
 one_file None None words (Some map) is = absurd (cc)
 one_file None (Some skip) words map is = absurd (cc)

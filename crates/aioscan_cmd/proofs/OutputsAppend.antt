@@ -156,7 +156,8 @@ lists_append m told xs ys b between a o v w front back =
       among = omega (arith, size);
       all = λ is. (let every = back.all is in omega (arith, size));
       stopped = λ is. stopped_by text_of text_of ys (xs ++ ys) qs (ps ++ qs) between b a a o
-          back.whole (n + back.whole) (cut_behind text_of xs ys ps qs b between a back.whole all grew)
+          back.whole (n + back.whole) (cut_behind text_of xs ys ps qs b between a back.whole all
+          grew)
           (whole_behind text_of xs ys ps qs b between a back.whole all grew) (back.stopped is);
       warned =
           ap (λ (l : List ℕ). l ++ w) (all_warned m told xs b between Done v front (front.all refl))

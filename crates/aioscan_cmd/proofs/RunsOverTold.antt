@@ -79,7 +79,8 @@ module _ (m : ListFormat) (t : Told) (parts : List Part) (b a : ObservedState) (
       )
 
   -- the block of an outcome could not be read
-  unfoldable pub cut_at : (r k : ℕ) → slice_get requests (length lists.answer.pages) ≡ Some (request r k)
+  unfoldable pub cut_at : (r k : ℕ) → slice_get requests (length lists.answer.pages)
+      ≡ Some (request r k)
       → SinkGrew b.written a.written lists.text
       → (run : SynchronousRun) → run.requests ≡ requests → run.pages ≡ all_pages
       → run.text_of ≡ m.text_of → IsCutAt run b.written a.written r k

@@ -136,7 +136,7 @@ module _ (asked : ResolvedCommand) (given : ℕ → List ℕ) (told : Option Tol
           let refusal = only_refusal (subst P (sym is) refl) in cc);
       refused = λ is.
           (let none = scanned.cannot_open (only_refusal is) in (
-            fault_rise.stays none.2 ∙ scanned.others.1,
+            fault_rise.unchanged none.2 ∙ scanned.others.1,
             omega (arith, reads_raised, none.3),
           ));
     }

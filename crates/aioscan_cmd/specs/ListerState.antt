@@ -93,8 +93,8 @@ module _ {W O E : Type 0} where
     pub out : t.out.now ≡ s.out.now
     pub err : t.err.now ≡ s.err.now
     pub line : t.line ≡ s.line
-    pub manner_kept : lister_options t ≡ lister_options s
-    pub skips_kept : lister_filter t ≡ lister_filter s
+    pub options_same : lister_options t ≡ lister_options s
+    pub filter_same : lister_filter t ≡ lister_filter s
     pub outcome : t.outcome ≡ s.outcome
     pub sums : t.sums ≡ s.sums
     pub cut : s.blocks ≡ unskipped_job_parts None asked ++ t.blocks
@@ -112,8 +112,8 @@ module _ {W O E : Type 0} where
       pub rest : List Part
       pub cut : all ≡ asked ++ rest
       pub left : l.outcome ≡ Done → rest ≡ unskipped_parts skips l.blocks
-      pub manner_is : lister_options l ≡ m
-      pub skips_are : lister_filter l ≡ skips
+      pub options_are : lister_options l ≡ m
+      pub filter_is : lister_filter l ≡ skips
       pub lists : Warns (IsOutput (format_of_options m) told asked before
           (written l.out.now) l.outcome) errors (lister_error_stream l)
       pub sums : l.outcome ≡ Done → HasSums m told (blocks_of_parts asked) l.sums

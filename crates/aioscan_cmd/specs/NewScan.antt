@@ -2,9 +2,9 @@
 use Rattle.std.specs.Prelude.{◌≡◌, ℕ, ◌-◌, ◌^◌, List, Option}
 use Rattle.std.specs.List.{All}
 use Rattle.page_check.specs.Told.{Told}
-use Rattle.scan_rounds.specs.DiskActors.{DiskGhosts}
+use Rattle.aio_disk.specs.declared.disk.Disk.{Ghosts as DiskGhosts}
 use Rattle.scan_rounds.specs.OpenedScan.{IsSetUp, workers_of_settings}
-use Rattle.scan_rounds.specs.Rounds.{results_taken}
+use Rattle.scan_rounds.specs.Rounds.{results_taken_count}
 use Rattle.scan_rounds.specs.Scans.{IsScan, scan_options, opened_disks}
 use Rattle.scan_rounds.specs.declared.scan.Scan.{Scan}
 use Rattle.scan_rounds.specs.declared.settings.ScanSettings.{ScanSettings}
@@ -17,7 +17,7 @@ pub record IsNewScan {W D : Type 0} (m : DiskGhosts D) (told : Option Told) (rel
   pub set_up : All (IsSetUp settings) s.backends.items
   pub runners : s.shared.table.config.runners ≡ workers_of_settings settings
   pub opened : opened_disks s ≡ disks
-  pub taken : results_taken s.backends.items ≡ 0
+  pub taken : results_taken_count s.backends.items ≡ 0
   pub room : s.room ≡ 2 ^ 58 - 1
   pub unread : s.unread ≡ 0
-  pub manner_is : scan_options s ≡ options_of_settings settings
+  pub options_are : scan_options s ≡ options_of_settings settings

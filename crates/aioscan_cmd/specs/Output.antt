@@ -1,5 +1,6 @@
 -- What a run has listed of a list of blocks, whether or not the contents are told.
-use Rattle.std.specs.Prelude.{◌≡◌, ◌≢◌, ◌⊎◌, ◌<◌, ◌≤◌, ◌++◌, ℕ, List, [], length, take, drop, Option}
+use Rattle.std.specs.Prelude.{◌≡◌, ◌≢◌, ◌⊎◌, ◌<◌, ◌≤◌, ◌++◌, ℕ, List, [], length, take, drop}
+use Rattle.std.specs.Prelude.{Option}
 use Rattle.std.specs.Prelude.{slice_get, slice_index_or, Some, None, Bool, ⊤, true, false}
 use Rattle.page_check.specs.SynchronousAnswer.{found_at, found_page, reader_of, zeroing}
 use Rattle.page_check.specs.Told.{Told}

@@ -145,17 +145,18 @@ map_option_view map = record { name = map.name.now; skip = map.skip }
 abbrev pub is_map_of : Text → Text → Bool
 is_map_of file name = is_name name && not (bytes_eq name file)
 
-abbrev pub map_of : Text → Text → Option Skip → Option (Option MapOption)
-map_of file name None = None
-map_of file name (Some skip) =
+abbrev pub named_map : Text → Text → Option Skip → Option (Option MapOption)
+named_map file name None = None
+named_map file name (Some skip) =
     if is_map_of file name then Some (Some (record { name = name; skip = skip })) else None
 
 -- `--map` beside one FILE word, so not with `--make`, and `--skip` with `--map` alone
-abbrev pub map_with : Option Text → Option Text → Option (List Text) → Option (Option MapOption)
-map_with None None words = Some None
-map_with None (Some skip) words = None
-map_with (Some name) skip (Some (file ∷ [])) = map_of file name (skip_of skip)
-map_with (Some name) skip _ = None
+abbrev pub parsed_map_option : Option Text → Option Text → Option (List Text)
+    → Option (Option MapOption)
+parsed_map_option None None words = Some None
+parsed_map_option None (Some skip) words = None
+parsed_map_option (Some name) skip (Some (file ∷ [])) = named_map file name (skip_of skip)
+parsed_map_option (Some name) skip _ = None
 
 abbrev pub command_with : Option Source → Option (Option MapOption) → Option ScanSettings → Bool
     → Option Command
@@ -191,7 +192,7 @@ module _ (rows : List Row) where
       (is_set (text_of (codes "tuples")))
 
   abbrev pub parsed_map : Option (Option MapOption)
-  parsed_map = map_with (text_of (codes "map")) (text_of (codes "skip"))
+  parsed_map = parsed_map_option (text_of (codes "map")) (text_of (codes "skip"))
       (all_of (codes "FILE") rows)
 
   abbrev pub parsed_command : Option Command

@@ -1,7 +1,6 @@
 //! Lists what is asked for, by the map where there is one.
 ghost use Rattle.std.specs.Prelude.{◌≡◌, ◌<◌, ◌≤◌, ◌+◌, ◌^◌, ℕ, List, length, None};
-ghost use Rattle.scan_rounds.specs.DiskActors.{disk_ghosts};
-ghost use Rattle.scan_rounds.specs.Rounds.{results_taken};
+ghost use Rattle.scan_rounds.specs.Rounds.{results_taken_count};
 ghost use Rattle.scan_rounds.specs.Scans.{IsScan, IsSameScan, scan_options};
 ghost use Rattle.aioscan_cmd.specs.Command.{options_of_settings};
 ghost use Rattle.aioscan_cmd.specs.RemainingRequests.{HasMap, IsResolved, resolved_request_list};
@@ -38,15 +37,13 @@ fn list_by_map<W: World + Send + Sync, D: Disk, O: Sink, E: Sink, R: Threads + W
     out: &mut O,
     err: &mut E,
 ) -> (Outcome, Line, PageSums)
-    requires scan { IsScan (disk_ghosts D.told D.relations D.reads D.faults) W.told W.relations
-        scan.old }
+    requires scan { IsScan D.Disk W.told W.relations scan.old }
     requires room { 2 ^ 37 + 65 ≤ scan.old.room }
     requires asked { IsResolved asked }
     requires map { HasMap asked skip }
-    requires manner { scan_options scan.old ≡ options_of_settings (resolved_settings asked) }
+    requires options { scan_options scan.old ≡ options_of_settings (resolved_settings asked) }
     requires world { W.relations ≡ length asked.relations.now }
-    ensures scan { IsScan (disk_ghosts D.told D.relations D.reads D.faults) W.told W.relations
-        scan.new }
+    ensures scan { IsScan D.Disk W.told W.relations scan.new }
     ensures same { IsSameScan scan.old scan.new }
     ensures listed { (given : ℕ → List ℕ)
         × Warns (IsOutput (command_format asked.entry.command.now) W.told
@@ -54,8 +51,8 @@ fn list_by_map<W: World + Send + Sync, D: Disk, O: Sink, E: Sink, R: Threads + W
         result.0)
         (error_stream Line.Whole (E.written err.old) (E.faults err.old))
         (error_stream result.1 (E.written err.new) (E.faults err.new))
-        × (results_taken scan.new.backends.items
-        ≤ results_taken scan.old.backends.items
+        × (results_taken_count scan.new.backends.items
+        ≤ results_taken_count scan.old.backends.items
         + length (resolved_request_list asked.entry W.told given)) }
     ensures writes { WriteFaultsCounted (O.faults out.old) (O.faults out.new) result.0 }
     ensures unread { (r b : ℕ) → result.0 ≡ Outcome.Unread r b → 0 < scan.new.unread }
@@ -91,14 +88,12 @@ pub(crate) fn list_asked<
     out: &mut O,
     err: &mut E,
 ) -> (Outcome, Line, PageSums)
-    requires scan { IsScan (disk_ghosts D.told D.relations D.reads D.faults) W.told W.relations
-        scan.old }
+    requires scan { IsScan D.Disk W.told W.relations scan.old }
     requires room { 2 ^ 37 + 65 ≤ scan.old.room }
     requires asked { IsResolved asked }
-    requires manner { scan_options scan.old ≡ options_of_settings (resolved_settings asked) }
+    requires options { scan_options scan.old ≡ options_of_settings (resolved_settings asked) }
     requires world { W.relations ≡ length asked.relations.now }
-    ensures scan { IsScan (disk_ghosts D.told D.relations D.reads D.faults) W.told W.relations
-        scan.new }
+    ensures scan { IsScan D.Disk W.told W.relations scan.new }
     ensures same { IsSameScan scan.old scan.new }
     ensures listed { (given : ℕ → List ℕ)
         × Warns (IsOutput (command_format asked.entry.command.now) W.told
@@ -106,8 +101,8 @@ pub(crate) fn list_asked<
         result.0)
         (error_stream Line.Whole (E.written err.old) (E.faults err.old))
         (error_stream result.1 (E.written err.new) (E.faults err.new))
-        × (results_taken scan.new.backends.items
-        ≤ results_taken scan.old.backends.items
+        × (results_taken_count scan.new.backends.items
+        ≤ results_taken_count scan.old.backends.items
         + length (resolved_request_list asked.entry W.told given)) }
     ensures writes { WriteFaultsCounted (O.faults out.old) (O.faults out.new) result.0 }
     ensures unread { (r b : ℕ) → result.0 ≡ Outcome.Unread r b → 0 < scan.new.unread }

@@ -1,8 +1,7 @@
 //! Lists by rounds what the FILE words ask for.
 ghost use Rattle.std.specs.Prelude.{◌≡◌, ◌<◌, ◌≤◌, ◌+◌, ◌^◌, ℕ, length};
 ghost use Rattle.scan_rounds.specs.Calls.{HasFollowed, MayFollow};
-ghost use Rattle.scan_rounds.specs.DiskActors.{disk_ghosts};
-ghost use Rattle.scan_rounds.specs.Rounds.{results_taken};
+ghost use Rattle.scan_rounds.specs.Rounds.{results_taken_count};
 ghost use Rattle.scan_rounds.specs.Scans.{IsScan, IsSameScan, scan_options};
 ghost use Rattle.scan_rounds.specs.BlockFilter.{unskipped_entries};
 ghost use Rattle.aioscan_cmd.specs.Command.{options_of_settings};
@@ -37,11 +36,10 @@ fn run_jobs<W: World + Send + Sync, D: Disk, R: Threads + Wait + Sync, A: JobSou
     by_map: Option<MapFilter<'_>>,
     job_source: A,
 ) -> A
-    requires may { MayFollow (disk_ghosts D.told D.relations D.reads D.faults) W.told W.relations
-        A.blocks_left A.options A.block_filter (filter_of_map by_map) scan.old job_source }
-    ensures followed { HasFollowed (disk_ghosts D.told D.relations D.reads D.faults) W.told
-        W.relations A.blocks_left A.unskipped_left A.unread A.options A.block_filter A.follows
-        A.is_over scan.old scan.new job_source result }
+    requires may { MayFollow D.Disk W.told W.relations A.blocks_left A.options A.block_filter
+        (filter_of_map by_map) scan.old job_source }
+    ensures followed { HasFollowed D.Disk W.told W.relations A.blocks_left A.unskipped_left A.unread
+        A.options A.block_filter A.follows A.is_over scan.old scan.new job_source result }
 {
     match by_map {
         None => scan.run(rt, job_source),
@@ -65,14 +63,12 @@ pub(crate) fn list_rounds<
     out: &mut O,
     err: &mut E,
 ) -> (Outcome, Line, PageSums)
-    requires scan { IsScan (disk_ghosts D.told D.relations D.reads D.faults) W.told W.relations
-        scan.old }
+    requires scan { IsScan D.Disk W.told W.relations scan.old }
     requires room { 2 ^ 37 ≤ scan.old.room }
     requires asked { IsResolved asked }
-    requires manner { scan_options scan.old ≡ options_of_settings (resolved_settings asked) }
+    requires options { scan_options scan.old ≡ options_of_settings (resolved_settings asked) }
     requires world { W.relations ≡ length asked.relations.now }
-    ensures scan { IsScan (disk_ghosts D.told D.relations D.reads D.faults) W.told W.relations
-        scan.new }
+    ensures scan { IsScan D.Disk W.told W.relations scan.new }
     ensures same { IsSameScan scan.old scan.new }
     ensures lists { Warns (IsOutput
         (format_of_options (options_of_settings (resolved_settings asked.entry))) W.told
@@ -84,8 +80,8 @@ pub(crate) fn list_rounds<
     ensures sums { result.0 ≡ Outcome.Done
         → HasSums (options_of_settings (resolved_settings asked.entry)) W.told
         (unskipped_entries (filter_of_map by_map.entry) (resolved_requests asked.entry)) result.2 }
-    ensures taken { results_taken scan.new.backends.items
-        ≤ results_taken scan.old.backends.items
+    ensures taken { results_taken_count scan.new.backends.items
+        ≤ results_taken_count scan.old.backends.items
         + length (unskipped_entries (filter_of_map by_map.entry) (resolved_requests asked.entry)) }
     ensures unread { (r b : ℕ) → result.0 ≡ Outcome.Unread r b → 0 < scan.new.unread }
 {

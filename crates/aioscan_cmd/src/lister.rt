@@ -190,7 +190,7 @@ impl<'a, 'e, 'm, 'w, W: World, O: Sink, E: Sink> JobSource<W> for Lister<'a, 'e,
 
     ghost unread = { λ l. unread_count l.outcome };
 
-    ghost puts = { CutsOffJobs };
+    ghost gives_jobs = { CutsOffJobs };
 
     ghost follows = { PreservesListing W.told O.written O.faults E.written E.faults };
 

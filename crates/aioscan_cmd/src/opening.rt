@@ -1,7 +1,6 @@
 //! Opens a scan by any method.
 ghost use Rattle.std.specs.Prelude.{◌≡◌, ◌≢◌, ◌+◌, ◌*◌, length, IfErr, IfOk};
 ghost use Rattle.std.specs.List.{All};
-ghost use Rattle.scan_rounds.specs.DiskActors.{disk_ghosts};
 ghost use Rattle.scan_rounds.specs.OpenedScan.{AreSettings, workers_of_settings};
 ghost use Rattle.aioscan_cmd.specs.NewScan.{IsNewScan};
 
@@ -22,8 +21,8 @@ fn open_without_rings<W: World, D: Disk>(
     requires tell { All (λ d. (D.told d ≡ W.told) × (D.relations d ≡ W.relations)) disks.items }
     requires segments { All (λ d. D.segment d ≡ settings.now.segment) disks.items }
     requires handles { settings.now.backends * settings.now.handles ≡ W.handles }
-    ensures new { IfOk result (λ s. IsNewScan (disk_ghosts D.told D.relations D.reads D.faults)
-        W.told W.relations settings.now disks.items s) }
+    ensures new { IfOk result (λ s. IsNewScan D.Disk W.told W.relations settings.now disks.items
+        s) }
     ensures back { IfErr result (λ d. d ≡ disks) }
 {
     match Scan::open(alloc, settings, disks) {
@@ -44,8 +43,8 @@ fn open_rings<W: World, D: Disk>(
     requires tell { All (λ d. (D.told d ≡ W.told) × (D.relations d ≡ W.relations)) disks.items }
     requires segments { All (λ d. D.segment d ≡ settings.now.segment) disks.items }
     requires handles { settings.now.backends * settings.now.handles ≡ W.handles }
-    ensures new { IfOk result (λ s. IsNewScan (disk_ghosts D.told D.relations D.reads D.faults)
-        W.told W.relations settings.now disks.items s) }
+    ensures new { IfOk result (λ s. IsNewScan D.Disk W.told W.relations settings.now disks.items
+        s) }
     ensures back { IfErr result (λ d. d ≡ disks) }
 {
     match RingScan::open(alloc, settings, disks) {
@@ -66,8 +65,8 @@ pub(crate) fn open_scan<W: World, D: Disk>(
     requires tell { All (λ d. (D.told d ≡ W.told) × (D.relations d ≡ W.relations)) disks.items }
     requires segments { All (λ d. D.segment d ≡ settings.now.segment) disks.items }
     requires handles { settings.now.backends * settings.now.handles ≡ W.handles }
-    ensures new { IfOk result (λ s. IsNewScan (disk_ghosts D.told D.relations D.reads D.faults)
-        W.told W.relations settings.now disks.items s) }
+    ensures new { IfOk result (λ s. IsNewScan D.Disk W.told W.relations settings.now disks.items
+        s) }
     ensures back { IfErr result (λ d. d ≡ disks) }
 {
     match settings.method {

@@ -2,7 +2,7 @@
 use crate::helpers::{TestOutcome, words_of};
 use aio_disk::MemSink;
 use aioscan_cmd::{Report, aioscan};
-use blocking_disk::{BlockingShelf, Gate};
+use blocking_disk::{BlockingShelf, ReadBarrier};
 use std::alloc::Global;
 use std::process::Abort;
 use std::sync::Wait;
@@ -137,13 +137,13 @@ fn as_many_reads_at_the_same_time_as_actors(rt: HostRuntime) -> Result<(), Fail>
     let alloc = rt.alloc();
     for row in ROWS {
         let (relations, blocks) = row.size;
-        let gate = Gate {
+        let barrier = ReadBarrier {
             from: row.from,
             after: blocks,
             reads: row.reads,
             turns: 1 << 24,
         };
-        let shelf = BlockingShelf::with_gate(alloc, blocks, gate)?;
+        let shelf = BlockingShelf::with_barrier(alloc, blocks, barrier)?;
         let text = lines_of(alloc, relations, blocks)?;
         let report = expect(&rt, row.name, shelf, row.line, (text.as_str(), "", 0))?;
         assert!(&rt; report.by_workers >= row.by_workers, "{}", row.name);
@@ -168,13 +168,13 @@ const TOO_FEW: [(&str, u32, u32, &str); 3] = [
 fn fewer_actors_than_reads_that_wait(rt: HostRuntime) -> Result<(), Fail> {
     let alloc = rt.alloc();
     for (line, from, reads, said) in TOO_FEW {
-        let gate = Gate {
+        let barrier = ReadBarrier {
             from,
             after: 64,
             reads,
             turns: 1 << 14,
         };
-        let shelf = BlockingShelf::with_gate(alloc, 64, gate)?;
+        let shelf = BlockingShelf::with_barrier(alloc, 64, barrier)?;
         let text = lines_of(alloc, 1, from)?;
         expect(&rt, line, shelf, line, (text.as_str(), said, 3))?;
     }

@@ -1,18 +1,18 @@
 //! A disk that blocks some of its reads.
 ghost use Rattle.std.specs.Prelude.{None};
 
-use crate::gate::SharedGate;
+use crate::barrier::SharedBarrier;
 use aio_disk::{DeviceFault, Disk};
 use page_check::Page;
 
 /// A disk whose relations have the same number of empty pages each, and whose reads wait at the
-/// gates of its shelf.
+/// barriers of its shelf.
 #[derive(Drop)]
 pub struct BlockingDisk {
     pub(crate) relations: u32,
     pub(crate) blocks: u32,
     pub(crate) page: Page,
-    pub(crate) gate: SharedGate,
+    pub(crate) barrier: SharedBarrier,
     pub(crate) faults: u64,
     pub(crate) reads: u64,
 }
@@ -40,7 +40,7 @@ impl Disk for BlockingDisk {
 
     fn read(&mut self, relation: u32, first: u32, pages: &mut [Page]) -> Result<u32, DeviceFault> {
         self.reads = self.reads.saturating_add(1);
-        if first < self.blocks && self.gate.holds(first) && !self.gate.pass(relation) {
+        if first < self.blocks && self.barrier.holds(first) && !self.barrier.pass(relation) {
             self.faults = self.faults.saturating_add(1);
             return Err(DeviceFault);
         }

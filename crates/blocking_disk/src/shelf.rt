@@ -1,8 +1,8 @@
 //! A shelf of disks that block reads.
 ghost use Rattle.std.specs.Prelude.{◌≡◌, None, false, IfOk};
 
-use crate::gate::SharedGate;
-use crate::{BlockingDisk, Gate};
+use crate::barrier::SharedBarrier;
+use crate::{BlockingDisk, ReadBarrier};
 use aio_disk::{OpenFault, Shelf};
 use page_fixtures::pages::{EMPTY, page_of};
 use std::alloc::{AllocError, Global};
@@ -10,11 +10,11 @@ use std::alloc::{AllocError, Global};
 /// After so many turns a read of [`BlockingShelf::new`] fails.
 const TURNS: u32 = 1 << 24;
 
-/// A shelf whose disks have what names they are opened for, and one gate for each of them together.
+/// A shelf whose disks have what names they are opened for, and one barrier for each of them together.
 #[derive(Drop)]
 pub struct BlockingShelf {
     blocks: u32,
-    gate: SharedGate,
+    barrier: SharedBarrier,
     open_faults: u64,
     faults: u64,
     reads: u64,
@@ -27,24 +27,28 @@ impl BlockingShelf {
         ensures { IfOk result (λ shelf. ⟦<BlockingShelf as Shelf>⟧.counts shelf
             ≡ record { open_faults = 0; length_faults = 0; faults = 0; reads = 0 }) }
     {
-        let gate = Gate {
+        let barrier = ReadBarrier {
             from: 1,
             after: 3,
             reads: 2,
             turns: TURNS,
         };
-        BlockingShelf::with_gate(alloc, blocks, gate)
+        BlockingShelf::with_barrier(alloc, blocks, barrier)
     }
 
-    /// A shelf of relations with so many blocks each, whose reads wait at this gate: each of the
+    /// A shelf of relations with so many blocks each, whose reads wait at this barrier: each of the
     /// first 16 relations has one of its own.
-    pub fn with_gate(alloc: Global, blocks: u32, gate: Gate) -> Result<BlockingShelf, AllocError>
+    pub fn with_barrier(
+        alloc: Global,
+        blocks: u32,
+        barrier: ReadBarrier,
+    ) -> Result<BlockingShelf, AllocError>
         ensures { IfOk result (λ shelf. ⟦<BlockingShelf as Shelf>⟧.counts shelf
             ≡ record { open_faults = 0; length_faults = 0; faults = 0; reads = 0 }) }
     {
         Ok(BlockingShelf {
             blocks,
-            gate: SharedGate::new(alloc, gate)?,
+            barrier: SharedBarrier::new(alloc, barrier)?,
             open_faults: 0,
             faults: 0,
             reads: 0,
@@ -73,14 +77,14 @@ impl Shelf for BlockingShelf {
             self.open_faults = self.open_faults.saturating_add(1);
             return Err(OpenFault::Device);
         };
-        let Ok(gate) = self.gate.share() else {
+        let Ok(barrier) = self.barrier.share() else {
             return Err(OpenFault::Memory);
         };
         Ok(BlockingDisk {
             relations,
             blocks: self.blocks,
             page: page_of(EMPTY),
-            gate,
+            barrier,
             faults: 0,
             reads: 0,
         })

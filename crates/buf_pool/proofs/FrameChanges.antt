@@ -7,14 +7,15 @@ use Rattle.aio_word.specs.declared.WaitRef.{WaitRef}
 use Rattle.buf_pool.specs.declared.descriptor.Tag.{Tag}
 use Rattle.buf_pool.specs.declared.descriptor.Descriptor.{Descriptor}
 use Rattle.buf_pool.specs.declared.descriptor.Descriptor.TheVariants.{Free, InProgress}
-use Rattle.buf_pool.specs.Frames.{descriptor_at, tag_of, tag_at, is_free, IsAbsent}
+use Rattle.buf_pool.specs.Frames.{descriptor_at, descriptor_tag, tag_at, is_free, IsAbsent}
 use Rattle.buf_pool.specs.Lawful.{PoolLawful}
 use Rattle.buf_pool.specs.Probes.{ProbesFind, IsIndexed}
 use Rattle.buf_pool.specs.Sound.{IsTable, IsClock, AreFrames}
 
 -- the new entry's tag stands at no other frame, and its reference is in range
 pub record Fits (handles : ℕ) (frames : List Descriptor) (f : ℕ) (entry : Descriptor) : Type 0 where
-  pub alone : (g : ℕ) (tag : Tag) → (g ≡ f → ⊥) → tag_at frames g ≡ Some tag → tag_of entry ≡ Some
+  pub alone : (g : ℕ) (tag : Tag) → (g ≡ f → ⊥) → tag_at frames g ≡ Some tag → descriptor_tag entry
+      ≡ Some
       tag → ⊥
   pub range : (tag : Tag) (reference : WaitRef) → entry ≡ InProgress tag reference
       → reference.handle < handles
@@ -23,7 +24,7 @@ pub record Fits (handles : ℕ) (frames : List Descriptor) (f : ℕ) (entry : De
 pub same_tag_fits : (handles : ℕ) (frames : List Descriptor) (f : ℕ) (entry : Descriptor)
     → PoolLawful handles
     frames
-    → ((tag : Tag) → tag_of entry ≡ Some tag → tag_at frames f ≡ Some tag)
+    → ((tag : Tag) → descriptor_tag entry ≡ Some tag → tag_at frames f ≡ Some tag)
     → ((tag : Tag) (reference : WaitRef) → entry ≡ InProgress tag reference → ⊥) → Fits handles
     frames f entry
 same_tag_fits handles frames f entry lawful tags over = record {
@@ -61,9 +62,9 @@ lawful_set handles frames f entry b lawful fits =
           let there : descriptor_at (set frames f entry) h ≡ descriptor_at frames h =
           get_or-set_other frames
           f h entry Free hf in
-          let own : tag_of entry ≡ Some tag = ap tag_of (sym here) ∙ ap
+          let own : descriptor_tag entry ≡ Some tag = ap descriptor_tag (sym here) ∙ ap
           (λ x. tag_at (set frames f entry) x) (sym gf) ∙ e in
-          absurd (fits.alone h tag hf (ap tag_of (sym there) ∙ u) own))
+          absurd (fits.alone h tag hf (ap descriptor_tag (sym there) ∙ u) own))
           (cases_eq h f))
           (λ (gf : g ≡ f → ⊥).
           let there : descriptor_at (set frames f entry) g ≡ descriptor_at frames g =
@@ -71,14 +72,15 @@ lawful_set handles frames f entry b lawful fits =
           f g entry Free gf in
           ⊎_elim
           (λ (hf : h ≡ f).
-          let own : tag_of entry ≡ Some tag = ap tag_of (sym here) ∙ ap
+          let own : descriptor_tag entry ≡ Some tag = ap descriptor_tag (sym here) ∙ ap
           (λ x. tag_at (set frames f entry) x) (sym hf) ∙ u in
-          absurd (fits.alone g tag gf (ap tag_of (sym there) ∙ e) own))
+          absurd (fits.alone g tag gf (ap descriptor_tag (sym there) ∙ e) own))
           (λ (hf : h ≡ f → ⊥).
           let that : descriptor_at (set frames f entry) h ≡ descriptor_at frames h =
           get_or-set_other frames f
           h entry Free hf in
-          lawful.tags g h tag (ap tag_of (sym there) ∙ e) (ap tag_of (sym that) ∙ u))
+          lawful.tags g h tag (ap descriptor_tag (sym there) ∙ e)
+          (ap descriptor_tag (sym that) ∙ u))
           (cases_eq h f))
           (cases_eq g f);
       references = λ g tag reference e.
@@ -97,13 +99,13 @@ pub others_found : (slots : List (Option ℕ)) (frames : List Descriptor) (f : �
     → ProbesFind slots
     tag g
 others_found slots frames f entry indexed g tag gf e =
-    indexed g tag (ap tag_of (sym (get_or-set_other frames f g entry Free gf)) ∙ e)
+    indexed g tag (ap descriptor_tag (sym (get_or-set_other frames f g entry Free gf)) ∙ e)
 
 -- the table stays sound where the new entry is found at the frame
 pub table_set : (slots : List (Option ℕ)) (left : ℕ) (frames : List Descriptor) (f : ℕ)
     (entry : Descriptor)
     → f < length frames → IsTable slots left frames
-    → ((tag : Tag) → tag_of entry ≡ Some tag → ProbesFind slots tag f) → IsTable slots left
+    → ((tag : Tag) → descriptor_tag entry ≡ Some tag → ProbesFind slots tag f) → IsTable slots left
     (set frames f entry)
 table_set slots left frames f entry b table found = record {
   size = rw length-set table.size;
@@ -111,7 +113,8 @@ table_set slots left frames f entry b table found = record {
   indexed = λ g tag e.
       ⊎_elim
       (λ (gf : g ≡ f).
-      let own : tag_of entry ≡ Some tag = ap tag_of (sym (get_or-set_same frames f entry Free b)) ∙
+      let own : descriptor_tag entry ≡ Some tag = ap descriptor_tag
+      (sym (get_or-set_same frames f entry Free b)) ∙
       ap (λ x. tag_at (set frames f entry) x) (sym gf) ∙ e in
       let by_frame : ℕ → Type 0 = λ x. ProbesFind slots tag x in
       subst by_frame (sym gf) (found tag own))

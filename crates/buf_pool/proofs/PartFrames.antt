@@ -1,6 +1,8 @@
 -- How many parts a pool has, and which frames each has.
-use Rattle.std.proofs.Common.{◌≡◌, ℕ, zero, suc, ◌+◌, ◌*◌, ◌/◌, ◌%◌, ◌^◌, ◌<◌, ◌≤◌, ◌-◌, min, cond, arith}
-use Rattle.std.proofs.Common.{⊎_elim, ◌∙◌, ap, sym, refl, ltb, leb, eqb, Bool, true, false, not, ◌&&◌, bit_and}
+use Rattle.std.proofs.Common.{◌≡◌, ℕ, zero, suc, ◌+◌, ◌*◌, ◌/◌, ◌%◌, ◌^◌, ◌<◌, ◌≤◌, ◌-◌, min, cond}
+use Rattle.std.proofs.Common.{arith}
+use Rattle.std.proofs.Common.{⊎_elim, ◌∙◌, ap, sym, refl, ltb, leb, eqb, Bool, true, false, not}
+use Rattle.std.proofs.Common.{◌&&◌, bit_and}
 use Rattle.std.proofs.Math.Nat.{min-zero, min-eq_left, min-eq_right, min-le_right, div-add-mod}
 use Rattle.std.proofs.Math.Nat.{le_of_eq, mod-eq_of_lt}
 use Rattle.std.proofs.Math.Pow.{pow_mono}
@@ -113,7 +115,8 @@ next_first frames part =
     let b : min (suc part) r ≡ suc part = min-eq_left more in
     omega (arith, one, a, b))
     (λ (same : r ≤ part).
-    let none : cond (ltb part r) 1 0 ≡ 0 = cond-false {A = ℕ} (ltb part r) 1 0 (le-ltb part r same) in
+    let none : cond (ltb part r) 1 0 ≡ 0 = cond-false {A = ℕ} (ltb part r) 1 0 (le-ltb part r same)
+    in
     let a : min part r ≡ r = min-eq_right same in
     let b : min (suc part) r ≡ r = min-eq_right (omega arith) in
     omega (arith, none, a, b))
@@ -203,7 +206,8 @@ pub shared_out : (frames count part over : ℕ) → count ≡ part_count frames
     → over ≡ bool_byte (ltb part (frames % count)) → frames / count + over ≡ part_size frames part
 unfolding part_size
 shared_out frames count part over is e =
-    ap (λ x. frames / count + x) (e ∙ as_number (ltb part (frames % count))) ∙ ap (λ n. frames / n + cond (ltb part (frames % n)) 1 0) is
+    ap (λ x. frames / count + x) (e ∙ as_number (ltb part (frames % count)))
+    ∙ ap (λ n. frames / n + cond (ltb part (frames % n)) 1 0) is
 
 -- a frame that is counted in the part, as one of the pool
 pub counted_from_first : (pool part first f size : ℕ) → first ≡ first_frame pool part → f < size

@@ -23,7 +23,8 @@ module _ {W : Type 0} {m : Ghosts W} where
   pub one_more : (frames part first size : ℕ) (parts : List (CachePadded (Part W m)))
       (next : CachePadded (Part W m))
       → AreSoFar frames part first parts → IsPart frames part next → slots_of next ≡ size
-      → size ≡ part_size frames part → AreSoFar frames (suc part) (first + size) (parts ++ next ∷ [])
+      → size ≡ part_size frames part → AreSoFar frames (suc part) (first + size)
+      (parts ++ next ∷ [])
   one_more frames part first size parts next so_far is slots has = record {
     count = omega (arith, length_push parts next, so_far.count);
     start = omega (arith, so_far.start, has, next_first frames part);
@@ -63,7 +64,8 @@ module _ {W : Type 0} {m : Ghosts W} where
       → part ≡ part_count frames → AreSoFar frames part first parts
       → AreParts (frames_of parts) parts
   divided frames part first parts least last so_far =
-      subst (λ x. AreParts x parts) (sym (whole frames part first parts least last so_far)) (record {
+      subst (λ x. AreParts x parts) (sym (whole frames part first parts least last so_far))
+      (record {
         range = least;
         count = so_far.count ∙ last;
         places = so_far.places;

@@ -10,14 +10,14 @@ abbrev pub descriptor_at : List Descriptor → ℕ → Descriptor
 descriptor_at frames f = slice_index_or frames f Free
 
 -- the tag of the entry, if there is one
-abbrev pub tag_of : Descriptor → Option Tag
-tag_of Free = None
-tag_of (InProgress tag _) = Some tag
-tag_of (Valid tag _) = Some tag
+abbrev pub descriptor_tag : Descriptor → Option Tag
+descriptor_tag Free = None
+descriptor_tag (InProgress tag _) = Some tag
+descriptor_tag (Valid tag _) = Some tag
 
 -- the tag of the entry at the frame of this number
 abbrev pub tag_at : List Descriptor → ℕ → Option Tag
-tag_at frames f = tag_of (descriptor_at frames f)
+tag_at frames f = descriptor_tag (descriptor_at frames f)
 
 -- the pins of a valid entry (the refcount of `BufferDesc`, `buf_internals.h`)
 abbrev pub pins_of : Descriptor → Option ℕ

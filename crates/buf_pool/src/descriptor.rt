@@ -1,7 +1,7 @@
 //! What a frame holds.
 ghost use Rattle.std.specs.Prelude.{◌≡◌, IsTrue, ◌↔◌};
 ghost use Rattle.buf_pool.specs.declared.descriptor.Descriptor.TheVariants.{InProgress};
-ghost use Rattle.buf_pool.specs.Frames.{tag_of, is_free, is_unpinned};
+ghost use Rattle.buf_pool.specs.Frames.{descriptor_tag, is_free, is_unpinned};
 
 use aio_word::WaitRef;
 
@@ -26,7 +26,7 @@ pub enum Descriptor {
 impl Descriptor {
     /// The tag of the entry, if there is one.
     pub(crate) fn tag(&self) -> Option<Tag>
-        ensures { result ≡ tag_of self.now }
+        ensures { result ≡ descriptor_tag self.now }
     {
         match self {
             Descriptor::Free => None,

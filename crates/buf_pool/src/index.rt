@@ -1,13 +1,15 @@
 //! The index of the pool.
 ghost use Rattle.std.specs.Prelude.{◌≡◌, ℕ, ◌-◌, ◌+◌, ◌^◌, ◌<◌, ◌≤◌, length, false, Some};
 ghost use Rattle.std.specs.Prelude.{MatchOption};
-ghost use Rattle.std.specs.Prelude.{IsTrue, ◌↔◌, IsSomeAnd, IfOk, IfSome, List, replicate, slice_set};
+ghost use Rattle.std.specs.Prelude.{IsTrue, ◌↔◌, IsSomeAnd, IfOk, IfSome, List, replicate};
+ghost use Rattle.std.specs.Prelude.{slice_set};
 ghost use Rattle.std.specs.Prelude.{if◌then◌else◌};
 ghost use Rattle.aio_word.specs.declared.WaitRef.{WaitRef};
 ghost use Rattle.buf_pool.specs.declared.descriptor.Tag.{Tag};
 ghost use Rattle.buf_pool.specs.declared.descriptor.Descriptor.{Descriptor};
 ghost use Rattle.buf_pool.specs.declared.descriptor.Descriptor.TheVariants.{Free, InProgress};
-ghost use Rattle.buf_pool.specs.Frames.{descriptor_at, tag_of, tag_at, pins_at, frames_with_pins};
+ghost use Rattle.buf_pool.specs.Frames.{descriptor_at, descriptor_tag, tag_at, pins_at};
+ghost use Rattle.buf_pool.specs.Frames.{frames_with_pins};
 ghost use Rattle.buf_pool.specs.Frames.{is_free};
 ghost use Rattle.buf_pool.specs.Frames.{IsAbsent, IsFrameOf};
 ghost use Rattle.buf_pool.specs.Lawful.{PoolLawful};
@@ -140,7 +142,8 @@ impl<W: World> PoolIndex<W> {
     fn change(&mut self, frame: u32, entry: Descriptor)
         requires taken { (frame < length self.old) ×
             (is_free (descriptor_at self.old frame) ≡ false) }
-        requires tag { (tag : Tag) → tag_of entry ≡ Some tag → tag_at self.old frame ≡ Some tag }
+        requires tag { (tag : Tag) → descriptor_tag entry ≡ Some tag → tag_at self.old frame
+            ≡ Some tag }
         requires over { (tag : Tag) (reference : WaitRef) → entry ≡ InProgress tag reference → ⊥ }
         ensures frames { self.new ≡ slice_set self.old frame entry }
         ensures lawful { PoolLawful W.handles self.new }

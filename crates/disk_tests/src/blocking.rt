@@ -2,7 +2,7 @@
 ghost use Rattle.std.specs.Prelude.{◌≡◌, ◌<◌};
 
 use aio_disk::{Disk, Shelf};
-use blocking_disk::{BlockingShelf, Gate};
+use blocking_disk::{BlockingShelf, ReadBarrier};
 use page_check::{Verdict, check};
 use page_fixtures::files::{open_disk, read_pages};
 use std::alloc::{AllocError, Global};
@@ -11,7 +11,7 @@ use std::test::Fail;
 use std::thread::{self, Threads};
 
 /// Reads from blocks 1 and 2 on wait for another one, for a few turns.
-const SHORT: Gate = Gate {
+const SHORT: ReadBarrier = ReadBarrier {
     from: 1,
     after: 3,
     reads: 2,
@@ -19,13 +19,13 @@ const SHORT: Gate = Gate {
 };
 
 /// They wait for a long time.
-const LONG: Gate = Gate {
+const LONG: ReadBarrier = ReadBarrier {
     turns: 1 << 24,
     ..SHORT
 };
 
 /// They wait for two others.
-const OF_THREE: Gate = Gate { reads: 3, ..SHORT };
+const OF_THREE: ReadBarrier = ReadBarrier { reads: 3, ..SHORT };
 
 // How many pages a read from this block on gives, all of which are sane, or nothing where it fails.
 fn read<D: Disk>(
@@ -63,7 +63,7 @@ const ALONE: [(u32, usize, Option<usize>); 7] = [
 #[test]
 fn a_read_that_waits_alone_fails(rt: HostRuntime) -> Result<(), Fail> {
     let alloc = rt.alloc();
-    let mut shelf = BlockingShelf::with_gate(alloc, 3, SHORT)?;
+    let mut shelf = BlockingShelf::with_barrier(alloc, 3, SHORT)?;
     for (first, count, wanted) in ALONE {
         assert!(rt; 0 < count && count < 129);
         let mut disk = open_disk(alloc, &mut shelf, &["f"])?;
@@ -107,13 +107,13 @@ fn reads_at_the_same_time_let_each_other_go(rt: HostRuntime) -> Result<(), Fail>
         (LONG, (Some(1), Some(1)), Some(1)),
         (OF_THREE, (None, None), None),
     ];
-    for (gate, wanted, alone) in rows {
-        let mut shelf = BlockingShelf::with_gate(alloc, 3, gate)?;
+    for (barrier, wanted, alone) in rows {
+        let mut shelf = BlockingShelf::with_barrier(alloc, 3, barrier)?;
         let mut one = open_disk(alloc, &mut shelf, &["f"])?;
         let mut other = open_disk(alloc, &mut shelf, &["f"])?;
         let mut third = open_disk(alloc, &mut shelf, &["f"])?;
         assert_eq!(&rt; read_both(&rt, &mut one, &mut other)?, wanted);
-        // Once it is open the gate stays so.
+        // Once it is open the barrier stays so.
         assert_eq!(&rt; read(alloc, &mut third, 1, 1)?, alone);
         for disk in [one, other, third] {
             shelf.take_back(disk);

@@ -5,12 +5,12 @@ use Rattle.aio_word.specs.declared.Known.{Known}
 use Rattle.aio_word.specs.Stands.{IsIn}
 use Rattle.aio_word.specs.Tokens.{IsInFlight}
 use Rattle.aio_handle.specs.ContractViews.{TableView, ActorView, IsActorOf}
-use Rattle.aio_handle.specs.Closing.{HasNoTokens}
+use Rattle.aio_handle.specs.Closing.{HasNoOwnerTokens}
 use Rattle.aio_fixtures.specs.Lives.{HasUnreclaimed}
 
 -- an actor of the table that has no token out
 abbrev pub IsIdle : TableView → ActorView → Type 0
-IsIdle table actor = IsActorOf table actor × HasNoTokens actor.known
+IsIdle table actor = IsActorOf table actor × HasNoOwnerTokens actor.known
 
 -- the table has these two actors and no other: a backend, which is number 0, and a runner
 pub record ArePair (table : TableView) (backend runner : ActorView) : Type 0 where

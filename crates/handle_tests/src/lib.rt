@@ -10,7 +10,7 @@ mod batch;
 #[cfg(test)]
 mod fixtures;
 #[cfg(test)]
-mod second;
+mod second_handle;
 #[cfg(test)]
 mod table;
 #[cfg(test)]

@@ -5,5 +5,5 @@ mod lives;
 mod races;
 mod refusals;
 mod sleeps;
-mod stale;
+mod stale_references;
 mod together;

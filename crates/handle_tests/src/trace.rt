@@ -1,6 +1,6 @@
 //! Runs that are replayed, and lines of totals, one of a table that was used.
 ghost use Rattle.std.specs.Prelude.{◌≡◌, ◌<◌, IsTrue};
-ghost use Rattle.aio_handle.specs.Closing.{HasNoTokens};
+ghost use Rattle.aio_handle.specs.Closing.{HasNoOwnerTokens};
 ghost use Rattle.aio_handle.specs.ContractViews.{IsActorOf, IsSameActor};
 
 use aio_core::StepRefusal;
@@ -136,11 +136,11 @@ fn life<W: World>(
 ) -> bool
     requires table { IsActorOf table.now owner.old × IsActorOf table.now other.old }
     requires backend { owner.old.known.number < table.now.config.backends }
-    requires owner { HasNoTokens owner.old.known }
-    requires other { HasNoTokens other.old.known }
+    requires owner { HasNoOwnerTokens owner.old.known }
+    requires other { HasNoOwnerTokens other.old.known }
     ensures same { IsSameActor owner.old owner.new × IsSameActor other.old other.new }
-    ensures owner { IsTrue result → HasNoTokens owner.new.known }
-    ensures other { HasNoTokens other.new.known }
+    ensures owner { IsTrue result → HasNoOwnerTokens owner.new.known }
+    ensures other { HasNoOwnerTokens other.new.known }
 {
     let Some(token) = submit_io(table, owner, EmptyIo::new()) else {
         return false;

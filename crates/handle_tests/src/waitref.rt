@@ -5,4 +5,4 @@ mod claimed;
 mod moment;
 mod own;
 mod several;
-mod stale;
+mod stale_references;

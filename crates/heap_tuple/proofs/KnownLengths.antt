@@ -37,24 +37,24 @@ module _ (next : ℕ → Option ℕ) where
 
   behind_of : (lengths : List ℕ) (at : Option ℕ) (long : ℕ) → AreLengths next lengths
       → RemainingLength lengths at long → Behind lengths at long
-  behind_of lengths None long are goes = record {
+  behind_of lengths None long are remaining = record {
     items = [];
     last_step = None;
     steps = refl;
     distinct = distinct-none;
     ends = tt;
-    size = sym goes;
+    size = sym remaining;
     known = λ x here. absurd (both_ways false refl here);
   }
-  behind_of lengths (Some x) long are goes =
-      let is = are x (omega (arith, goes.0, goes.1)) in
+  behind_of lengths (Some x) long are remaining =
+      let is = are x (omega (arith, remaining.0, remaining.1)) in
       record {
         items = is.items;
         last_step = is.whole.last_step;
         steps = is.whole.steps;
         distinct = is.whole.distinct;
         ends = is.whole.ends;
-        size = is.size ∙ sym goes.0;
+        size = is.size ∙ sym remaining.0;
         known = is.known;
       }
 
@@ -73,8 +73,8 @@ module _ (next : ℕ → Option ℕ) where
   pub known_more : (lengths : List ℕ) (at : Option ℕ) (x long : ℕ) → AreLengths next lengths
       → RemainingLength lengths at long → next x ≡ at → x < length lengths → get_or lengths x 0 ≡ 0
       → AreLengths next (set lengths x (long + 1))
-  known_more lengths at x long are goes is below none =
-      let behind = behind_of lengths at long are goes in
+  known_more lengths at x long are remaining is below none =
+      let behind = behind_of lengths at long are remaining in
       let here : get_or (set lengths x (long + 1)) x 0 ≡ long + 1 =
       get_or-set_same lengths x (long + 1) 0 below in
       let fresh : contains behind.items x ≡ false =

@@ -116,7 +116,7 @@ module _ (next : ℕ → Option ℕ) where
       → path ≡ left ++ x ∷ []
       → IsOpen passed (set lengths x (long + 1)) left first (Some x)
       × RemainingLength (set lengths x (long + 1)) (Some x) (long + 1)
-  open_less passed lengths path left first x long at is goes popped =
+  open_less passed lengths path left first x long at is remaining popped =
       let distinct = distinct-last left x (rw (sym popped) is.distinct) in
       let steps = passes-less next (Some first) at x left (rw (sym popped) is.steps) in
       let on_path : contains path x ≡ true = rw popped
@@ -153,7 +153,7 @@ module _ (next : ℕ → Option ℕ) where
                 ∙ rw none_here (or_false (contains left y)) in
                 rw (other y apart) (rw same_path refl)
           ];
-          known = known_more next lengths at x long is.known goes steps.1 below none;
+          known = known_more next lengths at x long is.known remaining steps.1 below none;
         },
         (sym here, omega arith),
       )
@@ -161,23 +161,24 @@ module _ (next : ℕ → Option ℕ) where
   pub open_done : (passed : List Bool) (lengths : List ℕ) (first long : ℕ) (at : Option ℕ)
       → IsOpen passed lengths [] first at → RemainingLength lengths at long
       → AreMarked passed lengths × (0 < get_or lengths first 0)
-  open_done passed lengths first long at is goes =
+  open_done passed lengths first long at is remaining =
       let here : RemainingLength lengths (Some first) long
       = subst (λ o. RemainingLength lengths o long)
-      (sym is.steps) goes in
+      (sym is.steps) remaining in
       (λ x. is.marked x ∙ or_false (not (get_or lengths x 0 == 0)), omega (arith, here.0, here.1))
 
   -- a known length is at most the number of items
   pub goes_few : (lengths : List ℕ) (at : Option ℕ) (long : ℕ)
       → ((x : ℕ) → x < length lengths → IfSome (next x) (λ y. y < length lengths))
       → AreLengths next lengths → RemainingLength lengths at long → long ≤ length lengths
-  goes_few lengths None long each known goes = omega (arith, goes)
-  goes_few lengths (Some x) long each known goes =
-      let is = known x (omega (arith, goes.0, goes.1)) in
-      let below : x < length lengths = known_below lengths x (omega (arith, goes.0, goes.1)) in
+  goes_few lengths None long each known remaining = omega (arith, remaining)
+  goes_few lengths (Some x) long each known remaining =
+      let is = known x (omega (arith, remaining.0, remaining.1)) in
+      let below : x < length lengths = known_below lengths x
+      (omega (arith, remaining.0, remaining.1)) in
       omega (
         arith,
-        goes.0,
+        remaining.0,
         is.size,
         passes-few next (length lengths) (Some x) is.whole.last_step is.items each below
             is.whole.steps is.whole.distinct,
@@ -187,7 +188,7 @@ module _ (next : ℕ → Option ℕ) where
   pub record Unwinds (passed : List Bool) (lengths path : List ℕ) (first long : ℕ) : Type 0 where
     pub at : Option ℕ
     pub is_open : IsOpen passed lengths path first at
-    pub goes : RemainingLength lengths at long
+    pub remaining : RemainingLength lengths at long
 
   pub unwinds_closed : (passed : List Bool) (lengths after path left : List ℕ)
       (first item chain : ℕ)
@@ -197,7 +198,7 @@ module _ (next : ℕ → Option ℕ) where
   unwinds_closed passed lengths after path left first item chain at is stopped size done =
       let closed = open_closed passed lengths after path left first item chain
       (subst (λ o. IsOpen passed lengths path first o) stopped is) size done in
-      record { at = Some item; is_open = closed.0; goes = closed.1 }
+      record { at = Some item; is_open = closed.0; remaining = closed.1 }
 
   pub unwinds_known : (passed : List Bool) (lengths path : List ℕ) (first item long : ℕ)
       (at : Option ℕ) → IsOpen passed lengths path first at → at ≡ Some item
@@ -205,7 +206,7 @@ module _ (next : ℕ → Option ℕ) where
   unwinds_known passed lengths path first item long at is stopped there some = record {
     at = Some item;
     is_open = subst (λ o. IsOpen passed lengths path first o) stopped is;
-    goes = (there, some);
+    remaining = (there, some);
   }
 
   pub unwinds_none : (passed : List Bool) (lengths path : List ℕ) (first : ℕ) (at : Option ℕ)
@@ -213,15 +214,16 @@ module _ (next : ℕ → Option ℕ) where
   unwinds_none passed lengths path first at is stopped = record {
     at = None;
     is_open = subst (λ o. IsOpen passed lengths path first o) stopped is;
-    goes = refl;
+    remaining = refl;
   }
 
   pub unwinds_less : (passed : List Bool) (lengths path left : List ℕ) (first x read long : ℕ)
       → Unwinds passed lengths path first long → path ≡ left ++ x ∷ [] → read ≡ x
       → Unwinds passed (set lengths read (long + 1)) left first (long + 1)
   unwinds_less passed lengths path left first x read long is popped here =
-      let less = open_less passed lengths path left first x long is.at is.is_open is.goes popped in
-      rw here record { at = Some x; is_open = less.0; goes = less.1 }
+      let less = open_less passed lengths path left first x long is.at is.is_open is.remaining
+      popped in
+      rw here record { at = Some x; is_open = less.0; remaining = less.1 }
 
   -- the last item of a path is one of the page
   pub unwinds_inside : (passed : List Bool) (lengths path left : List ℕ) (first x long : ℕ)
@@ -234,7 +236,7 @@ module _ (next : ℕ → Option ℕ) where
       → AreMarked passed lengths × (0 < get_or lengths first 0)
   unwinds_done passed lengths path first long is over =
       open_done passed lengths first long is.at
-      (subst (λ p. IsOpen passed lengths p first is.at) over is.is_open) is.goes
+      (subst (λ p. IsOpen passed lengths p first is.at) over is.is_open) is.remaining
 
   pub unwinds_chain : (passed : List Bool) (lengths path : List ℕ) (first long : ℕ)
       → Unwinds passed lengths path first long → path ≡ []
@@ -242,4 +244,4 @@ module _ (next : ℕ → Option ℕ) where
   unwinds_chain passed lengths path first long is over =
       let done : IsOpen passed lengths [] first is.at =
       subst (λ p. IsOpen passed lengths p first is.at) over is.is_open in
-      subst (λ o. RemainingLength lengths o long) (sym done.steps) is.goes
+      subst (λ o. RemainingLength lengths o long) (sym done.steps) is.remaining

@@ -13,8 +13,9 @@ use Rattle.aio_word.specs.declared.Mark.{Mark}
 use Rattle.aio_word.specs.declared.WaitRef.{WaitRef}
 use Rattle.aio_word.specs.declared.Kind.TheVariants as kind
 use Rattle.aio_word.specs.Stands.{IsIn}
-use Rattle.aio_word.specs.Tokens.{AppendsMarks, ClaimsAreCompleted, claimed_marks, io_marks}
-use Rattle.aio_word.specs.Tokens.{failed_marks, make_mark}
+use Rattle.aio_word.specs.Tokens.{AppendsMarks, ClaimsAreCompleted, claimed_mark_count}
+use Rattle.aio_word.specs.Tokens.{io_mark_count}
+use Rattle.aio_word.specs.Tokens.{failed_mark_count, make_mark}
 use Rattle.aio_word.proofs.MoreMarksKeep.{count_at_place, mark_count-more, mark_count-place}
 use Rattle.aio_word.proofs.MoreMarksKeep.{io-more, claims-more, failed-more}
 use Rattle.aio_handle.specs.Execution.{last_count, ExecutesAll}
@@ -125,38 +126,38 @@ ends-shared t (r ∷ rs) =
     let d = end-shared t r in omega (arith, ends-shared t rs)
 
 -- how many marks there are
-claims-count : (held : List ClaimedIo) → claimed_marks (group_claims held) ≡ length held
+claims-count : (held : List ClaimedIo) → claimed_mark_count (group_claims held) ≡ length held
 claims-count [] = refl
 claims-count (x ∷ xs) =
-    let more : claimed_marks (group_claims (x ∷ xs)) ≡ claimed_marks (claimed_mark x ∷ [])
-    + claimed_marks (group_claims xs) = claims-more (claimed_mark x ∷ []) (group_claims xs) in
-    let one : claimed_marks (claimed_mark x ∷ []) ≡ 1 = refl in omega (arith, claims-count xs)
+    let more : claimed_mark_count (group_claims (x ∷ xs)) ≡ claimed_mark_count (claimed_mark x ∷ [])
+    + claimed_mark_count (group_claims xs) = claims-more (claimed_mark x ∷ []) (group_claims xs) in
+    let one : claimed_mark_count (claimed_mark x ∷ []) ≡ 1 = refl in omega (arith, claims-count xs)
 
-claims-io : (held : List ClaimedIo) → io_marks (group_claims held) ≡ 0
+claims-io : (held : List ClaimedIo) → io_mark_count (group_claims held) ≡ 0
 claims-io [] = refl
 claims-io (x ∷ xs) =
-    let more : io_marks (group_claims (x ∷ xs)) ≡ io_marks (claimed_mark x ∷ [])
-    + io_marks (group_claims xs) = io-more (claimed_mark x ∷ []) (group_claims xs) in
-    let one : io_marks (claimed_mark x ∷ []) ≡ 0 = refl in omega (arith, claims-io xs)
+    let more : io_mark_count (group_claims (x ∷ xs)) ≡ io_mark_count (claimed_mark x ∷ [])
+    + io_mark_count (group_claims xs) = io-more (claimed_mark x ∷ []) (group_claims xs) in
+    let one : io_mark_count (claimed_mark x ∷ []) ≡ 0 = refl in omega (arith, claims-io xs)
 
-claims-failed : (held : List ClaimedIo) → failed_marks (group_claims held) ≡ 0
+claims-failed : (held : List ClaimedIo) → failed_mark_count (group_claims held) ≡ 0
 claims-failed [] = refl
 claims-failed (x ∷ xs) =
-    let more : failed_marks (group_claims (x ∷ xs)) ≡ failed_marks (claimed_mark x ∷ [])
-    + failed_marks (group_claims xs) = failed-more (claimed_mark x ∷ []) (group_claims xs) in
-    let one : failed_marks (claimed_mark x ∷ []) ≡ 0 = refl in omega (arith, claims-failed xs)
+    let more : failed_mark_count (group_claims (x ∷ xs)) ≡ failed_mark_count (claimed_mark x ∷ [])
+    + failed_mark_count (group_claims xs) = failed-more (claimed_mark x ∷ []) (group_claims xs) in
+    let one : failed_mark_count (claimed_mark x ∷ []) ≡ 0 = refl in omega (arith, claims-failed xs)
 
-ends-count : (rs : List ReadIoView) → io_marks (all_end_marks rs) ≡ length rs
+ends-count : (rs : List ReadIoView) → io_mark_count (all_end_marks rs) ≡ length rs
 ends-count [] = refl
 ends-count (r ∷ rs) =
     let more = io-more (end_marks r) (all_end_marks rs) in
-    let one : io_marks (end_marks r) ≡ 1 = refl in omega (arith, ends-count rs)
+    let one : io_mark_count (end_marks r) ≡ 1 = refl in omega (arith, ends-count rs)
 
-ends-claims : (rs : List ReadIoView) → claimed_marks (all_end_marks rs) ≡ 0
+ends-claims : (rs : List ReadIoView) → claimed_mark_count (all_end_marks rs) ≡ 0
 ends-claims [] = refl
 ends-claims (r ∷ rs) =
     let more = claims-more (end_marks r) (all_end_marks rs) in
-    let one : claimed_marks (end_marks r) ≡ 0 = refl in omega (arith, ends-claims rs)
+    let one : claimed_mark_count (end_marks r) ≡ 0 = refl in omega (arith, ends-claims rs)
 
 -- what was claimed and has ended was taken up
 pub took-all : (held : List ClaimedIo) (rs : List ReadIoView)
@@ -225,14 +226,14 @@ failed-answer count (Read n) e = absurd (whole-or-short (n == count) e)
 failed-answer count Failed e = refl
 
 few-failed : (c : Class) (t : WaitRef) → (c ≢ class.Failed)
-    → failed_marks (make_mark t (kind.Io c) ∷ make_mark t kind.Shared ∷ []) ≡ 0
+    → failed_mark_count (make_mark t (kind.Io c) ∷ make_mark t kind.Shared ∷ []) ≡ 0
 few-failed class.Unended t ne = refl
 few-failed class.Whole t ne = refl
 few-failed class.Short t ne = refl
 few-failed class.Failed t ne = absurd (ne refl)
 
 one-failed : (c : Class) (t : WaitRef)
-    → failed_marks (make_mark t (kind.Io c) ∷ make_mark t kind.Shared ∷ []) ≤ 1
+    → failed_mark_count (make_mark t (kind.Io c) ∷ make_mark t kind.Shared ∷ []) ≤ 1
 one-failed class.Unended t = omega arith
 one-failed class.Whole t = omega arith
 one-failed class.Short t = omega arith
@@ -247,7 +248,7 @@ is-failed class.Failed = inl refl
 -- the failed mark of an end is paid by one fault
 pays-end : (r : ReadIoView) (faults faults' : ℕ) → faults ≤ faults'
     → (r.label.ended ≡ class.Failed → CountRose faults faults') → faults' < last_count
-    → faults + failed_marks (end_marks r) ≤ faults'
+    → faults + failed_mark_count (end_marks r) ≤ faults'
 pays-end r faults faults' later failed lt = ⊎_elim
     (λ e. let one = one-failed r.label.ended (record_reference r) in let rose = failed e
     in omega arith)
@@ -342,9 +343,9 @@ module _ (told : Option Told) (held held' held'' : List ClaimedIo) (p q r : Know
         let later = k.later in
         let a = f.fault_each (omega arith) in
         let b = pays-end e.reading faults' faults'' k.later rose lt in
-        let c : failed_marks (all_end_marks more)
-        ≡ failed_marks (all_end_marks f.ended) + failed_marks (end_marks e.reading) =
-        ap (λ (ms : List Mark). failed_marks ms) (ends-push f.ended e.reading)
+        let c : failed_mark_count (all_end_marks more)
+        ≡ failed_mark_count (all_end_marks f.ended) + failed_mark_count (end_marks e.reading) =
+        ap (λ (ms : List Mark). failed_mark_count ms) (ends-push f.ended e.reading)
         ∙ failed-more (all_end_marks f.ended) (end_marks e.reading) in
         omega arith;
     failed = failed-more-once;
@@ -386,11 +387,11 @@ takes-group told given p q before after reads reads' faults faults' g =
     =
     λ t. let o = f.once t in let z : count_at_place t 3 (group_claims []) ≡ 0 = refl in
     omega arith in
-    let ios : io_marks (group_claims g.others ++ all_end_marks f.ended) ≡ length f.ended =
+    let ios : io_mark_count (group_claims g.others ++ all_end_marks f.ended) ≡ length f.ended =
     let a = io-more (group_claims g.others) (all_end_marks f.ended) in
     let b = claims-io g.others in let c = ends-count f.ended in omega arith in
-    let fails : failed_marks (group_claims g.others ++ all_end_marks f.ended)
-    ≡ failed_marks (all_end_marks f.ended) =
+    let fails : failed_mark_count (group_claims g.others ++ all_end_marks f.ended)
+    ≡ failed_mark_count (all_end_marks f.ended) =
     let a = failed-more (group_claims g.others) (all_end_marks f.ended) in
     let b = claims-failed g.others in omega arith in
     record {
@@ -398,7 +399,7 @@ takes-group told given p q before after reads reads' faults faults' g =
       grows = appends-then p g.between q (group_claims g.others) (all_end_marks f.ended) g.claims
           f.grows;
       took = took-all all f.ended once (sym none);
-      pays = record {
+      counters_follow = record {
         read_each = λ lt. let r = f.read in omega arith;
         fault_each = λ lt. let r = f.fault_each lt in omega arith;
       };

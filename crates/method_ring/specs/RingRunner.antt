@@ -11,7 +11,7 @@ use Rattle.aio_word.specs.declared.WaitRef.{WaitRef}
 use Rattle.aio_word.specs.declared.Kind.TheVariants as kind
 use Rattle.aio_word.specs.Events.{mark_count}
 use Rattle.aio_word.specs.Stands.{IsIn}
-use Rattle.aio_word.specs.Tokens.{AppendsMarks, make_mark, failed_marks}
+use Rattle.aio_word.specs.Tokens.{AppendsMarks, make_mark, failed_mark_count}
 use Rattle.aio_handle.specs.Execution.{last_count}
 use Rattle.aio_callback.specs.ReadIoView.{ReadIoView, IsCompletedRead, record_aim}
 use Rattle.aio_callback.specs.Finishes.{Finish, FinishesGrew, all_finishes, record_reference}
@@ -104,7 +104,7 @@ pub record EndsGroup (told : Option Told) (held held' : List ClaimedIo) (p q : K
   pub handed : FinishesGrew before after (group_finishes ended)
   pub read : reads' ≡ raised_by (length ended) reads
   pub later : faults ≤ faults'
-  pub fault_each : faults' < last_count → faults + failed_marks (all_end_marks ended) ≤ faults'
+  pub fault_each : faults' < last_count → faults + failed_mark_count (all_end_marks ended) ≤ faults'
   pub failed : (r : ReadIoView) → IsIn r ended → r.label.ended ≡ Failed → CountRose faults faults'
 
 -- the runner claimed these beside the one that it was handed, and ended all of them: each

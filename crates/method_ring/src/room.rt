@@ -15,12 +15,12 @@ pub(crate) const ROOM: usize = 8;
 /// A claimed I/O, under the number of its read in the ring. Contracts see the number, the reference
 /// and the record.
 #[derive(Drop)]
-pub(crate) struct Held<W: World> {
+pub(crate) struct ClaimedEntry<W: World> {
     pub(crate) user: u32,
     pub(crate) claimed: Claimed<ReadIo, W>,
 }
 
-impl<W: World> Model for Held<W> {
+impl<W: World> Model for ClaimedEntry<W> {
     ghost use Rattle.method_ring.specs.ClaimedIos.{ClaimedIo};
 
     ghost Value = { ClaimedIo };
@@ -28,7 +28,7 @@ impl<W: World> Model for Held<W> {
     ghost view = { λ h. (h.user, h.claimed) };
 }
 
-impl<W: World> Numbered for Held<W> {
+impl<W: World> Numbered for ClaimedEntry<W> {
     ghost number = { claimed_number };
 
     fn user(&self) -> u32 {
@@ -40,7 +40,7 @@ impl<W: World> Numbered for Held<W> {
 /// empty but while the runner executes. Contracts see what it holds.
 #[derive(Drop)]
 pub struct RingRoom<W: World> {
-    held: Vec<Held<W>>,
+    held: Vec<ClaimedEntry<W>>,
 }
 
 impl<W: World> Model for RingRoom<W> {
@@ -76,11 +76,11 @@ impl<W: World> RingRoom<W> {
         requires { length self.old < 8 }
         ensures { self.new ≡ self.old ++ (user, claimed) ∷ [] }
     {
-        self.held.push_reserved(Held { user, claimed });
+        self.held.push_reserved(ClaimedEntry { user, claimed });
     }
 
     /// Takes the I/O with this number out.
-    pub(crate) fn take(&mut self, user: u32) -> Option<Held<W>>
+    pub(crate) fn take(&mut self, user: u32) -> Option<ClaimedEntry<W>>
         ensures taken { result ≡ claimed_with user self.old }
         ensures others { self.new ≡ without_claimed user self.old }
     {

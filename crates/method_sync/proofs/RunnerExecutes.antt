@@ -40,7 +40,7 @@ takes-one class t p q reads reads' faults faults' grows one later failed = recor
   more = make_mark t (kind.Io class) ∷ make_mark t kind.Shared ∷ [];
   grows = grows;
   took = claims-completed-one class t.handle t.generation;
-  pays = pays-one class t reads reads' faults faults' one later failed;
+  counters_follow = pays-one class t reads reads' faults faults' one later failed;
 }
 
 -- a read that was executed, completed and shared

@@ -3,5 +3,5 @@
 mod alone;
 mod reads;
 mod sleepers;
-mod stale;
+mod stale_entries;
 mod three;

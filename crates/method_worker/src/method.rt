@@ -2,7 +2,7 @@
 ghost use Rattle.std.specs.Prelude.{◌≡◌, ◌<◌, [], ◌∷◌, None};
 ghost use Rattle.aio_handle.specs.Execution.{ExecutesAll};
 ghost use Rattle.aio_handle.specs.ContractViews.{IsActorOf, IsSameActor};
-ghost use Rattle.method_worker.specs.Submission.{PushesOrExecutes};
+ghost use Rattle.method_worker.specs.Submission.{PushesOrTriesToExecute};
 ghost use Rattle.method_worker.specs.QueueViews.{IsSeatOf, IsSameSeat};
 
 use crate::queue::{QueueFull, QueueSeat, SubmitQueue};
@@ -46,7 +46,7 @@ impl<'q, W: World> Method<ReadIo, W> for WorkerMethod<'q, W> {
             (E.reads runner.new) (E.faults runner.old) (E.faults runner.new) }
         ensures queue { self.new.queue.now ≡ self.old.queue.now }
         ensures seat { IsSameSeat self.old.seat self.new.seat }
-        ensures begun { PushesOrExecutes W.handles reference self.old.seat self.new.seat
+        ensures begun { PushesOrTriesToExecute W.handles reference self.old.seat self.new.seat
             actor.old.known
             actor.new.known }
     {

@@ -135,7 +135,7 @@ impl<W: World> SubmitQueue<W> {
         }
     }
 
-    /// PushStep the reference at the back (`pgaio_worker_submission_queue_insert`), and wakes one
+    /// Puts the reference at the back (`pgaio_worker_submission_queue_insert`), and wakes one
     /// worker that sleeps. It makes a system call only where one sleeps.
     ///
     /// `QueueFull` comes only where at some moment of the call 64 entries stood in the queue; it
@@ -168,7 +168,7 @@ impl<W: World> SubmitQueue<W> {
         Ok(())
     }
 
-    /// PopStep the oldest entry (`pgaio_worker_submission_queue_consume`).
+    /// Takes the oldest entry (`pgaio_worker_submission_queue_consume`).
     ///
     /// It reads the closing word first. Where it then finds no entry at some moment of the call,
     /// the answer is `Closed` after a word that said so, and else `Empty`.

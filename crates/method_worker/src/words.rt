@@ -104,7 +104,7 @@ pub(crate) fn load_closing(words: &Words, seat: &mut WordSeat) -> u64
     words.shared.load::<LoadStep>(seat, CLOSING)
 }
 
-/// CloseStep under this number of reopenings.
+/// Closes under this number of reopenings.
 pub(crate) fn close_under(words: &Words, seat: &mut WordSeat, number: u64)
     requires fits { (seat.old.table_id ≡ words.now.shared.table_id)
         × (words.now.shared.table_id.words ≡ 2) }

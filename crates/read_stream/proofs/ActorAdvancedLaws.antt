@@ -11,7 +11,7 @@ use Rattle.aio_word.specs.declared.Word.{Word}
 use Rattle.aio_word.specs.declared.WaitRef.{WaitRef}
 use Rattle.aio_word.specs.Events.{kind_place, make_mark, wait_ref}
 use Rattle.aio_word.specs.Stands.{IsIn}
-use Rattle.aio_word.specs.Tokens.{claimed_marks, io_marks, failed_marks}
+use Rattle.aio_word.specs.Tokens.{claimed_mark_count, io_mark_count, failed_mark_count}
 use Rattle.aio_word.proofs.ReplacedElement.{in-left}
 use Rattle.aio_word.proofs.MoreMarksKeep.{mark_count-more, mark_count-place, io-more, claims-more}
 use Rattle.aio_word.proofs.MoreMarksKeep.{failed-more}
@@ -34,8 +34,8 @@ completed-more xs ys a b = record {
       omega (arith, mark_count-more t 4 xs ys, mark_count-more t 3 xs ys);
   shared = λ t. let u = a.shared t in let v = b.shared t in
       omega (arith, mark_count-more t 5 xs ys, mark_count-more t 3 xs ys);
-  all = let u : io_marks xs ≡ claimed_marks xs = a.all in
-      let v : io_marks ys ≡ claimed_marks ys = b.all in
+  all = let u : io_mark_count xs ≡ claimed_mark_count xs = a.all in
+      let v : io_mark_count ys ≡ claimed_mark_count ys = b.all in
       omega (arith, io-more xs ys, claims-more xs ys);
 }
 
@@ -59,8 +59,8 @@ advanced_nothing p reads faults = record {
   config = refl;
   marks = sym (append-nil p.marks);
   aims = λ x i. i;
-  worked = completed_nothing;
-  pays = pays-nothing reads faults;
+  claims_completed = completed_nothing;
+  counters_follow = pays-nothing reads faults;
 }
 
 pub advanced_then : (p q r : Known) (reads reads' reads'' faults faults' faults'' : ℕ)
@@ -74,16 +74,16 @@ advanced_then p q r reads reads' reads'' faults faults' faults'' a b = record {
   marks = b.marks
       ∙ (ap (λ (z : List Mark). z ++ b.more) a.marks ∙ append_assoc p.marks a.more b.more);
   aims = λ x i. b.aims x (a.aims x i);
-  worked = completed-more a.more b.more a.worked b.worked;
-  pays = record {
+  claims_completed = completed-more a.more b.more a.claims_completed b.claims_completed;
+  counters_follow = record {
     read_each = λ lt.
         let m = io-more a.more b.more in
-        let y = b.pays.read_each lt in
-        let x = a.pays.read_each (omega arith) in omega arith;
+        let y = b.counters_follow.read_each lt in
+        let x = a.counters_follow.read_each (omega arith) in omega arith;
     fault_each = λ lt.
         let m = failed-more a.more b.more in
-        let y = b.pays.fault_each lt in
-        let x = a.pays.fault_each (omega arith) in omega arith;
+        let y = b.counters_follow.fault_each lt in
+        let x = a.counters_follow.fault_each (omega arith) in omega arith;
   };
 }
 
@@ -96,13 +96,13 @@ advanced_taking_up p q reads reads' faults faults' a = record {
   config = a.grows.config;
   marks = a.grows.marks;
   aims = a.grows.aims;
-  worked = record { io = a.took.io; shared = a.took.shared; all = a.took.all };
-  pays = a.pays;
+  claims_completed = record { io = a.took.io; shared = a.took.shared; all = a.took.all };
+  counters_follow = a.counters_follow;
 }
 
 -- an owner's mark is nobody's claim
 completed-one : (t : WaitRef) (k : Kind) → kind_place k ≢ 3 → kind_place k ≢ 4 → kind_place k ≢ 5
-    → io_marks (make_mark t k ∷ []) ≡ claimed_marks (make_mark t k ∷ [])
+    → io_mark_count (make_mark t k ∷ []) ≡ claimed_mark_count (make_mark t k ∷ [])
     → AllClaimsCompleted (make_mark t k ∷ [])
 completed-one t k no3 no4 no5 all = record {
   io = λ u. mark_count-place u t 4 k [] no4 (omega arith)
@@ -115,17 +115,18 @@ completed-one t k no3 no4 no5 all = record {
 advanced-mark : (t : WaitRef) (k : Kind) (p q : Known) (reads faults : ℕ)
     → q.number ≡ p.number → q.config ≡ p.config → q.marks ≡ p.marks ++ make_mark t k ∷ []
     → ((x : WaitRef × List ℕ) → IsIn x p.aims → IsIn x q.aims)
-    → AllClaimsCompleted (make_mark t k ∷ []) → io_marks (make_mark t k ∷ []) ≡ 0
-    → failed_marks (make_mark t k ∷ []) ≡ 0 → ActorAdvanced p q reads reads faults faults
-advanced-mark t k p q reads faults number config marks aims worked no_io no_failure = record {
-  more = make_mark t k ∷ [];
-  number = number;
-  config = config;
-  marks = marks;
-  aims = aims;
-  worked = worked;
-  pays = record { read_each = λ _. omega arith; fault_each = λ _. omega arith };
-}
+    → AllClaimsCompleted (make_mark t k ∷ []) → io_mark_count (make_mark t k ∷ []) ≡ 0
+    → failed_mark_count (make_mark t k ∷ []) ≡ 0 → ActorAdvanced p q reads reads faults faults
+advanced-mark t k p q reads faults number config marks aims claims_completed no_io no_failure =
+    record {
+      more = make_mark t k ∷ [];
+      number = number;
+      config = config;
+      marks = marks;
+      aims = aims;
+      claims_completed = claims_completed;
+      counters_follow = record { read_each = λ _. omega arith; fault_each = λ _. omega arith };
+    }
 
 advanced-same : (p q : Known) (reads faults : ℕ) → q.number ≡ p.number → q.config ≡ p.config
     → q.marks ≡ p.marks → q.aims ≡ p.aims → ActorAdvanced p q reads reads faults faults
@@ -135,8 +136,8 @@ advanced-same p q reads faults number config marks aims = record {
   config = config;
   marks = marks ∙ sym (append-nil p.marks);
   aims = aims-same p q aims;
-  worked = completed_nothing;
-  pays = pays-nothing reads faults;
+  claims_completed = completed_nothing;
+  counters_follow = pays-nothing reads faults;
 }
 
 -- an event of the owner's

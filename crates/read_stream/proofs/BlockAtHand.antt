@@ -115,7 +115,7 @@ module _ {W S P : Type 0} (left : S → List (ℕ × P)) (told : Option Told)
   no_current p s giving none u =
       let few = few_in_queue s.desk.now.combine handles s.desk.now.wants.items
       (map block_number s.desk.now.queue.items) (record_blocks_left s.current s.step)
-      (pending_blocks s.plan.pending) [] u.going.wants u.going.front in
+      (pending_blocks s.plan.pending) [] u.running.wants u.running.front in
       let long : length (map block_number s.desk.now.queue.items) ≡ 0 =
       ap (λ (z : List (QueuedBlock P)). length (map block_number z)) none in
       current_none s.current s.step giving (omega arith)
@@ -125,10 +125,10 @@ module _ {W S P : Type 0} (left : S → List (ℕ × P)) (told : Option Told)
       (spent : ℕ) → hand ≡ hand' → UnderwayWith left told relations handles hand [] 0 p s
       → UnderwayWith left told relations handles hand' [] spent p (record s { pin = pin })
   underway_spent p s pin hand hand' spent e u =
-      let g = u.going in
+      let g = u.running in
       record {
         steady = invariant_beside left told relations handles p s (record s { pin = pin }) u.steady;
-        going = record {
+        running = record {
           few = g.few;
           readable = g.readable;
           blocks = g.blocks;
@@ -175,7 +175,7 @@ module _ {W S P : Type 0} (left : S → List (ℕ × P)) (told : Option Told)
       ++ (pending_blocks s.plan.pending ++ []) in
       let here : b ≡ block = front_is (map block_number s.desk.now.queue.items)
       (range_with_len (b + 1) (io.first + io.count - b - 1) ++ more) b block
-      (u.going.front ∙ ap (λ (z : List ℕ). z ++ more)
+      (u.running.front ∙ ap (λ (z : List ℕ). z ++ more)
       (rest ∙ range_first b (io.first + io.count - b) (omega arith))) at in
       record {
         underway = underway_spent p s s.pin (record_blocks_left s.current s.step)

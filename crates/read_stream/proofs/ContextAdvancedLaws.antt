@@ -24,8 +24,9 @@ module _ {W M E : Type 0} {tells : E → Option Told} {relates reads faults : E 
     runner = b.runner ∙ a.runner;
     same = (b.same.0 ∙ a.same.0, b.same.1 ∙ a.same.1, b.same.2 ∙ a.same.2);
     told = (b.told.0 ∙ a.told.0, b.told.1 ∙ a.told.1);
-    went = advanced_then x.actor.now.known y.actor.now.known z.actor.now.known _ _ _ _ _ _ a.went
-        b.went;
+    actor_advanced = advanced_then x.actor.now.known y.actor.now.known z.actor.now.known _ _ _ _ _ _
+        a.actor_advanced
+        b.actor_advanced;
     stands_on = b.stands_on ∙ a.stands_on;
   }
 
@@ -53,14 +54,14 @@ module _ {W M E : Type 0} {tells : E → Option Told} {relates reads faults : E 
         method = record x.method { now = m };
         runner = record x.runner { now = e };
       })
-  context_advanced_by x a m e same told went stands = record {
+  context_advanced_by x a m e same told actor_advanced stands = record {
     table = refl;
     actor = refl;
     method = refl;
     runner = refl;
     same = same;
     told = told;
-    went = went;
+    actor_advanced = actor_advanced;
     stands_on = stands;
   }
 

@@ -42,8 +42,8 @@ module _ {W S P : Type 0} (left : S → List (ℕ × P)) (told : Option Told)
       → UnderwayWith left told relations handles (record_blocks_left n.current n.step)
       (block_number a ∷ []) 0 p n
   underway_enqueued source a first k room u =
-      let g = u.going in
-      let e = k.stays in
+      let g = u.running in
+      let e = k.consumer_unchanged in
       let d = e.settings in
       let scope : n.scope ≡ s.scope = e.keeps.scope in
       let items : n.desk.now.queue.items ≡ s.desk.now.queue.items ++ a ∷ [] =
@@ -125,7 +125,7 @@ module _ {W S P : Type 0} (left : S → List (ℕ × P)) (told : Option Told)
             (current_kept left told relations handles p p s n same 0 0 0 0 e.current
             (advanced_nothing p 0 0) u.steady.current)
             (let z = u.steady.all in omega arith);
-        going = record {
+        running = record {
           few = let z = g.few in let y = e.given in omega arith;
           readable = readable-then told s.scope.zero n.scope.zero s.given n.given
               (stream_entries s.scope.relation (left s.source_was.value))

@@ -31,7 +31,7 @@ module _ {W S P : Type 0} (left : S → List (ℕ × P)) (told : Option Told)
       → UnderwayWith left told relations handles [] [] 0 p
       (record (with_reads s r) { plan = pl; current = none })
   underway_freed p s io r pl none now gone is plan u =
-      let g = u.going in
+      let g = u.running in
       let v = u.steady in
       let reads : Reads W = s.desk.now.reads in
       let queue : Buffer ReadIoView = buffer (io ∷ reads.free.items) reads.free.capacity in
@@ -70,7 +70,7 @@ module _ {W S P : Type 0} (left : S → List (ℕ × P)) (told : Option Told)
               (sym gone) tt;
           all = omega arith;
         };
-        going = record {
+        running = record {
           few = g.few;
           readable = g.readable;
           blocks = g.blocks;

@@ -81,7 +81,7 @@ module _ {W S P : Type 0} (left : S → List (ℕ × P)) (told : Option Told)
     here : drop s.given (left s.source_was.value)
         ≡ source_item a ∷ (map source_item (drop 1 s.desk.now.queue.items) ++ left s.source)
     here = left-of left told relations handles p s (blocks_at_hand s.current a.block) []
-        (spent_ios s.current a.block) a first u.going
+        (spent_ios s.current a.block) a first u.running
 
     next : (IsPage (page_at s.pin s.current a.block) → IsNext (reader_of s.scope.zero told)
         (MayBeUnread s.scope.was.value p)
@@ -91,7 +91,7 @@ module _ {W S P : Type 0} (left : S → List (ℕ × P)) (told : Option Told)
         × IfSome (reader_of s.scope.zero told) (λ f. s.given + 1
         ≤ read_count f (stream_entries s.scope.relation (left s.source_was.value)))
     next = next-shown p s a s.pin s.current
-        (map source_item (drop 1 s.desk.now.queue.items) ++ left s.source) here u.going.readable
+        (map source_item (drop 1 s.desk.now.queue.items) ++ left s.source) here u.running.readable
         u.steady.current is
 
     pub given_next : IfPage (step_answer n.scope.relation n.step (current_page n)) IsPage
@@ -136,7 +136,7 @@ module _ {W S P : Type 0} (left : S → List (ℕ × P)) (told : Option Told)
         let whole : map block_number (a ∷ drop 1 was)
         ≡ a.block ∷ (record_blocks_left s.current t ++ more) =
         ap (λ (z : List (QueuedBlock P)). map block_number z) (sym (first-of was a first))
-        ∙ (u.going.front ∙ ap (λ (z : List ℕ). z ++ more)
+        ∙ (u.running.front ∙ ap (λ (z : List ℕ). z ++ more)
         (hand_more s.current a.block a.per_buffer_data
         (in-record told s.scope.relation a.block s.pin s.current is.at_hand))) in
         ap (λ (z : List (QueuedBlock P)). map block_number z) items
@@ -161,7 +161,7 @@ module _ {W S P : Type 0} (left : S → List (ℕ × P)) (told : Option Told)
     going-then : IsRunning left told relations handles
         (record_blocks_left n.current (step.Page a.block a.per_buffer_data)) [] 0 p n
     going-then =
-        let g = u.going in
+        let g = u.running in
         let d = k.settings in
         let scope : n.scope ≡ s.scope = k.keeps.scope in
         let relation : n.scope.relation ≡ s.scope.relation =
@@ -250,7 +250,7 @@ module _ {W S P : Type 0} (left : S → List (ℕ × P)) (told : Option Told)
               v.current))
               (let z = v.all in omega arith);
           made = let z = going-then.most in omega arith;
-          going = subst (λ (z : Step P). IfRunning z (IsRunning left told relations handles
+          running = subst (λ (z : Step P). IfRunning z (IsRunning left told relations handles
               (record_blocks_left n.current z) [] 0 p n)) (sym k.step) going-then;
           lent = subst (λ (z : Step P). IsLent told n.scope.relation n.pin n.current z) (sym k.step)
               (subst (λ (z : Scope W). HasCurrentPage told z.relation n.pin n.current a.block)

@@ -68,7 +68,7 @@ module _ {W S P : Type 0} (left : S → List (ℕ × P)) (told : Option Told)
   few_blocks behind u =
       let few = few_in_queue s.desk.now.combine handles s.desk.now.wants.items
       (map block_number s.desk.now.queue.items) rest (pending_blocks s.plan.pending) behind
-      u.going.wants u.going.front in
+      u.running.wants u.running.front in
       let n = length-map s.desk.now.queue.items block_number in
       (omega arith, omega arith)
 
@@ -80,8 +80,8 @@ module _ {W S P : Type 0} (left : S → List (ℕ × P)) (told : Option Told)
       × (length s.desk.now.wants.items < s.desk.now.wants.capacity)
   may_start behind u one =
       let few = few_blocks behind u in
-      let c = u.going.io_budget in
-      let w = u.going.within in
+      let c = u.running.io_budget in
+      let w = u.running.within in
       let r = u.steady.wants in
       (omega arith, omega arith)
 
@@ -93,12 +93,12 @@ module _ {W S P : Type 0} (left : S → List (ℕ × P)) (told : Option Told)
       let long : length s.desk.now.queue.items ≡ 0 =
       ap (λ (z : List (QueuedBlock P)). length z) none in
       let free = are_free s.scope p s.desk.now.reads (wanted_runs s.desk.now.wants.items)
-      u.going.runs
+      u.running.runs
       (omega arith) in
       let some : count_some s.current ≡ 0 =
       ap (λ (z : Option ReadIoView). count_some z) no_record in
       let all = u.steady.all in
-      let in_use = u.going.in_use in omega arith
+      let in_use = u.running.in_use in omega arith
 
 module _ {W S P : Type 0} (left : S → List (ℕ × P)) (told : Option Told)
     (relations handles : ℕ) (p : Known) (s : ReadStream W S P) where
@@ -109,7 +109,7 @@ module _ {W S P : Type 0} (left : S → List (ℕ × P)) (told : Option Told)
       let zero : length (wanted_runs s.desk.now.wants.items) ≡ 0 =
       ap (λ (z : List Want). length (wanted_runs z)) none in
       let free = are_free s.scope p s.desk.now.reads (wanted_runs s.desk.now.wants.items)
-      u.going.runs
+      u.running.runs
       zero in
       let some : count_some s.current ≡ 0 =
       ap (λ (z : Option ReadIoView). count_some z) no_record in

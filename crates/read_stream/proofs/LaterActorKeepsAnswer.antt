@@ -53,11 +53,11 @@ module _ {W S P : Type 0} (left : S → List (ℕ × P)) (told : Option Told)
       let n : ReadStream W S P = record s { actor_is = actor } in record {
         steady = invariant_beside left told relations handles p s n b.steady;
         made = b.made;
-        going = if-running s.step
+        running = if-running s.step
             (IsRunning left told relations handles (record_blocks_left s.current s.step) [] 0 p s)
             (IsRunning left told relations handles (record_blocks_left s.current s.step) [] 0 p n)
             (λ g. running_beside left told relations handles p s n s.source s.over
-            (record_blocks_left s.current s.step) [] 0 refl g.over g) b.going;
+            (record_blocks_left s.current s.step) [] 0 refl g.over g) b.running;
         lent = b.lent;
         stopped = b.stopped;
         kept = b.kept;

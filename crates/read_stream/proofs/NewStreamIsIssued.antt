@@ -7,7 +7,7 @@ use Rattle.page_check.specs.SynchronousAnswer.{Reader}
 use Rattle.aio_word.specs.declared.WaitRef.{WaitRef}
 use Rattle.aio_word.specs.declared.Known.{Known}
 use Rattle.aio_handle.specs.Free.{IsRoom}
-use Rattle.aio_handle.specs.Closing.{HasNoTokens}
+use Rattle.aio_handle.specs.Closing.{HasNoOwnerTokens}
 use Rattle.aio_batch.specs.StagedTokens.{AreStagedTokens}
 use Rattle.aio_callback.specs.ReadIoView.{ReadIoView}
 use Rattle.read_stream.specs.declared.reads.Reads.{Reads}
@@ -22,7 +22,7 @@ module _ {W : Type 0} where
   reset_reads r = record r { taken_in = 0; io_budget = 0 }
 
   pub new-stream-issued : (c : Scope W) (told : Option Told) (relations : ℕ) (r : Reads W)
-      → IsReady c.combine c.total r → HasNoTokens (known_at_open c) → c.most < 2 ^ 58
+      → IsReady c.combine c.total r → HasNoOwnerTokens (known_at_open c) → c.most < 2 ^ 58
       → IsRoom c.was.value.known.config (known_at_open c) c.most
       → Issued c told relations (known_at_open c) (reset_reads r)
   new-stream-issued c told relations r ready rest small room =

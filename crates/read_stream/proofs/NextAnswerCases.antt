@@ -50,13 +50,14 @@ module _ {P : Type 0} (zero : Bool) (may : Entry P → Type 0) (es : List (Entry
     (e : Entry P) (at : slice_get es k ≡ Some e) where
   -- where the contents are told, this is found for the entry
   abbrev Finds : Option Told → Found → Type 0
-  Finds told shown = IfSome (reader_of zero told) (λ f. f e.relation e.block ≡ shown)
+  Finds told has_current_page = IfSome (reader_of zero told)
+      (λ f. f e.relation e.block ≡ has_current_page)
 
-  finds : (told : Option Told) (was shown : Found)
-      → ((f : Found) → f ≡ was → cond zero (zeroed_if_damaged f) f ≡ shown)
-      → IfSome told (λ t. found_at t e.relation e.block ≡ was) → Finds told shown
-  finds None was shown turns is = tt
-  finds (Some t) was shown turns is = turns (found_at t e.relation e.block) is
+  finds : (told : Option Told) (was has_current_page : Found)
+      → ((f : Found) → f ≡ was → cond zero (zeroed_if_damaged f) f ≡ has_current_page)
+      → IfSome told (λ t. found_at t e.relation e.block ≡ was) → Finds told has_current_page
+  finds None was has_current_page turns is = tt
+  finds (Some t) was has_current_page turns is = turns (found_at t e.relation e.block) is
 
   -- a page, zeroed or not, only where damaged pages are
   pub next-page : (told : Option Told) (page : List ℕ) (zeroed : Bool) → ReadableUpTo zero told k es

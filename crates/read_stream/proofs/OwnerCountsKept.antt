@@ -17,11 +17,11 @@ use Rattle.read_stream.proofs.ActorAdvancedLaws.{aims-same, aims-more}
 use Rattle.aio_word.proofs.MoreMarksKeep.{count_at_place, mark_count-more, mark_count-place}
 use Rattle.aio_handle.specs.Execution.{ExecutesAll}
 use Rattle.aio_handle.specs.CallEvents.{EventMade, WordLoaded}
-use Rattle.read_stream.specs.ActorProgress.{local_marks}
+use Rattle.read_stream.specs.ActorProgress.{local_mark_count}
 
 -- the marks at one place over all incarnations, and at one place of one handle
 pub locals-more : (ms more : List Mark)
-    → local_marks (ms ++ more) ≡ local_marks ms + local_marks more
+    → local_mark_count (ms ++ more) ≡ local_mark_count ms + local_mark_count more
 locals-more ms more = sum_by-append (λ m. one_if (kind_place m.kind == 6)) ms more
 
 pub lives_ended-append : (h : ℕ) (ms more : List Mark)
@@ -46,7 +46,8 @@ none-behind t i m ms e =
     omega arith
 
 -- no incarnation has a mark at the place: so there is none
-pub no-locals : (ms : List Mark) → ((t : WaitRef) → count_at_place t 6 ms ≡ 0) → local_marks ms ≡ 0
+pub no-locals : (ms : List Mark) → ((t : WaitRef) → count_at_place t 6 ms ≡ 0) → local_mark_count ms
+    ≡ 0
 no-locals [] none = refl
 no-locals (m ∷ ms) none =
     let i = no-locals ms (λ t. none-behind t 6 m ms (none t)) in
@@ -76,7 +77,7 @@ pub record OwnerCountsUnchanged (p q : Known) : Type 0 where
   pub config : q.config ≡ p.config
   pub defined : (t : WaitRef) → count_at_place t 0 q.marks ≡ count_at_place t 0 p.marks
   pub reclaimed : (t : WaitRef) → count_at_place t 7 q.marks ≡ count_at_place t 7 p.marks
-  pub locals : local_marks q.marks ≡ local_marks p.marks
+  pub locals : local_mark_count q.marks ≡ local_mark_count p.marks
   pub lived : (h : ℕ) → lives_ended h q.marks ≡ lives_ended h p.marks
   pub more : List Mark
   pub grown : q.marks ≡ p.marks ++ more
@@ -109,7 +110,7 @@ owner-counts-growing p q more number config marks aims none0 none6 none7 = recor
       ∙ (let a = mark_count-more t 0 p.marks more in let b = none0 t in omega arith);
   reclaimed = λ t. ap (λ (z : List Mark). count_at_place t 7 z) marks
       ∙ (let a = mark_count-more t 7 p.marks more in let b = none7 t in omega arith);
-  locals = ap local_marks marks
+  locals = ap local_mark_count marks
       ∙ (let a = locals-more p.marks more in let b = no-locals more none6 in omega arith);
   lived = λ h. ap (lives_ended h) marks
       ∙ (let a = lives_ended-append h p.marks more in let b = no-lives h more none7 in omega arith);

@@ -52,10 +52,10 @@ module _ {W S P : Type 0} (left : S → List (ℕ × P)) (told : Option Told)
       → UnderwayWith left told relations handles hand behind spent p s
       → UnderwayWith left told relations handles hand behind' spent p (record s { plan = pl })
   underway_plan pl hand behind behind' spent e out u =
-      let g = u.going in
+      let g = u.running in
       record {
         steady = invariant_beside left told relations handles p s (record s { plan = pl }) u.steady;
-        going = record {
+        running = record {
           few = g.few;
           readable = g.readable;
           blocks = g.blocks;

@@ -32,9 +32,9 @@ module _ {W S P : Type 0} (left : S → List (ℕ × P)) (told : Option Told)
     pub pops_queue : SameQueue s n
     pops_queue = record {
       same = record {
-        scope = k.stays.keeps.scope;
-        source_was = k.stays.keeps.source_was;
-        settings = k.stays.settings;
+        scope = k.consumer_unchanged.keeps.scope;
+        source_was = k.consumer_unchanged.keeps.source_was;
+        settings = k.consumer_unchanged.settings;
         queue = ap (λ (z : Buffer (QueuedBlock P)). z.capacity) k.queue;
         wants = ap (λ (z : Buffer Want). z.capacity) k.wants;
       };
@@ -47,7 +47,7 @@ module _ {W S P : Type 0} (left : S → List (ℕ × P)) (told : Option Told)
       source = k.source;
       over = k.over;
       queue = ap (λ (z : Buffer (QueuedBlock P)). z.items) k.queue;
-      given = k.stays.given;
+      given = k.consumer_unchanged.given;
       made = ap (λ (z : Reads W). ios_allowed z) k.reads;
     }
 
@@ -55,7 +55,7 @@ module _ {W S P : Type 0} (left : S → List (ℕ × P)) (told : Option Told)
         → runs_of_want w ≡ [] → UnderwayWith left told relations handles [] [] 0 p s
         → UnderwayWith left told relations handles (blocks_of_want w) [] 0 p n
     underway_popped w ws first no_run u =
-        let g = u.going in
+        let g = u.running in
         let wants : n.desk.now.wants.items ≡ ws =
         ap (λ (z : Buffer Want). z.items) k.wants ∙ ap (λ (z : List Want). drop 1 z) first in
         let same-runs : wanted_runs n.desk.now.wants.items ≡ wanted_runs s.desk.now.wants.items =
@@ -68,10 +68,10 @@ module _ {W S P : Type 0} (left : S → List (ℕ × P)) (told : Option Told)
         let (reads, batch, free, io_budget) =
         same_counts s.desk.now.reads n.desk.now.reads k.reads in
         let some : count_some n.current ≡ count_some s.current =
-        ap (λ (z : Option ReadIoView). count_some z) k.stays.current in
+        ap (λ (z : Option ReadIoView). count_some z) k.consumer_unchanged.current in
         let ios : n.plan.ios_in_progress ≡ s.plan.ios_in_progress =
         ap (λ (z : PlanView). z.ios_in_progress) k.plan in
-        let scope : n.scope ≡ s.scope = k.stays.keeps.scope in
+        let scope : n.scope ≡ s.scope = k.consumer_unchanged.keeps.scope in
         record {
           steady = invariant_moved left told relations handles p p s n pops_queue.same u.steady
               (subst (λ (z : Scope W). Issued z told relations p n.desk.now.reads) (sym scope)
@@ -79,9 +79,9 @@ module _ {W S P : Type 0} (left : S → List (ℕ × P)) (told : Option Told)
               u.steady.issued))
               (let z = u.steady.staged in omega arith)
               (current_kept left told relations handles p p s n pops_queue.same 0 0 0 0
-              k.stays.current (advanced_nothing p 0 0) u.steady.current)
+              k.consumer_unchanged.current (advanced_nothing p 0 0) u.steady.current)
               (let z = u.steady.all in omega arith);
-          going = running_moved left told relations handles p p s n pops_queue [] [] 0
+          running = running_moved left told relations handles p p s n pops_queue [] [] 0
               (blocks_of_want w) [] 0 g
               (g.front
               ∙ (ap (λ (z : List Want). wanted_blocks z ++ (pending_blocks s.plan.pending ++ []))

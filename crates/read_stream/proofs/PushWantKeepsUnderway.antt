@@ -38,7 +38,7 @@ module _ {W S P : Type 0} (left : S → List (ℕ × P)) (told : Option Told)
       → s.plan.pending ≡ None → runs_of_want w ≡ [] → IsWant s.desk.now.combine handles w
       → PushesWant w s n → Underway left told relations handles p n
   underway_pushed w u none no_run is k =
-      let g = u.going in
+      let g = u.running in
       let ws : List Want = s.desk.now.wants.items in
       let wants : n.desk.now.wants.items ≡ ws ++ w ∷ [] =
       ap (λ (z : Buffer Want). z.items) k.wants in
@@ -51,9 +51,9 @@ module _ {W S P : Type 0} (left : S → List (ℕ × P)) (told : Option Told)
       let long : length (wanted_runs n.desk.now.wants.items) ≡ length (wanted_runs ws) =
       ap (λ (z : List Run). length z) same-runs in
       let same : SameScopeAndDesk s n = record {
-        scope = k.stays.keeps.scope;
-        source_was = k.stays.keeps.source_was;
-        settings = k.stays.settings;
+        scope = k.consumer_unchanged.keeps.scope;
+        source_was = k.consumer_unchanged.keeps.source_was;
+        settings = k.consumer_unchanged.settings;
         queue = ap (λ (z : Buffer (QueuedBlock P)). z.capacity) k.queue;
         wants = ap (λ (z : Buffer Want). z.capacity) k.wants;
       } in
@@ -64,18 +64,19 @@ module _ {W S P : Type 0} (left : S → List (ℕ × P)) (told : Option Told)
       let (reads, batch, free, io_budget) =
       same_counts s.desk.now.reads n.desk.now.reads k.reads in
       let some : count_some n.current ≡ count_some s.current =
-      ap (λ (z : Option ReadIoView). count_some z) k.stays.current in
-      let scope : n.scope ≡ s.scope = k.stays.keeps.scope in
+      ap (λ (z : Option ReadIoView). count_some z) k.consumer_unchanged.current in
+      let scope : n.scope ≡ s.scope = k.consumer_unchanged.keeps.scope in
       record {
         steady = invariant_moved left told relations handles p p s n same u.steady
             (subst (λ (z : Scope W). Issued z told relations p n.desk.now.reads) (sym scope)
             (subst (λ (z : Reads W). Issued s.scope told relations p z) (sym k.reads)
             u.steady.issued))
             (let z = u.steady.staged in omega arith)
-            (current_kept left told relations handles p p s n same 0 0 0 0 k.stays.current
+            (current_kept left told relations handles p p s n same 0 0 0 0
+            k.consumer_unchanged.current
             (advanced_nothing p 0 0) u.steady.current)
             (let z = u.steady.all in omega arith);
-        going = running_moved left told relations handles p p s n (record {
+        running = running_moved left told relations handles p p s n (record {
           same = same;
           counts = record {
             ahead = k.ahead;
@@ -86,7 +87,7 @@ module _ {W S P : Type 0} (left : S → List (ℕ × P)) (told : Option Told)
           source = k.source;
           over = k.over;
           queue = ap (λ (z : Buffer (QueuedBlock P)). z.items) k.queue;
-          given = k.stays.given;
+          given = k.consumer_unchanged.given;
           made = ap (λ (z : Reads W). ios_allowed z) k.reads;
         }) rest (blocks_of_want w) 0 (record_blocks_left n.current n.step) [] 0 g
             (g.front
@@ -98,7 +99,8 @@ module _ {W S P : Type 0} (left : S → List (ℕ × P)) (told : Option Told)
             (sym now-none)
             ∙ ap (λ (z : List ℕ). z
             ++ (wanted_blocks n.desk.now.wants.items ++ (pending_blocks n.plan.pending ++ [])))
-            (sym (rest_kept s.current n.current s.step n.step k.stays.current k.stays.step)))))))
+            (sym (rest_kept s.current n.current s.step n.step k.consumer_unchanged.current
+            k.consumer_unchanged.step)))))))
             (subst (λ (z : List Want). (x : Want) → IsIn x z → IsWant s.desk.now.combine handles x)
             (sym wants)
             (each-pushed (λ x. IsWant s.desk.now.combine handles x) ws w g.wants is))

@@ -35,7 +35,7 @@ module _ {W S P : Type 0} (left : S → List (ℕ × P)) (told : Option Told)
   front_want p s w ws b block first one at u =
       let more : List ℕ = wanted_blocks ws ++ (pending_blocks s.plan.pending ++ []) in
       front_is (map block_number s.desk.now.queue.items) more b block
-      (u.going.front
+      (u.running.front
       ∙ (ap (λ (z : List Want). wanted_blocks z ++ (pending_blocks s.plan.pending ++ [])) first
       ∙ (append_assoc (blocks_of_want w) (wanted_blocks ws) (pending_blocks s.plan.pending ++ [])
       ∙ ap (λ (z : List ℕ). z ++ more) one))) at
@@ -46,7 +46,7 @@ module _ {W S P : Type 0} (left : S → List (ℕ × P)) (told : Option Told)
       → slice_get (map block_number s.desk.now.queue.items) 0 ≡ Some block
       → UnderwayWith left told relations handles [] [] 0 p s → ⊥
   no_front p s block none idle at u =
-      let empty : map block_number s.desk.now.queue.items ≡ [] = u.going.front
+      let empty : map block_number s.desk.now.queue.items ≡ [] = u.running.front
       ∙ (ap (λ (z : List Want). wanted_blocks z ++ (pending_blocks s.plan.pending ++ [])) none
       ∙ ap (λ (z : Option Run). pending_blocks z ++ []) idle) in
       let e : None ≡ Some block = sym (ap (λ (z : List ℕ). slice_get z 0) empty) ∙ at in cc
@@ -58,6 +58,6 @@ module _ {W S P : Type 0} (left : S → List (ℕ × P)) (told : Option Told)
   may_read p s hand u some =
       let few = few_in_queue s.desk.now.combine handles s.desk.now.wants.items
       (map block_number s.desk.now.queue.items) hand (pending_blocks s.plan.pending) []
-      u.going.wants u.going.front in
+      u.running.wants u.running.front in
       let n = length-map s.desk.now.queue.items block_number in
-      let c = u.going.io_budget in omega arith
+      let c = u.running.io_budget in omega arith

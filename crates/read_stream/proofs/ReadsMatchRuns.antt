@@ -98,13 +98,14 @@ module _ {W : Type 0} (c : Scope W) where
         batch = after;
         in_flight = buffer (s.in_flight.items ++ t ∷ []) s.in_flight.capacity;
       }) runs
-  reads-submitted p q s after t a b d e runs n went aimed f =
+  reads-submitted p q s after t a b d e runs n actor_advanced aimed f =
       let xs : List (WaitRef × ReadIoView) = n.token ∷ after in
       let r : ReadIoView = n.token.1 in
       record {
         runs_in_flight = f.runs_in_flight ++ run_of r ∷ [];
         stream_ios = in-flight-push q s.in_flight.items f.runs_in_flight t (run_of r)
-            (in-flight-later p q s.in_flight.items f.runs_in_flight went.aims f.stream_ios) (
+            (in-flight-later p q s.in_flight.items f.runs_in_flight actor_advanced.aims
+            f.stream_ios) (
               r,
               aimed n.token (subst (λ (z : List (WaitRef × ReadIoView)). IsIn n.token z)
                   (sym n.first) (inl refl)),
@@ -201,9 +202,9 @@ module _ {W : Type 0} (c : Scope W) where
       → length s.batch ≤ 0 → s' ≡ record s { batch = s.batch ++ x ∷ [] }
       → IsNextSubmission record_aim s'.batch after t p q a b d e → ActorAdvanced p q a b d e
       → ReadsForRuns c p s runs → ReadsForRuns c q (record s' { batch = after }) runs
-  reads-at-once p q s s' x after t a b d e runs none is n went f =
+  reads-at-once p q s s' x after t a b d e runs none is n actor_advanced f =
       let gone = (only-one c p q s s' x after t a b d e none is n).1 in
-      reads-later p q s (record s' { batch = after }) runs went.aims
+      reads-later p q s (record s' { batch = after }) runs actor_advanced.aims
       (ap (λ (z : Reads W). z.in_flight.items) is) (ap (λ (z : Reads W). z.ended.items) is)
       (gone ∙ sym (is-none s.batch none)) f
 

@@ -5,7 +5,7 @@ use Rattle.page_check.specs.Told.{Told}
 use Rattle.aio_word.specs.declared.Known.{Known}
 use Rattle.aio_word.specs.declared.WaitRef.{WaitRef}
 use Rattle.aio_word.specs.Stands.{IsIn}
-use Rattle.aio_handle.specs.Closing.{HasNoTokens}
+use Rattle.aio_handle.specs.Closing.{HasNoOwnerTokens}
 use Rattle.aio_callback.specs.ReadIoView.{ReadIoView}
 use Rattle.read_stream.specs.declared.reads.Reads.{Reads}
 use Rattle.read_stream.specs.declared.scope.Scope.{Scope}
@@ -17,7 +17,7 @@ none-in {A} x xs ys e f i = subst (λ (z : List A). IsIn x ([] ++ z)) f
 
 pub at-rest : {W : Type 0} (c : Scope W) (told : Option Told) (relations : ℕ) (p : Known)
     (s : Reads W) (room total : ℕ) → Issued c told relations p s → IsReady room total s
-    → HasNoTokens p
+    → HasNoOwnerTokens p
 at-rest c told relations p s room total i r = (
   i.out,
   (λ t. ⊎_elim (λ over. over)

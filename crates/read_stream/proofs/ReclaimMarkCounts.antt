@@ -13,7 +13,7 @@ use Rattle.aio_word.proofs.MoreMarksKeep.{count_at_place, mark_count-place}
 use Rattle.aio_word.proofs.ReplacedElement.{in-right}
 use Rattle.aio_word.proofs.AppendKeepsHandle.{counted-in}
 use Rattle.aio_handle.proofs.LivesCounted.{lives_ended-push}
-use Rattle.read_stream.specs.ActorProgress.{local_marks}
+use Rattle.read_stream.specs.ActorProgress.{local_mark_count}
 use Rattle.read_stream.proofs.OwnerCountsKept.{locals-more}
 
 pub is-one : (h : ℕ) → one_if ((h == h) && (7 == 7)) ≡ 1
@@ -46,14 +46,16 @@ module _ (t : WaitRef) (class : Class) (p before q : List Mark)
         (counted-in last-mark ((before ++ local-mark ∷ []) ++ last-mark ∷ [])
         (in-right last-mark (before ++ local-mark ∷ []) (last-mark ∷ []) (inl refl)))
 
-    pub one-local : local_marks before ≡ local_marks p → local_marks q ≡ local_marks p + 1
+    pub one-local : local_mark_count before ≡ local_mark_count p → local_mark_count q
+        ≡ local_mark_count p + 1
     one-local locals =
-        let g : local_marks q ≡ local_marks ((before ++ local-mark ∷ []) ++ last-mark ∷ []) =
-        ap local_marks both in
+        let g : local_mark_count q ≡ local_mark_count
+        ((before ++ local-mark ∷ []) ++ last-mark ∷ []) =
+        ap local_mark_count both in
         let s = locals-more (before ++ local-mark ∷ []) (last-mark ∷ []) in
         let u = locals-more before (local-mark ∷ []) in
-        let none : local_marks (last-mark ∷ []) ≡ 0 = refl in
-        let one : local_marks (local-mark ∷ []) ≡ 1 = refl in omega arith
+        let none : local_mark_count (last-mark ∷ []) ≡ 0 = refl in
+        let one : local_mark_count (local-mark ∷ []) ≡ 1 = refl in omega arith
 
     pub one-life : ((h : ℕ) → lives_ended h before ≡ lives_ended h p) → (h : ℕ)
         → lives_ended h q ≤ lives_ended h p + 1

@@ -64,8 +64,8 @@ module _ {W S P : Type 0} (left : S → List (ℕ × P)) (told : Option Told)
               (subst (λ (z : Option ReadIoView). IfSome z (IsTakenIn n.scope told relations q))
               (sym now) taken)
               (omega arith);
-          going = running_moved left told relations handles p q s n e hand [] spent
-              (blocks_at_hand n.current block) [] (spent_ios n.current block) u.going
+          running = running_moved left told relations handles p q s n e hand [] spent
+              (blocks_at_hand n.current block) [] (spent_ios n.current block) u.running
               (front ∙ ap (λ (z : Option ReadIoView). blocks_at_hand z block
               ++ (wanted_blocks n.desk.now.wants.items ++ (pending_blocks n.plan.pending ++ [])))
               (sym now))
@@ -93,12 +93,12 @@ module _ {W S P : Type 0} (left : S → List (ℕ × P)) (told : Option Told)
       → Reaches left told relations handles block q (record m { current = Some io; plan = pl })
   reaches_run p q s m r pl io run ws block none no_pin first at u issued taken for few records made
       free io_budget runs k plan pending =
-      let g = u.going in
+      let g = u.running in
       let t : ReadStream W S P = record m { current = Some io; plan = pl } in
       let wants : m.desk.now.wants.items ≡ ws =
       ap (λ (z : Buffer Want). z.items) k.wants ∙ ap (λ (z : List Want). drop 1 z) first in
       let reads : m.desk.now.reads ≡ r = k.reads in
-      let scope : m.scope ≡ s.scope = k.stays.keeps.scope in
+      let scope : m.scope ≡ s.scope = k.consumer_unchanged.keeps.scope in
       let is : IsRun s.desk.now.combine run =
       g.wants (want.Run run) (subst (λ (z : List Want). IsIn (want.Run run) z) (sym first)
       (inl refl)) in
@@ -142,8 +142,8 @@ module _ {W S P : Type 0} (left : S → List (ℕ × P)) (told : Option Told)
       let e : SameQueue s t = record {
         same = record {
           scope = scope;
-          source_was = k.stays.keeps.source_was;
-          settings = k.stays.settings;
+          source_was = k.consumer_unchanged.keeps.source_was;
+          settings = k.consumer_unchanged.settings;
           queue = ap (λ (z : Buffer (QueuedBlock P)). z.capacity) k.queue;
           wants = ap (λ (z : Buffer Want). z.capacity) k.wants;
         };
@@ -156,10 +156,10 @@ module _ {W S P : Type 0} (left : S → List (ℕ × P)) (told : Option Told)
         source = k.source;
         over = k.over;
         queue = ap (λ (z : Buffer (QueuedBlock P)). z.items) k.queue;
-        given = k.stays.given;
+        given = k.consumer_unchanged.given;
         made = ap (λ (z : Reads W). ios_allowed z) reads ∙ made;
       } in
-      reaches_record p q s t e io block [] 0 u refl (k.stays.pin ∙ no_pin)
+      reaches_record p q s t e io block [] 0 u refl (k.consumer_unchanged.pin ∙ no_pin)
       (subst (λ (z : Scope W). IsTakenIn z told relations q io) (sym scope) taken)
       (omega arith, omega arith)
       (subst (λ (z : Scope W). Issued z told relations q m.desk.now.reads) (sym scope)
@@ -198,7 +198,7 @@ module _ {W S P : Type 0} (left : S → List (ℕ × P)) (told : Option Told)
       → ReadsOne m n → Reaches left told relations handles block q n
   reaches_read p q s m n run block hand e wants pending io_budget ios records no_pin runs u begins
       some whole issued there is o =
-      let g = u.going in
+      let g = u.running in
       let (io, now, (taken, first, count)) = some_of n.current
       (λ r. IsTakenIn n.scope told relations
       q r × (r.first ≡ run.first) × (r.count ≡ run.count)) there is in
@@ -213,12 +213,13 @@ module _ {W S P : Type 0} (left : S → List (ℕ × P)) (told : Option Told)
       ≡ length (wanted_runs s.desk.now.wants.items) =
       ap (λ (z : List Want). length (wanted_runs z)) now-wants in
       let pend : pending_blocks n.plan.pending ≡ pending_blocks s.plan.pending =
-      ap (λ (z : Option Run). pending_blocks z) (o.moves.pending ∙ pending) in
+      ap (λ (z : Option Run). pending_blocks z) (o.look_ahead_unchanged.pending ∙ pending) in
       let free : length n.desk.now.reads.free.items ≡ length m.desk.now.reads.free.items =
       ap (λ (z : Buffer ReadIoView). length z.items) o.free in
       let batch : length n.desk.now.reads.batch ≡ 0 =
       ap (λ (z : List _). length z) o.batch in
-      reaches_record p q s n (queue_then s m n e (same_queue_of_look_ahead m n o.moves)) io block
+      reaches_record p q s n (queue_then s m n e
+      (same_queue_of_look_ahead m n o.look_ahead_unchanged)) io block
       hand 0 u now
       (o.pin ∙ no_pin) taken (omega arith, omega arith) issued (omega arith)
       (let z = o.records in omega arith)

@@ -106,7 +106,8 @@ same_queue_taken_out s io = record {
 
 module _ {W S P : Type 0} (left : S → List (ℕ × P)) (told : Option Told)
     (relations handles : ℕ) where
-  module _ (p q : Known) (s : ReadStream W S P) (a b d f : ℕ) (went : ActorAdvanced p q a b d f)
+  module _ (p q : Known) (s : ReadStream W S P) (a b d f : ℕ)
+      (actor_advanced : ActorAdvanced p q a b d f)
     where
       -- the actor advanced, and the I/Os with it
       pub underway_reads : (r : Reads W) (hand behind : List ℕ) (spent : ℕ)
@@ -119,7 +120,7 @@ module _ {W S P : Type 0} (left : S → List (ℕ × P)) (told : Option Told)
           → UnderwayWith left told relations handles hand behind spent p s
           → UnderwayWith left told relations handles hand behind spent q (with_reads s r)
       underway_reads r hand behind spent issued few records made free io_budget runs u =
-          let g = u.going in
+          let g = u.running in
           let v = u.steady in
           let long : length r.free.items ≡ length s.desk.now.reads.free.items =
           ap (λ (z : Buffer ReadIoView). length z.items) free in
@@ -134,11 +135,12 @@ module _ {W S P : Type 0} (left : S → List (ℕ × P)) (told : Option Told)
               short = v.short;
               issued = issued;
               staged = few;
-              current = some_taken left told relations handles s.scope p q a b d f s.current went
+              current = some_taken left told relations handles s.scope p q a b d f s.current
+                  actor_advanced
                   v.current;
               all = let z = v.all in omega arith;
             };
-            going = record {
+            running = record {
               few = g.few;
               readable = g.readable;
               blocks = g.blocks;

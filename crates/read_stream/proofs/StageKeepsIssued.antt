@@ -31,7 +31,7 @@ use Rattle.read_stream.specs.declared.scope.Scope.{Scope}
 use Rattle.read_stream.specs.StreamIos.{IssuedExcept, Issued, HandleHandedOut, references}
 use Rattle.read_stream.specs.StreamIos.{known_at_open}
 use Rattle.read_stream.specs.StreamIos.{ios_allowed, IsAimed}
-use Rattle.read_stream.specs.ActorProgress.{ActorAdvanced, local_marks}
+use Rattle.read_stream.specs.ActorProgress.{ActorAdvanced, local_mark_count}
 use Rattle.read_stream.proofs.ActorAdvancedLaws.{advanced_then, advanced_nothing, advanced_made}
 use Rattle.read_stream.proofs.ActorAdvancedLaws.{aims-same}
 use Rattle.read_stream.proofs.OwnerCountsKept.{locals-more}
@@ -57,7 +57,7 @@ module _ {W : Type 0} (c : Scope W) (told : Option Told) (relations : ℕ) where
       → HandleHandedOut c told relations p q reads reads faults faults s t
   handed-out-now p q s t reads faults kp kq made out i = record {
     before = p;
-    went = advanced_nothing p reads faults;
+    actor_advanced = advanced_nothing p reads faults;
     issued = i;
     made = made;
     token = out;
@@ -75,7 +75,7 @@ module _ {W : Type 0} (c : Scope W) (told : Option Told) (relations : ℕ) where
       → HandleHandedOut c told relations p q a d a' d' s t
   handed-out-later p m q s t a b d a' b' d' w h = record {
     before = h.before;
-    went = advanced_then p m h.before a b d a' b' d' w h.went;
+    actor_advanced = advanced_then p m h.before a b d a' b' d' w h.actor_advanced;
     issued = h.issued;
     made = h.made;
     token = h.token;
@@ -86,7 +86,7 @@ module _ {W : Type 0} (c : Scope W) (told : Option Told) (relations : ℕ) where
   -- how far the actor advanced with it
   pub advanced-handed-out : (p q : Known) (s : Reads W) (t : WaitRef) (a b d e : ℕ)
       → HandleHandedOut c told relations p q a b d e s t → ActorAdvanced p q a b d e
-  advanced-handed-out p q s t a b d e h = advanced_then p h.before q a b b d e e h.went
+  advanced-handed-out p q s t a b d e h = advanced_then p h.before q a b b d e e h.actor_advanced
       (advanced_made event.HandOut t.handle (idle_word t.generation)
       (handed_out_word t.generation) [] h.before q
       b e tt h.made)
@@ -177,13 +177,13 @@ module _ {W : Type 0} (c : Scope W) (told : Option Told) (relations : ℕ) where
           (omega arith)
           ∙ mark_count-other x t 0 kind.Defined o.marks ne (omega arith))
 
-      same-locals : local_marks q2.marks ≡ local_marks o.marks
+      same-locals : local_mark_count q2.marks ≡ local_mark_count o.marks
       same-locals =
-          let g : local_marks q2.marks ≡ local_marks
+          let g : local_mark_count q2.marks ≡ local_mark_count
           (o.marks ++ (make_mark t kind.Defined ∷ make_mark t kind.Staged ∷ [])) =
-          ap local_marks grown in
+          ap local_mark_count grown in
           let m = locals-more o.marks (make_mark t kind.Defined ∷ make_mark t kind.Staged ∷ []) in
-          let z : local_marks (make_mark t kind.Defined ∷ make_mark t kind.Staged ∷ [])
+          let z : local_mark_count (make_mark t kind.Defined ∷ make_mark t kind.Staged ∷ [])
           ≡ 0 = refl in
           omega arith
 

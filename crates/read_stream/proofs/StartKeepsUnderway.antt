@@ -44,8 +44,8 @@ module _ {W S P : Type 0} (left : S → List (ℕ × P)) (told : Option Told)
       → ((runs : List Run) → ReadsForRuns s.scope p s.desk.now.reads runs
       → ReadsForRuns n.scope q n.desk.now.reads (runs ++ run ∷ []))
       → UnderwayWith left told relations handles (record_blocks_left n.current n.step) behind' 0 q n
-  underway_started a b d f pl run behind behind' u e out is st free went issued few runs =
-      let g = u.going in
+  underway_started a b d f pl run behind behind' u e out is st free actor_advanced issued few runs =
+      let g = u.running in
       let ws : List Want = s.desk.now.wants.items in
       let wants : n.desk.now.wants.items ≡ ws ++ want.Run run ∷ [] =
       ap (λ (z : Buffer Want). z.items) st.wants in
@@ -57,9 +57,9 @@ module _ {W S P : Type 0} (left : S → List (ℕ × P)) (told : Option Told)
       ap (λ (z : List Run). length z) started in
       let more = length-append (wanted_runs ws) (run ∷ []) in
       let same : SameScopeAndDesk s n = record {
-        scope = st.stays.keeps.scope;
-        source_was = st.stays.keeps.source_was;
-        settings = st.stays.settings;
+        scope = st.consumer_unchanged.keeps.scope;
+        source_was = st.consumer_unchanged.keeps.source_was;
+        settings = st.consumer_unchanged.settings;
         queue = ap (λ (z : Buffer (QueuedBlock P)). z.capacity) st.queue;
         wants = ap (λ (z : Buffer Want). z.capacity) st.wants;
       } in
@@ -68,13 +68,14 @@ module _ {W S P : Type 0} (left : S → List (ℕ × P)) (told : Option Told)
       let ios : n.plan.ios_in_progress ≡ pl.ios_in_progress + 1 =
       ap (λ (z : PlanView). z.ios_in_progress) st.plan in
       let some : count_some n.current ≡ count_some s.current =
-      ap (λ (z : Option ReadIoView). count_some z) st.stays.current in
+      ap (λ (z : Option ReadIoView). count_some z) st.consumer_unchanged.current in
       record {
         steady = invariant_moved left told relations handles p q s n same u.steady issued few
-            (current_kept left told relations handles p q s n same a b d f st.stays.current went
+            (current_kept left told relations handles p q s n same a b d f
+            st.consumer_unchanged.current actor_advanced
             u.steady.current)
             (let z = u.steady.all in let y = st.records in omega arith);
-        going = running_moved left told relations handles p q s n (record {
+        running = running_moved left told relations handles p q s n (record {
           same = same;
           counts = record {
             ahead = ap (λ (z : PlanView). z.blocks_ahead) st.plan ∙ e.counts.ahead;
@@ -85,7 +86,7 @@ module _ {W S P : Type 0} (left : S → List (ℕ × P)) (told : Option Told)
           source = st.source;
           over = st.over;
           queue = ap (λ (z : Buffer (QueuedBlock P)). z.items) st.queue;
-          given = st.stays.given;
+          given = st.consumer_unchanged.given;
           made = st.made;
         }) rest behind 0 (record_blocks_left n.current n.step) behind' 0 g
             (g.front
@@ -99,7 +100,8 @@ module _ {W S P : Type 0} (left : S → List (ℕ × P)) (told : Option Told)
             (sym pending)
             ∙ ap (λ (z : List ℕ). z
             ++ (wanted_blocks n.desk.now.wants.items ++ (pending_blocks n.plan.pending ++ behind')))
-            (sym (rest_kept s.current n.current s.step n.step st.stays.current st.stays.step)))))))
+            (sym (rest_kept s.current n.current s.step n.step st.consumer_unchanged.current
+            st.consumer_unchanged.step)))))))
             (subst (λ (z : List Want). (w : Want) → IsIn w z → IsWant s.desk.now.combine handles w)
             (sym wants)
             (each-pushed (λ w. IsWant s.desk.now.combine handles w) ws (want.Run run) g.wants is))

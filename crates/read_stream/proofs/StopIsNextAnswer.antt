@@ -48,8 +48,8 @@ module _ {W S P : Type 0} (left : S → List (ℕ × P)) (told : Option Told)
       record {
         steady = invariant_beside left told relations handles p s (record s { step = step.Stop e })
             u.steady;
-        made = let z = u.going.most in omega arith;
-        going = tt;
+        made = let z = u.running.most in omega arith;
+        running = tt;
         lent = tt;
         stopped = next;
         kept = kept;
@@ -94,7 +94,7 @@ module _ {W S P : Type 0} (left : S → List (ℕ × P)) (told : Option Told)
       u.steady.current in
       let next = stop_is_next s.scope told relations (left s.source_was.value) s.given a.block
       a.per_buffer_data (map source_item (drop 1 s.desk.now.queue.items) ++ left s.source)
-      (left-of p s hand behind spent a first u.going) u.going.readable p io taken has e part in (
+      (left-of p s hand behind spent a first u.running) u.running.readable p io taken has e part in (
         next,
         between_stopped p s hand behind spent e u next
             (failed-kept p s io a.block e now taken part),
@@ -109,7 +109,7 @@ module _ {W S P : Type 0} (left : S → List (ℕ × P)) (told : Option Told)
       (SaidStop (synchronous_ending ending.End))
       × IsBetweenCalls left told relations handles p (record s { step = step.Stop ending.End })
   ended p s hand behind spent none empty u =
-      let g = u.going in
+      let g = u.running in
       let all = none-at (left s.source_was.value) s.given
       (sym g.blocks ∙ (ap (λ (z : List (QueuedBlock P)). map source_item z ++ left s.source) none
       ∙ empty)) in

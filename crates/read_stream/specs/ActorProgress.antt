@@ -6,14 +6,14 @@ use Rattle.aio_word.specs.declared.Mark.{Mark}
 use Rattle.aio_word.specs.declared.WaitRef.{WaitRef}
 use Rattle.aio_word.specs.Events.{mark_count, any_io, kind_place}
 use Rattle.aio_word.specs.Stands.{IsIn}
-use Rattle.aio_word.specs.Tokens.{claimed_marks, io_marks}
+use Rattle.aio_word.specs.Tokens.{claimed_mark_count, io_mark_count}
 use Rattle.aio_handle.specs.Execution.{CountersFollowMarks}
 
 -- each incarnation that was claimed was executed and completed too
 pub record AllClaimsCompleted (more : List Mark) : Type 0 where
   pub io : (t : WaitRef) → mark_count t any_io more ≡ mark_count t kind.Claimed more
   pub shared : (t : WaitRef) → mark_count t kind.Shared more ≡ mark_count t kind.Claimed more
-  pub all : io_marks more ≡ claimed_marks more
+  pub all : io_mark_count more ≡ claimed_mark_count more
 
 -- the actor that knew p advanced, and now knows q; its executor's counts rose with its marks
 pub record ActorAdvanced (p q : Known) (reads reads' faults faults' : ℕ) : Type 0 where
@@ -23,12 +23,12 @@ pub record ActorAdvanced (p q : Known) (reads reads' faults faults' : ℕ) : Typ
   pub marks : q.marks ≡ p.marks ++ more
   -- the aims of its I/Os are known as before
   pub aims : (e : WaitRef × List ℕ) → IsIn e p.aims → IsIn e q.aims
-  pub worked : AllClaimsCompleted more
-  pub pays : CountersFollowMarks reads reads' faults faults' more
+  pub claims_completed : AllClaimsCompleted more
+  pub counters_follow : CountersFollowMarks reads reads' faults faults' more
 
 -- how many results of its own I/Os the actor has taken
-abbrev pub local_marks : List Mark → ℕ
-local_marks marks = count_by (λ m. kind_place m.kind == 6) marks
+abbrev pub local_mark_count : List Mark → ℕ
+local_mark_count marks = count_by (λ m. kind_place m.kind == 6) marks
 
 -- the mark stands behind those that the actor had when the stream was opened
 abbrev pub MarkedSince : Known → Known → Mark → Type 0

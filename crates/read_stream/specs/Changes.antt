@@ -44,7 +44,7 @@ pub record LookAheadUnchanged {W S P : Type 0} (old new : ReadStream W S P) : Ty
 
 -- the run was started by a free record
 pub record StartsRun {W S P : Type 0} (run : Run) (old new : ReadStream W S P) : Type 0 where
-  pub stays : ConsumerUnchanged old new
+  pub consumer_unchanged : ConsumerUnchanged old new
   pub source : new.source ≡ old.source
   pub over : new.over ≡ old.over
   pub queue : new.desk.now.queue ≡ old.desk.now.queue
@@ -59,7 +59,7 @@ pub record StartsRun {W S P : Type 0} (run : Run) (old new : ReadStream W S P) :
 -- the block was put into the queue
 pub record EnqueuesBlock {W S P : Type 0} (a : QueuedBlock P) (old new : ReadStream W S P)
     : Type 0 where
-  pub stays : ConsumerUnchanged old new
+  pub consumer_unchanged : ConsumerUnchanged old new
   pub source : new.source ≡ old.source
   pub over : new.over ≡ old.over
   pub queue : new.desk.now.queue
@@ -71,7 +71,7 @@ pub record EnqueuesBlock {W S P : Type 0} (a : QueuedBlock P) (old new : ReadStr
 
 -- what is wanted first is not wanted any more
 pub record PopsWant {W S P : Type 0} (old new : ReadStream W S P) : Type 0 where
-  pub stays : ConsumerUnchanged old new
+  pub consumer_unchanged : ConsumerUnchanged old new
   pub source : new.source ≡ old.source
   pub over : new.over ≡ old.over
   pub queue : new.desk.now.queue ≡ old.desk.now.queue
@@ -82,7 +82,7 @@ pub record PopsWant {W S P : Type 0} (old new : ReadStream W S P) : Type 0 where
 
 -- one I/O was made and taken in, by a record that was nowhere before
 pub record ReadsOne {W S P : Type 0} (old new : ReadStream W S P) : Type 0 where
-  pub moves : LookAheadUnchanged old new
+  pub look_ahead_unchanged : LookAheadUnchanged old new
   pub pin : new.pin ≡ old.pin
   pub wants : new.desk.now.wants ≡ old.desk.now.wants
   pub ios : new.plan.ios_in_progress ≡ old.plan.ios_in_progress
@@ -110,7 +110,7 @@ pub record GivesPage {W S P : Type 0} (a : QueuedBlock P) (old new : ReadStream 
 
 -- the block is wanted from the pool
 pub record PushesWant {W S P : Type 0} (w : Want) (old new : ReadStream W S P) : Type 0 where
-  pub stays : ConsumerUnchanged old new
+  pub consumer_unchanged : ConsumerUnchanged old new
   pub source : new.source ≡ old.source
   pub over : new.over ≡ old.over
   pub queue : new.desk.now.queue ≡ old.desk.now.queue

@@ -27,6 +27,7 @@ module _ {W M E : Type 0} (tells : E → Option Told) (relates : E → ℕ) wher
     pub same : IsSameActor old.actor.now new.actor.now
     pub told : (tells new.runner.now ≡ tells old.runner.now)
         × (relates new.runner.now ≡ relates old.runner.now)
-    pub went : ActorAdvanced old.actor.now.known new.actor.now.known (reads old.runner.now)
+    pub actor_advanced : ActorAdvanced old.actor.now.known new.actor.now.known
+        (reads old.runner.now)
         (reads new.runner.now) (faults old.runner.now) (faults new.runner.now)
     pub stands_on : stands new.method.now ≡ stands old.method.now

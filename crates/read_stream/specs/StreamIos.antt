@@ -22,7 +22,7 @@ use Rattle.aio_word.specs.declared.Step.TheVariants.{HandOut}
 use Rattle.aio_handle.specs.LifeWords.{idle_word, handed_out_word}
 use Rattle.aio_handle.specs.CallEvents.{EventMade}
 use Rattle.aio_handle.specs.Free.{IsInUse, IsRoom}
-use Rattle.read_stream.specs.ActorProgress.{ActorAdvanced, MarkedSince, local_marks}
+use Rattle.read_stream.specs.ActorProgress.{ActorAdvanced, MarkedSince, local_mark_count}
 
 -- the references of staged I/Os
 abbrev pub references : List (WaitRef × ReadIoView) → List WaitRef
@@ -156,7 +156,7 @@ module _ {W : Type 0} where
     -- no more I/Os than each handle could have lives when the stream was opened
     pub room_was : IsRoom c.was.value.known.config (known_at_open c) c.most
     -- how many were taken in
-    pub taken : local_marks p.marks ≡ local_marks (known_at_open c).marks + s.taken_in
+    pub taken : local_mark_count p.marks ≡ local_mark_count (known_at_open c).marks + s.taken_in
     pub lived : (h : ℕ) → lives_ended h p.marks ≤ lives_ended h (known_at_open c).marks + s.taken_in
     pub since : (more : List _) × (p.marks ≡ (known_at_open c).marks ++ more)
 
@@ -171,7 +171,7 @@ module _ {W : Type 0} where
   pub record HandleHandedOut (c : Scope W) (told : Option Told) (relations : ℕ) (p q : Known)
       (reads reads' faults faults' : ℕ) (s : Reads W) (t : WaitRef) : Type 0 where
     pub before : Known
-    pub went : ActorAdvanced p before reads reads' faults faults'
+    pub actor_advanced : ActorAdvanced p before reads reads' faults faults'
     pub issued : IssuedExcept [] c told relations before s
     pub made : EventMade HandOut t.handle (idle_word t.generation)
         (handed_out_word t.generation) [] before q

@@ -87,7 +87,7 @@ module _ {W S P : Type 0} (left : S → List (ℕ × P)) (told : Option Told)
   pub record IsBetweenCalls (p : Known) (s : ReadStream W S P) : Type 0 where
     pub steady : StreamInvariant p s
     pub made : ios_allowed s.desk.now.reads ≤ length (list_at_open s)
-    pub going : IfRunning s.step (IsRunning (record_blocks_left s.current s.step) [] 0 p s)
+    pub running : IfRunning s.step (IsRunning (record_blocks_left s.current s.step) [] 0 p s)
     pub lent : IsLent told s.scope.relation s.pin s.current s.step
     pub stopped : IfStopped s.step (λ e. IsNext (reader_of s.scope.zero told)
         (MayBeUnread s.scope.was.value p) (entries_at_open s) s.given
@@ -117,7 +117,7 @@ module _ {W S P : Type 0} (left : S → List (ℕ × P)) (told : Option Told)
   pub record UnderwayWith (hand behind : List ℕ) (spent : ℕ) (p : Known) (s : ReadStream W S P)
       : Type 0 where
     pub steady : StreamInvariant p s
-    pub going : IsRunning hand behind spent p s
+    pub running : IsRunning hand behind spent p s
 
   -- before the block at the front of the queue is served
   abbrev pub Underway : Known → ReadStream W S P → Type 0

@@ -55,7 +55,8 @@ impl<W: World> Reads<W> {
             context.old }
         requires issued { Issued scope.now W.told W.relations context.old.actor.now.known self.old }
         requires io_budget { ios_allowed self.old < scope.now.most }
-        ensures serves { ContextAdvanced E.told E.relations E.reads E.faults M.stands_on context.old
+        ensures context_advanced { ContextAdvanced E.told E.relations E.reads E.faults M.stands_on
+            context.old
             context.new }
         ensures handed { HandleHandedOut scope.now W.told W.relations context.old.actor.now.known
             context.new.actor.now.known (E.reads context.old.runner.now)

@@ -34,11 +34,12 @@ impl<'d, 'p, W: World, S: BlockSource<P> + Drop, P: Copy> ReadStream<'d, 'p, W, 
         requires underway { UnderwayWith S.left W.told W.relations W.handles (record_blocks_left
             self.old.current self.old.step) (block ∷ []) 0 context.old.actor.now.known self.old }
         requires free { 1 < length self.old.desk.now.reads.free.items }
-        ensures serves { ContextAdvanced E.told E.relations E.reads E.faults M.stands_on context.old
+        ensures context_advanced { ContextAdvanced E.told E.relations E.reads E.faults M.stands_on
+            context.old
             context.new }
         ensures underway { Underway S.left W.told W.relations W.handles context.new.actor.now.known
             self.new }
-        ensures stays { ConsumerUnchanged self.old self.new }
+        ensures consumer_unchanged { ConsumerUnchanged self.old self.new }
         ensures ahead { (self.new.plan.blocks_ahead ≡ self.old.plan.blocks_ahead)
             × (self.new.over ≡ self.old.over) }
     {
@@ -109,11 +110,12 @@ impl<'d, 'p, W: World, S: BlockSource<P> + Drop, P: Copy> ReadStream<'d, 'p, W, 
         requires want { IsWant self.old.desk.now.combine W.handles want × (runs_of_want want ≡ [])
             × (length (blocks_of_want want) ≡ 1) }
         requires free { 1 < length self.old.desk.now.reads.free.items }
-        ensures serves { ContextAdvanced E.told E.relations E.reads E.faults M.stands_on context.old
+        ensures context_advanced { ContextAdvanced E.told E.relations E.reads E.faults M.stands_on
+            context.old
             context.new }
         ensures underway { Underway S.left W.told W.relations W.handles context.new.actor.now.known
             self.new }
-        ensures stays { ConsumerUnchanged self.old self.new }
+        ensures consumer_unchanged { ConsumerUnchanged self.old self.new }
         ensures ahead { (self.new.plan.blocks_ahead ≡ self.old.plan.blocks_ahead)
             × (self.new.over ≡ self.old.over) }
     {
@@ -132,11 +134,12 @@ impl<'d, 'p, W: World, S: BlockSource<P> + Drop, P: Copy> ReadStream<'d, 'p, W, 
         requires underway { Underway S.left W.told W.relations W.handles context.old.actor.now.known
             self.old }
         requires ahead { MayLookAhead self.old.plan }
-        ensures serves { ContextAdvanced E.told E.relations E.reads E.faults M.stands_on context.old
+        ensures context_advanced { ContextAdvanced E.told E.relations E.reads E.faults M.stands_on
+            context.old
             context.new }
         ensures underway { Underway S.left W.told W.relations W.handles context.new.actor.now.known
             self.new }
-        ensures stays { ConsumerUnchanged self.old self.new }
+        ensures consumer_unchanged { ConsumerUnchanged self.old self.new }
         ensures progress { IsTrue self.new.over
             ⊎ (self.new.plan.blocks_ahead ≡ self.old.plan.blocks_ahead + 1) }
         ensures no_less { self.old.plan.blocks_ahead ≤ self.new.plan.blocks_ahead }
@@ -175,11 +178,12 @@ impl<'d, 'p, W: World, S: BlockSource<P> + Drop, P: Copy> ReadStream<'d, 'p, W, 
             context.old }
         requires underway { Underway S.left W.told W.relations W.handles context.old.actor.now.known
             self.old }
-        ensures serves { ContextAdvanced E.told E.relations E.reads E.faults M.stands_on context.old
+        ensures context_advanced { ContextAdvanced E.told E.relations E.reads E.faults M.stands_on
+            context.old
             context.new }
         ensures underway { Underway S.left W.told W.relations W.handles context.new.actor.now.known
             self.new }
-        ensures stays { ConsumerUnchanged self.old self.new }
+        ensures consumer_unchanged { ConsumerUnchanged self.old self.new }
         ensures ended { self.new.desk.now.queue.items ≡ [] → self.new.current ≡ None
             → S.left self.new.source ≡ [] }
     {

@@ -109,7 +109,8 @@ impl<W: World, P: Copy> Desk<W, P> {
             self.old.reads }
         requires current { IfSome current (λ io. length io.pages ≡ scope.now.combine) }
         requires all { record_count self.old.reads + count_some current ≡ scope.now.total }
-        ensures serves { ContextAdvanced E.told E.relations E.reads E.faults M.stands_on context.old
+        ensures context_advanced { ContextAdvanced E.told E.relations E.reads E.faults M.stands_on
+            context.old
             context.new }
         ensures issued { Issued scope.now W.told W.relations context.new.actor.now.known
             self.new.reads }

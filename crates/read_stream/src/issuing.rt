@@ -87,7 +87,8 @@ impl<W: World> Reads<W> {
         requires handed { IsValidContext E.told E.relations W.told W.relations scope.now
             context.old }
         requires issued { Issued scope.now W.told W.relations context.old.actor.now.known self.old }
-        ensures serves { ContextAdvanced E.told E.relations E.reads E.faults M.stands_on context.old
+        ensures context_advanced { ContextAdvanced E.told E.relations E.reads E.faults M.stands_on
+            context.old
             context.new }
         ensures issued { Issued scope.now W.told W.relations context.new.actor.now.known self.new }
         ensures none { self.new.batch ≡ [] }
@@ -125,7 +126,8 @@ impl<W: World> Reads<W> {
         requires record { length io.pages ≡ scope.now.combine }
         requires run { IsRun scope.now.combine run }
         requires io_budget { 0 < self.old.io_budget }
-        ensures serves { ContextAdvanced E.told E.relations E.reads E.faults M.stands_on context.old
+        ensures context_advanced { ContextAdvanced E.told E.relations E.reads E.faults M.stands_on
+            context.old
             context.new }
         ensures issued { IssuedExcept (result.0 ∷ []) scope.now W.told W.relations
             context.new.actor.now.known self.new }
@@ -178,7 +180,8 @@ impl<W: World> Reads<W> {
         requires record { length io.pages ≡ scope.now.combine }
         requires run { IsRun scope.now.combine run }
         requires io_budget { 0 < self.old.io_budget }
-        ensures serves { ContextAdvanced E.told E.relations E.reads E.faults M.stands_on context.old
+        ensures context_advanced { ContextAdvanced E.told E.relations E.reads E.faults M.stands_on
+            context.old
             context.new }
         ensures issued { Issued scope.now W.told W.relations context.new.actor.now.known self.new }
         ensures few { length self.new.batch < 32 }
@@ -214,7 +217,8 @@ impl<W: World> Reads<W> {
         requires record { length io.pages ≡ scope.now.combine }
         requires run { IsRun scope.now.combine run }
         requires io_budget { 0 < self.old.io_budget }
-        ensures serves { ContextAdvanced E.told E.relations E.reads E.faults M.stands_on context.old
+        ensures context_advanced { ContextAdvanced E.told E.relations E.reads E.faults M.stands_on
+            context.old
             context.new }
         ensures issued { Issued scope.now W.told W.relations context.new.actor.now.known self.new }
         ensures record { IsTakenIn scope.now W.told W.relations context.new.actor.now.known result }

@@ -33,11 +33,12 @@ impl<'d, 'p, W: World, S: BlockSource<P> + Drop, P: Copy> ReadStream<'d, 'p, W, 
         requires underway { UnderwayWith S.left W.told W.relations W.handles (block ∷ []) [] 0
             context.old.actor.now.known self.old }
         requires none { (self.old.current ≡ None) × (self.old.pin ≡ None) }
-        ensures serves { ContextAdvanced E.told E.relations E.reads E.faults M.stands_on context.old
+        ensures context_advanced { ContextAdvanced E.told E.relations E.reads E.faults M.stands_on
+            context.old
             context.new }
         ensures reaches { Reaches S.left W.told W.relations W.handles block
             context.new.actor.now.known self.new }
-        ensures moves { LookAheadUnchanged self.old self.new }
+        ensures look_ahead_unchanged { LookAheadUnchanged self.old self.new }
     {
         match self.pool.lookup(rt, self.tag(block)) {
             Found::Hit(pin) => self.hold(rt, pin),
@@ -62,11 +63,12 @@ impl<'d, 'p, W: World, S: BlockSource<P> + Drop, P: Copy> ReadStream<'d, 'p, W, 
             context.old.actor.now.known self.old }
         requires none { (self.old.current ≡ None) × (self.old.pin ≡ None) }
         requires range { reference.handle < W.handles }
-        ensures serves { ContextAdvanced E.told E.relations E.reads E.faults M.stands_on context.old
+        ensures context_advanced { ContextAdvanced E.told E.relations E.reads E.faults M.stands_on
+            context.old
             context.new }
         ensures reaches { Reaches S.left W.told W.relations W.handles block
             context.new.actor.now.known self.new }
-        ensures moves { LookAheadUnchanged self.old self.new }
+        ensures look_ahead_unchanged { LookAheadUnchanged self.old self.new }
     {
         self.submit(rt, context);
         self.wait_for(rt, context, reference);
@@ -92,15 +94,16 @@ impl<'d, 'p, W: World, S: BlockSource<P> + Drop, P: Copy> ReadStream<'d, 'p, W, 
             [] 0 context.old.actor.now.known self.old }
         requires submitted { AllSubmitted context.old.actor.now.known }
         requires range { reference.handle < W.handles }
-        ensures serves { ContextAdvanced E.told E.relations E.reads E.faults M.stands_on context.old
+        ensures context_advanced { ContextAdvanced E.told E.relations E.reads E.faults M.stands_on
+            context.old
             context.new }
         ensures underway { (hand : List ℕ) → UnderwayWith S.left W.told W.relations W.handles hand
             []
             0 context.old.actor.now.known self.old
             → UnderwayWith S.left W.told W.relations W.handles
             hand [] 0 context.new.actor.now.known self.new }
-        ensures stays { ConsumerUnchanged self.old self.new }
-        ensures moves { LookAheadUnchanged self.old self.new }
+        ensures consumer_unchanged { ConsumerUnchanged self.old self.new }
+        ensures look_ahead_unchanged { LookAheadUnchanged self.old self.new }
         ensures done { HasSeenDone context.new.actor.now.known reference }
     {
         wait(rt, context.table, context.actor, reference, context.runner);
@@ -137,11 +140,12 @@ impl<'d, 'p, W: World, S: BlockSource<P> + Drop, P: Copy> ReadStream<'d, 'p, W, 
         requires underway { UnderwayWith S.left W.told W.relations W.handles (block ∷ []) [] 0
             context.old.actor.now.known self.old }
         requires none { (self.old.current ≡ None) × (self.old.pin ≡ None) }
-        ensures serves { ContextAdvanced E.told E.relations E.reads E.faults M.stands_on context.old
+        ensures context_advanced { ContextAdvanced E.told E.relations E.reads E.faults M.stands_on
+            context.old
             context.new }
         ensures reaches { Reaches S.left W.told W.relations W.handles block
             context.new.actor.now.known self.new }
-        ensures moves { LookAheadUnchanged self.old self.new }
+        ensures look_ahead_unchanged { LookAheadUnchanged self.old self.new }
     {
         let Some(io) = self.desk.reads.free.pop_front() else {
             unreachable!()

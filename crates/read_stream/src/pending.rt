@@ -41,7 +41,8 @@ impl<'d, 'p, W: World, S: BlockSource<P> + Drop, P: Copy> ReadStream<'d, 'p, W, 
         requires plan { self.old.plan.ios_in_progress < 2 ^ 32 - 1 }
         requires io_budget { 0 < self.old.desk.now.reads.io_budget }
         requires room { length self.old.desk.now.wants.items < self.old.desk.now.wants.capacity }
-        ensures serves { ContextAdvanced E.told E.relations E.reads E.faults M.stands_on context.old
+        ensures context_advanced { ContextAdvanced E.told E.relations E.reads E.faults M.stands_on
+            context.old
             context.new }
         ensures issued { Issued self.new.scope W.told W.relations context.new.actor.now.known
             self.new.desk.now.reads }
@@ -91,7 +92,8 @@ impl<'d, 'p, W: World, S: BlockSource<P> + Drop, P: Copy> ReadStream<'d, 'p, W, 
             (record_blocks_left self.old.current self.old.step) behind 0 context.old.actor.now.known
             self.old }
         requires free { 1 < length self.old.desk.now.reads.free.items }
-        ensures serves { ContextAdvanced E.told E.relations E.reads E.faults M.stands_on context.old
+        ensures context_advanced { ContextAdvanced E.told E.relations E.reads E.faults M.stands_on
+            context.old
             context.new }
         ensures underway { (behind : List ℕ) → UnderwayWith S.left W.told W.relations W.handles
             (record_blocks_left self.old.current self.old.step) behind 0 context.old.actor.now.known
@@ -99,7 +101,7 @@ impl<'d, 'p, W: World, S: BlockSource<P> + Drop, P: Copy> ReadStream<'d, 'p, W, 
             (record_blocks_left self.new.current self.new.step) behind 0 context.new.actor.now.known
             self.new }
         ensures none { self.new.plan.pending ≡ None }
-        ensures stays { ConsumerUnchanged self.old self.new }
+        ensures consumer_unchanged { ConsumerUnchanged self.old self.new }
         ensures ahead { (self.new.plan.blocks_ahead ≡ self.old.plan.blocks_ahead)
             × (self.new.over ≡ self.old.over) × (self.new.source ≡ self.old.source)
             × (self.new.desk.now.queue ≡ self.old.desk.now.queue) }
@@ -120,11 +122,12 @@ impl<'d, 'p, W: World, S: BlockSource<P> + Drop, P: Copy> ReadStream<'d, 'p, W, 
         requires underway { Underway S.left W.told W.relations W.handles context.old.actor.now.known
             self.old }
         requires free { 1 < length self.old.desk.now.reads.free.items }
-        ensures serves { ContextAdvanced E.told E.relations E.reads E.faults M.stands_on context.old
+        ensures context_advanced { ContextAdvanced E.told E.relations E.reads E.faults M.stands_on
+            context.old
             context.new }
         ensures underway { Underway S.left W.told W.relations W.handles context.new.actor.now.known
             self.new }
-        ensures stays { ConsumerUnchanged self.old self.new }
+        ensures consumer_unchanged { ConsumerUnchanged self.old self.new }
         ensures ahead { (self.new.plan.blocks_ahead ≡ self.old.plan.blocks_ahead)
             × (self.new.over ≡ self.old.over) }
     {
@@ -162,11 +165,12 @@ impl<'d, 'p, W: World, S: BlockSource<P> + Drop, P: Copy> ReadStream<'d, 'p, W, 
             context.old }
         requires underway { Underway S.left W.told W.relations W.handles context.old.actor.now.known
             self.old }
-        ensures serves { ContextAdvanced E.told E.relations E.reads E.faults M.stands_on context.old
+        ensures context_advanced { ContextAdvanced E.told E.relations E.reads E.faults M.stands_on
+            context.old
             context.new }
         ensures underway { Underway S.left W.told W.relations W.handles context.new.actor.now.known
             self.new }
-        ensures stays { ConsumerUnchanged self.old self.new }
+        ensures consumer_unchanged { ConsumerUnchanged self.old self.new }
         ensures none { self.new.desk.now.wants.items ≡ [] → self.new.current ≡ None
             → self.new.plan.pending ≡ None }
         ensures kept { (self.new.desk.now.queue ≡ self.old.desk.now.queue)

@@ -36,11 +36,12 @@ impl<'d, 'p, W: World, S: BlockSource<P> + Drop, P: Copy> ReadStream<'d, 'p, W, 
         requires front { slice_get (map block_number self.old.desk.now.queue.items) 0 ≡ Some block }
         requires last { self.old.desk.now.wants.items ≡ [] → self.old.current ≡ None
             → self.old.plan.pending ≡ None }
-        ensures serves { ContextAdvanced E.told E.relations E.reads E.faults M.stands_on context.old
+        ensures context_advanced { ContextAdvanced E.told E.relations E.reads E.faults M.stands_on
+            context.old
             context.new }
         ensures reaches { Reaches S.left W.told W.relations W.handles block
             context.new.actor.now.known self.new }
-        ensures moves { LookAheadUnchanged self.old self.new }
+        ensures look_ahead_unchanged { LookAheadUnchanged self.old self.new }
         ensures page { IfNone result
             (HasCurrentPage W.told self.new.scope.relation self.new.pin self.new.current block) }
         ensures stop { IfSome result (IsStop W.told self.new.current block) }
@@ -68,11 +69,12 @@ impl<'d, 'p, W: World, S: BlockSource<P> + Drop, P: Copy> ReadStream<'d, 'p, W, 
         requires front { slice_get (map block_number self.old.desk.now.queue.items) 0 ≡ Some block }
         requires last { self.old.desk.now.wants.items ≡ [] → self.old.current ≡ None
             → self.old.plan.pending ≡ None }
-        ensures serves { ContextAdvanced E.told E.relations E.reads E.faults M.stands_on context.old
+        ensures context_advanced { ContextAdvanced E.told E.relations E.reads E.faults M.stands_on
+            context.old
             context.new }
         ensures reaches { Reaches S.left W.told W.relations W.handles block
             context.new.actor.now.known self.new }
-        ensures moves { LookAheadUnchanged self.old self.new }
+        ensures look_ahead_unchanged { LookAheadUnchanged self.old self.new }
     {
         if self.current.is_none() {
             self.take_up(rt, context, block);
@@ -94,11 +96,12 @@ impl<'d, 'p, W: World, S: BlockSource<P> + Drop, P: Copy> ReadStream<'d, 'p, W, 
         requires front { slice_get (map block_number self.old.desk.now.queue.items) 0 ≡ Some block }
         requires last { self.old.desk.now.wants.items ≡ [] → self.old.current ≡ None
             → self.old.plan.pending ≡ None }
-        ensures serves { ContextAdvanced E.told E.relations E.reads E.faults M.stands_on context.old
+        ensures context_advanced { ContextAdvanced E.told E.relations E.reads E.faults M.stands_on
+            context.old
             context.new }
         ensures reaches { Reaches S.left W.told W.relations W.handles block
             context.new.actor.now.known self.new }
-        ensures moves { LookAheadUnchanged self.old self.new }
+        ensures look_ahead_unchanged { LookAheadUnchanged self.old self.new }
     {
         match self.next_want() {
             Some(Want::Run(run)) => self.take_run(rt, context, block, run),
@@ -143,11 +146,12 @@ impl<'d, 'p, W: World, S: BlockSource<P> + Drop, P: Copy> ReadStream<'d, 'p, W, 
         requires none { (self.old.current ≡ None) × (self.old.pin ≡ None) }
         requires front { slice_get (map block_number self.old.desk.now.queue.items) 0 ≡ Some block }
         requires run { slice_get self.old.desk.now.wants.items 0 ≡ Some (RunWant run) }
-        ensures serves { ContextAdvanced E.told E.relations E.reads E.faults M.stands_on context.old
+        ensures context_advanced { ContextAdvanced E.told E.relations E.reads E.faults M.stands_on
+            context.old
             context.new }
         ensures reaches { Reaches S.left W.told W.relations W.handles block
             context.new.actor.now.known self.new }
-        ensures moves { LookAheadUnchanged self.old self.new }
+        ensures look_ahead_unchanged { LookAheadUnchanged self.old self.new }
     {
         self.submit(rt, context);
         self.take_oldest(rt, context, block, run);
@@ -169,11 +173,12 @@ impl<'d, 'p, W: World, S: BlockSource<P> + Drop, P: Copy> ReadStream<'d, 'p, W, 
         requires front { slice_get (map block_number self.old.desk.now.queue.items) 0 ≡ Some block }
         requires run { slice_get self.old.desk.now.wants.items 0 ≡ Some (RunWant run) }
         requires staged { self.old.desk.now.reads.batch ≡ [] }
-        ensures serves { ContextAdvanced E.told E.relations E.reads E.faults M.stands_on context.old
+        ensures context_advanced { ContextAdvanced E.told E.relations E.reads E.faults M.stands_on
+            context.old
             context.new }
         ensures reaches { Reaches S.left W.told W.relations W.handles block
             context.new.actor.now.known self.new }
-        ensures moves { LookAheadUnchanged self.old self.new }
+        ensures look_ahead_unchanged { LookAheadUnchanged self.old self.new }
     {
         let Some(io) = self.desk.reads.oldest_record(rt, &self.scope, context) else {
             unreachable!()

@@ -43,7 +43,8 @@ impl<'d, 'p, W: World, S: BlockSource<P> + Drop, P: Copy> ReadStream<'d, 'p, W, 
         requires record { length io.pages ≡ self.old.scope.combine }
         requires run { IsRun self.old.scope.combine run }
         requires io_budget { 0 < self.old.desk.now.reads.io_budget }
-        ensures serves { ContextAdvanced E.told E.relations E.reads E.faults M.stands_on context.old
+        ensures context_advanced { ContextAdvanced E.told E.relations E.reads E.faults M.stands_on
+            context.old
             context.new }
         ensures issued { Issued self.new.scope W.told W.relations context.new.actor.now.known
             self.new.desk.now.reads }
@@ -76,11 +77,12 @@ impl<'d, 'p, W: World, S: BlockSource<P> + Drop, P: Copy> ReadStream<'d, 'p, W, 
         requires reaches { Reaches S.left W.told W.relations W.handles block
             context.old.actor.now.known self.old }
         requires some { self.old.current ≢ None }
-        ensures serves { ContextAdvanced E.told E.relations E.reads E.faults M.stands_on context.old
+        ensures context_advanced { ContextAdvanced E.told E.relations E.reads E.faults M.stands_on
+            context.old
             context.new }
         ensures reaches { Reaches S.left W.told W.relations W.handles block
             context.new.actor.now.known self.new }
-        ensures moves { LookAheadUnchanged self.old self.new }
+        ensures look_ahead_unchanged { LookAheadUnchanged self.old self.new }
         ensures page { IfNone result
             (HasCurrentPage W.told self.new.scope.relation self.new.pin self.new.current block) }
         ensures stop { IfSome result (IsStop W.told self.new.current block) }
@@ -140,11 +142,12 @@ impl<'d, 'p, W: World, S: BlockSource<P> + Drop, P: Copy> ReadStream<'d, 'p, W, 
             context.old.actor.now.known self.old }
         requires some { self.old.current ≢ None }
         requires behind { IfSome self.old.current (λ io. io.first < block) }
-        ensures serves { ContextAdvanced E.told E.relations E.reads E.faults M.stands_on context.old
+        ensures context_advanced { ContextAdvanced E.told E.relations E.reads E.faults M.stands_on
+            context.old
             context.new }
         ensures reaches { Reaches S.left W.told W.relations W.handles block
             context.new.actor.now.known self.new }
-        ensures moves { LookAheadUnchanged self.old self.new }
+        ensures look_ahead_unchanged { LookAheadUnchanged self.old self.new }
         ensures first { IfSome self.new.current (λ io. io.first ≡ block)
             × (self.new.current ≢ None) }
     {

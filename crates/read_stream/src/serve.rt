@@ -42,7 +42,8 @@ impl<'d, 'p, W: World, S: BlockSource<P> + Drop, P: Copy> ReadStream<'d, 'p, W, 
             context.old }
         requires actor { context.old.actor.now ≡ self.old.actor_is.value }
         requires is_open { IsOpen S.left W.told W.relations W.handles self.old }
-        ensures serves { ContextAdvanced E.told E.relations E.reads E.faults M.stands_on context.old
+        ensures context_advanced { ContextAdvanced E.told E.relations E.reads E.faults M.stands_on
+            context.old
             context.new }
         ensures answer { IfPage (step_answer self.new.scope.relation self.new.step
             (current_page self.new)) IsPage
@@ -72,12 +73,12 @@ impl<'d, 'p, W: World, S: BlockSource<P> + Drop, P: Copy> ReadStream<'d, 'p, W, 
     fn release_page<T: Wait>(&mut self, rt: &T)
         requires between { IsBetweenCalls S.left W.told W.relations W.handles
             self.old.actor_is.value.known self.old }
-        requires going { IfStopped self.old.step (λ _. ⊥) }
+        requires running { IfStopped self.old.step (λ _. ⊥) }
         ensures underway { Underway S.left W.told W.relations W.handles
             self.old.actor_is.value.known self.new }
         ensures giving { HasMoreBlocks self.new.current self.new.step }
         ensures none { self.new.pin ≡ None }
-        ensures moves { LookAheadUnchanged self.old self.new }
+        ensures look_ahead_unchanged { LookAheadUnchanged self.old self.new }
     {
         if let Some(pin) = mem::replace(&mut self.pin, None) {
             self.pool.unpin(rt, pin);
@@ -91,7 +92,7 @@ impl<'d, 'p, W: World, S: BlockSource<P> + Drop, P: Copy> ReadStream<'d, 'p, W, 
         requires lent { IsLent W.told self.now.scope.relation self.now.pin self.now.current
             self.now.step }
         requires none { self.now.pin ≡ None }
-        requires going { IfStopped self.now.step (λ _. ⊥) }
+        requires running { IfStopped self.now.step (λ _. ⊥) }
         ensures through { IsTrue result
             → (self.now.current ≢ None) × (record_blocks_left self.now.current self.now.step ≡ []) }
         ensures giving { (IsTrue result → ⊥) → HasMoreBlocks self.now.current self.now.step }
@@ -110,7 +111,7 @@ impl<'d, 'p, W: World, S: BlockSource<P> + Drop, P: Copy> ReadStream<'d, 'p, W, 
         ensures underway { UnderwayWith S.left W.told W.relations W.handles [] [] 0
             self.old.actor_is.value.known self.new }
         ensures none { (self.new.current ≡ None) × (self.new.pin ≡ self.old.pin) }
-        ensures moves { LookAheadUnchanged self.old self.new }
+        ensures look_ahead_unchanged { LookAheadUnchanged self.old self.new }
     {
         if let Some(io) = self.current.take() {
             self.desk.reads.release(io);
@@ -128,15 +129,16 @@ impl<'d, 'p, W: World, S: BlockSource<P> + Drop, P: Copy> ReadStream<'d, 'p, W, 
             context.old }
         requires underway { (hand : List ℕ) × UnderwayWith S.left W.told W.relations W.handles hand
             [] 0 context.old.actor.now.known self.old }
-        ensures serves { ContextAdvanced E.told E.relations E.reads E.faults M.stands_on context.old
+        ensures context_advanced { ContextAdvanced E.told E.relations E.reads E.faults M.stands_on
+            context.old
             context.new }
         ensures underway { (hand : List ℕ) → UnderwayWith S.left W.told W.relations W.handles hand
             []
             0 context.old.actor.now.known self.old
             → UnderwayWith S.left W.told W.relations W.handles
             hand [] 0 context.new.actor.now.known self.new }
-        ensures stays { ConsumerUnchanged self.old self.new }
-        ensures moves { LookAheadUnchanged self.old self.new }
+        ensures consumer_unchanged { ConsumerUnchanged self.old self.new }
+        ensures look_ahead_unchanged { LookAheadUnchanged self.old self.new }
         ensures wants { self.new.desk.now.wants ≡ self.old.desk.now.wants }
         ensures staged { self.new.desk.now.reads.batch ≡ [] }
     {
@@ -169,7 +171,8 @@ impl<'d, 'p, W: World, S: BlockSource<P> + Drop, P: Copy> ReadStream<'d, 'p, W, 
             → self.old.plan.pending ≡ None }
         requires ended { self.old.desk.now.queue.items ≡ [] → self.old.current ≡ None
             → S.left self.old.source ≡ [] }
-        ensures serves { ContextAdvanced E.told E.relations E.reads E.faults M.stands_on context.old
+        ensures context_advanced { ContextAdvanced E.told E.relations E.reads E.faults M.stands_on
+            context.old
             context.new }
         ensures between { IsBetweenCalls S.left W.told W.relations W.handles
             context.new.actor.now.known self.new }

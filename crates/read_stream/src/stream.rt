@@ -4,7 +4,7 @@ ghost use Rattle.page_check.specs.SynchronousAnswer.{reader_of};
 ghost use Rattle.page_check.specs.PageBytes.{IsPage};
 ghost use Rattle.page_check.specs.IsAnswer.{IsNext, IfPage, Stop as SaidStop};
 ghost use Rattle.aio_word.specs.Events.{lives_ended};
-ghost use Rattle.aio_handle.specs.Closing.{HasNoTokens};
+ghost use Rattle.aio_handle.specs.Closing.{HasNoOwnerTokens};
 ghost use Rattle.aio_handle.specs.Free.{IsRoom};
 ghost use Rattle.aio_handle.specs.ContractViews.{IsActorOf, IsSameActor};
 ghost use Rattle.read_stream.specs.StreamAnswers.{stream_entries, MayBeUnread, synchronous_answer};
@@ -16,7 +16,7 @@ ghost use Rattle.read_stream.specs.StreamState.{IsOpen, Follows};
 ghost use Rattle.std.specs.Prelude.{◌≢◌, IfSome, true};
 ghost use Rattle.aio_word.specs.declared.Class.TheVariants.{Unended};
 ghost use Rattle.read_stream.specs.declared.answer.Step.TheVariants.{Start, Stop};
-ghost use Rattle.read_stream.specs.ActorProgress.{ActorAdvanced, local_marks};
+ghost use Rattle.read_stream.specs.ActorProgress.{ActorAdvanced, local_mark_count};
 
 use crate::answer::{Ending, Next, Step};
 use crate::desk::Desk;
@@ -70,7 +70,7 @@ impl<'d, 'p, W: World, S: BlockSource<P> + Drop, P: Copy> ReadStream<'d, 'p, W, 
     ) -> ReadStream<'d, 'p, W, S, P>
         requires desk { IsFreeDesk desk.old }
         requires backend { actor.now.known.number < actor.now.known.config.backends }
-        requires rest { HasNoTokens actor.now.known }
+        requires rest { HasNoOwnerTokens actor.now.known }
         requires room { (room : ℕ) × IsRoom actor.now.known.config actor.now.known room
             × (length (S.left source) ≤ room) }
         requires relation { relation < W.relations }
@@ -81,7 +81,7 @@ impl<'d, 'p, W: World, S: BlockSource<P> + Drop, P: Copy> ReadStream<'d, 'p, W, 
         ensures relation { result.scope.relation ≡ relation }
         ensures zero { result.scope.zero ≡ desk.old.zero }
         ensures none { result.given ≡ 0 }
-        ensures going { result.step ≡ Start }
+        ensures running { result.step ≡ Start }
     {
         let source_was = Snapshot::of(&source);
         let scope = Scope {
@@ -127,7 +127,7 @@ impl<'d, 'p, W: World, S: BlockSource<P> + Drop, P: Copy> ReadStream<'d, 'p, W, 
         ensures same { IsSameActor actor.old actor.new }
         ensures told { (E.told runner.new ≡ E.told runner.old)
             × (E.relations runner.new ≡ E.relations runner.old) }
-        ensures went { ActorAdvanced actor.old.known actor.new.known (E.reads runner.old)
+        ensures actor_advanced { ActorAdvanced actor.old.known actor.new.known (E.reads runner.old)
             (E.reads runner.new) (E.faults runner.old) (E.faults runner.new) }
         ensures stands_on { M.stands_on method.new ≡ M.stands_on method.old }
         ensures answer { IsNext (reader_of self.old.scope.zero W.told)
@@ -181,7 +181,8 @@ impl<'d, 'p, W: World, S: BlockSource<P> + Drop, P: Copy> ReadStream<'d, 'p, W, 
 
     // The page of the block that the last step found.
     fn page(&self, block: u32) -> &Page
-        requires shown { HasCurrentPage W.told self.now.scope.relation self.now.pin self.now.current
+        requires has_current_page { HasCurrentPage W.told self.now.scope.relation self.now.pin
+            self.now.current
             block }
         requires record { IfSome self.now.current (λ io. io.label.ended ≢ Unended) }
         ensures value { result.now ≡ page_at self.now.pin self.now.current block }
@@ -198,7 +199,8 @@ impl<'d, 'p, W: World, S: BlockSource<P> + Drop, P: Copy> ReadStream<'d, 'p, W, 
 
     // Whether the page of the block that the last step found was zeroed.
     fn is_zeroed(&self, block: u32) -> bool
-        requires shown { HasCurrentPage W.told self.now.scope.relation self.now.pin self.now.current
+        requires has_current_page { HasCurrentPage W.told self.now.scope.relation self.now.pin
+            self.now.current
             block }
         requires record { IfSome self.now.current (λ io. io.label.ended ≢ Unended) }
         ensures { result ≡ zeroed_at self.now.pin self.now.current block }
@@ -226,12 +228,12 @@ impl<'d, 'p, W: World, S: BlockSource<P> + Drop, P: Copy> ReadStream<'d, 'p, W, 
         ensures same { IsSameActor actor.old actor.new }
         ensures told { (E.told runner.new ≡ E.told runner.old)
             × (E.relations runner.new ≡ E.relations runner.old) }
-        ensures went { ActorAdvanced actor.old.known actor.new.known (E.reads runner.old)
+        ensures actor_advanced { ActorAdvanced actor.old.known actor.new.known (E.reads runner.old)
             (E.reads runner.new) (E.faults runner.old) (E.faults runner.new) }
         ensures stands_on { M.stands_on method.new ≡ M.stands_on method.old }
-        ensures rest { HasNoTokens actor.new.known }
-        ensures count { local_marks actor.new.known.marks
-            ≡ local_marks self.entry.scope.was.value.known.marks + result.0 }
+        ensures rest { HasNoOwnerTokens actor.new.known }
+        ensures count { local_mark_count actor.new.known.marks
+            ≡ local_mark_count self.entry.scope.was.value.known.marks + result.0 }
         ensures few { result.0 ≤ length (S.left self.entry.source_was.value) }
         ensures lived { (h : ℕ) → lives_ended h actor.new.known.marks
             ≤ lives_ended h self.entry.scope.was.value.known.marks + result.0 }

@@ -34,7 +34,8 @@ impl<W: World> Reads<W> {
         requires lent { HeldByCaller scope.now W.told W.relations context.old.actor.now.known
             self.old token }
         requires submitted { AllSubmitted context.old.actor.now.known }
-        ensures serves { ContextAdvanced E.told E.relations E.reads E.faults M.stands_on context.old
+        ensures context_advanced { ContextAdvanced E.told E.relations E.reads E.faults M.stands_on
+            context.old
             context.new }
         ensures issued { Issued scope.now W.told W.relations context.new.actor.now.known self.new }
         ensures record { IsTakenIn scope.now W.told W.relations context.new.actor.now.known result }
@@ -68,7 +69,8 @@ impl<W: World> Reads<W> {
             context.old }
         requires issued { Issued scope.now W.told W.relations context.old.actor.now.known self.old }
         requires staged { self.old.batch ≡ [] }
-        ensures serves { ContextAdvanced E.told E.relations E.reads E.faults M.stands_on context.old
+        ensures context_advanced { ContextAdvanced E.told E.relations E.reads E.faults M.stands_on
+            context.old
             context.new }
         ensures issued { Issued scope.now W.told W.relations context.new.actor.now.known self.new }
         ensures some { IfSome result (λ io.
@@ -104,7 +106,8 @@ impl<W: World> Reads<W> {
             context.old }
         requires issued { Issued scope.now W.told W.relations context.old.actor.now.known self.old }
         requires staged { self.old.batch ≡ [] }
-        ensures serves { ContextAdvanced E.told E.relations E.reads E.faults M.stands_on context.old
+        ensures context_advanced { ContextAdvanced E.told E.relations E.reads E.faults M.stands_on
+            context.old
             context.new }
         ensures issued { Issued scope.now W.told W.relations context.new.actor.now.known self.new }
         ensures some { IfSome result (λ io.
@@ -140,7 +143,8 @@ impl<W: World> Reads<W> {
             context.old }
         requires issued { Issued scope.now W.told W.relations context.old.actor.now.known self.old }
         requires staged { self.old.batch ≡ [] }
-        ensures serves { ContextAdvanced E.told E.relations E.reads E.faults M.stands_on context.old
+        ensures context_advanced { ContextAdvanced E.told E.relations E.reads E.faults M.stands_on
+            context.old
             context.new }
         ensures issued { Issued scope.now W.told W.relations context.new.actor.now.known self.new }
         ensures all { (record_count self.new ≡ record_count self.old)
@@ -168,7 +172,8 @@ impl<W: World> Reads<W> {
             context.old }
         requires issued { Issued scope.now W.told W.relations context.old.actor.now.known self.old }
         requires all { record_count self.old ≡ scope.now.total }
-        ensures serves { ContextAdvanced E.told E.relations E.reads E.faults M.stands_on context.old
+        ensures context_advanced { ContextAdvanced E.told E.relations E.reads E.faults M.stands_on
+            context.old
             context.new }
         ensures issued { Issued scope.now W.told W.relations context.new.actor.now.known self.new }
         ensures ready { IsReady scope.now.combine scope.now.total self.new }

@@ -8,7 +8,7 @@ use Rattle.page_check.specs.Told.{Told}
 use Rattle.aio_word.specs.declared.Config.{Config}
 use Rattle.aio_handle.specs.ContractViews.{AreNewActors}
 use Rattle.method_worker.specs.QueueViews.{SeatView, IsSeatOf}
-use Rattle.scan_rounds.specs.DiskActors.{DiskGhosts}
+use Rattle.aio_disk.specs.declared.disk.Disk.{Ghosts as DiskGhosts}
 use Rattle.scan_rounds.specs.ListOptions.{list_options}
 use Rattle.scan_rounds.specs.OpenedScan.{AreSettings, GivesBackends, GivesWorkers, IsDeskFor}
 use Rattle.scan_rounds.specs.OpenedScan.{IsOpened}
@@ -124,7 +124,7 @@ module _ {W D : Type 0} where
         (made.rings_are ∙ ap (λ n. rings_of_method settings.method n) (sym many))
 
     module _ (m : DiskGhosts D) (told : Option Told) (relations : ℕ)
-        (tell : All (λ d. (m.tells d ≡ told) × (m.has d ≡ relations)) (opened_disks s)) where
+        (tell : All (λ d. (m.told d ≡ told) × (m.relations d ≡ relations)) (opened_disks s)) where
       is_scan : IsScan m told relations s
       is_scan =
           let bs = s.backends.items in
@@ -157,7 +157,8 @@ module _ {W D : Type 0} where
                 s.shared.queue (omega (arith, backends))
                 (front_all (IsSeatOf s.shared.queue) seat_in ws (into_iter_items q.seats)
                 (into_iter_items r.seats) made.workers.seats all_seats.1);
-            paid = paid_of_new t (opened_disks s) bs ws all_fresh m told relations disks_as_many;
+            counters_are = paid_of_new t (opened_disks s) bs ws all_fresh m told relations
+                disks_as_many;
             all_list_in = λ k b lt. same_options (all_desks k b lt).streams.zero
                 (made.backends.all_tuples k b lt) ∙ sym made.options_are;
             room = subst P same rooms;
@@ -171,10 +172,10 @@ module _ {W D : Type 0} where
 
     -- stands as it should at its start
     pub opened_scan : (m : DiskGhosts D) (told : Option Told) (relations : ℕ) (disks : List D)
-        → opened_disks s ≡ disks → All (λ d. (m.tells d ≡ told) × (m.has d ≡ relations)) disks
+        → opened_disks s ≡ disks → All (λ d. (m.told d ≡ told) × (m.relations d ≡ relations)) disks
         → IsOpened m told relations settings start disks s
     opened_scan m told relations disks same tell =
-        let P : D → Type 0 = λ d. (m.tells d ≡ told) × (m.has d ≡ relations) in
+        let P : D → Type 0 = λ d. (m.told d ≡ told) × (m.relations d ≡ relations) in
         let Q : List D → Type 0 = λ ds. All P ds in record {
           is = is_scan m told relations (subst Q (sym same) tell);
           config = made.config;

@@ -12,7 +12,8 @@ use Rattle.heap_scan.specs.Job.{endings_of}
 use Rattle.read_stream.specs.declared.desk.Desk.{Desk}
 use Rattle.heap_scan.specs.Warnings.{warnings_of}
 use Rattle.heap_tuple.specs.Listing.{text_with}
-use Rattle.scan_rounds.specs.DiskActors.{HasListed, HasRead, DiskGhosts, entries_of_blocks}
+use Rattle.aio_disk.specs.declared.disk.Disk.{Ghosts as DiskGhosts}
+use Rattle.scan_rounds.specs.DiskActors.{HasListed, HasRead, entries_of_blocks}
 use Rattle.scan_rounds.specs.Jobs.{entries_of_job, said_end}
 use Rattle.scan_rounds.specs.BlockFilter.{BlockFilter}
 use Rattle.scan_rounds.specs.ConsumedPages.{HasText}
@@ -44,7 +45,7 @@ module _ {W D : Type 0} (m : DiskGhosts D) (told : Option Told) (relations : ℕ
       tuples h k d e j (ended l end)
   by_text block_filter tuples h k d e b j l end same few relation blocks read = record {
     disk_actor = read.disk_actor;
-    goes = read.goes;
+    advanced = read.advanced;
     lived = λ n. (let lived = read.lived n in omega arith);
     taken = (let many = ap length same in let taken = read.taken in omega arith);
     desk = read.desk;

@@ -13,11 +13,12 @@ use native.Mathlib.Nat.{mul-le-mul, add-mul}
 use mathlib.Core.Logic.{dite}
 use native.Mathlib.Decide.{dec_le}
 use Rattle.page_check.specs.Told.{Told}
-use Rattle.aio_word.specs.Tokens.{failed_results}
+use Rattle.aio_word.specs.Tokens.{failed_result_count}
 use Rattle.aio_handle.specs.ContractViews.{TableView}
 use Rattle.method_worker.specs.QueueViews.{QueueView}
 use Rattle.read_stream.specs.StreamAnswers.{MayBeUnread}
-use Rattle.scan_rounds.specs.DiskActors.{DiskGhosts, IsBackend, HasRoom, backend_options}
+use Rattle.aio_disk.specs.declared.disk.Disk.{Ghosts as DiskGhosts}
+use Rattle.scan_rounds.specs.DiskActors.{IsBackend, ActorHasRoom, backend_options}
 use Rattle.scan_rounds.specs.Jobs.{IsFresh, IsListed, AreAnswered, entries_of_job, is_unread}
 use Rattle.scan_rounds.specs.Jobs.{blocks_among}
 use Rattle.scan_rounds.specs.ListOptions.{ListOptions}
@@ -83,7 +84,7 @@ module _ {W D : Type 0} (m : DiskGhosts D) (told : Option Told) (relations : ℕ
     as_many = is.as_many;
     jobs_are = is.jobs_are;
     backends = is.backends;
-    goes = is.goes;
+    advanced = is.advanced;
     lived = λ i d lt h. (let few = is.lived i d lt h in omega arith);
     options_same = is.options_same;
     taken = is.taken;
@@ -100,7 +101,7 @@ module _ {W D : Type 0} (m : DiskGhosts D) (told : Option Told) (relations : ℕ
     as_many = refl;
     jobs_are = refl;
     backends = may.backends;
-    goes = λ i d lt. stays_put m told relations t _ (may.backends i d lt).disk_actor;
+    advanced = λ i d lt. stays_put m told relations t _ (may.backends i d lt).disk_actor;
     lived = λ i d lt h. omega arith;
     options_same = λ i d lt. refl;
     taken = omega arith;
@@ -111,12 +112,12 @@ module _ {W D : Type 0} (m : DiskGhosts D) (told : Option Told) (relations : ℕ
   module _ {block_filter : Option BlockFilter} (b c : Backend W D) (j l : Job)
       (did : BackendDidJob m told relations t q block_filter b j c l) where
     failed_more : (u : Bool) → is_unread l.ending ≡ u
-        → failed_results b.disk_actor.actor.known.marks + cond u 1 0
-        ≤ failed_results c.disk_actor.actor.known.marks
+        → failed_result_count b.disk_actor.actor.known.marks + cond u 1 0
+        ≤ failed_result_count c.disk_actor.actor.known.marks
     failed_more true is = unread_counted _ told _ _ _ _ did.listed is
     failed_more false is =
-        let more = results_more b.disk_actor.actor.known.marks did.goes.more in
-        let same = ap failed_results did.goes.marks in omega arith
+        let more = results_more b.disk_actor.actor.known.marks did.advanced.more in
+        let same = ap failed_result_count did.advanced.marks in omega arith
 
     -- a job, and none behind it
     pub one_alone : (d : Backend W D) (js ls : List Job) → (length js ≡ 0 → d ≡ c)
@@ -132,18 +133,18 @@ module _ {W D : Type 0} (m : DiskGhosts D) (told : Option Told) (relations : ℕ
     }
 
     -- what is left of the backend's room
-    pub may_later : (n : ℕ) (js : List Job) → HasRoom (64 * (n + 1)) b.disk_actor.actor
+    pub may_later : (n : ℕ) (js : List Job) → ActorHasRoom (64 * (n + 1)) b.disk_actor.actor
         → b.disk_actor.actor.known.number < b.disk_actor.actor.known.config.backends
         → All (IsFresh relations) js → MayTurn m told relations t q n (c ∷ []) js
     may_later n js has backend fresh =
-        let room = left_after 64 (64 * n) b.disk_actor.actor c.disk_actor.actor did.goes.same
+        let room = left_after 64 (64 * n) b.disk_actor.actor c.disk_actor.actor did.advanced.same
         backend (fewer (64 + 64 * n) (64 * (n + 1)) b.disk_actor.actor (omega arith) has)
         did.lived in
         record {
           backends = All-cons (IsBackend m told relations t q) c [] did.is
               (All-nil (IsBackend m told relations t q));
-          room = All-cons (λ (x : Backend W D). HasRoom (64 * n) x.disk_actor.actor) c [] room
-              (All-nil (λ (x : Backend W D). HasRoom (64 * n) x.disk_actor.actor));
+          room = All-cons (λ (x : Backend W D). ActorHasRoom (64 * n) x.disk_actor.actor) c [] room
+              (All-nil (λ (x : Backend W D). ActorHasRoom (64 * n) x.disk_actor.actor));
           fresh = fresh;
         }
 
@@ -155,8 +156,9 @@ module _ {W D : Type 0} (m : DiskGhosts D) (told : Option Told) (relations : ℕ
       as_many = refl;
       jobs_are = omega (arith, is.jobs_are);
       backends = is.backends;
-      goes = elim [
-        | zero ↦ λ e lt. goes_then m told relations t _ _ _ did.goes (is.goes 0 c (omega arith))
+      advanced = elim [
+        | zero ↦ λ e lt. goes_then m told relations t _ _ _ did.advanced
+            (is.advanced 0 c (omega arith))
         | suc i ↦ λ e lt. absurd (omega arith)
       ];
       lived = elim [
@@ -202,7 +204,7 @@ module _ {W D : Type 0} (m : DiskGhosts D) (told : Option Told) (relations : ℕ
     each = λ i d lt.
         (let inside : i < length bs = omega (arith, length-map bs backend_disk_actor) in
         goes_at m told relations t bs cs i d inside (omega (arith, is.as_many))
-        (λ e. is.goes i e inside));
+        (λ e. is.advanced i e inside));
   }
 
   pub all_have_options : {block_filter : Option BlockFilter} (more : ℕ) (bs cs : List (Backend W D))

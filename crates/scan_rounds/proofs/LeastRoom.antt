@@ -13,17 +13,17 @@ use Rattle.aio_word.specs.Words.{last_generation}
 use Rattle.aio_handle.specs.CallEvents.{generation_of}
 use Rattle.aio_handle.specs.Free.{IsRoom}
 use Rattle.aio_handle.specs.ContractViews.{ActorView, IsSameActor}
-use Rattle.aio_handle.proofs.RoomIsExact.{room-is-one, room-bounded}
-use Rattle.scan_rounds.specs.DiskActors.{HasRoom}
-use Rattle.scan_rounds.specs.Rounds.{HaveRoom, IsLeastRoom}
+use Rattle.aio_handle.proofs.LivesCounted.{room-is-one, room-bounded}
+use Rattle.scan_rounds.specs.DiskActors.{ActorHasRoom}
+use Rattle.scan_rounds.specs.Rounds.{AllBackendsHaveRoom, IsLeastRoom}
 use Rattle.scan_rounds.specs.declared.backend.Backend.{Backend}
 
-pub fewer : (n m : ℕ) (a : ActorView) → n ≤ m → HasRoom m a → HasRoom n a
+pub fewer : (n m : ℕ) (a : ActorView) → n ≤ m → ActorHasRoom m a → ActorHasRoom n a
 fewer n m a le has = (has.0, has.1, omega (arith, has.2))
 
 -- the room falls by no more than the lives that ended
 pub falls : (most : ℕ) (a b : ActorView) (n k : ℕ) → IsSameActor a b
-    → a.known.number < a.known.config.backends → HasRoom n a → HasRoom k b
+    → a.known.number < a.known.config.backends → ActorHasRoom n a → ActorHasRoom k b
     → ((h : ℕ) → lives_ended h b.known.marks ≤ lives_ended h a.known.marks + most)
     → (room : ℕ) × IsRoom b.known.config b.known room × (n ≤ room + most)
 falls most a b n k same backend before after lived =
@@ -94,8 +94,9 @@ greatest_below f own a (suc n) =
 
 -- what is left after lives that ended
 pub left_after : (most n : ℕ) (a b : ActorView) → IsSameActor a b
-    → a.known.number < a.known.config.backends → HasRoom (most + n) a
-    → ((h : ℕ) → lives_ended h b.known.marks ≤ lives_ended h a.known.marks + most) → HasRoom n b
+    → a.known.number < a.known.config.backends → ActorHasRoom (most + n) a
+    → ((h : ℕ) → lives_ended h b.known.marks ≤ lives_ended h a.known.marks + most)
+    → ActorHasRoom n b
 left_after most n a b same backend has lived = found (greatest_below
     (generation_of b.known.config b.known) (owner b.known.config) b.known.number
     (handle_count b.known.config))
@@ -116,7 +117,7 @@ left_after most n a b same backend has lived = found (greatest_below
     found : ((k : ℕ) → k < handle_count b.known.config → b.known.number ≡ owner b.known.config k
         → ⊥)
         ⊎ Greatest (generation_of b.known.config b.known) (owner b.known.config) b.known.number
-        (handle_count b.known.config) → HasRoom n b
+        (handle_count b.known.config) → ActorHasRoom n b
     found (inl none) =
         let e = has.1.exact backend in
         absurd (none e.0 (rw c e.1) (same.2 ∙ (e.2 ∙ sym (ap (λ (x : Config). owner x e.0) c))))
@@ -137,40 +138,40 @@ taken i xs le = length-take i xs ∙ min-eq_left {n = i} {m = length xs} le
 
 module _ {W D : Type 0} where
   pub least_next : (least room r i : ℕ) (bs : List (Backend W D)) (b : Backend W D)
-      → i < length bs → b ≡ slice_index_or bs i b → HaveRoom least (take i bs)
+      → i < length bs → b ≡ slice_index_or bs i b → AllBackendsHaveRoom least (take i bs)
       → IsRoom b.disk_actor.actor.known.config b.disk_actor.actor.known room → r ≡ min least room
-      → HaveRoom r (take (i + 1) bs)
+      → AllBackendsHaveRoom r (take (i + 1) bs)
   least_next least room r i bs b lt is have own same k d below =
       let more = taken (i + 1) bs (omega arith) in
       let here = taken i bs (omega arith) in
       let left = min-le_left least room in
       let right = min-le_right least room in
       dite (ℕ_discrete k i)
-      (λ last. subst (λ (x : Backend W D). HasRoom r x.disk_actor.actor)
+      (λ last. subst (λ (x : Backend W D). ActorHasRoom r x.disk_actor.actor)
       (is ∙ (get_or_default bs i b d lt ∙ (ap (λ (n : ℕ). get_or bs n d) (sym last)
       ∙ sym (get_or-take (i + 1) bs k d (omega arith))))) (room, own, omega arith))
       (λ other.
       let front : k < i = omega arith in
-      subst (λ (x : Backend W D). HasRoom r x.disk_actor.actor)
+      subst (λ (x : Backend W D). ActorHasRoom r x.disk_actor.actor)
       (get_or-take i bs k d front ∙ sym (get_or-take (i + 1) bs k d (omega arith)))
       (fewer r least (get_or (take i bs) k d).disk_actor.actor (omega arith)
       (have k d (omega arith))))
 
   pub greatest_next : (least room r i : ℕ) (bs : List (Backend W D)) (b : Backend W D)
       → i < length bs → b ≡ slice_index_or bs i b
-      → ((n : ℕ) → n < 2 ^ 64 → HaveRoom n (take i bs) → n ≤ least)
+      → ((n : ℕ) → n < 2 ^ 64 → AllBackendsHaveRoom n (take i bs) → n ≤ least)
       → IsRoom b.disk_actor.actor.known.config b.disk_actor.actor.known room → r ≡ min least room
-      → (n : ℕ) → n < 2 ^ 64 → HaveRoom n (take (i + 1) bs) → n ≤ r
+      → (n : ℕ) → n < 2 ^ 64 → AllBackendsHaveRoom n (take (i + 1) bs) → n ≤ r
   greatest_next least room r i bs b lt is greatest own same n small have =
       let more = taken (i + 1) bs (omega arith) in
       let here = taken i bs (omega arith) in
       let front : n ≤ least = greatest n small (λ k d below.
       (let near : k < i = omega arith in
-      subst (λ (x : Backend W D). HasRoom n x.disk_actor.actor)
+      subst (λ (x : Backend W D). ActorHasRoom n x.disk_actor.actor)
       (get_or-take (i + 1) bs k d (omega arith) ∙ sym (get_or-take i bs k d near))
       (have k d (omega arith)))) in
-      let last : HasRoom n b.disk_actor.actor =
-      subst (λ (x : Backend W D). HasRoom n x.disk_actor.actor)
+      let last : ActorHasRoom n b.disk_actor.actor =
+      subst (λ (x : Backend W D). ActorHasRoom n x.disk_actor.actor)
       (get_or-take (i + 1) bs i b (omega arith) ∙ sym is) (have i b (omega arith)) in
       let one = room-is-one _ _ last.0 room last.1 own in
       let fits : n ≤ room = omega (arith, last.2) in
@@ -179,7 +180,7 @@ module _ {W D : Type 0} where
 
   -- of all of them
   pub least_is : (least : ℕ) (bs : List (Backend W D)) → 1 ≤ length bs → least < 2 ^ 64
-      → HaveRoom least bs → ((n : ℕ) → n < 2 ^ 64 → HaveRoom n bs → n ≤ least)
+      → AllBackendsHaveRoom least bs → ((n : ℕ) → n < 2 ^ 64 → AllBackendsHaveRoom n bs → n ≤ least)
       → IsLeastRoom bs least
   least_is least (b ∷ bs) some small have greatest = record {
     have = have;
@@ -198,10 +199,11 @@ module _ {W D : Type 0} where
       < b.disk_actor.actor.known.config.backends) bs
       → ((i : ℕ) (d : Backend W D) → i < length bs → (h : ℕ)
       → lives_ended h (slice_index_or fs i d).disk_actor.actor.known.marks
-      ≤ lives_ended h (slice_index_or bs i d).disk_actor.actor.known.marks + most) → HaveRoom n bs
+      ≤ lives_ended h (slice_index_or bs i d).disk_actor.actor.known.marks + most)
+      → AllBackendsHaveRoom n bs
       → IsLeastRoom fs k → n ≤ k + most
   least_falls most bs fs n k same each backend lived before after =
-      let fewer : HaveRoom (n - most) fs = λ i d lt.
+      let fewer : AllBackendsHaveRoom (n - most) fs = λ i d lt.
       (let inside : i < length bs = omega (arith, same) in
       let one = falls most _ _ n k (each i d inside) (backend i d inside) (before i d inside)
       (after.have i d lt) (lived i d inside) in

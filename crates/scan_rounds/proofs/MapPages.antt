@@ -9,7 +9,8 @@ use Rattle.std.proofs.lemmas.List.{map-append}
 use Rattle.heap_scan.specs.Warnings.{warning_for, warnings_of}
 use Rattle.heap_scan.proofs.Jobs.{warnings-append}
 use Rattle.vis_map.specs.Bits.{Map}
-use Rattle.scan_rounds.specs.DiskActors.{HasRead, DiskGhosts}
+use Rattle.aio_disk.specs.declared.disk.Disk.{Ghosts as DiskGhosts}
+use Rattle.scan_rounds.specs.DiskActors.{HasRead}
 use Rattle.scan_rounds.specs.ConsumedPages.{HasPages}
 use Rattle.scan_rounds.specs.declared.disk_actor.DiskActor.{DiskActor}
 use Rattle.scan_rounds.specs.declared.job.Ending.{Ending}

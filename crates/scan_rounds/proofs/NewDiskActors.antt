@@ -15,13 +15,14 @@ use Rattle.aio_handle.specs.TableInvariant.{initial_known}
 use Rattle.aio_handle.specs.ContractViews.{TableView, ActorView, AreNewActors}
 use Rattle.method_worker.specs.QueueViews.{QueueView, IsSeatOf}
 use Rattle.read_stream.specs.Desks.{IsFreeDesk}
-use Rattle.read_stream.specs.ActorProgress.{local_marks}
-use Rattle.scan_rounds.specs.DiskActors.{DiskGhosts, HasRoom, IsDiskActor, IsBackend, IsWorker}
+use Rattle.read_stream.specs.ActorProgress.{local_mark_count}
+use Rattle.aio_disk.specs.declared.disk.Disk.{Ghosts as DiskGhosts}
+use Rattle.scan_rounds.specs.DiskActors.{ActorHasRoom, IsDiskActor, IsBackend, IsWorker}
 use Rattle.scan_rounds.specs.OpenedScan.{GivesDiskActors}
 use Rattle.scan_rounds.specs.Rings.{IsRingOf}
 use Rattle.scan_rounds.specs.Rounds.{IsLeastRoom, backend_disk_actor, worker_disk_actor}
-use Rattle.scan_rounds.specs.Rounds.{results_taken}
-use Rattle.scan_rounds.specs.Scans.{AllCountersMatch, actor_of, disk_of}
+use Rattle.scan_rounds.specs.Rounds.{results_taken_count}
+use Rattle.scan_rounds.specs.Scans.{AllDiskCountersFollowMarks, actor_of, disk_of}
 use Rattle.scan_rounds.specs.declared.backend.Backend.{Backend}
 use Rattle.scan_rounds.specs.declared.disk_actor.DiskActor.{DiskActor}
 use Rattle.scan_rounds.specs.declared.open.Parts.{Parts}
@@ -35,13 +36,13 @@ fresh t k = record { table = t.table; known = initial_known t.config k }
 -- the lives of a new backend's handles go from the first generation to the last
 room_of_new : (t : TableView) (k : ℕ) (a : ActorView) → a ≡ fresh t k → k < t.config.backends
     → 1 ≤ t.config.per_backend → t.config.start < 2 ^ 58
-    → HasRoom (2 ^ 58 - 1 - t.config.start) a
+    → ActorHasRoom (2 ^ 58 - 1 - t.config.start) a
 room_of_new t k a is lt some start =
     let pos : zero < t.config.per_backend = omega (arith, some) in
     let within : k * t.config.per_backend < handle_count t.config =
     mul-lt-mul_of_pos_right lt pos in
     let own : k ≡ owner t.config (k * t.config.per_backend) = sym (mul-div_cancel k pos) in
-    let P : ActorView → Type 0 = λ x. HasRoom (2 ^ 58 - 1 - t.config.start) x in
+    let P : ActorView → Type 0 = λ x. ActorHasRoom (2 ^ 58 - 1 - t.config.start) x in
     subst P (sym is) (
       last_generation - t.config.start,
       record {
@@ -55,9 +56,9 @@ room_of_new t k a is lt some start =
 
 -- and it has no others
 most_of_new : (t : TableView) (k n : ℕ) (a : ActorView) → a ≡ fresh t k → k < t.config.backends
-    → HasRoom n a → n ≤ 2 ^ 58 - 1 - t.config.start
+    → ActorHasRoom n a → n ≤ 2 ^ 58 - 1 - t.config.start
 most_of_new t k n a is lt has =
-    let P : ActorView → Type 0 = λ x. HasRoom n x in
+    let P : ActorView → Type 0 = λ x. ActorHasRoom n x in
     let (room, r, most) = subst P is has in
     let (h, range, own, last) = r.exact lt in omega arith
 
@@ -145,21 +146,21 @@ module _ {W D : Type 0} where
           (rooms 0 b first));
     }
 
-    pub none_taken : results_taken bs ≡ 0
+    pub none_taken : results_taken_count bs ≡ 0
     none_taken =
-        let taken : Backend W D → ℕ = λ b. local_marks b.disk_actor.actor.known.marks in
+        let taken : Backend W D → ℕ = λ b. local_mark_count b.disk_actor.actor.known.marks in
         let least = sum_by-le taken 0 bs (λ k b lt.
-        (let none = ap (λ (x : ActorView). local_marks x.known.marks) (backend_actor k b lt) in
+        (let none = ap (λ (x : ActorView). local_mark_count x.known.marks) (backend_actor k b lt) in
         omega (arith, none))) in omega (arith, least)
 
     module _ (m : DiskGhosts D) (told : Option Told) (relations : ℕ) where
-      pub paid_of_new : length ds ≡ length all → AllCountersMatch m told relations ds all
+      pub paid_of_new : length ds ≡ length all → AllDiskCountersFollowMarks m told relations ds all
       paid_of_new many = record {
         as_many = many;
         each = λ i o h lt. record {
           disk = slice_index_or ds i o;
           held = new.disks i o h lt;
-          pays = subst (λ ms. CountersFollowMarks (m.reads (slice_index_or ds i o))
+          counters_follow = subst (λ ms. CountersFollowMarks (m.reads (slice_index_or ds i o))
               (m.reads (slice_index_or ds i o)) (m.faults (slice_index_or ds i o))
               (m.faults (slice_index_or ds i o)) ms)
               (sym (ap (λ (x : ActorView). x.known.marks) (new.actors i h lt)))
@@ -167,7 +168,7 @@ module _ {W D : Type 0} where
         };
       }
 
-      module _ (tell : All (λ d. (m.tells d ≡ told) × (m.has d ≡ relations)) ds) where
+      module _ (tell : All (λ d. (m.told d ≡ told) × (m.relations d ≡ relations)) ds) where
         disk_actor_at : (k : ℕ) (h : DiskActor W D) → k < length all
             → IsDiskActor m told relations t (slice_index_or all k h)
         disk_actor_at k h lt =

@@ -6,14 +6,15 @@ use Rattle.std.proofs.lemmas.List.Sums.{sum_by-cons}
 use Rattle.std.specs.List.{All}
 use Rattle.page_check.specs.Told.{Told}
 use Rattle.aio_handle.specs.ContractViews.{TableView}
-use Rattle.aio_word.specs.Tokens.{failed_results}
+use Rattle.aio_word.specs.Tokens.{failed_result_count}
 use Rattle.method_worker.specs.QueueViews.{QueueView, IsSeatOf}
-use Rattle.scan_rounds.specs.DiskActors.{DiskGhosts, IsBackend, IsDiskActor}
-use Rattle.scan_rounds.specs.DiskActors.{HasRoom, backend_options}
+use Rattle.aio_disk.specs.declared.disk.Disk.{Ghosts as DiskGhosts}
+use Rattle.scan_rounds.specs.DiskActors.{IsBackend, IsDiskActor}
+use Rattle.scan_rounds.specs.DiskActors.{ActorHasRoom, backend_options}
 use Rattle.scan_rounds.specs.Progress.{AreWaiting}
 use Rattle.scan_rounds.specs.Rings.{IsRingOf}
 use Rattle.scan_rounds.specs.ListOptions.{ListOptions, list_options}
-use Rattle.scan_rounds.specs.Rounds.{HaveRoom, IsLeastRoom, AllHaveOptions}
+use Rattle.scan_rounds.specs.Rounds.{AllBackendsHaveRoom, IsLeastRoom, AllHaveOptions}
 use Rattle.scan_rounds.specs.Rounds.{backend_disk_actor}
 use Rattle.scan_rounds.specs.Rounds.{failed_results_taken}
 use Rattle.read_stream.specs.Desks.{IsFreeDesk}
@@ -71,9 +72,9 @@ module _ {W D : Type 0} (m : DiskGhosts D) (told : Option Told) (relations : ℕ
   first_backend a c bs all is (suc i) d lt = all (suc i) d lt
 
   first_room : (n : ℕ) (a c : Backend W D) (bs : List (Backend W D)) → c.disk_actor ≡ a.disk_actor
-      → HaveRoom n (a ∷ bs) → HaveRoom n (c ∷ bs)
+      → AllBackendsHaveRoom n (a ∷ bs) → AllBackendsHaveRoom n (c ∷ bs)
   first_room n a c bs same all zero d lt =
-      subst (λ (h : DiskActor W D). HasRoom n h.actor) (sym same) (all 0 d lt)
+      subst (λ (h : DiskActor W D). ActorHasRoom n h.actor) (sym same) (all 0 d lt)
   first_room n a c bs same all (suc i) d lt = all (suc i) d lt
 
   first_least : (a c : Backend W D) (bs : List (Backend W D)) (room : ℕ)
@@ -98,9 +99,9 @@ module _ {W D : Type 0} (m : DiskGhosts D) (told : Option Told) (relations : ℕ
       let stands = same_waiting m told relations t q a c same
       (desk ∙ ap (λ (x : Backend W D). x.desk) was) (ring ∙ ap (λ (x : Backend W D). x.ring) was)
       seat (kept ∙ ap (λ (x : Backend W D). is_some x.seat) was) (w.backends 0 a (omega arith)) in
-      let f : Backend W D → ℕ = λ x. failed_results x.disk_actor.actor.known.marks in
+      let f : Backend W D → ℕ = λ x. failed_result_count x.disk_actor.actor.known.marks in
       let results : failed_results_taken (c ∷ bs) ≡ failed_results_taken (a ∷ bs)
-      = sum_by-cons f c bs ∙ (ap (λ (h : DiskActor W D). failed_results h.actor.known.marks
+      = sum_by-cons f c bs ∙ (ap (λ (h : DiskActor W D). failed_result_count h.actor.known.marks
       + sum_by f bs) same ∙ sym (sum_by-cons f a bs)) in (
         record {
           some = omega arith;

@@ -18,7 +18,7 @@ use Rattle.aio_word.specs.Words.{word_place}
 use Rattle.aio_word.specs.Events.{handle_count, kind_place, is_mark, count_at_rank, wait_ref}
 use Rattle.aio_word.specs.Stands.{IsIn, IsOwnerKind, one_if, StandsForHandle, IsLawfulList}
 use Rattle.aio_word.specs.Stands.{mark_total}
-use Rattle.aio_word.specs.Tokens.{io_marks, claimed_marks}
+use Rattle.aio_word.specs.Tokens.{io_mark_count, claimed_mark_count}
 use Rattle.aio_word.specs.Totals.{by_backends, by_runners}
 use Rattle.aio_word.proofs.OwnMarksBoundWord.{has-counted, kind_place-small}
 use Rattle.aio_word.proofs.ReplacedElement.{sum-in}
@@ -27,7 +27,7 @@ use Rattle.aio_handle.specs.Closing.{EndState}
 use Rattle.aio_handle.proofs.IoMarksMatchClaims.{balance}
 use Rattle.aio_handle.proofs.ListsOfAllActors.{idle-place}
 use Rattle.aio_handle.proofs.SeatLists.{entry-at}
-use Rattle.read_stream.specs.ActorProgress.{local_marks}
+use Rattle.read_stream.specs.ActorProgress.{local_mark_count}
 
 mark-at-place : (o h g : ℕ) (m : Mark) → o < 8 → kind_place m.kind < 8
     → one_if (((kind_place m.kind == o) && (m.handle == h)) && (m.generation == g))
@@ -96,18 +96,18 @@ both-stand c parts h w s free g = dite (dec_le c.start g)
     ∙ sym (s.none g (inl (omega arith)) (kind.Local Failed)))
 
 split-claims : (c : Config) (p : Known)
-    → cond (nat_lt p.number c.backends) (claimed_marks p.marks) 0
-    + cond (nat_lt p.number c.backends) 0 (claimed_marks p.marks) ≡ claimed_marks p.marks
+    → cond (nat_lt p.number c.backends) (claimed_mark_count p.marks) 0
+    + cond (nat_lt p.number c.backends) 0 (claimed_mark_count p.marks) ≡ claimed_mark_count p.marks
 split-claims c p = grind (arith, nat_tests)
 
 -- each claim is a backend's or a runner's
 all-claims : (c : Config) (parts : List Known) → by_backends c parts + by_runners c parts
-    ≡ sum_by (λ (p : Known). claimed_marks p.marks) parts
+    ≡ sum_by (λ (p : Known). claimed_mark_count p.marks) parts
 all-claims c [] = refl
 all-claims c (p ∷ ps) =
-    let f : Known → ℕ = λ q. cond (nat_lt q.number c.backends) (claimed_marks q.marks) 0 in
-    let g : Known → ℕ = λ q. cond (nat_lt q.number c.backends) 0 (claimed_marks q.marks) in
-    let h : Known → ℕ = λ q. claimed_marks q.marks in
+    let f : Known → ℕ = λ q. cond (nat_lt q.number c.backends) (claimed_mark_count q.marks) 0 in
+    let g : Known → ℕ = λ q. cond (nat_lt q.number c.backends) 0 (claimed_mark_count q.marks) in
+    let h : Known → ℕ = λ q. claimed_mark_count q.marks in
     let rest : sum_by f ps + sum_by g ps ≡ sum_by h ps = all-claims c ps in
     let here : f p + g p ≡ h p = split-claims c p in
     let a : sum_by f (p ∷ ps) ≡ f p + sum_by f ps = sum_by-cons f p ps in
@@ -118,13 +118,13 @@ all-claims c (p ∷ ps) =
 module _ (c : Config) (parts : List Known) (e : EndState c parts) where
   -- as many incarnations as I/Os that were executed
   pub executed : by_backends c parts + by_runners c parts
-      ≡ sum_by (λ (p : Known). io_marks p.marks) parts
+      ≡ sum_by (λ (p : Known). io_mark_count p.marks) parts
   executed = all-claims c parts ∙ sym
-      (sum-same (λ (p : Known). io_marks p.marks) (λ p. claimed_marks p.marks) parts
+      (sum-same (λ (p : Known). io_mark_count p.marks) (λ p. claimed_mark_count p.marks) parts
       (balance c parts e))
 
-  pub executed_as_taken : sum_by (λ (p : Known). io_marks p.marks) parts
-      ≡ sum_by (λ (p : Known). local_marks p.marks) parts
+  pub executed_as_taken : sum_by (λ (p : Known). io_mark_count p.marks) parts
+      ≡ sum_by (λ (p : Known). local_mark_count p.marks) parts
   executed_as_taken =
       let G : ℕ = sum_by (λ (p : Known). sum_by (λ (m : Mark). m.generation) p.marks) parts + 1 in
       let bound : (p : Known) → IsIn p parts → (m : Mark) → IsIn m p.marks
@@ -161,8 +161,8 @@ is-local k more = grind (arith, nat_tests)
 
 -- a runner owns no handle, so it takes no result
 pub runners_take_none : (c : Config) (p : Known) → IsLawfulList c p → c.backends ≤ p.number
-    → local_marks p.marks ≡ 0
-runners_take_none c p s runner = dite (ℕ_discrete (local_marks p.marks) 0) (λ none. none)
+    → local_mark_count p.marks ≡ 0
+runners_take_none c p s runner = dite (ℕ_discrete (local_mark_count p.marks) 0) (λ none. none)
     (λ some. absurd
     (let m = has-counted (λ (x : Mark). one_if (kind_place x.kind == 6)) p.marks (omega arith) in
     let inside : m.it.handle < c.backends * c.per_backend = s.in_range m.it m.within in

@@ -14,15 +14,16 @@ use Rattle.aio_word.proofs.MoreMarksKeep.{io-more, failed-more}
 use Rattle.aio_handle.specs.Execution.{CountersFollowMarks}
 use Rattle.aio_handle.specs.ContractViews.{TableView}
 use Rattle.method_worker.specs.QueueViews.{QueueView}
-use Rattle.scan_rounds.specs.DiskActors.{DiskGhosts, IsBackend, IsDiskActor, DiskActorAdvanced}
+use Rattle.aio_disk.specs.declared.disk.Disk.{Ghosts as DiskGhosts}
+use Rattle.scan_rounds.specs.DiskActors.{IsBackend, IsDiskActor, DiskActorAdvanced}
 use Rattle.scan_rounds.specs.Progress.{AreWaiting, RoundsAdvanced}
 use Rattle.scan_rounds.specs.Jobs.{IsFresh, IsListed, AreAnswered, blocks_among, entries_of_job}
 use Rattle.scan_rounds.specs.ListOptions.{ListOptions}
 use Rattle.scan_rounds.specs.BlockFilter.{BlockFilter}
 use Rattle.scan_rounds.specs.JobSources.{JobSourceAdvanced}
 use Rattle.scan_rounds.specs.Rounds.{AllAdvanced, AllHaveOptions, AreListed, backend_disk_actor}
-use Rattle.scan_rounds.specs.Rounds.{results_taken}
-use Rattle.read_stream.specs.ActorProgress.{local_marks}
+use Rattle.scan_rounds.specs.Rounds.{results_taken_count}
+use Rattle.read_stream.specs.ActorProgress.{local_mark_count}
 use Rattle.read_stream.specs.StreamAnswers.{MayBeUnread}
 use Rattle.scan_rounds.specs.declared.job.Job.{Job}
 use Rattle.scan_rounds.proofs.Blocks.{answer_wider}
@@ -32,27 +33,28 @@ use Rattle.scan_rounds.specs.declared.rounds.Counts.{Counts}
 use Rattle.scan_rounds.proofs.CountRaised.{raised_none, raised_twice}
 
 results_taken-disk_actors : {W D : Type 0} (bs : List (Backend W D))
-    → results_taken bs ≡ sum_by (λ (h : DiskActor W D). local_marks h.actor.known.marks)
+    → results_taken_count bs ≡ sum_by (λ (h : DiskActor W D). local_mark_count h.actor.known.marks)
     (map backend_disk_actor bs)
 results_taken-disk_actors bs = sum_by-map-is bs
   where
     sum_by-map-is : {W D : Type 0} (bs : List (Backend W D))
-        → sum_by (λ (b : Backend W D). local_marks b.disk_actor.actor.known.marks) bs
-        ≡ sum_by (λ (h : DiskActor W D). local_marks h.actor.known.marks)
+        → sum_by (λ (b : Backend W D). local_mark_count b.disk_actor.actor.known.marks) bs
+        ≡ sum_by (λ (h : DiskActor W D). local_mark_count h.actor.known.marks)
         (map backend_disk_actor bs)
     sum_by-map-is [] = refl
     sum_by-map-is {W} {D} (b ∷ bs) =
-        let f : Backend W D → ℕ = λ x. local_marks x.disk_actor.actor.known.marks in
-        let h : DiskActor W D → ℕ = λ x. local_marks x.actor.known.marks in
+        let f : Backend W D → ℕ = λ x. local_mark_count x.disk_actor.actor.known.marks in
+        let h : DiskActor W D → ℕ = λ x. local_mark_count x.actor.known.marks in
         let rest = sum_by-map-is bs in
         let x = sum_by-cons f b bs in
         let y = sum_by-cons h b.disk_actor (map backend_disk_actor bs) in omega arith
 
 -- what backends have taken is their actors'
 pub taken_as : {W D : Type 0} (cs ds : List (Backend W D))
-    → map backend_disk_actor ds ≡ map backend_disk_actor cs → results_taken ds ≡ results_taken cs
+    → map backend_disk_actor ds ≡ map backend_disk_actor cs → results_taken_count ds
+    ≡ results_taken_count cs
 taken_as {W} {D} cs ds same =
-    let f : DiskActor W D → ℕ = λ h. local_marks h.actor.known.marks in
+    let f : DiskActor W D → ℕ = λ h. local_mark_count h.actor.known.marks in
     results_taken-disk_actors ds ∙ (ap (sum_by f) same ∙ sym (results_taken-disk_actors cs))
 
 -- so is what may be unread of what they have listed
@@ -103,11 +105,11 @@ module _ {W D : Type 0} (m : DiskGhosts D) (told : Option Told) (relations : ℕ
       (slice_index_or bs i e).disk_actor (slice_index_or fs i e).disk_actor)
       → DiskActorAdvanced m told relations t (slice_index_or (map backend_disk_actor bs) i d)
       (slice_index_or (map backend_disk_actor fs) i d)
-  goes_at (b ∷ bs) (f ∷ fs) zero d lt lt' goes = goes b
-  goes_at (b ∷ bs) (f ∷ fs) (suc i) d lt lt' goes =
-      goes_at bs fs i d (omega arith) (omega arith) goes
-  goes_at [] fs i d lt lt' goes = absurd (omega arith)
-  goes_at (b ∷ bs) [] i d lt lt' goes = absurd (omega arith)
+  goes_at (b ∷ bs) (f ∷ fs) zero d lt lt' advanced = advanced b
+  goes_at (b ∷ bs) (f ∷ fs) (suc i) d lt lt' advanced =
+      goes_at bs fs i d (omega arith) (omega arith) advanced
+  goes_at [] fs i d lt lt' advanced = absurd (omega arith)
+  goes_at (b ∷ bs) [] i d lt lt' advanced = absurd (omega arith)
 
   pub stays_put : (h : DiskActor W D) → IsDiskActor m told relations t h
       → DiskActorAdvanced m told relations t h h
@@ -119,7 +121,10 @@ module _ {W D : Type 0} (m : DiskGhosts D) (told : Option Told) (relations : ℕ
     after = is.disk;
     had = is.held;
     has = is.held;
-    pays = record { read_each = λ below. omega arith; fault_each = λ below. omega arith };
+    counters_follow = record {
+      read_each = λ below. omega arith;
+      fault_each = λ below. omega arith;
+    };
   }
 
   pub goes_then : (h k l : DiskActor W D) → DiskActorAdvanced m told relations t h k
@@ -131,7 +136,7 @@ module _ {W D : Type 0} (m : DiskGhosts D) (told : Option Told) (relations : ℕ
       b.more =
       subst (λ (d : D). CountersFollowMarks (m.reads d) (m.reads b.after) (m.faults d)
       (m.faults b.after) b.more)
-      (sym one) b.pays in record {
+      (sym one) b.counters_follow in record {
         same = (b.same.0 ∙ a.same.0, b.same.1 ∙ a.same.1, b.same.2 ∙ a.same.2);
         more = a.more ++ b.more;
         marks = b.marks ∙ (ap (λ (ms : List Mark). ms ++ b.more) a.marks
@@ -140,7 +145,7 @@ module _ {W D : Type 0} (m : DiskGhosts D) (told : Option Told) (relations : ℕ
         after = b.after;
         had = a.had;
         has = b.has;
-        pays = pays_then _ _ _ _ _ _ a.more b.more a.pays second;
+        counters_follow = pays_then _ _ _ _ _ _ a.more b.more a.counters_follow second;
       }
 
   pub all_stay : (bs : List (Backend W D)) (q : QueueView) → All (IsBackend m told relations t q) bs

@@ -8,25 +8,26 @@ use Rattle.page_check.specs.SynchronousAnswer.{reader_of}
 use Rattle.page_check.specs.Told.{Told}
 use Rattle.aio_disk.specs.Counts.{raised_by}
 use Rattle.aio_word.specs.Events.{lives_ended}
-use Rattle.aio_word.specs.Tokens.{failed_results}
+use Rattle.aio_word.specs.Tokens.{failed_result_count}
 use Rattle.aio_handle.specs.ContractViews.{TableView}
 use Rattle.method_worker.specs.QueueViews.{QueueView}
 use Rattle.heap_scan.specs.Job.{job_entries}
 use Rattle.read_stream.specs.StreamAnswers.{MayBeUnread}
-use Rattle.read_stream.specs.ActorProgress.{local_marks}
+use Rattle.read_stream.specs.ActorProgress.{local_mark_count}
 use Rattle.vis_map.specs.Bits.{Map}
-use Rattle.scan_rounds.specs.DiskActors.{DiskGhosts, DiskActorAdvanced, HasReadMap, IsBackend}
+use Rattle.aio_disk.specs.declared.disk.Disk.{Ghosts as DiskGhosts}
+use Rattle.scan_rounds.specs.DiskActors.{DiskActorAdvanced, HasReadMap, IsBackend}
 use Rattle.scan_rounds.specs.DiskActors.{IsWorker, entries_of_blocks}
 use Rattle.scan_rounds.specs.DiskActors.{backend_options, map_blocks}
 use Rattle.scan_rounds.specs.Jobs.{is_unread, said_end, unread_in}
 use Rattle.scan_rounds.specs.ListOptions.{ListOptions}
 use Rattle.scan_rounds.specs.Progress.{AreWaiting}
-use Rattle.scan_rounds.specs.Rounds.{AllAdvanced, AllHaveOptions, AllServed, HaveRoom}
+use Rattle.scan_rounds.specs.Rounds.{AllAdvanced, AllHaveOptions, AllServed, AllBackendsHaveRoom}
 use Rattle.scan_rounds.specs.Rounds.{IsFirstRead}
 use Rattle.scan_rounds.specs.Rounds.{IsMapRead}
 use Rattle.scan_rounds.specs.ConsumedPages.{HasPages, PagesConsumed}
 use Rattle.scan_rounds.specs.Rounds.{IsLeastRoom, backend_disk_actor, failed_results_taken}
-use Rattle.scan_rounds.specs.Rounds.{results_taken}
+use Rattle.scan_rounds.specs.Rounds.{results_taken_count}
 use Rattle.scan_rounds.specs.Scans.{IsScan, scan_options}
 use Rattle.scan_rounds.specs.declared.job.Ending.{Ending}
 use Rattle.scan_rounds.specs.declared.shared.SharedState.{SharedState}
@@ -50,7 +51,8 @@ workers_stay m told relations t q ws all = record {
   as_many = refl;
   each = λ i d lt. record {
     is = all i d lt;
-    goes = stays_put m told relations t (slice_index_or ws i d).disk_actor (all i d lt).disk_actor;
+    advanced = stays_put m told relations t (slice_index_or ws i d).disk_actor
+        (all i d lt).disk_actor;
   };
 }
 
@@ -84,7 +86,7 @@ module _ {W D : Type 0} (m : DiskGhosts D) (told : Option Told) (relations : ℕ
       → DiskActorAdvanced m told relations t (slice_index_or bs i d).disk_actor
       (slice_index_or cs i d).disk_actor
   goes_read = each_of (λ b c. DiskActorAdvanced m told relations t b.disk_actor c.disk_actor)
-      (λ e r. r.read.goes) (λ k e below. stays_put m told relations t
+      (λ e r. r.read.advanced) (λ k e below. stays_put m told relations t
       (slice_index_or bs k e).disk_actor (all k e below).disk_actor)
 
   lived_read : (i : ℕ) (d : Backend W D) → i < length bs → (h : ℕ)
@@ -129,9 +131,9 @@ module _ {W D : Type 0} (m : DiskGhosts D) (told : Option Told) (relations : ℕ
       → f (slice_index_or cs i d) ≡ f (slice_index_or bs i d)
   same_count f i d behind = ap f (read.others i d behind)
 
-  pub taken_read : results_taken cs ≤ results_taken bs + pages
+  pub taken_read : results_taken_count cs ≤ results_taken_count bs + pages
   taken_read =
-      let f : Backend W D → ℕ = λ b. local_marks b.disk_actor.actor.known.marks in
+      let f : Backend W D → ℕ = λ b. local_mark_count b.disk_actor.actor.known.marks in
       let sum = at_most f (λ (n : ℕ). n) bs cs (pages ∷ []) read.as_many some
       (raised_first f pages (λ d.
       (let taken = (read.first d).read.taken in
@@ -140,24 +142,24 @@ module _ {W D : Type 0} (m : DiskGhosts D) (told : Option Told) (relations : ℕ
       omega arith
 
   results_kept : (h k : DiskActor W D) → DiskActorAdvanced m told relations t h k
-      → failed_results h.actor.known.marks ≤ failed_results k.actor.known.marks
-  results_kept h k goes =
-      let more = results_more h.actor.known.marks goes.more in
-      let same = ap failed_results goes.marks in omega arith
+      → failed_result_count h.actor.known.marks ≤ failed_result_count k.actor.known.marks
+  results_kept h k advanced =
+      let more = results_more h.actor.known.marks advanced.more in
+      let same = ap failed_result_count advanced.marks in omega arith
 
   unread_or : (u : Bool) → is_unread end ≡ u → (d : Backend W D)
-      → failed_results (slice_index_or bs 0 d).disk_actor.actor.known.marks + cond u 1 0
-      ≤ failed_results (slice_index_or cs 0 d).disk_actor.actor.known.marks
+      → failed_result_count (slice_index_or bs 0 d).disk_actor.actor.known.marks + cond u 1 0
+      ≤ failed_result_count (slice_index_or cs 0 d).disk_actor.actor.known.marks
   unread_or true is d =
       let given = (read.first d).read.given in
       unread_after (reader_of (slice_index_or bs 0 d).desk.zero told) _ _
       (entries_of_blocks (map_blocks relation pages)) given.pages end given.answers is
   unread_or false is d =
-      let kept = results_kept _ _ (read.first d).read.goes in omega arith
+      let kept = results_kept _ _ (read.first d).read.advanced in omega arith
 
   results_read : failed_results_taken bs + unread_in end ≤ failed_results_taken cs
   results_read =
-      let f : Backend W D → ℕ = λ b. failed_results b.disk_actor.actor.known.marks in
+      let f : Backend W D → ℕ = λ b. failed_result_count b.disk_actor.actor.known.marks in
       let sum = at_least f (λ (n : ℕ). n) bs cs (unread_in end ∷ []) read.as_many some
       (lowered_first f (unread_in end) (unread_or (is_unread end) refl))
       (λ i d le lt. (let same = same_count f i d le in omega arith)) in
@@ -202,9 +204,9 @@ first_read m told relations t q (a ∷ bs) b c relation pages found warnings end
 
 -- as much room as there is suffices for less
 pub less_room : {W D : Type 0} (n k : ℕ) (bs cs : List (Backend W D)) → n ≤ k → cs ≡ bs
-    → HaveRoom k bs → HaveRoom n cs
+    → AllBackendsHaveRoom k bs → AllBackendsHaveRoom n cs
 less_room n k bs cs le same have =
-    subst (λ (xs : List (Backend _ _)). HaveRoom n xs) (sym same)
+    subst (λ (xs : List (Backend _ _)). AllBackendsHaveRoom n xs) (sym same)
     (λ i d lt. (let (room, own, enough) = have i d lt in (room, own, omega arith)))
 
 -- the scan then
@@ -245,7 +247,7 @@ module _ {W D : Type 0} (m : DiskGhosts D) (told : Option Told) (relations : ℕ
       cs relation pages found warnings end is.backends_stand is.some read s.room
       room is.room least
 
-  pub results_taken-mapped : results_taken cs ≤ results_taken s.backends.items + pages
+  pub results_taken-mapped : results_taken_count cs ≤ results_taken_count s.backends.items + pages
   results_taken-mapped = taken_read m told relations s.shared.table s.shared.queue s.backends.items
       cs relation pages found warnings end is.backends_stand is.some read
 

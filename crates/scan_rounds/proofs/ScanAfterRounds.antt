@@ -9,13 +9,15 @@ use Rattle.aio_word.specs.declared.Mark.{Mark}
 use Rattle.aio_handle.specs.Execution.{CountersFollowMarks}
 use Rattle.aio_handle.specs.ContractViews.{TableView}
 use Rattle.method_worker.specs.QueueViews.{QueueView, IsSeatOf, SeatView}
-use Rattle.scan_rounds.specs.DiskActors.{DiskGhosts, IsBackend, IsWorker, DiskActorAdvanced}
+use Rattle.aio_disk.specs.declared.disk.Disk.{Ghosts as DiskGhosts}
+use Rattle.scan_rounds.specs.DiskActors.{IsBackend, IsWorker, DiskActorAdvanced}
 use Rattle.scan_rounds.specs.DiskActors.{MayServe}
 use Rattle.scan_rounds.specs.Progress.{AreWaiting}
 use Rattle.scan_rounds.specs.Rings.{IsRingOf}
 use Rattle.scan_rounds.specs.Rounds.{AllAdvanced, AllHaveOptions, AllServed, backend_disk_actor}
 use Rattle.scan_rounds.specs.Rounds.{worker_disk_actor}
-use Rattle.scan_rounds.specs.Scans.{IsScan, CountersMatchMarks, AllCountersMatch, scan_disk_actors}
+use Rattle.scan_rounds.specs.Scans.{IsScan, DiskCountersFollowMarks, AllDiskCountersFollowMarks}
+use Rattle.scan_rounds.specs.Scans.{scan_disk_actors}
 use Rattle.scan_rounds.specs.Scans.{scan_options, opened_disks}
 use Rattle.scan_rounds.specs.declared.disk_actor.DiskActor.{DiskActor}
 use Rattle.scan_rounds.specs.declared.backend.Backend.{Backend}
@@ -74,11 +76,11 @@ module _ {W D : Type 0} (m : DiskGhosts D) (told : Option Told) (relations : ℕ
       (slice_index_or vs i e).disk_actor)
       → DiskActorAdvanced m told relations t (slice_index_or (map worker_disk_actor ws) i d)
       (slice_index_or (map worker_disk_actor vs) i d)
-  worked_at q (w ∷ ws) (v ∷ vs) zero d lt same goes = goes w
-  worked_at q (w ∷ ws) (v ∷ vs) (suc i) d lt same goes =
-      worked_at q ws vs i d (omega arith) (omega arith) goes
-  worked_at q [] vs i d lt same goes = absurd (omega arith)
-  worked_at q (w ∷ ws) [] i d lt same goes = absurd (omega arith)
+  worked_at q (w ∷ ws) (v ∷ vs) zero d lt same advanced = advanced w
+  worked_at q (w ∷ ws) (v ∷ vs) (suc i) d lt same advanced =
+      worked_at q ws vs i d (omega arith) (omega arith) advanced
+  worked_at q [] vs i d lt same advanced = absurd (omega arith)
+  worked_at q (w ∷ ws) [] i d lt same advanced = absurd (omega arith)
 
   workers_go : (q : QueueView) (ws vs : List (Worker W D)) → AllServed m told relations t q ws vs
       → AllAdvanced m told relations t (map worker_disk_actor ws) (map worker_disk_actor vs)
@@ -87,7 +89,7 @@ module _ {W D : Type 0} (m : DiskGhosts D) (told : Option Told) (relations : ℕ
         ∙ sym (length-map ws worker_disk_actor));
     each = λ i d lt.
         (let inside : i < length ws = omega (arith, length-map ws worker_disk_actor) in
-        worked_at q ws vs i d inside all.as_many (λ e. (all.each i e inside).goes));
+        worked_at q ws vs i d inside all.as_many (λ e. (all.each i e inside).advanced));
   }
 
   joined_at : (hs hs' ks ks' : List (DiskActor W D)) → length hs' ≡ length hs
@@ -107,33 +109,36 @@ module _ {W D : Type 0} (m : DiskGhosts D) (told : Option Told) (relations : ℕ
   joined_at [] (h' ∷ hs') ks ks' one two first second i d lt = absurd (omega arith)
   joined_at (h ∷ hs) [] ks ks' one two first second i d lt = absurd (omega arith)
 
-  paid_on : (o : D) (h k : DiskActor W D) → CountersMatchMarks m o h
-      → DiskActorAdvanced m told relations t h k → CountersMatchMarks m o k
-  paid_on o h k paid goes =
-      let same : paid.disk ≡ goes.before =
-      some_same h.disk paid.disk goes.before paid.held goes.had in
-      let on : CountersFollowMarks (m.reads paid.disk) (m.reads goes.after) (m.faults paid.disk)
-      (m.faults goes.after) goes.more =
-      subst (λ (d : D). CountersFollowMarks (m.reads d) (m.reads goes.after) (m.faults d)
-      (m.faults goes.after)
-      goes.more) (sym same) goes.pays in record {
-        disk = goes.after;
-        held = goes.has;
-        pays = subst (λ (ms : List Mark). CountersFollowMarks (m.reads o) (m.reads goes.after)
+  paid_on : (o : D) (h k : DiskActor W D) → DiskCountersFollowMarks m o h
+      → DiskActorAdvanced m told relations t h k → DiskCountersFollowMarks m o k
+  paid_on o h k counters_are advanced =
+      let same : counters_are.disk ≡ advanced.before =
+      some_same h.disk counters_are.disk advanced.before counters_are.held advanced.had in
+      let on : CountersFollowMarks (m.reads counters_are.disk) (m.reads advanced.after)
+      (m.faults counters_are.disk)
+      (m.faults advanced.after) advanced.more =
+      subst (λ (d : D). CountersFollowMarks (m.reads d) (m.reads advanced.after) (m.faults d)
+      (m.faults advanced.after)
+      advanced.more) (sym same) advanced.counters_follow in record {
+        disk = advanced.after;
+        held = advanced.has;
+        counters_follow = subst (λ (ms : List Mark). CountersFollowMarks (m.reads o)
+            (m.reads advanced.after)
             (m.faults o)
-            (m.faults goes.after) ms) (sym goes.marks)
-            (pays_then _ _ _ _ _ _ h.actor.known.marks goes.more paid.pays on);
+            (m.faults advanced.after) ms) (sym advanced.marks)
+            (pays_then _ _ _ _ _ _ h.actor.known.marks advanced.more counters_are.counters_follow
+            on);
       }
 
   paid_again : (opened : List D) (hs ks : List (DiskActor W D))
-      → AllCountersMatch m told relations opened hs → length ks ≡ length hs
+      → AllDiskCountersFollowMarks m told relations opened hs → length ks ≡ length hs
       → ((i : ℕ) (d : DiskActor W D) → i < length hs
       → DiskActorAdvanced m told relations t (slice_index_or hs i d) (slice_index_or ks i d))
-      → AllCountersMatch m told relations opened ks
-  paid_again opened hs ks paid same goes = record {
-    as_many = paid.as_many ∙ sym same;
+      → AllDiskCountersFollowMarks m told relations opened ks
+  paid_again opened hs ks counters_are same advanced = record {
+    as_many = counters_are.as_many ∙ sym same;
     each = λ i o d lt. (let inside : i < length hs = omega (arith, same) in
-        paid_on _ _ _ (paid.each i o d inside) (goes i d inside));
+        paid_on _ _ _ (counters_are.each i o d inside) (advanced i d inside));
   }
 
 module _ {W D : Type 0} (m : DiskGhosts D) (told : Option Told) (relations : ℕ) where
@@ -169,17 +174,19 @@ module _ {W D : Type 0} (m : DiskGhosts D) (told : Option Told) (relations : ℕ
       s'.backends.items → length s'.backends.items ≡ length bs
       → length s'.jobs.items ≡ length s.jobs.items → s'.opened ≡ s.opened → s'.actors ≡ s.actors
       → s'.disks ≡ s.disks → IsScan m told relations s'
-  scan_again s s' bs ws is table begun served waiting worked goes all many jobs opened actors
+  scan_again s s' bs ws is table begun served waiting workers_served advanced all many jobs opened
+      actors
       disks =
       record {
         backends_are = (let c = ap (λ (n : TableView). n.config.backends) table in
             let b = ap length begun in omega (arith, is.backends_are));
         workers_are = (let c = ap (λ (n : TableView). n.config.runners) table in
-            let w = ap length served in omega (arith, is.workers_are, worked.as_many));
+            let w = ap length served in omega (arith, is.workers_are, workers_served.as_many));
         some = waiting.some;
         backends_stand = waiting.backends;
-        workers_stand = λ i d lt. (worked.each i d (omega (arith, worked.as_many))).is;
-        paid = paid_all;
+        workers_stand = λ i d lt. (workers_served.each i d
+            (omega (arith, workers_served.as_many))).is;
+        counters_are = paid_all;
         all_list_in = all;
         room = waiting.room;
         few_unread = waiting.few_unread;
@@ -193,7 +200,7 @@ module _ {W D : Type 0} (m : DiskGhosts D) (told : Option Told) (relations : ℕ
       in_all : length s'.backends.items + length s'.workers.items
           ≡ length s.backends.items + length s.workers.items
       in_all = let b = ap length begun in let w = ap length served in
-          omega (arith, many, worked.as_many)
+          omega (arith, many, workers_served.as_many)
 
       fits_actors : length s'.backends.items + length s'.workers.items ≤ vec_capacity s.actors
       fits_actors = omega (arith, in_all, is.actors_fit)
@@ -212,7 +219,7 @@ module _ {W D : Type 0} (m : DiskGhosts D) (told : Option Told) (relations : ℕ
       workers_went : AllAdvanced m told relations s'.shared.table (map worker_disk_actor ws)
           (map worker_disk_actor s'.workers.items)
       workers_went = workers_go m told relations s'.shared.table s'.shared.queue ws
-          s'.workers.items worked
+          s'.workers.items workers_served
 
       go : (i : ℕ) (d : DiskActor W D) → i < length disk_actors
           → DiskActorAdvanced m told relations s'.shared.table (slice_index_or disk_actors i d)
@@ -220,20 +227,21 @@ module _ {W D : Type 0} (m : DiskGhosts D) (told : Option Told) (relations : ℕ
       go i d lt =
           joined_at m told relations s'.shared.table (map backend_disk_actor bs)
           (map backend_disk_actor s'.backends.items) (map worker_disk_actor ws)
-          (map worker_disk_actor s'.workers.items) goes.as_many workers_went.as_many goes.each
+          (map worker_disk_actor s'.workers.items) advanced.as_many workers_went.as_many
+          advanced.each
           workers_went.each i d lt
 
       disk_actors_many : length (scan_disk_actors s') ≡ length disk_actors
       disk_actors_many =
           omega (
             arith,
-            goes.as_many,
+            advanced.as_many,
             workers_went.as_many,
             length-append (map backend_disk_actor bs) (map worker_disk_actor ws),
             length-append (map backend_disk_actor s'.backends.items)
                 (map worker_disk_actor s'.workers.items),
           )
 
-      paid_all : AllCountersMatch m told relations (opened_disks s') (scan_disk_actors s')
+      paid_all : AllDiskCountersFollowMarks m told relations (opened_disks s') (scan_disk_actors s')
       paid_all = rw opened (paid_again m told relations s'.shared.table (opened_disks s) disk_actors
-          (scan_disk_actors s') (rw disk_actors_are is.paid) disk_actors_many go)
+          (scan_disk_actors s') (rw disk_actors_are is.counters_are) disk_actors_many go)

@@ -8,11 +8,12 @@ use Rattle.std.proofs.lemmas.List.Elements.{All-nil, All-cons, All-head, All-tai
 use Rattle.std.proofs.lemmas.List.Sums.{sum_by-append}
 use Rattle.page_check.specs.Told.{Told}
 use Rattle.aio_word.specs.Events.{lives_ended}
-use Rattle.aio_word.specs.Tokens.{failed_results}
+use Rattle.aio_word.specs.Tokens.{failed_result_count}
 use Rattle.aio_handle.specs.ContractViews.{TableView}
 use Rattle.method_worker.specs.QueueViews.{QueueView}
-use Rattle.read_stream.specs.ActorProgress.{local_marks}
-use Rattle.scan_rounds.specs.DiskActors.{DiskGhosts, IsBackend, DiskActorAdvanced, HasRoom}
+use Rattle.read_stream.specs.ActorProgress.{local_mark_count}
+use Rattle.aio_disk.specs.declared.disk.Disk.{Ghosts as DiskGhosts}
+use Rattle.scan_rounds.specs.DiskActors.{IsBackend, DiskActorAdvanced, ActorHasRoom}
 use Rattle.scan_rounds.specs.DiskActors.{backend_options}
 use Rattle.scan_rounds.specs.Jobs.{IsFresh, IsListed, AreAnswered, entries_of_job, is_unread}
 use Rattle.scan_rounds.specs.ListOptions.{ListOptions}
@@ -68,15 +69,15 @@ module _ {W D : Type 0} (m : DiskGhosts D) (told : Option Told) (relations : ℕ
     as_many = omega (arith, length-append cs ds, length-append gs bs, one.as_many, two.as_many);
     jobs_are = omega (arith, length-append vs ws, length-append xs ys, one.jobs_are, two.jobs_are);
     backends = All-append (IsBackend m told relations t q) cs ds one.backends two.backends;
-    goes = each_joined (λ (b c : Backend W D). DiskActorAdvanced m told relations t b.disk_actor
-        c.disk_actor) gs bs cs ds one.as_many one.goes two.goes;
+    advanced = each_joined (λ (b c : Backend W D). DiskActorAdvanced m told relations t b.disk_actor
+        c.disk_actor) gs bs cs ds one.as_many one.advanced two.advanced;
     lived = each_joined (λ (b c : Backend W D). (h : ℕ)
         → lives_ended h c.disk_actor.actor.known.marks ≤ lives_ended h
         b.disk_actor.actor.known.marks + more)
         gs bs cs ds one.as_many one.lived two.lived;
     options_same = each_joined (λ (b c : Backend W D). backend_options c ≡ backend_options b)
         gs bs cs ds one.as_many one.options_same two.options_same;
-    taken = (let f : Backend W D → ℕ = λ b. local_marks b.disk_actor.actor.known.marks in
+    taken = (let f : Backend W D → ℕ = λ b. local_mark_count b.disk_actor.actor.known.marks in
         let w : Job → ℕ = λ j. length (entries_of_job block_filter j) in
         omega (
           arith,
@@ -86,7 +87,7 @@ module _ {W D : Type 0} (m : DiskGhosts D) (told : Option Told) (relations : ℕ
           sum_by-append f gs bs,
           sum_by-append w xs ys,
         ));
-    unread = (let f : Backend W D → ℕ = λ b. failed_results b.disk_actor.actor.known.marks in
+    unread = (let f : Backend W D → ℕ = λ b. failed_result_count b.disk_actor.actor.known.marks in
         let w : Job → ℕ = λ j. cond (is_unread j.ending) 1 0 in
         omega (
           arith,
@@ -108,7 +109,7 @@ module _ {W D : Type 0} (m : DiskGhosts D) (told : Option Told) (relations : ℕ
     as_many = refl;
     jobs_are = refl;
     backends = λ i d lt. absurd (omega arith);
-    goes = λ i d lt. absurd (omega arith);
+    advanced = λ i d lt. absurd (omega arith);
     lived = λ i d lt. absurd (omega arith);
     options_same = λ i d lt. absurd (omega arith);
     taken = omega arith;
@@ -139,7 +140,7 @@ module _ {W D : Type 0} (m : DiskGhosts D) (told : Option Told) (relations : ℕ
       → MayTurn m told relations t q share bs ks → MayTurn m told relations t q share (b ∷ []) js
   may_share share i b bs xs js ys ks lt is part may = record {
     backends = one (IsBackend m told relations t q) may.backends;
-    room = one (λ (x : Backend W D). HasRoom (64 * share) x.disk_actor.actor) may.room;
+    room = one (λ (x : Backend W D). ActorHasRoom (64 * share) x.disk_actor.actor) may.room;
     fresh = all_front (IsFresh relations) js ys (all_back (IsFresh relations) xs (js ++ ys)
         (subst (λ (l : List Job). All (IsFresh relations) l) part may.fresh));
   }

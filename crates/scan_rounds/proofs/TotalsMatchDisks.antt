@@ -11,18 +11,21 @@ use Rattle.page_check.specs.Told.{Told}
 use Rattle.aio_word.specs.declared.Config.{Config}
 use Rattle.aio_word.specs.declared.Known.{Known}
 use Rattle.aio_word.specs.Stands.{IsIn}
-use Rattle.aio_word.specs.Tokens.{claimed_marks, io_marks, failed_marks, failed_results}
+use Rattle.aio_word.specs.Tokens.{claimed_mark_count, io_mark_count, failed_mark_count}
+use Rattle.aio_word.specs.Tokens.{failed_result_count}
 use Rattle.aio_word.specs.Totals.{by_runners}
 use Rattle.aio_word.proofs.ListWithMark.{get_or-in}
 use Rattle.aio_word.proofs.ReplacedElement.{in-right}
-use Rattle.aio_handle.specs.Closing.{HasNoTokens, NoneHasTokens, AreTotals, TotalsView}
+use Rattle.aio_handle.specs.Closing.{HasNoOwnerTokens, NoneHasOwnerTokens, AreTotals, TotalsView}
 use Rattle.aio_handle.specs.Execution.{CountersFollowMarks, last_count}
 use Rattle.aio_handle.specs.ContractViews.{TableView, ActorView, IsActorOf, actor_known}
 use Rattle.aio_handle.proofs.FailedResultsHaveExecutions.{failed_results_few}
-use Rattle.read_stream.specs.ActorProgress.{local_marks}
-use Rattle.scan_rounds.specs.DiskActors.{DiskGhosts, IsDiskActor}
-use Rattle.scan_rounds.specs.Rounds.{backend_disk_actor, worker_disk_actor, results_taken}
-use Rattle.scan_rounds.specs.Scans.{AllCountersMatch, IsScan, IsFinished, HasDisk, actor_of}
+use Rattle.read_stream.specs.ActorProgress.{local_mark_count}
+use Rattle.aio_disk.specs.declared.disk.Disk.{Ghosts as DiskGhosts}
+use Rattle.scan_rounds.specs.DiskActors.{IsDiskActor}
+use Rattle.scan_rounds.specs.Rounds.{backend_disk_actor, worker_disk_actor, results_taken_count}
+use Rattle.scan_rounds.specs.Scans.{AllDiskCountersFollowMarks, IsScan, IsFinished, HasDisk}
+use Rattle.scan_rounds.specs.Scans.{actor_of}
 use Rattle.scan_rounds.specs.Scans.{disk_of}
 use Rattle.scan_rounds.specs.Scans.{scan_disk_actors, lists_of, opened_disks}
 use Rattle.scan_rounds.specs.declared.disk_actor.DiskActor.{DiskActor}
@@ -90,105 +93,106 @@ module _ {W D : Type 0} (m : DiskGhosts D) (told : Option Told) (relations : ℕ
     none : Paid [] [] []
     more : (o d : D) (h : DiskActor W D) (os ds : List D) (hs : List (DiskActor W D))
         → CountersFollowMarks (m.reads o) (m.reads d) (m.faults o) (m.faults d) h.actor.known.marks
-        → (m.tells d ≡ told) × (m.has d ≡ relations)
+        → (m.told d ≡ told) × (m.relations d ≡ relations)
         → Paid os ds hs → Paid (o ∷ os) (d ∷ ds) (h ∷ hs)
 
   all-paid : (os ds : List D) (hs : List (DiskActor W D)) → map Some ds ≡ map disk_of hs
-      → AllCountersMatch m told relations os hs → All (IsDiskActor m told relations t) hs
+      → AllDiskCountersFollowMarks m told relations os hs → All (IsDiskActor m told relations t) hs
       → Paid os ds hs
-  all-paid [] [] [] are paid stand = none
-  all-paid (o ∷ os) (d ∷ ds) (h ∷ hs) are paid stand =
+  all-paid [] [] [] are counters_are stand = none
+  all-paid (o ∷ os) (d ∷ ds) (h ∷ hs) are counters_are stand =
       let has : h.disk ≡ Some d = cc in
       let rest : map Some ds ≡ map disk_of hs = cc in
       let is = stand 0 h (omega arith) in
-      let first = paid.each 0 o h (omega arith) in
+      let first = counters_are.each 0 o h (omega arith) in
       let is-d : is.disk ≡ d = (let e = is.held in cc) in
       let first-d : first.disk ≡ d = (let e = first.held in cc) in
       more o d h os ds hs
       (subst
       (λ (x : D). CountersFollowMarks (m.reads o) (m.reads x) (m.faults o)
       (m.faults x) h.actor.known.marks)
-      first-d first.pays)
-      (subst (λ (x : D). (m.tells x ≡ told) × (m.has x ≡ relations)) is-d is.tells)
+      first-d first.counters_follow)
+      (subst (λ (x : D). (m.told x ≡ told) × (m.relations x ≡ relations)) is-d is.tells)
       (all-paid os ds hs rest
       record {
-        as_many = omega (arith, paid.as_many);
-        each = λ i x y lt. paid.each (suc i) x y (omega arith);
+        as_many = omega (arith, counters_are.as_many);
+        each = λ i x y lt. counters_are.each (suc i) x y (omega arith);
       }
       (λ k x lt. stand (suc k) x (omega arith)))
-  all-paid [] ds (h ∷ hs) are paid stand = absurd (omega (arith, paid.as_many))
-  all-paid (o ∷ os) ds [] are paid stand = absurd (omega (arith, paid.as_many))
-  all-paid [] (d ∷ ds) [] are paid stand = absurd (omega (arith, ap length are))
-  all-paid (o ∷ os) [] (h ∷ hs) are paid stand = absurd (omega (arith, ap length are))
+  all-paid [] ds (h ∷ hs) are counters_are stand = absurd (omega (arith, counters_are.as_many))
+  all-paid (o ∷ os) ds [] are counters_are stand = absurd (omega (arith, counters_are.as_many))
+  all-paid [] (d ∷ ds) [] are counters_are stand = absurd (omega (arith, ap length are))
+  all-paid (o ∷ os) [] (h ∷ hs) are counters_are stand = absurd (omega (arith, ap length are))
 
   paid-lengths : (os ds : List D) (hs : List (DiskActor W D)) → Paid os ds hs
       → (length ds ≡ length os) × (length hs ≡ length ds)
   paid-lengths _ _ _ none = (refl, refl)
-  paid-lengths _ _ _ (more o d h os ds hs pays tells p) =
+  paid-lengths _ _ _ (more o d h os ds hs counters_follow tells p) =
       let (a, b) = paid-lengths os ds hs p in (omega arith, omega arith)
 
   paid-tell : (os ds : List D) (hs : List (DiskActor W D)) → Paid os ds hs
-      → All (λ (d : D). (m.tells d ≡ told) × (m.has d ≡ relations)) ds
+      → All (λ (d : D). (m.told d ≡ told) × (m.relations d ≡ relations)) ds
   paid-tell _ _ _ none k x lt = absurd (omega arith)
-  paid-tell _ _ _ (more o d h os ds hs pays tells p) zero x lt = tells
-  paid-tell _ _ _ (more o d h os ds hs pays tells p) (suc k) x lt =
+  paid-tell _ _ _ (more o d h os ds hs counters_follow tells p) zero x lt = tells
+  paid-tell _ _ _ (more o d h os ds hs counters_follow tells p) (suc k) x lt =
       paid-tell os ds hs p k x (omega arith)
 
   paid-reads : (os ds : List D) (hs : List (DiskActor W D)) → Paid os ds hs
       → All (λ (d : D). m.reads d < last_count) ds
-      → sum_by (λ (h : DiskActor W D). io_marks h.actor.known.marks) hs + sum_by m.reads os
+      → sum_by (λ (h : DiskActor W D). io_mark_count h.actor.known.marks) hs + sum_by m.reads os
       ≡ sum_by m.reads ds
   paid-reads _ _ _ none below = refl
-  paid-reads _ _ _ (more o d h os ds hs pays tells p) below =
+  paid-reads _ _ _ (more o d h os ds hs counters_follow tells p) below =
       let rest = paid-reads os ds hs p (λ k x lt. below (suc k) x (omega arith)) in
-      let here = pays.read_each (below 0 d (omega arith)) in
+      let here = counters_follow.read_each (below 0 d (omega arith)) in
       omega (
         arith,
-        sum_by-cons (λ (x : DiskActor W D). io_marks x.actor.known.marks) h hs,
+        sum_by-cons (λ (x : DiskActor W D). io_mark_count x.actor.known.marks) h hs,
         sum_by-cons m.reads o os,
         sum_by-cons m.reads d ds,
       )
 
   paid-faults : (os ds : List D) (hs : List (DiskActor W D)) → Paid os ds hs
       → All (λ (d : D). m.faults d < last_count) ds
-      → sum_by (λ (h : DiskActor W D). failed_marks h.actor.known.marks) hs + sum_by m.faults os
+      → sum_by (λ (h : DiskActor W D). failed_mark_count h.actor.known.marks) hs
+      + sum_by m.faults os
       ≤ sum_by m.faults ds
   paid-faults _ _ _ none below = omega arith
-  paid-faults _ _ _ (more o d h os ds hs pays tells p) below =
+  paid-faults _ _ _ (more o d h os ds hs counters_follow tells p) below =
       let rest = paid-faults os ds hs p (λ k x lt. below (suc k) x (omega arith)) in
-      let here = pays.fault_each (below 0 d (omega arith)) in
+      let here = counters_follow.fault_each (below 0 d (omega arith)) in
       omega (
         arith,
-        sum_by-cons (λ (x : DiskActor W D). failed_marks x.actor.known.marks) h hs,
+        sum_by-cons (λ (x : DiskActor W D). failed_mark_count x.actor.known.marks) h hs,
         sum_by-cons m.faults o os,
         sum_by-cons m.faults d ds,
       )
 
   paid-read : (os ds : List D) (hs : List (DiskActor W D)) → Paid os ds hs → (i : ℕ) (p : Known)
       (x : D) → i < length ds → m.reads (get_or ds i x) < last_count
-      → io_marks (get_or (lists_of hs) i p).marks + m.reads (get_or os i x)
+      → io_mark_count (get_or (lists_of hs) i p).marks + m.reads (get_or os i x)
       ≡ m.reads (get_or ds i x)
   paid-read _ _ _ none i p x lt below = absurd (omega arith)
-  paid-read _ _ _ (more o d h os ds hs pays tells q) zero p x lt below =
-      let here = pays.read_each below in omega arith
-  paid-read _ _ _ (more o d h os ds hs pays tells q) (suc i) p x lt below =
+  paid-read _ _ _ (more o d h os ds hs counters_follow tells q) zero p x lt below =
+      let here = counters_follow.read_each below in omega arith
+  paid-read _ _ _ (more o d h os ds hs counters_follow tells q) (suc i) p x lt below =
       paid-read os ds hs q i p x (omega arith) below
 
   paid-fault : (os ds : List D) (hs : List (DiskActor W D)) → Paid os ds hs → (i : ℕ) (p : Known)
       (x : D) → i < length ds → m.faults (get_or ds i x) < last_count
-      → failed_marks (get_or (lists_of hs) i p).marks + m.faults (get_or os i x)
+      → failed_mark_count (get_or (lists_of hs) i p).marks + m.faults (get_or os i x)
       ≤ m.faults (get_or ds i x)
   paid-fault _ _ _ none i p x lt below = absurd (omega arith)
-  paid-fault _ _ _ (more o d h os ds hs pays tells q) zero p x lt below =
-      let here = pays.fault_each below in omega arith
-  paid-fault _ _ _ (more o d h os ds hs pays tells q) (suc i) p x lt below =
+  paid-fault _ _ _ (more o d h os ds hs counters_follow tells q) zero p x lt below =
+      let here = counters_follow.fault_each below in omega arith
+  paid-fault _ _ _ (more o d h os ds hs counters_follow tells q) (suc i) p x lt below =
       paid-fault os ds hs q i p x (omega arith) below
 
   quiet-all : (hs : List (DiskActor W D)) → All (IsDiskActor m told relations t) hs
-      → NoneHasTokens (lists_of hs)
+      → NoneHasOwnerTokens (lists_of hs)
   quiet-all [] stand p i = absurd i
   quiet-all (h ∷ hs) stand p i = ⊎_elim
-      (λ e. subst HasNoTokens e (stand 0 h (omega arith)).rest)
+      (λ e. subst HasNoOwnerTokens e (stand 0 h (omega arith)).rest)
       (λ j. quiet-all hs (λ k d lt. stand (suc k) d (omega arith)) p j) i
 
 module _ {W D : Type 0} (m : DiskGhosts D) (told : Option Told) (relations : ℕ) (s : Scan W D)
@@ -212,7 +216,7 @@ module _ {W D : Type 0} (m : DiskGhosts D) (told : Option Told) (relations : ℕ
   of_table = All-map (IsActorOf s.shared.table) actor_of (scan_disk_actors s)
       (λ k d lt. (all-stand k d lt).of)
 
-  pub are_quiet : NoneHasTokens (lists_of (scan_disk_actors s))
+  pub are_quiet : NoneHasOwnerTokens (lists_of (scan_disk_actors s))
   are_quiet = quiet-all m told relations s.shared.table (scan_disk_actors s) all-stand
 
   abbrev config : Config
@@ -222,12 +226,13 @@ module _ {W D : Type 0} (m : DiskGhosts D) (told : Option Told) (relations : ℕ
   parts = lists_of (scan_disk_actors s)
 
   module _ (totals : TotalsView) (are : AreTotals config parts totals) where
-    all-executed : totals.incarnations ≡ sum_by (λ (p : Known). io_marks p.marks) parts
+    all-executed : totals.incarnations ≡ sum_by (λ (p : Known). io_mark_count p.marks) parts
     all-executed =
         let e = executed config parts are.ends in
         omega (arith, are.sum, are.by_backends_are, are.by_runners_are)
 
-    workers-took-none : All (λ w. local_marks w.disk_actor.actor.known.marks ≡ 0) s.workers.items
+    workers-took-none : All (λ w. local_mark_count w.disk_actor.actor.known.marks ≡ 0)
+        s.workers.items
     workers-took-none k w lt =
         let it = get_or s.workers.items k w in
         let is = scan.workers_stand k w lt in
@@ -243,25 +248,26 @@ module _ {W D : Type 0} (m : DiskGhosts D) (told : Option Told) (relations : ℕ
         runners_take_none config it.disk_actor.actor.known (are.ends.stands.each_list _ within)
         worker
 
-    all-taken : totals.incarnations ≡ results_taken s.backends.items
+    all-taken : totals.incarnations ≡ results_taken_count s.backends.items
     all-taken =
         let same = executed_as_taken config parts are.ends in
-        let sum = sum-scan (λ (p : Known). local_marks p.marks) s in
-        let none = sum-none (λ w. local_marks w.disk_actor.actor.known.marks) s.workers.items
+        let sum = sum-scan (λ (p : Known). local_mark_count p.marks) s in
+        let none = sum-none (λ w. local_mark_count w.disk_actor.actor.known.marks) s.workers.items
         workers-took-none in
         let all = all-executed in
         omega arith
 
-    few-results : s.unread ≤ sum_by (λ (p : Known). failed_marks p.marks) parts
+    few-results : s.unread ≤ sum_by (λ (p : Known). failed_mark_count p.marks) parts
     few-results =
         let law = failed_results_few config are.ends.words parts are.ends.stands in
-        let sum = sum-scan (λ (p : Known). failed_results p.marks) s in
+        let sum = sum-scan (λ (p : Known). failed_result_count p.marks) s in
         let few = scan.few_unread in
         omega arith
 
     runners-claimed-none : config.runners ≡ 0 → totals.by_runners ≡ 0
     runners-claimed-none alone =
-        let f : Known → ℕ = λ p. cond (nat_lt p.number config.backends) 0 (claimed_marks p.marks) in
+        let f : Known → ℕ = λ p. cond (nat_lt p.number config.backends) 0
+        (claimed_mark_count p.marks) in
         let sum = sum-scan f s in
         let bs = sum-none (λ b. f b.disk_actor.actor.known) s.backends.items (λ k b lt.
         let it = get_or s.backends.items k b in
@@ -270,21 +276,21 @@ module _ {W D : Type 0} (m : DiskGhosts D) (told : Option Told) (relations : ℕ
         let below = subst (λ (c : Config). it.disk_actor.actor.known.number < c.backends) same
         is.backend in
         below-none it.disk_actor.actor.known.number config.backends
-        (claimed_marks it.disk_actor.actor.known.marks) below) in
+        (claimed_mark_count it.disk_actor.actor.known.marks) below) in
         let ws = sum-none (λ w. f w.disk_actor.actor.known) s.workers.items (λ k w lt.
         absurd (omega (arith, scan.workers_are))) in
         let here : by_runners config parts ≡ 0 = omega arith in
         are.by_runners_are ∙ here
 
     pub finished : (disks : List D) → map Some disks ≡ map disk_of (scan_disk_actors s)
-        → IsFinished m told relations config s.unread (results_taken s.backends.items)
+        → IsFinished m told relations config s.unread (results_taken_count s.backends.items)
         (opened_disks s) disks parts totals
     finished disks held =
-        let paid = all-paid m told relations s.shared.table (opened_disks s) disks
-        (scan_disk_actors s) held scan.paid all-stand in
-        let (longs, actors) = paid-lengths m told relations s.shared.table _ _ _ paid in
-        let ios = sum-lists (λ (p : Known). io_marks p.marks) (scan_disk_actors s) in
-        let failures = sum-lists (λ (p : Known). failed_marks p.marks) (scan_disk_actors s) in
+        let counters_are = all-paid m told relations s.shared.table (opened_disks s) disks
+        (scan_disk_actors s) held scan.counters_are all-stand in
+        let (longs, actors) = paid-lengths m told relations s.shared.table _ _ _ counters_are in
+        let ios = sum-lists (λ (p : Known). io_mark_count p.marks) (scan_disk_actors s) in
+        let failures = sum-lists (λ (p : Known). failed_mark_count p.marks) (scan_disk_actors s) in
         let all = all-executed in
         let few = few-results in
         record {
@@ -292,13 +298,15 @@ module _ {W D : Type 0} (m : DiskGhosts D) (told : Option Told) (relations : ℕ
           parts_are = length-map (map actor_of (scan_disk_actors s)) actor_known
               ∙ (length-map (scan_disk_actors s) actor_of ∙ actors);
           disks_are = longs;
-          tell = paid-tell m told relations s.shared.table _ _ _ paid;
+          tell = paid-tell m told relations s.shared.table _ _ _ counters_are;
           each_read = λ below.
-              let sum = paid-reads m told relations s.shared.table _ _ _ paid below in omega arith;
+              let sum = paid-reads m told relations s.shared.table _ _ _ counters_are below in omega
+              arith;
           each_taken = all-taken;
-          each_own = λ i p d. paid-read m told relations s.shared.table _ _ _ paid i p d;
-          each_fault = λ i p d. paid-fault m told relations s.shared.table _ _ _ paid i p d;
+          each_own = λ i p d. paid-read m told relations s.shared.table _ _ _ counters_are i p d;
+          each_fault = λ i p d. paid-fault m told relations s.shared.table _ _ _ counters_are i p d;
           each_unread = λ below.
-              let sum = paid-faults m told relations s.shared.table _ _ _ paid below in omega arith;
+              let sum = paid-faults m told relations s.shared.table _ _ _ counters_are below in
+              omega arith;
           no_workers = runners-claimed-none;
         }

@@ -13,7 +13,7 @@ use Rattle.aio_word.specs.declared.Mark.{Mark}
 use Rattle.aio_word.specs.declared.WaitRef.{WaitRef}
 use Rattle.aio_word.specs.Events.{make_mark}
 use Rattle.aio_word.specs.Stands.{IsIn}
-use Rattle.aio_word.specs.Tokens.{failed_results, is_failed_result}
+use Rattle.aio_word.specs.Tokens.{failed_result_count, is_failed_result}
 use Rattle.aio_word.proofs.ReplacedElement.{sum-in}
 use Rattle.aio_handle.specs.ContractViews.{ActorView}
 use Rattle.heap_scan.specs.Job.{endings_of}
@@ -29,22 +29,22 @@ abbrev E : Type 0
 E = Entry (Unit {0})
 
 pub results_more : (xs ys : List Mark)
-    → failed_results (xs ++ ys) ≡ failed_results xs + failed_results ys
+    → failed_result_count (xs ++ ys) ≡ failed_result_count xs + failed_result_count ys
 results_more xs ys = sum_by-append (λ (m : Mark). cond (is_failed_result m.kind) 1 0) xs ys
 
 failed_one : (p q : Known) (t : WaitRef) (more : List Mark) → q.marks ≡ p.marks ++ more
     → IsIn (make_mark t (kind.Local Failed)) more
-    → failed_results p.marks + 1 ≤ failed_results q.marks
+    → failed_result_count p.marks + 1 ≤ failed_result_count q.marks
 failed_one p q t more grown i =
     let one = sum-in (λ (m : Mark). cond (is_failed_result m.kind) 1 0) more
     (make_mark t (kind.Local Failed)) i in
     let all = results_more p.marks more in
-    let same : failed_results q.marks ≡ failed_results (p.marks ++ more) =
-    ap failed_results grown in
+    let same : failed_result_count q.marks ≡ failed_result_count (p.marks ++ more) =
+    ap failed_result_count grown in
     omega arith
 
 may_counted : (was : ActorView) (q : Known) (e : E) → MayBeUnread was q e
-    → failed_results was.known.marks + 1 ≤ failed_results q.marks
+    → failed_result_count was.known.marks + 1 ≤ failed_result_count q.marks
 may_counted was q e (io, f) = failed_one was.known q _ f.taken.0 f.taken.1 f.taken.2
 
 cause_of : (found : Option Reader) (may : E → Type 0) (entries : List E) (k : ℕ) (b : ℕ)
@@ -56,7 +56,7 @@ pub unread_after : (found : Option Reader) (was : ActorView) (q : Known) (entrie
     (pages : List (Given (Unit {0}))) (e : Ending)
     → IsAnswer found (MayBeUnread was q) entries
     (record { pages = pages; endings = endings_of (said_end e) })
-    → is_unread e ≡ true → failed_results was.known.marks + 1 ≤ failed_results q.marks
+    → is_unread e ≡ true → failed_result_count was.known.marks + 1 ≤ failed_result_count q.marks
 unread_after found was q entries pages (ending.Unread b) a is =
     let (x, may) = cause_of found (MayBeUnread was q) entries _ b a.endings.0 in
     may_counted was q x may
@@ -68,7 +68,8 @@ unread_after found was q entries pages ending.NoMemory a is = absurd (cc)
 -- a job that ended in Unread left one failed result more
 pub unread_counted : {block_filter : Option BlockFilter} (how : ListOptions) (told : Option Told)
     (was : ActorView) (q : Known) (j k : Job) → IsListed block_filter how told (MayBeUnread was q)
-    j k → is_unread k.ending ≡ true → failed_results was.known.marks + 1 ≤ failed_results q.marks
+    j k → is_unread k.ending ≡ true → failed_result_count was.known.marks + 1
+    ≤ failed_result_count q.marks
 unread_counted {block_filter} how told was q j k l is =
     unread_after (reader_of how.zero told) was q (entries_of_job block_filter j)
     l.answer.pages k.ending l.answer.answers is

@@ -2,12 +2,12 @@
 use Rattle.std.proofs.Common.{ℕ, [], ◌∙◌, arith}
 use Rattle.aio_word.specs.declared.Known.{Known}
 use Rattle.aio_word.proofs.MoreMarksKeep.{mark_count-more}
-use Rattle.aio_handle.specs.Closing.{HasNoTokens}
+use Rattle.aio_handle.specs.Closing.{HasNoOwnerTokens}
 use Rattle.aio_handle.specs.Execution.{ExecutesAll}
 
 -- stays at rest
-pub rests_worked : (p q : Known) (s t g h : ℕ) → HasNoTokens p → ExecutesAll [] p q s t g h
-    → HasNoTokens q
+pub rests_worked : (p q : Known) (s t g h : ℕ) → HasNoOwnerTokens p → ExecutesAll [] p q s t g h
+    → HasNoOwnerTokens q
 rests_worked p q s t g h rest w = (
   w.grows.out ∙ rest.0,
   λ t. let none = w.took.owners t in

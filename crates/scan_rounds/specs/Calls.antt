@@ -4,12 +4,12 @@ use Rattle.std.specs.List.{All}
 use Rattle.page_check.specs.Told.{Told}
 use Rattle.aio_disk.specs.Counts.{raised_by}
 use Rattle.vis_map.specs.Bits.{Map}
+use Rattle.aio_disk.specs.declared.disk.Disk.{Ghosts as DiskGhosts}
 use Rattle.scan_rounds.specs.ListOptions.{ListOptions}
 use Rattle.scan_rounds.specs.BlockFilter.{BlockFilter}
 use Rattle.scan_rounds.specs.Jobs.{IsFresh, count_unskipped, unread_among, unread_in}
-use Rattle.scan_rounds.specs.DiskActors.{DiskGhosts}
 use Rattle.scan_rounds.specs.Progress.{IsClosedByFirst}
-use Rattle.scan_rounds.specs.Rounds.{AreListed, IsMapRead, results_taken}
+use Rattle.scan_rounds.specs.Rounds.{AreListed, IsMapRead, results_taken_count}
 use Rattle.scan_rounds.specs.Scans.{IsOpenedAgain, IsSameScan, IsScan, scan_options}
 use Rattle.scan_rounds.specs.declared.job.Ending.{Ending}
 use Rattle.scan_rounds.specs.declared.job.Job.{Job}
@@ -33,7 +33,8 @@ module _ {W D : Type 0} (m : DiskGhosts D) (told : Option Told) (relations : ℕ
     pub pages : map.pages ≡ was.pages
     pub room : s.room ≤ n.room + 65
     pub unread : n.unread ≡ raised_by (unread_in end) s.unread
-    pub taken : results_taken n.backends.items ≤ results_taken s.backends.items + was.pages
+    pub taken : results_taken_count n.backends.items ≤ results_taken_count s.backends.items
+        + was.pages
 
   -- a round may be made of these jobs, one for each of the first backends
   pub record MayRound (s : Scan W D) (jobs : List Job) : Type 0 where
@@ -53,7 +54,7 @@ module _ {W D : Type 0} (m : DiskGhosts D) (told : Option Told) (relations : ℕ
         told s.backends.items n.backends.items asked jobs
     pub room : s.room ≤ n.room + 64
     pub unread : n.unread ≡ raised_by (unread_among jobs) s.unread
-    pub taken : results_taken n.backends.items ≤ results_taken s.backends.items
+    pub taken : results_taken_count n.backends.items ≤ results_taken_count s.backends.items
         + count_unskipped block_filter asked
 
   -- all rounds of a job source may be made, without these blocks
@@ -81,5 +82,6 @@ module _ {W D : Type 0} (m : DiskGhosts D) (told : Option Told) (relations : ℕ
     pub more : ℕ
     pub raised : n.unread ≡ raised_by more s.unread
     pub enough : unread end ≤ unread job_source + more
-    pub taken : results_taken n.backends.items + unskipped_left end ≤ results_taken s.backends.items
+    pub taken : results_taken_count n.backends.items + unskipped_left end
+        ≤ results_taken_count s.backends.items
         + unskipped_left job_source

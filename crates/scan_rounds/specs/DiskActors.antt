@@ -5,16 +5,17 @@ use Rattle.page_check.specs.SynchronousAnswer.{Entry}
 use Rattle.page_check.specs.Told.{Told}
 use Rattle.aio_word.specs.declared.Mark.{Mark}
 use Rattle.aio_word.specs.Events.{lives_ended}
-use Rattle.aio_handle.specs.Closing.{HasNoTokens}
+use Rattle.aio_handle.specs.Closing.{HasNoOwnerTokens}
 use Rattle.aio_handle.specs.Execution.{CountersFollowMarks}
 use Rattle.aio_handle.specs.Free.{IsRoom}
 use Rattle.aio_handle.specs.ContractViews.{TableView, ActorView, IsActorOf, IsSameActor}
 use Rattle.read_stream.specs.StreamAnswers.{MayBeUnread}
 use Rattle.read_stream.specs.Desks.{IsFreeDesk}
-use Rattle.read_stream.specs.ActorProgress.{local_marks}
+use Rattle.read_stream.specs.ActorProgress.{local_mark_count}
 use Rattle.read_stream.specs.declared.desk.Desk.{Desk}
 use Rattle.method_worker.specs.QueueViews.{QueueView, IsSeatOf}
 use Rattle.vis_map.specs.Bits.{Map}
+use Rattle.aio_disk.specs.declared.disk.Disk.{Ghosts as DiskGhosts}
 use Rattle.scan_rounds.specs.ListOptions.{ListOptions, list_options}
 use Rattle.scan_rounds.specs.Jobs.{IsFresh, IsListed, entries_of_job, said_end}
 use Rattle.scan_rounds.specs.BlockFilter.{BlockFilter, unskipped_range, filter_of}
@@ -27,21 +28,9 @@ use Rattle.scan_rounds.specs.declared.backend.Backend.{Backend}
 use Rattle.scan_rounds.specs.declared.job.Job.{Job}
 use Rattle.scan_rounds.specs.declared.worker.Worker.{Worker}
 
--- the ghost functions of a disk
-pub record DiskGhosts (D : Type 0) : Type 0 where
-  pub tells : D → Option Told
-  pub has : D → ℕ
-  pub reads : D → ℕ
-  pub faults : D → ℕ
-
-abbrev pub disk_ghosts : {D : Type 0} → (D → Option Told) → (D → ℕ) → (D → ℕ) → (D → ℕ)
-    → DiskGhosts D
-disk_ghosts tells has reads faults =
-    record { tells = tells; has = has; reads = reads; faults = faults }
-
 -- each of its handles can have so many lives more, at least
-abbrev pub HasRoom : ℕ → ActorView → Type 0
-HasRoom least a = (room : ℕ) × IsRoom a.known.config a.known room × (least ≤ room)
+abbrev pub ActorHasRoom : ℕ → ActorView → Type 0
+ActorHasRoom least a = (room : ℕ) × IsRoom a.known.config a.known room × (least ≤ room)
 
 -- the blocks that a stream is to give
 abbrev pub entries_of_blocks : Blocks → List (Entry (Unit {0}))
@@ -62,9 +51,9 @@ module _ {W D : Type 0} (m : DiskGhosts D) (told : Option Told) (relations : ℕ
   pub record IsDiskActor (h : DiskActor W D) : Type 0 where
     pub disk : D
     pub held : h.disk ≡ Some disk
-    pub tells : (m.tells disk ≡ told) × (m.has disk ≡ relations)
+    pub tells : (m.told disk ≡ told) × (m.relations disk ≡ relations)
     pub of : IsActorOf t h.actor
-    pub rest : HasNoTokens h.actor.known
+    pub rest : HasNoOwnerTokens h.actor.known
 
   -- the same actor went on by these marks, and its disk has counted a read for each I/O that it
   -- has executed on the way, and a fault for each that failed
@@ -76,14 +65,14 @@ module _ {W D : Type 0} (m : DiskGhosts D) (told : Option Told) (relations : ℕ
     pub after : D
     pub had : h.disk ≡ Some before
     pub has : k.disk ≡ Some after
-    pub pays : CountersFollowMarks (m.reads before) (m.reads after) (m.faults before)
+    pub counters_follow : CountersFollowMarks (m.reads before) (m.reads after) (m.faults before)
         (m.faults after) more
 
   -- the actor may read these blocks at this desk
   pub record MayRead (h : DiskActor W D) (d : Desk W (Unit {0})) (b : Blocks) : Type 0 where
     pub disk_actor : IsDiskActor h
     pub backend : h.actor.known.number < h.actor.known.config.backends
-    pub room : HasRoom b.count h.actor
+    pub room : ActorHasRoom b.count h.actor
     pub desk : IsFreeDesk d
     pub relation_in : b.relation < relations
     pub within : b.first + b.count ≤ 2 ^ 32
@@ -92,11 +81,11 @@ module _ {W D : Type 0} (m : DiskGhosts D) (told : Option Told) (relations : ℕ
   pub record HasRead (holds : PagesPredicate) (h k : DiskActor W D) (d e : Desk W (Unit {0}))
       (b : Blocks) (end : Ending) : Type 0 where
     pub disk_actor : IsDiskActor k
-    pub goes : DiskActorAdvanced h k
+    pub advanced : DiskActorAdvanced h k
     pub lived : (n : ℕ) → lives_ended n k.actor.known.marks
         ≤ lives_ended n h.actor.known.marks + b.count
-    pub taken : local_marks k.actor.known.marks
-        ≤ local_marks h.actor.known.marks + length (entries_of_blocks b)
+    pub taken : local_mark_count k.actor.known.marks
+        ≤ local_mark_count h.actor.known.marks + length (entries_of_blocks b)
     pub desk : IsFreeDesk e × (e.zero ≡ d.zero)
     pub given : PagesConsumed holds d.zero told (MayBeUnread h.actor k.actor.known)
         (entries_of_blocks b) (said_end end)
@@ -105,7 +94,7 @@ module _ {W D : Type 0} (m : DiskGhosts D) (told : Option Told) (relations : ℕ
   pub record MayList (h : DiskActor W D) (d : Desk W (Unit {0})) (j : Job) : Type 0 where
     pub disk_actor : IsDiskActor h
     pub backend : h.actor.known.number < h.actor.known.config.backends
-    pub room : HasRoom 64 h.actor
+    pub room : ActorHasRoom 64 h.actor
     pub desk : IsFreeDesk d
     pub fresh : IsFresh relations j
 
@@ -113,10 +102,10 @@ module _ {W D : Type 0} (m : DiskGhosts D) (told : Option Told) (relations : ℕ
   pub record HasListed (block_filter : Option BlockFilter) (tuples : Bool) (h k : DiskActor W D)
       (d e : Desk W (Unit {0})) (j l : Job) : Type 0 where
     pub disk_actor : IsDiskActor k
-    pub goes : DiskActorAdvanced h k
+    pub advanced : DiskActorAdvanced h k
     pub lived : (n : ℕ) → lives_ended n k.actor.known.marks ≤ lives_ended n h.actor.known.marks + 64
-    pub taken : local_marks k.actor.known.marks
-        ≤ local_marks h.actor.known.marks + length (entries_of_job block_filter j)
+    pub taken : local_mark_count k.actor.known.marks
+        ≤ local_mark_count h.actor.known.marks + length (entries_of_job block_filter j)
     pub desk : IsFreeDesk e × (e.zero ≡ d.zero)
     pub listed : IsListed block_filter (list_options d.zero tuples) told
         (MayBeUnread h.actor k.actor.known) j l
@@ -147,7 +136,7 @@ module _ {W D : Type 0} (m : DiskGhosts D) (told : Option Told) (relations : ℕ
 
     pub record WorkerServed (w v : Worker W D) : Type 0 where
       pub is : IsWorker v
-      pub goes : DiskActorAdvanced w.disk_actor v.disk_actor
+      pub advanced : DiskActorAdvanced w.disk_actor v.disk_actor
 
 -- as it stands among what a thread is given
 unfoldable pub MayServe : {W D : Type 0} → DiskGhosts D → Option Told → ℕ → TableView → QueueView

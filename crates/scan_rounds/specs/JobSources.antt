@@ -3,9 +3,9 @@ use Rattle.std.specs.Prelude.{◌≡◌, ℕ, ◌*◌, ◌-◌, ◌≤◌, List,
 use Rattle.page_check.specs.Told.{Told}
 use Rattle.aio_handle.specs.ContractViews.{TableView}
 use Rattle.method_worker.specs.QueueViews.{QueueView}
+use Rattle.aio_disk.specs.declared.disk.Disk.{Ghosts as DiskGhosts}
 use Rattle.scan_rounds.specs.ListOptions.{ListOptions}
 use Rattle.scan_rounds.specs.BlockFilter.{BlockFilter}
-use Rattle.scan_rounds.specs.DiskActors.{DiskGhosts}
 use Rattle.scan_rounds.specs.Rounds.{AllHaveOptions}
 use Rattle.scan_rounds.specs.Progress.{AreWaiting, RoundsAdvanced}
 use Rattle.scan_rounds.specs.declared.backend.Backend.{Backend}

@@ -12,10 +12,10 @@ use Rattle.method_worker.specs.QueueViews.{IsSeatOf}
 use Rattle.read_stream.specs.Desks.{IsFreeDesk}
 use Rattle.read_stream.specs.declared.desk.Desk.{Desk}
 use Rattle.read_stream.specs.declared.desk.Settings.{Settings}
+use Rattle.aio_disk.specs.declared.disk.Disk.{Ghosts as DiskGhosts}
 use Rattle.scan_rounds.specs.ListOptions.{list_options}
-use Rattle.scan_rounds.specs.DiskActors.{DiskGhosts}
 use Rattle.scan_rounds.specs.Rings.{IsRingOf}
-use Rattle.scan_rounds.specs.Rounds.{backend_disk_actor, worker_disk_actor, results_taken}
+use Rattle.scan_rounds.specs.Rounds.{backend_disk_actor, worker_disk_actor, results_taken_count}
 use Rattle.scan_rounds.specs.Scans.{IsScan, actor_of, disk_of, scan_options, opened_disks}
 use Rattle.scan_rounds.specs.declared.backend.Backend.{Backend}
 use Rattle.scan_rounds.specs.declared.disk_actor.DiskActor.{DiskActor}
@@ -181,7 +181,7 @@ pub record IsOpened {W D : Type 0} (m : DiskGhosts D) (told : Option Told) (rela
   pub config : s.shared.table.config ≡ config_of settings start
   pub set_up : All (IsSetUp settings) s.backends.items
   pub opened : opened_disks s ≡ disks
-  pub taken : results_taken s.backends.items ≡ 0
+  pub taken : results_taken_count s.backends.items ≡ 0
   -- up to the last generation
   pub room : s.room ≡ 2 ^ 58 - 1 - start
   pub unread : s.unread ≡ 0

@@ -6,13 +6,14 @@ use Rattle.page_check.specs.Told.{Told}
 use Rattle.aio_disk.specs.Counts.{raised_by}
 use Rattle.aio_handle.specs.ContractViews.{TableView}
 use Rattle.method_worker.specs.QueueViews.{QueueView, SeatView}
+use Rattle.aio_disk.specs.declared.disk.Disk.{Ghosts as DiskGhosts}
 use Rattle.scan_rounds.specs.BlockFilter.{BlockFilter}
-use Rattle.scan_rounds.specs.DiskActors.{DiskGhosts, IsBackend}
+use Rattle.scan_rounds.specs.DiskActors.{IsBackend}
 use Rattle.scan_rounds.specs.Jobs.{IsFresh, count_unskipped, unread_among}
 use Rattle.scan_rounds.specs.ListOptions.{ListOptions}
 use Rattle.scan_rounds.specs.Rounds.{AllHaveOptions, AreListed}
 use Rattle.scan_rounds.specs.Rounds.{IsLeastRoom, AllAdvanced, backend_disk_actor}
-use Rattle.scan_rounds.specs.Rounds.{failed_results_taken, results_taken}
+use Rattle.scan_rounds.specs.Rounds.{failed_results_taken, results_taken_count}
 use Rattle.scan_rounds.specs.declared.backend.Backend.{Backend}
 use Rattle.scan_rounds.specs.declared.job.Job.{Job}
 use Rattle.scan_rounds.specs.declared.rounds.Counts.{Counts}
@@ -42,7 +43,7 @@ module _ {W D : Type 0} (m : DiskGhosts D) (told : Option Told) (relations : ℕ
     pub go_on : AllAdvanced m told relations t (map backend_disk_actor bs)
         (map backend_disk_actor cs)
     pub room : before.room ≤ after.room + 64 * blocks
-    pub taken : results_taken cs ≤ results_taken bs + kept
+    pub taken : results_taken_count cs ≤ results_taken_count bs + kept
     pub more : ℕ
     pub raised : after.unread ≡ raised_by more before.unread
     pub enough : unread ≤ more
@@ -67,4 +68,4 @@ module _ {W D : Type 0} (m : DiskGhosts D) (told : Option Told) (relations : ℕ
     pub all_list_in : (how : ListOptions) → AllHaveOptions how bs → AllHaveOptions how cs
     pub room : before.room ≤ after.room + 64
     pub unread : after.unread ≡ raised_by (unread_among ks) before.unread
-    pub taken : results_taken cs ≤ results_taken bs + count_unskipped block_filter js
+    pub taken : results_taken_count cs ≤ results_taken_count bs + count_unskipped block_filter js

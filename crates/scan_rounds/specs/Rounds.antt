@@ -7,10 +7,11 @@ use Rattle.heap_scan.specs.Job.{job_entries}
 use Rattle.vis_map.specs.Bits.{Map}
 use Rattle.method_worker.specs.QueueViews.{QueueView}
 use Rattle.read_stream.specs.StreamAnswers.{MayBeUnread}
-use Rattle.aio_word.specs.Tokens.{failed_results}
-use Rattle.scan_rounds.specs.DiskActors.{DiskGhosts, WorkerServed, HasReadMap, HasRoom}
+use Rattle.aio_word.specs.Tokens.{failed_result_count}
+use Rattle.aio_disk.specs.declared.disk.Disk.{Ghosts as DiskGhosts}
+use Rattle.scan_rounds.specs.DiskActors.{WorkerServed, HasReadMap, ActorHasRoom}
 use Rattle.scan_rounds.specs.DiskActors.{DiskActorAdvanced, backend_options}
-use Rattle.read_stream.specs.ActorProgress.{local_marks}
+use Rattle.read_stream.specs.ActorProgress.{local_mark_count}
 use Rattle.scan_rounds.specs.ListOptions.{ListOptions}
 use Rattle.scan_rounds.specs.Jobs.{IsListed, said_end}
 use Rattle.scan_rounds.specs.BlockFilter.{BlockFilter}
@@ -29,13 +30,13 @@ module _ {W D : Type 0} where
   worker_disk_actor w = w.disk_actor
 
   -- each backend has room for so many lives more
-  abbrev pub HaveRoom : ℕ → List (Backend W D) → Type 0
-  HaveRoom least bs = All (λ (b : Backend W D). HasRoom least b.disk_actor.actor) bs
+  abbrev pub AllBackendsHaveRoom : ℕ → List (Backend W D) → Type 0
+  AllBackendsHaveRoom least bs = All (λ (b : Backend W D). ActorHasRoom least b.disk_actor.actor) bs
 
   -- the most lives for which each backend has room
   pub record IsLeastRoom (bs : List (Backend W D)) (room : ℕ) : Type 0 where
-    pub have : HaveRoom room bs
-    pub greatest : (n : ℕ) → HaveRoom n bs → n ≤ room
+    pub have : AllBackendsHaveRoom room bs
+    pub greatest : (n : ℕ) → AllBackendsHaveRoom n bs → n ≤ room
 
   -- each backend lists with these options
   abbrev pub AllHaveOptions : ListOptions → List (Backend W D) → Type 0
@@ -61,12 +62,13 @@ module _ {W D : Type 0} where
 
   -- how many results of failed I/Os the backends have taken
   abbrev pub failed_results_taken : List (Backend W D) → ℕ
-  failed_results_taken bs = sum_by (λ (b : Backend W D). failed_results
+  failed_results_taken bs = sum_by (λ (b : Backend W D). failed_result_count
       b.disk_actor.actor.known.marks) bs
 
   -- how many results of I/Os the backends have taken
-  abbrev pub results_taken : List (Backend W D) → ℕ
-  results_taken bs = sum_by (λ (b : Backend W D). local_marks b.disk_actor.actor.known.marks) bs
+  abbrev pub results_taken_count : List (Backend W D) → ℕ
+  results_taken_count bs = sum_by
+      (λ (b : Backend W D). local_mark_count b.disk_actor.actor.known.marks) bs
 
 module _ {W D : Type 0} (m : DiskGhosts D) (told : Option Told) (relations : ℕ)
     (t : TableView) where

@@ -6,13 +6,14 @@ use Rattle.std.specs.List.{All}
 use Rattle.page_check.specs.Told.{Told}
 use Rattle.aio_word.specs.declared.Config.{Config}
 use Rattle.aio_word.specs.declared.Known.{Known}
-use Rattle.aio_word.specs.Tokens.{io_marks, failed_marks}
+use Rattle.aio_word.specs.Tokens.{io_mark_count, failed_mark_count}
 use Rattle.aio_handle.specs.Closing.{AreTotals, TotalsView}
 use Rattle.aio_handle.specs.Execution.{CountersFollowMarks, last_count}
 use Rattle.aio_handle.specs.ContractViews.{ActorView, actor_known}
 use Rattle.method_worker.specs.QueueViews.{QueueView}
+use Rattle.aio_disk.specs.declared.disk.Disk.{Ghosts as DiskGhosts}
 use Rattle.scan_rounds.specs.ListOptions.{ListOptions, list_options}
-use Rattle.scan_rounds.specs.DiskActors.{DiskGhosts, IsBackend, IsWorker}
+use Rattle.scan_rounds.specs.DiskActors.{IsBackend, IsWorker}
 use Rattle.scan_rounds.specs.Rounds.{AllHaveOptions, IsLeastRoom, failed_results_taken}
 use Rattle.scan_rounds.specs.Rounds.{backend_disk_actor, worker_disk_actor}
 use Rattle.scan_rounds.specs.declared.backend.Backend.{Backend}
@@ -49,19 +50,21 @@ module _ {W D : Type 0} where
 
 -- the disk has counted, since it was so, a read for each I/O that the actor has executed, and a
 -- fault for each that failed
-pub record CountersMatchMarks {W D : Type 0} (m : DiskGhosts D) (opened : D) (h : DiskActor W D)
+pub record DiskCountersFollowMarks {W D : Type 0} (m : DiskGhosts D) (opened : D)
+    (h : DiskActor W D)
     : Type 0 where
   pub disk : D
   pub held : h.disk ≡ Some disk
-  pub pays : CountersFollowMarks (m.reads opened) (m.reads disk) (m.faults opened) (m.faults disk)
+  pub counters_follow : CountersFollowMarks (m.reads opened) (m.reads disk) (m.faults opened)
+      (m.faults disk)
       h.actor.known.marks
 
 module _ {W D : Type 0} (m : DiskGhosts D) (told : Option Told) (relations : ℕ) where
   -- each disk has counted what its actor has executed since the scan was opened
-  pub record AllCountersMatch (opened : List D) (hs : List (DiskActor W D)) : Type 0 where
+  pub record AllDiskCountersFollowMarks (opened : List D) (hs : List (DiskActor W D)) : Type 0 where
     pub as_many : length opened ≡ length hs
     pub each : (i : ℕ) (o : D) (d : DiskActor W D) → i < length hs
-        → CountersMatchMarks m (slice_index_or opened i o) (slice_index_or hs i d)
+        → DiskCountersFollowMarks m (slice_index_or opened i o) (slice_index_or hs i d)
 
   pub record IsScan (s : Scan W D) : Type 0 where
     pub backends_are : s.shared.table.config.backends ≡ length s.backends.items
@@ -71,7 +74,7 @@ module _ {W D : Type 0} (m : DiskGhosts D) (told : Option Told) (relations : ℕ
         s.backends.items
     pub workers_stand : All (IsWorker m told relations s.shared.table s.shared.queue)
         s.workers.items
-    pub paid : AllCountersMatch (opened_disks s) (scan_disk_actors s)
+    pub counters_are : AllDiskCountersFollowMarks (opened_disks s) (scan_disk_actors s)
     pub all_list_in : AllHaveOptions (scan_options s) s.backends.items
     pub room : IsLeastRoom s.backends.items s.room
     -- each job that ended in Unread has left the result of a failed I/O
@@ -91,7 +94,7 @@ module _ {D : Type 0} (m : DiskGhosts D) (told : Option Told) (relations : ℕ) 
     pub are : AreTotals c parts totals
     pub parts_are : length parts ≡ length disks
     pub disks_are : length disks ≡ length opened
-    pub tell : All (λ d. (m.tells d ≡ told) × (m.has d ≡ relations)) disks
+    pub tell : All (λ d. (m.told d ≡ told) × (m.relations d ≡ relations)) disks
     -- each incarnation was one read
     pub each_read : All (λ d. m.reads d < last_count) disks
         → totals.incarnations + sum_by m.reads opened ≡ sum_by m.reads disks
@@ -100,12 +103,12 @@ module _ {D : Type 0} (m : DiskGhosts D) (told : Option Told) (relations : ℕ) 
     -- each disk has counted a read for each I/O that its own actor has executed
     pub each_own : (i : ℕ) (p : Known) (d : D) → i < length disks
         → m.reads (slice_index_or disks i d) < last_count
-        → io_marks (slice_index_or parts i p).marks + m.reads (slice_index_or opened i d)
+        → io_mark_count (slice_index_or parts i p).marks + m.reads (slice_index_or opened i d)
         ≡ m.reads (slice_index_or disks i d)
     -- no actor has more failed executions than its own disk has counted faults
     pub each_fault : (i : ℕ) (p : Known) (d : D) → i < length disks
         → m.faults (slice_index_or disks i d) < last_count
-        → failed_marks (slice_index_or parts i p).marks + m.faults (slice_index_or opened i d)
+        → failed_mark_count (slice_index_or parts i p).marks + m.faults (slice_index_or opened i d)
         ≤ m.faults (slice_index_or disks i d)
     -- each job that ended in Unread has a fault of its own
     pub each_unread : All (λ d. m.faults d < last_count) disks

@@ -8,14 +8,15 @@ use Rattle.aio_word.specs.Events.{lives_ended}
 use Rattle.aio_handle.specs.ContractViews.{TableView}
 use Rattle.method_worker.specs.QueueViews.{QueueView}
 use Rattle.read_stream.specs.StreamAnswers.{MayBeUnread}
-use Rattle.read_stream.specs.ActorProgress.{local_marks}
-use Rattle.scan_rounds.specs.DiskActors.{DiskGhosts, IsBackend, DiskActorAdvanced, backend_options}
+use Rattle.read_stream.specs.ActorProgress.{local_mark_count}
+use Rattle.aio_disk.specs.declared.disk.Disk.{Ghosts as DiskGhosts}
+use Rattle.scan_rounds.specs.DiskActors.{IsBackend, DiskActorAdvanced, backend_options}
 use Rattle.scan_rounds.specs.Jobs.{IsFresh, IsListed, AreAnswered, entries_of_job, count_unskipped}
 use Rattle.scan_rounds.specs.Jobs.{unread_among}
 use Rattle.scan_rounds.specs.ListOptions.{ListOptions}
-use Rattle.scan_rounds.specs.Rounds.{AllHaveOptions, AreListed, HaveRoom}
+use Rattle.scan_rounds.specs.Rounds.{AllHaveOptions, AreListed, AllBackendsHaveRoom}
 use Rattle.scan_rounds.specs.Rounds.{failed_results_taken}
-use Rattle.scan_rounds.specs.Rounds.{results_taken}
+use Rattle.scan_rounds.specs.Rounds.{results_taken_count}
 use Rattle.scan_rounds.specs.BlockFilter.{BlockFilter}
 use Rattle.scan_rounds.specs.declared.backend.Backend.{Backend}
 use Rattle.scan_rounds.specs.declared.job.Job.{Job}
@@ -26,11 +27,11 @@ module _ {W D : Type 0} (m : DiskGhosts D) (told : Option Told) (relations : ℕ
   pub record BackendDidJob (block_filter : Option BlockFilter) (b : Backend W D) (j : Job)
       (f : Backend W D) (l : Job) : Type 0 where
     pub is : IsBackend m told relations t q f
-    pub goes : DiskActorAdvanced m told relations t b.disk_actor f.disk_actor
+    pub advanced : DiskActorAdvanced m told relations t b.disk_actor f.disk_actor
     pub lived : (h : ℕ) → lives_ended h f.disk_actor.actor.known.marks
         ≤ lives_ended h b.disk_actor.actor.known.marks + 64
-    pub taken : local_marks f.disk_actor.actor.known.marks
-        ≤ local_marks b.disk_actor.actor.known.marks + length (entries_of_job block_filter j)
+    pub taken : local_mark_count f.disk_actor.actor.known.marks
+        ≤ local_mark_count b.disk_actor.actor.known.marks + length (entries_of_job block_filter j)
     pub listed : IsListed block_filter (backend_options b) told
         (MayBeUnread b.disk_actor.actor f.disk_actor.actor.known) j l
     pub options_same : backend_options f ≡ backend_options b
@@ -38,7 +39,7 @@ module _ {W D : Type 0} (m : DiskGhosts D) (told : Option Told) (relations : ℕ
   -- each of these backends may do so many of these jobs
   pub record MayTurn (share : ℕ) (bs : List (Backend W D)) (js : List Job) : Type 0 where
     pub backends : All (IsBackend m told relations t q) bs
-    pub room : HaveRoom (64 * share) bs
+    pub room : AllBackendsHaveRoom (64 * share) bs
     pub fresh : All (IsFresh relations) js
 
   -- the backends have done the jobs, without the blocks that are left out; each handle has had at
@@ -48,7 +49,7 @@ module _ {W D : Type 0} (m : DiskGhosts D) (told : Option Told) (relations : ℕ
     pub as_many : length cs ≡ length bs
     pub jobs_are : length ks ≡ length js
     pub backends : All (IsBackend m told relations t q) cs
-    pub goes : (i : ℕ) (d : Backend W D) → i < length bs
+    pub advanced : (i : ℕ) (d : Backend W D) → i < length bs
         → DiskActorAdvanced m told relations t (slice_index_or bs i d).disk_actor
         (slice_index_or cs i d).disk_actor
     pub lived : (i : ℕ) (d : Backend W D) → i < length bs → (h : ℕ)
@@ -56,7 +57,7 @@ module _ {W D : Type 0} (m : DiskGhosts D) (told : Option Told) (relations : ℕ
         ≤ lives_ended h (slice_index_or bs i d).disk_actor.actor.known.marks + more
     pub options_same : (i : ℕ) (d : Backend W D) → i < length bs
         → backend_options (slice_index_or cs i d) ≡ backend_options (slice_index_or bs i d)
-    pub taken : results_taken cs ≤ results_taken bs + count_unskipped block_filter js
+    pub taken : results_taken_count cs ≤ results_taken_count bs + count_unskipped block_filter js
     pub unread : failed_results_taken bs + unread_among ks ≤ failed_results_taken cs
     pub answered : (how : ListOptions) → AllHaveOptions how bs
         → AreAnswered block_filter how told js ks

@@ -1,8 +1,7 @@
 //! A backend: an actor with its disk and its desk.
 ghost use Rattle.std.specs.Prelude.{◌≡◌, ◌<◌, [], IfSome, is_some};
 ghost use Rattle.method_worker.specs.QueueViews.{IsSeatOf};
-ghost use Rattle.scan_rounds.specs.DiskActors.{HasReadMap, HasRoom, IsBackend};
-ghost use Rattle.scan_rounds.specs.DiskActors.{disk_ghosts};
+ghost use Rattle.scan_rounds.specs.DiskActors.{HasReadMap, ActorHasRoom, IsBackend};
 ghost use Rattle.scan_rounds.specs.BlockFilter.{filter_of};
 ghost use Rattle.scan_rounds.specs.Jobs.{IsFresh};
 ghost use Rattle.scan_rounds.specs.Progress.{HasClosed};
@@ -42,13 +41,12 @@ impl<W: World, D: Disk> Backend<W, D> {
         skipping: Option<Skipping<'_>>,
         job: &mut Job,
     )
-        requires is { IsBackend (disk_ghosts D.told D.relations D.reads D.faults) W.told W.relations
-            shared.now.table shared.now.queue self.old }
-        requires room { HasRoom 64 self.old.disk_actor.actor }
+        requires is { IsBackend D.Disk W.told W.relations shared.now.table shared.now.queue
+            self.old }
+        requires room { ActorHasRoom 64 self.old.disk_actor.actor }
         requires fresh { IsFresh W.relations job.old }
-        ensures did { BackendDidJob (disk_ghosts D.told D.relations D.reads D.faults)
-            W.told W.relations shared.now.table shared.now.queue (filter_of skipping.entry) self.old
-            job.old self.new job.new }
+        ensures did { BackendDidJob D.Disk W.told W.relations shared.now.table shared.now.queue
+            (filter_of skipping.entry) self.old job.old self.new job.new }
     {
         let Backend {
             disk_actor,
@@ -88,14 +86,13 @@ impl<W: World, D: Disk> Backend<W, D> {
         map: &mut VisMap,
         warnings: &mut Vec<u8>,
     ) -> Ending
-        requires is { IsBackend (disk_ghosts D.told D.relations D.reads D.faults) W.told W.relations
-            shared.now.table shared.now.queue self.old }
-        requires room { HasRoom 65 self.old.disk_actor.actor }
+        requires is { IsBackend D.Disk W.told W.relations shared.now.table shared.now.queue
+            self.old }
+        requires room { ActorHasRoom 65 self.old.disk_actor.actor }
         requires relation { relation < W.relations }
         requires none { (map.old.added ≡ []) × (warnings.old.items ≡ []) }
-        ensures read { HasReadMap (disk_ghosts D.told D.relations D.reads D.faults)
-            W.told W.relations shared.now.table shared.now.queue self.old self.new relation
-            map.old.pages map.new warnings.new.items result }
+        ensures read { HasReadMap D.Disk W.told W.relations shared.now.table shared.now.queue
+            self.old self.new relation map.old.pages map.new warnings.new.items result }
         ensures pages { map.new.pages ≡ map.old.pages }
     {
         let Backend {

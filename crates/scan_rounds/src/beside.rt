@@ -3,7 +3,7 @@ ghost use Rattle.std.specs.Prelude.{◌≤◌, ◌<◌, ◌+◌, ◌-◌, length
 ghost use Rattle.std.specs.List.{All};
 ghost use Rattle.std.specs.Thread.{IsSync};
 ghost use Rattle.scan_rounds.specs.JobSources.{JobSourceAdvanced, MayRunRounds};
-ghost use Rattle.scan_rounds.specs.DiskActors.{MayServe, WorkerServed, disk_ghosts};
+ghost use Rattle.scan_rounds.specs.DiskActors.{MayServe, WorkerServed};
 ghost use Rattle.scan_rounds.specs.Progress.{IsClosedByFirst};
 ghost use Rattle.scan_rounds.specs.RoundStates.{HasRunRound, MayRunRound};
 ghost use Rattle.scan_rounds.specs.Rounds.{AllServed};
@@ -23,10 +23,9 @@ use std::thread::Threads;
 
 // Lets a worker serve the queue.
 fn serve_one<W: World, D: Disk, R: Wait>(rt: &R, shared: &SharedState<W>, worker: &mut Worker<W, D>)
-    requires may { MayServe (disk_ghosts D.told D.relations D.reads D.faults) W.told W.relations
-        shared.now.table shared.now.queue worker.old }
-    ensures worked { WorkerServed (disk_ghosts D.told D.relations D.reads D.faults)
-        W.told W.relations shared.now.table shared.now.queue worker.old worker.new }
+    requires may { MayServe D.Disk W.told W.relations shared.now.table shared.now.queue worker.old }
+    ensures workers_served { WorkerServed D.Disk W.told W.relations shared.now.table
+        shared.now.queue worker.old worker.new }
 {
     worker.run(rt, shared);
 }
@@ -37,21 +36,20 @@ fn run_workers<W: World + Send + Sync, D: Disk, R: Threads + Wait + Sync>(
     shared: &SharedState<W>,
     workers: &mut [Worker<W, D>],
 )
-    requires may { All (MayServe (disk_ghosts D.told D.relations D.reads D.faults)
-        W.told W.relations shared.now.table shared.now.queue) workers.old }
-    ensures worked { AllServed (disk_ghosts D.told D.relations D.reads D.faults) W.told W.relations
-        shared.now.table shared.now.queue workers.old workers.new }
+    requires may { All (MayServe D.Disk W.told W.relations shared.now.table shared.now.queue)
+        workers.old }
+    ensures workers_served { AllServed D.Disk W.told W.relations shared.now.table shared.now.queue
+        workers.old workers.new }
 {
     thread::for_each_mut(
         rt,
         workers,
         32,
         &|_, worker: &mut Worker<W, D>|
-            requires { MayServe (disk_ghosts D.told D.relations D.reads D.faults) W.told W.relations
-                shared.now.table shared.now.queue worker.old }
-            ensures { WorkerServed (disk_ghosts D.told D.relations D.reads D.faults)
-                W.told W.relations shared.entry.now.table shared.entry.now.queue worker.old
-                worker.new }
+            requires { MayServe D.Disk W.told W.relations shared.now.table shared.now.queue
+                worker.old }
+            ensures { WorkerServed D.Disk W.told W.relations shared.entry.now.table
+                shared.entry.now.queue worker.old worker.new }
         { serve_one(rt, shared, worker) },
     );
 }
@@ -62,10 +60,10 @@ pub(crate) fn serve_all<W: World + Send + Sync, D: Disk, R: Threads + Wait + Syn
     shared: &SharedState<W>,
     mut workers: Vec<Worker<W, D>>,
 ) -> Vec<Worker<W, D>>
-    requires may { All (MayServe (disk_ghosts D.told D.relations D.reads D.faults)
-        W.told W.relations shared.now.table shared.now.queue) workers.items }
-    ensures worked { AllServed (disk_ghosts D.told D.relations D.reads D.faults) W.told W.relations
-        shared.now.table shared.now.queue workers.items result.items }
+    requires may { All (MayServe D.Disk W.told W.relations shared.now.table shared.now.queue)
+        workers.items }
+    ensures workers_served { AllServed D.Disk W.told W.relations shared.now.table shared.now.queue
+        workers.items result.items }
 {
     run_workers(rt, shared, workers.as_mut_slice());
     workers
@@ -85,42 +83,38 @@ pub(crate) fn run_beside<
     workers: Vec<Worker<W, D>>,
     run_state: RunState<W, D, A>,
 ) -> (Vec<Worker<W, D>>, RunState<W, D, A>)
-    requires serve { All (MayServe (disk_ghosts D.told D.relations D.reads D.faults)
-        W.told W.relations shared.now.table shared.now.queue) workers.items }
-    requires may { MayRunRounds (disk_ghosts D.told D.relations D.reads D.faults) W.told W.relations
-        shared.now.table shared.now.queue A.blocks_left A.options A.block_filter
-        (filter_of skipping) run_state.backends.items run_state.jobs.items run_state.job_source
-        run_state.counts }
-    ensures worked { AllServed (disk_ghosts D.told D.relations D.reads D.faults) W.told W.relations
-        shared.now.table shared.now.queue workers.items result.0.items }
-    ensures goes { JobSourceAdvanced (disk_ghosts D.told D.relations D.reads D.faults)
-        W.told W.relations shared.now.table shared.now.queue A.blocks_left A.unskipped_left A.unread
-        A.options A.block_filter A.follows run_state.backends.items result.1.backends.items
-        run_state.jobs.items result.1.jobs.items run_state.job_source result.1.job_source
-        run_state.counts result.1.counts }
+    requires serve { All (MayServe D.Disk W.told W.relations shared.now.table shared.now.queue)
+        workers.items }
+    requires may { MayRunRounds D.Disk W.told W.relations shared.now.table shared.now.queue
+        A.blocks_left A.options A.block_filter (filter_of skipping) run_state.backends.items
+        run_state.jobs.items run_state.job_source run_state.counts }
+    ensures workers_served { AllServed D.Disk W.told W.relations shared.now.table shared.now.queue
+        workers.items result.0.items }
+    ensures advanced { JobSourceAdvanced D.Disk W.told W.relations shared.now.table shared.now.queue
+        A.blocks_left A.unskipped_left A.unread A.options A.block_filter A.follows
+        run_state.backends.items result.1.backends.items run_state.jobs.items result.1.jobs.items
+        run_state.job_source result.1.job_source run_state.counts result.1.counts }
     ensures over { A.is_over result.1.job_source }
     ensures closed { IsClosedByFirst shared.now.queue result.1.backends.items }
 {
     thread::join(
         rt,
         move || -> Vec<Worker<W, D>>
-            requires { All (MayServe (disk_ghosts D.told D.relations D.reads D.faults)
-                W.told W.relations shared.now.table shared.now.queue) workers.items × IsSync R.row }
-            ensures { AllServed (disk_ghosts D.told D.relations D.reads D.faults) W.told W.relations
-                shared.entry.now.table shared.entry.now.queue workers.items result.items }
+            requires { All (MayServe D.Disk W.told W.relations shared.now.table shared.now.queue)
+                workers.items × IsSync R.row }
+            ensures { AllServed D.Disk W.told W.relations shared.entry.now.table
+                shared.entry.now.queue workers.items result.items }
         { serve_all(rt, shared, workers) },
         move || -> RunState<W, D, A>
-            requires { MayRunRounds (disk_ghosts D.told D.relations D.reads D.faults)
-                W.told W.relations shared.now.table shared.now.queue A.blocks_left A.options
-                A.block_filter (filter_of skipping) run_state.backends.items run_state.jobs.items
-                run_state.job_source run_state.counts × IsSync R.row }
-            ensures { JobSourceAdvanced (disk_ghosts D.told D.relations D.reads D.faults)
-                W.told W.relations shared.entry.now.table shared.entry.now.queue A.blocks_left
-                A.unskipped_left A.unread A.options A.block_filter A.follows
-                run_state.backends.items result.backends.items run_state.jobs.items
-                result.jobs.items run_state.job_source result.job_source run_state.counts
-                result.counts × A.is_over result.job_source
-                × IsClosedByFirst shared.entry.now.queue result.backends.items }
+            requires { MayRunRounds D.Disk W.told W.relations shared.now.table shared.now.queue
+                A.blocks_left A.options A.block_filter (filter_of skipping) run_state.backends.items
+                run_state.jobs.items run_state.job_source run_state.counts × IsSync R.row }
+            ensures { JobSourceAdvanced D.Disk W.told W.relations shared.entry.now.table
+                shared.entry.now.queue A.blocks_left A.unskipped_left A.unread A.options
+                A.block_filter A.follows run_state.backends.items result.backends.items
+                run_state.jobs.items result.jobs.items run_state.job_source result.job_source
+                run_state.counts result.counts × A.is_over result.job_source × IsClosedByFirst
+                shared.entry.now.queue result.backends.items }
         { run_rounds(rt, shared, skipping, run_state) },
     )
 }
@@ -133,31 +127,28 @@ pub(crate) fn round_beside<W: World + Send + Sync, D: Disk, R: Threads + Wait + 
     workers: Vec<Worker<W, D>>,
     round_state: RoundState<W, D>,
 ) -> (Vec<Worker<W, D>>, RoundState<W, D>)
-    requires serve { All (MayServe (disk_ghosts D.told D.relations D.reads D.faults)
-        W.told W.relations shared.now.table shared.now.queue) workers.items }
-    requires may { MayRunRound (disk_ghosts D.told D.relations D.reads D.faults) W.told W.relations
-        shared.now.table shared.now.queue round_state }
-    ensures worked { AllServed (disk_ghosts D.told D.relations D.reads D.faults) W.told W.relations
-        shared.now.table shared.now.queue workers.items result.0.items }
-    ensures made { HasRunRound (disk_ghosts D.told D.relations D.reads D.faults)
-        W.told W.relations shared.now.table shared.now.queue (filter_of skipping.entry)
-        round_state result.1 }
+    requires serve { All (MayServe D.Disk W.told W.relations shared.now.table shared.now.queue)
+        workers.items }
+    requires may { MayRunRound D.Disk W.told W.relations shared.now.table shared.now.queue
+        round_state }
+    ensures workers_served { AllServed D.Disk W.told W.relations shared.now.table shared.now.queue
+        workers.items result.0.items }
+    ensures made { HasRunRound D.Disk W.told W.relations shared.now.table shared.now.queue
+        (filter_of skipping.entry) round_state result.1 }
 {
     thread::join(
         rt,
         move || -> Vec<Worker<W, D>>
-            requires { All (MayServe (disk_ghosts D.told D.relations D.reads D.faults)
-                W.told W.relations shared.now.table shared.now.queue) workers.items × IsSync R.row }
-            ensures { AllServed (disk_ghosts D.told D.relations D.reads D.faults) W.told W.relations
-                shared.entry.now.table shared.entry.now.queue workers.items result.items }
+            requires { All (MayServe D.Disk W.told W.relations shared.now.table shared.now.queue)
+                workers.items × IsSync R.row }
+            ensures { AllServed D.Disk W.told W.relations shared.entry.now.table
+                shared.entry.now.queue workers.items result.items }
         { serve_all(rt, shared, workers) },
         move || -> RoundState<W, D>
-            requires { MayRunRound (disk_ghosts D.told D.relations D.reads D.faults)
-                W.told W.relations shared.now.table shared.now.queue round_state
-                × IsSync R.row }
-            ensures { HasRunRound (disk_ghosts D.told D.relations D.reads D.faults)
-                W.told W.relations shared.entry.now.table shared.entry.now.queue
-                (filter_of skipping.entry) round_state result }
+            requires { MayRunRound D.Disk W.told W.relations shared.now.table shared.now.queue
+                round_state × IsSync R.row }
+            ensures { HasRunRound D.Disk W.told W.relations shared.entry.now.table
+                shared.entry.now.queue (filter_of skipping.entry) round_state result }
         { run_round(rt, shared, skipping, round_state) },
     )
 }

@@ -3,8 +3,8 @@ ghost use Rattle.std.specs.Prelude.{◌≡◌, ◌≤◌, ◌<◌, ◌+◌, ◌*
 ghost use Rattle.std.specs.List.{All};
 ghost use Rattle.scan_rounds.specs.Calls.{HasFollowed, HasMapped, HasRounded};
 ghost use Rattle.scan_rounds.specs.Calls.{MayFollow, MayMap, MayRound};
-ghost use Rattle.scan_rounds.specs.DiskActors.{IsBackend, disk_ghosts};
-ghost use Rattle.scan_rounds.specs.Rounds.{HaveRoom, IsFirstRead};
+ghost use Rattle.scan_rounds.specs.DiskActors.{IsBackend};
+ghost use Rattle.scan_rounds.specs.Rounds.{AllBackendsHaveRoom, IsFirstRead};
 ghost use Rattle.scan_rounds.specs.BlockFilter.{map_filter};
 
 use crate::backend::Backend;
@@ -30,15 +30,14 @@ fn read_by_first<W: World, D: Disk, R: Wait>(
     map: &mut VisMap,
     warnings: &mut Vec<u8>,
 ) -> Ending
-    requires backends { All (IsBackend (disk_ghosts D.told D.relations D.reads D.faults) W.told
-        W.relations shared.now.table shared.now.queue) backends.old }
+    requires backends { All (IsBackend D.Disk W.told W.relations shared.now.table shared.now.queue)
+        backends.old }
     requires some { 1 ≤ length backends.old }
-    requires room { HaveRoom 65 backends.old }
+    requires room { AllBackendsHaveRoom 65 backends.old }
     requires relation { relation < W.relations }
     requires none { (map.old.added ≡ []) × (warnings.old.items ≡ []) }
-    ensures read { IsFirstRead (disk_ghosts D.told D.relations D.reads D.faults) W.told W.relations
-        shared.now.table shared.now.queue backends.old backends.new relation map.old.pages map.new
-        warnings.new.items result }
+    ensures read { IsFirstRead D.Disk W.told W.relations shared.now.table shared.now.queue
+        backends.old backends.new relation map.old.pages map.new warnings.new.items result }
     ensures pages { map.new.pages ≡ map.old.pages }
 {
     backends[0].read_map(rt, shared, relation, map, warnings)
@@ -53,15 +52,14 @@ fn read_map<W: World, D: Disk, R: Wait>(
     map: &mut VisMap,
     warnings: &mut Vec<u8>,
 ) -> (Vec<Backend<W, D>>, Ending)
-    requires backends { All (IsBackend (disk_ghosts D.told D.relations D.reads D.faults) W.told
-        W.relations shared.now.table shared.now.queue) backends.items }
+    requires backends { All (IsBackend D.Disk W.told W.relations shared.now.table shared.now.queue)
+        backends.items }
     requires some { 1 ≤ length backends.items }
-    requires room { HaveRoom 65 backends.items }
+    requires room { AllBackendsHaveRoom 65 backends.items }
     requires relation { relation < W.relations }
     requires none { (map.old.added ≡ []) × (warnings.old.items ≡ []) }
-    ensures read { IsFirstRead (disk_ghosts D.told D.relations D.reads D.faults) W.told W.relations
-        shared.now.table shared.now.queue backends.items result.0.items relation map.old.pages
-        map.new warnings.new.items result.1 }
+    ensures read { IsFirstRead D.Disk W.told W.relations shared.now.table shared.now.queue
+        backends.items result.0.items relation map.old.pages map.new warnings.new.items result.1 }
     ensures pages { map.new.pages ≡ map.old.pages }
 {
     let ending = read_by_first(rt, shared, backends.as_mut_slice(), relation, map, warnings);
@@ -80,11 +78,10 @@ impl<W: World, D: Disk> Scan<W, D> {
         map: &mut VisMap,
         warnings: &mut Vec<u8>,
     ) -> Ending
-        requires may { MayMap (disk_ghosts D.told D.relations D.reads D.faults) W.told W.relations
-            relation self.old map.old warnings.old.items }
-        ensures mapped { HasMapped (disk_ghosts D.told D.relations D.reads D.faults)
-            W.told W.relations relation self.old self.new map.old map.new warnings.new.items
-            result }
+        requires may { MayMap D.Disk W.told W.relations relation self.old map.old
+            warnings.old.items }
+        ensures mapped { HasMapped D.Disk W.told W.relations relation self.old self.new map.old
+            map.new warnings.new.items result }
     {
         let Scan {
             alloc,
@@ -110,10 +107,9 @@ impl<W: World + Send + Sync, D: Disk> Scan<W, D> {
     /// Where no thread can be made the parts run one after the other, the backends first, each of
     /// which executes what no worker has claimed.
     pub fn round<R: Threads + Wait + Sync>(&mut self, rt: &R, jobs: &mut [Job])
-        requires may { MayRound (disk_ghosts D.told D.relations D.reads D.faults) W.told W.relations
-            self.old jobs.old }
-        ensures rounded { HasRounded (disk_ghosts D.told D.relations D.reads D.faults)
-            W.told W.relations None self.old self.new jobs.old jobs.new }
+        requires may { MayRound D.Disk W.told W.relations self.old jobs.old }
+        ensures rounded { HasRounded D.Disk W.told W.relations None self.old self.new jobs.old
+            jobs.new }
     {
         self.round_by(rt, None, jobs);
     }
@@ -126,10 +122,9 @@ impl<W: World + Send + Sync, D: Disk> Scan<W, D> {
         map: &VisMap,
         skip: Skip,
     )
-        requires may { MayRound (disk_ghosts D.told D.relations D.reads D.faults) W.told W.relations
-            self.old jobs.old }
-        ensures rounded { HasRounded (disk_ghosts D.told D.relations D.reads D.faults)
-            W.told W.relations (map_filter map.now skip) self.old self.new jobs.old jobs.new }
+        requires may { MayRound D.Disk W.told W.relations self.old jobs.old }
+        ensures rounded { HasRounded D.Disk W.told W.relations (map_filter map.now skip) self.old
+            self.new jobs.old jobs.new }
     {
         self.round_by(rt, Some(Skipping { map, skip }), jobs);
     }
@@ -139,11 +134,11 @@ impl<W: World + Send + Sync, D: Disk> Scan<W, D> {
     /// thread, one of them in the caller's. The workers live from the first turn to the last. It
     /// may wait.
     pub fn run<R: Threads + Wait + Sync, A: JobSource<W>>(&mut self, rt: &R, job_source: A) -> A
-        requires may { MayFollow (disk_ghosts D.told D.relations D.reads D.faults)
-            W.told W.relations A.blocks_left A.options A.block_filter None self.old job_source }
-        ensures followed { HasFollowed (disk_ghosts D.told D.relations D.reads D.faults) W.told
-            W.relations A.blocks_left A.unskipped_left A.unread A.options A.block_filter A.follows
-            A.is_over self.old self.new job_source result }
+        requires may { MayFollow D.Disk W.told W.relations A.blocks_left A.options A.block_filter
+            None self.old job_source }
+        ensures followed { HasFollowed D.Disk W.told W.relations A.blocks_left A.unskipped_left
+            A.unread A.options A.block_filter A.follows A.is_over self.old self.new job_source
+            result }
     {
         self.run_by(rt, None, job_source)
     }
@@ -156,12 +151,11 @@ impl<W: World + Send + Sync, D: Disk> Scan<W, D> {
         map: &VisMap,
         skip: Skip,
     ) -> A
-        requires may { MayFollow (disk_ghosts D.told D.relations D.reads D.faults)
-            W.told W.relations A.blocks_left A.options A.block_filter (map_filter map.now skip)
-            self.old job_source }
-        ensures followed { HasFollowed (disk_ghosts D.told D.relations D.reads D.faults) W.told
-            W.relations A.blocks_left A.unskipped_left A.unread A.options A.block_filter A.follows
-            A.is_over self.old self.new job_source result }
+        requires may { MayFollow D.Disk W.told W.relations A.blocks_left A.options A.block_filter
+            (map_filter map.now skip) self.old job_source }
+        ensures followed { HasFollowed D.Disk W.told W.relations A.blocks_left A.unskipped_left
+            A.unread A.options A.block_filter A.follows A.is_over self.old self.new job_source
+            result }
     {
         self.run_by(rt, Some(Skipping { map, skip }), job_source)
     }

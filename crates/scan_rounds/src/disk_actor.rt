@@ -3,7 +3,7 @@ ghost use Rattle.std.specs.Prelude.{◌≡◌, ◌≤◌, IfSome, Some, []};
 ghost use Rattle.method_worker.specs.QueueViews.{IsSeatOf};
 ghost use Rattle.scan_rounds.specs.DiskActors.{DiskActorAdvanced, HasListed, HasRead, IsDiskActor};
 ghost use Rattle.scan_rounds.specs.DiskActors.{MayList, MayRead};
-ghost use Rattle.scan_rounds.specs.DiskActors.{map_blocks, disk_ghosts};
+ghost use Rattle.scan_rounds.specs.DiskActors.{map_blocks};
 ghost use Rattle.scan_rounds.specs.Rings.{IsRingOf};
 ghost use Rattle.scan_rounds.specs.BlockFilter.{filter_of};
 ghost use Rattle.scan_rounds.specs.ConsumedPages.{HasPages};
@@ -52,13 +52,11 @@ impl<W: World, D: Disk> DiskActor<W, D> {
         blocks: Blocks<'_>,
         consumer: &mut C,
     ) -> Ending
-        requires may { MayRead (disk_ghosts D.told D.relations D.reads D.faults) W.told W.relations
-            shared.now.table self.old desk.old blocks }
+        requires may { MayRead D.Disk W.told W.relations shared.now.table self.old desk.old blocks }
         requires few { blocks.count ≤ C.most consumer.old }
         requires held { C.holds consumer.old [] }
-        ensures read { HasRead (disk_ghosts D.told D.relations D.reads D.faults) W.told W.relations
-            shared.now.table (C.holds consumer.new) self.old self.new desk.old desk.new
-            blocks.entry result }
+        ensures read { HasRead D.Disk W.told W.relations shared.now.table (C.holds consumer.new)
+            self.old self.new desk.old desk.new blocks.entry result }
         ensures stands_on { M.stands_on method.new ≡ M.stands_on method.old }
         ensures consumer { C.is_same consumer.old consumer.new }
     {
@@ -95,15 +93,13 @@ impl<W: World, D: Disk> DiskActor<W, D> {
         blocks: Blocks<'_>,
         consumer: &mut C,
     ) -> (IdleRingState<W>, Ending)
-        requires may { MayRead (disk_ghosts D.told D.relations D.reads D.faults) W.told W.relations
-            shared.now.table self.old desk.old blocks }
+        requires may { MayRead D.Disk W.told W.relations shared.now.table self.old desk.old blocks }
         requires few { blocks.count ≤ C.most consumer.old }
         requires held { C.holds consumer.old [] }
         requires ring { IsRingOf shared.now.queue ring }
         requires brand { L.queue ≡ Some shared.now.queue }
-        ensures read { HasRead (disk_ghosts D.told D.relations D.reads D.faults) W.told W.relations
-            shared.now.table (C.holds consumer.new) self.old self.new desk.old desk.new
-            blocks.entry result.1 }
+        ensures read { HasRead D.Disk W.told W.relations shared.now.table (C.holds consumer.new)
+            self.old self.new desk.old desk.new blocks.entry result.1 }
         ensures ring { IsRingOf shared.now.queue result.0 }
         ensures stands_on { M.stands_on method.new ≡ M.stands_on method.old }
         ensures consumer { C.is_same consumer.old consumer.new }
@@ -145,14 +141,12 @@ impl<W: World, D: Disk> DiskActor<W, D> {
         blocks: Blocks<'_>,
         consumer: &mut C,
     ) -> Ending
-        requires may { MayRead (disk_ghosts D.told D.relations D.reads D.faults) W.told W.relations
-            shared.now.table self.old desk.old blocks }
+        requires may { MayRead D.Disk W.told W.relations shared.now.table self.old desk.old blocks }
         requires few { blocks.count ≤ C.most consumer.old }
         requires held { C.holds consumer.old [] }
         requires ring { IfSome ring.old (IsRingOf shared.now.queue) }
-        ensures read { HasRead (disk_ghosts D.told D.relations D.reads D.faults) W.told W.relations
-            shared.now.table (C.holds consumer.new) self.old self.new desk.old desk.new
-            blocks.entry result }
+        ensures read { HasRead D.Disk W.told W.relations shared.now.table (C.holds consumer.new)
+            self.old self.new desk.old desk.new blocks.entry result }
         ensures ring { IfSome ring.new (IsRingOf shared.now.queue) }
         ensures stands_on { M.stands_on method.new ≡ M.stands_on method.old }
         ensures consumer { C.is_same consumer.old consumer.new }
@@ -181,12 +175,11 @@ impl<W: World, D: Disk> DiskActor<W, D> {
         tuples: bool,
         skipping: Option<Skipping<'_>>,
     )
-        requires may { MayList (disk_ghosts D.told D.relations D.reads D.faults) W.told W.relations
-            shared.now.table self.old desk.old job.old }
+        requires may { MayList D.Disk W.told W.relations shared.now.table self.old desk.old
+            job.old }
         requires ring { IfSome ring.old (IsRingOf shared.now.queue) }
-        ensures listed { HasListed (disk_ghosts D.told D.relations D.reads D.faults)
-            W.told W.relations shared.now.table (filter_of skipping.entry)
-            tuples self.old self.new desk.old desk.new job.old job.new }
+        ensures listed { HasListed D.Disk W.told W.relations shared.now.table (filter_of
+            skipping.entry) tuples self.old self.new desk.old desk.new job.old job.new }
         ensures ring { IfSome ring.new (IsRingOf shared.now.queue) }
         ensures stands_on { M.stands_on method.new ≡ M.stands_on method.old }
     {
@@ -214,13 +207,13 @@ impl<W: World, D: Disk> DiskActor<W, D> {
         map: &mut VisMap,
         warnings: &mut Vec<u8>,
     ) -> Ending
-        requires may { MayRead (disk_ghosts D.told D.relations D.reads D.faults) W.told W.relations
-            shared.now.table self.old desk.old (map_blocks relation pages) }
+        requires may { MayRead D.Disk W.told W.relations shared.now.table self.old desk.old
+            (map_blocks relation pages) }
         requires pages { pages ≡ map.old.pages }
         requires none { (map.old.added ≡ []) × (warnings.old.items ≡ []) }
-        ensures read { HasRead (disk_ghosts D.told D.relations D.reads D.faults) W.told W.relations
-            shared.now.table (HasPages map.new warnings.new.items) self.old self.new desk.old
-            desk.new (map_blocks relation pages) result }
+        ensures read { HasRead D.Disk W.told W.relations shared.now.table (HasPages map.new
+            warnings.new.items) self.old self.new desk.old desk.new (map_blocks relation pages)
+            result }
         ensures pages { map.new.pages ≡ map.old.pages }
     {
         let blocks = Blocks {
@@ -246,13 +239,10 @@ impl<W: World, D: Disk> DiskActor<W, D> {
         queue: &SubmitQueue<W>,
         seat: &mut QueueSeat,
     )
-        requires disk_actor { IsDiskActor (disk_ghosts D.told D.relations D.reads D.faults)
-            W.told W.relations table.now self.old }
+        requires disk_actor { IsDiskActor D.Disk W.told W.relations table.now self.old }
         requires seat { IsSeatOf queue.now seat.old }
-        ensures disk_actor { IsDiskActor (disk_ghosts D.told D.relations D.reads D.faults)
-            W.told W.relations table.now self.new }
-        ensures goes { DiskActorAdvanced (disk_ghosts D.told D.relations D.reads D.faults)
-            W.told W.relations table.now self.old self.new }
+        ensures disk_actor { IsDiskActor D.Disk W.told W.relations table.now self.new }
+        ensures advanced { DiskActorAdvanced D.Disk W.told W.relations table.now self.old self.new }
         ensures seat { IsSeatOf queue.now seat.new }
     {
         let Some(disk) = self.disk.take() else {

@@ -2,8 +2,8 @@
 ghost use Rattle.std.specs.Prelude.{◌≡◌, ◌+◌, ◌<◌, ◌≤◌, ◌++◌, ◌∷◌, [], map, Some};
 ghost use Rattle.std.specs.Prelude.{vec_len, vec_capacity};
 ghost use Rattle.std.specs.List.{All};
-ghost use Rattle.scan_rounds.specs.DiskActors.{disk_ghosts};
-ghost use Rattle.scan_rounds.specs.Rounds.{backend_disk_actor, worker_disk_actor, results_taken};
+ghost use Rattle.scan_rounds.specs.Rounds.{backend_disk_actor, worker_disk_actor};
+ghost use Rattle.scan_rounds.specs.Rounds.{results_taken_count};
 ghost use Rattle.scan_rounds.specs.Scans.{IsScan, IsFinished, HasDisk};
 ghost use Rattle.scan_rounds.specs.Scans.{actor_of, disk_of, scan_disk_actors, lists_of};
 ghost use Rattle.scan_rounds.specs.Scans.{opened_disks};
@@ -88,12 +88,10 @@ impl<W: World, D: Disk> Scan<W, D> {
     /// Closes the table. The disks come back in the order in which they were handed in. It takes
     /// no memory.
     pub fn finish(self) -> (Totals, Vec<D>)
-        requires scan { IsScan (disk_ghosts D.told D.relations D.reads D.faults)
-            W.told W.relations self }
-        ensures finished { IsFinished (disk_ghosts D.told D.relations D.reads D.faults)
-            W.told W.relations self.shared.table.config self.unread
-            (results_taken self.backends.items) (opened_disks self) result.1.items
-            (lists_of (scan_disk_actors self)) result.0 }
+        requires scan { IsScan D.Disk W.told W.relations self }
+        ensures finished { IsFinished D.Disk W.told W.relations self.shared.table.config self.unread
+            (results_taken_count self.backends.items) (opened_disks self) result.1.items (lists_of
+            (scan_disk_actors self)) result.0 }
         ensures disks { map Some result.1.items ≡ map disk_of (scan_disk_actors self) }
     {
         let Scan {

@@ -25,7 +25,7 @@ pub trait JobSource<W: World>: Drop {
     ghost unread: { Self → ℕ };
 
     /// In the first state it puts these jobs, and is then in the second.
-    ghost puts: { Self → List Job → Self → Type 0 };
+    ghost gives_jobs: { Self → List Job → Self → Type 0 };
 
     /// Some rounds have led from the first state to the second.
     ghost follows: { Self → Self → Type 0 };
@@ -43,22 +43,22 @@ pub trait JobSource<W: World>: Drop {
         ensures fresh { All (IsFresh W.relations) (take result jobs.new) }
         ensures left { blocks_left self.new + blocks_among (take result jobs.new)
             ≤ blocks_left self.old }
-        ensures due { unskipped_left self.new + count_unskipped (block_filter self.old)
+        ensures unskipped { unskipped_left self.new + count_unskipped (block_filter self.old)
             (take result jobs.new) ≤ unskipped_left self.old }
         ensures unread { unread self.new ≡ unread self.old }
         ensures block_filter { block_filter self.new ≡ block_filter self.old }
         ensures options { options self.new ≡ options self.old }
-        ensures puts { puts self.old (take result jobs.new) self.new }
+        ensures gives_jobs { gives_jobs self.old (take result jobs.new) self.new }
         ensures none { result ≡ 0 → follows self.old self.new × is_over self.new };
 
     /// Takes back the jobs that it gave last, each with its text and its ending. Whether there is
     /// to be another round.
     fn finish_jobs(&mut self, jobs: &[Job]) -> bool
-        ensures follows { (was : Self) (asked : List Job) → puts was asked self.old
+        ensures follows { (was : Self) (asked : List Job) → gives_jobs was asked self.old
             → AreAnswered (block_filter self.old) (options self.old) W.told asked jobs.now
             → follows was self.new }
         ensures left { blocks_left self.new ≤ blocks_left self.old }
-        ensures due { unskipped_left self.new ≤ unskipped_left self.old }
+        ensures unskipped { unskipped_left self.new ≤ unskipped_left self.old }
         ensures block_filter { block_filter self.new ≡ block_filter self.old }
         ensures options { options self.new ≡ options self.old }
         ensures unread { unread self.new ≤ unread self.old + unread_among jobs.now }

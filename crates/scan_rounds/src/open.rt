@@ -3,12 +3,11 @@ ghost use Rattle.std.specs.Prelude.{◌≡◌, ◌≢◌, ◌≤◌, ◌<◌, �
 ghost use Rattle.std.specs.Prelude.{IfErr, IfOk, vec_capacity};
 ghost use Rattle.std.specs.List.{All};
 ghost use Rattle.std.specs.Vec.Iter.{into_iter_items};
-ghost use Rattle.scan_rounds.specs.DiskActors.{disk_ghosts};
 ghost use Rattle.scan_rounds.specs.ListOptions.{list_options};
 ghost use Rattle.scan_rounds.specs.OpenedScan.{AreSettings, GivesBackends, GivesDiskActors};
 ghost use Rattle.scan_rounds.specs.OpenedScan.{GivesWorkers};
 ghost use Rattle.scan_rounds.specs.OpenedScan.{IsMemory, IsOpened, IsSetUp, workers_of_settings};
-ghost use Rattle.scan_rounds.specs.Rounds.{results_taken};
+ghost use Rattle.scan_rounds.specs.Rounds.{results_taken_count};
 ghost use Rattle.scan_rounds.specs.Scans.{IsScan, scan_options, opened_disks};
 
 use crate::backend::Backend;
@@ -142,8 +141,7 @@ fn assemble_scan<W: World, D: Disk>(
     requires memory { IsMemory settings.now start memory }
     requires disks { length disks.items ≡ settings.now.backends + workers_of_settings settings.now }
     requires tell { All (λ d. (D.told d ≡ W.told) × (D.relations d ≡ W.relations)) disks.items }
-    ensures { IsOpened (disk_ghosts D.told D.relations D.reads D.faults)
-        W.told W.relations settings.now start disks.items result }
+    ensures { IsOpened D.Disk W.told W.relations settings.now start disks.items result }
 {
     let opened = Snapshot::of(&disks);
     let lists = memory.lists;
@@ -184,8 +182,8 @@ pub(crate) fn open_scan<W: World, D: Disk>(
     requires tell { All (λ d. (D.told d ≡ W.told) × (D.relations d ≡ W.relations)) disks.items }
     requires handles { settings.now.backends * settings.now.handles ≡ W.handles }
     requires start { start < 2 ^ 58 }
-    ensures opened { IfOk result (IsOpened (disk_ghosts D.told D.relations D.reads D.faults) W.told
-        W.relations settings.now start disks.items) }
+    ensures opened { IfOk result (IsOpened D.Disk W.told W.relations settings.now start
+        disks.items) }
     ensures back { IfErr result (λ d. d ≡ disks) }
 {
     match Memory::open(alloc, settings, start) {
@@ -206,15 +204,14 @@ impl<W: World, D: Disk> Scan<W, D> {
         requires tell { All (λ d. (D.told d ≡ W.told) × (D.relations d ≡ W.relations)) disks.items }
         requires segments { All (λ d. D.segment d ≡ settings.now.segment) disks.items }
         requires handles { settings.now.backends * settings.now.handles ≡ W.handles }
-        ensures scan { IfOk result (λ s. IsScan (disk_ghosts D.told D.relations D.reads D.faults)
-            W.told W.relations s) }
+        ensures scan { IfOk result (λ s. IsScan D.Disk W.told W.relations s) }
         ensures numbers { IfOk result
             (λ s. (s.shared.table.config.backends ≡ settings.now.backends)
             × (s.shared.table.config.runners ≡ workers_of_settings settings.now)
             × (s.shared.table.config.start ≡ 0)) }
         ensures set_up { IfOk result (λ s. All (IsSetUp settings.now) s.backends.items) }
         ensures opened { IfOk result (λ s. opened_disks s ≡ disks.items) }
-        ensures taken { IfOk result (λ s. results_taken s.backends.items ≡ 0) }
+        ensures taken { IfOk result (λ s. results_taken_count s.backends.items ≡ 0) }
         ensures room { IfOk result (λ s. s.room ≡ 2 ^ 58 - 1) }
         ensures unread { IfOk result (λ s. s.unread ≡ 0) }
         ensures options { IfOk result
@@ -240,15 +237,14 @@ impl<W: World, D: Disk> Scan<W, D> {
         requires segments { All (λ d. D.segment d ≡ settings.now.segment) disks.items }
         requires handles { settings.now.backends * settings.now.handles ≡ W.handles }
         requires start { start < 2 ^ 58 }
-        ensures scan { IfOk result (λ s. IsScan (disk_ghosts D.told D.relations D.reads D.faults)
-            W.told W.relations s) }
+        ensures scan { IfOk result (λ s. IsScan D.Disk W.told W.relations s) }
         ensures numbers { IfOk result
             (λ s. (s.shared.table.config.backends ≡ settings.now.backends)
             × (s.shared.table.config.runners ≡ workers_of_settings settings.now)
             × (s.shared.table.config.start ≡ start)) }
         ensures set_up { IfOk result (λ s. All (IsSetUp settings.now) s.backends.items) }
         ensures opened { IfOk result (λ s. opened_disks s ≡ disks.items) }
-        ensures taken { IfOk result (λ s. results_taken s.backends.items ≡ 0) }
+        ensures taken { IfOk result (λ s. results_taken_count s.backends.items ≡ 0) }
         ensures room { IfOk result (λ s. s.room ≡ 2 ^ 58 - 1 - start) }
         ensures unread { IfOk result (λ s. s.unread ≡ 0) }
         ensures options { IfOk result

@@ -1,13 +1,13 @@
 //! Reads blocks through a read stream.
 ghost use Rattle.std.specs.Prelude.{◌≡◌, ◌<◌, ◌≤◌, ◌+◌, ◌^◌, ℕ, [], length};
 ghost use Rattle.aio_word.specs.Events.{lives_ended};
-ghost use Rattle.aio_handle.specs.Closing.{HasNoTokens};
+ghost use Rattle.aio_handle.specs.Closing.{HasNoOwnerTokens};
 ghost use Rattle.aio_handle.specs.Free.{IsRoom};
 ghost use Rattle.aio_handle.specs.ContractViews.{IsActorOf, IsSameActor};
 ghost use Rattle.read_stream.specs.StreamAnswers.{MayBeUnread, stream_entries};
 ghost use Rattle.read_stream.specs.Desks.{IsFreeDesk};
 ghost use Rattle.read_stream.specs.StreamState.{IsOpen};
-ghost use Rattle.read_stream.specs.ActorProgress.{ActorAdvanced, local_marks};
+ghost use Rattle.read_stream.specs.ActorProgress.{ActorAdvanced, local_mark_count};
 ghost use Rattle.scan_rounds.specs.DiskActors.{entries_of_blocks};
 ghost use Rattle.scan_rounds.specs.Jobs.{said_end};
 ghost use Rattle.scan_rounds.specs.ConsumedPages.{PagesConsumed};
@@ -54,7 +54,7 @@ fn take_all<
     ensures same { IsSameActor actor.old actor.new }
     ensures told { (E.told runner.new ≡ W.told) × (E.relations runner.new ≡ W.relations) }
     ensures stands_on { M.stands_on method.new ≡ M.stands_on method.old }
-    ensures went { ActorAdvanced actor.old.known actor.new.known (E.reads runner.old)
+    ensures actor_advanced { ActorAdvanced actor.old.known actor.new.known (E.reads runner.old)
         (E.reads runner.new) (E.faults runner.old) (E.faults runner.new) }
     ensures given { PagesConsumed (C.holds consumer.new) stream.old.scope.zero W.told
         (MayBeUnread stream.old.scope.was.value actor.new.known)
@@ -89,7 +89,7 @@ pub(crate) fn read<W: World, M: Method<ReadIo, W>, E: Execute<ReadIo, W>, T: Wai
 ) -> Ending
     requires table { IsActorOf table.now actor.old }
     requires backend { actor.old.known.number < actor.old.known.config.backends }
-    requires rest { HasNoTokens actor.old.known }
+    requires rest { HasNoOwnerTokens actor.old.known }
     requires room { (room : ℕ) × IsRoom actor.old.known.config actor.old.known room
         × (blocks.count ≤ room) }
     requires desk { IsFreeDesk desk.old }
@@ -101,13 +101,13 @@ pub(crate) fn read<W: World, M: Method<ReadIo, W>, E: Execute<ReadIo, W>, T: Wai
     ensures same { IsSameActor actor.old actor.new }
     ensures told { (E.told runner.new ≡ W.told) × (E.relations runner.new ≡ W.relations) }
     ensures stands_on { M.stands_on method.new ≡ M.stands_on method.old }
-    ensures went { ActorAdvanced actor.old.known actor.new.known (E.reads runner.old)
+    ensures actor_advanced { ActorAdvanced actor.old.known actor.new.known (E.reads runner.old)
         (E.reads runner.new) (E.faults runner.old) (E.faults runner.new) }
-    ensures rest { HasNoTokens actor.new.known }
+    ensures rest { HasNoOwnerTokens actor.new.known }
     ensures lived { (h : ℕ) → lives_ended h actor.new.known.marks
         ≤ lives_ended h actor.old.known.marks + blocks.entry.count }
-    ensures taken { local_marks actor.new.known.marks
-        ≤ local_marks actor.old.known.marks + length (entries_of_blocks blocks.entry) }
+    ensures taken { local_mark_count actor.new.known.marks
+        ≤ local_mark_count actor.old.known.marks + length (entries_of_blocks blocks.entry) }
     ensures desk { IsFreeDesk desk.new × (desk.new.zero ≡ desk.old.zero) }
     ensures given { PagesConsumed (C.holds consumer.new) desk.old.zero W.told
         (MayBeUnread actor.old actor.new.known) (entries_of_blocks blocks.entry) (said_end result) }

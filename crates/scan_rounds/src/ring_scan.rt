@@ -4,10 +4,9 @@ ghost use Rattle.std.specs.Prelude.{None, Some, IfErr, IfOk};
 ghost use Rattle.std.specs.List.{All};
 ghost use Rattle.scan_rounds.specs.Calls.{HasFollowed, HasMapped, HasRounded};
 ghost use Rattle.scan_rounds.specs.Calls.{MayFollow, MayMap, MayRound};
-ghost use Rattle.scan_rounds.specs.DiskActors.{disk_ghosts};
 ghost use Rattle.scan_rounds.specs.ListOptions.{list_options};
 ghost use Rattle.scan_rounds.specs.OpenedScan.{AreSettings, IsSetUp};
-ghost use Rattle.scan_rounds.specs.Rounds.{results_taken};
+ghost use Rattle.scan_rounds.specs.Rounds.{results_taken_count};
 ghost use Rattle.scan_rounds.specs.BlockFilter.{map_filter};
 ghost use Rattle.scan_rounds.specs.Scans.{IsFinished, IsScan};
 ghost use Rattle.scan_rounds.specs.Scans.{disk_of, scan_disk_actors, lists_of, scan_options};
@@ -57,15 +56,14 @@ impl<W: World, D: Disk> RingScan<W, D> {
         requires tell { All (λ d. (D.told d ≡ W.told) × (D.relations d ≡ W.relations)) disks.items }
         requires segments { All (λ d. D.segment d ≡ settings.now.segment) disks.items }
         requires handles { settings.now.backends * settings.now.handles ≡ W.handles }
-        ensures scan { IfOk result (λ s. IsScan (disk_ghosts D.told D.relations D.reads D.faults)
-            W.told W.relations s) }
+        ensures scan { IfOk result (λ s. IsScan D.Disk W.told W.relations s) }
         ensures numbers { IfOk result
             (λ s. (s.shared.table.config.backends ≡ settings.now.backends)
             × (s.shared.table.config.runners ≡ 0)
             × (s.shared.table.config.start ≡ 0)) }
         ensures set_up { IfOk result (λ s. All (IsSetUp settings.now) s.backends.items) }
         ensures opened { IfOk result (λ s. opened_disks s ≡ disks.items) }
-        ensures taken { IfOk result (λ s. results_taken s.backends.items ≡ 0) }
+        ensures taken { IfOk result (λ s. results_taken_count s.backends.items ≡ 0) }
         ensures room { IfOk result (λ s. s.room ≡ 2 ^ 58 - 1) }
         ensures unread { IfOk result (λ s. s.unread ≡ 0) }
         ensures options { IfOk result
@@ -90,15 +88,14 @@ impl<W: World, D: Disk> RingScan<W, D> {
         requires segments { All (λ d. D.segment d ≡ settings.now.segment) disks.items }
         requires handles { settings.now.backends * settings.now.handles ≡ W.handles }
         requires start { start < 2 ^ 58 }
-        ensures scan { IfOk result (λ s. IsScan (disk_ghosts D.told D.relations D.reads D.faults)
-            W.told W.relations s) }
+        ensures scan { IfOk result (λ s. IsScan D.Disk W.told W.relations s) }
         ensures numbers { IfOk result
             (λ s. (s.shared.table.config.backends ≡ settings.now.backends)
             × (s.shared.table.config.runners ≡ 0)
             × (s.shared.table.config.start ≡ start)) }
         ensures set_up { IfOk result (λ s. All (IsSetUp settings.now) s.backends.items) }
         ensures opened { IfOk result (λ s. opened_disks s ≡ disks.items) }
-        ensures taken { IfOk result (λ s. results_taken s.backends.items ≡ 0) }
+        ensures taken { IfOk result (λ s. results_taken_count s.backends.items ≡ 0) }
         ensures room { IfOk result (λ s. s.room ≡ 2 ^ 58 - 1 - start) }
         ensures unread { IfOk result (λ s. s.unread ≡ 0) }
         ensures options { IfOk result
@@ -143,11 +140,10 @@ impl<W: World, D: Disk> RingScan<W, D> {
         map: &mut VisMap,
         warnings: &mut Vec<u8>,
     ) -> Ending
-        requires may { MayMap (disk_ghosts D.told D.relations D.reads D.faults) W.told W.relations
-            relation self.old map.old warnings.old.items }
-        ensures mapped { HasMapped (disk_ghosts D.told D.relations D.reads D.faults)
-            W.told W.relations relation self.old self.new map.old map.new warnings.new.items
-            result }
+        requires may { MayMap D.Disk W.told W.relations relation self.old map.old
+            warnings.old.items }
+        ensures mapped { HasMapped D.Disk W.told W.relations relation self.old self.new map.old
+            map.new warnings.new.items result }
     {
         self.scan.map(rt, relation, map, warnings)
     }
@@ -155,12 +151,10 @@ impl<W: World, D: Disk> RingScan<W, D> {
     /// Closes the table. The disks come back in the order in which they were handed in. It takes
     /// no memory.
     pub fn finish(self) -> (Totals, Vec<D>)
-        requires scan { IsScan (disk_ghosts D.told D.relations D.reads D.faults)
-            W.told W.relations self }
-        ensures finished { IsFinished (disk_ghosts D.told D.relations D.reads D.faults)
-            W.told W.relations self.shared.table.config self.unread
-            (results_taken self.backends.items) (opened_disks self) result.1.items
-            (lists_of (scan_disk_actors self)) result.0 }
+        requires scan { IsScan D.Disk W.told W.relations self }
+        ensures finished { IsFinished D.Disk W.told W.relations self.shared.table.config self.unread
+            (results_taken_count self.backends.items) (opened_disks self) result.1.items (lists_of
+            (scan_disk_actors self)) result.0 }
         ensures disks { map Some result.1.items ≡ map disk_of (scan_disk_actors self) }
     {
         self.scan.finish()
@@ -170,10 +164,9 @@ impl<W: World, D: Disk> RingScan<W, D> {
 impl<W: World + Send + Sync, D: Disk> RingScan<W, D> {
     /// One round: job `i` is listed by backend `i`. It may wait.
     pub fn round<R: Threads + Wait + Sync>(&mut self, rt: &R, jobs: &mut [Job])
-        requires may { MayRound (disk_ghosts D.told D.relations D.reads D.faults) W.told W.relations
-            self.old jobs.old }
-        ensures rounded { HasRounded (disk_ghosts D.told D.relations D.reads D.faults)
-            W.told W.relations None self.old self.new jobs.old jobs.new }
+        requires may { MayRound D.Disk W.told W.relations self.old jobs.old }
+        ensures rounded { HasRounded D.Disk W.told W.relations None self.old self.new jobs.old
+            jobs.new }
     {
         self.scan.round(rt, jobs);
     }
@@ -186,10 +179,9 @@ impl<W: World + Send + Sync, D: Disk> RingScan<W, D> {
         map: &VisMap,
         skip: Skip,
     )
-        requires may { MayRound (disk_ghosts D.told D.relations D.reads D.faults) W.told W.relations
-            self.old jobs.old }
-        ensures rounded { HasRounded (disk_ghosts D.told D.relations D.reads D.faults)
-            W.told W.relations (map_filter map.now skip) self.old self.new jobs.old jobs.new }
+        requires may { MayRound D.Disk W.told W.relations self.old jobs.old }
+        ensures rounded { HasRounded D.Disk W.told W.relations (map_filter map.now skip) self.old
+            self.new jobs.old jobs.new }
     {
         self.scan.round_filtered(rt, jobs, map, skip);
     }
@@ -197,11 +189,11 @@ impl<W: World + Send + Sync, D: Disk> RingScan<W, D> {
     /// All rounds of a job source, until it is over, in turns of up to four, of which each backend
     /// does neighbouring jobs in one thread, one of them in the caller's. It may wait.
     pub fn run<R: Threads + Wait + Sync, A: JobSource<W>>(&mut self, rt: &R, job_source: A) -> A
-        requires may { MayFollow (disk_ghosts D.told D.relations D.reads D.faults)
-            W.told W.relations A.blocks_left A.options A.block_filter None self.old job_source }
-        ensures followed { HasFollowed (disk_ghosts D.told D.relations D.reads D.faults) W.told
-            W.relations A.blocks_left A.unskipped_left A.unread A.options A.block_filter A.follows
-            A.is_over self.old self.new job_source result }
+        requires may { MayFollow D.Disk W.told W.relations A.blocks_left A.options A.block_filter
+            None self.old job_source }
+        ensures followed { HasFollowed D.Disk W.told W.relations A.blocks_left A.unskipped_left
+            A.unread A.options A.block_filter A.follows A.is_over self.old self.new job_source
+            result }
     {
         self.scan.run(rt, job_source)
     }
@@ -214,12 +206,11 @@ impl<W: World + Send + Sync, D: Disk> RingScan<W, D> {
         map: &VisMap,
         skip: Skip,
     ) -> A
-        requires may { MayFollow (disk_ghosts D.told D.relations D.reads D.faults)
-            W.told W.relations A.blocks_left A.options A.block_filter (map_filter map.now skip)
-            self.old job_source }
-        ensures followed { HasFollowed (disk_ghosts D.told D.relations D.reads D.faults) W.told
-            W.relations A.blocks_left A.unskipped_left A.unread A.options A.block_filter A.follows
-            A.is_over self.old self.new job_source result }
+        requires may { MayFollow D.Disk W.told W.relations A.blocks_left A.options A.block_filter
+            (map_filter map.now skip) self.old job_source }
+        ensures followed { HasFollowed D.Disk W.told W.relations A.blocks_left A.unskipped_left
+            A.unread A.options A.block_filter A.follows A.is_over self.old self.new job_source
+            result }
     {
         self.scan.run_filtered(rt, job_source, map, skip)
     }

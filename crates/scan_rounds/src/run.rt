@@ -3,7 +3,6 @@ ghost use Rattle.std.specs.Prelude.{◌≡◌, ◌≤◌, ◌<◌, ◌+◌, ◌*
 ghost use Rattle.std.specs.List.{All};
 ghost use Rattle.method_worker.specs.QueueViews.{IsSeatOf};
 ghost use Rattle.scan_rounds.specs.Calls.{HasFollowed, HasRounded, MayFollow, MayRound};
-ghost use Rattle.scan_rounds.specs.DiskActors.{disk_ghosts};
 ghost use Rattle.scan_rounds.specs.Scans.{IsOpenedAgain};
 ghost use Rattle.scan_rounds.specs.BlockFilter.{filter_of};
 
@@ -61,10 +60,9 @@ impl<W: World + Send + Sync, D: Disk> Scan<W, D> {
         skipping: Option<Skipping<'_>>,
         jobs: &mut [Job],
     )
-        requires may { MayRound (disk_ghosts D.told D.relations D.reads D.faults) W.told W.relations
-            self.old jobs.old }
-        ensures rounded { HasRounded (disk_ghosts D.told D.relations D.reads D.faults)
-            W.told W.relations (filter_of skipping.entry) self.old self.new jobs.old jobs.new }
+        requires may { MayRound D.Disk W.told W.relations self.old jobs.old }
+        ensures rounded { HasRounded D.Disk W.told W.relations (filter_of skipping.entry) self.old
+            self.new jobs.old jobs.new }
     {
         let Scan {
             alloc,
@@ -108,12 +106,11 @@ impl<W: World + Send + Sync, D: Disk> Scan<W, D> {
         skipping: Option<Skipping<'_>>,
         job_source: A,
     ) -> A
-        requires may { MayFollow (disk_ghosts D.told D.relations D.reads D.faults)
-            W.told W.relations A.blocks_left A.options A.block_filter (filter_of skipping)
-            self.old job_source }
-        ensures followed { HasFollowed (disk_ghosts D.told D.relations D.reads D.faults) W.told
-            W.relations A.blocks_left A.unskipped_left A.unread A.options A.block_filter A.follows
-            A.is_over self.old self.new job_source result }
+        requires may { MayFollow D.Disk W.told W.relations A.blocks_left A.options A.block_filter
+            (filter_of skipping) self.old job_source }
+        ensures followed { HasFollowed D.Disk W.told W.relations A.blocks_left A.unskipped_left
+            A.unread A.options A.block_filter A.follows A.is_over self.old self.new job_source
+            result }
     {
         let Scan {
             alloc,

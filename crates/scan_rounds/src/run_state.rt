@@ -1,7 +1,6 @@
 //! The rounds of a job source, one after the other.
 ghost use Rattle.std.specs.Prelude.{◌≡◌, ◌<◌, ◌+◌, ◌*◌, ◌-◌, map, false, true};
 ghost use Rattle.scan_rounds.specs.JobSources.{JobSourceAdvanced, MayRunRounds};
-ghost use Rattle.scan_rounds.specs.DiskActors.{disk_ghosts};
 ghost use Rattle.scan_rounds.specs.ListOptions.{ListOptions};
 ghost use Rattle.scan_rounds.specs.Progress.{AreWaiting, IsClosedByFirst, MayMakeRound, RoundMade};
 ghost use Rattle.scan_rounds.specs.Rounds.{AllHaveOptions, backend_disk_actor};
@@ -30,13 +29,12 @@ fn next_turn<W: World + Send + Sync, D: Disk, R: Threads + Wait + Sync, A: JobSo
     job_source: &mut A,
     counts: &mut Counts,
 ) -> bool
-    requires may { MayRunRounds (disk_ghosts D.told D.relations D.reads D.faults) W.told W.relations
-        shared.now.table shared.now.queue A.blocks_left A.options A.block_filter
-        (filter_of skipping) backends.old jobs.old job_source.old counts.old }
-    ensures goes { JobSourceAdvanced (disk_ghosts D.told D.relations D.reads D.faults)
-        W.told W.relations shared.now.table shared.now.queue A.blocks_left A.unskipped_left A.unread
-        A.options A.block_filter A.follows backends.old backends.new jobs.old jobs.new
-        job_source.old job_source.new counts.old counts.new }
+    requires may { MayRunRounds D.Disk W.told W.relations shared.now.table shared.now.queue
+        A.blocks_left A.options A.block_filter (filter_of skipping) backends.old jobs.old
+        job_source.old counts.old }
+    ensures advanced { JobSourceAdvanced D.Disk W.told W.relations shared.now.table shared.now.queue
+        A.blocks_left A.unskipped_left A.unread A.options A.block_filter A.follows backends.old
+        backends.new jobs.old jobs.new job_source.old job_source.new counts.old counts.new }
     ensures over { result ≡ false → A.is_over job_source.new }
     ensures nearer { result ≡ true → A.blocks_left job_source.new < A.blocks_left job_source.old }
 {
@@ -57,10 +55,10 @@ fn close_queue<W: World, D: Disk, R: Wait>(
     backends: &mut [Backend<W, D>],
     counts: Counts,
 )
-    requires waiting { AreWaiting (disk_ghosts D.told D.relations D.reads D.faults)
-        W.told W.relations shared.now.table shared.now.queue backends.old counts }
-    ensures waiting { AreWaiting (disk_ghosts D.told D.relations D.reads D.faults)
-        W.told W.relations shared.now.table shared.now.queue backends.new counts }
+    requires waiting { AreWaiting D.Disk W.told W.relations shared.now.table shared.now.queue
+        backends.old counts }
+    ensures waiting { AreWaiting D.Disk W.told W.relations shared.now.table shared.now.queue
+        backends.new counts }
     ensures disk_actors { map backend_disk_actor backends.new
         ≡ map backend_disk_actor backends.old }
     ensures options { (m : ListOptions) → AllHaveOptions m backends.old
@@ -79,11 +77,10 @@ fn make_round<W: World + Send + Sync, D: Disk, R: Threads + Wait + Sync>(
     jobs: &mut [Job],
     counts: &mut Counts,
 )
-    requires may { MayMakeRound (disk_ghosts D.told D.relations D.reads D.faults) W.told W.relations
-        shared.now.table shared.now.queue backends.old jobs.old counts.old }
-    ensures made { RoundMade (disk_ghosts D.told D.relations D.reads D.faults) W.told W.relations
-        shared.now.table shared.now.queue (filter_of skipping.entry) backends.old backends.new
-        jobs.old jobs.new counts.old counts.new }
+    requires may { MayMakeRound D.Disk W.told W.relations shared.now.table shared.now.queue
+        backends.old jobs.old counts.old }
+    ensures made { RoundMade D.Disk W.told W.relations shared.now.table shared.now.queue (filter_of
+        skipping.entry) backends.old backends.new jobs.old jobs.new counts.old counts.new }
 {
     *counts = take_turn(rt, shared, skipping, 1, backends, jobs, *counts);
     close_queue(rt, shared, backends, *counts);
@@ -100,13 +97,12 @@ fn all_rounds<W: World + Send + Sync, D: Disk, R: Threads + Wait + Sync, A: JobS
     job_source: &mut A,
     counts: &mut Counts,
 )
-    requires may { MayRunRounds (disk_ghosts D.told D.relations D.reads D.faults) W.told W.relations
-        shared.now.table shared.now.queue A.blocks_left A.options A.block_filter
-        (filter_of skipping) backends.old jobs.old job_source.old counts.old }
-    ensures goes { JobSourceAdvanced (disk_ghosts D.told D.relations D.reads D.faults)
-        W.told W.relations shared.now.table shared.now.queue A.blocks_left A.unskipped_left A.unread
-        A.options A.block_filter A.follows backends.old backends.new jobs.old jobs.new
-        job_source.old job_source.new counts.old counts.new }
+    requires may { MayRunRounds D.Disk W.told W.relations shared.now.table shared.now.queue
+        A.blocks_left A.options A.block_filter (filter_of skipping) backends.old jobs.old
+        job_source.old counts.old }
+    ensures advanced { JobSourceAdvanced D.Disk W.told W.relations shared.now.table shared.now.queue
+        A.blocks_left A.unskipped_left A.unread A.options A.block_filter A.follows backends.old
+        backends.new jobs.old jobs.new job_source.old job_source.new counts.old counts.new }
     ensures over { A.is_over job_source.new }
     ensures closed { IsClosedByFirst shared.now.queue backends.new }
 {
@@ -142,15 +138,13 @@ pub(crate) fn run_rounds<
     skipping: Option<Skipping<'_>>,
     run_state: RunState<W, D, A>,
 ) -> RunState<W, D, A>
-    requires may { MayRunRounds (disk_ghosts D.told D.relations D.reads D.faults) W.told W.relations
-        shared.now.table shared.now.queue A.blocks_left A.options A.block_filter
-        (filter_of skipping) run_state.backends.items run_state.jobs.items run_state.job_source
-        run_state.counts }
-    ensures goes { JobSourceAdvanced (disk_ghosts D.told D.relations D.reads D.faults)
-        W.told W.relations shared.now.table shared.now.queue A.blocks_left A.unskipped_left A.unread
-        A.options A.block_filter A.follows run_state.backends.items result.backends.items
-        run_state.jobs.items result.jobs.items run_state.job_source result.job_source
-        run_state.counts result.counts }
+    requires may { MayRunRounds D.Disk W.told W.relations shared.now.table shared.now.queue
+        A.blocks_left A.options A.block_filter (filter_of skipping) run_state.backends.items
+        run_state.jobs.items run_state.job_source run_state.counts }
+    ensures advanced { JobSourceAdvanced D.Disk W.told W.relations shared.now.table shared.now.queue
+        A.blocks_left A.unskipped_left A.unread A.options A.block_filter A.follows
+        run_state.backends.items result.backends.items run_state.jobs.items result.jobs.items
+        run_state.job_source result.job_source run_state.counts result.counts }
     ensures over { A.is_over result.job_source }
     ensures closed { IsClosedByFirst shared.now.queue result.backends.items }
 {
@@ -194,11 +188,10 @@ pub(crate) fn run_round<W: World + Send + Sync, D: Disk, R: Threads + Wait + Syn
     skipping: Option<Skipping<'_>>,
     round_state: RoundState<W, D>,
 ) -> RoundState<W, D>
-    requires may { MayRunRound (disk_ghosts D.told D.relations D.reads D.faults) W.told W.relations
-        shared.now.table shared.now.queue round_state }
-    ensures made { HasRunRound (disk_ghosts D.told D.relations D.reads D.faults)
-        W.told W.relations shared.now.table shared.now.queue (filter_of skipping.entry)
-        round_state result }
+    requires may { MayRunRound D.Disk W.told W.relations shared.now.table shared.now.queue
+        round_state }
+    ensures made { HasRunRound D.Disk W.told W.relations shared.now.table shared.now.queue
+        (filter_of skipping.entry) round_state result }
 {
     let RoundState {
         mut backends,

@@ -2,11 +2,12 @@
 ghost use Rattle.std.specs.Prelude.{◌≡◌, ◌≤◌, ◌<◌, ◌+◌, ◌*◌, ◌∷◌, [], length, map};
 ghost use Rattle.std.specs.List.{All};
 ghost use Rattle.aio_disk.specs.Counts.{raised_by};
-ghost use Rattle.scan_rounds.specs.DiskActors.{IsBackend, disk_ghosts};
+ghost use Rattle.scan_rounds.specs.DiskActors.{IsBackend};
 ghost use Rattle.scan_rounds.specs.Jobs.{AreAnswered, IsFresh, count_unskipped, unread_among};
 ghost use Rattle.scan_rounds.specs.ListOptions.{ListOptions};
 ghost use Rattle.scan_rounds.specs.Rounds.{AllAdvanced, AllHaveOptions, AreListed, IsLeastRoom};
-ghost use Rattle.scan_rounds.specs.Rounds.{backend_disk_actor, failed_results_taken, results_taken};
+ghost use Rattle.scan_rounds.specs.Rounds.{backend_disk_actor, failed_results_taken};
+ghost use Rattle.scan_rounds.specs.Rounds.{results_taken_count};
 ghost use Rattle.scan_rounds.specs.BlockFilter.{filter_of};
 ghost use Rattle.scan_rounds.specs.Turns.{HasTurned, ListedAlone, MayTurn};
 
@@ -30,11 +31,11 @@ fn do_jobs<W: World, D: Disk, R: Wait>(
     backend: &mut Backend<W, D>,
     jobs: &mut [Job],
 )
-    requires may { MayTurn (disk_ghosts D.told D.relations D.reads D.faults) W.told W.relations
-        shared.now.table shared.now.queue (length jobs.old) (backend.old ∷ []) jobs.old }
-    ensures done { HasTurned (disk_ghosts D.told D.relations D.reads D.faults) W.told W.relations
-        shared.now.table shared.now.queue (filter_of skipping.entry) (64 * length jobs.old)
-        (backend.old ∷ []) (backend.new ∷ []) jobs.old jobs.new }
+    requires may { MayTurn D.Disk W.told W.relations shared.now.table shared.now.queue (length
+        jobs.old) (backend.old ∷ []) jobs.old }
+    ensures done { HasTurned D.Disk W.told W.relations shared.now.table shared.now.queue (filter_of
+        skipping.entry) (64 * length jobs.old) (backend.old ∷ []) (backend.new ∷ []) jobs.old
+        jobs.new }
     ensures alone { ListedAlone W.told (filter_of skipping.entry) backend.old backend.new jobs.old
         jobs.new }
     ensures unmoved { length jobs.old ≡ 0 → backend.new ≡ backend.old }
@@ -55,12 +56,11 @@ fn do_jobs_within<W: World, D: Disk, R: Wait>(
     backend: &mut Backend<W, D>,
     jobs: &mut [Job],
 )
-    requires may { MayTurn (disk_ghosts D.told D.relations D.reads D.faults) W.told W.relations
-        shared.now.table shared.now.queue share (backend.old ∷ []) jobs.old }
+    requires may { MayTurn D.Disk W.told W.relations shared.now.table shared.now.queue share
+        (backend.old ∷ []) jobs.old }
     requires few { length jobs.old ≤ share }
-    ensures done { HasTurned (disk_ghosts D.told D.relations D.reads D.faults) W.told W.relations
-        shared.now.table shared.now.queue (filter_of skipping.entry) (64 * share)
-        (backend.old ∷ []) (backend.new ∷ []) jobs.old jobs.new }
+    ensures done { HasTurned D.Disk W.told W.relations shared.now.table shared.now.queue (filter_of
+        skipping.entry) (64 * share) (backend.old ∷ []) (backend.new ∷ []) jobs.old jobs.new }
     ensures alone { ListedAlone W.told (filter_of skipping.entry) backend.old backend.new jobs.old
         jobs.new }
 {
@@ -79,25 +79,22 @@ fn do_shares<W: World + Send + Sync, D: Disk, R: Threads + Wait + Sync>(
 )
     requires some { 1 ≤ length backends.old }
     requires fit { length jobs.old ≤ share * length backends.old }
-    requires may { MayTurn (disk_ghosts D.told D.relations D.reads D.faults) W.told W.relations
-        shared.now.table shared.now.queue share backends.old jobs.old }
-    ensures done { HasTurned (disk_ghosts D.told D.relations D.reads D.faults) W.told W.relations
-        shared.now.table shared.now.queue (filter_of skipping.entry) (64 * share) backends.old
-        backends.new jobs.old jobs.new }
+    requires may { MayTurn D.Disk W.told W.relations shared.now.table shared.now.queue share
+        backends.old jobs.old }
+    ensures done { HasTurned D.Disk W.told W.relations shared.now.table shared.now.queue (filter_of
+        skipping.entry) (64 * share) backends.old backends.new jobs.old jobs.new }
     ensures by_place { share ≡ 1 → (m : ListOptions) → AllHaveOptions m backends.old
         → AreListed (filter_of skipping.entry) m W.told backends.old backends.new jobs.old jobs.new }
 {
     share_out(
         rt,
         &|backend: &mut Backend<W, D>, own: &mut [Job]|
-            requires { MayTurn (disk_ghosts D.told D.relations D.reads D.faults) W.told W.relations
-                shared.now.table shared.now.queue share (backend.old ∷ []) own.old
-                × (length own.old ≤ share) }
-            ensures { HasTurned (disk_ghosts D.told D.relations D.reads D.faults) W.told W.relations
-                shared.entry.now.table shared.entry.now.queue (filter_of skipping.entry)
-                (64 * share) (backend.old ∷ []) (backend.new ∷ []) own.old own.new
-                × ListedAlone W.told (filter_of skipping.entry) backend.old backend.new own.old
-                own.new }
+            requires { MayTurn D.Disk W.told W.relations shared.now.table shared.now.queue share
+                (backend.old ∷ []) own.old × (length own.old ≤ share) }
+            ensures { HasTurned D.Disk W.told W.relations shared.entry.now.table
+                shared.entry.now.queue (filter_of skipping.entry) (64 * share) (backend.old ∷ [])
+                (backend.new ∷ []) own.old own.new × ListedAlone W.told (filter_of skipping.entry)
+                backend.old backend.new own.old own.new }
         { do_jobs_within(rt, shared, skipping, share, backend, own) },
         share,
         backends,
@@ -116,18 +113,17 @@ pub(crate) fn take_turn<W: World + Send + Sync, D: Disk, R: Threads + Wait + Syn
     jobs: &mut [Job],
     counts: Counts,
 ) -> Counts
-    requires backends { All (IsBackend (disk_ghosts D.told D.relations D.reads D.faults) W.told
-        W.relations shared.now.table shared.now.queue) backends.old }
+    requires backends { All (IsBackend D.Disk W.told W.relations shared.now.table shared.now.queue)
+        backends.old }
     requires some { 1 ≤ length backends.old }
     requires fit { length jobs.old ≤ share * length backends.old }
     requires fresh { All (IsFresh W.relations) jobs.old }
     requires room { IsLeastRoom backends.old counts.room × (64 * share ≤ counts.room) }
     requires unread { counts.unread ≤ failed_results_taken backends.old }
-    ensures backends { All (IsBackend (disk_ghosts D.told D.relations D.reads D.faults) W.told
-        W.relations shared.now.table shared.now.queue) backends.new }
-    ensures go_on { AllAdvanced (disk_ghosts D.told D.relations D.reads D.faults) W.told W.relations
-        shared.now.table (map backend_disk_actor backends.old)
-        (map backend_disk_actor backends.new) }
+    ensures backends { All (IsBackend D.Disk W.told W.relations shared.now.table shared.now.queue)
+        backends.new }
+    ensures go_on { AllAdvanced D.Disk W.told W.relations shared.now.table (map backend_disk_actor
+        backends.old) (map backend_disk_actor backends.new) }
     ensures answered { (m : ListOptions) → AllHaveOptions m backends.old
         → AreAnswered (filter_of skipping.entry) m W.told jobs.old jobs.new }
     ensures by_place { share ≡ 1 → (m : ListOptions) → AllHaveOptions m backends.old
@@ -137,8 +133,8 @@ pub(crate) fn take_turn<W: World + Send + Sync, D: Disk, R: Threads + Wait + Syn
     ensures room { IsLeastRoom backends.new result.room
         × (counts.room ≤ result.room + 64 * share) }
     ensures unread { result.unread ≡ raised_by (unread_among jobs.new) counts.unread }
-    ensures taken { results_taken backends.new
-        ≤ results_taken backends.old + count_unskipped (filter_of skipping.entry) jobs.old }
+    ensures taken { results_taken_count backends.new
+        ≤ results_taken_count backends.old + count_unskipped (filter_of skipping.entry) jobs.old }
     ensures results { result.unread ≤ failed_results_taken backends.new }
 {
     do_shares(rt, shared, skipping, share, backends, jobs);

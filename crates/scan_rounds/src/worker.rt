@@ -1,5 +1,5 @@
 //! A worker: an actor with its disk and its seat of the queue.
-ghost use Rattle.scan_rounds.specs.DiskActors.{IsWorker, WorkerServed, disk_ghosts};
+ghost use Rattle.scan_rounds.specs.DiskActors.{IsWorker, WorkerServed};
 
 use crate::disk_actor::DiskActor;
 use crate::shared::SharedState;
@@ -18,10 +18,9 @@ pub(crate) struct Worker<W: World, D: Disk> {
 impl<W: World, D: Disk> Worker<W, D> {
     /// Executes what the queue hands out, until it is closed and empty.
     pub(crate) fn run<T: Wait>(&mut self, rt: &T, shared: &SharedState<W>)
-        requires { IsWorker (disk_ghosts D.told D.relations D.reads D.faults) W.told W.relations
-            shared.now.table shared.now.queue self.old }
-        ensures { WorkerServed (disk_ghosts D.told D.relations D.reads D.faults) W.told W.relations
-            shared.now.table shared.now.queue self.old self.new }
+        requires { IsWorker D.Disk W.told W.relations shared.now.table shared.now.queue self.old }
+        ensures { WorkerServed D.Disk W.told W.relations shared.now.table shared.now.queue self.old
+            self.new }
     {
         self.disk_actor.serve(
             rt,

@@ -2,7 +2,7 @@
 use crate::helpers::checks::{check_jobs, rounds_of};
 use crate::helpers::opening::USUAL;
 use crate::helpers::rounds::{Blocks, scan_over};
-use blocking_disk::{BlockingShelf, Gate};
+use blocking_disk::{BlockingShelf, ReadBarrier};
 use scan_rounds::{Ending, MethodKind, ScanSettings};
 use std::test::Fail;
 
@@ -87,13 +87,13 @@ const ROWS: [Row; 4] = [
 fn as_many_reads_at_the_same_time_as_actors(rt: HostRuntime) -> Result<(), Fail> {
     let alloc = rt.alloc();
     for row in ROWS {
-        let gate = Gate {
+        let barrier = ReadBarrier {
             from: row.from,
             after: 256,
             reads: row.reads,
             turns: 1 << 24,
         };
-        let mut shelf = BlockingShelf::with_gate(alloc, 256, gate)?;
+        let mut shelf = BlockingShelf::with_barrier(alloc, 256, barrier)?;
         let rounds = rounds_of(alloc, row.rounds)?;
         let outcome = scan_over(&rt, &row.settings, &mut shelf, rounds.as_slice())?;
         let mut wanted = Vec::new(alloc);

@@ -3,7 +3,7 @@
 //! So are the parts of a round where no thread can be made: the backend's part runs first, and the
 //! worker's behind it.
 ghost use Rattle.std.specs.Prelude.{◌≡◌, ◌<◌, IfOk, IfSome, length};
-ghost use Rattle.aio_handle.specs.Closing.{HasNoTokens};
+ghost use Rattle.aio_handle.specs.Closing.{HasNoOwnerTokens};
 ghost use Rattle.aio_handle.specs.ContractViews.{AreNewActors, IsActorOf};
 ghost use Rattle.method_worker.specs.QueueViews.{IsSeatOf};
 
@@ -69,14 +69,14 @@ fn list<W: World, D: Disk, T: Wait>(
 ) -> Result<(Vec<NotedBlock>, SeatedActor<W, D>), AllocError>
     requires backend { IsActorOf table.now backend.actor × IsSeatOf queue.now backend.seat }
     requires number { backend.actor.known.number < table.now.config.backends }
-    requires rest { HasNoTokens backend.actor.known }
+    requires rest { HasNoOwnerTokens backend.actor.known }
     requires told { (D.told backend.disk ≡ W.told) × (D.relations backend.disk ≡ W.relations) }
     requires some { 0 < W.relations }
     ensures backend { IfOk result
         (λ r. IsActorOf table.now r.1.actor × IsSeatOf queue.now r.1.seat) }
     ensures number { IfOk result
         (λ r. r.1.actor.known.number < table.now.config.backends) }
-    ensures rest { IfOk result (λ r. HasNoTokens r.1.actor.known) }
+    ensures rest { IfOk result (λ r. HasNoOwnerTokens r.1.actor.known) }
     ensures told { IfOk result (λ r. (D.told r.1.disk ≡ W.told)
         × (D.relations r.1.disk ≡ W.relations)) }
 {
@@ -116,7 +116,7 @@ fn two_actors<W: World>(
     requires two { length actors.items ≡ 2 }
     requires backends { table.now.config.backends ≡ 1 }
     ensures backend { IfSome result (λ r. IsActorOf table.now r.0
-        × (r.0.known.number < table.now.config.backends) × HasNoTokens r.0.known) }
+        × (r.0.known.number < table.now.config.backends) × HasNoOwnerTokens r.0.known) }
     ensures worker { IfSome result (λ r. IsActorOf table.now r.1) }
 {
     let worker = aio_fixtures::last_actor(table, &mut actors)?;

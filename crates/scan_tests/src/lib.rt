@@ -17,9 +17,9 @@ mod listings;
 #[cfg(test)]
 mod maps;
 #[cfg(test)]
-mod ring_stream;
-#[cfg(test)]
 mod rings;
+#[cfg(test)]
+mod stream_by_ring;
 #[cfg(test)]
 mod tuples;
 #[cfg(test)]

@@ -2,7 +2,8 @@
 ghost use Rattle.std.specs.Prelude.{◌≡◌, codes};
 ghost use Rattle.std.specs.Option.{option_map};
 ghost use Rattle.clap.specs.Words.{rows_of, found_of, first_of};
-ghost use Rattle.aioscan_cmd.specs.Words.{is_map_of, parsed_map, map_of, map_option_view, skip_of};
+ghost use Rattle.aioscan_cmd.specs.Words.{is_map_of, parsed_map, named_map, map_option_view};
+ghost use Rattle.aioscan_cmd.specs.Words.{skip_of};
 
 use super::values::{text_of, texts_of};
 use clap::ArgMatches;
@@ -34,7 +35,7 @@ fn is_map_name(file: &str, name: &str) -> bool
 
 // The map of a file.
 fn map_named<'a>(file: &str, name: &'a str, skip: Option<Skip>) -> Option<Option<MapOption<'a>>>
-    ensures { option_map (option_map map_option_view) result ≡ map_of file.now name.now skip }
+    ensures { option_map (option_map map_option_view) result ≡ named_map file.now name.now skip }
 {
     let skip = skip?;
     if is_map_name(file, name) {

@@ -1,6 +1,6 @@
 //! Two threads at one table.
 ghost use Rattle.std.specs.Prelude.{◌≡◌, ◌<◌, IfSome};
-ghost use Rattle.aio_handle.specs.Closing.{HasNoTokens};
+ghost use Rattle.aio_handle.specs.Closing.{HasNoOwnerTokens};
 ghost use Rattle.aio_handle.specs.ContractViews.{IsActorOf};
 
 use crate::table::life::{close, live};
@@ -22,9 +22,9 @@ fn claim_beside<W: World>(
 ) -> (Actor<EmptyIo, W>, bool)
     requires table { IsActorOf table.now actor }
     requires range { reference.handle < W.handles }
-    requires rests { HasNoTokens actor.known }
+    requires rests { HasNoOwnerTokens actor.known }
     ensures table { IsActorOf table.now result.0 }
-    ensures rests { HasNoTokens result.0.known }
+    ensures rests { HasNoOwnerTokens result.0.known }
 {
     let won = claim_and_complete(table, &mut actor, reference, Class::Whole);
     (actor, won)
@@ -62,14 +62,14 @@ fn race<W: World + Send + Sync, T: Threads + Sync>(
     let ((runner, first), (other, second)) = join(
         rt,
         || -> (Actor<EmptyIo, W>, bool)
-            requires { IsActorOf shared.now runner × HasNoTokens runner.known
+            requires { IsActorOf shared.now runner × HasNoOwnerTokens runner.known
                 × (reference.handle < W.handles) }
-            ensures { IsActorOf shared.entry.now result.0 × HasNoTokens result.0.known }
+            ensures { IsActorOf shared.entry.now result.0 × HasNoOwnerTokens result.0.known }
         { claim_beside(shared, runner, reference) },
         || -> (Actor<EmptyIo, W>, bool)
-            requires { IsActorOf shared.now other × HasNoTokens other.known
+            requires { IsActorOf shared.now other × HasNoOwnerTokens other.known
                 × (reference.handle < W.handles) }
-            ensures { IsActorOf shared.entry.now result.0 × HasNoTokens result.0.known }
+            ensures { IsActorOf shared.entry.now result.0 × HasNoOwnerTokens result.0.known }
         { claim_beside(shared, other, reference) },
     );
     if !take_and_reclaim(&table, &mut owner, token) {
@@ -104,9 +104,9 @@ fn lives<W: World>(
 ) -> Option<Actor<EmptyIo, W>>
     requires table { IsActorOf table.now actor }
     requires backend { actor.known.number < table.now.config.backends }
-    requires rests { HasNoTokens actor.known }
+    requires rests { HasNoOwnerTokens actor.known }
     ensures table { IfSome result (λ a. IsActorOf table.now a) }
-    ensures rests { IfSome result (λ a. HasNoTokens a.known) }
+    ensures rests { IfSome result (λ a. HasNoOwnerTokens a.known) }
 {
     for n in 0..count {
         if !live(table, &mut actor) {
@@ -136,14 +136,14 @@ fn beside<W: World + Send + Sync, T: Threads + Sync>(
         rt,
         || -> Option<Actor<EmptyIo, W>>
             requires { IsActorOf shared.now one × (one.known.number < shared.now.config.backends)
-                × HasNoTokens one.known }
-            ensures { IfSome result (λ a. IsActorOf shared.entry.now a × HasNoTokens a.known) }
+                × HasNoOwnerTokens one.known }
+            ensures { IfSome result (λ a. IsActorOf shared.entry.now a × HasNoOwnerTokens a.known) }
         { lives(shared, one, count) },
         || -> Option<Actor<EmptyIo, W>>
             requires { IsActorOf shared.now other
                 × (other.known.number < shared.now.config.backends)
-                × HasNoTokens other.known }
-            ensures { IfSome result (λ a. IsActorOf shared.entry.now a × HasNoTokens a.known) }
+                × HasNoOwnerTokens other.known }
+            ensures { IfSome result (λ a. IsActorOf shared.entry.now a × HasNoOwnerTokens a.known) }
         { lives(shared, other, count) },
     );
     let Some(one) = one else {

@@ -3,7 +3,7 @@ ghost use Rattle.std.specs.Prelude.{◌≡◌, ◌<◌};
 ghost use Rattle.aio_handle.specs.ContractViews.{IsActorOf};
 ghost use Rattle.aio_fixtures.specs.Actors.{HasClaimed};
 
-use crate::second::submit_second;
+use crate::second_handle::submit_second;
 use aio_fixtures::{EmptyIo, claim_io, complete_as, last_actor};
 use aio_handle::{Actor, Claimed, Table};
 use aio_word::{Class, WaitRef};

@@ -4,7 +4,7 @@ ghost use Rattle.aio_word.specs.Tokens.{IsInFlight};
 ghost use Rattle.aio_handle.specs.ContractViews.{IsActorOf};
 ghost use Rattle.aio_fixtures.specs.Actors.{HasClaimed};
 
-use crate::second::submit_second;
+use crate::second_handle::submit_second;
 use crate::waitref::moment::Moment;
 use crate::waitref::own::{Waited, wait_counted};
 use aio_fixtures::{EmptyIo, claim_io, complete_as, last_actor};

@@ -1,7 +1,7 @@
 //! The two backends of a table, and the seats of their queue.
 ghost use Rattle.std.specs.Prelude.{◌≡◌, ◌<◌, IfSome, length};
 ghost use Rattle.std.specs.List.{All};
-ghost use Rattle.aio_handle.specs.Closing.{HasNoTokens};
+ghost use Rattle.aio_handle.specs.Closing.{HasNoOwnerTokens};
 ghost use Rattle.aio_handle.specs.ContractViews.{IsActorOf, AreNewActors};
 ghost use Rattle.method_worker.specs.QueueViews.{IsSeatOf};
 
@@ -21,9 +21,9 @@ pub(super) fn backends_of<W: World>(
     requires two { length actors.items ≡ 2 }
     requires backends { table.now.config.backends ≡ 2 }
     ensures zero { IfSome result (λ r. IsActorOf table.now r.0
-        × (r.0.known.number < table.now.config.backends) × HasNoTokens r.0.known) }
+        × (r.0.known.number < table.now.config.backends) × HasNoOwnerTokens r.0.known) }
     ensures one { IfSome result (λ r. IsActorOf table.now r.1
-        × (r.1.known.number < table.now.config.backends) × HasNoTokens r.1.known) }
+        × (r.1.known.number < table.now.config.backends) × HasNoOwnerTokens r.1.known) }
 {
     let one = last_actor(table, &mut actors)?;
     let zero = last_actor(table, &mut actors)?;

@@ -1,6 +1,6 @@
 //! Two backends with a ring each.
 ghost use Rattle.std.specs.Prelude.{◌≡◌, ◌<◌, IfOk, IsTrue};
-ghost use Rattle.aio_handle.specs.Closing.{HasNoTokens};
+ghost use Rattle.aio_handle.specs.Closing.{HasNoOwnerTokens};
 ghost use Rattle.aio_handle.specs.ContractViews.{IsActorOf, IsSameActor};
 ghost use Rattle.method_worker.specs.QueueViews.{IsSeatOf};
 
@@ -39,9 +39,10 @@ fn four_and_one<W: World, E: Execute<ReadIo, W>, T: Wait>(
     requires queue { IsSeatOf queue.now seat.old }
     requires told { (E.told runner.old ≡ W.told) × (E.relations runner.old ≡ W.relations) }
     requires some { 0 < W.relations }
-    requires rests { HasNoTokens zero.old.known × HasNoTokens one.old.known }
+    requires rests { HasNoOwnerTokens zero.old.known × HasNoOwnerTokens one.old.known }
     ensures same { IsSameActor zero.old zero.new × IsSameActor one.old one.new }
-    ensures rests { IsTrue result → HasNoTokens zero.new.known × HasNoTokens one.new.known }
+    ensures rests { IsTrue result → HasNoOwnerTokens zero.new.known
+        × HasNoOwnerTokens one.new.known }
 {
     let Some(a) = submit_and_push(rt, alloc, table, zero, queue, seat, 0) else {
         return false;

@@ -3,7 +3,6 @@ ghost use Rattle.std.specs.Prelude.{◌≡◌, ◌+◌, ◌*◌, ◌^◌, ◌<�
 ghost use Rattle.std.specs.Prelude.{IsTrue, string_bytes};
 ghost use Rattle.std.specs.List.{All};
 ghost use Rattle.aio_disk.specs.Shelf.{shelf_told};
-ghost use Rattle.scan_rounds.specs.DiskActors.{disk_ghosts};
 ghost use Rattle.scan_rounds.specs.OpenedScan.{AreSettings, workers_of_settings};
 ghost use Rattle.scan_rounds.specs.Scans.{IsScan};
 
@@ -121,8 +120,7 @@ fn open_without_rings<W: World, D: Disk>(
     requires segments { All (λ d. D.segment d ≡ settings.now.segment) disks.items }
     requires handles { settings.now.backends * settings.now.handles ≡ W.handles }
     requires start { IfSome start (λ s. s < 2 ^ 58) }
-    ensures { IfOk result (λ s. IsScan (disk_ghosts D.told D.relations D.reads D.faults) W.told
-        W.relations s) }
+    ensures { IfOk result (λ s. IsScan D.Disk W.told W.relations s) }
 {
     let opened = match start {
         Some(start) => Scan::open_at(alloc, settings, disks, start),
@@ -148,8 +146,7 @@ fn open_ringed<W: World, D: Disk>(
     requires segments { All (λ d. D.segment d ≡ settings.now.segment) disks.items }
     requires handles { settings.now.backends * settings.now.handles ≡ W.handles }
     requires start { IfSome start (λ s. s < 2 ^ 58) }
-    ensures { IfOk result (λ s. IsScan (disk_ghosts D.told D.relations D.reads D.faults) W.told
-        W.relations s) }
+    ensures { IfOk result (λ s. IsScan D.Disk W.told W.relations s) }
 {
     let first = match start {
         Some(start) => start,
@@ -174,8 +171,7 @@ pub(crate) fn open_scan<W: World, D: Disk>(
     requires segments { All (λ d. D.segment d ≡ settings.now.segment) disks.items }
     requires handles { settings.now.backends * settings.now.handles ≡ W.handles }
     requires start { IfSome start (λ s. s < 2 ^ 58) }
-    ensures { IfOk result (λ s. IsScan (disk_ghosts D.told D.relations D.reads D.faults) W.told
-        W.relations s) }
+    ensures { IfOk result (λ s. IsScan D.Disk W.told W.relations s) }
 {
     match settings.method {
         MethodKind::Sync => open_without_rings(alloc, settings, disks, start),

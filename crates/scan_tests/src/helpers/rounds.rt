@@ -3,7 +3,6 @@ ghost use Rattle.std.specs.Prelude.{◌≡◌, ◌*◌, ◌^◌, ◌<◌, ◌≤
 ghost use Rattle.std.specs.Prelude.{string_bytes};
 ghost use Rattle.std.specs.List.{All};
 ghost use Rattle.aio_disk.specs.Shelf.{shelf_told};
-ghost use Rattle.scan_rounds.specs.DiskActors.{disk_ghosts};
 ghost use Rattle.scan_rounds.specs.Jobs.{IsFresh};
 ghost use Rattle.scan_rounds.specs.OpenedScan.{AreSettings};
 ghost use Rattle.scan_rounds.specs.Scans.{IsScan};
@@ -77,11 +76,9 @@ fn list_round<W: World + Send + Sync, D: Disk, R: Threads + Wait + Sync>(
     round: &[Blocks],
     all: &mut Vec<JobResult>,
 ) -> Result<(), Fail>
-    requires scan { IsScan (disk_ghosts D.told D.relations D.reads D.faults)
-        W.told W.relations scan.old }
+    requires scan { IsScan D.Disk W.told W.relations scan.old }
     requires one { W.relations ≡ 1 }
-    ensures scan { IsScan (disk_ghosts D.told D.relations D.reads D.faults)
-        W.told W.relations scan.new }
+    ensures scan { IsScan D.Disk W.told W.relations scan.new }
 {
     let mut jobs = jobs_for(alloc, round)?;
     if jobs.is_empty() || jobs.len() > scan.backend_count() || scan.room() < 64 {
@@ -114,11 +111,9 @@ fn list_rounds<W: World + Send + Sync, D: Disk, R: Threads + Wait + Sync>(
     rounds: &[Vec<Blocks>],
     all: &mut Vec<JobResult>,
 ) -> Result<(), Fail>
-    requires scan { IsScan (disk_ghosts D.told D.relations D.reads D.faults)
-        W.told W.relations scan.old }
+    requires scan { IsScan D.Disk W.told W.relations scan.old }
     requires one { W.relations ≡ 1 }
-    ensures scan { IsScan (disk_ghosts D.told D.relations D.reads D.faults)
-        W.told W.relations scan.new }
+    ensures scan { IsScan D.Disk W.told W.relations scan.new }
 {
     for round in rounds {
         list_round(rt, alloc, scan, round.as_slice(), all)?;

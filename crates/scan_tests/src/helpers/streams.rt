@@ -1,7 +1,7 @@
 //! Streams over lists, and what they are opened over.
 ghost use Rattle.std.specs.Prelude.{◌≡◌, ◌<◌, IfSome};
 ghost use Rattle.std.specs.List.{All};
-ghost use Rattle.aio_handle.specs.Closing.{HasNoTokens};
+ghost use Rattle.aio_handle.specs.Closing.{HasNoOwnerTokens};
 ghost use Rattle.aio_handle.specs.ContractViews.{IsActorOf, IsSameActor};
 ghost use Rattle.method_worker.specs.QueueViews.{IsSeatOf};
 ghost use Rattle.read_stream.specs.StreamState.{IsOpen};
@@ -73,11 +73,11 @@ pub(crate) fn pages_of<W: World, M: Method<ReadIo, W>, E: Execute<ReadIo, W>, T:
     requires table { IsActorOf table.now actor.old }
     requires told { (E.told runner.old ≡ W.told) × (E.relations runner.old ≡ W.relations) }
     requires backend { actor.old.known.number < table.now.config.backends }
-    requires rest { HasNoTokens actor.old.known }
+    requires rest { HasNoOwnerTokens actor.old.known }
     requires some { 0 < W.relations }
     ensures same { IsSameActor actor.old actor.new }
     ensures told { (E.told runner.new ≡ W.told) × (E.relations runner.new ≡ W.relations) }
-    ensures rest { HasNoTokens actor.new.known }
+    ensures rest { HasNoOwnerTokens actor.new.known }
     ensures stands_on { M.stands_on method.new ≡ M.stands_on method.old }
 {
     let mut pages = Vec::new(alloc);

@@ -1,6 +1,6 @@
 //! A stream, and another backend between its answers.
 ghost use Rattle.std.specs.Prelude.{◌≡◌, ◌<◌};
-ghost use Rattle.aio_handle.specs.Closing.{HasNoTokens};
+ghost use Rattle.aio_handle.specs.Closing.{HasNoOwnerTokens};
 ghost use Rattle.aio_handle.specs.ContractViews.{IsActorOf};
 ghost use Rattle.read_stream.specs.Desks.{AreValidSettings};
 
@@ -37,7 +37,7 @@ pub(crate) fn stream_beside<W: World, E: Execute<ReadIo, W>, T: Wait>(
         case.now.settings.limit case.now.settings.segment }
     requires backends { (actor.old.known.number < table.now.config.backends)
         × (other.old.known.number < table.now.config.backends) }
-    requires rest { HasNoTokens actor.old.known × HasNoTokens other.old.known }
+    requires rest { HasNoOwnerTokens actor.old.known × HasNoOwnerTokens other.old.known }
     requires relation { case.now.relation < W.relations }
 {
     let first = case.first.list(alloc)?;

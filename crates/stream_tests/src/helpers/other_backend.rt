@@ -1,6 +1,6 @@
 //! Another backend, which reads before the stream does.
 ghost use Rattle.std.specs.Prelude.{◌≡◌, ◌<◌, ◌≤◌, length};
-ghost use Rattle.aio_handle.specs.Closing.{HasNoTokens};
+ghost use Rattle.aio_handle.specs.Closing.{HasNoOwnerTokens};
 ghost use Rattle.aio_handle.specs.ContractViews.{IsActorOf};
 ghost use Rattle.read_stream.specs.Desks.{AreValidSettings};
 
@@ -56,7 +56,7 @@ pub(crate) fn read_before<W: World, E: Execute<ReadIo, W>, T: Wait>(
     requires settings { AreValidSettings case.now.settings.combine case.now.settings.ios
         case.now.settings.limit case.now.settings.segment }
     requires backend { actor.old.known.number < table.now.config.backends }
-    requires rest { HasNoTokens actor.old.known }
+    requires rest { HasNoOwnerTokens actor.old.known }
     requires relation { case.now.relation < W.relations }
     ensures told { (E.told runner.new ≡ W.told) × (E.relations runner.new ≡ W.relations) }
 {

@@ -1,6 +1,6 @@
 //! Streams over one pool.
 ghost use Rattle.std.specs.Prelude.{◌≡◌, ◌<◌};
-ghost use Rattle.aio_handle.specs.Closing.{HasNoTokens};
+ghost use Rattle.aio_handle.specs.Closing.{HasNoOwnerTokens};
 ghost use Rattle.aio_handle.specs.ContractViews.{IsActorOf, IsSameActor};
 ghost use Rattle.read_stream.specs.Desks.{AreValidSettings};
 ghost use Rattle.read_stream.specs.StreamState.{IsOpen};
@@ -68,11 +68,11 @@ pub(crate) fn stream_over<W: World, E: Execute<ReadIo, W>, T: Wait>(
     requires settings { AreValidSettings case.now.settings.combine case.now.settings.ios
         case.now.settings.limit case.now.settings.segment }
     requires backend { actor.old.known.number < table.now.config.backends }
-    requires rest { HasNoTokens actor.old.known }
+    requires rest { HasNoOwnerTokens actor.old.known }
     requires relation { case.now.relation < W.relations }
     ensures same { IsSameActor actor.old actor.new }
     ensures told { (E.told runner.new ≡ W.told) × (E.relations runner.new ≡ W.relations) }
-    ensures rest { HasNoTokens actor.new.known }
+    ensures rest { HasNoOwnerTokens actor.new.known }
 {
     let mut all = Vec::new(alloc);
     let mut method = CountingSync { heard: 0 };
@@ -122,7 +122,7 @@ pub(crate) fn two_streams<W: World, E: Execute<ReadIo, W>, T: Wait>(
     requires settings { AreValidSettings case.now.settings.combine case.now.settings.ios
         case.now.settings.limit case.now.settings.segment }
     requires backend { actor.old.known.number < table.now.config.backends }
-    requires rest { HasNoTokens actor.old.known }
+    requires rest { HasNoOwnerTokens actor.old.known }
     requires relation { case.now.relation < W.relations }
 {
     let first = case.first.list(alloc)?;

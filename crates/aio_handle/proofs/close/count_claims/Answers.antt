@@ -1,6 +1,6 @@
 use Rattle.std.proofs.Common.{◌≡◌, ◌-◌, ◌^◌, ℕ, min, cond, nat_lt, length, refl, ap, ◌∙◌, arith}
 use Rattle.aio_word.specs.declared.Known.{Known}
-use Rattle.aio_word.specs.Tokens.{claimed_marks}
+use Rattle.aio_word.specs.Tokens.{claimed_mark_count}
 use Rattle.aio_handle.proofs.ListsOfAllActors.{all-of, counts-on}
 use Rattle.aio_handle.proofs.close.count_claims.Goals as goal
 
@@ -10,9 +10,9 @@ loop-k-init g c = record { backends = refl; runners = refl }
 pub loop-k-preserved : goal.loop-k-preserved
 loop-k-preserved g c =
     let of-backends : Known → ℕ =
-    λ p. cond (nat_lt p.number c.args.config.now.backends) (claimed_marks p.marks) 0 in
+    λ p. cond (nat_lt p.number c.args.config.now.backends) (claimed_mark_count p.marks) 0 in
     let of-runners : Known → ℕ =
-    λ p. cond (nat_lt p.number c.args.config.now.backends) 0 (claimed_marks p.marks) in
+    λ p. cond (nat_lt p.number c.args.config.now.backends) 0 (claimed_mark_count p.marks) in
     record {
       backends = counts-on of-backends c.args.actors.now c.loop-k.k c.index-actors-k.result
           c.loop-k.by_backends c.claims-backend.result.0 c.saturating_add-by_backends.result
@@ -27,9 +27,9 @@ loop-k-preserved g c =
 pub returns : goal.returns
 returns g c =
     let of-backends : Known → ℕ =
-    λ p. cond (nat_lt p.number c.args.config.now.backends) (claimed_marks p.marks) 0 in
+    λ p. cond (nat_lt p.number c.args.config.now.backends) (claimed_mark_count p.marks) 0 in
     let of-runners : Known → ℕ =
-    λ p. cond (nat_lt p.number c.args.config.now.backends) 0 (claimed_marks p.marks) in
+    λ p. cond (nat_lt p.number c.args.config.now.backends) 0 (claimed_mark_count p.marks) in
     let end : c.loop-k.k ≡ length c.args.actors.now = let past = c.loop-k-test.false in let most =
     c.loop-k.auto.k-end in omega arith in record {
       backends = c.loop-k.invariant.backends ∙ ap (λ n. min n (2 ^ 128 - 1))

@@ -1,6 +1,6 @@
 use Rattle.std.proofs.Common.{◌≡◌, ◌-◌, ◌^◌, min, cond, nat_lt}
 use Rattle.aio_word.specs.declared.Known.{Known}
-use Rattle.aio_word.specs.Tokens.{claimed_marks}
+use Rattle.aio_word.specs.Tokens.{claimed_mark_count}
 use Rattle.aio_handle.proofs.ListsOfAllActors.{so-far}
 use Rattle.aio_handle.proofs.close.count_claims.Given as goal
 
@@ -8,8 +8,8 @@ abbrev pub invariant-loop-k : goal.invariant-loop-k
 invariant-loop-k g l = record {
   backends : l.by_backends ≡ min
       (so-far (λ (p : Known). cond (nat_lt p.number l.config.backends)
-      (claimed_marks p.marks) 0) l.actors l.k) (2 ^ 128 - 1);
+      (claimed_mark_count p.marks) 0) l.actors l.k) (2 ^ 128 - 1);
   runners : l.by_runners ≡ min
       (so-far (λ (p : Known). cond (nat_lt p.number l.config.backends) 0
-      (claimed_marks p.marks)) l.actors l.k) (2 ^ 128 - 1);
+      (claimed_mark_count p.marks)) l.actors l.k) (2 ^ 128 - 1);
 }

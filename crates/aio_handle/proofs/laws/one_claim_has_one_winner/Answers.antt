@@ -1,5 +1,5 @@
 use Rattle.aio_word.specs.declared.Kind.TheVariants as kind
-use Rattle.aio_handle.proofs.TwoListsInOneSeat.{not-both, not-other}
+use Rattle.aio_handle.proofs.SeatLists.{not-both, not-other}
 use Rattle.aio_handle.proofs.laws.one_claim_has_one_winner.Goals as goal
 
 pub returns-clause-won : goal.returns-clause-won

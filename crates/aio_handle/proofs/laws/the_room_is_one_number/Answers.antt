@@ -1,4 +1,4 @@
-use Rattle.aio_handle.proofs.RoomIsExact.{room-is-one, room-bounded}
+use Rattle.aio_handle.proofs.LivesCounted.{room-is-one, room-bounded}
 use Rattle.aio_handle.proofs.laws.the_room_is_one_number.Goals as goal
 
 pub returns-clause-one : goal.returns-clause-one

@@ -1,4 +1,4 @@
-use Rattle.aio_handle.proofs.TwoListsInOneSeat.{submitted-before}
+use Rattle.aio_handle.proofs.SeatLists.{submitted-before}
 use Rattle.aio_handle.proofs.laws.what_is_claimed_was_submitted.Goals as goal
 
 pub returns : goal.returns

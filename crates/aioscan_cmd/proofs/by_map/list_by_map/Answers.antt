@@ -52,7 +52,7 @@ returns-in-Done-clause-listed g c =
     let bs = c.args.scan.now.backends.items in
     let cs = c.map-ending.new.self.backends.items in
     let known = map_added _ _ told bs cs _ _ found c.map-ending.new.warnings.items
-    c.map-ending.result some c.requires.manner count read ended in
+    c.map-ending.result some c.requires.options count read ended in
     let zero = all_of_zero c.args.asked by.of.file by.of.one_file in
     let all = all_asked c.args.asked by.map by.given told given c.args.skip found.added by.skip_is
     known in (
@@ -65,7 +65,7 @@ returns-in-Done-clause-listed g c =
             warnings = c.map-ending.new.warnings.items;
             tells = tells_same _ _ _ _ (search rules) c.write_warnings-line.ensures;
             are = map_part _ _ told bs cs _ _ found c.map-ending.new.warnings.items
-                c.map-ending.result some c.requires.manner count read by.map _;
+                c.map-ending.result some c.requires.options count read by.map _;
           })
           c.list_rounds.ensures.lists,
       (let first = c.map-ending.ensures.mapped.taken in
@@ -100,7 +100,7 @@ returns g c =
               (g.O.Sink.written c.args.out.now) (g.O.Sink.written c.args.out.now) o
               c.map-ending.new.warnings.items) (sym c.outcome_of.ensures)
               (map_part _ _ told bs cs _ _ found c.map-ending.new.warnings.items
-              c.map-ending.result some c.requires.manner count read by.map _));
+              c.map-ending.result some c.requires.options count read by.map _));
         },
         (let first = c.map-ending.ensures.mapped.taken in omega arith),
       );

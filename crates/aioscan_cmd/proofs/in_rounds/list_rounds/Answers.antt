@@ -25,7 +25,7 @@ returns-clause-lists g c =
     g.E.Sink.faults kept _ t refl (ap (unskipped_parts skips) c.of-blocks.ensures.all)
     (zero_sums c.default.result c.default.ensures) c.run_jobs-lister.ensures.followed.goes_on
     c.run_jobs-lister.ensures.followed.over in
-    let manner_is = ap options_of_settings c.settings-settings.ensures.settings in
+    let options_are = ap options_of_settings c.settings-settings.ensures.settings in
     let Z : ListOptions → Type 0 = λ m.
     IsOutput (format_of_options m) g.W.World.told kept (g.O.Sink.written c.args.out.now)
     (g.O.Sink.written t.out.now) t.outcome listed.warnings in
@@ -41,7 +41,7 @@ returns-clause-lists g c =
       warnings = listed.warnings;
       tells = subst Q (sym (c.err-1.given.1 (sym err_loan) ∙ c.end_borrow-2.ensures)) listed.tells;
       are = subst P (sym (c.out-1.given.1 (sym loan) ∙ c.end_borrow.ensures))
-          (subst Z manner_is listed.are);
+          (subst Z options_are listed.are);
     }
 
 pub returns-clause-writes : goal.returns-clause-writes
@@ -59,14 +59,14 @@ returns-clause-writes g c =
 
 pub returns-clause-sums : goal.returns-clause-sums
 returns-clause-sums g c = λ done.
-    (let manner_is = ap options_of_settings c.settings-settings.ensures.settings in
+    (let options_are = ap options_of_settings c.settings-settings.ensures.settings in
     let skips = filter_of_map c.args.by_map in
     let kept = unskipped_parts skips (resolved_parts c.args.asked) in
     let sums = c.run_jobs-lister.result.sums in
     let Z : ListOptions → Type 0 = λ m. HasSums m g.W.World.told (blocks_of_parts kept) sums in
     let B : List Request → Type 0 = λ l. HasSums
     (options_of_settings (resolved_settings c.args.asked)) g.W.World.told l sums in
-    subst B (resolved_unskipped skips c.args.asked) (subst Z manner_is
+    subst B (resolved_unskipped skips c.args.asked) (subst Z options_are
     (all_summed g.W.World.told g.O.Sink.written g.O.Sink.faults g.E.Sink.written
     g.E.Sink.faults kept _ c.run_jobs-lister.result refl
     (ap (unskipped_parts skips) c.of-blocks.ensures.all)

@@ -1,5 +1,4 @@
 use Rattle.std.proofs.Common.{◌∙◌, ap, subst, sym}
-use Rattle.scan_rounds.specs.DiskActors.{disk_ghosts}
 use Rattle.scan_rounds.specs.OpenedScan.{workers_of_method}
 use Rattle.aioscan_cmd.specs.NewScan.{IsNewScan}
 use Rattle.aioscan_cmd.proofs.opening.open_rings.Goals as goal
@@ -8,8 +7,8 @@ pub returns-in-Ok-clause-new : goal.returns-in-Ok-clause-new
 returns-in-Ok-clause-new g c =
     let e = c.in-Ok.ensures in
     let none = ap (λ k. workers_of_method k c.args.settings.now.workers) c.requires.method in
-    subst (λ s. IsNewScan (disk_ghosts g.D.Disk.told g.D.Disk.relations g.D.Disk.reads
-    g.D.Disk.faults) g.W.World.told g.W.World.relations c.args.settings.now c.args.disks.items s)
+    subst (λ s. IsNewScan g.D.Disk g.W.World.told g.W.World.relations c.args.settings.now
+    c.args.disks.items s)
     (sym c.into_scan.ensures) (record {
       is = e.scan;
       set_up = e.set_up;
@@ -18,5 +17,5 @@ returns-in-Ok-clause-new g c =
       taken = e.taken;
       room = e.room;
       unread = e.unread;
-      manner_is = e.options;
+      options_are = e.options;
     })

@@ -62,7 +62,7 @@ overflow_add-chain c =
       arith,
       goes_few (step_of c.args.page.now c.args.block) c.loop-item.lengths is.at c.loop-item.chain
           (λ x below. rw c.loop-item.invariant.size (step_of-below c.args.page.now c.args.block x))
-          is.is_open.known is.goes,
+          is.is_open.known is.remaining,
       c.loop-item.invariant.size,
       few_items _ (lower_of_valid _ c.requires.valid),
     )

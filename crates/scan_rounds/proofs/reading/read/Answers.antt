@@ -4,7 +4,7 @@ use Rattle.aio_word.specs.Events.{lives_ended}
 use Rattle.read_stream.specs.StreamAnswers.{stream_entries}
 use Rattle.read_stream.specs.Desks.{IsFreeDesk}
 use Rattle.read_stream.specs.declared.desk.Desk.{Desk}
-use Rattle.read_stream.specs.ActorProgress.{local_marks}
+use Rattle.read_stream.specs.ActorProgress.{local_mark_count}
 use Rattle.read_stream.proofs.ActorAdvancedLaws.{advanced_then}
 use Rattle.scan_rounds.specs.BlockFilter.{filter_of}
 use Rattle.scan_rounds.proofs.Blocks.{given_moved, source_count, source_entries, source_few}
@@ -26,9 +26,10 @@ take_all-ending-requires-clause-few g c =
     let most = c.requires.few in
     omega arith
 
-pub returns-clause-went : goal.returns-clause-went
-returns-clause-went g c =
-    advanced_then _ _ _ _ _ _ _ _ _ c.take_all-ending.ensures.went c.close-desk.ensures.went
+pub returns-clause-actor_advanced : goal.returns-clause-actor_advanced
+returns-clause-actor_advanced g c =
+    advanced_then _ _ _ _ _ _ _ _ _ c.take_all-ending.ensures.actor_advanced
+    c.close-desk.ensures.actor_advanced
 
 pub returns-clause-desk : goal.returns-clause-desk
 returns-clause-desk g c =
@@ -60,7 +61,7 @@ returns-clause-taken g c =
     c.args.blocks.first c.args.blocks.count in
     let long = ap length (c.take_all-ending.ensures.was.1
     ∙ (c.open-stream.ensures.source ∙ c.of-source.ensures)) in
-    let marks = ap (λ (a : ActorView). local_marks a.known.marks) was in
+    let marks = ap (λ (a : ActorView). local_mark_count a.known.marks) was in
     let taken = c.close-desk.ensures.few in
     let count = c.close-desk.ensures.count in
     omega arith
@@ -72,4 +73,4 @@ returns-clause-given g c =
     (ap (stream_entries c.args.blocks.relation) (c.open-stream.ensures.source ∙ c.of-source.ensures)
     ∙ source_entries (filter_of c.args.blocks.skipping) c.args.blocks.relation c.args.blocks.first
     c.args.blocks.count)
-    c.close-desk.ensures.went c.take_all-ending.ensures.given
+    c.close-desk.ensures.actor_advanced c.take_all-ending.ensures.given

@@ -15,7 +15,7 @@ loop-ending-init g c = record {
   of = search rules;
   told = c.requires.told;
   stands_on = refl;
-  went = advanced_nothing _ _ _;
+  actor_advanced = advanced_nothing _ _ _;
   actor_is = search rules;
   place = search rules;
   is_open = search rules;
@@ -61,7 +61,8 @@ loop-ending-preserved g c =
       of = (s.0 ∙ i.of.0, s.1 ∙ i.of.1);
       told = (c.next-answer.ensures.told.0 ∙ i.told.0, c.next-answer.ensures.told.1 ∙ i.told.1);
       stands_on = c.next-answer.ensures.stands_on ∙ i.stands_on;
-      went = advanced_then _ _ _ _ _ _ _ _ _ i.went c.next-answer.ensures.went;
+      actor_advanced = advanced_then _ _ _ _ _ _ _ _ _ i.actor_advanced
+          c.next-answer.ensures.actor_advanced;
       actor_is = sym f.actor_is;
       place = f.relation ∙ i.place;
       is_open = f.is_open;
@@ -93,9 +94,10 @@ loop-ending-smaller g c =
     + pages_given (synchronous_answer r c.next-answer.result)) i.place) in
     omega arith
 
-pub returns-in-Some-clause-went : goal.returns-in-Some-clause-went
-returns-in-Some-clause-went g c =
-    advanced_then _ _ _ _ _ _ _ _ _ c.loop-ending.invariant.went c.next-answer.ensures.went
+pub returns-in-Some-clause-actor_advanced : goal.returns-in-Some-clause-actor_advanced
+returns-in-Some-clause-actor_advanced g c =
+    advanced_then _ _ _ _ _ _ _ _ _ c.loop-ending.invariant.actor_advanced
+    c.next-answer.ensures.actor_advanced
 
 pub returns-in-Some-clause-given : goal.returns-in-Some-clause-given
 returns-in-Some-clause-given g c =

@@ -13,7 +13,7 @@ invariant-loop-ending g l = record {
   told : (g.E.Execute.told l.runner ≡ g.W.World.told)
       × (g.E.Execute.relations l.runner ≡ g.W.World.relations);
   stands_on : g.M.Method.stands_on l.method ≡ g.M.Method.stands_on l.fn.method;
-  went : ActorAdvanced l.fn.actor.known l.actor.known (g.E.Execute.reads l.fn.runner)
+  actor_advanced : ActorAdvanced l.fn.actor.known l.actor.known (g.E.Execute.reads l.fn.runner)
       (g.E.Execute.reads l.runner) (g.E.Execute.faults l.fn.runner)
       (g.E.Execute.faults l.runner);
   actor_is : l.actor ≡ l.stream.actor_is.value;

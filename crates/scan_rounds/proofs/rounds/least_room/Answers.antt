@@ -1,7 +1,7 @@
 use Rattle.std.proofs.Common.{rules, List, ◌≤◌, arith, subst}
 use Rattle.std.proofs.lemmas.List.{take_all}
 use Rattle.std.proofs.Math.Nat.{min-le_left}
-use Rattle.scan_rounds.specs.Rounds.{HaveRoom}
+use Rattle.scan_rounds.specs.Rounds.{AllBackendsHaveRoom}
 use Rattle.scan_rounds.proofs.LeastRoom.{least_next, greatest_next, least_is}
 use Rattle.scan_rounds.proofs.rounds.least_room.Goals as goal
 
@@ -22,7 +22,8 @@ returns g c =
     let all = take_all c.loop-backend.backend-index c.args.backends.now (search rules) in
     record {
       least = least_is c.loop-backend.least c.args.backends.now c.requires.some i.small
-          (subst (λ (bs : List _). HaveRoom c.loop-backend.least bs) all i.have)
-          (λ n small. subst (λ (bs : List _). HaveRoom n bs → n ≤ c.loop-backend.least) all
+          (subst (λ (bs : List _). AllBackendsHaveRoom c.loop-backend.least bs) all i.have)
+          (λ n small. subst (λ (bs : List _). AllBackendsHaveRoom n bs → n ≤ c.loop-backend.least)
+          all
           (i.greatest n small));
     }

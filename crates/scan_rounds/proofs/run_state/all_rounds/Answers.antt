@@ -8,7 +8,7 @@ pub loop-backends-init : goal.loop-backends-init
 loop-backends-init g c =
     let may = c.requires.may in
     record {
-      goes = no_rounds _ _ _ _ may.waiting may.all_list_in
+      advanced = no_rounds _ _ _ _ may.waiting may.all_list_in
           (g.met.A.JobSource.follows_itself c.args.job_source.now);
       many = (may.waiting.some, may.places, omega arith);
       room = may.room;
@@ -18,29 +18,29 @@ pub next_turn-requires-clause-may : goal.next_turn-requires-clause-may
 next_turn-requires-clause-may g c κs within =
     let i = c.loop-backends.invariant in
     record {
-      waiting = i.goes.waiting;
+      waiting = i.advanced.waiting;
       places = search rules;
       room = i.room;
       all_list_in = subst (λ (n : ListOptions). AllHaveOptions n c.loop-backends.backends)
-          (sym i.goes.options_are) i.goes.all_list_in;
-      filter_is = i.goes.filter_is ∙ c.requires.may.filter_is;
+          (sym i.advanced.options_are) i.advanced.all_list_in;
+      filter_is = i.advanced.filter_is ∙ c.requires.may.filter_is;
     }
 
 pub loop-backends-preserved : goal.loop-backends-preserved
 loop-backends-preserved g c =
     let i = c.loop-backends.invariant in
-    let e = c.next_turn.ensures.goes in
+    let e = c.next_turn.ensures.advanced in
     record {
-      goes = rounds_then g.met.A.JobSource.follows_on i.goes e (search rules);
+      advanced = rounds_then g.met.A.JobSource.follows_on i.advanced e (search rules);
       many = search rules;
       room = (let asked = e.gone.room in let room = i.room in let fewer = e.left_fewer in
           omega arith);
     }
 
-pub returns-then-not-next_turn-clause-goes : goal.returns-then-not-next_turn-clause-goes
-returns-then-not-next_turn-clause-goes g c =
-    let e = rounds_then g.met.A.JobSource.follows_on c.loop-backends.invariant.goes
-    c.next_turn.ensures.goes (search rules) in
+pub returns-then-not-next_turn-clause-advanced : goal.returns-then-not-next_turn-clause-advanced
+returns-then-not-next_turn-clause-advanced g c =
+    let e = rounds_then g.met.A.JobSource.follows_on c.loop-backends.invariant.advanced
+    c.next_turn.ensures.advanced (search rules) in
     let closed = c.close_queue.ensures in
     let gone = gone_as _ _ _ _ _ _ _ _ _ _ _ _ _ refl closed.disk_actors e.gone in
     record {

@@ -1,12 +1,11 @@
 use Rattle.std.proofs.Common.{◌≤◌, ◌*◌, length}
 use Rattle.scan_rounds.specs.JobSources.{JobSourceAdvanced}
-use Rattle.scan_rounds.specs.DiskActors.{disk_ghosts}
 use Rattle.scan_rounds.proofs.run_state.all_rounds.Given as goal
 
 abbrev pub invariant-loop-backends : goal.invariant-loop-backends
 invariant-loop-backends g l = record {
-  goes : JobSourceAdvanced (disk_ghosts g.D.Disk.told g.D.Disk.relations g.D.Disk.reads
-      g.D.Disk.faults) g.W.World.told g.W.World.relations l.shared.table l.shared.queue
+  advanced : JobSourceAdvanced g.D.Disk g.W.World.told g.W.World.relations l.shared.table
+      l.shared.queue
       g.A.JobSource.blocks_left g.A.JobSource.unskipped_left g.A.JobSource.unread
       g.A.JobSource.options g.A.JobSource.block_filter g.A.JobSource.follows l.fn.backends
       l.backends l.fn.jobs l.jobs l.fn.job_source l.job_source l.fn.counts l.counts;

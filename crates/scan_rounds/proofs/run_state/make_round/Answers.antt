@@ -1,5 +1,4 @@
 use Rattle.std.proofs.Common.{refl, sym, subst, arith, map, List}
-use Rattle.scan_rounds.specs.DiskActors.{disk_ghosts}
 use Rattle.scan_rounds.specs.Rounds.{AllAdvanced, backend_disk_actor}
 use Rattle.scan_rounds.specs.declared.disk_actor.DiskActor.{DiskActor}
 use Rattle.scan_rounds.proofs.RoundsCompose.{as_many_disk_actors, listed_as, taken_as}
@@ -31,8 +30,8 @@ returns g c =
       made = record {
         waiting = closed.waiting;
         closed = closed.closed;
-        go_on = subst (λ (hs : List (DiskActor _ _)). AllAdvanced (disk_ghosts g.D.Disk.told
-            g.D.Disk.relations g.D.Disk.reads g.D.Disk.faults) g.W.World.told g.W.World.relations
+        go_on = subst (λ (hs : List (DiskActor _ _)). AllAdvanced g.D.Disk g.W.World.told
+            g.W.World.relations
             c.args.shared.now.table (map backend_disk_actor c.args.backends.now) hs)
             (sym closed.disk_actors) e.go_on;
         listed = λ how all. listed_as _ how _ _ _ _ _ _ (let few = may.few in omega arith)

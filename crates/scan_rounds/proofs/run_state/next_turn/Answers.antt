@@ -1,7 +1,7 @@
 use Rattle.std.proofs.Common.{rules, refl, sym, ap, ◌∙◌, subst, arith, length, List, ◌+◌, ◌≤◌}
 use Rattle.std.specs.List.{All}
 use Rattle.scan_rounds.specs.Jobs.{IsFresh, AreAnswered, count_unskipped}
-use Rattle.scan_rounds.specs.Rounds.{results_taken}
+use Rattle.scan_rounds.specs.Rounds.{results_taken_count}
 use Rattle.scan_rounds.specs.BlockFilter.{filter_of}
 use Rattle.scan_rounds.specs.declared.job.Job.{Job}
 use Rattle.scan_rounds.proofs.RoundsCompose.{gone_nowhere, answered_as, as_many_disk_actors}
@@ -9,8 +9,8 @@ use Rattle.scan_rounds.proofs.RoundsCompose.{some_blocks}
 use Rattle.scan_rounds.proofs.JobsInSequence.{few_jobs, share_fits}
 use Rattle.scan_rounds.proofs.run_state.next_turn.Goals as goal
 
-pub returns-then-count-eq0-clause-goes : goal.returns-then-count-eq0-clause-goes
-returns-then-count-eq0-clause-goes g c =
+pub returns-then-count-eq0-clause-advanced : goal.returns-then-count-eq0-clause-advanced
+returns-then-count-eq0-clause-advanced g c =
     let may = c.requires.may in
     let e = c.next_jobs-count.ensures in
     record {
@@ -18,7 +18,7 @@ returns-then-count-eq0-clause-goes g c =
       backends = refl;
       places = e.few.1;
       left_fewer = (let left = e.left in omega arith);
-      due_fewer = (let due = e.due in omega arith);
+      due_fewer = (let unskipped = e.unskipped in omega arith);
       all_list_in = may.all_list_in;
       options_are = e.options;
       filter_is = e.block_filter;
@@ -44,8 +44,8 @@ take_turn-requires-clause-room g c κs within = (
       let left = c.next_jobs-count.ensures.left in let room = c.requires.may.room in omega arith),
 )
 
-pub returns-clause-goes : goal.returns-clause-goes
-returns-clause-goes g c =
+pub returns-clause-advanced : goal.returns-clause-advanced
+returns-clause-advanced g c =
     let may = c.requires.may in
     let e = c.take_turn.ensures in
     let backends = as_many_disk_actors _ _ _ _ _ _ e.go_on in
@@ -54,8 +54,8 @@ returns-clause-goes g c =
     let few = few_jobs _ _ c.next_jobs-count.ensures.fresh in
     let left = c.next_jobs-count.ensures.left in
     let less = c.finish_jobs.ensures.left in
-    let due = c.next_jobs-count.ensures.due in
-    let owed = c.finish_jobs.ensures.due in
+    let unskipped = c.next_jobs-count.ensures.unskipped in
+    let owed = c.finish_jobs.ensures.unskipped in
     let kept = ap (count_unskipped (g.A.JobSource.block_filter c.args.job_source.now))
     c.split_at_mut-front.ensures.front in
     record {
@@ -75,8 +75,8 @@ returns-clause-goes g c =
       gone = record {
         go_on = e.go_on;
         room = (let r = e.room.1 in omega arith);
-        taken = (let n = subst (λ s. results_taken c.take_turn.new.backends
-            ≤ results_taken c.args.backends.now + count_unskipped s
+        taken = (let n = subst (λ s. results_taken_count c.take_turn.new.backends
+            ≤ results_taken_count c.args.backends.now + count_unskipped s
             c.split_at_mut-front.result.0.now) (sym may.filter_is) e.taken in omega arith);
         more = _;
         raised = e.unread;
@@ -84,7 +84,7 @@ returns-clause-goes g c =
             let b = c.finish_jobs.ensures.unread in
             omega arith);
       };
-      goes_on = c.finish_jobs.ensures.follows _ _ c.next_jobs-count.ensures.puts
+      goes_on = c.finish_jobs.ensures.follows _ _ c.next_jobs-count.ensures.gives_jobs
           (answered_as _ _ _ _ _ _ _ (c.next_jobs-count.ensures.block_filter ∙ may.filter_is)
           c.next_jobs-count.ensures.options
           (subst (λ (js : List Job). AreAnswered (filter_of c.args.skipping)

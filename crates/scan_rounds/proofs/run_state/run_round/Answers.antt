@@ -1,12 +1,13 @@
-use Rattle.std.proofs.Common.{length-append, ◌≡◌, ℕ, List, ◌++◌, length, take, rules, sym, subst, arith, ap, ◌∙◌}
+use Rattle.std.proofs.Common.{length-append, ◌≡◌, ℕ, List, ◌++◌, length, take, rules, sym, subst}
+use Rattle.std.proofs.Common.{arith, ap, ◌∙◌}
 use Rattle.std.proofs.lemmas.List.{take-append-le, take_all}
+use Rattle.aio_disk.specs.declared.disk.Disk.{Ghosts as DiskGhosts}
 use Rattle.scan_rounds.proofs.RoundsCompose.{as_many_disk_actors}
 use Rattle.std.specs.Prelude.{Option}
 use Rattle.page_check.specs.Told.{Told}
 use Rattle.aio_handle.specs.ContractViews.{TableView}
 use Rattle.method_worker.specs.QueueViews.{QueueView}
 use Rattle.scan_rounds.specs.BlockFilter.{BlockFilter}
-use Rattle.scan_rounds.specs.DiskActors.{DiskGhosts}
 use Rattle.scan_rounds.specs.Progress.{RoundMade}
 use Rattle.scan_rounds.specs.RoundStates.{HasRunRound}
 use Rattle.scan_rounds.specs.declared.backend.Backend.{Backend}
@@ -27,7 +28,8 @@ has_run {W} {D} m told relations t q block_filter r s gs bs js ks begun backends
     made =
     record {
       made = subst (λ (xs : List (Backend W D)). RoundMade m told relations t q block_filter xs
-          s.backends.items (take r.count r.jobs.items) (take r.count s.jobs.items) r.counts s.counts)
+          s.backends.items (take r.count r.jobs.items) (take r.count s.jobs.items) r.counts
+          s.counts)
           begun
           (subst (λ (xs : List (Backend W D)). RoundMade m told relations t q block_filter gs xs
           (take r.count r.jobs.items) (take r.count s.jobs.items) r.counts s.counts) backends
@@ -49,7 +51,8 @@ returns g c =
     let back = c.split_at_mut-front.result.1.now in
     let listed = c.make_round.new.jobs in
     let many = as_many_disk_actors _ _ _ _ _ _ made.go_on in
-    let as_many : length listed ≡ length c.split_at_mut-front.result.0.now = c.make_round.auto.jobs in
+    let as_many : length listed ≡ length c.split_at_mut-front.result.0.now = c.make_round.auto.jobs
+    in
     let both = length-append listed back in
     let len = c.as_mut_slice.ensures.len in
     let was = ap length c.as_mut_slice.ensures.value in

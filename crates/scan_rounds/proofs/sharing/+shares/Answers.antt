@@ -41,4 +41,5 @@ pub share_out-returns : goal.share_out-returns
 share_out-returns g t c =
     rw (c.split_at_mut-first.ensures.value, c.split_at_mut-front.ensures.value)
     (both_shares _ _ c.args.size _ _ _ _ _ _ _ _
-    (λ less. nil_from_length c.split_at_mut-front.result.1.now (grind arith)) c.both_halves.ensures.first c.both_halves.ensures.others)
+    (λ less. nil_from_length c.split_at_mut-front.result.1.now (grind arith))
+    c.both_halves.ensures.first c.both_halves.ensures.others)

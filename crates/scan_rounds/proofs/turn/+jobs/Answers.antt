@@ -1,12 +1,12 @@
 use Rattle.std.proofs.Common.{refl, sym, subst, arith, length, List, ◌∷◌, [], ◌*◌, ◌+◌}
 use Rattle.std.proofs.lemmas.List.Elements.{All-rest}
-use Rattle.scan_rounds.specs.DiskActors.{disk_ghosts}
 use Rattle.scan_rounds.specs.Jobs.{IsFresh}
 use Rattle.scan_rounds.specs.BlockFilter.{filter_of}
 use Rattle.scan_rounds.specs.Turns.{HasTurned, ListedAlone}
 use Rattle.scan_rounds.specs.declared.job.Job.{Job}
 use Rattle.scan_rounds.proofs.LeastRoom.{fewer}
-use Rattle.scan_rounds.proofs.JobsInSequence.{may_later, none_done, none_listed, one_alone, one_then}
+use Rattle.scan_rounds.proofs.JobsInSequence.{may_later, none_done, none_listed, one_alone}
+use Rattle.scan_rounds.proofs.JobsInSequence.{one_then}
 use Rattle.scan_rounds.proofs.JobsInSequence.{turned_more}
 use Rattle.scan_rounds.proofs.turn.+jobs.Goals as goal
 
@@ -39,8 +39,7 @@ returns-in-Some g t c =
     let job = c.in-Some.job.now in
     let later = c.in-Some.later.now in
     let own = c.args.backend.now in record {
-      done = subst (λ (js : List Job). HasTurned (disk_ghosts g.D.Disk.told g.D.Disk.relations
-          g.D.Disk.reads g.D.Disk.faults) g.W.World.told g.W.World.relations
+      done = subst (λ (js : List Job). HasTurned g.D.Disk g.W.World.told g.W.World.relations
           c.args.shared.now.table c.args.shared.now.queue (filter_of c.args.skipping)
           (64 * length c.args.jobs.now) (own ∷ []) (c.do_jobs.new.backend ∷ []) js
           (c.list.new.job ∷ c.do_jobs.new.jobs)) (sym both.0)

@@ -1,7 +1,8 @@
 use denote.Param.Send.{sendable}
 use Rattle.std.proofs.Common.{subst}
 use Rattle.scan_rounds.specs.Shares.{AreFilled}
-use Rattle.scan_rounds.proofs.SharesInParallel.{all_placed, all_turned, alone_as, may_share, turned_as}
+use Rattle.scan_rounds.proofs.SharesInParallel.{all_placed, all_turned, alone_as, may_share}
+use Rattle.scan_rounds.proofs.SharesInParallel.{turned_as}
 use Rattle.scan_rounds.proofs.turn.do_shares.Goals as goal
 
 pub share_out-requires-clause-accepts : goal.share_out-requires-clause-accepts

@@ -25,7 +25,8 @@ returns-clause-room g c =
     let done = c.do_shares.ensures.done in (
       c.least_room.ensures.least,
       least_falls (64 * c.args.share) c.args.backends.now c.do_shares.new.backends
-          c.args.counts.room c.least_room.result done.as_many (λ i d lt. (done.goes i d lt).same)
+          c.args.counts.room c.least_room.result done.as_many
+          (λ i d lt. (done.advanced i d lt).same)
           (λ i d lt. (c.requires.backends i d lt).backend) done.lived c.requires.room.0.have
           c.least_room.ensures.least,
     )

@@ -13,7 +13,7 @@ use Rattle.aio_handle.proofs.DefineSteps.{define-is-allowed}
 use Rattle.aio_handle.proofs.TokensAfterEvent.{defined-token}
 use Rattle.aio_handle.proofs.CallSteps.{makes-made, makes-seated}
 use Rattle.aio_handle.proofs.CacheAfterLives.{caches-defined}
-use Rattle.aio_handle.proofs.OwnPlaces.{owner-place}
+use Rattle.aio_handle.proofs.FreeHandles.{owner-place}
 use Rattle.aio_handle.specs.OwnHandleCache.{CachesOwnHandles}
 use Rattle.aio_handle.proofs.table.Table.define.Goals as goal
 

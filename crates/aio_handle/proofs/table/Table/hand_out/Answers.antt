@@ -10,7 +10,7 @@ use Rattle.aio_word.specs.Events.{owner, lives_ended}
 use Rattle.aio_handle.proofs.HandOutSteps.{hand-out-is-allowed}
 use Rattle.aio_handle.proofs.CallSteps.{hands-seated}
 use Rattle.aio_handle.proofs.CacheAfterEvents.{caches-handed-out}
-use Rattle.aio_handle.proofs.OwnPlaces.{owner-place}
+use Rattle.aio_handle.proofs.FreeHandles.{owner-place}
 use Rattle.aio_word.specs.declared.Step.TheVariants as event
 use Rattle.aio_handle.proofs.CallSteps.{hands-made}
 use Rattle.aio_handle.proofs.table.Table.hand_out.Goals as goal

@@ -14,7 +14,7 @@ use Rattle.aio_handle.proofs.TokensAfterEvent.{local-slot-out}
 use Rattle.aio_handle.proofs.SeatAfterStep.{moved_to_front-none}
 use Rattle.aio_handle.proofs.CallSteps.{returns-seated}
 use Rattle.aio_handle.proofs.CacheAfterLives.{caches-reclaimed}
-use Rattle.aio_handle.proofs.OwnPlaces.{owner-place}
+use Rattle.aio_handle.proofs.FreeHandles.{owner-place}
 use Rattle.aio_handle.specs.OwnHandleCache.{CachesOwnHandles}
 use Rattle.aio_handle.proofs.CallSteps.{returns-made, by-next}
 use Rattle.aio_handle.proofs.table.Table.reclaim.Goals as goal

@@ -19,8 +19,8 @@ returns-in-Done-clause-left g c =
       none_left_out jobs,
     )
 
-pub returns-in-Done-clause-due : goal.returns-in-Done-clause-due
-returns-in-Done-clause-due g c =
+pub returns-in-Done-clause-unskipped : goal.returns-in-Done-clause-unskipped
+returns-in-Done-clause-unskipped g c =
     let jobs = take c.fill.result c.fill.new.jobs in
     let skips = lister_filter c.args.self.now in
     omega (

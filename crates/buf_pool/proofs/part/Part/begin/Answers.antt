@@ -5,9 +5,11 @@ use Rattle.buf_pool.proofs.part.Part.begin.Goals as goal
 pub returns-in-Hit : goal.returns-in-Hit
 returns-in-Hit g c =
     let part = c.args.self.now in
-    let same : c.deref.result.now ≡ c.deref_mut.result.now = c.deref.ensures ∙ sym c.deref_mut.ensures.value in
+    let same : c.deref.result.now ≡ c.deref_mut.result.now = c.deref.ensures
+    ∙ sym c.deref_mut.ensures.value in
     shown_frame part.share.pool_frames part.share.part c.deref_mut.result.now.share.pool_frames
-    c.deref_mut.result.now.share.part part.first c.in-Hit.frame (length c.deref_mut.result.now.index) c.ne.result
+    c.deref_mut.result.now.share.part part.first c.in-Hit.frame
+    (length c.deref_mut.result.now.index) c.ne.result
     (c.ne.ensures ∙ ap
     (λ i. not (eqb i.share.part part.share.part && eqb i.share.pool_frames part.share.pool_frames))
     same)
@@ -16,9 +18,11 @@ returns-in-Hit g c =
 pub returns-in-Yes : goal.returns-in-Yes
 returns-in-Yes g c =
     let part = c.args.self.now in
-    let same : c.deref.result.now ≡ c.deref_mut.result.now = c.deref.ensures ∙ sym c.deref_mut.ensures.value in
+    let same : c.deref.result.now ≡ c.deref_mut.result.now = c.deref.ensures
+    ∙ sym c.deref_mut.ensures.value in
     shown_frame part.share.pool_frames part.share.part c.deref_mut.result.now.share.pool_frames
-    c.deref_mut.result.now.share.part part.first c.in-Yes.frame (length c.deref_mut.result.now.index) c.ne.result
+    c.deref_mut.result.now.share.part part.first c.in-Yes.frame
+    (length c.deref_mut.result.now.index) c.ne.result
     (c.ne.ensures ∙ ap
     (λ i. not (eqb i.share.part part.share.part && eqb i.share.pool_frames part.share.pool_frames))
     same)

@@ -41,7 +41,8 @@ pub invariant_of-result : goal.invariant_of-result
 invariant_of-result g c =
     let last : c.loop-part.part ≡ part_count c.args.frames = omega
     (arith, c.loop-part-test.false, c.loop-part.auto.part-end, c.part_count-count.ensures.count) in
-    divided c.args.frames c.loop-part.part c.loop-part.first c.loop-part.parts.items c.requires.0 last
+    divided c.args.frames c.loop-part.part c.loop-part.first c.loop-part.parts.items c.requires.0
+    last
     c.loop-part.invariant
 
 pub returns : goal.returns

@@ -27,8 +27,9 @@ returns-clause-handed g c =
     c.hand_out-2.new.actor.known c.take_in.new.self c.in-Some-hand_out.token _ _ _ _ _ _
     (advanced_then p q r _ _ _ _ _ _
     (advanced-from c.hand_out.new.actor.known p q _ _ _ _
-    (ap (λ (z : ActorView). z.known) c.in_default.ensures.none.0) c.submit.ensures.serves.went)
-    c.take_in.ensures.serves.went)
+    (ap (λ (z : ActorView). z.known) c.in_default.ensures.none.0)
+    c.submit.ensures.context_advanced.actor_advanced)
+    c.take_in.ensures.context_advanced.actor_advanced)
     (c.in-Some-hand_out.ensures.handed _ _)
 
 pub returns-in-Some-clause-runs : goal.returns-in-Some-clause-runs
@@ -45,8 +46,8 @@ unreachable-requires g c =
     let first = c.submit.ensures.all.1 in
     let then = c.take_in.ensures.all.1 in
     let io_budget = c.requires.io_budget in
-    let table = c.take_in.ensures.serves.table in
-    let same = table ∙ c.submit.ensures.serves.table in
+    let table = c.take_in.ensures.context_advanced.table in
+    let same = table ∙ c.submit.ensures.context_advanced.table in
     handle_is_free c.args.scope.now g.W.World.told g.W.World.relations _
     c.take_in.new.context.actor.now.known
     c.take_in.new.self (c.requires.handed.scope.1 ∙ sym (ap (λ z. z.now.config) same))
@@ -65,8 +66,8 @@ returns-clause-runs g c = λ runs f.
     (subst (λ (z : ActorView). ReadsForRuns c.args.scope.now z.known c.args.self.now runs)
     (sym c.in_default.ensures.none.0) f))))
 
-pub returns-in-Some-clause-serves : goal.returns-in-Some-clause-serves
-returns-in-Some-clause-serves g c =
+pub returns-in-Some-clause-context_advanced : goal.returns-in-Some-clause-context_advanced
+returns-in-Some-clause-context_advanced g c =
     let x : IoContext g.row.W.Denot g.row.M.Denot g.row.E.Denot = c.args.context.now in
     context_advanced_by x c.hand_out.new.actor x.method.now x.runner.now c.hand_out.ensures.same
     (refl, refl)
@@ -74,8 +75,8 @@ returns-in-Some-clause-serves g c =
     c.hand_out.new.actor.known c.args.self.now c.in-Some.token _ _ _ _
     (c.in-Some.ensures.handed _ _)) refl
 
-pub returns-clause-serves : goal.returns-clause-serves
-returns-clause-serves g c =
+pub returns-clause-context_advanced : goal.returns-clause-context_advanced
+returns-clause-context_advanced g c =
     let x : IoContext g.row.W.Denot g.row.M.Denot g.row.E.Denot = c.args.context.now in
     let y : IoContext g.row.W.Denot g.row.M.Denot g.row.E.Denot = c.take_in.new.context in
     context_advanced_then
@@ -84,7 +85,8 @@ returns-clause-serves g c =
     (advanced-handed-out c.args.scope.now g.W.World.told g.W.World.relations y.actor.now.known
     c.hand_out-2.new.actor.known c.take_in.new.self c.in-Some-hand_out.token _ _ _ _
     (c.in-Some-hand_out.ensures.handed _ _)) refl)
-    (context_advanced_then c.take_in.ensures.serves (context_advanced_then c.submit.ensures.serves
+    (context_advanced_then c.take_in.ensures.context_advanced
+    (context_advanced_then c.submit.ensures.context_advanced
     (context_advanced_by x c.hand_out.new.actor x.method.now x.runner.now c.hand_out.ensures.same
     (refl, refl)
     (subst (λ (z : ActorView). ActorAdvanced x.actor.now.known z.known

@@ -37,8 +37,9 @@ loop-io-preserved g c =
     let made = rest.2 in
     let was = inv.made in
     record {
-      handed = valid_context_then inv.handed c.in-Some.ensures.serves;
-      serves = context_advanced_then c.in-Some.ensures.serves inv.serves;
+      handed = valid_context_then inv.handed c.in-Some.ensures.context_advanced;
+      context_advanced = context_advanced_then c.in-Some.ensures.context_advanced
+          inv.context_advanced;
       issued = subst (λ (z : Reads W). Issued c.args.scope.now g.W.World.told g.W.World.relations
           c.oldest_record.new.context.actor.now.known z) (sym is) more.0;
       records = ap (λ (z : Reads W). record_count z) is ∙ (omega arith);
@@ -46,9 +47,9 @@ loop-io-preserved g c =
       batch = ap (λ (z : Reads W). z.batch) is ∙ (rest.1 ∙ inv.batch);
     }
 
-pub returns-clause-serves : goal.returns-clause-serves
-returns-clause-serves g c =
-    context_advanced_then c.in_default.ensures.serves c.loop-io.invariant.serves
+pub returns-clause-context_advanced : goal.returns-clause-context_advanced
+returns-clause-context_advanced g c =
+    context_advanced_then c.in_default.ensures.context_advanced c.loop-io.invariant.context_advanced
 
 pub returns-clause-ready : goal.returns-clause-ready
 returns-clause-ready g c =

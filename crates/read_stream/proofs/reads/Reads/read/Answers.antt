@@ -35,18 +35,18 @@ settle-requires-clause-submitted g c =
     (λ t i. ⊎_elim (λ e. subst (λ (z : WaitRef). IsStreamIo c.args.scope.now
     c.submit_next.new.actor.known z) e held.stream_ios) (λ j. absurd j) i)
 
-pub returns-clause-serves : goal.returns-clause-serves
-returns-clause-serves g c =
+pub returns-clause-context_advanced : goal.returns-clause-context_advanced
+returns-clause-context_advanced g c =
     let b : Known = c.stage-token.new.context.actor.now.known in
     let q : Known = c.submit_next.new.actor.known in
     context_advanced_then
-    (context_advanced_then c.settle.ensures.serves
+    (context_advanced_then c.settle.ensures.context_advanced
     (context_advanced_by c.stage-token.new.context c.submit_next.new.actor
     c.stage-token.new.context.method.now
     c.submit_next.new.runner c.in-Some.ensures.same c.in-Some.ensures.told
     (advanced_submitting record_aim c.put.new.self.batch c.submit_next.new.self c.in-Some.token b q
     _ _ _ _ c.in-Some.ensures.next) refl))
-    (context_advanced_then c.stage-token.ensures.serves c.submit.ensures.serves)
+    (context_advanced_then c.stage-token.ensures.context_advanced c.submit.ensures.context_advanced)
 
 pub returns-clause-run : goal.returns-clause-run
 returns-clause-run g c =

@@ -23,8 +23,8 @@ reclaims : (t u : WaitRef) (class : Class) (m q : Known) → u ≡ t
 reclaims t u class m q e made = subst (λ (z : WaitRef). EventMade Reclaim z.handle
     (taken_word class z.generation) (idle_word (z.generation + 1)) [] m q) e made
 
-pub returns-clause-serves : goal.returns-clause-serves
-returns-clause-serves g c =
+pub returns-clause-context_advanced : goal.returns-clause-context_advanced
+returns-clause-context_advanced g c =
     let l : WaitRef × ReadIoView = c.wait_own-local.result in
     let p : Known = c.args.context.now.actor.now.known in
     let m : Known = c.wait_own-local.new.actor.known in
@@ -117,5 +117,6 @@ returns-clause-idle g c =
 
 pub returns-clause-runs : goal.returns-clause-runs
 returns-clause-runs g c = λ runs. reads-later c.args.scope.now c.args.context.now.actor.now.known
-    c.reclaim-io.new.actor.known c.args.self.now _ runs (returns-clause-serves g c).went.aims refl
+    c.reclaim-io.new.actor.known c.args.self.now _ runs
+    (returns-clause-context_advanced g c).actor_advanced.aims refl
     refl refl

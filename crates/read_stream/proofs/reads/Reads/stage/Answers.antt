@@ -22,15 +22,15 @@ stages : (t u : WaitRef) (p q : Known) → u ≡ t
 stages t u p q e m = subst (λ (z : WaitRef).
     EventMade Stage z.handle (defined_word z.generation) (staged_word z.generation) [] p q) e m
 
-pub returns-clause-serves : goal.returns-clause-serves
-returns-clause-serves g c =
+pub returns-clause-context_advanced : goal.returns-clause-context_advanced
+returns-clause-context_advanced g c =
     let t : WaitRef = c.acquire-token.result in
     let d : WaitRef × ReadIoView = c.define-token.result in
     let e : d.0 ≡ t = c.define-token.ensures.token.0 in
     let q : Known = c.acquire-token.new.context.actor.now.known in
     let q1 : Known = c.define-token.new.actor.known in
     let q2 : Known = c.stage.new.actor.known in
-    let a = c.acquire-token.ensures.serves in
+    let a = c.acquire-token.ensures.context_advanced in
     let b = c.define-token.ensures.same in
     let s = c.stage.ensures.same in
     record {
@@ -40,7 +40,7 @@ returns-clause-serves g c =
       runner = a.runner;
       same = (s.0 ∙ (b.0 ∙ a.same.0), s.1 ∙ (b.1 ∙ a.same.1), s.2 ∙ (b.2 ∙ a.same.2));
       told = a.told;
-      went = advanced-staged c.args.scope.now g.W.World.told g.W.World.relations
+      actor_advanced = advanced-staged c.args.scope.now g.W.World.told g.W.World.relations
           c.args.context.now.actor.now.known q q1 q2 c.acquire-token.new.self t _ _ _ _
           c.acquire-token.ensures.handed c.define-token.ensures.event
           (defines t d.0 q1 e c.define-token.ensures.token.2)

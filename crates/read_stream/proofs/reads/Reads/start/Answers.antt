@@ -14,9 +14,10 @@ submit-requires-clause-issued g c =
     c.stage-token.result c.put.ensures token.0 token.1 token.2 c.stage-token.ensures.apart
     (omega arith) c.stage-token.ensures.issued
 
-pub returns-then-not-scope-clause-serves : goal.returns-then-not-scope-clause-serves
-returns-then-not-scope-clause-serves g c =
-    context_advanced_then c.submit.ensures.serves c.stage-token.ensures.serves
+pub returns-then-not-scope-clause-context_advanced :
+    goal.returns-then-not-scope-clause-context_advanced
+returns-then-not-scope-clause-context_advanced g c =
+    context_advanced_then c.submit.ensures.context_advanced c.stage-token.ensures.context_advanced
 
 pub returns-else-len-eq-MOST_STAGED-clause-issued :
     goal.returns-else-len-eq-MOST_STAGED-clause-issued

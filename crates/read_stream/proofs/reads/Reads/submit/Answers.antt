@@ -19,7 +19,7 @@ use Rattle.read_stream.proofs.reads.Reads.submit.Goals as goal
 pub loop-token-init : goal.loop-token-init
 loop-token-init g c = record {
   handed = c.requires.handed;
-  serves = context_advanced_refl c.args.context.now;
+  context_advanced = context_advanced_refl c.args.context.now;
   issued = c.requires.issued;
   records = refl;
   made = refl;
@@ -45,16 +45,17 @@ loop-token-preserved g c =
     let more : length c.push.new.queue.items ≡ length (s.in_flight.items ++ t ∷ []) =
     ap (λ (z : Buffer WaitRef). length z.items) items in
     let parts = length-append s.in_flight.items (t ∷ []) in
-    let went : ActorAdvanced p q _ _ _ _ = advanced_submitting record_aim s.batch after t p q _ _ _
+    let actor_advanced : ActorAdvanced p q _ _ _ _ = advanced_submitting record_aim s.batch after t
+    p q _ _ _
     _ n
     in
-    let serves = context_advanced_then
+    let context_advanced = context_advanced_then
     (context_advanced_by c.loop-token.context c.submit_next.new.actor c.submit_next.new.method
-    c.submit_next.new.runner c.in-Some.ensures.same c.in-Some.ensures.told went
-    c.in-Some.ensures.stands_on) inv.serves in
+    c.submit_next.new.runner c.in-Some.ensures.same c.in-Some.ensures.told actor_advanced
+    c.in-Some.ensures.stands_on) inv.context_advanced in
     record {
-      handed = valid_context_then c.requires.handed serves;
-      serves = serves;
+      handed = valid_context_then c.requires.handed context_advanced;
+      context_advanced = context_advanced;
       issued = subst (λ (z : Buffer WaitRef). Issued c.args.scope.now g.W.World.told
           g.W.World.relations q (record s { batch = after; in_flight = z })) (sym items)
           (issued-submitted c.args.scope.now g.W.World.told g.W.World.relations p q s after t
@@ -65,7 +66,7 @@ loop-token-preserved g c =
       io_budget = inv.io_budget;
       runs = λ runs f. subst (λ (z : Buffer WaitRef). ReadsForRuns c.args.scope.now q
           (record s { batch = after; in_flight = z }) runs) (sym items)
-          (reads-submitted c.args.scope.now p q s after t _ _ _ _ runs n went
+          (reads-submitted c.args.scope.now p q s after t _ _ _ _ runs n actor_advanced
           (λ x j. (inv.issued.staged x j).0) (inv.runs runs f));
     }
 

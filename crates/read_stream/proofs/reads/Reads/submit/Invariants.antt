@@ -8,7 +8,7 @@ abbrev pub invariant-loop-token : goal.invariant-loop-token
 invariant-loop-token g l = record {
   handed : IsValidContext g.E.Execute.told g.E.Execute.relations g.W.World.told g.W.World.relations
       l.scope l.context;
-  serves : ContextAdvanced g.E.Execute.told g.E.Execute.relations g.E.Execute.reads
+  context_advanced : ContextAdvanced g.E.Execute.told g.E.Execute.relations g.E.Execute.reads
       g.E.Execute.faults g.M.Method.stands_on l.initial.context l.context;
   issued : Issued l.scope g.W.World.told g.W.World.relations l.context.actor.now.known l.self;
   records : record_count l.self ≡ record_count l.initial.self;

@@ -18,18 +18,18 @@ pub serve-requires-clause-giving : goal.serve-requires-clause-giving
 serve-requires-clause-giving g c =
     let s : ReadStream g.row.W.Denot g.row.S.Denot g.row.P.Denot = c.release_page.new.self in
     let n : ReadStream g.row.W.Denot g.row.S.Denot g.row.P.Denot = c.start_last.new.self in
-    let a = c.look_ahead.ensures.stays in
-    let b = c.submit.ensures.stays in
-    let d = c.start_last.ensures.stays in
+    let a = c.look_ahead.ensures.consumer_unchanged in
+    let b = c.submit.ensures.consumer_unchanged in
+    let d = c.start_last.ensures.consumer_unchanged in
     subst (λ (z : Option ReadIoView). HasMoreBlocks z n.step)
     (sym (d.current ∙ (b.current ∙ a.current)))
     (subst (λ (z : Step g.row.P.Denot). HasMoreBlocks s.current z)
     (sym (d.step ∙ (b.step ∙ a.step))) c.release_page.ensures.giving)
 
-pub returns-clause-serves : goal.returns-clause-serves
-returns-clause-serves g c = context_advanced_then c.serve.ensures.serves
-    (context_advanced_then c.start_last.ensures.serves
-    (context_advanced_then c.submit.ensures.serves c.look_ahead.ensures.serves))
+pub returns-clause-context_advanced : goal.returns-clause-context_advanced
+returns-clause-context_advanced g c = context_advanced_then c.serve.ensures.context_advanced
+    (context_advanced_then c.start_last.ensures.context_advanced
+    (context_advanced_then c.submit.ensures.context_advanced c.look_ahead.ensures.context_advanced))
 
 pub returns-clause-answer : goal.returns-clause-answer
 returns-clause-answer g c bytes =
@@ -39,11 +39,14 @@ returns-clause-answer g c bytes =
     let b : ReadStream g.row.W.Denot g.row.S.Denot g.row.P.Denot = c.submit.new.self in
     let t : ReadStream g.row.W.Denot g.row.S.Denot g.row.P.Denot = c.start_last.new.self in
     let n : ReadStream g.row.W.Denot g.row.S.Denot g.row.P.Denot = c.serve.new.self in
-    let keeps = same_stream_then s l t c.release_page.ensures.moves.keeps
-    (same_stream_then l m t c.look_ahead.ensures.stays.keeps
-    (same_stream_then m b t c.submit.ensures.stays.keeps c.start_last.ensures.stays.keeps)) in
-    let given = c.start_last.ensures.stays.given ∙ (c.submit.ensures.stays.given
-    ∙ (c.look_ahead.ensures.stays.given ∙ c.release_page.ensures.moves.given)) in
+    let keeps = same_stream_then s l t c.release_page.ensures.look_ahead_unchanged.keeps
+    (same_stream_then l m t c.look_ahead.ensures.consumer_unchanged.keeps
+    (same_stream_then m b t c.submit.ensures.consumer_unchanged.keeps
+    c.start_last.ensures.consumer_unchanged.keeps)) in
+    let given = c.start_last.ensures.consumer_unchanged.given
+    ∙ (c.submit.ensures.consumer_unchanged.given
+    ∙ (c.look_ahead.ensures.consumer_unchanged.given
+    ∙ c.release_page.ensures.look_ahead_unchanged.given)) in
     next_answer_kept g.S.BlockSource.left g.W.World.told g.W.World.relations g.W.World.handles
     c.serve.new.context.actor.now.known s t (step_answer n.scope.relation n.step (current_page n))
     keeps given
@@ -57,25 +60,29 @@ returns-clause-follows g c =
     let b : ReadStream g.row.W.Denot g.row.S.Denot g.row.P.Denot = c.submit.new.self in
     let t : ReadStream g.row.W.Denot g.row.S.Denot g.row.P.Denot = c.start_last.new.self in
     let n : ReadStream g.row.W.Denot g.row.S.Denot g.row.P.Denot = c.serve.new.self in
-    let keeps = same_stream_then s l n c.release_page.ensures.moves.keeps
-    (same_stream_then l m n c.look_ahead.ensures.stays.keeps
-    (same_stream_then m b n c.submit.ensures.stays.keeps
-    (same_stream_then b t n c.start_last.ensures.stays.keeps c.serve.ensures.keeps))) in
-    let given = c.start_last.ensures.stays.given ∙ (c.submit.ensures.stays.given
-    ∙ (c.look_ahead.ensures.stays.given ∙ c.release_page.ensures.moves.given)) in
+    let keeps = same_stream_then s l n c.release_page.ensures.look_ahead_unchanged.keeps
+    (same_stream_then l m n c.look_ahead.ensures.consumer_unchanged.keeps
+    (same_stream_then m b n c.submit.ensures.consumer_unchanged.keeps
+    (same_stream_then b t n c.start_last.ensures.consumer_unchanged.keeps c.serve.ensures.keeps)))
+    in
+    let given = c.start_last.ensures.consumer_unchanged.given
+    ∙ (c.submit.ensures.consumer_unchanged.given
+    ∙ (c.look_ahead.ensures.consumer_unchanged.given
+    ∙ c.release_page.ensures.look_ahead_unchanged.given)) in
     let more = c.serve.ensures.given in
     let is : c.of.result.value ≡ c.serve.new.context.actor.now = c.of.ensures in
     let was : n.scope.was.value ≡ s.scope.was.value =
     ap (λ (z : Scope g.row.W.Denot). z.was.value) keeps.scope in
     let was_open = c.requires.is_open in
     let actor = c.requires.actor in
-    let w1 = c.look_ahead.ensures.serves.went in
-    let w2 = c.submit.ensures.serves.went in
-    let w3 = c.start_last.ensures.serves.went in
-    let w4 = c.serve.ensures.serves.went in
+    let w1 = c.look_ahead.ensures.context_advanced.actor_advanced in
+    let w2 = c.submit.ensures.context_advanced.actor_advanced in
+    let w3 = c.start_last.ensures.context_advanced.actor_advanced in
+    let w4 = c.serve.ensures.context_advanced.actor_advanced in
     let config : c.serve.new.context.actor.now.known.config ≡ s.actor_is.value.known.config =
-    c.serve.ensures.serves.same.1 ∙ (c.start_last.ensures.serves.same.1 ∙
-    (c.submit.ensures.serves.same.1 ∙ (c.look_ahead.ensures.serves.same.1 ∙ ap (λ (z : ActorView).
+    c.serve.ensures.context_advanced.same.1 ∙ (c.start_last.ensures.context_advanced.same.1 ∙
+    (c.submit.ensures.context_advanced.same.1
+    ∙ (c.look_ahead.ensures.context_advanced.same.1 ∙ ap (λ (z : ActorView).
     z.known.config) actor))) in
     let backends : c.serve.new.context.actor.now.known.config.backends ≡
     s.actor_is.value.known.config.backends =
@@ -98,8 +105,10 @@ returns-clause-follows g c =
       is_open = record {
         same = (
           ap (λ (z : ActorView). z.table) is
-              ∙ (c.serve.ensures.serves.same.0 ∙ (c.start_last.ensures.serves.same.0 ∙
-              (c.submit.ensures.serves.same.0 ∙ (c.look_ahead.ensures.serves.same.0 ∙ (ap (λ (z :
+              ∙ (c.serve.ensures.context_advanced.same.0
+              ∙ (c.start_last.ensures.context_advanced.same.0 ∙
+              (c.submit.ensures.context_advanced.same.0
+              ∙ (c.look_ahead.ensures.context_advanced.same.0 ∙ (ap (λ (z :
               ActorView). z.table) actor ∙ (was_open.same.0 ∙ sym (ap (λ (z : ActorView). z.table)
               was))))))),
           ap (λ (z : ActorView). z.known.config) is

@@ -34,17 +34,18 @@ returns-in-Hit-clause-reaches g c =
     c.wait_for.new.context.actor.now.known z) (sym c.hold.ensures)
     (reaches_pinned g.S.BlockSource.left g.W.World.told g.W.World.relations g.W.World.handles
     c.wait_for.new.context.actor.now.known n c.in-Hit.pin c.args.block
-    (c.wait_for.ensures.stays.current ∙ (c.submit.ensures.stays.current ∙ c.requires.none.0))
+    (c.wait_for.ensures.consumer_unchanged.current
+    ∙ (c.submit.ensures.consumer_unchanged.current ∙ c.requires.none.0))
     (subst (λ (z : Tag). IsGood g.W.World.told z.relation z.block (pinned_page c.in-Hit.pin))
     c.tag.ensures c.in-Hit.ensures.1)
     (c.wait_for.ensures.underway (c.args.block ∷ [])
     (c.submit.ensures.underway (c.args.block ∷ []) c.requires.underway)))
 
-pub returns-in-Hit-clause-serves : goal.returns-in-Hit-clause-serves
-returns-in-Hit-clause-serves g c =
-    context_advanced_then c.wait_for.ensures.serves c.submit.ensures.serves
+pub returns-in-Hit-clause-context_advanced : goal.returns-in-Hit-clause-context_advanced
+returns-in-Hit-clause-context_advanced g c =
+    context_advanced_then c.wait_for.ensures.context_advanced c.submit.ensures.context_advanced
 
-pub returns-in-Busy-clause-serves : goal.returns-in-Busy-clause-serves
-returns-in-Busy-clause-serves g c =
-    context_advanced_then c.read_block.ensures.serves
-    (context_advanced_then c.wait_for.ensures.serves c.submit.ensures.serves)
+pub returns-in-Busy-clause-context_advanced : goal.returns-in-Busy-clause-context_advanced
+returns-in-Busy-clause-context_advanced g c =
+    context_advanced_then c.read_block.ensures.context_advanced
+    (context_advanced_then c.wait_for.ensures.context_advanced c.submit.ensures.context_advanced)

@@ -25,9 +25,9 @@ is-true false e = absurd (cc)
 pub loop-self-init : goal.loop-self-init
 loop-self-init g c = record {
   handed = c.requires.handed;
-  serves = context_advanced_refl c.args.context.now;
+  context_advanced = context_advanced_refl c.args.context.now;
   underway = c.requires.underway;
-  stays = consumer_unchanged_refl c.args.self.now;
+  consumer_unchanged = consumer_unchanged_refl c.args.self.now;
 }
 
 pub loop-self-smaller : goal.loop-self-smaller
@@ -48,21 +48,24 @@ returns-clause-ended g c = λ none no_record.
     let p : Known = c.loop-self.context.actor.now.known in
     let u = c.loop-self.invariant.underway in
     let not = c.loop-self-test.false in
-    u.going.over (c.wants_more.ensures.idle (λ (t : c.wants_more.result ≡ true). cc)
-    (u.going.ahead ∙ ap (λ (z : List (QueuedBlock g.row.P.Denot)). length z) none)
+    u.running.over (c.wants_more.ensures.idle (λ (t : c.wants_more.result ≡ true). cc)
+    (u.running.ahead ∙ ap (λ (z : List (QueuedBlock g.row.P.Denot)). length z) none)
     (all_idle g.S.BlockSource.left g.W.World.told g.W.World.relations g.W.World.handles p p s s u
     none no_record))
 
 pub loop-self-preserved : goal.loop-self-preserved
 loop-self-preserved g c =
     let inv = c.loop-self.invariant in
-    let stays = c.take_next.ensures.stays in
-    let handed = valid_context_then inv.handed c.take_next.ensures.serves in
+    let consumer_unchanged = c.take_next.ensures.consumer_unchanged in
+    let handed = valid_context_then inv.handed c.take_next.ensures.context_advanced in
     record {
       handed = subst (λ z. IsValidContext g.E.Execute.told g.E.Execute.relations g.W.World.told
-          g.W.World.relations z c.take_next.new.context) (sym stays.keeps.scope) handed;
-      serves = context_advanced_then c.take_next.ensures.serves inv.serves;
+          g.W.World.relations z c.take_next.new.context) (sym consumer_unchanged.keeps.scope)
+          handed;
+      context_advanced = context_advanced_then c.take_next.ensures.context_advanced
+          inv.context_advanced;
       underway = c.take_next.ensures.underway;
-      stays = consumer_unchanged_then c.args.self.now c.loop-self.self c.take_next.new.self
-          inv.stays stays;
+      consumer_unchanged = consumer_unchanged_then c.args.self.now c.loop-self.self
+          c.take_next.new.self
+          inv.consumer_unchanged consumer_unchanged;
     }

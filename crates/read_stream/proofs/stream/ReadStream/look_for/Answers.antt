@@ -26,5 +26,5 @@ returns-clause-underway g c =
     c.push_want.new.self c.args.want (c.start_pending.ensures.underway (blocks_of_want c.args.want)
     c.requires.underway) c.start_pending.ensures.none c.requires.want.1
     (subst (λ (z : ℕ). IsWant z g.W.World.handles c.args.want)
-    (sym c.start_pending.ensures.stays.settings.0) c.requires.want.0)
+    (sym c.start_pending.ensures.consumer_unchanged.settings.0) c.requires.want.0)
     c.push_want.ensures

@@ -40,8 +40,9 @@ returns-in-Flush-clause-underway g c =
     (offer_keeps_blocks s.plan.combine s.plan.segment c.args.block s.plan.pending pl.pending
     c.offer.result c.offer.ensures.answer
     ∙ ap (λ (z : Offer). run_blocks_out z ++ (pending_blocks pl.pending ++ [])) c.in-Flush.is)
-    (subst (λ (z : ℕ). IsRun z run) c.requires.underway.going.combine c.in-Flush.ensures.flushed)
-    c.start.ensures.starts c.requires.free c.start.ensures.serves.went c.start.ensures.issued
+    (subst (λ (z : ℕ). IsRun z run) c.requires.underway.running.combine c.in-Flush.ensures.flushed)
+    c.start.ensures.starts c.requires.free c.start.ensures.context_advanced.actor_advanced
+    c.start.ensures.issued
     c.start.ensures.few c.start.ensures.runs
 
 pub start_whole-requires-clause-underway : goal.start_whole-requires-clause-underway

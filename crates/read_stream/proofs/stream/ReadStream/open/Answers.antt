@@ -1,7 +1,7 @@
 use Rattle.std.proofs.Common.{◌≡◌, ◌<◌, ◌+◌, ℕ, length, [], ◌++◌, List, map, refl, sym}
 use Rattle.std.proofs.Common.{ap, ◌∙◌, arith, subst}
 use Rattle.aio_word.specs.declared.Known.{Known}
-use Rattle.aio_handle.specs.Closing.{HasNoTokens}
+use Rattle.aio_handle.specs.Closing.{HasNoOwnerTokens}
 use Rattle.aio_handle.specs.Free.{IsRoom}
 use Rattle.aio_handle.specs.ContractViews.{ActorView}
 use Rattle.aio_callback.specs.ReadIoView.{ReadIoView}
@@ -67,7 +67,8 @@ returns-clause-is_open g c =
       most = c.room.result;
       was = c.of.result;
     } in
-    let rest : HasNoTokens was.known = subst (λ (z : ActorView). HasNoTokens z.known) (sym is-was)
+    let rest : HasNoOwnerTokens was.known = subst (λ (z : ActorView). HasNoOwnerTokens z.known)
+    (sym is-was)
     c.requires.rest in
     let issued : Issued scope g.W.World.told g.W.World.relations was.known (reset_reads d.reads) =
     new-stream-issued scope g.W.World.told g.W.World.relations d.reads c.requires.desk.ready rest
@@ -118,7 +119,7 @@ returns-clause-is_open g c =
           all = omega arith;
         };
         made = omega arith;
-        going = record {
+        running = record {
           few = omega arith;
           readable = none-given (reader_of d.zero g.W.World.told) _;
           blocks = ap

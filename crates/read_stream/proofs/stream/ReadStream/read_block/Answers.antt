@@ -39,7 +39,7 @@ returns-clause-reaches g c =
     let records = less.2 in
     let free = less.3 in
     let all = c.requires.underway.steady.all in
-    let in_use = c.requires.underway.going.in_use in
+    let in_use = c.requires.underway.running.in_use in
     let none : count_some s.current ≡ 0 =
     ap (λ (z : Option ReadIoView). count_some z) c.requires.none.0 in
     let ios : pl.ios_in_progress ≡ s.plan.ios_in_progress + 1 =

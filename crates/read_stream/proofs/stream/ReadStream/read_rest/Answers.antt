@@ -53,7 +53,7 @@ returns-clause-reaches g c =
     c.read_run.new.self run
     c.args.block (blocks_at_hand s.current c.args.block) (same_queue_taken_out s c.take.new.self)
     refl refl refl
-    c.requires.reaches.underway.going.in_use (omega arith) no_pin c.read_run.ensures.runs
+    c.requires.reaches.underway.running.in_use (omega arith) no_pin c.read_run.ensures.runs
     (subst (λ (z : ℕ). UnderwayWith g.S.BlockSource.left g.W.World.told g.W.World.relations
     g.W.World.handles (blocks_at_hand s.current c.args.block) [] z
     c.args.context.now.actor.now.known s)

@@ -50,7 +50,7 @@ returns-in-Some-find-clause-between g c =
     let n : ReadStream g.row.W.Denot g.row.S.Denot g.row.P.Denot = c.find.new.self in
     let a : QueuedBlock g.row.P.Denot = c.in-Some.asked in
     let first = ap (λ (z : Buffer (QueuedBlock g.row.P.Denot)). slice_get z.items 0)
-    c.find.ensures.moves.queue
+    c.find.ensures.look_ahead_unchanged.queue
     ∙ (sym c.front.ensures ∙ c.in-Some.is) in
     (stop_by_record g.S.BlockSource.left g.W.World.told g.W.World.relations g.W.World.handles
     c.find.new.context.actor.now.known n (blocks_at_hand n.current a.block) []
@@ -63,11 +63,11 @@ returns-in-Some-find-clause-answer g c _ =
     let n : ReadStream g.row.W.Denot g.row.S.Denot g.row.P.Denot = c.find.new.self in
     let a : QueuedBlock g.row.P.Denot = c.in-Some.asked in
     let first = ap (λ (z : Buffer (QueuedBlock g.row.P.Denot)). slice_get z.items 0)
-    c.find.ensures.moves.queue
+    c.find.ensures.look_ahead_unchanged.queue
     ∙ (sym c.front.ensures ∙ c.in-Some.is) in
     next_answer_kept g.S.BlockSource.left g.W.World.told g.W.World.relations g.W.World.handles
     c.find.new.context.actor.now.known s n (SaidStop (synchronous_ending c.in-Some-find.ending))
-    c.find.ensures.moves.keeps c.find.ensures.moves.given
+    c.find.ensures.look_ahead_unchanged.keeps c.find.ensures.look_ahead_unchanged.given
     (stop_by_record g.S.BlockSource.left g.W.World.told g.W.World.relations g.W.World.handles
     c.find.new.context.actor.now.known n (blocks_at_hand n.current a.block) []
     (spent_ios n.current a.block) a
@@ -77,7 +77,7 @@ pub returns-in-None-clause-between : goal.returns-in-None-clause-between
 returns-in-None-clause-between g c =
     let n : ReadStream g.row.W.Denot g.row.S.Denot g.row.P.Denot = c.find.new.self in
     let first = ap (λ (z : Buffer (QueuedBlock g.row.P.Denot)). slice_get z.items 0)
-    c.find.ensures.moves.queue
+    c.find.ensures.look_ahead_unchanged.queue
     ∙ (sym c.front.ensures ∙ c.in-Some.is) in
     given_between g.S.BlockSource.left g.W.World.told g.W.World.relations g.W.World.handles
     c.find.new.context.actor.now.known n c.give.new.self c.in-Some.asked first c.give.ensures
@@ -89,12 +89,12 @@ returns-in-None-clause-answer g c bytes =
     let n : ReadStream g.row.W.Denot g.row.S.Denot g.row.P.Denot = c.find.new.self in
     let m : ReadStream g.row.W.Denot g.row.S.Denot g.row.P.Denot = c.give.new.self in
     let first = ap (λ (z : Buffer (QueuedBlock g.row.P.Denot)). slice_get z.items 0)
-    c.find.ensures.moves.queue
+    c.find.ensures.look_ahead_unchanged.queue
     ∙ (sym c.front.ensures ∙ c.in-Some.is) in
     next_answer_kept g.S.BlockSource.left g.W.World.told g.W.World.relations g.W.World.handles
     c.find.new.context.actor.now.known s n (step_answer m.scope.relation m.step (current_page m))
-    c.find.ensures.moves.keeps
-    c.find.ensures.moves.given
+    c.find.ensures.look_ahead_unchanged.keeps
+    c.find.ensures.look_ahead_unchanged.given
     (given_next g.S.BlockSource.left g.W.World.told g.W.World.relations g.W.World.handles
     c.find.new.context.actor.now.known n m c.in-Some.asked first c.give.ensures
     c.find.ensures.reaches.underway c.in-None.ensures.page bytes)

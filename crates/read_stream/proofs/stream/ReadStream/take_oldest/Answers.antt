@@ -20,7 +20,7 @@ unreachable-requires g c =
     subst (λ (z : Option ReadIoView). IsRecordForRun c.args.run z) c.in_default.is
     (c.oldest_record.ensures.runs c.args.run (wanted_runs ws)
     (subst (λ (z : List Want). ReadsForRuns s.scope c.args.context.now.actor.now.known
-    s.desk.now.reads (wanted_runs z)) first c.requires.underway.going.runs)).0
+    s.desk.now.reads (wanted_runs z)) first c.requires.underway.running.runs)).0
 
 pub returns-clause-reaches : goal.returns-clause-reaches
 returns-clause-reaches g c =
@@ -31,7 +31,7 @@ returns-clause-reaches g c =
     let all = c.oldest_record.ensures.all in
     let one = c.oldest_record.ensures.runs c.args.run (wanted_runs ws)
     (subst (λ (z : List Want). ReadsForRuns s.scope c.args.context.now.actor.now.known
-    s.desk.now.reads (wanted_runs z)) first c.requires.underway.going.runs) in
+    s.desk.now.reads (wanted_runs z)) first c.requires.underway.running.runs) in
     let far = same_far m.plan c.waited.new.self _ c.waited.ensures in
     let none : length c.oldest_record.new.self.batch ≡ 0 =
     ap (λ (z : List _). length z) (all.1 ∙ c.requires.staged) in

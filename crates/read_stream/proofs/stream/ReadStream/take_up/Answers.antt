@@ -52,7 +52,7 @@ join-requires-clause-range g c =
     let w : Want = want.Join c.in-Some-Join.field-0-0 c.in-Some-Join.reference in
     let first = first-of s.desk.now.wants.items w (sym c.next_want.ensures
     ∙ (c.in-Some-Join.is ∙ ap (λ (z : Want). Some z) c.in-Some-Join.field-0-is)) in
-    (c.requires.underway.going.wants w
+    (c.requires.underway.running.wants w
     (subst (λ (z : List Want). IsIn w z) (sym first) (inl refl))).1
 
 pub unreachable-requires : goal.unreachable-requires

@@ -1,6 +1,6 @@
 use Rattle.std.proofs.Common.{sym, ◌∙◌, refl, subst}
 use Rattle.heap_tuple.specs.Listing.{text_with}
-use Rattle.scan_rounds.specs.DiskActors.{HasListed, disk_ghosts}
+use Rattle.scan_rounds.specs.DiskActors.{HasListed}
 use Rattle.scan_rounds.specs.BlockFilter.{filter_of}
 use Rattle.scan_rounds.specs.declared.job.Job.{Job}
 use Rattle.scan_rounds.proofs.JobListed.{by_text}
@@ -16,8 +16,8 @@ pub returns-clause-listed : goal.returns-clause-listed
 returns-clause-listed g c =
     let same = c.read-ending.ensures.consumer in
     let job = c.job-1.given.1 (sym same.loan) ∙ c.end_borrow.ensures in
-    subst (λ (l : Job). HasListed (disk_ghosts g.D.Disk.told g.D.Disk.relations g.D.Disk.reads
-    g.D.Disk.faults) g.W.World.told g.W.World.relations c.args.shared.now.table
+    subst (λ (l : Job). HasListed g.D.Disk g.W.World.told g.W.World.relations
+    c.args.shared.now.table
     (filter_of c.args.skipping) c.args.tuples c.args.self.now c.read-ending.new.self c.args.desk.now
     c.read-ending.new.desk c.args.job.now l) (sym job)
     (by_text _ _ _ _ _ _ _ _ _ _ _ _ c.read-ending.new.consumer.job.now c.read-ending.result refl

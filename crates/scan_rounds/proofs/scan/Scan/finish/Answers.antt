@@ -1,6 +1,6 @@
 use Rattle.std.proofs.Common.{map, Some, sym, ap, subst}
 use Rattle.std.specs.List.{All}
-use Rattle.aio_handle.specs.Closing.{NoneHasTokens, AreTotals}
+use Rattle.aio_handle.specs.Closing.{NoneHasOwnerTokens, AreTotals}
 use Rattle.aio_handle.specs.ContractViews.{IsActorOf, actor_known}
 use Rattle.scan_rounds.specs.Scans.{actor_of, disk_of}
 use Rattle.scan_rounds.proofs.TotalsMatchDisks.{put_all, backends_held, workers_held, of_table}
@@ -25,7 +25,7 @@ pub close-requires-clause-quiet : goal.close-requires-clause-quiet
 close-requires-clause-quiet g c κs within =
     let all = put_all actor_of c.args.self _ _ _ c.requires.scan.no_actors
     c.put_backends.ensures.actors c.put_workers.ensures.actors in
-    subst (λ actors. NoneHasTokens (map actor_known actors)) (sym all)
+    subst (λ actors. NoneHasOwnerTokens (map actor_known actors)) (sym all)
     (are_quiet _ _ _ _ c.requires.scan)
 
 pub returns-clause-disks : goal.returns-clause-disks

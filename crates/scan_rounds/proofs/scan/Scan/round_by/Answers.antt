@@ -3,7 +3,7 @@ use Rattle.std.specs.List.{All}
 use Rattle.aio_disk.specs.Counts.{raised_by}
 use Rattle.aio_handle.specs.ContractViews.{TableView}
 use Rattle.scan_rounds.specs.Jobs.{IsFresh, count_unskipped, unread_among}
-use Rattle.scan_rounds.specs.Rounds.{AllHaveOptions, AreListed, results_taken}
+use Rattle.scan_rounds.specs.Rounds.{AllHaveOptions, AreListed, results_taken_count}
 use Rattle.scan_rounds.specs.Scans.{IsOpenedAgain, scan_options}
 use Rattle.scan_rounds.specs.BlockFilter.{filter_of}
 use Rattle.scan_rounds.specs.declared.job.Job.{Job}
@@ -50,8 +50,9 @@ returns g c =
     let after = c.round_beside-own_workers.result.1 in
     let same : c.reopen_queue.result.items ≡ s.backends.items = search rules in
     let many = as_many_disk_actors _ _ _ _ _ _ made.go_on in
-    let options = subst (λ bs. AllHaveOptions (scan_options s) bs) (sym same) may.scan.all_list_in in
-    let before = ap (λ bs. results_taken bs) same in
+    let options = subst (λ bs. AllHaveOptions (scan_options s) bs) (sym same) may.scan.all_list_in
+    in
+    let before = ap (λ bs. results_taken_count bs) same in
     let count : length c.exchange.new.jobs ≡ length c.args.jobs.now = search rules in
     let asked = c.exchange.ensures.own in
     let answered : c.exchange-2.new.jobs ≡ take (length c.args.jobs.now) after.jobs.items =
@@ -61,7 +62,7 @@ returns g c =
     record {
       rounded = record {
         scan = scan_again _ _ _ s _ _ _ may.scan r.table (search rules) (search rules)
-            made.waiting e.worked made.go_on (made.all_list_in _ options) many
+            made.waiting e.workers_served made.go_on (made.all_list_in _ options) many
             (c.exchange-2.ensures.as_many ∙ (e.made.jobs_are ∙ (c.exchange.ensures.as_many
             ∙ spare))) refl refl refl;
         same = record {

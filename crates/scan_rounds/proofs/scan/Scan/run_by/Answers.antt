@@ -1,7 +1,7 @@
 use Rattle.std.proofs.Common.{◌≡◌, arith, rules, refl, sym, ap, ◌∙◌, subst, length}
 use Rattle.aio_handle.specs.ContractViews.{TableView}
 use Rattle.scan_rounds.specs.ListOptions.{ListOptions}
-use Rattle.scan_rounds.specs.Rounds.{AllHaveOptions, results_taken}
+use Rattle.scan_rounds.specs.Rounds.{AllHaveOptions, results_taken_count}
 use Rattle.scan_rounds.specs.Scans.{IsOpenedAgain, scan_options}
 use Rattle.scan_rounds.proofs.ScanAfterRounds.{waiting_in, serving_in, scan_again}
 use Rattle.scan_rounds.proofs.scan.Scan.run_by.Goals as goal
@@ -35,31 +35,34 @@ returns g c =
     let r = c.reopen_queue.ensures in
     let e = c.run_beside-own_workers.ensures in
     let same : c.reopen_queue.result.items ≡ c.args.self.now.backends.items = search rules in
-    let before = ap (λ bs. results_taken bs) same in
+    let before = ap (λ bs. results_taken_count bs) same in
     record {
       followed = record {
         scan = scan_again _ _ _ c.args.self.now _ _ _ may.scan r.table (search rules) (search rules)
-            e.goes.waiting e.worked e.goes.gone.go_on
+            e.advanced.waiting e.workers_served e.advanced.gone.go_on
             (subst (λ (n : ListOptions). AllHaveOptions n
-            c.run_beside-own_workers.result.1.backends.items) may.options_are e.goes.all_list_in)
-            e.goes.backends (search rules) refl refl refl;
+            c.run_beside-own_workers.result.1.backends.items) may.options_are
+            e.advanced.all_list_in)
+            e.advanced.backends (search rules) refl refl refl;
         same = record {
           config = ap (λ (t : TableView). t.config) r.table;
-          as_many = e.goes.backends ∙ ap (λ bs. length bs) same;
+          as_many = e.advanced.backends ∙ ap (λ bs. length bs) same;
           opened = refl;
           options_same = refl;
         };
         reopened = subst (λ own. IsOpenedAgain own.items c.args.self.now.shared.queue
             c.reopen_queue.new.shared.queue) c.replace-own_backends.ensures.value r.reopened;
         closed = e.closed;
-        goes_on = e.goes.goes_on;
+        goes_on = e.advanced.goes_on;
         over = e.over;
-        options_are = e.goes.options_are;
-        filter_is = e.goes.filter_is;
-        room = (let asked = e.goes.gone.room in let fewer = e.goes.left_fewer in omega arith);
-        more = e.goes.gone.more;
-        raised = e.goes.gone.raised;
-        enough = (let told = e.goes.gone.enough in omega arith);
-        taken = (let kept = e.goes.gone.taken in let fewer = e.goes.due_fewer in omega arith);
+        options_are = e.advanced.options_are;
+        filter_is = e.advanced.filter_is;
+        room = (let asked = e.advanced.gone.room in let fewer = e.advanced.left_fewer in omega
+            arith);
+        more = e.advanced.gone.more;
+        raised = e.advanced.gone.raised;
+        enough = (let told = e.advanced.gone.enough in omega arith);
+        taken = (let kept = e.advanced.gone.taken in let fewer = e.advanced.due_fewer in omega
+            arith);
       };
     }

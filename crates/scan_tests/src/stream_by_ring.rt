@@ -1,7 +1,7 @@
 //! A stream over a list whose reads are made by a ring.
 ghost use Rattle.std.specs.Prelude.{◌≡◌, ◌<◌, IfSome, length};
 ghost use Rattle.std.specs.List.{All};
-ghost use Rattle.aio_handle.specs.Closing.{HasNoTokens};
+ghost use Rattle.aio_handle.specs.Closing.{HasNoOwnerTokens};
 ghost use Rattle.aio_handle.specs.ContractViews.{AreNewActors, IsActorOf};
 ghost use Rattle.method_worker.specs.QueueViews.{IsSeatOf};
 
@@ -29,7 +29,7 @@ fn only_backend<W: World>(
     requires one { length actors.items ≡ 1 }
     requires backends { table.now.config.backends ≡ 1 }
     ensures { IfSome result (λ a. IsActorOf table.now a
-        × (a.known.number < table.now.config.backends) × HasNoTokens a.known) }
+        × (a.known.number < table.now.config.backends) × HasNoOwnerTokens a.known) }
 {
     let backend = aio_fixtures::last_actor(table, &mut actors)?;
     Some(backend)

@@ -8,12 +8,12 @@ use std::thread::yield_now;
 /// What the number of reads under way is set to once there were enough: no read waits any more.
 const OPEN: u64 = 1 << 40;
 
-/// So many relations have a gate: the first ones. Reads of the others do not wait.
+/// So many relations have a barrier: the first ones. Reads of the others do not wait.
 const GATES: usize = 16;
 
 /// Which reads of a relation wait for each other, and how long.
 #[derive(Clone, Copy)]
-pub struct Gate {
+pub struct ReadBarrier {
     /// A read waits where its first block is this one or a later one,
     pub from: u32,
     /// and comes before this one.
@@ -24,11 +24,11 @@ pub struct Gate {
     pub turns: u32,
 }
 
-/// The gates of some relations, which the disks of a shelf share.
+/// The barriers of some relations, which the disks of a shelf share.
 #[derive(Drop)]
-pub(crate) struct SharedGate {
-    gate: Gate,
-    // How many reads of each relation are under way that the gate holds.
+pub(crate) struct SharedBarrier {
+    barrier: ReadBarrier,
+    // How many reads of each relation are under way that the barrier holds.
     under_way: Arc<Vec<AtomicU64>, Global>,
 }
 
@@ -41,29 +41,29 @@ fn is_open(under_way: &AtomicU64, reads: u32) -> bool {
     open
 }
 
-impl SharedGate {
-    pub(crate) fn new(alloc: Global, gate: Gate) -> Result<SharedGate, AllocError> {
+impl SharedBarrier {
+    pub(crate) fn new(alloc: Global, barrier: ReadBarrier) -> Result<SharedBarrier, AllocError> {
         let mut under_way = Vec::new(alloc);
         for _ in 0..GATES {
             under_way.push(AtomicU64::new(0))?;
         }
-        Ok(SharedGate {
-            gate,
+        Ok(SharedBarrier {
+            barrier,
             under_way: Arc::new(alloc, under_way)?,
         })
     }
 
-    /// The same gates once more.
-    pub(crate) fn share(&self) -> Result<SharedGate, AllocError> {
-        Ok(SharedGate {
-            gate: self.gate,
+    /// The same barriers once more.
+    pub(crate) fn share(&self) -> Result<SharedBarrier, AllocError> {
+        Ok(SharedBarrier {
+            barrier: self.barrier,
             under_way: Arc::try_clone(&self.under_way)?,
         })
     }
 
     /// Whether a read from this block on waits.
     pub(crate) fn holds(&self, first: u32) -> bool {
-        self.gate.from <= first && first < self.gate.after
+        self.barrier.from <= first && first < self.barrier.after
     }
 
     /// Waits for the other reads of the relation; whether they came in time. A read that waited in
@@ -73,8 +73,8 @@ impl SharedGate {
             return true;
         };
         let _ = under_way.fetch_add(1, Ordering::SeqCst);
-        for _ in 0..self.gate.turns {
-            if is_open(under_way, self.gate.reads) {
+        for _ in 0..self.barrier.turns {
+            if is_open(under_way, self.barrier.reads) {
                 return true;
             }
             yield_now();
