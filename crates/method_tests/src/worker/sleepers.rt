@@ -1,5 +1,5 @@
 //! A worker that sleeps where the queue is empty, and is woken.
-ghost use Rattle.std.specs.Prelude.{◌≡◌, ◌<◌, None, IfOk, IfSome};
+ghost use Rattle.std.specs.Prelude.{◌≡◌, ◌≤◌, ◌<◌, None, IfOk, IfSome};
 ghost use Rattle.aio_handle.specs.Closing.{HasNoOwnerTokens};
 ghost use Rattle.aio_handle.specs.ContractViews.{IsActorOf};
 ghost use Rattle.method_worker.specs.QueueViews.{IsSeatOf};
@@ -158,5 +158,121 @@ fn a_sleeping_worker_is_woken(rt: HostRuntime) -> Result<(), Fail> {
         wake_again_and_again::<Brand, _>(&rt, rt.alloc(), 200)?,
         Some(200)
     );
+    Ok(())
+}
+
+/// Waits until the I/O has ended, without giving up its turn.
+fn look_until_done<W: World, T: Wait>(
+    rt: &T,
+    table: &Table<ReadIo, W>,
+    owner: &mut Actor<ReadIo, W>,
+    reference: WaitRef,
+)
+    requires table { IsActorOf table.now owner.old }
+    requires range { reference.handle < W.handles }
+    ensures { IsActorOf table.now owner.new }
+{
+    for _ in rt.forever() {
+        if table.check(owner, reference) {
+            break;
+        }
+    }
+}
+
+/// Pushes the first lives of so many handles, each as soon as the one before it has ended, and closes
+/// the queue.
+fn push_one_by_one<W: World, T: Wait>(
+    rt: &T,
+    queue: &SubmitQueue<W>,
+    mut seat: QueueSeat,
+    table: &Table<ReadIo, W>,
+    mut owner: Actor<ReadIo, W>,
+    handles: u32,
+)
+    requires queue { IsSeatOf queue.now seat }
+    requires table { IsActorOf table.now owner }
+    requires range { handles ≤ W.handles }
+{
+    for handle in 0..handles {
+        let reference = WaitRef {
+            handle,
+            generation: 0,
+        };
+        queue.push(rt, &mut seat, reference).ok();
+        look_until_done(rt, table, &mut owner, reference);
+    }
+    queue.close(rt, &mut seat);
+}
+
+/// Submits reads of so many blocks; whether each had a handle.
+fn submit_reads<W: World>(
+    alloc: Global,
+    table: &Table<ReadIo, W>,
+    owner: &mut Actor<ReadIo, W>,
+    count: u32,
+) -> Result<bool, AllocError>
+    requires table { IsActorOf table.now owner.old }
+    requires backend { owner.old.known.number < table.now.config.backends }
+    requires some { 0 < W.relations }
+    ensures { IsActorOf table.now owner.new }
+{
+    for block in 0..count {
+        let io = ReadIo::make(alloc, 1)?;
+        if submit_read(table, owner, io, block).is_none() {
+            return Ok(false);
+        }
+    }
+    Ok(true)
+}
+
+/// One worker over 64 reads, each of which is pushed as soon as the one before it has ended: the
+/// worker is then about to sleep. The answer is how many it executed.
+fn push_to_one_about_to_sleep<W: World + Send + Sync, T: Threads + Wait + Sync>(
+    rt: &T,
+    alloc: Global,
+) -> Result<Option<u64>, AllocError>
+    requires handles { W.handles ≡ 64 }
+    requires untold { W.told ≡ None }
+    requires some { 0 < W.relations }
+{
+    let (queue, mut all) = SubmitQueue::<W>::open(alloc, 2)?;
+    let Some(sleeper) = last_seat(&queue, &mut all) else {
+        return Ok(None);
+    };
+    let Some(waker) = last_seat(&queue, &mut all) else {
+        return Ok(None);
+    };
+    let (table, mut actors) = Table::<ReadIo, W>::open(alloc, 1, 64, 1, 0)?;
+    let Some(runner) = last_actor(&table, &mut actors) else {
+        return Ok(None);
+    };
+    let Some(mut owner) = last_actor(&table, &mut actors) else {
+        return Ok(None);
+    };
+    if !submit_reads(alloc, &table, &mut owner, 64)? {
+        return Ok(None);
+    }
+    let shared = &queue;
+    let reads = &table;
+    let ((calls, _), ()) = join(
+        rt,
+        || -> (u64, QueueSeat)
+            requires { IsSeatOf shared.now sleeper × IsActorOf reads.now runner × (W.told ≡ None)
+                × HasNoOwnerTokens runner.known }
+        { work_until_closed(rt, shared, sleeper, reads, runner) },
+        ||
+            requires { IsSeatOf shared.now waker × IsActorOf reads.now owner × (W.handles ≡ 64) }
+        { push_one_by_one(rt, shared, waker, reads, owner, 64) },
+    );
+    Ok(Some(calls))
+}
+
+// A push that comes between the worker's look at the queue and its sleep is not missed.
+#[test]
+fn a_worker_about_to_sleep_is_woken(rt: HostRuntime) -> Result<(), Fail> {
+    for round in 0..400 {
+        let executed = push_to_one_about_to_sleep::<Brand, _>(&rt, rt.alloc())?;
+        assert_eq!(&rt; executed, Some(64), "round {round}");
+    }
     Ok(())
 }
