@@ -28,8 +28,6 @@ mod one_file_runs;
 #[cfg(test)]
 mod plain_lister;
 #[cfg(test)]
-mod program_runs;
-#[cfg(test)]
 mod random_maps;
 #[cfg(test)]
 mod random_requests;
