@@ -1,7 +1,8 @@
--- Disks that are taken back one after the other.
-use Rattle.std.proofs.Common.{◌≡◌, ℕ, ◌+◌, ◌<◌, List, [], ◌∷◌, ◌++◌, sum_by}
-use Rattle.std.proofs.Common.{refl, ◌∙◌, arith, inl, inr}
+-- Sums over disks: those that are taken back one after the other, and those behind the backends'.
+use Rattle.std.proofs.Common.{◌≡◌, ℕ, ◌+◌, ◌<◌, List, [], ◌∷◌, ◌++◌, take, drop, sum_by}
+use Rattle.std.proofs.Common.{refl, ap, ◌∙◌, subst, arith, inl, inr}
 use Rattle.std.proofs.lemmas.Bool.{cases_lt}
+use Rattle.std.proofs.lemmas.List.{take-append-drop}
 use Rattle.std.proofs.lemmas.List.Sums.{sum_by-append, sum_by-cons}
 use Rattle.aio_disk.specs.Counts.{RisesBy, raised_by}
 
@@ -36,3 +37,22 @@ rises_more sum one sum' before middle now is first second =
 pub raised_more : (sum one sum' before middle now : ℕ) → sum' ≡ sum + one
     → middle ≡ raised_by sum before → now ≡ raised_by one middle → now ≡ raised_by sum' before
 raised_more sum one sum' before middle now is first second = omega (arith, first, second)
+
+-- where all have counted nothing, those behind the first n have not
+pub none_behind : {D : Type 0} (f : D → ℕ) (n : ℕ) (ds : List D) → sum_by f ds ≡ 0
+    → sum_by f (drop n ds) ≡ 0
+none_behind f n ds none =
+    omega (
+      arith,
+      sum_by-append f (take n ds) (drop n ds),
+      ap (sum_by f) (take-append-drop n ds),
+    )
+
+-- of disks that were not read before, those behind the backends' have the reads of the workers
+pub workers_read : {D : Type 0} (reads : D → ℕ) (opened ds : List D) (n k by_runners by_workers : ℕ)
+    → n ≡ k → sum_by reads opened ≡ 0 → by_workers ≡ by_runners
+    → by_runners + sum_by reads (drop n opened) ≡ sum_by reads (drop n ds)
+    → by_workers ≡ sum_by reads (drop k ds)
+workers_read reads opened ds n k by_runners by_workers same none is read =
+    subst (λ (j : ℕ). by_workers ≡ sum_by reads (drop j ds)) same
+    (omega (arith, none_behind reads n opened none))

@@ -32,6 +32,7 @@ use Rattle.aioscan_cmd.specs.declared.report.Outcome.TheVariants.{NoLength, Unre
 use Rattle.aioscan_cmd.specs.declared.report.Outcome.TheVariants.{NoMemory, Missing, TooLong}
 use Rattle.aioscan_cmd.proofs.ListedRuns.{ran_listed, ran_on_shelf}
 use Rattle.aioscan_cmd.proofs.RefusedRuns.{ran_unopened}
+use Rattle.aioscan_cmd.proofs.DiskCountsAdd.{none_behind}
 use Rattle.aioscan_cmd.proofs.OutputsAppend.{lists_nothing}
 
 none_in : {D : Type 0} (f : D → ℕ) (ds : List D) → All (λ d. f d ≡ 0) ds → sum_by f ds ≡ 0
@@ -94,6 +95,7 @@ pub nothing_counted : {D : Type 0} (asked : ResolvedCommand) (told : Option Told
 nothing_counted asked told given reads ds n none a b c = record {
   sum = omega (arith, a, b, c);
   reads_are = λ _. a ∙ sym none;
+  by_workers_are = λ _. b ∙ sym (none_behind reads _ ds none);
   few = omega (arith, a);
   no_workers = λ _. b;
 }

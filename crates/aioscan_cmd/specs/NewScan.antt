@@ -15,6 +15,7 @@ pub record IsNewScan {W D : Type 0} (m : DiskGhosts D) (told : Option Told) (rel
     (settings : ScanSettings) (disks : List D) (s : Scan W D) : Type 0 where
   pub is : IsScan m told relations s
   pub set_up : All (IsSetUp settings) s.backends.items
+  pub backends : s.shared.table.config.backends ≡ settings.backends
   pub runners : s.shared.table.config.runners ≡ workers_of_settings settings
   pub opened : opened_disks s ≡ disks
   pub taken : results_taken_count s.backends.items ≡ 0

@@ -1,6 +1,6 @@
 -- How many I/Os a run made through handles, and who executed them.
-use Rattle.std.specs.Prelude.{◌≡◌, ◌≢◌, ℕ, ◌+◌, ◌<◌, ◌≤◌, List, length, sum_by, Option, Some, None}
-use Rattle.std.specs.Prelude.{IfSome, true}
+use Rattle.std.specs.Prelude.{◌≡◌, ◌≢◌, ℕ, ◌+◌, ◌<◌, ◌≤◌, List, length, drop, sum_by, Option}
+use Rattle.std.specs.Prelude.{Some, None, IfSome, true}
 use Rattle.std.specs.List.{All}
 use Rattle.page_check.specs.Told.{Told}
 use Rattle.aio_disk.specs.Counts.{ShelfCounts}
@@ -51,5 +51,8 @@ pub record AreScanNumbers {D : Type 0} (asked : ResolvedCommand) (told : Option 
   pub sum : numbers.incarnations ≡ numbers.by_workers + numbers.by_backends
   pub reads_are : All (λ d. reads d < last_count) disks
       → numbers.incarnations ≡ sum_by reads disks
+  -- those of the workers' disks, which are behind those of the backends
+  pub by_workers_are : All (λ d. reads d < last_count) disks → numbers.by_workers
+      ≡ sum_by reads (drop ((asked.command.now).settings.backends) disks)
   pub few : numbers.incarnations ≤ length (resolved_request_list asked told given)
   pub no_workers : (asked.command.now).settings.method ≢ method.Worker → numbers.by_workers ≡ 0

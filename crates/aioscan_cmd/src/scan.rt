@@ -58,6 +58,7 @@ fn list_disks<W: World + Send + Sync, D: Disk, O: Sink, E: Sink, R: Threads + Wa
         (error_stream Line.Whole (E.written err.old) (E.faults err.old))
         (error_stream result.1.line (E.written err.new) (E.faults err.new))
         × AreScanNumbers asked.entry W.told given D.reads result.0.items result.1.numbers }
+    ensures disks { length result.0.items ≡ length disks.items }
     ensures writes { WriteFaultsCounted (O.faults out.old) (O.faults out.new) result.1.outcome }
     ensures unread { (r b : ℕ) → result.1.outcome ≡ Outcome.Unread r b
         → 0 < sum_by D.faults result.0.items }

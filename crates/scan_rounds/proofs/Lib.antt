@@ -18,6 +18,7 @@ mod JobsInSequence
 mod ShareSplit
 pub mod ThreadPremises
 mod ResultsMatchExecutions
+mod DisksCountForActors
 mod TotalsMatchDisks
 mod PartsGiven
 mod ListFront

@@ -1,7 +1,7 @@
 -- A scan between its rounds, and what its end tells.
 use Rattle.std.specs.Prelude.{◌≡◌, ℕ, ◌+◌, ◌<◌, ◌≤◌, ◌++◌, List, [], length, map, sum_by, Option}
 use Rattle.std.specs.Prelude.{Some}
-use Rattle.std.specs.Prelude.{vec_capacity, slice_index_or, is_some, true, min, ◌^◌, ◌-◌}
+use Rattle.std.specs.Prelude.{vec_capacity, slice_index_or, is_some, true, min, drop, ◌^◌, ◌-◌}
 use Rattle.std.specs.List.{All}
 use Rattle.page_check.specs.Told.{Told}
 use Rattle.aio_word.specs.declared.Config.{Config}
@@ -98,6 +98,10 @@ module _ {D : Type 0} (m : DiskGhosts D) (told : Option Told) (relations : ℕ) 
     -- each incarnation was one read
     pub each_read : All (λ d. m.reads d < last_count) disks
         → totals.incarnations + sum_by m.reads opened ≡ sum_by m.reads disks
+    -- those that runners executed are the reads of the workers' disks, which are the last
+    pub each_worker_read : All (λ d. m.reads d < last_count) disks
+        → totals.by_runners + sum_by m.reads (drop c.backends opened)
+        ≡ sum_by m.reads (drop c.backends disks)
     -- and one result that a backend has taken
     pub each_taken : totals.incarnations ≡ taken
     -- each disk has counted a read for each I/O that its own actor has executed

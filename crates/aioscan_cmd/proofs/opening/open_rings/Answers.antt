@@ -12,6 +12,7 @@ returns-in-Ok-clause-new g c =
     (sym c.into_scan.ensures) (record {
       is = e.scan;
       set_up = e.set_up;
+      backends = e.numbers.0;
       runners = e.numbers.1 ∙ sym none;
       opened = e.opened;
       taken = e.taken;

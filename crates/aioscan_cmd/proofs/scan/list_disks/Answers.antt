@@ -1,7 +1,8 @@
-use Rattle.std.proofs.Common.{◌∙◌, ap, arith, sum_by, []}
+use Rattle.std.proofs.Common.{◌∙◌, ap, arith, length, sum_by, []}
 use Rattle.aioscan_cmd.proofs.ScanCountsAtEnd.{no_reads, some_fault, nothing_counted}
 use Rattle.aioscan_cmd.proofs.ScanCountsAtEnd.{nothing_listed}
 use Rattle.aioscan_cmd.proofs.ScanCountsAtEnd.{none_by_workers}
+use Rattle.aioscan_cmd.proofs.DiskCountsAdd.{workers_read}
 use Rattle.aioscan_cmd.proofs.ErrorTextsAppend.{warns_none}
 use Rattle.aioscan_cmd.proofs.scan.list_disks.Goals as goal
 
@@ -9,6 +10,14 @@ pub returns-clause-unread : goal.returns-clause-unread
 returns-clause-unread g c = λ r b is.
     some_fault g.D.Disk.faults c.finish-totals.result.1.items _ _
     c.finish-totals.ensures.finished.each_unread (c.list_asked-outcome.ensures.unread r b is)
+
+pub returns-clause-disks : goal.returns-clause-disks
+returns-clause-disks g c =
+    c.finish-totals.ensures.finished.disks_are
+    ∙ ap length (c.list_asked-outcome.ensures.same.opened ∙ c.in-Ok.ensures.new.opened)
+
+pub returns-in-Err-clause-disks : goal.returns-in-Err-clause-disks
+returns-in-Err-clause-disks g c = ap (λ disks. length disks.items) c.in-Err.ensures.back
 
 pub returns-clause-listed : goal.returns-clause-listed
 returns-clause-listed g c =
@@ -31,6 +40,12 @@ returns-clause-listed g c =
         );
         reads_are = λ below.
             (let each = f.each_read below in omega (arith, each, none, c.incarnations.ensures));
+        by_workers_are = λ below.
+            workers_read g.D.Disk.reads _ c.finish-totals.result.1.items _ _ _ _
+            (ap (λ config. config.backends) same.config
+            ∙ (c.in-Ok.ensures.new.backends
+            ∙ ap (λ settings. settings.backends) c.settings-settings.ensures.settings))
+            none c.by_runners.ensures (f.each_worker_read below);
         few = omega (
           arith,
           f.each_taken,

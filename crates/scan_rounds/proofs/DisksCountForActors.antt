@@ -1,0 +1,124 @@
+-- Disks beside the actors that they serve: what each has counted is what its actor has executed.
+use Rattle.std.proofs.Common.{◌≡◌, ℕ, zero, suc, ◌+◌, ◌<◌, ◌≤◌, List, [], ◌∷◌, drop}
+use Rattle.std.proofs.Common.{map, length, get_or, sum_by, Option, Some, refl, ap, subst}
+use Rattle.std.proofs.Common.{arith}
+use Rattle.std.proofs.lemmas.List.Sums.{sum_by-cons}
+use Rattle.std.specs.List.{All}
+use Rattle.page_check.specs.Told.{Told}
+use Rattle.aio_word.specs.declared.Known.{Known}
+use Rattle.aio_word.specs.Tokens.{io_mark_count, failed_mark_count}
+use Rattle.aio_handle.specs.Execution.{CountersFollowMarks, last_count}
+use Rattle.aio_handle.specs.ContractViews.{TableView}
+use Rattle.aio_disk.specs.declared.disk.Disk.{Ghosts as DiskGhosts}
+use Rattle.scan_rounds.specs.DiskActors.{IsDiskActor}
+use Rattle.scan_rounds.specs.Scans.{AllDiskCountersFollowMarks, disk_of, lists_of}
+use Rattle.scan_rounds.specs.declared.disk_actor.DiskActor.{DiskActor}
+
+module _ {W D : Type 0} (m : DiskGhosts D) (told : Option Told) (relations : ℕ) where
+  -- the disks before and after, with the actors that they served, place by place
+  pub data CountedBy : List D → List D → List (DiskActor W D) → Type 0 where
+    none : CountedBy [] [] []
+    more : (o d : D) (h : DiskActor W D) (os ds : List D) (hs : List (DiskActor W D))
+        → CountersFollowMarks (m.reads o) (m.reads d) (m.faults o) (m.faults d) h.actor.known.marks
+        → (m.told d ≡ told) × (m.relations d ≡ relations)
+        → CountedBy os ds hs → CountedBy (o ∷ os) (d ∷ ds) (h ∷ hs)
+
+  pub all-counted : (t : TableView) (os ds : List D) (hs : List (DiskActor W D))
+      → map Some ds ≡ map disk_of hs → AllDiskCountersFollowMarks m told relations os hs
+      → All (IsDiskActor m told relations t) hs → CountedBy os ds hs
+  all-counted t [] [] [] are counters_are stand = none
+  all-counted t (o ∷ os) (d ∷ ds) (h ∷ hs) are counters_are stand =
+      let has : h.disk ≡ Some d = cc in
+      let rest : map Some ds ≡ map disk_of hs = cc in
+      let is = stand 0 h (omega arith) in
+      let first = counters_are.each 0 o h (omega arith) in
+      let is-d : is.disk ≡ d = (let e = is.held in cc) in
+      let first-d : first.disk ≡ d = (let e = first.held in cc) in
+      more o d h os ds hs
+      (subst
+      (λ (x : D). CountersFollowMarks (m.reads o) (m.reads x) (m.faults o)
+      (m.faults x) h.actor.known.marks)
+      first-d first.counters_follow)
+      (subst (λ (x : D). (m.told x ≡ told) × (m.relations x ≡ relations)) is-d is.tells)
+      (all-counted t os ds hs rest
+      record {
+        as_many = omega (arith, counters_are.as_many);
+        each = λ i x y lt. counters_are.each (suc i) x y (omega arith);
+      }
+      (λ k x lt. stand (suc k) x (omega arith)))
+  all-counted t [] ds (h ∷ hs) are counters_are stand = absurd (omega (arith, counters_are.as_many))
+  all-counted t (o ∷ os) ds [] are counters_are stand = absurd (omega (arith, counters_are.as_many))
+  all-counted t [] (d ∷ ds) [] are counters_are stand = absurd (omega (arith, ap length are))
+  all-counted t (o ∷ os) [] (h ∷ hs) are counters_are stand = absurd (omega (arith, ap length are))
+
+  pub counted-lengths : (os ds : List D) (hs : List (DiskActor W D)) → CountedBy os ds hs
+      → (length ds ≡ length os) × (length hs ≡ length ds)
+  counted-lengths _ _ _ none = (refl, refl)
+  counted-lengths _ _ _ (more o d h os ds hs counters_follow tells p) =
+      let (a, b) = counted-lengths os ds hs p in (omega arith, omega arith)
+
+  pub counted-tell : (os ds : List D) (hs : List (DiskActor W D)) → CountedBy os ds hs
+      → All (λ (d : D). (m.told d ≡ told) × (m.relations d ≡ relations)) ds
+  counted-tell _ _ _ none k x lt = absurd (omega arith)
+  counted-tell _ _ _ (more o d h os ds hs counters_follow tells p) zero x lt = tells
+  counted-tell _ _ _ (more o d h os ds hs counters_follow tells p) (suc k) x lt =
+      counted-tell os ds hs p k x (omega arith)
+
+  pub counted-reads : (os ds : List D) (hs : List (DiskActor W D)) → CountedBy os ds hs
+      → All (λ (d : D). m.reads d < last_count) ds
+      → sum_by (λ (h : DiskActor W D). io_mark_count h.actor.known.marks) hs + sum_by m.reads os
+      ≡ sum_by m.reads ds
+  counted-reads _ _ _ none below = refl
+  counted-reads _ _ _ (more o d h os ds hs counters_follow tells p) below =
+      let rest = counted-reads os ds hs p (λ k x lt. below (suc k) x (omega arith)) in
+      let here = counters_follow.read_each (below 0 d (omega arith)) in
+      omega (
+        arith,
+        sum_by-cons (λ (x : DiskActor W D). io_mark_count x.actor.known.marks) h hs,
+        sum_by-cons m.reads o os,
+        sum_by-cons m.reads d ds,
+      )
+
+  pub counted-faults : (os ds : List D) (hs : List (DiskActor W D)) → CountedBy os ds hs
+      → All (λ (d : D). m.faults d < last_count) ds
+      → sum_by (λ (h : DiskActor W D). failed_mark_count h.actor.known.marks) hs
+      + sum_by m.faults os
+      ≤ sum_by m.faults ds
+  counted-faults _ _ _ none below = omega arith
+  counted-faults _ _ _ (more o d h os ds hs counters_follow tells p) below =
+      let rest = counted-faults os ds hs p (λ k x lt. below (suc k) x (omega arith)) in
+      let here = counters_follow.fault_each (below 0 d (omega arith)) in
+      omega (
+        arith,
+        sum_by-cons (λ (x : DiskActor W D). failed_mark_count x.actor.known.marks) h hs,
+        sum_by-cons m.faults o os,
+        sum_by-cons m.faults d ds,
+      )
+
+  pub counted-read : (os ds : List D) (hs : List (DiskActor W D)) → CountedBy os ds hs
+      → (i : ℕ) (p : Known) (x : D) → i < length ds → m.reads (get_or ds i x) < last_count
+      → io_mark_count (get_or (lists_of hs) i p).marks + m.reads (get_or os i x)
+      ≡ m.reads (get_or ds i x)
+  counted-read _ _ _ none i p x lt below = absurd (omega arith)
+  counted-read _ _ _ (more o d h os ds hs counters_follow tells q) zero p x lt below =
+      let here = counters_follow.read_each below in omega arith
+  counted-read _ _ _ (more o d h os ds hs counters_follow tells q) (suc i) p x lt below =
+      counted-read os ds hs q i p x (omega arith) below
+
+  pub counted-fault : (os ds : List D) (hs : List (DiskActor W D)) → CountedBy os ds hs
+      → (i : ℕ) (p : Known) (x : D) → i < length ds → m.faults (get_or ds i x) < last_count
+      → failed_mark_count (get_or (lists_of hs) i p).marks + m.faults (get_or os i x)
+      ≤ m.faults (get_or ds i x)
+  counted-fault _ _ _ none i p x lt below = absurd (omega arith)
+  counted-fault _ _ _ (more o d h os ds hs counters_follow tells q) zero p x lt below =
+      let here = counters_follow.fault_each below in omega arith
+  counted-fault _ _ _ (more o d h os ds hs counters_follow tells q) (suc i) p x lt below =
+      counted-fault os ds hs q i p x (omega arith) below
+
+  -- those behind the first n
+  pub counted-drop : (n : ℕ) (os ds : List D) (hs : List (DiskActor W D)) → CountedBy os ds hs
+      → CountedBy (drop n os) (drop n ds) (drop n hs)
+  counted-drop zero os ds hs p = p
+  counted-drop (suc n) _ _ _ none = none
+  counted-drop (suc n) _ _ _ (more o d h os ds hs counters_follow tells p) =
+      counted-drop n os ds hs p
