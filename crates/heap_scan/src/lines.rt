@@ -80,7 +80,7 @@ fn put_long_item_at(buf: &mut [u8], end: usize, bytes: &[u8], index: u16) -> usi
     requires room { 40 ≤ end }
     requires within { end ≤ length buf.old }
     requires number { index < 9999 }
-    requires there { 28 + 4 * index ≤ length bytes.now }
+    requires in_page { 28 + 4 * index ≤ length bytes.now }
     ensures start { (result ≤ end) × (end ≤ result + 32) }
     ensures written { drop result buf.new
         ≡ item_line (index + 1, line_pointer_of bytes.now index) ++ drop end buf.old }
@@ -99,7 +99,7 @@ fn put_item_at(buf: &mut [u8], end: usize, bytes: &[u8], index: u16) -> usize
     requires room { 40 ≤ end }
     requires within { end ≤ length buf.old }
     requires number { index < 9999 }
-    requires there { 28 + 4 * index ≤ length bytes.now }
+    requires in_page { 28 + 4 * index ≤ length bytes.now }
     ensures start { (result ≤ end) × (end ≤ result + 32) }
     ensures written { drop result buf.new
         ≡ item_line (index + 1, line_pointer_of bytes.now index) ++ drop end buf.old }
@@ -116,7 +116,7 @@ fn put_item_at(buf: &mut [u8], end: usize, bytes: &[u8], index: u16) -> usize
 pub(crate) fn put_items(buf: &mut [u8], page: &Page, from: u16, to: u16) -> usize
     requires valid { IsValid page.now }
     requires order { from ≤ to }
-    requires there { to ≤ line_pointer_count page.now }
+    requires in_page { to ≤ line_pointer_count page.now }
     requires room { 96 + 32 * (to - from) ≤ length buf.old }
     ensures start { (96 ≤ result) × (result ≤ length buf.new) }
     ensures written { drop result buf.new
@@ -189,7 +189,7 @@ pub(crate) fn put_first_lines(
     items: u16,
 ) -> usize
     requires valid { IsValid page.now }
-    requires there { items ≤ line_pointer_count page.now }
+    requires in_page { items ≤ line_pointer_count page.now }
     requires room { 96 + 32 * items ≤ length buf.old }
     ensures start { result ≤ length buf.new }
     ensures written { drop result buf.new ≡ text_up_to relation block page.now items }

@@ -27,7 +27,7 @@ fn append(
     requires room { length scratch.old ≡ 2144 }
     ensures ok { OnOk result
         (out.new.items ≡ out.old.items ++ page_text_of relation block page.now) }
-    ensures kept { take (length out.old.items) out.new.items ≡ out.old.items }
+    ensures prefix { take (length out.old.items) out.new.items ≡ out.old.items }
 {
     let count = count(page);
     let mut done = count.min(ITEMS_AT_ONCE);
@@ -65,7 +65,7 @@ pub fn page_text(
         → line_count (page_text_of relation block page.now) ≡ 1 }
     ensures lines { line_count (page_text_of relation block page.now) ≡ 1
         + line_pointer_count page.now }
-    ensures telling { FirstLineTells relation block page.now }
+    ensures first_line { FirstLineTells relation block page.now }
 {
     let before = out.len();
     match append(&mut [0; SCRATCH_SIZE], relation, block, page, out) {

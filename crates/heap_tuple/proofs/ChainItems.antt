@@ -7,9 +7,9 @@ use Rattle.std.proofs.lemmas.Bool.{or_cases, or_from, or_right, or_left, eqb-tru
 use Rattle.std.proofs.lemmas.Bool.{both_ways, false_from_ne_true}
 use Rattle.std.proofs.lemmas.Map.Steps.{length-le_from_distinct_below}
 use Rattle.heap_tuple.specs.Chains.{contains, StepsPass, chain_from}
-use Rattle.heap_tuple.specs.Following.{IsWhole, EndsInCircle}
-use Rattle.heap_tuple.proofs.Distinct.{distinct-head, distinct-tail, distinct-cons, distinct-none}
-use Rattle.heap_tuple.proofs.Distinct.{contains-first}
+use Rattle.heap_tuple.specs.ChainLengths.{IsWholeChain, EndsInCircle}
+use Rattle.heap_tuple.proofs.DistinctItems.{distinct-head, distinct-tail, distinct-cons, distinct-none}
+use Rattle.heap_tuple.proofs.DistinctItems.{contains-first}
 
 -- the last of these items has no step, or one to an item that was passed before or to one of these
 abbrev EndsIn : List ℕ → List ℕ → Option ℕ → Type 0
@@ -158,7 +158,7 @@ module _ (next : ℕ → Option ℕ) where
   ends_alone xs None ends = tt
   ends_alone xs (Some x) ends = ends
 
-  pub whole_chain : (n first : ℕ) (items : List ℕ) → IsWhole next first items → length items ≤ n
+  pub whole_chain : (n first : ℕ) (items : List ℕ) → IsWholeChain next first items → length items ≤ n
       → chain_from next n [] (Some first) ≡ items
   whole_chain n first items whole few =
       chain_from-whole n [] (Some first) whole.last_step items whole.steps whole.distinct

@@ -3,8 +3,8 @@ use Rattle.std.proofs.Common.{◌≡◌, ℕ, ◌-◌, ◌<◌, true, false, Lis
 use Rattle.std.proofs.Common.{length, take, drop, get_or, ap, sym, ◌∙◌, length-drop}
 use Rattle.std.proofs.lemmas.List.{take_rest}
 use Rattle.heap_tuple.specs.Chains.{contains}
-use Rattle.heap_tuple.specs.Following.{ClosesCircle}
-use Rattle.heap_tuple.proofs.Distinct.{split_there, contains-right}
+use Rattle.heap_tuple.specs.ChainLengths.{ClosesCircle}
+use Rattle.heap_tuple.proofs.DistinctItems.{split_there, contains-right}
 
 -- what is taken off is the end of the path
 pub end_of : (path shown : List ℕ) (start : ℕ) → shown ≡ path
@@ -31,7 +31,7 @@ closed before after path left part item start chain is left_is below there size 
     λ x. ap (λ (ys : List ℕ). contains ys x) (is ∙ split.1) in
     record {
       rest = split.0;
-      taken = rw left_is split.2;
+      path_parts = rw left_is split.2;
       size = size ∙ sym (length-drop start path) ∙ ap length split.1;
       there = λ x here. inside x (same x ∙ here);
       elsewhere = λ x out. outside x (same x ∙ out);

@@ -7,17 +7,17 @@ use Rattle.std.specs.List.{IsDistinct}
 use Rattle.std.proofs.lemmas.Bool.{or_cases, or_right, eqb-true, cases_eq}
 use Rattle.std.proofs.lemmas.Bool.{both_ways, cases_Bool, false_from_ne_true}
 use Rattle.heap_tuple.specs.Chains.{contains, StepsPass}
-use Rattle.heap_tuple.specs.Following.{IsWhole, IsKnown, AreLengths, EndsInCircle, RemainingLength}
-use Rattle.heap_tuple.proofs.Distinct.{distinct-cons, distinct-none, distinct-turned}
-use Rattle.heap_tuple.proofs.Distinct.{contains-turned}
-use Rattle.heap_tuple.proofs.Distinct.{contains-first, length-turned, place_of}
+use Rattle.heap_tuple.specs.ChainLengths.{IsWholeChain, HasKnownLength, AreChainLengths, EndsInCircle, RemainingLength}
+use Rattle.heap_tuple.proofs.DistinctItems.{distinct-cons, distinct-none, distinct-turned}
+use Rattle.heap_tuple.proofs.DistinctItems.{contains-turned}
+use Rattle.heap_tuple.proofs.DistinctItems.{contains-first, length-turned, place_of}
 use Rattle.heap_tuple.proofs.PassedItems.{passes-append, passes-split}
 
 module _ (next : ℕ → Option ℕ) where
   -- what is known stays known where no known length changes
   pub known-stays : (lengths more : List ℕ)
       → ((x : ℕ) → 0 < get_or lengths x 0 → get_or more x 0 ≡ get_or lengths x 0)
-      → (x : ℕ) → 0 < get_or lengths x 0 → IsKnown next lengths x → IsKnown next more x
+      → (x : ℕ) → 0 < get_or lengths x 0 → HasKnownLength next lengths x → HasKnownLength next more x
   known-stays lengths more same x here known = record {
     items = known.items;
     whole = known.whole;
@@ -35,7 +35,7 @@ module _ (next : ℕ → Option ℕ) where
     size : length items ≡ long
     known : (x : ℕ) → contains items x ≡ true → 0 < get_or lengths x 0
 
-  behind_of : (lengths : List ℕ) (at : Option ℕ) (long : ℕ) → AreLengths next lengths
+  behind_of : (lengths : List ℕ) (at : Option ℕ) (long : ℕ) → AreChainLengths next lengths
       → RemainingLength lengths at long → Behind lengths at long
   behind_of lengths None long are remaining = record {
     items = [];
@@ -70,9 +70,9 @@ module _ (next : ℕ → Option ℕ) where
       (λ same. absurd (omega (arith, some, ap (λ (z : ℕ). get_or lengths z 0) same, none)))
 
   -- an item whose step leads to where the chain is known
-  pub known_more : (lengths : List ℕ) (at : Option ℕ) (x long : ℕ) → AreLengths next lengths
+  pub known_more : (lengths : List ℕ) (at : Option ℕ) (x long : ℕ) → AreChainLengths next lengths
       → RemainingLength lengths at long → next x ≡ at → x < length lengths → get_or lengths x 0 ≡ 0
-      → AreLengths next (set lengths x (long + 1))
+      → AreChainLengths next (set lengths x (long + 1))
   known_more lengths at x long are remaining is below none =
       let behind = behind_of lengths at long are remaining in
       let here : get_or (set lengths x (long + 1)) x 0 ≡ long + 1 =
@@ -113,7 +113,7 @@ module _ (next : ℕ → Option ℕ) where
   turned : (first x : ℕ) (before behind : List ℕ)
       → StepsPass next (Some first) (before ++ x ∷ behind) (Some first)
       → IsDistinct nat_eq (before ++ x ∷ behind)
-      → IsWhole next x (x ∷ behind ++ before)
+      → IsWholeChain next x (x ∷ behind ++ before)
   turned first x before behind passes distinct =
       let parts = passes-split next (Some first) (Some first) before (x ∷ behind) passes in
       let at_x : parts.0 ≡ Some x = parts.2.0 in
@@ -131,7 +131,7 @@ module _ (next : ℕ → Option ℕ) where
       → ((x : ℕ) → contains circle x ≡ true → get_or more x 0 ≡ length circle)
       → ((x : ℕ) → contains circle x ≡ false → get_or more x 0 ≡ get_or lengths x 0)
       → 0 < length circle
-      → AreLengths next lengths → AreLengths next more
+      → AreChainLengths next lengths → AreChainLengths next more
   circle_known lengths more first circle passes distinct fresh inside outside some are =
       λ x positive. elim (cases_Bool (contains circle x)) [
         | inl here ↦

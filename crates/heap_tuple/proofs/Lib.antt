@@ -1,4 +1,4 @@
-pub mod Distinct
+pub mod DistinctItems
 pub mod PassedItems
 pub mod ChainItems
 pub mod KnownLengths

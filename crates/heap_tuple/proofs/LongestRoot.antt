@@ -16,8 +16,8 @@ use Rattle.page_check.specs.LinePointers.{line_pointer_count}
 use Rattle.heap_tuple.specs.Tuples.{tuple_of, step_of}
 use Rattle.heap_tuple.specs.Chains.{contains, leads_to, is_root, roots_of, longest_of}
 use Rattle.heap_tuple.specs.Chains.{chain_of, IsLongest, chain_from}
-use Rattle.heap_tuple.specs.Following.{AreReached, AreLengths}
-use Rattle.heap_tuple.proofs.Distinct.{contains-first}
+use Rattle.heap_tuple.specs.ChainLengths.{AreStepTargets, AreChainLengths}
+use Rattle.heap_tuple.proofs.DistinctItems.{contains-first}
 use Rattle.heap_tuple.proofs.StepsBelow.{step_of-below}
 use Rattle.heap_tuple.proofs.ChainItems.{whole_chain, passes-few, chain_from-longest}
 use Rattle.heap_tuple.proofs.ChainItems.{chain_from-found}
@@ -50,8 +50,8 @@ any_pushed p n =
 
 -- one more item was asked for its step
 pub reached_none : (page : List ℕ) (block n : ℕ) (reached : List Bool)
-    → AreReached page block n reached → step_of page block n ≡ None
-    → AreReached page block (n + 1) reached
+    → AreStepTargets page block n reached → step_of page block n ≡ None
+    → AreStepTargets page block (n + 1) reached
 reached_none page block n reached are stays =
     λ x. are x ∙ or_false (list_any (λ i. leads_to (step_of page block i) x) (range_with_len 0 n))
     ∙ ap (λ (b : Bool). list_any (λ i. leads_to (step_of page block i) x) (range_with_len 0 n) || b)
@@ -59,8 +59,8 @@ reached_none page block n reached are stays =
     ∙ sym (any_pushed (λ i. leads_to (step_of page block i) x) n)
 
 pub reached_more : (page : List ℕ) (block n next read : ℕ) (reached : List Bool)
-    → AreReached page block n reached → step_of page block n ≡ Some next → read ≡ next
-    → next < length reached → AreReached page block (n + 1) (set reached read true)
+    → AreStepTargets page block n reached → step_of page block n ≡ Some next → read ≡ next
+    → next < length reached → AreStepTargets page block (n + 1) (set reached read true)
 reached_more page block n next read reached are steps here below =
     rw here (λ x.
     let any = list_any (λ i. leads_to (step_of page block i) x) (range_with_len 0 n) in
@@ -115,7 +115,7 @@ longest_pushed page block n roots =
 
 -- what the code tests of an item
 pub root_test : (page : List ℕ) (block n : ℕ) (reached : List Bool)
-    → AreReached page block (line_pointer_count page) reached
+    → AreStepTargets page block (line_pointer_count page) reached
     → (is_some (tuple_of page n) && not (get_or reached n false)) ≡ is_root page block n
 unfolding is_root
 root_test page block n reached are =
@@ -123,7 +123,7 @@ root_test page block n reached are =
 
 -- a length that was written down is that of the item's chain
 pub length_of_chain : (page : List ℕ) (block x : ℕ) (lengths : List ℕ)
-    → AreLengths (step_of page block) lengths → 0 < get_or lengths x 0 → x < line_pointer_count page
+    → AreChainLengths (step_of page block) lengths → 0 < get_or lengths x 0 → x < line_pointer_count page
     → length (chain_of page block x) ≡ get_or lengths x 0
 unfolding chain_of
 length_of_chain page block x lengths known some below =
@@ -282,7 +282,7 @@ longest_followed page block n found longest is are long =
 pub root_inside : (page : List ℕ) (block n read : ℕ) (reached : List Bool)
     (header : Option TupleHeader)
     (some : Bool) → header ≡ tuple_of page n → some ≡ is_some header → some ≡ true → read ≡ n
-    → AreReached page block (line_pointer_count page) reached
+    → AreStepTargets page block (line_pointer_count page) reached
     → not (get_or reached read false) ≡ is_root page block n
 root_inside page block n read reached header some is test so here are =
     let inside : is_some (tuple_of page n) ≡ true = ap is_some (sym is) ∙ sym test ∙ so in
@@ -291,7 +291,7 @@ root_inside page block n read reached header some is test so here are =
 
 pub root_outside : (page : List ℕ) (block n : ℕ) (reached : List Bool) (header : Option TupleHeader)
     (some : Bool) → header ≡ tuple_of page n → some ≡ is_some header → some ≡ false
-    → AreReached page block (line_pointer_count page) reached → some ≡ is_root page block n
+    → AreStepTargets page block (line_pointer_count page) reached → some ≡ is_root page block n
 root_outside page block n reached header some is test so are =
     let outside : is_some (tuple_of page n) ≡ false = ap is_some (sym is) ∙ sym test ∙ so in
     let of = root_test page block n reached are in

@@ -9,11 +9,11 @@ use Rattle.std.proofs.lemmas.Bool.{cases_Bool, cases_eq, ne_eqb, not-false}
 use Rattle.std.proofs.lemmas.Bool.{not-true}
 use Rattle.std.proofs.lemmas.Bool.Decides.{nat_tests}
 use Rattle.heap_tuple.specs.Chains.{contains, StepsPass}
-use Rattle.heap_tuple.specs.Following.{AreLengths, AreMarked, RemainingLength, IsPath}
-use Rattle.heap_tuple.specs.Following.{ClosesCircle}
-use Rattle.heap_tuple.proofs.Distinct.{distinct-last, distinct-behind, contains-append}
-use Rattle.heap_tuple.proofs.Distinct.{contains-left, contains-right, contains-first}
-use Rattle.heap_tuple.proofs.Distinct.{distinct-apart, distinct-before}
+use Rattle.heap_tuple.specs.ChainLengths.{AreChainLengths, PassedAreKnown, RemainingLength, IsPath}
+use Rattle.heap_tuple.specs.ChainLengths.{ClosesCircle}
+use Rattle.heap_tuple.proofs.DistinctItems.{distinct-last, distinct-behind, contains-append}
+use Rattle.heap_tuple.proofs.DistinctItems.{contains-left, contains-right, contains-first}
+use Rattle.heap_tuple.proofs.DistinctItems.{distinct-apart, distinct-before}
 use Rattle.heap_tuple.proofs.PassedItems.{passes-split, passes-less}
 use Rattle.heap_tuple.proofs.ChainItems.{passes-few}
 use Rattle.heap_tuple.proofs.KnownLengths.{known_more, circle_known}
@@ -37,10 +37,10 @@ module _ (next : ℕ → Option ℕ) where
     pub inside : (x : ℕ) → contains path x ≡ true → x < length lengths
     pub marked : (x : ℕ) → get_or passed x false
         ≡ (not (get_or lengths x 0 == 0) || contains path x)
-    pub known : AreLengths next lengths
+    pub known : AreChainLengths next lengths
 
   pub open_start : (before after : List Bool) (lengths path : List ℕ) (first : ℕ) (at : Option ℕ)
-      → AreLengths next lengths → AreMarked before lengths → length before ≡ length lengths
+      → AreChainLengths next lengths → PassedAreKnown before lengths → length before ≡ length lengths
       → IsPath before after path → StepsPass next (Some first) path at
       → IsOpen after lengths path first at
   open_start before after lengths path first at known marked size is steps = record {
@@ -75,15 +75,15 @@ module _ (next : ℕ → Option ℕ) where
       → IsOpen passed after left first (Some item) × RemainingLength after (Some item) chain
   open_closed passed lengths after path left first item chain is size done =
       let circle = item ∷ done.rest in
-      let distinct : IsDistinct nat_eq (left ++ circle) = rw (sym done.taken) is.distinct in
+      let distinct : IsDistinct nat_eq (left ++ circle) = rw (sym done.path_parts) is.distinct in
       let steps : StepsPass next (Some first) (left ++ circle) (Some item) = rw
-      (sym done.taken) is.steps in
+      (sym done.path_parts) is.steps in
       let parts = passes-split next (Some first) (Some item) left circle steps in
       let to_item : StepsPass next (Some first) left (Some item) = rw (sym parts.2.0) parts.1 in
       let in_path : (x : ℕ) → contains left x ≡ true → contains path x ≡ true =
-      λ x here. rw done.taken (contains-left left circle x here) in
+      λ x here. rw done.path_parts (contains-left left circle x here) in
       let free_circle : (x : ℕ) → contains circle x ≡ true → get_or lengths x 0 ≡ 0 =
-      λ x here. is.free x (rw done.taken (contains-right left circle x here)) in
+      λ x here. is.free x (rw done.path_parts (contains-right left circle x here)) in
       let some : 0 < chain = omega (arith, done.size) in
       let apart = distinct-apart left circle distinct in (
         record {
@@ -94,12 +94,12 @@ module _ (next : ℕ → Option ℕ) where
           marked = λ x. is.marked x ∙ elim (cases_Bool (contains circle x)) [
             | inl here ↦
                 or_right (not (get_or lengths x 0 == 0)) (contains path x)
-                (rw done.taken (contains-right left circle x here))
+                (rw done.path_parts (contains-right left circle x here))
                 ∙ sym (or_left (not (get_or after x 0 == 0)) (contains left x)
                 (positive_test (get_or after x 0) (omega (arith, done.there x here, some))))
             | inr out ↦
                 let same_path : contains path x ≡ contains left x =
-                ap (λ (ys : List ℕ). contains ys x) done.taken ∙ contains-append left circle x
+                ap (λ (ys : List ℕ). contains ys x) done.path_parts ∙ contains-append left circle x
                 ∙ rw out (or_false (contains left x)) in
                 rw (done.elsewhere x out) (rw same_path refl)
           ];
@@ -160,7 +160,7 @@ module _ (next : ℕ → Option ℕ) where
 
   pub open_done : (passed : List Bool) (lengths : List ℕ) (first long : ℕ) (at : Option ℕ)
       → IsOpen passed lengths [] first at → RemainingLength lengths at long
-      → AreMarked passed lengths × (0 < get_or lengths first 0)
+      → PassedAreKnown passed lengths × (0 < get_or lengths first 0)
   open_done passed lengths first long at is remaining =
       let here : RemainingLength lengths (Some first) long
       = subst (λ o. RemainingLength lengths o long)
@@ -170,7 +170,7 @@ module _ (next : ℕ → Option ℕ) where
   -- a known length is at most the number of items
   pub goes_few : (lengths : List ℕ) (at : Option ℕ) (long : ℕ)
       → ((x : ℕ) → x < length lengths → IfSome (next x) (λ y. y < length lengths))
-      → AreLengths next lengths → RemainingLength lengths at long → long ≤ length lengths
+      → AreChainLengths next lengths → RemainingLength lengths at long → long ≤ length lengths
   goes_few lengths None long each known remaining = omega (arith, remaining)
   goes_few lengths (Some x) long each known remaining =
       let is = known x (omega (arith, remaining.0, remaining.1)) in
@@ -233,7 +233,7 @@ module _ (next : ℕ → Option ℕ) where
 
   pub unwinds_done : (passed : List Bool) (lengths path : List ℕ) (first long : ℕ)
       → Unwinds passed lengths path first long → path ≡ []
-      → AreMarked passed lengths × (0 < get_or lengths first 0)
+      → PassedAreKnown passed lengths × (0 < get_or lengths first 0)
   unwinds_done passed lengths path first long is over =
       open_done passed lengths first long is.at
       (subst (λ p. IsOpen passed lengths p first is.at) over is.is_open) is.remaining

@@ -7,11 +7,11 @@ use Rattle.std.proofs.lemmas.Bool.{or_parts, or_from, or_right, eqb-true, both_w
 use Rattle.std.proofs.lemmas.Bool.{false_from_ne_true}
 use Rattle.std.proofs.lemmas.Map.Steps.{length-le_from_distinct_below}
 use Rattle.heap_tuple.specs.Chains.{contains}
-use Rattle.heap_tuple.specs.Following.{IsPath}
-use Rattle.heap_tuple.proofs.Distinct.{distinct-none, distinct-pushed, contains-append}
-use Rattle.heap_tuple.proofs.Distinct.{contains-either}
-use Rattle.heap_tuple.proofs.Distinct.{contains-one}
-use Rattle.heap_tuple.proofs.Distinct.{contains-right, contains-first}
+use Rattle.heap_tuple.specs.ChainLengths.{IsPath}
+use Rattle.heap_tuple.proofs.DistinctItems.{distinct-none, distinct-pushed, contains-append}
+use Rattle.heap_tuple.proofs.DistinctItems.{contains-either}
+use Rattle.heap_tuple.proofs.DistinctItems.{contains-one}
+use Rattle.heap_tuple.proofs.DistinctItems.{contains-right, contains-first}
 
 or_false : (b : Bool) → b ≡ (b || false)
 or_false true = refl

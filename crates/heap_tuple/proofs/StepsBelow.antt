@@ -7,26 +7,26 @@ use Rattle.page_check.specs.LinePointers.{line_pointer_count}
 use Rattle.heap_tuple.specs.declared.header.TupleHeader.{TupleHeader}
 use Rattle.heap_tuple.specs.Tuples.{tuple_of, step_of, step_by, is_stepping}
 
-by_test : (b : Bool) (page : List ℕ) (block x : ℕ) (updated : TupleHeader)
-    → is_stepping page block x updated ≡ b
-    → IfSome (cond b (Some (updated.position - 1)) None) (λ y. y < line_pointer_count page)
-by_test false page block x updated is = tt
-by_test true page block x updated is =
-    let lower : nat_le 1 updated.position ≡ true = grind (arith, nat_tests) in
-    let upper : nat_le updated.position (line_pointer_count page) ≡ true = grind (arith, nat_tests)
+by_test : (b : Bool) (page : List ℕ) (block x : ℕ) (old_tuple : TupleHeader)
+    → is_stepping page block x old_tuple ≡ b
+    → IfSome (cond b (Some (old_tuple.position - 1)) None) (λ y. y < line_pointer_count page)
+by_test false page block x old_tuple is = tt
+by_test true page block x old_tuple is =
+    let lower : nat_le 1 old_tuple.position ≡ true = grind (arith, nat_tests) in
+    let upper : nat_le old_tuple.position (line_pointer_count page) ≡ true = grind (arith, nat_tests)
     in
     omega (
       arith,
-      leb-true 1 updated.position lower,
-      leb-true updated.position
+      leb-true 1 old_tuple.position lower,
+      leb-true old_tuple.position
           (line_pointer_count page) upper,
     )
 
 by_header : (page : List ℕ) (block x : ℕ) (header : Option TupleHeader)
     → IfSome (step_by page block x header) (λ y. y < line_pointer_count page)
 by_header page block x None = tt
-by_header page block x (Some updated) =
-    by_test (is_stepping page block x updated) page block x updated refl
+by_header page block x (Some old_tuple) =
+    by_test (is_stepping page block x old_tuple) page block x old_tuple refl
 
 pub step_of-below : (page : List ℕ) (block x : ℕ)
     → IfSome (step_of page block x) (λ y. y < line_pointer_count page)

@@ -1,5 +1,5 @@
 pub mod Tuples
 pub mod Chains
-pub mod Following
+pub mod ChainLengths
 pub mod TuplesText
 pub mod Listing

@@ -48,29 +48,29 @@ tuple_of page index = tuple_at page (line_pointer_of page index)
 pub record Steps (page : List ℕ) (block i j : ℕ) : Type 0 where
   pub below : j < line_pointer_count page
   pub other : i ≢ j
-  pub updated : TupleHeader
-  pub updated_is : tuple_of page i ≡ Some updated
-  pub made : TupleHeader
-  pub made_is : tuple_of page j ≡ Some made
-  pub named : (updated.block ≡ block) × (updated.position ≡ j + 1)
-  pub tied : made.xmin ≡ updated.xmax
+  pub old_tuple : TupleHeader
+  pub old_tuple_is : tuple_of page i ≡ Some old_tuple
+  pub new_tuple : TupleHeader
+  pub new_tuple_is : tuple_of page j ≡ Some new_tuple
+  pub ctid_names : (old_tuple.block ≡ block) × (old_tuple.position ≡ j + 1)
+  pub xmin_is_xmax : new_tuple.xmin ≡ old_tuple.xmax
 
 -- the tuple was made by this transaction
 abbrev pub has_xmin : Option TupleHeader → ℕ → Bool
 has_xmin None xid = false
-has_xmin (Some made) xid = made.xmin == xid
+has_xmin (Some new_tuple) xid = new_tuple.xmin == xid
 
 -- the item at this index steps to the one that its header's `t_ctid` names
 abbrev pub is_stepping : List ℕ → ℕ → ℕ → TupleHeader → Bool
-is_stepping page block index updated =
-    updated.block == block && nat_le 1 updated.position
-    && nat_le updated.position (line_pointer_count page) && not (updated.position == index + 1)
-    && has_xmin (tuple_of page (updated.position - 1)) updated.xmax
+is_stepping page block index old_tuple =
+    old_tuple.block == block && nat_le 1 old_tuple.position
+    && nat_le old_tuple.position (line_pointer_count page) && not (old_tuple.position == index + 1)
+    && has_xmin (tuple_of page (old_tuple.position - 1)) old_tuple.xmax
 
 abbrev pub step_by : List ℕ → ℕ → ℕ → Option TupleHeader → Option ℕ
 step_by page block index None = None
-step_by page block index (Some updated) =
-    if is_stepping page block index updated then Some (updated.position - 1) else None
+step_by page block index (Some old_tuple) =
+    if is_stepping page block index old_tuple then Some (old_tuple.position - 1) else None
 
 -- the index of the item to which the one at an index steps
 unfoldable pub step_of : List ℕ → ℕ → ℕ → Option ℕ

@@ -10,8 +10,8 @@ ghost use Rattle.page_check.specs.LinePointers.{line_pointer_count};
 ghost use Rattle.heap_tuple.specs.Tuples.{step_of};
 ghost use Rattle.heap_tuple.specs.Chains.{StepsPass, contains, is_root, roots_of, longest_of};
 ghost use Rattle.heap_tuple.specs.Chains.{chain_of};
-ghost use Rattle.heap_tuple.specs.Following.{AreLengths, IsPath, AreMarked, ClosesCircle};
-ghost use Rattle.heap_tuple.specs.Following.{AreReached};
+ghost use Rattle.heap_tuple.specs.ChainLengths.{AreChainLengths, IsPath, PassedAreKnown, ClosesCircle};
+ghost use Rattle.heap_tuple.specs.ChainLengths.{AreStepTargets};
 
 use crate::{step, tuple};
 use page_check::{Page, count};
@@ -19,7 +19,7 @@ use std::alloc::{AllocError, Global};
 
 // Passes the items from one on that were not passed before, and says where it stopped: at an item
 // that was passed before, or nowhere.
-fn pass(
+fn pass_items(
     page: &Page,
     block: u32,
     passed: &mut [bool],
@@ -49,7 +49,7 @@ fn pass(
 }
 
 // Writes down one number at all these items.
-fn write_down(lengths: &mut [u16], items: &[u16], chain: u16)
+fn set_lengths(lengths: &mut [u16], items: &[u16], chain: u16)
     requires inside { (x : ℕ) → contains items.now x ≡ true → x < length lengths.old }
     ensures size { length lengths.new ≡ length lengths.old }
     ensures there { (x : ℕ) → contains items.now x ≡ true → slice_index lengths.new x ≡ chain }
@@ -76,7 +76,7 @@ fn place_of(items: &[u16], item: u16) -> usize
 
 // Takes the items from one on off a path that comes back to it, and writes down at each of them how
 // many they are.
-fn close(lengths: &mut [u16], path: &mut Vec<u16>, item: u16) -> u16
+fn close_circle(lengths: &mut [u16], path: &mut Vec<u16>, item: u16) -> u16
     requires few { length lengths.old ≤ 2042 }
     requires path { length path.old.items ≤ length lengths.old }
     requires inside { (x : ℕ) → contains path.old.items x ≡ true → x < length lengths.old }
@@ -87,13 +87,13 @@ fn close(lengths: &mut [u16], path: &mut Vec<u16>, item: u16) -> u16
 {
     let start = place_of(path, item);
     let chain = (path.len() - start) as u16;
-    write_down(lengths, &path[start..], chain);
+    set_lengths(lengths, &path[start..], chain);
     path.truncate(start);
     chain
 }
 
 // The length of the chain of an item. It is written down, and so is that of each item of the chain.
-fn follow(
+fn chain_length(
     page: &Page,
     block: u32,
     lengths: &mut [u16],
@@ -106,23 +106,23 @@ fn follow(
     requires passed { length passed.old ≡ line_pointer_count page.now }
     requires first { first < line_pointer_count page.now }
     requires empty { path.old.items ≡ [] }
-    requires known { AreLengths (step_of page.now block) lengths.old }
-    requires marked { AreMarked passed.old lengths.old }
+    requires known { AreChainLengths (step_of page.now block) lengths.old }
+    requires marked { PassedAreKnown passed.old lengths.old }
     ensures lengths { length lengths.new ≡ length lengths.old }
     ensures passed { length passed.new ≡ length passed.old }
     ensures empty { OnOk result (path.new.items ≡ []) }
-    ensures known { OnOk result (AreLengths (step_of page.now block) lengths.new) }
-    ensures marked { OnOk result (AreMarked passed.new lengths.new) }
+    ensures known { OnOk result (AreChainLengths (step_of page.now block) lengths.new) }
+    ensures marked { OnOk result (PassedAreKnown passed.new lengths.new) }
     ensures chain { IfOk result (λ chain. chain ≡ length (chain_of page.now block first)) }
 {
-    let at = pass(page, block, passed, path, first)?;
+    let at = pass_items(page, block, passed, path, first)?;
     let mut chain = match at {
         Some(item) => {
             let known = lengths[usize::from(item)];
             if known > 0 {
                 known
             } else {
-                close(lengths, path, item)
+                close_circle(lengths, path, item)
             }
         }
         None => 0,
@@ -139,7 +139,7 @@ fn reached_items(alloc: Global, page: &Page, block: u32) -> Result<Vec<bool>, Al
     requires valid { IsValid page.now }
     ensures size { IfOk result (λ reached. length reached.items ≡ line_pointer_count page.now) }
     ensures marks { IfOk result (λ reached.
-        AreReached page.now block (line_pointer_count page.now) reached.items) }
+        AreStepTargets page.now block (line_pointer_count page.now) reached.items) }
 {
     let items = count(page);
     let mut reached = vec![in alloc; false; usize::from(items)]?;
@@ -156,7 +156,7 @@ fn is_first(page: &Page, reached: &[bool], index: u16) -> bool
     requires valid { IsValid page.now }
     requires index { index < line_pointer_count page.now }
     requires size { length reached.now ≡ line_pointer_count page.now }
-    ensures { (block : ℕ) → AreReached page.now block (line_pointer_count page.now) reached.now
+    ensures { (block : ℕ) → AreStepTargets page.now block (line_pointer_count page.now) reached.now
         → result ≡ is_root page.now block index }
 {
     tuple(page, index).is_some() && !reached[usize::from(index)]
@@ -172,7 +172,7 @@ pub(crate) struct Chains {
 }
 
 // Follows each first item.
-fn follow_all(
+fn measure_chains(
     page: &Page,
     block: u32,
     reached: &[bool],
@@ -182,12 +182,12 @@ fn follow_all(
 ) -> Result<Chains, AllocError>
     requires valid { IsValid page.now }
     requires reached { length reached.now ≡ line_pointer_count page.now }
-    requires marks { AreReached page.now block (line_pointer_count page.now) reached.now }
+    requires marks { AreStepTargets page.now block (line_pointer_count page.now) reached.now }
     requires lengths { length lengths.old ≡ line_pointer_count page.now }
     requires passed { length passed.old ≡ line_pointer_count page.now }
     requires empty { path.old.items ≡ [] }
-    requires known { AreLengths (step_of page.now block) lengths.old }
-    requires marked { AreMarked passed.old lengths.old }
+    requires known { AreChainLengths (step_of page.now block) lengths.old }
+    requires marked { PassedAreKnown passed.old lengths.old }
     ensures roots { IfOk result (λ chains. chains.roots ≡ length (roots_of page.now block)) }
     ensures longest { IfOk result (λ chains. chains.longest ≡ longest_of page.now block) }
 {
@@ -195,7 +195,7 @@ fn follow_all(
     let mut longest = 0;
     for index in 0..count(page) {
         if is_first(page, reached, index) {
-            let chain = follow(page, block, lengths, passed, path, index)?;
+            let chain = chain_length(page, block, lengths, passed, path, index)?;
             roots += 1;
             longest = chain.max(longest);
         }
@@ -215,7 +215,7 @@ pub(crate) fn count_chains(alloc: Global, page: &Page, block: u32) -> Result<Cha
     let mut lengths = vec![in alloc; 0u16; items]?;
     let mut passed = vec![in alloc; false; items]?;
     let mut path = Vec::with_capacity(alloc, items)?;
-    follow_all(
+    measure_chains(
         page,
         block,
         &reached,

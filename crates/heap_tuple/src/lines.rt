@@ -170,7 +170,7 @@ fn put_lines(buf: &mut [u8], end: usize, page: &Page, block: u32, index: u16) ->
 pub(crate) fn put_items(buf: &mut [u8], page: &Page, block: u32, from: u16, to: u16) -> usize
     requires valid { IsValid page.now }
     requires order { from ≤ to }
-    requires there { to ≤ line_pointer_count page.now }
+    requires in_page { to ≤ line_pointer_count page.now }
     requires room { 96 + 224 * (to - from) ≤ length buf.old }
     ensures start { (96 ≤ result) × (result ≤ length buf.new) }
     ensures written { drop result buf.new ≡ texts_from page.now block from (to - from) }
@@ -207,7 +207,7 @@ pub(crate) fn put_first_lines(
     items: u16,
 ) -> usize
     requires valid { IsValid page.now }
-    requires there { items ≤ line_pointer_count page.now }
+    requires in_page { items ≤ line_pointer_count page.now }
     requires room { 96 + 224 * items ≤ length buf.old }
     ensures start { result ≤ length buf.new }
     ensures written { drop result buf.new ≡ tuples_text_up_to relation block page.now items }

@@ -7,7 +7,7 @@ ghost use Rattle.heap_tuple.specs.Tuples.{Steps, step_of, has_xmin};
 use crate::{TupleHeader, tuple};
 use page_check::{Page, count};
 
-fn was_made_by(header: Option<TupleHeader>, xid: u32) -> bool
+fn is_inserted_by(header: Option<TupleHeader>, xid: u32) -> bool
     ensures { result ≡ has_xmin header xid }
 {
     match header {
@@ -34,7 +34,7 @@ pub fn step(page: &Page, block: u32, index: u16) -> Option<u16>
         return None;
     }
     let next = named - 1;
-    if was_made_by(tuple(page, next), updated.xmax) {
+    if is_inserted_by(tuple(page, next), updated.xmax) {
         Some(next)
     } else {
         None

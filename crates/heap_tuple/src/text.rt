@@ -33,7 +33,7 @@ fn append(
     requires room { length scratch.old ≡ 1888 }
     ensures ok { OnOk result
         (out.new.items ≡ out.old.items ++ tuples_text_of relation block page.now) }
-    ensures kept { take (length out.old.items) out.new.items ≡ out.old.items }
+    ensures prefix { take (length out.old.items) out.new.items ≡ out.old.items }
 {
     let count = count(page);
     let mut done = count.min(ITEMS_AT_ONCE);

@@ -12,7 +12,7 @@ fn map_page(bits: &[u8], last: u8) -> Page {
 }
 
 // The blocks below a number that a map of one page does not mark.
-fn kept(alloc: Global, page: &Page, end: u32, skip: Skip) -> Result<Vec<u32>, AllocError> {
+fn unmarked(alloc: Global, page: &Page, end: u32, skip: Skip) -> Result<Vec<u32>, AllocError> {
     let mut map = VisMap::open(alloc, 1)?;
     if check(page) != Verdict::Bad {
         map.add(page);
@@ -34,7 +34,7 @@ fn two_bytes_of_bits(rt: HostRuntime) -> Result<(), Fail> {
         (Skip::Frozen, &[0, 1, 2, 3, 5, 6, 7]),
     ];
     for (skip, wanted) in rows {
-        let blocks = kept(rt.alloc(), &page, 8, skip)?;
+        let blocks = unmarked(rt.alloc(), &page, 8, skip)?;
         assert_eq!(rt; blocks.as_slice(), wanted, "{skip:?}");
     }
     Ok(())

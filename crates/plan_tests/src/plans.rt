@@ -1,6 +1,6 @@
 //! Plans: which blocks are read by one I/O, and how far a stream looks ahead.
 ghost use Rattle.std.specs.Prelude.{◌≡◌, ◌++◌, None, IfOk};
-ghost use Rattle.read_plan.specs.Offered.{flushed_runs};
+ghost use Rattle.read_plan.specs.OfferAnswer.{flushed_runs};
 ghost use Rattle.read_plan.specs.Runs.{AreRuns};
 
 use read_plan::{Offer, Plan, Run};

@@ -1,4 +1,4 @@
 pub mod PlanInvariant
-pub mod Offered
+pub mod OfferAnswer
 pub mod Plans
 pub mod Runs

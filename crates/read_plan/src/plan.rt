@@ -2,7 +2,7 @@
 ghost use Rattle.std.specs.Prelude.{◌≡◌, ◌+◌, ◌-◌, ◌*◌, ◌^◌, ◌<◌, ◌≤◌, ◌↔◌, min, max};
 ghost use Rattle.std.specs.Prelude.{[], ◌∷◌, None, IsTrue, IfSome};
 ghost use Rattle.std.specs.Option.{option_to_list};
-ghost use Rattle.read_plan.specs.Offered.{Offers, RunsCoverBlocks, IfFlush, flushed_runs};
+ghost use Rattle.read_plan.specs.OfferAnswer.{Offers, RunsCoverBlocks, IfFlush, flushed_runs};
 ghost use Rattle.read_plan.specs.Plans.{IsSoundPlan, MayLookAhead, new_plan};
 ghost use Rattle.read_plan.specs.Runs.{AreRuns, IsRun, IsWithin};
 

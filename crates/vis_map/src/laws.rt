@@ -8,7 +8,7 @@ ghost use Rattle.vis_map.specs.MapRequest.{unmarked_blocks, unmarked_entries};
 
 /// The kept blocks of a list that is cut into parts are those of its parts, one after the other: so
 /// jobs may be filtered each by itself.
-pub fn kept_part_by_part()
+pub fn unmarked_part_by_part()
     ensures { (pages : List (List ℕ)) (skip : Skip) (parts : List (List ℕ))
         → unmarked_blocks pages skip (concat parts)
         ≡ concat (map (unmarked_blocks pages skip) parts) }
@@ -20,7 +20,7 @@ pub fn nothing_is_skipped_without_pages()
 {}
 
 /// The entries that are kept of a request list are those of the blocks that are kept.
-pub fn kept_entries_have_the_kept_blocks<P: Copy>()
+pub fn unmarked_entries_have_the_unmarked_blocks<P: Copy>()
     ensures { (pages : List (List ℕ)) (skip : Skip) (entries : List (Entry P))
         → map (λ e. e.block) (unmarked_entries pages skip entries)
         ≡ unmarked_blocks pages skip (map (λ e. e.block) entries) }

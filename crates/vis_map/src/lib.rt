@@ -8,7 +8,7 @@
 
 pub mod laws;
 mod map;
-mod needed;
+mod map_pages;
 
 pub use map::{Skip, VisMap};
-pub use needed::needed_pages;
+pub use map_pages::needed_pages;

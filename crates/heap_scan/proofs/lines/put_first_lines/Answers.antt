@@ -10,7 +10,7 @@ pub returns-then-header-eq0-clause-written : goal.returns-then-header-eq0-clause
 returns-then-header-eq0-clause-written c =
     let new : (header_of c.args.page.now).upper ≡ 0 = cc in
     c.put_new_line.ensures.written
-    ∙ sym (text_up_to-new _ _ _ _ (verdict_of-new _ c.requires.valid new) c.requires.there)
+    ∙ sym (text_up_to-new _ _ _ _ (verdict_of-new _ c.requires.valid new) c.requires.in_page)
 
 pub returns-clause-written : goal.returns-clause-written
 returns-clause-written c =

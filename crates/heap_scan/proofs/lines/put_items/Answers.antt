@@ -6,12 +6,12 @@ use Rattle.heap_scan.proofs.Items.{lines_from-none, lines_from-more}
 use Rattle.heap_scan.proofs.SumsOverPages.{few_items}
 use Rattle.heap_scan.proofs.lines.put_items.Goals as goal
 
-pub put_item_at-at-requires-clause-there : goal.put_item_at-at-requires-clause-there
-put_item_at-at-requires-clause-there c =
+pub put_item_at-at-requires-clause-in_page : goal.put_item_at-at-requires-clause-in_page
+put_item_at-at-requires-clause-in_page c =
     omega (
       arith,
       line_pointer_fits c.args.page.now (c.loop-left.left - 1) c.requires.valid
-          (omega (arith, c.requires.there, c.loop-left.invariant.last, c.loop-left-test.true)),
+          (omega (arith, c.requires.in_page, c.loop-left.invariant.last, c.loop-left-test.true)),
       c.bytes-bytes.ensures.size,
     )
 
@@ -20,7 +20,7 @@ put_item_at-at-requires-clause-number c =
     omega (
       arith,
       few_items c.args.page.now c.requires.valid,
-      c.requires.there,
+      c.requires.in_page,
       c.loop-left.invariant.last,
       c.loop-left-test.true,
     )

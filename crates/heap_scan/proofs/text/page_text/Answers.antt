@@ -9,8 +9,8 @@ returns-in-Ok-clause-new c = new_is_one_line _ _ _
 pub returns-in-Ok-clause-lines : goal.returns-in-Ok-clause-lines
 returns-in-Ok-clause-lines c = lines_of_valid _ _ _ c.requires
 
-pub returns-in-Ok-clause-telling : goal.returns-in-Ok-clause-telling
-returns-in-Ok-clause-telling c = telling_of_valid _ _ _ (omega arith) (omega arith) c.requires
+pub returns-in-Ok-clause-first_line : goal.returns-in-Ok-clause-first_line
+returns-in-Ok-clause-first_line c = telling_of_valid _ _ _ (omega arith) (omega arith) c.requires
 
 pub returns-in-Err-clause-new : goal.returns-in-Err-clause-new
 returns-in-Err-clause-new c = new_is_one_line _ _ _
@@ -18,5 +18,5 @@ returns-in-Err-clause-new c = new_is_one_line _ _ _
 pub returns-in-Err-clause-lines : goal.returns-in-Err-clause-lines
 returns-in-Err-clause-lines c = lines_of_valid _ _ _ c.requires
 
-pub returns-in-Err-clause-telling : goal.returns-in-Err-clause-telling
-returns-in-Err-clause-telling c = telling_of_valid _ _ _ (omega arith) (omega arith) c.requires
+pub returns-in-Err-clause-first_line : goal.returns-in-Err-clause-first_line
+returns-in-Err-clause-first_line c = telling_of_valid _ _ _ (omega arith) (omega arith) c.requires

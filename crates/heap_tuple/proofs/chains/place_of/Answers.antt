@@ -1,6 +1,6 @@
 use Rattle.std.proofs.Common.{arith}
 use Rattle.std.proofs.lemmas.Bool.{both_ways}
-use Rattle.heap_tuple.proofs.Distinct.{has_no_place}
+use Rattle.heap_tuple.proofs.DistinctItems.{has_no_place}
 use Rattle.heap_tuple.proofs.chains.place_of.Goals as goal
 
 pub returns : goal.returns

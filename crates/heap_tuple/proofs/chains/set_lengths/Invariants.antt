@@ -1,6 +1,6 @@
 use Rattle.std.proofs.Common.{◌≡◌, ℕ, true, false, length, take, get_or}
 use Rattle.heap_tuple.specs.Chains.{contains}
-use Rattle.heap_tuple.proofs.chains.write_down.Given as goal
+use Rattle.heap_tuple.proofs.chains.set_lengths.Given as goal
 
 abbrev pub invariant-loop-item : goal.invariant-loop-item
 invariant-loop-item l = record {

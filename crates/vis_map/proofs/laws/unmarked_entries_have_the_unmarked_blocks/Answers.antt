@@ -1,5 +1,5 @@
 use Rattle.vis_map.proofs.UnmarkedLists.{kept_blocks}
-use Rattle.vis_map.proofs.laws.kept_entries_have_the_kept_blocks.Goals as goal
+use Rattle.vis_map.proofs.laws.unmarked_entries_have_the_unmarked_blocks.Goals as goal
 
 pub returns : goal.returns
 returns g c = kept_blocks

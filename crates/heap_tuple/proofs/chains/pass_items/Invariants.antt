@@ -3,8 +3,8 @@ use Rattle.std.specs.Prelude.{Some}
 use Rattle.page_check.specs.LinePointers.{line_pointer_count}
 use Rattle.heap_tuple.specs.Tuples.{step_of}
 use Rattle.heap_tuple.specs.Chains.{StepsPass}
-use Rattle.heap_tuple.specs.Following.{IsPath}
-use Rattle.heap_tuple.proofs.chains.pass.Given as goal
+use Rattle.heap_tuple.specs.ChainLengths.{IsPath}
+use Rattle.heap_tuple.proofs.chains.pass_items.Given as goal
 
 abbrev pub invariant-loop-passed : goal.invariant-loop-passed
 invariant-loop-passed l = record {

@@ -2,10 +2,10 @@ use Rattle.std.proofs.Common.{◌<◌, ◌-◌, ◌∙◌, [], ◌∷◌, length
 use Rattle.std.proofs.Common.{length-append, length-set}
 use Rattle.page_check.specs.LinePointers.{line_pointer_count}
 use Rattle.heap_tuple.specs.Tuples.{step_of}
-use Rattle.heap_tuple.specs.Following.{IsPath}
+use Rattle.heap_tuple.specs.ChainLengths.{IsPath}
 use Rattle.heap_tuple.proofs.PathMarks.{path_none, path_pushed, path_few}
 use Rattle.heap_tuple.proofs.PassedItems.{passes-more}
-use Rattle.heap_tuple.proofs.chains.pass.Goals as goal
+use Rattle.heap_tuple.proofs.chains.pass_items.Goals as goal
 
 pub loop-passed-init : goal.loop-passed-init
 loop-passed-init c = record {

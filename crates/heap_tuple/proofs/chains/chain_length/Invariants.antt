@@ -2,7 +2,7 @@ use Rattle.std.proofs.Common.{◌≡◌, length}
 use Rattle.page_check.specs.LinePointers.{line_pointer_count}
 use Rattle.heap_tuple.specs.Tuples.{step_of}
 use Rattle.heap_tuple.proofs.PathLengths.{Unwinds}
-use Rattle.heap_tuple.proofs.chains.follow.Given as goal
+use Rattle.heap_tuple.proofs.chains.chain_length.Given as goal
 
 abbrev pub invariant-loop-item : goal.invariant-loop-item
 invariant-loop-item l = record {

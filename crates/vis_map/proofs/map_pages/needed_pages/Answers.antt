@@ -1,7 +1,7 @@
 use Rattle.std.proofs.Common.{◌≤◌, subst}
 use Rattle.std.specs.Prelude.{IfSome}
 use Rattle.vis_map.proofs.NeededPages.{enough_pages}
-use Rattle.vis_map.proofs.needed.needed_pages.Goals as goal
+use Rattle.vis_map.proofs.map_pages.needed_pages.Goals as goal
 
 pub returns-in-Some-clause-enough : goal.returns-in-Some-clause-enough
 returns-in-Some-clause-enough c =

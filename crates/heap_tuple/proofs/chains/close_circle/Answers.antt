@@ -1,10 +1,10 @@
 use Rattle.std.proofs.Common.{◌≡◌, ℕ, ◌-◌, ◌<◌, List, length, true, ap, sym, ◌∙◌, arith, get_or}
 use Rattle.heap_tuple.specs.Chains.{contains}
 use Rattle.heap_tuple.proofs.CircleOfPath.{end_of, end_inside, closed}
-use Rattle.heap_tuple.proofs.chains.close.Goals as goal
+use Rattle.heap_tuple.proofs.chains.close_circle.Goals as goal
 
-pub write_down-requires : goal.write_down-requires
-write_down-requires c =
+pub set_lengths-requires : goal.set_lengths-requires
+set_lengths-requires c =
     let path = c.args.path.now.items in
     let shown : contains c.deref.result.now c.args.item
     ≡ true = rw c.deref.ensures.value c.requires.back in
@@ -34,5 +34,5 @@ returns-clause-circle c =
     (arith, c.len.ensures, c.deref.ensures.len, ap length c.deref.ensures.value) in
     closed _ _ path _ _ c.args.item c.place_of-start.result _
     (end_of path _ c.place_of-start.result c.deref-2.ensures.value)
-    c.truncate.ensures.items below there size c.write_down.ensures.there
-    c.write_down.ensures.elsewhere
+    c.truncate.ensures.items below there size c.set_lengths.ensures.there
+    c.set_lengths.ensures.elsewhere

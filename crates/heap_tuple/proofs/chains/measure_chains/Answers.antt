@@ -2,8 +2,8 @@ use Rattle.std.proofs.Common.{◌≡◌, ◌∙◌, ap, sym, arith, length}
 use Rattle.page_check.specs.LinePointers.{line_pointer_count}
 use Rattle.heap_tuple.specs.Chains.{roots_of, longest_of, is_root}
 use Rattle.heap_tuple.proofs.LongestRoot.{roots_no, roots_followed, longest_followed, longest_among}
-use Rattle.heap_tuple.proofs.chains.follow_all.Goals as goal
-use Rattle.heap_tuple.proofs.chains.follow_all.Goals.{then-is_first+in_ok-chain, else-is_first}
+use Rattle.heap_tuple.proofs.chains.measure_chains.Goals as goal
+use Rattle.heap_tuple.proofs.chains.measure_chains.Goals.{then-is_first+in_ok-chain, else-is_first}
 
 pub loop-index-preserved : goal.loop-index-preserved
 loop-index-preserved c =
@@ -13,8 +13,8 @@ loop-index-preserved c =
     c.requires.marks in
     elim c.if-is_first.branch [
       | then-is_first+in_ok-chain w ↦ let root = sym first ∙ w.if-is_first.true in record {
-        lengths = ap length w.lengths-is ∙ w.follow.ensures.lengths ∙ is.lengths;
-        passed = ap length w.passed-is ∙ w.follow.ensures.passed ∙ is.passed;
+        lengths = ap length w.lengths-is ∙ w.chain_length.ensures.lengths ∙ is.lengths;
+        passed = ap length w.passed-is ∙ w.chain_length.ensures.passed ∙ is.passed;
         empty = rw w.path-is w.in_ok-chain.ensures.empty;
         known = rw w.lengths-is w.in_ok-chain.ensures.known;
         marked = rw w.lengths-is (rw w.passed-is w.in_ok-chain.ensures.marked);

@@ -10,27 +10,27 @@ use Rattle.heap_tuple.proofs.PathLengths.{unwinds_none, unwinds_less, unwinds_in
 use Rattle.heap_tuple.proofs.PathLengths.{goes_few}
 use Rattle.std.proofs.Common.{[], ◌-◌, take, append-nil}
 use Rattle.heap_tuple.proofs.LongestRoot.{length_of_chain}
-use Rattle.heap_tuple.proofs.chains.follow.Goals as goal
-use Rattle.heap_tuple.proofs.chains.follow.Goals.{in-Some+then-known-gt0, in-Some+else-known-gt0}
-use Rattle.heap_tuple.proofs.chains.follow.Goals.{in-None}
+use Rattle.heap_tuple.proofs.chains.chain_length.Goals as goal
+use Rattle.heap_tuple.proofs.chains.chain_length.Goals.{in-Some+then-known-gt0, in-Some+else-known-gt0}
+use Rattle.heap_tuple.proofs.chains.chain_length.Goals.{in-None}
 
 few_items : (page : List ℕ) → (header_of page).lower ≤ 8192 → line_pointer_count page ≤ 2042
 unfolding line_pointer_count
 few_items page lower = omega (arith, lower)
 
-pub close-requires-clause-few : goal.close-requires-clause-few
-close-requires-clause-few c =
+pub close_circle-requires-clause-few : goal.close_circle-requires-clause-few
+close_circle-requires-clause-few c =
     omega (arith, few_items _ (lower_of_valid _ c.requires.valid), c.requires.lengths)
 
-pub close-requires-clause-path : goal.close-requires-clause-path
-close-requires-clause-path c =
+pub close_circle-requires-clause-path : goal.close_circle-requires-clause-path
+close_circle-requires-clause-path c =
     omega (arith, path_few _ _ _ c.in_ok-at.ensures.path, c.requires.lengths, c.requires.passed)
 
 pub loop-item-init : goal.loop-item-init
 loop-item-init c =
     let next = step_of c.args.page.now c.args.block in
-    let start = open_start next c.args.passed.now c.pass.new.passed c.args.lengths.now
-    c.pass.new.path.items
+    let start = open_start next c.args.passed.now c.pass_items.new.passed c.args.lengths.now
+    c.pass_items.new.path.items
     c.args.first c.in_ok-at.at c.requires.known c.requires.marked
     (c.requires.passed ∙ sym c.requires.lengths) c.in_ok-at.ensures.path c.in_ok-at.ensures.steps in
     let size = c.match-at.auto.lengths ∙ c.requires.lengths in
@@ -45,8 +45,8 @@ loop-item-init c =
         size = size;
         unwinds = rw w.lengths-is (rw w.path-is (rw w.chain-is
             (unwinds_closed next _ _ _ _ _ _ w.in-Some.item _ _ start w.in-Some.is
-            w.close.ensures.size
-            w.close.ensures.circle)));
+            w.close_circle.ensures.size
+            w.close_circle.ensures.circle)));
       }
       | in-None w ↦ record {
         size = size;

@@ -4,8 +4,8 @@ use Rattle.std.proofs.Common.{inr, length-set, get_or-set_same, get_or-set_other
 use Rattle.std.specs.Prelude.{◌==◌}
 use Rattle.std.proofs.lemmas.Bool.{or_cases, or_parts, eqb-true, both_ways, cases_eq}
 use Rattle.heap_tuple.specs.Chains.{contains}
-use Rattle.heap_tuple.proofs.Distinct.{has_more, has_at}
-use Rattle.heap_tuple.proofs.chains.write_down.Goals as goal
+use Rattle.heap_tuple.proofs.DistinctItems.{has_more, has_at}
+use Rattle.heap_tuple.proofs.chains.set_lengths.Goals as goal
 
 pub bounds-lengths-from : goal.bounds-lengths-from
 bounds-lengths-from c =
