@@ -14,11 +14,11 @@ use Rattle.aio_disk.specs.Source.{Source, HoldsBytes, GivesBlock}
 -- no more was given than there is
 given_within : (bytes given : List ℕ) (offset got : ℕ) → got ≤ length given
     → HoldsBytes bytes offset got given → got ≤ length bytes - offset
-given_within bytes given offset got few held =
+given_within bytes given offset got few bytes_held =
     omega (
       arith,
       length-take-le got given few,
-      ap length held,
+      ap length bytes_held,
       length-take got (drop offset bytes),
       length-drop offset bytes,
     )
@@ -27,12 +27,12 @@ given_within bytes given offset got few held =
 page_shift : (bytes given : List ℕ) (first got i : ℕ) → HoldsBytes bytes (8192 * first) got given
     → 8192 * i + 8192 ≤ got → block_contents (take got given) i ≡ block_contents bytes (first + i)
 unfolding block_contents
-page_shift bytes given first got i held below =
+page_shift bytes given first got i bytes_held below =
     let rest = got - 8192 * i in
     let whole : got ≡ 8192 * i + rest = omega arith in
     let offset = 8192 * first in
     let place : offset + 8192 * i ≡ 8192 * (first + i) = omega arith in
-    ap (λ (l : List ℕ). take 8192 (drop (8192 * i) l)) held
+    ap (λ (l : List ℕ). take 8192 (drop (8192 * i) l)) bytes_held
     ∙ ap (λ (n : ℕ). take 8192 (drop (8192 * i) (take n (drop offset bytes)))) whole
     ∙ ap (take 8192) (drop-take (8192 * i) rest (drop offset bytes))
     ∙ take-take 8192 rest (drop (8192 * i) (drop offset bytes)) (omega arith)
@@ -70,13 +70,13 @@ pub run_given : (b : Option Source) (given : List ℕ) (pages : List (List ℕ))
     → IfSome b (λ s. ReadsBlocks s.bytes first n pages)
 run_given None given pages first got n room few count blocks copied gives = tt
 run_given (Some s) given pages first got n room few count blocks copied gives =
-    let within = given_within s.bytes given (8192 * first) got few gives.held in
+    let within = given_within s.bytes given (8192 * first) got few gives.bytes_held in
     let start : first + 0 ≡ first = omega arith in record {
       within = blocks_within s.bytes first got n count within blocks;
       some = blocks_some s.bytes given first got n room count gives.enough;
       told_pages = copied
           ∙ map_shift (block_contents (take got given)) (block_contents s.bytes) first 0 n
-          (λ i below. page_shift s.bytes given first got i gives.held (omega arith))
+          (λ i below. page_shift s.bytes given first got i gives.bytes_held (omega arith))
           ∙ ap (λ (k : ℕ). map (block_contents s.bytes) (range_with_len k n)) start;
     }
 

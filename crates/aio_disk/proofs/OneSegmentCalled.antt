@@ -16,7 +16,7 @@ use Rattle.page_check.proofs.Segments.{page_of_first, page_of_later, blocks_of_w
 use Rattle.page_check.proofs.Segments.{blocks_of_cut, blocks_of_one}
 use Rattle.aio_disk.specs.Disk.{ReadsBlocks, HoldsBlocks}
 use Rattle.aio_disk.specs.Source.{Source}
-use Rattle.aio_disk.specs.Segments.{AreWholeButLast, segment_told}
+use Rattle.aio_disk.specs.Segments.{AreWholeExceptLast, segment_told}
 use Rattle.aio_disk.proofs.GivenPages.{map_shift}
 use Rattle.aio_disk.proofs.SegmentBySegment.{counted, is_whole}
 
@@ -57,7 +57,7 @@ tells_at (s ∷ segments) (b ∷ bytes) (suc i) P tell below holds =
     tells_at segments bytes i P (tells_behind s segments b bytes tell) (omega arith) holds
 
 whole_bytes : (size : ℕ) (segments : List (Option Source)) (bytes : List (List ℕ))
-    → Tell segments bytes → AreWholeButLast size segments → Whole size bytes
+    → Tell segments bytes → AreWholeExceptLast size segments → Whole size bytes
 whole_bytes size segments [] tell whole = tt
 whole_bytes size segments (b ∷ []) tell whole = tt
 whole_bytes size [] (b ∷ c ∷ bytes) tell whole = absurd cc
@@ -114,7 +114,7 @@ whole_at size (first ∷ next ∷ behind) (suc i) whole below =
 
 -- how many blocks the relation has, by its last segment
 pub count_joined : (size : ℕ) (segments : List (Option Source)) (bytes : List (List ℕ)) (last : ℕ)
-    → size ≤ 131072 → AreWholeButLast size segments → Tell segments bytes
+    → size ≤ 131072 → AreWholeExceptLast size segments → Tell segments bytes
     → last + 1 ≡ length bytes
     → block_count (segments_joined size bytes)
     ≡ min (size * last + block_count (get_or bytes last [])) (2 ^ 32 - 1)
@@ -176,11 +176,11 @@ pages_joined : (size : ℕ) (bytes : List (List ℕ)) (first i inside n : ℕ) (
     → n ≤ block_count (get_or bytes i []) - inside
     → HoldsBlocks (get_or bytes i []) inside n pages
     → HoldsBlocks (segments_joined size bytes) first n pages
-pages_joined size bytes first i inside zero pages small whole below is within held = refl
-pages_joined size bytes first i inside (suc n) pages small whole below is within held =
+pages_joined size bytes first i inside zero pages small whole below is within bytes_held = refl
+pages_joined size bytes first i inside (suc n) pages small whole below is within bytes_held =
     let here = get_or bytes i [] in
     let from = drop_more bytes i [] below in
-    held
+    bytes_held
     ∙ map_shift (block_contents here) (block_contents (segments_joined size bytes)) (size * i)
     inside (suc n)
     (λ j under.
@@ -193,7 +193,7 @@ pages_joined size bytes first i inside (suc n) pages small whole below is within
 -- what was read of a segment was read of the relation
 pub reads_joined : (size : ℕ) (segments : List (Option Source)) (bytes : List (List ℕ))
     (first i inside n : ℕ) (pages : List (List ℕ)) → size ≤ 131072
-    → AreWholeButLast size segments → Tell segments bytes → IsIn size bytes first i inside
+    → AreWholeExceptLast size segments → Tell segments bytes → IsIn size bytes first i inside
     → first + n < 2 ^ 32 → ReadsBlocks (get_or bytes i []) inside n pages
     → ReadsBlocks (segments_joined size bytes) first n pages
 reads_joined size segments bytes first i inside n pages small wholes tell place room reads =
@@ -285,7 +285,7 @@ reads_in_front bytes first n pages rest few reads = record {
 
 -- segments that tell nothing
 pub none_tell : {S : Type 0} (told : S → Option Source) (size : ℕ) (segments : List S)
-    → ((segment : S) → told segment ≡ None) → AreWholeButLast size (map told segments)
+    → ((segment : S) → told segment ≡ None) → AreWholeExceptLast size (map told segments)
 none_tell told size [] silent = tt
 none_tell told size (last ∷ []) silent = tt
 none_tell told size (first ∷ next ∷ behind) silent = (

@@ -99,7 +99,7 @@ pub parts_held : (b : Option Source) (given part : List ℕ) (offset done n room
     → IfSome b (λ s. HoldsBytes s.bytes offset (done + n) (put_mid done room given part))
 parts_held None given part offset done n room within size few front back = tt
 parts_held (Some s) given part offset done n room within size few front back =
-    part_more s.bytes given part offset done n room within size few front back.held
+    part_more s.bytes given part offset done n room within size few front back.bytes_held
 
 -- no more comes: the end was reached
 pub parts_end : (b : Option Source) (given part : List ℕ) (offset done n room : ℕ)
@@ -109,11 +109,11 @@ pub parts_end : (b : Option Source) (given part : List ℕ) (offset done n room 
     → IfSome b (λ s. GivesBlock s.bytes offset done (put_mid done room given part))
 parts_end None given part offset done n room below size none all front back = tt
 parts_end (Some s) given part offset done n room below size none all front back = record {
-  held = (let P : ℕ → Type 0 =
+  bytes_held = (let P : ℕ → Type 0 =
       λ k. HoldsBytes s.bytes offset k (put_mid done room given part) in
       let sum : done + n ≡ done = omega arith in
       subst P sum
       (part_more s.bytes given part offset done n room (omega arith) size (omega arith) front
-      back.held));
+      back.bytes_held));
   enough = inr (back.some none (omega arith));
 }

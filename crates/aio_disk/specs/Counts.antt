@@ -3,12 +3,12 @@
 use Rattle.std.specs.Prelude.{◌≡◌, ℕ, ◌+◌, ◌-◌, ◌^◌, ◌≤◌, ◌<◌, min, max, Result, OnErr}
 
 -- the count with so many more: it never falls, and stays where it is once it is at its last value
-abbrev pub raised_by : ℕ → ℕ → ℕ
-raised_by more before = max before (min (before + more) (2 ^ 64 - 1))
+abbrev pub count_plus : ℕ → ℕ → ℕ
+count_plus more before = max before (min (before + more) (2 ^ 64 - 1))
 
 -- the count has risen, or stands at its last value
 abbrev pub CountRose : ℕ → ℕ → Type 0
-CountRose before now = raised_by 1 before ≤ now
+CountRose before now = count_plus 1 before ≤ now
 
 -- the count did not fall, and an error comes only where it rose
 pub record HasCause {T E : Type 0} (before now : ℕ) (result : Result T E) : Type 0 where
@@ -16,7 +16,7 @@ pub record HasCause {T E : Type 0} (before now : ℕ) (result : Result T E) : Ty
   pub failed : OnErr result (CountRose before now)
 
 -- the count rose where another is above 0, and stayed where that is 0
-pub record RisesBy (other before now : ℕ) : Type 0 where
+pub record RisesIfPositive (other before now : ℕ) : Type 0 where
   pub later : before ≤ now
   pub risen : 0 < other → CountRose before now
   pub unchanged : other ≡ 0 → now ≡ before

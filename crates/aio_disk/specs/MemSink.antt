@@ -1,7 +1,7 @@
 -- A sink in memory, whose writes fail where its list says so.
 use Rattle.std.specs.Prelude.{ℕ, List, [], ◌++◌, find, Option, ◌==◌}
 use Rattle.std.specs.Option.{option_map}
-use Rattle.aio_disk.specs.Counts.{raised_by}
+use Rattle.aio_disk.specs.Counts.{count_plus}
 
 -- what was written, the writes that fail with how many bytes they take, how often it was written
 -- to, and how often that failed
@@ -22,19 +22,19 @@ cut_of fails write = option_map (λ fail. fail.1) (find (λ fail. fail.0 == writ
 
 -- the same of the next write
 abbrev pub next_cut : MemSinkState → Option ℕ
-next_cut sink = cut_of sink.fails (raised_by 1 sink.writes)
+next_cut sink = cut_of sink.fails (count_plus 1 sink.writes)
 
 -- the sink after a write of these bytes
 abbrev pub with_write : MemSinkState → List ℕ → MemSinkState
 with_write sink bytes = record sink {
   bytes = sink.bytes ++ bytes;
-  writes = raised_by 1 sink.writes;
+  writes = count_plus 1 sink.writes;
 }
 
 -- the sink after a write that failed behind these bytes
 abbrev pub with_failed_write : MemSinkState → List ℕ → MemSinkState
 with_failed_write sink bytes = record sink {
   bytes = sink.bytes ++ bytes;
-  writes = raised_by 1 sink.writes;
-  faults = raised_by 1 sink.faults;
+  writes = count_plus 1 sink.writes;
+  faults = count_plus 1 sink.faults;
 }

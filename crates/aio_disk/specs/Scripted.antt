@@ -1,7 +1,7 @@
 -- Shelves and disks in memory that fail as a script says.
 use Rattle.std.specs.Prelude.{ℕ, zero, suc, List, Bool, Option, Result, Ok, Err}
 use Rattle.std.specs.Result.{result_ok}
-use Rattle.aio_disk.specs.Counts.{raised_by}
+use Rattle.aio_disk.specs.Counts.{count_plus}
 use Rattle.aio_disk.specs.Steady.{SteadyDiskState, SteadyShelfState, next_disk, fresh_shelf}
 use Rattle.aio_disk.specs.Steady.{with_disk, with_open_fault, with_disk_back, with_read}
 use Rattle.aio_disk.specs.Shelf.{Files}
@@ -29,12 +29,12 @@ pub record MemShelfState : Type 0 where
 -- the count, one more where the call failed
 abbrev pub raised_on_err : {T E : Type 0} → Result T E → ℕ → ℕ
 raised_on_err (Ok value) count = count
-raised_on_err (Err fault) count = raised_by 1 count
+raised_on_err (Err fault) count = count_plus 1 count
 
 -- the count, one more where another is above 0
 abbrev pub raised_if_any : ℕ → ℕ → ℕ
 raised_if_any zero count = count
-raised_if_any (suc other) count = raised_by 1 count
+raised_if_any (suc other) count = count_plus 1 count
 
 -- a shelf from which nothing was opened
 abbrev pub fresh_mem_shelf : Files → Script → ℕ → MemShelfState
@@ -48,7 +48,7 @@ fresh_mem_shelf files script room = record {
 
 -- the next open fails by the script
 abbrev pub fails_next_open : MemShelfState → Bool
-fails_next_open shelf = fails_open shelf.script (raised_by 1 shelf.opens)
+fails_next_open shelf = fails_open shelf.script (count_plus 1 shelf.opens)
 
 -- a disk that was not used yet
 abbrev pub fresh_mem_disk : SteadyDiskState → Script → MemDiskState
@@ -68,14 +68,14 @@ next_mem_disk shelf names = fresh_mem_disk (next_disk shelf.steady names) shelf.
 abbrev pub with_mem_disk : MemShelfState → MemShelfState
 with_mem_disk shelf = record shelf {
   steady = with_disk shelf.steady;
-  opens = raised_by 1 shelf.opens;
+  opens = count_plus 1 shelf.opens;
 }
 
 -- the shelf after an open that failed
 abbrev pub with_failed_open : MemShelfState → MemShelfState
 with_failed_open shelf = record shelf {
   steady = with_open_fault shelf.steady;
-  opens = raised_by 1 shelf.opens;
+  opens = count_plus 1 shelf.opens;
 }
 
 -- the shelf with a disk taken back
@@ -88,20 +88,20 @@ with_mem_disk_back shelf disk = record shelf {
 
 -- the next length call fails by the script
 abbrev pub fails_next_length : MemDiskState → Bool
-fails_next_length disk = fails_length disk.script disk.steady.number (raised_by 1 disk.lengths)
+fails_next_length disk = fails_length disk.script disk.steady.number (count_plus 1 disk.lengths)
 
 -- the next read fails by the script
 abbrev pub fails_next_read : MemDiskState → Bool
-fails_next_read disk = fails_read disk.script disk.steady.number (raised_by 1 disk.steady.reads)
+fails_next_read disk = fails_read disk.script disk.steady.number (count_plus 1 disk.steady.reads)
 
 -- how many pages the next read answers at most by the script
 abbrev pub next_short_answer : MemDiskState → Option ℕ
-next_short_answer disk = short_answer disk.script disk.steady.number (raised_by 1 disk.steady.reads)
+next_short_answer disk = short_answer disk.script disk.steady.number (count_plus 1 disk.steady.reads)
 
 -- the disk after a length call with this answer
 abbrev pub with_length_call : {T E : Type 0} → MemDiskState → Result T E → MemDiskState
 with_length_call disk result = record disk {
-  lengths = raised_by 1 disk.lengths;
+  lengths = count_plus 1 disk.lengths;
   length_faults = raised_on_err result disk.length_faults;
 }
 

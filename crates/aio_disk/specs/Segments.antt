@@ -6,12 +6,12 @@ use Rattle.page_check.specs.Told.{block_count}
 use Rattle.aio_disk.specs.Source.{Source, with_failures, NoneFailed, OneFailed}
 
 -- each but the last one, where it tells its bytes, has exactly so many whole blocks
-abbrev pub AreWholeButLast : ℕ → List (Option Source) → Type 0
-AreWholeButLast size [] = ⊤
-AreWholeButLast size (last ∷ []) = ⊤
-AreWholeButLast size (first ∷ next ∷ behind) =
+abbrev pub AreWholeExceptLast : ℕ → List (Option Source) → Type 0
+AreWholeExceptLast size [] = ⊤
+AreWholeExceptLast size (last ∷ []) = ⊤
+AreWholeExceptLast size (first ∷ next ∷ behind) =
     IfSome first (λ source. block_count source.bytes ≡ size)
-    × AreWholeButLast size (next ∷ behind)
+    × AreWholeExceptLast size (next ∷ behind)
 
 -- where each of them tells its bytes, this holds of their bytes
 abbrev pub IfAllTell : List (Option Source) → (List (List ℕ) → Type 0) → Type 0

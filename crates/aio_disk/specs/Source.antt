@@ -1,10 +1,11 @@
 -- What a source of bytes tells, and what its calls give.
-use Rattle.std.specs.Prelude.{◌≡◌, ◌⊎◌, ℕ, ◌+◌, ◌-◌, ◌^◌, ◌<◌, ◌≤◌, List, take, drop}
+use Rattle.std.specs.Prelude.{◌≡◌, ◌≢◌, ◌⊎◌, ℕ, ◌+◌, ◌-◌, ◌^◌, ◌<◌, ◌≤◌, List, take, drop}
 use Rattle.std.specs.Prelude.{length, min, Option, IfSome, Result, Ok, Err}
 use Rattle.std.specs.Option.{option_map}
+use Rattle.std.specs.IoError.{error_kind}
+use Rattle.std.specs.declared.io.Error.{Error}
+use Rattle.std.specs.declared.io.ErrorKind.TheVariants.{Interrupted}
 use Rattle.aio_disk.specs.Disk.{ReadsBlocks}
-use Rattle.aio_disk.specs.declared.source.ReadFault.{ReadFault}
-use Rattle.aio_disk.specs.declared.source.ReadFault.TheVariants.{Device, Interrupted}
 
 -- the bytes, how often a call has failed, and how often one was interrupted
 pub record Source : Type 0 where
@@ -38,12 +39,12 @@ HoldsBytes bytes offset n given = take n given ≡ take n (drop offset bytes)
 
 -- some bytes were given: none at the end alone
 pub record GivesBytes (bytes : List ℕ) (offset n : ℕ) (given : List ℕ) : Type 0 where
-  pub held : HoldsBytes bytes offset n given
+  pub bytes_held : HoldsBytes bytes offset n given
   pub some : n ≡ 0 → 0 < length given → length bytes ≤ offset
 
 -- a whole block was given, or all that there is room for, or all up to the end
 pub record GivesBlock (bytes : List ℕ) (offset n : ℕ) (given : List ℕ) : Type 0 where
-  pub held : HoldsBytes bytes offset n given
+  pub bytes_held : HoldsBytes bytes offset n given
   pub enough : (min (length given) 8192 ≤ n) ⊎ (length bytes ≤ offset + n)
 
 -- the size, or a fault
@@ -52,12 +53,13 @@ AnswersSize before now (Ok n) =
     (now ≡ before) × IfSome before (λ source. n ≡ length source.bytes)
 AnswersSize before now (Err fault) = now ≡ option_map (with_failures 1 0) before
 
--- some bytes, or a fault, or nothing since the call was interrupted
-abbrev pub AnswersBytes : Option Source → Option Source → ℕ → List ℕ → Result ℕ ReadFault → Type 0
+-- some bytes, or an error: an interrupted call or a fault
+abbrev pub AnswersBytes : Option Source → Option Source → ℕ → List ℕ → Result ℕ Error → Type 0
 AnswersBytes before now offset given (Ok n) =
     (now ≡ before) × IfSome before (λ source. GivesBytes source.bytes offset n given)
-AnswersBytes before now offset given (Err Device) = now ≡ option_map (with_failures 1 0) before
-AnswersBytes before now offset given (Err Interrupted) = now ≡ option_map (with_failures 0 1) before
+AnswersBytes before now offset given (Err error) =
+    (error_kind error ≡ Interrupted → now ≡ option_map (with_failures 0 1) before)
+    × (error_kind error ≢ Interrupted → now ≡ option_map (with_failures 1 0) before)
 
 -- blocks: their pages, or a fault
 abbrev pub GivesBlocks : {E : Type 0} → Option Source → Option Source → ℕ → List (List ℕ)

@@ -2,7 +2,7 @@
 use Rattle.std.specs.Prelude.{ℕ, ◌+◌, ◌-◌, ◌^◌, List, min, Option}
 use Rattle.page_check.specs.Told.{Told}
 use Rattle.aio_disk.specs.Shelf.{Files, files_told}
-use Rattle.aio_disk.specs.Counts.{raised_by}
+use Rattle.aio_disk.specs.Counts.{count_plus}
 use Rattle.aio_disk.specs.ReadLog.{Log, read_entry, empty_log, with_entry, with_entries}
 
 -- a disk: its number in the order of opening, what it tells, how often it was read, and those
@@ -49,17 +49,17 @@ with_disk shelf = record shelf { disks = min (shelf.disks + 1) (2 ^ 32 - 1) }
 -- how many were given
 abbrev pub with_read : SteadyDiskState → ℕ → ℕ → ℕ → Option ℕ → SteadyDiskState
 with_read disk relation first asked answered = record disk {
-  reads = raised_by 1 disk.reads;
+  reads = count_plus 1 disk.reads;
   log = with_entry disk.log (read_entry disk.number relation first asked answered);
 }
 
 -- the shelf after an open that failed
 abbrev pub with_open_fault : SteadyShelfState → SteadyShelfState
-with_open_fault shelf = record shelf { open_faults = raised_by 1 shelf.open_faults }
+with_open_fault shelf = record shelf { open_faults = count_plus 1 shelf.open_faults }
 
 -- the shelf with a disk taken back
 abbrev pub with_disk_back : SteadyShelfState → SteadyDiskState → SteadyShelfState
 with_disk_back shelf disk = record shelf {
-  reads = raised_by disk.reads shelf.reads;
+  reads = count_plus disk.reads shelf.reads;
   log = with_entries shelf.log disk.log.entries;
 }

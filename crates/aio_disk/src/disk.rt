@@ -1,7 +1,7 @@
 //! Disks: relations that are read by blocks.
 ghost use Rattle.std.specs.Prelude.{◌≡◌, ◌≤◌, ◌<◌, ℕ, length, Option, IfSome};
 ghost use Rattle.page_check.specs.Told.{Told};
-ghost use Rattle.aio_disk.specs.Counts.{HasCause, raised_by};
+ghost use Rattle.aio_disk.specs.Counts.{HasCause, count_plus};
 ghost use Rattle.aio_disk.specs.Disk.{AnswersLength, AnswersPages};
 
 use crate::DeviceFault;
@@ -66,7 +66,7 @@ pub trait Disk: Send + Drop {
         ensures told { told self.new ≡ told self.old }
         ensures segment { segment self.new ≡ segment self.old }
         ensures length_faults { length_faults self.new ≡ length_faults self.old }
-        ensures reads { reads self.new ≡ raised_by 1 (reads self.old) };
+        ensures reads { reads self.new ≡ count_plus 1 (reads self.old) };
 }
 
 impl<D: Disk> Disk for &mut D {

@@ -1,6 +1,6 @@
 //! The faults of the outside, and their counts.
 ghost use Rattle.std.specs.Prelude.{◌≡◌, if◌then◌else◌, is_err};
-ghost use Rattle.aio_disk.specs.Counts.{raised_by};
+ghost use Rattle.aio_disk.specs.Counts.{count_plus};
 
 use thiserror::Error;
 
@@ -34,7 +34,7 @@ pub enum WriteFault {
 /// The answer, counted where it is an error.
 pub(crate) fn counted<T, E>(answer: Result<T, E>, faults: &mut u64) -> Result<T, E>
     ensures same { result ≡ answer }
-    ensures count { faults.new ≡ (if is_err answer then raised_by 1 faults.old else faults.old) }
+    ensures count { faults.new ≡ (if is_err answer then count_plus 1 faults.old else faults.old) }
 {
     if answer.is_err() {
         *faults = faults.saturating_add(1);

@@ -33,7 +33,7 @@ impl FileRelation {
         segments.push(first).map_err(|_| OpenFault::Memory)?;
         for number in 1..MOST_SEGMENTS {
             let last = segments.len() - 1;
-            match open_behind(rt, &mut segments[last], name, number)? {
+            match open_next_segment(rt, &mut segments[last], name, number)? {
                 Some(next) => segments.push(next).map_err(|_| OpenFault::Memory)?,
                 None => break,
             }
@@ -76,7 +76,7 @@ fn open_file<R: Files<File = File>>(rt: &R, name: &str) -> io::Result<File> {
 
 // What a look at a name or an open of it gave, or nothing where nothing has the name. A name that is
 // longer than the system's names are is of nothing, as that of a later segment may be.
-fn found<T>(answer: io::Result<T>) -> Result<Option<T>, OpenFault> {
+fn some_if_found<T>(answer: io::Result<T>) -> Result<Option<T>, OpenFault> {
     match answer {
         Ok(value) => Ok(Some(value)),
         Err(error) => match error.kind() {
@@ -93,21 +93,21 @@ where
     R: Files<File = File> + AllocGlobal,
 {
     let name = segment_name(rt.alloc(), name, number).map_err(|_| OpenFault::Memory)?;
-    found(open_file(rt, name.as_str()))
+    some_if_found(open_file(rt, name.as_str()))
 }
 
 // Whether something stands under the name of a segment of this relation.
-fn is_there<R>(rt: &R, name: &str, number: u32) -> Result<bool, OpenFault>
+fn segment_exists<R>(rt: &R, name: &str, number: u32) -> Result<bool, OpenFault>
 where
     R: Files<File = File> + AllocGlobal,
 {
     let name = segment_name(rt.alloc(), name, number).map_err(|_| OpenFault::Memory)?;
-    Ok(found(fs::metadata(rt, name.as_str()))?.is_some())
+    Ok(some_if_found(fs::metadata(rt, name.as_str()))?.is_some())
 }
 
 // Opens the segment behind the last one, where it is there and that is full. So a relation of one
 // file is not measured.
-fn open_behind<R>(
+fn open_next_segment<R>(
     rt: &R,
     last: &mut File,
     name: &str,
@@ -116,7 +116,7 @@ fn open_behind<R>(
 where
     R: Files<File = File> + AllocGlobal,
 {
-    if !is_there(rt, name, number)? {
+    if !segment_exists(rt, name, number)? {
         return Ok(None);
     }
     match is_full(last, SEGMENT_SIZE) {

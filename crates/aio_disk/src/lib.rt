@@ -25,7 +25,7 @@ mod mem_sink;
 mod read_log;
 mod script;
 mod segments;
-mod shared;
+mod shared_bytes;
 mod shelf;
 mod sink;
 pub mod source;

@@ -11,7 +11,7 @@ use std::marker::Model;
 /// A sink that keeps what is written, and fails where it is told to.
 #[derive(Drop)]
 pub struct MemSink {
-    taken: Vec<u8>,
+    bytes: Vec<u8>,
     fail_list: Vec<(u64, u64)>,
     write_count: u64,
     fault_count: u64,
@@ -23,7 +23,7 @@ impl Model for MemSink {
     ghost Value = { MemSinkState };
 
     ghost view = { λ sink. record {
-      bytes = sink.taken.items;
+      bytes = sink.bytes.items;
       fails = sink.fail_list.items;
       writes = sink.write_count;
       faults = sink.fault_count;
@@ -44,7 +44,7 @@ impl MemSink {
         ensures { result ≡ fresh_sink fails.items }
     {
         MemSink {
-            taken: Vec::new(alloc),
+            bytes: Vec::new(alloc),
             fail_list: fails,
             write_count: 0,
             fault_count: 0,
@@ -55,7 +55,7 @@ impl MemSink {
     pub fn bytes(&self) -> &[u8]
         ensures { result.now ≡ self.now.bytes }
     {
-        self.taken.as_slice()
+        self.bytes.as_slice()
     }
 
     /// Writes, as [`Sink::write`] does: a device fault comes exactly where the list has this
@@ -71,7 +71,7 @@ impl MemSink {
         let number = self.write_count.saturating_add(1);
         match find_cut(self.fail_list.as_slice(), number) {
             None => {
-                if self.taken.extend_from_slice(bytes).is_err() {
+                if self.bytes.extend_from_slice(bytes).is_err() {
                     return Err(WriteFault::Memory);
                 }
                 self.write_count = number;
@@ -79,7 +79,7 @@ impl MemSink {
             }
             Some(cut) => {
                 let count = cut.min(bytes.len() as u64) as usize;
-                if self.taken.extend_from_slice(&bytes[..count]).is_err() {
+                if self.bytes.extend_from_slice(&bytes[..count]).is_err() {
                     return Err(WriteFault::Memory);
                 }
                 self.write_count = number;

@@ -3,7 +3,7 @@ ghost use Rattle.std.specs.Prelude.{◌≡◌, ◌≤◌, ◌<◌, IfOk, string_
 ghost use Rattle.aio_disk.specs.Shelf.{file_contents, segment_name, file_segments};
 
 use crate::blocks::{Blocks, block_bytes, whole_blocks};
-use crate::shared::{NamedFile, SharedBytes, find_file};
+use crate::shared_bytes::{NamedFile, SharedBytes, find_file};
 use std::alloc::{AllocError, Global};
 use std::marker::Model;
 

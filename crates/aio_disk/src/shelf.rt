@@ -2,7 +2,7 @@
 ghost use Rattle.std.specs.Prelude.{◌≡◌, ◌≤◌, ℕ, List, Bool, true, length, map, Option, IfOk, OnOk};
 ghost use Rattle.std.specs.Prelude.{IsErrOf, string_bytes};
 ghost use Rattle.aio_disk.specs.declared.fault.OpenFault.TheVariants.{Device, Memory};
-ghost use Rattle.aio_disk.specs.Counts.{ShelfCounts, CountRose, RisesBy, raised_by};
+ghost use Rattle.aio_disk.specs.Counts.{ShelfCounts, CountRose, RisesIfPositive, count_plus};
 ghost use Rattle.aio_disk.specs.Shelf.{Files, AllThereIfTold, shelf_told};
 
 use crate::{Disk, OpenFault};
@@ -62,10 +62,10 @@ pub trait Shelf {
         ensures segment { segment self.new ≡ segment self.old }
         ensures as_sure { surely_opens self.new ≡ surely_opens self.old }
         ensures open_faults { (counts self.new).open_faults ≡ (counts self.old).open_faults }
-        ensures length_faults { RisesBy (Self.Disk.length_faults disk)
+        ensures length_faults { RisesIfPositive (Self.Disk.length_faults disk)
             (counts self.old).length_faults (counts self.new).length_faults }
-        ensures faults { RisesBy (Self.Disk.faults disk)
+        ensures faults { RisesIfPositive (Self.Disk.faults disk)
             (counts self.old).faults (counts self.new).faults }
         ensures reads { (counts self.new).reads
-            ≡ raised_by (Self.Disk.reads disk) (counts self.old).reads };
+            ≡ count_plus (Self.Disk.reads disk) (counts self.old).reads };
 }

@@ -10,26 +10,8 @@ ghost use Rattle.aio_disk.specs.Source.{AnswersSize, AnswersBytes, GivesBlocks};
 use crate::DeviceFault;
 use page_check::{PAGE_SIZE, Page, split_bytes};
 use std::fs::File;
-use std::io::{ErrorKind, Seek, SeekFrom};
+use std::io::{self, ErrorKind, Seek, SeekFrom};
 use std::os::unix::fs::FileExt;
-
-/// Why a read gave nothing.
-#[derive(Clone, Copy)]
-pub enum ReadFault {
-    /// The device failed.
-    Device,
-    /// A signal came first (`EINTR`): the call is to be made again.
-    Interrupted,
-}
-
-impl From<ErrorKind> for ReadFault {
-    fn from(kind: ErrorKind) -> ReadFault {
-        match kind {
-            ErrorKind::Interrupted => ReadFault::Interrupted,
-            _ => ReadFault::Device,
-        }
-    }
-}
 
 /// The bytes of one relation. It may tell them, and which of its calls failed.
 pub trait ByteSource {
@@ -40,8 +22,9 @@ pub trait ByteSource {
     fn size(&mut self) -> Result<u64, DeviceFault>
         ensures { AnswersSize (told self.old) (told self.new) result };
 
-    /// Reads some bytes from an offset on, and says how many: none at the end alone.
-    fn read_at(&mut self, bytes: &mut [u8], offset: u64) -> Result<usize, ReadFault>
+    /// Reads some bytes from an offset on, and says how many: none at the end alone. A call that a
+    /// signal ended (`EINTR`) gives an error of the kind `Interrupted`, and is to be made again.
+    fn read_at(&mut self, bytes: &mut [u8], offset: u64) -> io::Result<usize>
         ensures few { IfOk result (λ n. n ≤ length bytes.new) }
         ensures bytes { AnswersBytes (told self.old) (told self.new) offset bytes.new result };
 }
@@ -53,8 +36,8 @@ impl ByteSource for File {
         self.seek(SeekFrom::End(0)).map_err(|_| DeviceFault)
     }
 
-    fn read_at(&mut self, bytes: &mut [u8], offset: u64) -> Result<usize, ReadFault> {
-        FileExt::read_at(self, bytes, offset).map_err(|error| ReadFault::from(error.kind()))
+    fn read_at(&mut self, bytes: &mut [u8], offset: u64) -> io::Result<usize> {
+        FileExt::read_at(self, bytes, offset)
     }
 }
 
@@ -100,8 +83,8 @@ fn read_part<S: ByteSource>(
     for _ in 0..u64::MAX {
         match source.read_at(bytes, offset) {
             Ok(count) => return Ok(count),
-            Err(ReadFault::Device) => return Err(DeviceFault),
-            Err(ReadFault::Interrupted) => {}
+            Err(error) if error.kind() == ErrorKind::Interrupted => {}
+            Err(_) => return Err(DeviceFault),
         }
     }
     Err(DeviceFault)

@@ -3,7 +3,7 @@ ghost use Rattle.std.specs.Prelude.{◌≡◌, ◌≤◌, ◌<◌, ◌-◌, ◌*
 ghost use Rattle.std.specs.Prelude.{IfOk};
 ghost use Rattle.page_check.specs.Told.{segments_joined, block_count};
 ghost use Rattle.aio_disk.specs.Disk.{ReadsBlocks};
-ghost use Rattle.aio_disk.specs.Segments.{AreWholeButLast, IfAllTell, segment_told, segment_index};
+ghost use Rattle.aio_disk.specs.Segments.{AreWholeExceptLast, IfAllTell, segment_told, segment_index};
 ghost use Rattle.aio_disk.specs.Segments.{OthersStay, AsksOneSegment, ReadsOneSegment};
 
 use crate::DeviceFault;
@@ -31,7 +31,7 @@ fn segment_of(size: u32, segments: usize, block: u32) -> usize
 pub fn count_relation<S: ByteSource>(segments: &mut [S], size: u32) -> Result<u32, DeviceFault>
     requires some { 0 < length segments.old }
     requires size { size ≤ 131072 }
-    requires whole { AreWholeButLast size (map S.told segments.old) }
+    requires whole { AreWholeExceptLast size (map S.told segments.old) }
     ensures blocks { IfOk result (λ n. IfAllTell (map S.told segments.old)
         (λ bytes. n ≡ block_count (segments_joined size bytes))) }
     ensures called { AsksOneSegment
@@ -62,7 +62,7 @@ pub fn read_relation<S: ByteSource>(
     requires segments { 0 < length segments.old }
     requires least { 1 ≤ size }
     requires most { size ≤ 131072 }
-    requires whole { AreWholeButLast size (map S.told segments.old) }
+    requires whole { AreWholeExceptLast size (map S.told segments.old) }
     requires some { 0 < length pages.old }
     ensures few { IfOk result (λ n. n ≤ length pages.new) }
     ensures pages { IfOk result (λ n. IfAllTell (map S.told segments.old)

@@ -1,7 +1,7 @@
 //! Disks in memory that do not fail, and their shelves.
 ghost use Rattle.std.specs.Prelude.{◌≡◌, ◌≤◌, ◌<◌, ◌-◌, min, length, Some, Ok, IfOk};
 ghost use Rattle.page_check.specs.Told.{relation_block_count, relation_bytes};
-ghost use Rattle.aio_disk.specs.Counts.{raised_by};
+ghost use Rattle.aio_disk.specs.Counts.{count_plus};
 ghost use Rattle.aio_disk.specs.Disk.{HoldsBlocks};
 ghost use Rattle.aio_disk.specs.Steady.{with_read};
 
@@ -92,7 +92,7 @@ impl SteadyDisk {
 
     /// Which read the next one is, counted from 1.
     pub(crate) fn next_read(&self) -> u64
-        ensures { result ≡ raised_by 1 self.now.reads }
+        ensures { result ≡ count_plus 1 self.now.reads }
     {
         self.read_count.saturating_add(1)
     }

@@ -3,11 +3,12 @@
 ghost use Rattle.std.specs.Prelude.{◌-◌, ◌<◌, ◌≤◌, Some, None, length};
 
 use aio_disk::DeviceFault;
-use aio_disk::source::{ByteSource, ReadFault, count_blocks, is_full, read_blocks};
+use aio_disk::source::{ByteSource, count_blocks, is_full, read_blocks};
 use aio_disk::source_relation::{count_relation, read_relation};
 use page_check::{PAGE_SIZE, Page};
 use page_fixtures::files::zeroed_pages;
 use std::alloc::{AllocError, Global};
+use std::io::{self, ErrorKind};
 use std::process::Abort;
 use std::test::Fail;
 
@@ -33,14 +34,14 @@ impl ByteSource for Parts {
         Ok(self.bytes.len() as u64)
     }
 
-    fn read_at(&mut self, bytes: &mut [u8], offset: u64) -> Result<usize, ReadFault> {
+    fn read_at(&mut self, bytes: &mut [u8], offset: u64) -> io::Result<usize> {
         if self.interrupts_left > 0 {
             self.interrupts_left -= 1;
-            return Err(ReadFault::Interrupted);
+            return Err(ErrorKind::Interrupted.into());
         }
         if offset >= self.fail_from && self.faults_left > 0 {
             self.faults_left -= 1;
-            return Err(ReadFault::Device);
+            return Err(ErrorKind::Uncategorized.into());
         }
         let start = (offset as usize).min(self.bytes.len());
         let room = bytes.len().min(self.bytes.len() - start);
@@ -142,44 +143,44 @@ fn a_fault_behind_blocks_is_that_of_the_next_read(rt: HostRuntime) -> Result<(),
 
 // Parts that do not tell their bytes.
 #[derive(Drop)]
-struct Untold {
+struct UntoldSource {
     parts: Parts,
 }
 
-impl ByteSource for Untold {
+impl ByteSource for UntoldSource {
     ghost told = { λ _. None };
 
     fn size(&mut self) -> Result<u64, DeviceFault> {
         self.parts.size()
     }
 
-    fn read_at(&mut self, bytes: &mut [u8], offset: u64) -> Result<usize, ReadFault> {
+    fn read_at(&mut self, bytes: &mut [u8], offset: u64) -> io::Result<usize> {
         self.parts.read_at(bytes, offset)
     }
 }
 
 // Segments of so many blocks each. Each block of the relation is filled with a byte of its own
 // from 1 on.
-fn segments_of(alloc: Global, counts: &[u8]) -> Result<Vec<Untold>, AllocError> {
+fn segments_of(alloc: Global, counts: &[u8]) -> Result<Vec<UntoldSource>, AllocError> {
     let mut segments = Vec::new(alloc);
     let mut byte = 1u8;
     for count in counts {
         let parts = parts_of(alloc, byte, *count, 200000)?;
-        segments.push(Untold { parts })?;
+        segments.push(UntoldSource { parts })?;
         byte = byte.wrapping_add(*count);
     }
     Ok(segments)
 }
 
 // How many blocks a relation of segments of 4 blocks has.
-fn count_of(segments: &mut [Untold]) -> Option<u32>
+fn count_of(segments: &mut [UntoldSource]) -> Option<u32>
     requires { 0 < length segments.old }
 {
     count_relation(segments, 4).ok()
 }
 
 // Reads pages of it, and says how many.
-fn read_of(segments: &mut [Untold], first: u32, pages: &mut [Page]) -> Option<usize>
+fn read_of(segments: &mut [UntoldSource], first: u32, pages: &mut [Page]) -> Option<usize>
     requires segments { 0 < length segments.old }
     requires some { 0 < length pages.old }
 {
@@ -189,7 +190,7 @@ fn read_of(segments: &mut [Untold], first: u32, pages: &mut [Page]) -> Option<us
 // Reads into these pages, and says how many were read.
 fn read_segments<R: Abort + AllocGlobal>(
     rt: &R,
-    segments: &mut [Untold],
+    segments: &mut [UntoldSource],
     first: u32,
     pages: &mut [Page],
 ) -> Result<Option<usize>, Fail> {
@@ -201,7 +202,7 @@ fn read_segments<R: Abort + AllocGlobal>(
 // Reads 16 pages of it, and says what each that was read begins with.
 fn read_16<R: Abort + AllocGlobal>(
     rt: &R,
-    segments: &mut [Untold],
+    segments: &mut [UntoldSource],
     first: u32,
 ) -> Result<Option<Vec<u8>>, Fail> {
     let mut pages = zeroed_pages(rt.alloc(), 16)?;
@@ -218,7 +219,7 @@ fn read_16<R: Abort + AllocGlobal>(
 // Compares what 16 pages begin with.
 fn check_16<R: Abort + AllocGlobal>(
     rt: &R,
-    segments: &mut [Untold],
+    segments: &mut [UntoldSource],
     first: u32,
     wanted: &[u8],
 ) -> Result<(), Fail> {
@@ -259,7 +260,7 @@ fn the_last_segment_may_be_long(rt: HostRuntime) -> Result<(), Fail> {
 }
 
 // How many faults each segment has left.
-fn faults_left(alloc: Global, segments: &[Untold]) -> Result<Vec<u8>, AllocError> {
+fn faults_left(alloc: Global, segments: &[UntoldSource]) -> Result<Vec<u8>, AllocError> {
     let mut left = Vec::new(alloc);
     for segment in segments {
         left.push(segment.parts.faults_left)?;

@@ -7,7 +7,7 @@ ghost use Rattle.aio_disk.specs.Steady.{with_disk_back};
 
 use super::SteadyDisk;
 use crate::read_log::ReadLog;
-use crate::shared::{NamedFile, find_relations, share_files};
+use crate::shared_bytes::{NamedFile, find_relations, share_files};
 use crate::{OpenFault, ReadEntry, Shelf};
 use std::alloc::{AllocError, Global};
 use std::marker::Model;

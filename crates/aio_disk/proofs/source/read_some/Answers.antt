@@ -11,7 +11,7 @@ returns-in-Ok-eq0-clause-bytes g c =
       none_failed_both _ _ _ c.loop-done.invariant.passed c.in-Ok-eq0.ensures.bytes.0,
       parts_end _ c.loop-done.bytes c.read_part.new.bytes c.args.offset c.loop-done.done
           c.in-Ok-eq0.field-0 room (omega arith) size (omega arith) (omega arith)
-          c.loop-done.invariant.held
+          c.loop-done.invariant.bytes_held
           (told_still _ _
           (λ bytes. GivesBytes bytes (c.args.offset + c.loop-done.done) c.in-Ok-eq0.field-0
           c.read_part.new.bytes) c.loop-done.invariant.passed c.in-Ok-eq0.ensures.bytes.1),
@@ -23,10 +23,10 @@ loop-done-preserved g c =
     let size : length c.read_part.new.bytes ≡ room = search rules in record {
       within = search rules;
       passed = none_failed_both _ _ _ c.loop-done.invariant.passed c.in-Ok.ensures.bytes.0;
-      held = parts_held _ c.loop-done.bytes c.read_part.new.bytes c.args.offset c.loop-done.done
+      bytes_held = parts_held _ c.loop-done.bytes c.read_part.new.bytes c.args.offset c.loop-done.done
           c.in-Ok.count room (omega arith) size
           (omega (arith, size, c.in-Ok.ensures.few))
-          c.loop-done.invariant.held
+          c.loop-done.invariant.bytes_held
           (told_still _ _
           (λ bytes. GivesBytes bytes (c.args.offset + c.loop-done.done) c.in-Ok.count
           c.read_part.new.bytes) c.loop-done.invariant.passed c.in-Ok.ensures.bytes.1);

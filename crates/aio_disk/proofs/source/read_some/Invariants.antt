@@ -7,7 +7,7 @@ abbrev pub invariant-loop-done : goal.invariant-loop-done
 invariant-loop-done g l = record {
   within : l.done ≤ length l.bytes;
   passed : NoneFailed (g.S.ByteSource.told l.fn.source) (g.S.ByteSource.told l.source);
-  held : IfSome (g.S.ByteSource.told l.fn.source)
+  bytes_held : IfSome (g.S.ByteSource.told l.fn.source)
       (λ told. HoldsBytes told.bytes l.offset l.done l.bytes);
 }
 
