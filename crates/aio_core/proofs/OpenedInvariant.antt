@@ -18,13 +18,13 @@ pub opened-invariant : (c : Config) (words : List Word) (lists : List (List Mark
     → lists ≡ replicate (actor_count c) []
     → length claimers ≡ handle_count c
     → MachineInvariant c record { words = words; lists = lists } claimers
-opened-invariant c words lists claimers bounds is none wide =
+opened-invariant c words lists claimers bounds is none one_per_handle =
     let same : first_machine c ≡ record { words = words; lists = lists } =
     λ k. record { words = sym is k; lists = sym none k } in
     record {
       bounds = bounds;
-      stands = subst (λ (m : Machine). IsLawfulMachine c m) same (first-is-lawful c bounds.start);
-      wide = wide;
+      lawful_machine = subst (λ (m : Machine). IsLawfulMachine c m) same (first-is-lawful c bounds.start);
+      one_per_handle = one_per_handle;
       claimer = λ h w at past. absurd (
           let first : first_word c ≡ w =
           at-replicate (handle_count c) h (first_word c) w

@@ -127,7 +127,7 @@ module _ (c : Config) (m : Machine) (claimers : List ℕ) (k : MachineInvariant 
       let p : Known = known_with_marks c (0 + a) one in
       let q : Known = known_with_marks c (0 + b) other in
       let once : sum_by f (machine_parts c 0 m.lists) ≤ 1 =
-      mark-once c m.words (machine_parts c 0 m.lists) k.stands.stands (wait_ref h g) kind.Claimed in
+      mark-once c m.words (machine_parts c 0 m.lists) k.lawful_machine.words_match_lists (wait_ref h g) kind.Claimed in
       let single : sum_by f (pa.front ++ p ∷ pa.back) ≤ 1 =
       subst (λ (z : List Known). sum_by f z ≤ 1) pa.now once in
       let there : IsIn q (pa.front ++ p ∷ pa.back) =
@@ -157,7 +157,7 @@ module _ (c : Config) (m : Machine) (claimers : List ℕ) (k : MachineInvariant 
       → slice_get m.lists e.actor ≡ Some marks → IsClaimerStep e.step
       → (e.actor == get_or claimers e.handle 0) ≡ permits c m e
   claimer-permits e marks s at kind' =
-      let x = k.stands.stands.each_handle e.handle s.w (get-at m.words e.handle s.w s.word) in
+      let x = k.lawful_machine.words_match_lists.each_handle e.handle s.w (get-at m.words e.handle s.w s.word) in
       let lt = past s.w s.next e.step record { lawful = x.lawful; last = x.last } kind' s.row in
       permits-by c m e marks (e.actor == get_or claimers e.handle 0) at
       (claimer-is e s.w marks s.word s.generation lt at

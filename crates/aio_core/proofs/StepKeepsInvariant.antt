@@ -114,9 +114,9 @@ pub some-list : (a b : List Mark) → Some a ≡ Some b → a ≡ b
 some-list a b h = cc
 
 module _ (c : Config) (m : Machine) (e : Event) (m' : Machine) (claimers : List ℕ)
-    (k : MachineInvariant c m claimers) (made : machine_after c m e ≡ Some m') where
+    (k : MachineInvariant c m claimers) (new_machine : machine_after c m e ≡ Some m') where
   moved : EventEffect c m e m'
-  moved = event-effect c m e m' made
+  moved = event-effect c m e m' new_machine
 
   -- the list of an actor after the event
   grown : (actor h g : ℕ) → IsClaimer m actor h g → IsClaimer m' actor h g
@@ -141,12 +141,12 @@ module _ (c : Config) (m : Machine) (e : Event) (m' : Machine) (claimers : List 
       }))
 
   begun : LawfulAndIdleAtLast moved.w
-  begun = let x = k.stands.stands.each_handle e.handle moved.w
+  begun = let x = k.lawful_machine.words_match_lists.each_handle e.handle moved.w
       (get-at m.words e.handle moved.w moved.word) in record { lawful = x.lawful; last = x.last }
 
   inside : e.handle < length claimers
   inside = let a = slice_get_within m.words e.handle moved.w moved.word in
-      let b = k.stands.stands.wide in let d = k.wide in omega arith
+      let b = k.lawful_machine.words_match_lists.one_per_handle in let d = k.one_per_handle in omega arith
 
   words-now : m'.words ≡ set m.words e.handle moved.w'
   words-now = ap (λ (z : Machine). z.words) moved.is
@@ -227,8 +227,8 @@ module _ (c : Config) (m : Machine) (e : Event) (m' : Machine) (claimers : List 
   pub kept : MachineInvariant c m' (claimers_after_event claimers e)
   kept = record {
     bounds = k.bounds;
-    stands = step-keeps-machine c m e m' k.stands made;
-    wide = wide-of (claimers-change e.step claimers e.handle e.actor) ∙ k.wide;
+    lawful_machine = step-keeps-machine c m e m' k.lawful_machine new_machine;
+    one_per_handle = wide-of (claimers-change e.step claimers e.handle e.actor) ∙ k.one_per_handle;
     claimer = λ h v at past. claimer-of (claimers_after_event claimers e)
         (claimers-change e.step claimers e.handle e.actor) refl h v at past;
   }
@@ -266,7 +266,7 @@ word-at words h w lt e = slice_get_read words (length words) h w refl lt e
 
 lawful-at : (c : Config) (m : Machine) (claimers : List ℕ) (h : ℕ) (w : Word)
     → MachineInvariant c m claimers → slice_get m.words h ≡ Some w → IsLawful w
-lawful-at c m claimers h w k at = (k.stands.stands.each_handle h w (get-at m.words h w at)).lawful
+lawful-at c m claimers h w k at = (k.lawful_machine.words_match_lists.each_handle h w (get-at m.words h w at)).lawful
 
 -- and it is lawful
 pub lawful-read : (c : Config) (words : List Word) (lists : List (List Mark)) (claimers : List ℕ)

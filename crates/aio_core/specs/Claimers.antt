@@ -32,8 +32,8 @@ pub record IsClaimer (m : Machine) (actor handle generation : ℕ) : Type 0 wher
 -- claimer has claimed it
 pub record MachineInvariant (c : Config) (m : Machine) (claimers : List ℕ) : Type 0 where
   pub bounds : IsInBounds c
-  pub stands : IsLawfulMachine c m
-  pub wide : length claimers ≡ handle_count c
+  pub lawful_machine : IsLawfulMachine c m
+  pub one_per_handle : length claimers ≡ handle_count c
   pub claimer : (h : ℕ) (w : Word) → slice_get m.words h ≡ Some w → 3 < word_place w
       → IsClaimer m (slice_index_or claimers h 0) h w.generation
 

@@ -63,7 +63,7 @@ impl Machine {
         requires runners { runners ≤ 32 }
         requires start { start < 2 ^ 58 }
         ensures opened { IfOk result (λ m. m ≡ opened_machine backends per_backend runners start) }
-        ensures stands { IfOk result (λ m. IsLawfulMachine m.config m.machine) }
+        ensures lawful_machine { IfOk result (λ m. IsLawfulMachine m.config m.machine) }
     {
         let config = Config {
             backends,
@@ -100,9 +100,9 @@ impl Machine {
     /// Makes the event, where it is allowed; else the machine stays as it is.
     pub fn step(&mut self, event: Event) -> Result<(), StepRefusal>
         ensures config { self.new.config ≡ self.old.config }
-        ensures made { OnOk result
+        ensures new_machine { OnOk result
             (machine_after self.old.config self.old.machine event ≡ Some self.new.machine) }
-        ensures stands { IsLawfulMachine self.new.config self.new.machine }
+        ensures lawful_machine { IsLawfulMachine self.new.config self.new.machine }
         ensures refused { IfErr result (λ e. self.new ≡ self.old) }
         ensures cause { IfErr result (λ e. IsStepCause self.old.config self.old.machine event e) }
     {
@@ -137,14 +137,14 @@ impl Machine {
     /// Makes the events in order, up to the first one that is refused.
     pub fn run(&mut self, events: &[Event]) -> Result<(), RunRefusal>
         ensures config { self.new.config ≡ self.old.config }
-        ensures made { OnOk result
+        ensures new_machine { OnOk result
             (machine_after_all self.old.config self.old.machine events.now
             ≡ Some self.new.machine) }
-        ensures stands { IsLawfulMachine self.new.config self.new.machine }
+        ensures lawful_machine { IsLawfulMachine self.new.config self.new.machine }
         ensures cause { IfErr result
             (IsRunCause self.old.config self.old.machine self.new.machine events.now) }
     {
-        self.keeps();
+        self.machine_is_lawful();
         for i in 0..events.len() {
             if let Err(refusal) = self.step(events[i]) {
                 return Err(RunRefusal::At(i, refusal));
@@ -154,7 +154,7 @@ impl Machine {
     }
 
     /// The lists of a machine stand for its words.
-    fn keeps(&self)
+    fn machine_is_lawful(&self)
         ensures { IsLawfulMachine self.now.config self.now.machine }
     {
         let config = self.config;
@@ -163,7 +163,7 @@ impl Machine {
 
     /// The word after the event, where the event is allowed and the handle has this word.
     fn next_word(&self, word: &Word, event: Event) -> Option<Word>
-        requires here { slice_get self.now.machine.words event.handle ≡ Some word.now }
+        requires word_at { slice_get self.now.machine.words event.handle ≡ Some word.now }
         requires lawful { IsLawful word.now }
         ensures { result ≡ allowed_next_word self.now.config self.now.machine event word.now }
     {

@@ -18,7 +18,7 @@ pub completed-takes-up : (t : WaitRef) (class : Class) (p q : Known)
 completed-takes-up t class p q grows = record {
   more = make_mark t kind.Claimed ∷ make_mark t (kind.Io class) ∷ make_mark t kind.Shared ∷ [];
   grows = grows;
-  took = claims-completed-one class t.handle t.generation;
+  claims_completed = claims-completed-one class t.handle t.generation;
   counters_follow = record {
     read_each = λ below. absurd (omega (arith, below));
     fault_each = λ below. absurd (omega (arith, below));
@@ -27,10 +27,10 @@ completed-takes-up t class p q grows = record {
 
 pub looked-takes-up : (h : _) (w : Word) (p q : Known) → WordLoaded h w p q
     → ExecutesAll [] p q 0 last_count 0 last_count
-looked-takes-up h w p q looked = record {
+looked-takes-up h w p q word_load = record {
   more = [];
-  grows = look-on h w p q looked;
-  took = claims-completed-none;
+  grows = look-on h w p q word_load;
+  claims_completed = claims-completed-none;
   counters_follow = record {
     read_each = λ below. absurd (omega (arith, below));
     fault_each = λ below. absurd (omega (arith, below));

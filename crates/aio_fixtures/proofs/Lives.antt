@@ -13,7 +13,7 @@ use Rattle.aio_word.specs.Words.{word_place, word_rank}
 use Rattle.aio_word.specs.Events.{mark_count, is_mark, wait_ref}
 use Rattle.aio_word.specs.Stands.{one_if}
 use Rattle.aio_word.proofs.AppendKeepsHandle.{mark_by_parts, count_at_rank-push}
-use Rattle.aio_handle.specs.Closing.{AllReclaimed}
+use Rattle.aio_handle.specs.EndStates.{AllReclaimed}
 use Rattle.aio_handle.specs.LifeWords.{handed_out_word, defined_word, idle_word, taken_word}
 use Rattle.aio_handle.specs.CallEvents.{EventMade, WordLoaded}
 use Rattle.aio_handle.proofs.TokensAfterEvent.{counts-apart}

@@ -14,7 +14,7 @@ use Rattle.aio_word.specs.Stands.{one_if}
 use Rattle.aio_word.specs.Tokens.{IsDefined, IsStaged, IsInFlight, make_mark}
 use Rattle.aio_word.proofs.MoreMarksKeep.{mark_count-more}
 use Rattle.aio_handle.specs.declared.record.Label.{Label}
-use Rattle.aio_handle.specs.Closing.{AllReclaimed, HasNoOwnerTokens}
+use Rattle.aio_handle.specs.EndStates.{AllReclaimed, HasNoOwnerTokens}
 use Rattle.aio_handle.specs.Execution.{ExecutesAll}
 use Rattle.aio_handle.specs.LifeWords.{taken_word, idle_word}
 use Rattle.aio_handle.specs.CallEvents.{EventMade, TakesResult}
@@ -27,7 +27,7 @@ use Rattle.aio_fixtures.proofs.Lives.{amid, amid-then, amid-looked, ends}
 -- what is taken up begins and ends no life
 taken-up-amid : (p q : Known) (a b c d : ℕ) → ExecutesAll [] p q a b c d → KeepsLives p q
 taken-up-amid p q a b c d k t =
-    let none = k.took.owners t in
+    let none = k.claims_completed.owners t in
     let whole0 : mark_count t kind.Defined q.marks ≡ mark_count t kind.Defined (p.marks ++ k.more) =
     ap (λ (z : List Mark). mark_count t kind.Defined z) k.grows.marks in
     let whole7 : mark_count t kind.Reclaimed q.marks ≡ mark_count t kind.Reclaimed
@@ -38,12 +38,12 @@ taken-up-amid p q a b c d k t =
     (omega arith, omega arith)
 
 taken-out-amid : (t : WaitRef) (p q : Known) (l : Label) → TakesResult t p q l → KeepsLives p q
-taken-out-amid t p q l k = amid-then p k.between q (amid-looked _ _ p k.between k.looked)
-    (amid event.Local _ _ _ _ k.between q k.made (omega arith) (omega arith))
+taken-out-amid t p q l k = amid-then p k.between q (amid-looked _ _ p k.between k.word_load)
+    (amid event.Local _ _ _ _ k.between q k.event_made (omega arith) (omega arith))
 
 taken-out-out : (t : WaitRef) (p q : Known) (l : Label) → TakesResult t p q l → q.out ≡ p.out
 taken-out-out t p q l k =
-    ap (λ (x : Known). x.out) k.made.is ∙ ap (λ (x : Known). x.out) k.looked.is
+    ap (λ (x : Known). x.out) k.event_made.is ∙ ap (λ (x : Known). x.out) k.word_load.is
 
 pub rests-with-none : (p : Known) → HasUnreclaimed [] p → HasNoOwnerTokens p
 rests-with-none p o = (
@@ -154,8 +154,8 @@ pub reclaimed-kept : (u t v : WaitRef) (class : Class) (l : Label) (p q r : Know
     (idle_word (v.generation + 1)) [] q r
     → u ≢ t → IsInFlight p u → IsInFlight r u
 reclaimed-kept u t v class l p q r k same back ne flies =
-    let one = (unchanged-by-look u _ _ p k.between k.looked).in_flight flies in
-    let two = (unchanged-elsewhere u event.Local _ _ _ _ k.between q k.made ne).in_flight one in
+    let one = (unchanged-by-look u _ _ p k.between k.word_load).in_flight flies in
+    let two = (unchanged-elsewhere u event.Local _ _ _ _ k.between q k.event_made ne).in_flight one in
     (unchanged-elsewhere u event.Reclaim _ _ _ _ q r back (λ e. ne (e ∙ same))).in_flight two
 
 -- an actor at rest has begun one life
@@ -174,5 +174,5 @@ begun-unreclaimed u p q over begins out = record {
 -- an actor at rest is so once it has taken up others' incarnations
 pub taken-up-rests : (p q : Known) (a b c d : ℕ) → ExecutesAll [] p q a b c d → HasNoOwnerTokens p
     → HasNoOwnerTokens q
-taken-up-rests p q a b c d k rests = rests-with-none q
-    (taken-up-unreclaimed [] p q a b c d k (none-at-rest p rests))
+taken-up-rests p q a b c d k no_owner_tokens = rests-with-none q
+    (taken-up-unreclaimed [] p q a b c d k (none-at-rest p no_owner_tokens))

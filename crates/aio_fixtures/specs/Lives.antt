@@ -42,5 +42,5 @@ pub record HasUnreclaimed (ts : List WaitRef) (p : Known) : Type 0 where
 -- the actor has submitted t, and keeps what it had in flight beside it
 pub record IsSubmitted (t : WaitRef) (p q : Known) : Type 0 where
   pub token : IsInFlight q t
-  pub kept : (u : WaitRef) → IsInFlight p u → (u ≢ t) × IsInFlight q u
+  pub others_in_flight : (u : WaitRef) → IsInFlight p u → (u ≢ t) × IsInFlight q u
   pub unreclaimed : (ts : List WaitRef) → HasUnreclaimed ts p → HasUnreclaimed (t ∷ ts) q

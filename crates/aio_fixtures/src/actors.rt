@@ -1,7 +1,7 @@
 //! The actors of a table: taken out while it is new, and put together again to close it.
 ghost use Rattle.std.specs.Prelude.{◌≡◌, ◌<◌, ◌+◌, IfOk, IfSome, IsSome, length};
 ghost use Rattle.aio_word.specs.Events.{actor_count};
-ghost use Rattle.aio_handle.specs.Closing.{HasNoOwnerTokens};
+ghost use Rattle.aio_handle.specs.EndStates.{HasNoOwnerTokens};
 ghost use Rattle.aio_handle.specs.TableInvariant.{initial_known};
 ghost use Rattle.aio_handle.specs.ContractViews.{IsActorOf, AreNewActors};
 ghost use Rattle.aio_fixtures.specs.Actors.{AreAtRest};
@@ -49,7 +49,7 @@ pub fn add_actor<R: Record, W: World>(
     actor: Actor<R, W>,
 ) -> Result<(), AllocError>
     requires table { IsActorOf table.now actor }
-    requires rests { HasNoOwnerTokens actor.known }
+    requires no_owner_tokens { HasNoOwnerTokens actor.known }
     requires others { AreAtRest table.now actors.old.items }
     ensures all { IfOk result (λ _. AreAtRest table.now actors.new.items) }
     ensures count { IfOk result (λ _. length actors.new.items ≡ length actors.old.items + 1) }
@@ -66,7 +66,7 @@ pub fn close_with_two<R: Record, W: World>(
     second: Actor<R, W>,
 ) -> Result<Totals, AllocError>
     requires table { IsActorOf table first × IsActorOf table second }
-    requires rests { HasNoOwnerTokens first.known × HasNoOwnerTokens second.known }
+    requires no_owner_tokens { HasNoOwnerTokens first.known × HasNoOwnerTokens second.known }
     requires count { actor_count table.config ≡ 2 }
     ensures { IfOk result (λ t. t.incarnations ≡ t.by_backends + t.by_runners) }
 {

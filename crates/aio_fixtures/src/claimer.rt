@@ -6,7 +6,7 @@ ghost use Rattle.aio_word.specs.declared.WaitRef.{WaitRef};
 ghost use Rattle.aio_word.specs.declared.Word.{Word};
 ghost use Rattle.aio_word.specs.Stands.{IsIn};
 ghost use Rattle.aio_word.specs.Tokens.{AppendsMarks, IsClaimed, make_mark};
-ghost use Rattle.aio_handle.specs.Closing.{HasNoOwnerTokens};
+ghost use Rattle.aio_handle.specs.EndStates.{HasNoOwnerTokens};
 ghost use Rattle.aio_handle.specs.UnchangedTokens.{TokenUnchanged};
 ghost use Rattle.aio_handle.specs.Labels.{bound_label};
 ghost use Rattle.aio_handle.specs.LifeWords.{unclaimed_word};
@@ -73,10 +73,10 @@ pub fn claim_and_complete<W: World>(
     ensures marks { IsTrue result → AppendsMarks actor.old.known actor.new.known
         (make_mark reference kind.Claimed ∷ make_mark reference (kind.Io class)
         ∷ make_mark reference kind.Shared ∷ []) }
-    ensures kept { (u : WaitRef) → TokenUnchanged u actor.old.known actor.new.known }
+    ensures tokens_unchanged { (u : WaitRef) → TokenUnchanged u actor.old.known actor.new.known }
     ensures unreclaimed { (ts : List WaitRef) → HasUnreclaimed ts actor.old.known
         → HasUnreclaimed ts actor.new.known }
-    ensures rests { HasNoOwnerTokens actor.old.known → HasNoOwnerTokens actor.new.known }
+    ensures no_owner_tokens { HasNoOwnerTokens actor.old.known → HasNoOwnerTokens actor.new.known }
     ensures lost { IsFalse result → ((w : Word)
         × WordLoaded reference.handle w actor.old.known actor.new.known
         × (w ≢ unclaimed_word reference.generation)) }

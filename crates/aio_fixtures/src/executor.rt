@@ -13,7 +13,7 @@ use std::sync::Wait;
 #[derive(Drop)]
 pub struct WholeExecutor<W: World> {
     pub calls: u64,
-    of: PhantomData<W>,
+    marker: PhantomData<W>,
 }
 
 impl<W: World> WholeExecutor<W> {
@@ -23,7 +23,7 @@ impl<W: World> WholeExecutor<W> {
     {
         WholeExecutor {
             calls: 0,
-            of: PhantomData,
+            marker: PhantomData,
         }
     }
 }

@@ -6,8 +6,8 @@ ghost use Rattle.aio_word.specs.declared.Word.{Word};
 ghost use Rattle.aio_word.specs.Stands.{IsIn};
 ghost use Rattle.aio_word.specs.Tokens.{IsInFlight};
 ghost use Rattle.aio_handle.specs.declared.actor.AcquireRefusal.{AcquireRefusal};
-ghost use Rattle.aio_handle.specs.Closing.{AllReclaimed};
-ghost use Rattle.aio_handle.specs.Free.{IsCause};
+ghost use Rattle.aio_handle.specs.EndStates.{AllReclaimed};
+ghost use Rattle.aio_handle.specs.FreeHandles.{IsCause};
 ghost use Rattle.aio_handle.specs.CallEvents.{WordLoaded, IsCompleted};
 ghost use Rattle.aio_handle.specs.ContractViews.{IsActorOf, IsSameActor};
 ghost use Rattle.aio_fixtures.specs.Lives.{BeginsLife, HasUnreclaimed, IsSubmitted};
@@ -31,7 +31,7 @@ pub fn submit_acquired<R: Record, W: World>(
     ensures out { actor.new.known.out ≡ None }
     ensures aim { IsIn (result, R.aim io) actor.new.known.aims }
     ensures begins { BeginsLife token actor.old.known actor.new.known }
-    ensures kept { (u : WaitRef) → IsInFlight actor.old.known u
+    ensures others_in_flight { (u : WaitRef) → IsInFlight actor.old.known u
         → (u ≢ result) × IsInFlight actor.new.known u }
     ensures unreclaimed { AllReclaimed actor.old.known
         → HasUnreclaimed (result ∷ []) actor.new.known }
@@ -77,7 +77,7 @@ pub fn take_and_reclaim<W: World>(
     requires table { IsActorOf table.now actor.old }
     requires token { IsInFlight actor.old.known token }
     ensures same { IsSameActor actor.old actor.new }
-    ensures kept { (u : WaitRef) → u ≢ token → IsInFlight actor.old.known u
+    ensures others_in_flight { (u : WaitRef) → u ≢ token → IsInFlight actor.old.known u
         → IsInFlight actor.new.known u }
     ensures unreclaimed { IsTrue result → (ts : List WaitRef)
         → HasUnreclaimed (token ∷ ts) actor.old.known → HasUnreclaimed ts actor.new.known }

@@ -17,10 +17,10 @@ use Rattle.aio_word.specs.Events.{with_mark}
 use Rattle.aio_word.specs.Stands.{one_if}
 use Rattle.aio_word.specs.Tokens.{is_claim, claimed_mark_count}
 use Rattle.aio_word.proofs.AppendKeepsHandle.{mark_by_parts, count_at_rank-push}
-use Rattle.aio_handle.specs.declared.own.OwnHandle.{OwnHandle}
+use Rattle.aio_handle.specs.declared.own_handles.OwnHandle.{OwnHandle}
 use Rattle.aio_handle.specs.LifeWords.{handed_out_word, unclaimed_word, claimed_word, idle_word}
 use Rattle.aio_handle.specs.CallEvents.{EventMade, WordLoaded, generation_of}
-use Rattle.aio_handle.specs.Free.{HasOneOut}
+use Rattle.aio_handle.specs.FreeHandles.{HasOneOut}
 use Rattle.aio_handle.specs.OwnHandleCache.{own_handle, handle_at, MatchesOwnHandles}
 use Rattle.aio_handle.specs.OwnHandleCache.{CachesOwnHandles}
 use Rattle.aio_handle.proofs.LivesCounted.{lives_ended-same}
@@ -66,15 +66,15 @@ out-same b p q e o = ((λ x. let t = o.0 x in (t.0, e ∙ t.1)), (λ t. o.1 (t.0
 pub false-true : false ≡ true → ⊥
 false-true e = cc
 
-module _ (c : Config) (own : List OwnHandle) (turn claims : ℕ) (b : Bool) where
-  pub caches-looked : (h : ℕ) (w : Word) (p q : Known) → WordLoaded h w p q
+module _ {c : Config} {own : List OwnHandle} {turn claims : ℕ} {b : Bool} where
+  pub caches-looked : {h : ℕ} {w : Word} {p q : Known} → WordLoaded h w p q
       → CachesOwnHandles c own turn b claims p → CachesOwnHandles c own turn b claims q
-  caches-looked h w p q m r = record {
-    owns = owns-same c own p q (ap (λ (z : Known). z.number) m.is)
-        (λ i. ap (λ (z : Known). own_handle c z i) m.is) r.owns;
-    unspent = only-past-same c p q (ap (λ (z : Known). z.number) m.is)
-        (ap (λ (z : Known). z.marks) m.is) r.unspent;
-    turn_in = r.turn_in;
+  caches-looked {p = p} {q = q} m r = record {
+    own_handles_match = owns-same c own p q (ap (λ (z : Known). z.number) m.is)
+        (λ i. ap (λ (z : Known). own_handle c z i) m.is) r.own_handles_match;
+    only_past_reclaimed = only-past-same c p q (ap (λ (z : Known). z.number) m.is)
+        (ap (λ (z : Known). z.marks) m.is) r.only_past_reclaimed;
+    turn_in_range = r.turn_in_range;
     out = out-same b p q (ap (λ (z : Known). z.out) m.is) r.out;
     counted = r.counted ∙ ap (λ (z : Known). min (claimed_mark_count z.marks) (2 ^ 128 - 1))
         (sym m.is);
@@ -85,11 +85,11 @@ module _ (c : Config) (own : List OwnHandle) (turn claims : ℕ) (b : Bool) wher
       → q.marks ≡ p.marks → (b' ≡ true) ↔ HasOneOut q → CachesOwnHandles c own turn b claims p
       → CachesOwnHandles c own turn' b' claims q
   quiet p q turn' b' le en em out r = record {
-    owns = owns-same c own p q en
+    own_handles_match = owns-same c own p q en
         (λ i. same-handle c p q i (ap (lives_ended i) em)
-        (λ n. ap (count_at_rank i (8 * n + 0)) em)) r.owns;
-    unspent = only-past-same c p q en em r.unspent;
-    turn_in = le;
+        (λ n. ap (count_at_rank i (8 * n + 0)) em)) r.own_handles_match;
+    only_past_reclaimed = only-past-same c p q en em r.only_past_reclaimed;
+    turn_in_range = le;
     out = out;
     counted = r.counted ∙ ap (λ (z : List Mark). min (claimed_mark_count z) (2 ^ 128 - 1)) (sym em);
   }
@@ -100,27 +100,27 @@ module _ (c : Config) (own : List OwnHandle) (turn claims : ℕ) (b : Bool) wher
       → claims' ≡ min (claimed_mark_count p.marks + one_if (kind_place k == 3)) (2 ^ 128 - 1)
       → CachesOwnHandles c own turn b claims p → CachesOwnHandles c own turn b claims' q
   marked p q h g k claims' lo hi en em eo ec r = record {
-    owns = owns-same c own p q en
+    own_handles_match = owns-same c own p q en
         (λ i. same-handle c p q i (ap (lives_ended i) em
         ∙ lives_ended-same i h g k p.marks (λ x. omega arith))
         (λ n. ap (count_at_rank i (8 * n + 0)) em ∙
         (let push = count_at_rank-push i (8 * n + 0) p.marks (mark_by_parts h g k) in let no =
         rank-else (h == i) (8 * g + kind_place k) (8 * n + 0) (λ x. omega arith) in
-        push ∙ (omega arith)))) r.owns;
-    unspent = only-past-marked c p q h g k hi en em r.unspent;
-    turn_in = r.turn_in;
+        push ∙ (omega arith)))) r.own_handles_match;
+    only_past_reclaimed = only-past-marked c p q h g k hi en em r.only_past_reclaimed;
+    turn_in_range = r.turn_in_range;
     out = out-same b p q eo r.out;
     counted = ec ∙ ap (λ (z : ℕ). min z (2 ^ 128 - 1))
         (sym (ap claimed_mark_count em ∙ claims-push h g k p.marks));
   }
 
-  pub caches-plain : (e : Event) (h : ℕ) (w w' : Word) (aim : List ℕ) (p q : Known)
+  pub caches-plain : {e : Event} {h : ℕ} {w w' : Word} {aim : List ℕ} {p q : Known}
       → EventMade e h w w' aim p q → IsPlain e → CachesOwnHandles c own turn b claims p
       → CachesOwnHandles c own turn b claims q
-  caches-plain e h w w' aim p q m pl r = by (kind_of_step w.class e) refl
+  caches-plain {e = e} {h = h} {w = w} {w' = w'} {aim = aim} {p = p} {q = q} m pl r = by (kind_of_step w.class e) refl
     where
       by : (o : Option Kind) → kind_of_step w.class e ≡ o → CachesOwnHandles c own turn b claims q
-      by None lv = quiet p q turn b r.turn_in (ap (λ (z : Known). z.number) m.is)
+      by None lv = quiet p q turn b r.turn_in_range (ap (λ (z : Known). z.number) m.is)
           (ap (λ (z : Known). z.marks) m.is ∙ ap (with_mark p.marks h w.generation) lv)
           (out-same b p q (plain-out e h w w' aim p q m pl) r.out) r
       by (Some k) lv =
@@ -134,29 +134,29 @@ module _ (c : Config) (own : List OwnHandle) (turn claims : ℕ) (b : Bool) wher
           + one_if (kind_place k == 3) =
           omega arith in same)) r
 
-  pub caches-claimed : (h g claims' : ℕ) (aim : List ℕ) (p q : Known)
+  pub caches-claimed : {h g claims' : ℕ} {aim : List ℕ} {p q : Known}
       → EventMade event.Claim h (unclaimed_word g) (claimed_word g) aim p q
       → claims' ≡ min (claims + 1) (2 ^ 128 - 1) → CachesOwnHandles c own turn b claims p
       → CachesOwnHandles c own turn b claims' q
-  caches-claimed h g claims' aim p q m more r = marked p q h g kind.Claimed claims' (omega arith)
+  caches-claimed {h = h} {g = g} {claims' = claims'} {p = p} {q = q} m more r = marked p q h g kind.Claimed claims' (omega arith)
       (omega arith) (ap (λ (z : Known). z.number) m.is) (ap (λ (z : Known). z.marks) m.is)
       (ap (λ (z : Known). z.out) m.is)
       (let was = r.counted in let goal : claims'
       ≡ min (claimed_mark_count p.marks + 1) (2 ^ 128 - 1) =
       omega arith in goal) r
 
-  pub caches-handed-out : (h g turn' : ℕ) (aim : List ℕ) (p q : Known)
+  pub caches-handed-out : {h g turn' : ℕ} {aim : List ℕ} {p q : Known}
       → EventMade event.HandOut h (idle_word g) (handed_out_word g) aim p q → turn' ≤ length own
       → CachesOwnHandles c own turn b claims p → CachesOwnHandles c own turn' true claims q
-  caches-handed-out h g turn' aim p q m le r = quiet p q turn' true le
+  caches-handed-out {h = h} {g = g} {turn' = turn'} {p = p} {q = q} m le r = quiet p q turn' true le
       (ap (λ (z : Known). z.number) m.is) (ap (λ (z : Known). z.marks) m.is)
       ((λ _. (wait_ref h g, ap (λ (z : Known). z.out) m.is)), (λ _. refl)) r
 
-  pub caches-released : (h g : ℕ) (aim : List ℕ) (p q : Known)
+  pub caches-released : {h g : ℕ} {aim : List ℕ} {p q : Known}
       → EventMade event.Release h (handed_out_word g) (idle_word g) aim p q
       → CachesOwnHandles c own turn b claims p
       → CachesOwnHandles c own turn false claims q
-  caches-released h g aim p q m r = quiet p q turn false r.turn_in
+  caches-released {p = p} {q = q} m r = quiet p q turn false r.turn_in_range
       (ap (λ (z : Known). z.number) m.is) (ap (λ (z : Known). z.marks) m.is) (
         (λ x. absurd (false-true x)),
         (λ t. absurd (none-some t.0 (sym (ap (λ (z : Known). z.out) m.is) ∙ t.1))),
@@ -167,9 +167,9 @@ pub caches-initial : (c : Config) (own : List OwnHandle) (p : Known) → Matches
     → p.marks ≡ []
     → p.out ≡ None → CachesOwnHandles c own 0 false 0 p
 caches-initial c own p o em eo = record {
-  owns = o;
-  unspent = λ h g own-h le. ap (count_at_rank h (8 * g + 7)) em;
-  turn_in = omega arith;
+  own_handles_match = o;
+  only_past_reclaimed = λ h g own-h le. ap (count_at_rank h (8 * g + 7)) em;
+  turn_in_range = omega arith;
   out = ((λ x. absurd (false-true x)), (λ t. absurd (none-some t.0 (sym eo ∙ t.1))));
   counted = ap (λ (z : List Mark). min (claimed_mark_count z) (2 ^ 128 - 1)) (sym em);
 }

@@ -16,10 +16,10 @@ use Rattle.aio_word.specs.Events.{owner, count_at_rank, lives_ended}
 use Rattle.aio_word.specs.Stands.{seen_rank}
 use Rattle.aio_word.specs.Tokens.{MarksOnceAndSeen, claimed_mark_count}
 use Rattle.aio_word.proofs.AppendKeepsHandle.{mark_by_parts, count_at_rank-push}
-use Rattle.aio_handle.specs.declared.own.OwnHandle.{OwnHandle}
+use Rattle.aio_handle.specs.declared.own_handles.OwnHandle.{OwnHandle}
 use Rattle.aio_handle.specs.LifeWords.{handed_out_word, defined_word, taken_word, idle_word}
 use Rattle.aio_handle.specs.CallEvents.{EventMade, generation_of}
-use Rattle.aio_handle.specs.Own.{no_handle, own_at}
+use Rattle.aio_handle.specs.OwnHandles.{no_handle, own_at}
 use Rattle.aio_handle.specs.OwnHandleCache.{own_handle, handle_at, MatchesOwnHandles}
 use Rattle.aio_handle.specs.OwnHandleCache.{CachesOwnHandles}
 use Rattle.aio_handle.proofs.LivesCounted.{lives_ended-same, lives_ended-more, lives_ended-push}
@@ -30,7 +30,7 @@ use Rattle.aio_handle.proofs.CacheAfterEvents.{claim-no, claims-push, same-handl
 use Rattle.aio_handle.proofs.CacheAfterEvents.{false-true}
 use Rattle.aio_handle.proofs.WordFromMarks.{none-some}
 
-module _ (c : Config) (own : List OwnHandle) (turn claims : ℕ) (b : Bool) where
+module _ {c : Config} {own : List OwnHandle} where
   -- what is remembered of the event's own handle is written
   written : (p q : Known) (k : ℕ) (x : OwnHandle) → k < length own → q.number ≡ p.number
       → x.generation ≤ last_generation → x ≡ own_handle c q (handle_at c p k)
@@ -58,17 +58,18 @@ module _ (c : Config) (own : List OwnHandle) (turn claims : ℕ) (b : Bool) wher
             (sym (get_or-set_other own k j x no_handle ne)) (o.bound j (omega arith)));
       }
 
-  pub caches-defined : (h g k : ℕ) (aim : List ℕ) (p q : Known)
+module _ {c : Config} {own : List OwnHandle} {turn claims : ℕ} {b : Bool} where
+  pub caches-defined : {h g k : ℕ} {aim : List ℕ} {p q : Known}
       → EventMade event.Define h (handed_out_word g) (defined_word g) aim p q → p.config ≡ c
       → MarksOnceAndSeen (seen_rank p) p.marks → h ≡ handle_at c p k → k < length own
       → g < last_generation
       → CachesOwnHandles c own turn b claims p
       → CachesOwnHandles c
       (set own k record { generation = g; is_defined = true }) turn false claims q
-  caches-defined h g k aim p q m cf kp at lt below r =
-      let own-h : p.number ≡ owner p.config h = m.mine tt in
+  caches-defined {h = h} {g = g} {k = k} {aim = aim} {p = p} {q = q} m cf kp at lt below r =
+      let own-h : p.number ≡ owner p.config h = m.by_owner tt in
       let gen : g ≡ generation_of c p h = subst (λ (z : Config). g ≡ generation_of z p h) cf
-      (m.lived own-h) in
+      (m.own_generation own-h) in
       let marks : q.marks ≡ p.marks ++ mark_by_parts h g kind.Defined ∷ [] = ap
       (λ (z : Known). z.marks) m.is in
       let same : generation_of c q h ≡ g = ap (λ (z : ℕ). c.start + z)
@@ -86,7 +87,7 @@ module _ (c : Config) (own : List OwnHandle) (turn claims : ℕ) (b : Bool) wher
       }) ∙ ap
       (λ (z : Bool). record { generation = g; is_defined = z }) is in
       let none = claim-no kind.Defined (λ x. omega arith) in record {
-        owns = written p q k record { generation = g; is_defined = true } lt
+        own_handles_match = written p q k record { generation = g; is_defined = true } lt
             (ap (λ (z : Known). z.number) m.is) (omega arith)
             (subst (λ (z : ℕ). record { generation = g; is_defined = true } ≡ own_handle c q z) at
             (sym here))
@@ -97,11 +98,11 @@ module _ (c : Config) (own : List OwnHandle) (turn claims : ℕ) (b : Bool) wher
             (let push = count_at_rank-push i (8 * n + 0) p.marks (mark_by_parts h g kind.Defined) in
             let no =
             handle-else i h (8 * g + 0 == 8 * n + 0) (λ x. ne (x ∙ at)) in
-            push ∙ (omega arith)))) r.owns;
-        unspent = only-past-marked c p q h g kind.Defined (omega arith)
-            (ap (λ (z : Known). z.number) m.is) marks r.unspent;
-        turn_in = subst (λ (z : ℕ). turn ≤ z)
-            (sym (length-set own k record { generation = g; is_defined = true })) r.turn_in;
+            push ∙ (omega arith)))) r.own_handles_match;
+        only_past_reclaimed = only-past-marked c p q h g kind.Defined (omega arith)
+            (ap (λ (z : Known). z.number) m.is) marks r.only_past_reclaimed;
+        turn_in_range = subst (λ (z : ℕ). turn ≤ z)
+            (sym (length-set own k record { generation = g; is_defined = true })) r.turn_in_range;
         out = (
           (λ x. absurd (false-true x)),
           (λ t. absurd (none-some t.0 (sym (ap (λ (z : Known). z.out) m.is) ∙ t.1))),
@@ -111,17 +112,17 @@ module _ (c : Config) (own : List OwnHandle) (turn claims : ℕ) (b : Bool) wher
             (claims-push h g kind.Defined p.marks ∙ (omega arith))));
       }
 
-  pub caches-reclaimed : (h g k : ℕ) (class : Class) (aim : List ℕ) (p q : Known)
+  pub caches-reclaimed : {h g k : ℕ} {class : Class} {aim : List ℕ} {p q : Known}
       → EventMade event.Reclaim h (taken_word class g) (idle_word (g + 1)) aim p q → p.config ≡ c
       → MarksOnceAndSeen (seen_rank p) p.marks → h ≡ handle_at c p k → k < length own
       → g < last_generation
       → CachesOwnHandles c own turn b claims p
       → CachesOwnHandles c
       (set own k record { generation = g + 1; is_defined = false }) turn b claims q
-  caches-reclaimed h g k class aim p q m cf kp at lt below r =
-      let own-h : p.number ≡ owner p.config h = m.mine tt in
+  caches-reclaimed {h = h} {g = g} {k = k} {class = class} {aim = aim} {p = p} {q = q} m cf kp at lt below r =
+      let own-h : p.number ≡ owner p.config h = m.by_owner tt in
       let gen : g ≡ generation_of c p h = subst (λ (z : Config). g ≡ generation_of z p h) cf
-      (m.lived own-h) in
+      (m.own_generation own-h) in
       let marks : q.marks ≡ p.marks ++ mark_by_parts h g kind.Reclaimed ∷ [] = ap
       (λ (z : Known). z.marks) m.is in
       let more : lives_ended h q.marks ≡ lives_ended h p.marks + 1 = ap
@@ -143,7 +144,7 @@ module _ (c : Config) (own : List OwnHandle) (turn claims : ℕ) (b : Bool) wher
       }) ∙ ap
       (λ (z : Bool). record { generation = g + 1; is_defined = z }) is in
       let none = claim-no kind.Reclaimed (λ x. omega arith) in record {
-        owns = written p q k record { generation = g + 1; is_defined = false } lt
+        own_handles_match = written p q k record { generation = g + 1; is_defined = false } lt
             (ap (λ (z : Known). z.number) m.is) (omega arith)
             (subst (λ (z : ℕ). record { generation = g + 1; is_defined = false }
             ≡ own_handle c q z) at (sym here))
@@ -155,11 +156,11 @@ module _ (c : Config) (own : List OwnHandle) (turn claims : ℕ) (b : Bool) wher
             (let push = count_at_rank-push i (8 * n + 0) p.marks
             (mark_by_parts h g kind.Reclaimed) in let no =
             handle-else i h (8 * g + 7 == 8 * n + 0) (λ x. ne (x ∙ at)) in
-            push ∙ (omega arith)))) r.owns;
-        unspent = only-past-reclaimed c p q h g (ap (λ (z : Known). z.number) m.is) marks gen
-            r.unspent;
-        turn_in = subst (λ (z : ℕ). turn ≤ z)
-            (sym (length-set own k record { generation = g + 1; is_defined = false })) r.turn_in;
+            push ∙ (omega arith)))) r.own_handles_match;
+        only_past_reclaimed = only-past-reclaimed c p q h g (ap (λ (z : Known). z.number) m.is) marks gen
+            r.only_past_reclaimed;
+        turn_in_range = subst (λ (z : ℕ). turn ≤ z)
+            (sym (length-set own k record { generation = g + 1; is_defined = false })) r.turn_in_range;
         out = out-same b p q (ap (λ (z : Known). z.out) m.is) r.out;
         counted = r.counted ∙ ap (λ (z : ℕ). min z (2 ^ 128 - 1))
             (sym (ap claimed_mark_count marks ∙

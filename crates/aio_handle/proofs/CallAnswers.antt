@@ -35,16 +35,16 @@ pub not-both : (b : Bool) → b ≡ true → b ≡ false → ⊥
 not-both b e f = cc
 
 -- what holds of what a clause sees holds of what is inside
-pub inside-from-view : (P : Known → WaitRef → Type 0) (p q : Known) (t u : WaitRef) → p ≡ q → t ≡ u
+pub inside-from-view : (P : Known → WaitRef → Type 0) {p q : Known} {t u : WaitRef} → p ≡ q → t ≡ u
     → P q u
     → P p t
-inside-from-view P p q t u e f h = subst (λ (z : Known). P z t) (sym e)
+inside-from-view P {p} {q} {t} {u} e f h = subst (λ (z : Known). P z t) (sym e)
     (subst (λ (z : WaitRef). P q z) (sym f) h)
 
 -- a word that is not Idle is below the last generation
-pub below-last : (e : Event) (h : ℕ) (w w' : Word) (aim : List ℕ) (p q : Known)
+pub below-last : {e : Event} {h : ℕ} {w w' : Word} {aim : List ℕ} {p q : Known}
     → EventMade e h w w' aim p q → w.state ≢ Idle → w.generation < last_generation
-below-last e h w w' aim p q m ne =
+below-last {e} {h} {w} {w'} {aim} {p} {q} m ne =
     let b = begun-of e h w w' aim p q m in
     let bound = b.lawful.bound in
     dite (ℕ_discrete w.generation last_generation) (λ x. absurd (ne (b.last x))) (λ n. omega arith)
@@ -62,7 +62,7 @@ pub check-answers : (p q : Known) (t : WaitRef) (answer : Bool) (w : Word)
     → (IsTrue answer ↔ IsDone w t.generation) → CheckAnswer t answer p q
 check-answers p q t answer w look exact = record {
   word = w;
-  looked = look;
+  word_load = look;
   exact = exact;
   shared = λ yes lo. shared-mark-total p.config p t.handle w t.generation look.moment lo
       (exact.0 yes);
@@ -95,13 +95,13 @@ pub note-looked : (h : ℕ) (w : Word) (p q : Known) (x : WaitRef × List ℕ) �
 note-looked h w p q x m i = subst (λ (z : Known). IsIn x z.aims) (sym m.is) i
 
 -- what a load tells whoever waits for an I/O in flight, where the word w was found
-pub flight-loaded : {R : Type 0} (slots n : ℕ) (t : WaitRef) (m m' : Me (Option R) (List Known))
+pub flight-loaded : {R : Type 0} {slots n : ℕ} (t : WaitRef) {m m' : Me (Option R) (List Known)}
     (w : Word) → StepLoadsWord (step slots t.handle 0 0 none) m n m' → packed_word w ≡ n
     → IsInFlight (seat_known m.0) t
     → WordLoaded t.handle w (seat_known m.0) (seat_known m'.0) × IsInFlight (seat_known m'.0) t
     × (IsCompleted w t.generation → 8 * t.generation + 6 ≤ seen_rank (seat_known m'.0) t.handle)
-flight-loaded slots n t m m' w load is flight =
-    let (v, found, seen) = looks-saw slots t.handle 0 0 n m m' load in
+flight-loaded t {m = m} {m' = m'} w load is flight =
+    let (v, found, seen) = looks-saw load in
     let look : WordLoaded t.handle w (seat_known m.0) (seat_known m'.0) =
     subst (λ (z : Word). WordLoaded t.handle z (seat_known m.0) (seat_known m'.0))
     (packed_word-injective v w (found ∙ sym is)) seen in (
@@ -114,13 +114,13 @@ flight-loaded slots n t m m' w load is flight =
 -- the load, mid after it, and q after the event Local
 pub record ResultTaken {R : Type 0} (label : R → Label) (aim_in : R → List ℕ) (Fits : R → Type 0)
     (t : WaitRef) (w : Word) (io : R) (p mid q : Known) : Type 0 where
-  pub looked : WordLoaded t.handle w p mid
+  pub word_load : WordLoaded t.handle w p mid
   pub done : IsCompleted w t.generation
   pub class : Class
-  pub made : EventMade event.Local t.handle (completed_word class t.generation)
+  pub event_made : EventMade event.Local t.handle (completed_word class t.generation)
       (taken_word class t.generation) []
       mid q
-  pub labelled : label io ≡
+  pub label_is : label io ≡
       record { handle = t.handle; generation = t.generation; ended = class; settled = false }
   pub aimed : (a : List ℕ) → IsIn (wait_ref t.handle t.generation, a) mid.aims → aim_in io ≡ a
   pub fits : Fits io

@@ -1,8 +1,7 @@
 -- What each call's step tells of its actor, and its seat afterwards.
 use Rattle.std.proofs.Common.{◌≡◌, ◌≢◌, ℕ, ◌+◌, ◌*◌, ◌≤◌, false, List, [], ◌∷◌}
-use Rattle.std.proofs.Common.{refl, sym, ap, ◌∙◌, subst, arith, Option, Some, None}
-use mathlib.Core.Option.{none}
-use Rattle.atomic_table.specs.Table.{Me, step, rest}
+use Rattle.std.proofs.Common.{refl, sym, ap, ◌∙◌, subst, Option, Some, None}
+use Rattle.atomic_table.specs.Table.{Me, Step, rest}
 use Rattle.aio_word.specs.declared.Config.{Config}
 use Rattle.aio_word.specs.declared.Class.{Class}
 use Rattle.aio_word.specs.declared.Step.{Step as Event}
@@ -16,24 +15,14 @@ use Rattle.aio_word.specs.Tokens.{IsInFlight}
 use Rattle.aio_word.proofs.PackIsInjective.{packed_word-injective}
 use Rattle.aio_handle.specs.declared.record.Label.{Label}
 use Rattle.aio_handle.specs.Labels.{bound_label}
-use Rattle.aio_handle.specs.Front.{moved_to_front}
+use Rattle.aio_handle.specs.MoveToFront.{moved_to_front}
 use Rattle.aio_handle.specs.CallEvents.{EventMade, WordLoaded}
-use Rattle.aio_handle.specs.LifeWords.{idle_word, handed_out_word, unclaimed_word, claimed_word}
+use Rattle.aio_handle.specs.LifeWords.{unclaimed_word, claimed_word}
 use Rattle.aio_handle.specs.LifeWords.{executed_word, completed_word, taken_word}
-use Rattle.aio_handle.specs.Steps.{StepMakesEvent, Executes, HandsOut, ReturnsSlot, Claims}
-use Rattle.aio_handle.specs.Steps.{TakesCompleted, StepLoadsWord}
+use Rattle.aio_handle.specs.Steps.{StepMakesEvent, KeepsSlots, Executes, HandsOut, ReturnsSlot}
+use Rattle.aio_handle.specs.Steps.{Claims, TakesCompleted, StepLoadsWord}
 use Rattle.aio_handle.specs.Seats.{SlotIsOut, IsSeated, seat_known}
 use Rattle.aio_handle.proofs.SeatAfterStep.{seated-same, seated-more, seated-less, seated-looked}
-use Rattle.aio_handle.proofs.SeatAfterStep.{event-of-step}
-
--- the generation of the word that was written
-written : (to : ℕ → Word) → ((x : ℕ) → (to x).generation ≡ x) → (g g' new : ℕ)
-    → new ≡ packed_word (to g') → new ≡ packed_word (to g) → g' ≡ g
-written to gen g g' new a b = sym (gen g') ∙
-    (ap (λ (w : Word). w.generation) (packed_word-injective (to g') (to g) (sym a ∙ b)) ∙ gen g)
-
-next-same : (a b : ℕ) → a + 1 ≡ b + 1 → a ≡ b
-next-same a b e = omega arith
 
 some-record : {R : Type 0} (a b : R) → Some a ≡ Some b → a ≡ b
 some-record a b e = cc
@@ -51,220 +40,165 @@ head-of d (x ∷ xs) = x
 head-same : {A : Type 0} {a b : A} {xs ys : List A} → a ∷ xs ≡ b ∷ ys → a ≡ b
 head-same {A} {a} e = ap (head-of a) e
 
-module _ {R : Type 0} (slots h g new n : ℕ) (m m' : Me (Option R) (List Known)) where
-  pub makes-made : (e : Event) (from to : ℕ → Word) → ((x : ℕ) → (to x).generation ≡ x)
-      → new ≡ packed_word (to g) → StepMakesEvent e from to (step slots h new 0 none) m n m'
-      → EventMade e h (from g) (to g) [] (seat_known m.0) (seat_known m'.0)
-  makes-made e from to gen is (p, q, g', mine, then, found, wrote, md) =
-      event-of-step e from to [] h g g' new m m' p q m.1 mine then md
-      (written to gen g g' new wrote is)
+-- what a call's step tells of its event, at the generation of the word that was written
+pub event-of : {R : Type 0} {e : Event} {from to : ℕ → Word} {aim : List ℕ}
+    {slots : List (ℕ × Option R)} {st : Step (Option R)} {m m' : Me (Option R) (List Known)} {n : ℕ}
+    {v : List Known} → StepMakesEvent e from to aim slots st m n m' → m.0 ≡ v → (g : ℕ)
+    → ((a b : ℕ) → (to a).generation ≡ (to b).generation → a ≡ b) → st.first ≡ packed_word (to g)
+    → EventMade e st.word (from g) (to g) aim (seat_known v) (seat_known m'.0)
+event-of {e = e} {from = from} {to = to} {aim = aim} {st = st} {m' = m'} d front g same is =
+    subst (λ (z : Known × Known). EventMade e st.word (from g) (to g) aim z.0 z.1)
+    (λ k. (
+      ap seat_known (sym d.by_owner ∙ front) k,
+      ap (λ (z : Me (Option _) (List Known)). seat_known z.0) (sym d.then) k,
+    ))
+    (subst (λ (z : ℕ). EventMade e st.word (from z) (to z) aim d.p d.q)
+    (same d.g g (ap (λ (w : Word). w.generation)
+    (packed_word-injective (to d.g) (to g) (sym d.wrote ∙ is)))) d.event_made)
 
-  pub makes-seated : (c : Config) (number : ℕ) (e : Event) (from to : ℕ → Word)
-      → IsSeated c number m → SlotIsOut (seat_known m.0) h
-      → StepMakesEvent e from to (step slots h new 0 none) m n m' → IsSeated c number m'
-  makes-seated c number e from to s away (p, q, g', mine, then, found, wrote, md) =
-      seated-same c number m m' e h (from g') (to g') [] p q s mine then md away
+pub executes-made : {R : Type 0} {st : Step (Option R)} {m m' : Me (Option R) (List Known)} {n : ℕ}
+    → Executes st m n m' → (class : Class) (g : ℕ) → st.first ≡ packed_word (executed_word class g)
+    → EventMade (event.Io class) st.word (claimed_word g) (executed_word class g) []
+    (seat_known m.0) (seat_known m'.0)
+executes-made {st = st} {m = m} {m' = m'} (class', d) class g is =
+    let same : class' ≡ class = ap (λ (w : Word). w.class) (packed_word-injective
+    (executed_word class' d.g) (executed_word class g) (sym d.wrote ∙ is)) in
+    subst (λ (z : Class). EventMade (event.Io z) st.word (claimed_word g) (executed_word z g) []
+    (seat_known m.0) (seat_known m'.0)) same
+    (event-of d refl g (λ a b x. x)
+    (is ∙ ap (λ (z : Class). packed_word (executed_word z g)) (sym same)))
 
-  pub executes-made : (class : Class) → new ≡ packed_word (executed_word class g)
-      → Executes (step slots h new 0 none) m n m'
-      → EventMade (event.Io class) h (claimed_word g) (executed_word class g) [] (seat_known m.0)
-      (seat_known m'.0)
-  executes-made class is (p, q, g', class', mine, then, found, wrote, md) =
-      let w : executed_word class' g' ≡ executed_word class g = packed_word-injective
-      (executed_word class' g')
-      (executed_word class g) (sym wrote ∙ is) in
-      let ec : class' ≡ class = ap (λ (z : Word). z.class) w in
-      event-of-step (event.Io class) claimed_word
-      (executed_word class) [] h g g' new m m' p q m.1 mine then
-      (subst (λ (z : Class). EventMade (event.Io z) h (claimed_word g') (executed_word z g') [] p q)
-      ec md)
-      (ap (λ (z : Word). z.generation) w)
+module _ {R : Type 0} {c : Config} {number : ℕ} {m m' : Me (Option R) (List Known)}
+    (s : IsSeated c number m) where
+  pub stays-seated : {e : Event} {from to : ℕ → Word} {aim : List ℕ} {st : Step (Option R)} {n : ℕ}
+      → KeepsSlots e from to aim st m n m' → SlotIsOut (seat_known m.0) st.word
+      → IsSeated c number m'
+  stays-seated d away = seated-same s d.by_owner d.event_made d.then away
 
-  pub executes-seated : (c : Config) (number : ℕ) → IsSeated c number m
-      → SlotIsOut (seat_known m.0) h
-      → Executes (step slots h new 0 none) m n m' → IsSeated c number m'
-  executes-seated c number s away (p, q, g', class', mine, then, found, wrote, md) =
-      seated-same c number m m' (event.Io class') h (claimed_word g')
-      (executed_word class' g') [] p q s mine then md away
+  pub hands-seated : {st : Step (Option R)} {n : ℕ} → HandsOut st m n m' → IsSeated c number m'
+  hands-seated d = seated-more s d.by_owner d.event_made d.then
 
-  pub hands-made : new ≡ packed_word (handed_out_word g) → HandsOut (step slots h new 0 none) m n m'
-      → EventMade event.HandOut h (idle_word g) (handed_out_word g) [] (seat_known m.0)
-      (seat_known m'.0)
-  hands-made is (p, q, g', mine, then, found, wrote, md) =
-      event-of-step event.HandOut idle_word handed_out_word [] h g g' new m m' p q
-      ((h, None) ∷ m.1) mine then md
-      (written handed_out_word (λ x. refl) g g' new wrote is)
+  -- a slot goes home: m before, m2 at the step, m' after it
+  pub returns-seated : {e : Event} {from to : ℕ → Word} {aim : List ℕ} {st : Step (Option R)} {n : ℕ}
+      {m2 : Me (Option R) (List Known)} → ReturnsSlot e from to aim st m2 n m' → m2.0 ≡ m.0
+      → rest m2.1 ≡ rest (moved_to_front st.word m.1) → SlotIsOut (seat_known m.0) st.word
+      → IsSeated c number m'
+  returns-seated (d, gone) front behind away = seated-less s (sym front ∙ d.by_owner) d.event_made
+      (d.then ∙ ap (λ (z : List (ℕ × Option R)). (d.q ∷ [], z)) behind) away gone
 
-  pub hands-seated : (c : Config) (number : ℕ) → IsSeated c number m
-      → HandsOut (step slots h new 0 none) m n m' → IsSeated c number m'
-  hands-seated c number s (p, q, g', mine, then, found, wrote, md) =
-      seated-more c number m m' event.HandOut h (idle_word g')
-      (handed_out_word g') [] p q s mine then md
+  pub looks-seated : {st : Step (Option R)} {n : ℕ} → StepLoadsWord st m n m' → IsSeated c number m'
+  looks-seated d = seated-looked s d.by_owner d.then d.loaded.2
 
-  pub looks-seated : (c : Config) (number : ℕ) → IsSeated c number m
-      → StepLoadsWord (step slots h 0 0 none) m n m' → IsSeated c number m'
-  looks-seated c number s (p, q, mine, then, (w, found, lk)) =
-      seated-looked c number h w m m' p q s mine then lk
+pub looks-saw : {R : Type 0} {m m' : Me (Option R) (List Known)} {st : Step (Option R)} {n : ℕ}
+    → StepLoadsWord st m n m'
+    → (w : Word) × (packed_word w ≡ n) × WordLoaded st.word w (seat_known m.0) (seat_known m'.0)
+looks-saw {m' = m'} {st = st} d = (
+  d.loaded.0,
+  d.loaded.1,
+  subst (λ (z : Known × Known). WordLoaded st.word d.loaded.0 z.0 z.1)
+      (λ k. (
+        ap seat_known (sym d.by_owner) k,
+        ap (λ (z : Me (Option _) (List Known)). seat_known z.0) (sym d.then) k,
+      )) d.loaded.2,
+)
 
-  pub looks-saw : StepLoadsWord (step slots h 0 0 none) m n m' → (w : Word) × (packed_word w ≡ n)
-      × WordLoaded h w (seat_known m.0) (seat_known m'.0)
-  looks-saw (p, q, mine, then, (w, found, lk)) = (
-    w,
-    found,
-    subst (λ (z : Known). WordLoaded h w z (seat_known m'.0)) (sym (ap seat_known mine))
-        (subst (λ (z : Known). WordLoaded h w p z)
-        (sym (ap seat_known (ap (λ (z : Me (Option R) (List Known)). z.0) then))) lk),
-  )
+-- the slot of the step came first, and is empty in the seat m3 afterwards
+emptied : {R : Type 0} (h : ℕ) (q : Known) (x : R) (cs : List (ℕ × Option R))
+    (m' m3 : Me (Option R) (List Known)) → m3 ≡ (m'.0, (h, None) ∷ rest m'.1)
+    → m' ≡ (q ∷ [], (h, Some x) ∷ cs) → m3 ≡ (q ∷ [], (h, None) ∷ cs)
+emptied h q x cs m' m3 after then = after
+    ∙ ap (λ (z : Me (Option _) (List Known)). (z.0, (h, None) ∷ rest z.1)) then
 
--- a slot goes home: m before, m2 at the step, m3 after it
-module _ {R : Type 0} (slots h g new n : ℕ) (m m2 m3 : Me (Option R) (List Known))
-    (front : m2.0 ≡ m.0) (behind : rest m2.1 ≡ rest (moved_to_front h m.1)) where
-  pub returns-made : (e : Event) (from to : ℕ → Word) (aim : List ℕ)
-      → ((a b : ℕ) → packed_word (to a) ≡ packed_word (to b) → a ≡ b) → new ≡ packed_word (to g)
-      → ReturnsSlot e from to aim (step slots h new 0 none) m2 n m3
-      → EventMade e h (from g) (to g) aim (seat_known m.0) (seat_known m3.0)
-  returns-made e from to aim inj is (p, q, g', mine, then, found, wrote, md, gone) =
-      event-of-step e from to aim h g g' new m m3 p q (rest m2.1) (sym front ∙ mine) then md
-      (inj g' g (sym wrote ∙ is))
-
-  pub returns-seated : (c : Config) (number : ℕ) (e : Event) (from to : ℕ → Word) (aim : List ℕ)
-      → IsSeated c number m → SlotIsOut (seat_known m.0) h
-      → ReturnsSlot e from to aim (step slots h new 0 none) m2 n m3 → IsSeated c number m3
-  returns-seated c number e from to aim s away (p, q, g', mine, then, found, wrote, md, gone) =
-      seated-less c number m m3 e h (from g') (to g') aim p q s (sym front ∙ mine)
-      (then ∙ ap (λ (z : List (ℕ × Option R)). (q ∷ [], z)) behind) md away gone
-
-pub by-generation : (to : ℕ → Word) → ((x : ℕ) → (to x).generation ≡ x) → (a b : ℕ)
-    → packed_word (to a) ≡ packed_word (to b) → a ≡ b
-by-generation to gen a b e = sym (gen a) ∙
-    (ap (λ (w : Word). w.generation) (packed_word-injective (to a) (to b) e) ∙ gen b)
-
-pub by-next : (a b : ℕ) → packed_word (idle_word (a + 1)) ≡ packed_word (idle_word (b + 1)) → a ≡ b
-by-next a b e = next-same a b
-    (ap (λ (w : Word). w.generation) (packed_word-injective (idle_word (a + 1))
-    (idle_word (b + 1)) e))
-
-module _ {R : Type 0} (label : R → Label) (aim_in : R → List ℕ) (Fits : R → Type 0)
-    (slots h old new found : ℕ) (m m' : Me (Option R) (List Known))
-    (t : Claims label aim_in Fits (step slots h old new none) m found m') where
+module _ {R : Type 0} {label : R → Label} {aim_in : R → List ℕ} {Fits : R → Type 0}
+    {st : Step (Option R)} {found : ℕ} {m m' : Me (Option R) (List Known)}
+    (t : Claims label aim_in Fits st m found m') where
   -- the slot that a won claim took comes first
-  pub taken-first : found ≡ old → (x : Option R) × (m'.1 ≡ (h, x) ∷ rest m'.1)
-  taken-first hit = let (g, (r, n, then, md, l, f)) = t.3 hit in (
+  pub taken-first : found ≡ st.first → (x : Option R) × (m'.1 ≡ (st.word, x) ∷ rest m'.1)
+  taken-first hit = let (g, (r, n, then, md, l, f)) = t.won hit in (
     Some r,
     ap (λ (z : Me (Option R) (List Known)). z.1) then ∙ sym
-        (ap (λ (z : Me (Option R) (List Known)). (h, Some r) ∷ rest z.1) then),
+        (ap (λ (z : Me (Option R) (List Known)). (st.word, Some r) ∷ rest z.1) then),
   )
 
-  pub lost-seated : (c : Config) (number : ℕ) → found ≢ old → IsSeated c number m
+  pub lost-seated : {c : Config} {number : ℕ} → found ≢ st.first → IsSeated c number m
       → IsSeated c number m'
-  lost-seated c number miss s = let (then, (w, n, lk)) = t.4 miss in
-      seated-looked c number h w m m' t.0 t.1 s t.2 then lk
+  lost-seated miss s = let (then, (w, n, lk)) = t.lost miss in seated-looked s t.by_owner then lk
 
-  pub lost-saw : found ≢ old → (w : Word) × (packed_word w ≡ found)
-      × WordLoaded h w (seat_known m.0) (seat_known m'.0)
-  lost-saw miss = let (then, (w, n, lk)) = t.4 miss in (
-    w,
-    n,
-    subst (λ (z : Known). WordLoaded h w z (seat_known m'.0)) (sym (ap seat_known t.2))
-        (subst (λ (z : Known). WordLoaded h w t.0 z)
-        (sym (ap seat_known (ap (λ (z : Me (Option R) (List Known)). z.0) then))) lk),
-  )
-
-  pub won-seated : (c : Config) (number : ℕ) → found ≡ old → (m'' : Me (Option R) (List Known))
-      → m'' ≡ (m'.0, (h, None) ∷ rest m'.1) → IsSeated c number m → IsSeated c number m''
-  won-seated c number hit m'' after s =
-      let (g, (r, n, then, md, l, f)) = t.3 hit in
-      seated-more c number m m'' event.Claim h (unclaimed_word g) (claimed_word g)
-      (aim_in r) t.0 t.1 s t.2
-      (after ∙ ((λ k. (
-        ap (λ (z : Me (Option R) (List Known)). z.0) then k,
-        (h, None) ∷ rest
-            (ap (λ (z : Me (Option R) (List Known)). z.1) then k),
-      )))) md
+  pub won-seated : {c : Config} {number : ℕ} {m3 : Me (Option R) (List Known)} → found ≡ st.first
+      → m3 ≡ (m'.0, (st.word, None) ∷ rest m'.1) → IsSeated c number m → IsSeated c number m3
+  won-seated {m3 = m3} hit after s = let (g, (r, n, then, md, l, f)) = t.won hit in
+      seated-more s t.by_owner md (emptied st.word t.q r m.1 m' m3 after then)
 
   -- what a won claim tells of the record that was in the slot
-  pub won-made : (g : ℕ) → found ≡ old → old ≡ packed_word (unclaimed_word g) → (io : R)
-      → m'.1 ≡ (h, Some io) ∷ rest m'.1 → (m'' : Me (Option R) (List Known)) → m''.0 ≡ m'.0
-      → EventMade event.Claim h (unclaimed_word g) (claimed_word g) (aim_in io) (seat_known m.0)
-      (seat_known m''.0)
-      × (label io ≡ bound_label h g) × Fits io
-  won-made g hit is io first m'' same =
-      let (g', (r, n, then, md, l, f)) = t.3 hit in
-      let eg : g' ≡ g = by-generation unclaimed_word (λ x. refl) g' g (sym n ∙ (hit ∙ is)) in
-      let heads : (h, Some r) ∷ m.1 ≡ (h, Some io) ∷ rest m'.1 = sym
+  pub won-made : {io : R} {v : List Known} (g : ℕ) → found ≡ st.first
+      → st.first ≡ packed_word (unclaimed_word g) → m'.1 ≡ (st.word, Some io) ∷ rest m'.1
+      → v ≡ m'.0
+      → EventMade event.Claim st.word (unclaimed_word g) (claimed_word g) (aim_in io)
+      (seat_known m.0) (seat_known v)
+      × (label io ≡ bound_label st.word g) × Fits io
+  won-made {io = io} g hit is first same =
+      let (g', (r, n, then, md, l, f)) = t.won hit in
+      let eg : g' ≡ g = ap (λ (w : Word). w.generation) (packed_word-injective (unclaimed_word g')
+      (unclaimed_word g) (sym n ∙ (hit ∙ is))) in
+      let heads : (st.word, Some r) ∷ m.1 ≡ (st.word, Some io) ∷ rest m'.1 = sym
       (ap (λ (z : Me (Option R) (List Known)). z.1) then) ∙ first in
-      let er : r ≡ io = same-slot h r io (head-same heads) in (
-        subst (λ (z : Known). EventMade event.Claim h (unclaimed_word g) (claimed_word g)
-            (aim_in io) z
-            (seat_known m''.0)) (sym (ap seat_known t.2))
-            (subst (λ (z : Known). EventMade event.Claim h (unclaimed_word g) (claimed_word g)
-            (aim_in io) t.0 z)
-            (sym (ap seat_known (same ∙ ap (λ (z : Me (Option R) (List Known)). z.0) then)))
-            (subst (λ (z : ℕ). EventMade event.Claim h (unclaimed_word z) (claimed_word z)
-            (aim_in io) t.0 t.1) eg
-            (subst (λ (z : R). EventMade event.Claim h (unclaimed_word g') (claimed_word g')
-            (aim_in z) t.0 t.1) er md))),
-        subst (λ (z : ℕ). label io ≡ bound_label h z) eg (subst
-            (λ (z : R). label z ≡ bound_label h g') er l),
-        subst (λ (z : R). Fits z) er f,
-      )
+      let er : r ≡ io = same-slot st.word r io (head-same heads) in
+      let of : (ℕ × R) → Known → Known → Type 0 =
+      λ z p q. EventMade event.Claim st.word (unclaimed_word z.0) (claimed_word z.0) (aim_in z.1) p q
+      × (label z.1 ≡ bound_label st.word z.0) × Fits z.1 in
+      subst (λ (z : Known × Known). of (g, io) z.0 z.1)
+      (λ k. (
+        ap seat_known (sym t.by_owner) k,
+        ap seat_known (sym (same ∙ ap (λ (z : Me (Option R) (List Known)). z.0) then)) k,
+      ))
+      (subst (λ (z : ℕ × R). of z t.p t.q) (λ k. (eg k, er k)) (md, l, f))
 
-module _ {R : Type 0} (label : R → Label) (aim_in : R → List ℕ) (Fits : R → Type 0)
-    (slots h found : ℕ) (m m' : Me (Option R) (List Known))
-    (t : TakesCompleted label aim_in Fits (step slots h 1 0 none) m found m') where
-  pub got-first : (x : Option R) × (m'.1 ≡ (h, x) ∷ rest m'.1)
-  got-first = let (p, q, g, class, x, mine, then, n, md, l, a, f, pin) = t in (
-    Some x,
-    ap (λ (z : Me (Option R) (List Known)). z.1) then ∙ sym
-        (ap (λ (z : Me (Option R) (List Known)). (h, Some x) ∷ rest z.1) then),
+module _ {R : Type 0} {label : R → Label} {aim_in : R → List ℕ} {Fits : R → Type 0}
+    {st : Step (Option R)} {found : ℕ} {m m' : Me (Option R) (List Known)}
+    (t : TakesCompleted label aim_in Fits st m found m') where
+  pub got-first : (x : Option R) × (m'.1 ≡ (st.word, x) ∷ rest m'.1)
+  got-first = (
+    Some t.x,
+    ap (λ (z : Me (Option R) (List Known)). z.1) t.then ∙ sym
+        (ap (λ (z : Me (Option R) (List Known)). (st.word, Some t.x) ∷ rest z.1) t.then),
   )
 
-  pub got-seated : (c : Config) (number : ℕ) → (m'' : Me (Option R) (List Known))
-      → m'' ≡ (m'.0, (h, None) ∷ rest m'.1) → IsSeated c number m → IsSeated c number m''
-  got-seated c number m'' after s =
-      let (p, q, g, class, x, mine, then, n, md, l, a, f, pin) = t in
-      seated-more c number m m'' event.Local h (completed_word class g)
-      (taken_word class g) [] p q s mine
-      (after ∙ (λ k. (
-        ap (λ (z : Me (Option R) (List Known)). z.0) then k,
-        (h, None) ∷ rest
-            (ap (λ (z : Me (Option R) (List Known)). z.1) then k),
-      ))) md
+  pub got-seated : {c : Config} {number : ℕ} {m3 : Me (Option R) (List Known)}
+      → m3 ≡ (m'.0, (st.word, None) ∷ rest m'.1) → IsSeated c number m → IsSeated c number m3
+  got-seated {m3 = m3} after s =
+      seated-more s t.by_owner t.event_made (emptied st.word t.q t.x m.1 m' m3 after t.then)
 
   -- what taking the result tells of the record that was in the slot
-  pub got-told : (g : ℕ) → IsInFlight (seat_known m.0) (wait_ref h g)
-      → 8 * g + 6 ≤ seen_rank (seat_known m.0) h → (io : R) → m'.1 ≡ (h, Some io) ∷ rest m'.1
-      → (m'' : Me (Option R) (List Known)) → m''.0 ≡ m'.0
+  pub got-told : {io : R} {v : List Known} (g : ℕ)
+      → IsInFlight (seat_known m.0) (wait_ref st.word g)
+      → 8 * g + 6 ≤ seen_rank (seat_known m.0) st.word → m'.1 ≡ (st.word, Some io) ∷ rest m'.1
+      → v ≡ m'.0
       → (class : Class)
-      × EventMade event.Local h (completed_word class g) (taken_word class g) [] (seat_known m.0)
-      (seat_known m''.0)
-      × (label io ≡ record { handle = h; generation = g; ended = class; settled = false })
-      × ((a : List ℕ) → IsIn (wait_ref h g, a) (seat_known m.0).aims → aim_in io ≡ a) × Fits io
-  got-told g flight saw io first m'' same =
-      let (p, q, g', class, r, mine, then, n, md, l, a, f, pins) = t in
-      let was : seat_known m.0 ≡ p = ap seat_known mine in
-      let eg : g' ≡ g = pins g (subst (λ (z : Known). IsInFlight z (wait_ref h g)) was flight)
-      (subst (λ (z : Known). 8 * g + 6 ≤ seen_rank z h) was saw) in
-      let heads : (h, Some r) ∷ m.1 ≡ (h, Some io) ∷ rest m'.1 = sym
-      (ap (λ (z : Me (Option R) (List Known)). z.1) then) ∙ first in
-      let er : r ≡ io = same-slot h r io (head-same heads) in
-      let pin : (z : ℕ × R) → Type 0 =
-      λ z. EventMade event.Local h (completed_word class z.0) (taken_word class z.0) [] p q
-      × (label z.1 ≡ record { handle = h; generation = z.0; ended = class; settled = false })
-      × ((a : List ℕ) → IsIn (wait_ref h z.0, a) p.aims → aim_in z.1 ≡ a) × Fits z.1 in
-      let all : pin (g, io) = subst (λ (z : ℕ × R). pin z) (λ k. (eg k, er k)) (md, l, a, f) in (
-        class,
-        subst (λ (z : Known). EventMade event.Local h (completed_word class g)
-            (taken_word class g) [] z
-            (seat_known m''.0)) (sym was)
-            (subst (λ (z : Known). EventMade event.Local h (completed_word class g)
-            (taken_word class g) [] p z)
-            (sym (ap seat_known
-            (same ∙ ap (λ (z : Me (Option R) (List Known)). z.0) then))) all.0),
-        all.1,
-        (λ b i. all.2 b (subst (λ (z : Known). IsIn (wait_ref h g, b) z.aims) was i)),
-        all.3,
-      )
+      × EventMade event.Local st.word (completed_word class g) (taken_word class g) []
+      (seat_known m.0) (seat_known v)
+      × (label io ≡ record { handle = st.word; generation = g; ended = class; settled = false })
+      × ((a : List ℕ) → IsIn (wait_ref st.word g, a) (seat_known m.0).aims → aim_in io ≡ a)
+      × Fits io
+  got-told {io = io} g flight saw first same =
+      let was : seat_known m.0 ≡ t.p = ap seat_known t.by_owner in
+      let eg : t.g ≡ g = t.same g
+      (subst (λ (z : Known). IsInFlight z (wait_ref st.word g)) was flight)
+      (subst (λ (z : Known). 8 * g + 6 ≤ seen_rank z st.word) was saw) in
+      let heads : (st.word, Some t.x) ∷ m.1 ≡ (st.word, Some io) ∷ rest m'.1 = sym
+      (ap (λ (z : Me (Option R) (List Known)). z.1) t.then) ∙ first in
+      let er : t.x ≡ io = same-slot st.word t.x io (head-same heads) in
+      let of : (ℕ × R) → Known → Known → Type 0 =
+      λ z p q. (class : Class)
+      × EventMade event.Local st.word (completed_word class z.0) (taken_word class z.0) [] p q
+      × (label z.1 ≡ record { handle = st.word; generation = z.0; ended = class; settled = false })
+      × ((a : List ℕ) → IsIn (wait_ref st.word z.0, a) p.aims → aim_in z.1 ≡ a) × Fits z.1 in
+      subst (λ (z : Known × Known). of (g, io) z.0 z.1)
+      (λ k. (
+        sym was k,
+        ap seat_known (sym (same ∙ ap (λ (z : Me (Option R) (List Known)). z.0) t.then)) k,
+      ))
+      (subst (λ (z : ℕ × R). of z t.p t.q) (λ k. (eg k, er k))
+      (t.class, t.event_made, t.label_is, t.aimed, t.fits))
 
 -- the same slots with two records in front
 pub same-front : {R : Type 0} (h : ℕ) (a b : R) (cs xs ys : List (ℕ × Option R))

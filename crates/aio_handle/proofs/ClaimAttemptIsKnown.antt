@@ -63,7 +63,7 @@ executed_is_known t u p q reads reads' faults faults' same a k =
     let other : mark_count u kind.Shared held ≡ 0 = mark_count-place u u 5 kind.Claimed []
     (λ e. omega arith)
     (omega arith) in
-    let even = a.took.shared u in
+    let even = a.claims_completed.shared u in
     let three = mark_count-more u 3 held a.more in
     let five = mark_count-more u 5 held a.more in
     let whole : mark_count u kind.Shared q.marks ≡ mark_count u kind.Shared (p.marks ++ a.more) =

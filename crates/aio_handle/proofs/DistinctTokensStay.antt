@@ -9,10 +9,10 @@ use Rattle.aio_handle.specs.TokenLists.{Place, TokenIsAt, TokenUnchangedAt, AreD
 use Rattle.aio_handle.specs.TokenLists.{as_defined, as_staged}
 use Rattle.aio_handle.specs.TokenLists.{as_in_flight, as_local, as_claimed}
 
-module _ {A : Type 0} (of : A → WaitRef) where
+module _ {A : Type 0} (reference_of : A → WaitRef) where
   pub distinct-moved : (P Q : Known → WaitRef → Type 0) (p q : Known) (ts : List A)
-      → ((t : A) → IsIn t ts → P p (of t) → Q q (of t)) → AreDistinctTokens of P p ts
-      → AreDistinctTokens of Q q ts
+      → ((t : A) → IsIn t ts → P p (reference_of t) → Q q (reference_of t)) → AreDistinctTokens reference_of P p ts
+      → AreDistinctTokens reference_of Q q ts
   distinct-moved P Q p q [] k h = tt
   distinct-moved P Q p q (t ∷ ts) k h = (
     k t (inl refl) h.0,
@@ -21,34 +21,34 @@ module _ {A : Type 0} (of : A → WaitRef) where
   )
 
   pub distinct-in : (P : Known → WaitRef → Type 0) (p : Known) (ts : List A) (t : A)
-      → AreDistinctTokens of P p ts → IsIn t ts → P p (of t)
+      → AreDistinctTokens reference_of P p ts → IsIn t ts → P p (reference_of t)
   distinct-in P p [] t h i = absurd i
-  distinct-in P p (x ∷ ts) t h i = ⊎_elim (λ e. subst (λ (z : A). P p (of z)) e h.0)
+  distinct-in P p (x ∷ ts) t h i = ⊎_elim (λ e. subst (λ (z : A). P p (reference_of z)) e h.0)
       (λ j. distinct-in P p ts t h.2 j) i
 
   pub distinct-push : (P : Known → WaitRef → Type 0) (p : Known) (ts : List A) (t : A)
-      → AreDistinctTokens of P p ts → P p (of t) → ((u : A) → IsIn u ts → of u ≢ of t)
-      → AreDistinctTokens of P p (ts ++ t ∷ [])
+      → AreDistinctTokens reference_of P p ts → P p (reference_of t) → ((u : A) → IsIn u ts → reference_of u ≢ reference_of t)
+      → AreDistinctTokens reference_of P p (ts ++ t ∷ [])
   distinct-push P p [] t h new apart = (new, (λ u i. absurd i), tt)
   distinct-push P p (x ∷ ts) t h new apart = (
     h.0,
     (λ u i. ⊎_elim (λ old. h.1 u old)
-        (λ last. ⊎_elim (λ e. λ same. apart x (inl refl) (sym same ∙ sym (ap of e)))
+        (λ last. ⊎_elim (λ e. λ same. apart x (inl refl) (sym same ∙ sym (ap reference_of e)))
         (λ none. absurd none) last) (in-append u ts (t ∷ []) i)),
     distinct-push P p ts t h.2 new (λ u i. apart u (inr i)),
   )
 
   -- the others are of other incarnations than the one that goes
   pub distinct-apart : (P : Known → WaitRef → Type 0) (p : Known) (front back : List A) (t : A)
-      → AreDistinctTokens of P p (front ++ t ∷ back) → (u : A) → IsIn u (front ++ back)
-      → of u ≢ of t
+      → AreDistinctTokens reference_of P p (front ++ t ∷ back) → (u : A) → IsIn u (front ++ back)
+      → reference_of u ≢ reference_of t
   distinct-apart P p [] back t h u i = h.1 u i
   distinct-apart P p (x ∷ front) back t h u i = ⊎_elim
-      (λ e. λ same. h.1 t (in-right t front (t ∷ back) (inl refl)) (sym same ∙ sym (ap of e)))
+      (λ e. λ same. h.1 t (in-right t front (t ∷ back) (inl refl)) (sym same ∙ sym (ap reference_of e)))
       (λ j. distinct-apart P p front back t h.2 u j) i
 
   pub distinct-without : (P : Known → WaitRef → Type 0) (p : Known) (front back : List A) (t : A)
-      → AreDistinctTokens of P p (front ++ t ∷ back) → AreDistinctTokens of P p (front ++ back)
+      → AreDistinctTokens reference_of P p (front ++ t ∷ back) → AreDistinctTokens reference_of P p (front ++ back)
   distinct-without P p [] back t h = h.2
   distinct-without P p (x ∷ front) back t h = (
     h.0,
@@ -66,9 +66,9 @@ stays as_in_flight t p q k = k.in_flight
 stays as_local t p q k = k.local
 stays as_claimed t p q k = k.claimed
 
-pub distinct-unchanged : {A : Type 0} (of : A → WaitRef) (place : Place) (p q : Known) (ts : List A)
-    → ((t : A) → IsIn t ts → TokenUnchangedAt place (of t) p q)
-    → AreDistinctTokens of (TokenIsAt place) p ts
-    → AreDistinctTokens of (TokenIsAt place) q ts
-distinct-unchanged of place p q ts k = distinct-moved of (TokenIsAt place) (TokenIsAt place) p q ts
-    (λ t i. stays place (of t) p q (k t i))
+pub distinct-unchanged : {A : Type 0} (reference_of : A → WaitRef) (place : Place) (p q : Known) (ts : List A)
+    → ((t : A) → IsIn t ts → TokenUnchangedAt place (reference_of t) p q)
+    → AreDistinctTokens reference_of (TokenIsAt place) p ts
+    → AreDistinctTokens reference_of (TokenIsAt place) q ts
+distinct-unchanged reference_of place p q ts k = distinct-moved reference_of (TokenIsAt place) (TokenIsAt place) p q ts
+    (λ t i. stays place (reference_of t) p q (k t i))

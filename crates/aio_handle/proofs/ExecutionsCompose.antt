@@ -20,7 +20,7 @@ pub executes_nothing : (p q : Known) (reads faults : ℕ) → AppendsMarks p q [
 executes_nothing p q reads faults g = record {
   more = [];
   grows = g;
-  took = claims-completed-none;
+  claims_completed = claims-completed-none;
   counters_follow = record { read_each = λ _. omega arith; fault_each = λ _. omega arith };
 }
 
@@ -33,8 +33,8 @@ pub executes_then_held : (held : List Mark) (p q r : Known)
 executes_then_held held p q r reads reads' reads'' faults faults' faults'' a b = record {
   more = a.more ++ b.more;
   grows = appends-then p q r a.more b.more a.grows b.grows;
-  took = subst (λ (z : List Mark). ClaimsAreCompleted z) (append_assoc held a.more b.more)
-      (claims-completed-more (held ++ a.more) b.more a.took b.took);
+  claims_completed = subst (λ (z : List Mark). ClaimsAreCompleted z) (append_assoc held a.more b.more)
+      (claims-completed-more (held ++ a.more) b.more a.claims_completed b.claims_completed);
   counters_follow = record {
     read_each = λ lt.
         let m = io-more a.more b.more in
@@ -68,7 +68,7 @@ claim_then_executes t u aim p q r reads reads' faults faults' same m a' =
       more = make_mark t kind.Claimed ∷ a.more;
       grows = appends-then p q r (make_mark t kind.Claimed ∷ []) a.more
           (claim-grows t.handle t.generation aim p q m) a.grows;
-      took = a.took;
+      claims_completed = a.claims_completed;
       counters_follow = record {
         read_each = λ lt.
             let n = io-more (make_mark t kind.Claimed ∷ []) a.more in

@@ -130,7 +130,7 @@ one-stands c parts h w s g = dite (dec_le c.start g)
     (wait_ref h w.generation) any_local parts =
     ap (λ (x : ℕ). mark_total (wait_ref h x) any_local parts) same in omega arith)
     (λ ne. dite (dec_le g w.generation)
-    (λ le. let o = s.over g lo (omega arith) any_local in omega arith)
+    (λ le. let o = s.past_marks g lo (omega arith) any_local in omega arith)
     (λ gt. let n = s.none g (inr (omega arith)) any_local in omega arith)))
     (λ lo. let n = s.none g (inl (omega arith)) any_local in omega arith)
 
@@ -141,7 +141,7 @@ module _ (c : Config) (ws : List Word) (parts : List Known) (s : Stands c ws par
       (λ some.
       let (p, i, more) = some-in (spot is_failed_result h g) parts (omega arith) in
       let (q, j, io) = executed-in c ws parts s p i (wait_ref h g) Failed (is-there h g p more) in
-      let (w, word) = entry-at ws h (let wide = s.wide in omega arith) in
+      let (w, word) = entry-at ws h (let one_per_handle = s.one_per_handle in omega arith) in
       let few = sum-le (spot is_failed_result h g) (λ (p : Known). mark_count
       (wait_ref h g) any_local p.marks)
       parts (λ p _. sum-le (λ (m : Mark). cond (here is_failed_result h g m) 1 0)

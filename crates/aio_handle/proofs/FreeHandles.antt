@@ -10,11 +10,11 @@ use Rattle.aio_word.specs.declared.WaitRef.{WaitRef}
 use Rattle.aio_word.specs.declared.Known.{Known}
 use Rattle.aio_word.specs.Words.{last_generation}
 use Rattle.aio_word.specs.Events.{handle_count, count_at_rank, wait_ref}
-use Rattle.aio_handle.specs.declared.own.OwnHandle.{OwnHandle}
+use Rattle.aio_handle.specs.declared.own_handles.OwnHandle.{OwnHandle}
 use Rattle.aio_handle.specs.CallEvents.{generation_of}
-use Rattle.aio_handle.specs.Free.{IsFree, HasOneOut, HasNoneFree, IsRoom}
-use Rattle.aio_handle.specs.Closing.{HasNoOwnerTokens}
-use Rattle.aio_handle.specs.Own.{own_at, IsFreeHandle, HasRoom}
+use Rattle.aio_handle.specs.FreeHandles.{IsFree, HasOneOut, HasNoneFree, IsRoom}
+use Rattle.aio_handle.specs.EndStates.{HasNoOwnerTokens}
+use Rattle.aio_handle.specs.OwnHandles.{own_at, IsFreeHandle, HasRoom}
 use Rattle.aio_handle.specs.OwnHandleCache.{own_handle, handle_at, MatchesOwnHandles}
 use Rattle.aio_handle.specs.OwnHandleCache.{OnlyPastReclaimed}
 use Rattle.aio_handle.proofs.CacheAfterEvents.{false-true}
@@ -45,13 +45,13 @@ place-of c p h own lt =
     )
 
 -- an owner's event is at a place that it remembers
-pub owner-place : (c : Config) (own : List OwnHandle) (e : Event) (h : ℕ) (w w' : Word)
-    (aim : List ℕ) (p q : Known) → EventMade e h w w' aim p q → IsByOwner e → p.config ≡ c
+pub owner-place : {c : Config} {own : List OwnHandle} {e : Event} {h : ℕ} {w w' : Word}
+    {aim : List ℕ} {p q : Known} → EventMade e h w w' aim p q → IsByOwner e → p.config ≡ c
     → h < handle_count c → MatchesOwnHandles c own p
     → (h % c.per_backend < length own) × (h ≡ handle_at c p (h % c.per_backend))
-owner-place c own e h w w' aim p q m by cf lt o =
+owner-place {c = c} {own = own} {e = e} {h = h} {p = p} m by cf lt o =
     let (inside, at, backend) = place-of c p h
-    (subst (λ (z : Config). p.number ≡ owner z h) cf (m.mine by)) lt in
+    (subst (λ (z : Config). p.number ≡ owner z h) cf (m.by_owner by)) lt in
     let len = o.of_backend backend in (omega arith, at)
 
 -- and at each place of a backend there is an own handle
@@ -131,7 +131,7 @@ pub none-told : (c : Config) (own : List OwnHandle) (p : Known) → MatchesOwnHa
     → ((k : ℕ) → k < length own → IsFreeHandle (own_at own k) → ⊥) → HasNoneFree c p
 none-told c own p o u none h lt own-h =
     let t : WaitRef = wait_ref h (generation_of c p h) in
-    let unspent : count_at_rank h (8 * generation_of c p h + 7) p.marks ≡ 0 =
+    let only_past_reclaimed : count_at_rank h (8 * generation_of c p h + 7) p.marks ≡ 0 =
     u h (generation_of c p h) own-h (omega arith) in
     dite (dec_le last_generation (generation_of c p h)) (λ le. inl le)
     (λ below. dite (dec_le (count_at_rank h (8 * generation_of c p h + 0) p.marks) 0)
@@ -142,7 +142,7 @@ none-told c own p o u none h lt own-h =
       undefined = omega arith;
       below = omega arith;
     } in none (h % c.per_backend) lk free))
-    (λ pos. inr (omega arith, unspent)))
+    (λ pos. inr (omega arith, only_past_reclaimed)))
 
 -- the room of the remembered handles is that of the actor
 pub room-told : (c : Config) (own : List OwnHandle) (p : Known) (room : ℕ) → 0 < c.per_backend
@@ -177,6 +177,6 @@ served-at-rest c p room backend r rests none =
     let (h, lt, own-h, is) = r.exact backend in
     ⊎_elim (λ le. omega arith)
     (λ amid.
-    let over = rests.1 (wait_ref h (generation_of c p h)) in
+    let past_marks = rests.1 (wait_ref h (generation_of c p h)) in
     let one = amid.0 in
     let two = amid.1 in omega arith) (none h lt own-h)

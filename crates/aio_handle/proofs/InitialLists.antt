@@ -103,7 +103,7 @@ pub list-new : (c : Config) (n : ℕ) → IsLawfulList c (initial_known c n)
 list-new c n =
     record {
       in_range = λ m i. absurd i;
-      owned = λ m i. absurd i;
+      in_owner_list = λ m i. absurd i;
       ordered =
           λ i j d lt below. absurd (omega arith);
     }

@@ -33,10 +33,9 @@ pub same-length : (a b : List Known) (p p' : Known) → length (a ++ p' ∷ b) �
 same-length [] b p p' = refl
 same-length (x ∷ a) b p p' = ap suc (same-length a b p p')
 
-module _ {R : Type 0} (label : R → Label) (aim_in : R → List ℕ) (Fits : R → Type 0) (c : Config)
-    (s : State (Option R) (List Known)) (r : TableInvariant label aim_in Fits c s) (id h : ℕ)
-    (p : Known)
-    (f : StepFinds label aim_in Fits c s r id h p) (range : h < handle_count c) where
+module _ {R : Type 0} {label : R → Label} {aim_in : R → List ℕ} {Fits : R → Type 0} {c : Config}
+    {s : State (Option R) (List Known)} {r : TableInvariant label aim_in Fits c s} {id h : ℕ}
+    {p : Known} (f : StepFinds label aim_in Fits c s r id h p) (range : h < handle_count c) where
   abbrev w : Word
   w = f.w
 
@@ -47,13 +46,13 @@ module _ {R : Type 0} (label : R → Label) (aim_in : R → List ℕ) (Fits : R 
   back = f.lying.back
 
   before : StandsForHandleByRank c (front ++ p ∷ back) h w
-  before = stood-here label aim_in Fits c s r id h p f
+  before = stood-here f
 
   abbrev ruled : HandleInvariant label aim_in Fits c (front ++ p ∷ back) h w f.home
-  ruled = ruled-here label aim_in Fits c s r id h p f
+  ruled = ruled-here f
 
   actor : IsLawfulActor c p
-  actor = actor-here label aim_in Fits c s r id h p f
+  actor = actor-here f
 
   -- with the greatest pair seen
   pub seen-max : (v : Word) → word_rank w ≤ word_rank v
@@ -83,7 +82,7 @@ module _ {R : Type 0} (label : R → Label) (aim_in : R → List ℕ) (Fits : R 
         views =
             set s.views id (p' ∷ []);
       }
-  invariant-after homes' home' wide others' mine w' p' n here alone ruled' elsewhere actor' m'
+  invariant-after homes' home' one_per_handle others' mine w' p' n here alone ruled' elsewhere actor' m'
       reached'
       is' =
       let now = f.lying.now in
@@ -91,12 +90,12 @@ module _ {R : Type 0} (label : R → Label) (aim_in : R → List ℕ) (Fits : R 
       (p' ∷ []) in
       record {
         ws = set r.ws h w';
-        shown = ap (λ (z : List ℕ). set z h (packed_word w')) r.shown
+        packed_words = ap (λ (z : List ℕ). set z h (packed_word w')) r.packed_words
             ∙ sym (map-set packed_word r.ws h w');
-        homes = wide ∙ r.homes;
-        stands = subst (λ (z : List Known). StandsByRank c (set r.ws h w') z) (sym then)
+        homes = one_per_handle ∙ r.homes;
+        words_match_lists = subst (λ (z : List Known). StandsByRank c (set r.ws h w') z) (sym then)
             (all-handles-kept c r.ws front back h p p' w w'
-            (subst (λ (z : List Known). StandsByRank c r.ws z) now r.stands) f.word n here alone);
+            (subst (λ (z : List Known). StandsByRank c r.ws z) now r.words_match_lists) f.word n here alone);
         handle = λ i v home ei eh. subst
             (λ (z : List Known). HandleInvariant label aim_in Fits c z i v home) (sym then) (⊎_elim
             (λ (same, ev). subst
@@ -148,13 +147,13 @@ module _ {R : Type 0} (label : R → Label) (aim_in : R → List ℕ) (Fits : R 
     elsewhere = λ i ne. get_or-set_other p.seen h i (max (seen_rank p h) (word_rank w)) 0 ne;
     times_elsewhere = λ i ne t. refl;
     members_elsewhere = λ m j ne. j;
-    list = λ l. record { in_range = l.in_range; owned = l.owned; ordered = l.ordered };
+    list = λ l. record { in_range = l.in_range; in_owner_list = l.in_owner_list; ordered = l.ordered };
   }
 
   same-known : (i : ℕ) (v : Word) (aim : List ℕ) → KnownMatchesWord c i v aim p
       → KnownMatchesWord c i v aim seen-it
   same-known i v aim k =
-      record { out = k.out; lived = k.lived; aims = k.aims; submitted = k.submitted; held = k.held }
+      record { out = k.out; own_generation = k.own_generation; aims = k.aims; submitted = k.submitted; held = k.held }
 
   pub look-keeps : TableInvariant label aim_in Fits c
       record {
@@ -167,15 +166,17 @@ module _ {R : Type 0} (label : R → Label) (aim_in : R → List ℕ) (Fits : R 
       (handle-kept c front back h p seen-it w w before record {
         same_times = λ n. refl;
         members = λ m j x. j;
-        rank = refl;
-        generation = refl;
-        class = refl;
-        lawful = before.lawful;
-        last = before.last;
+        row = record {
+          rank = refl;
+          generation = refl;
+          class = refl;
+          lawful = before.lawful;
+          last = before.last;
+        };
         seen = subst (λ (z : ℕ). z ≤ word_rank w) (sym (seen-max w (le_refl (word_rank w))))
             (le_refl (word_rank w));
       })
-      (λ x i v e ho same. r.stands.one_out i h v w e f.word ho x same)
+      (λ x i v e ho same. r.words_match_lists.one_out i h v w e f.word ho x same)
       record {
         aim = ruled.aim;
         slot = ruled.slot;
@@ -206,11 +207,11 @@ module _ {R : Type 0} (label : R → Label) (aim_in : R → List ℕ) (Fits : R 
 
   pub word-loaded : WordLoaded h w p seen-it
   word-loaded = record {
-    moment = moment-here label aim_in Fits c s r id h p f;
+    moment = moment-here f;
     lawful = before.lawful;
     is =
         refl;
-    before = before-here label aim_in Fits c s r id h p f;
+    before = before-here f;
     now =
         seen-max w (le_refl (word_rank w));
   }

@@ -24,7 +24,7 @@ use Rattle.aio_word.proofs.ReplacedElement.{sum-in}
 use Rattle.aio_word.proofs.AppendKeepsHandle.{mark_by_parts, place-small, counted-in}
 use Rattle.aio_word.proofs.OwnMarksBoundWord.{has-counted, is-that, kind_place-small}
 use Rattle.aio_word.proofs.TotalsAgree.{sum_below, sum_below-same, buckets, sum-same}
-use Rattle.aio_handle.specs.Closing.{EndState, IsExecutedIn}
+use Rattle.aio_handle.specs.EndStates.{EndState, IsExecutedIn}
 use Rattle.aio_handle.proofs.SeatLists.{entry-at}
 use Rattle.aio_handle.proofs.SoleActorLife.{is-io, mark-is}
 use Rattle.aio_handle.proofs.ListsOfAllActors.{idle-place}
@@ -91,8 +91,8 @@ io-claimed c parts h w s free g = dite (dec_le c.start g)
     (less-none 4 ∙ sym
     (s.now kind.Claimed ∙ (ap (λ (n : ℕ). one_if (nat_lt 3 n)) free ∙ less-none 3))))))
     (λ ne. dite (dec_le g w.generation)
-    (λ le. s.over g lo (omega arith) (kind.Io Unended) ∙ sym
-    (s.over g lo (omega arith) kind.Claimed))
+    (λ le. s.past_marks g lo (omega arith) (kind.Io Unended) ∙ sym
+    (s.past_marks g lo (omega arith) kind.Claimed))
     (λ more. s.none g (inr (omega arith)) (kind.Io Unended) ∙ sym
     (s.none g (inr (omega arith)) kind.Claimed))))
     (λ low. s.none g (inl (omega arith)) (kind.Io Unended) ∙ sym
@@ -104,13 +104,13 @@ balance c parts e p i =
     let G : ℕ = sum_by (λ (m : Mark). m.generation) p.marks + 1 in
     let bound : (m : Mark) → IsIn m p.marks → (m.handle < handle_count c) × (m.generation < G) =
     λ m j. (
-      (e.stands.each_list p i).in_range m j,
+      (e.words_match_lists.each_list p i).in_range m j,
       (let le = sum-in (λ (x : Mark). x.generation) p.marks m j in omega arith),
     ) in
     let same : (h : ℕ) → h < handle_count c → (g : ℕ)
     → count_at_rank h (8 * g + 4) p.marks ≡ count_at_rank h (8 * g + 3) p.marks = λ h lt g.
-    let (w, word) = entry-at e.words h (let wide = e.stands.wide in omega arith) in
-    let s = e.stands.each_handle h w word in
+    let (w, word) = entry-at e.words h (let one_per_handle = e.words_match_lists.one_per_handle in omega arith) in
+    let s = e.words_match_lists.each_handle h w word in
     each-same (λ (q : Known). count_at_rank h (8 * g + 4) q.marks)
     (λ q. count_at_rank h (8 * g + 3) q.marks) parts
     (λ q j. (s.claimed q j g).0)
@@ -134,7 +134,7 @@ executed-in c words parts s p i t class j =
     let h : ℕ = t.handle in
     let g : ℕ = t.generation in
     let (w, word) = entry-at words h
-    (let wide = s.wide in let range =
+    (let one_per_handle = s.one_per_handle in let range =
     (s.each_list p i).in_range (make_mark t (kind.Local class)) j in omega arith) in
     let hs = s.each_handle h w word in
     let F : Known → ℕ = λ q. count_at_rank h (8 * g + 6) q.marks in
@@ -150,7 +150,7 @@ executed-in c words parts s p i t class j =
     (subst (λ (z : ℕ). mark_total (wait_ref h z) (kind.Local class) parts ≡ one_if
     (nat_lt 6 (word_place w))) (sym same) (hs.now (kind.Local class))) (omega arith))))
     (λ ne. dite (dec_le g w.generation)
-    (λ le. hs.over g lo (omega arith) (kind.Io class))
+    (λ le. hs.past_marks g lo (omega arith) (kind.Io class))
     (λ more. absurd
     (let none = hs.none g (inr (omega arith)) (kind.Local class) in omega arith))))
     (λ low. absurd
@@ -165,7 +165,7 @@ executed-in c words parts s p i t class j =
     let io : IsIn (mark_by_parts h g (kind.Io x)) q.it.marks =
     subst (λ (z : Mark). IsIn z q.it.marks)
     (mark-is m.it h g (kind.Io x) eh same-generation ek) m.within in
-    let ex : x ≡ class = hs.agreed q.it p q.within i g x class io j in (
+    let ex : x ≡ class = hs.class_of_local q.it p q.within i g x class io j in (
       q.it,
       q.within,
       subst (λ (z : Class). IsIn (mark_by_parts h g (kind.Io z)) q.it.marks) ex io,

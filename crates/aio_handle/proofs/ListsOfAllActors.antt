@@ -22,7 +22,7 @@ use Rattle.aio_word.proofs.AppendKeepsHandle.{place-small}
 use Rattle.aio_word.proofs.OwnMarksBoundWord.{has-counted}
 use Rattle.aio_word.proofs.TotalsAgree.{totals-agree}
 use Rattle.aio_word.specs.declared.State.{State as WordState}
-use Rattle.aio_handle.specs.Closing.{NoneHasOwnerTokens}
+use Rattle.aio_handle.specs.EndStates.{NoneHasOwnerTokens}
 use Rattle.aio_handle.specs.TableInvariant.{lists_joined}
 use Rattle.aio_handle.proofs.SeatLists.{entry-at, index-below}
 use Rattle.aio_handle.proofs.WordFromMarks.{idle-or-out}
@@ -37,7 +37,7 @@ use Rattle.aio_handle.specs.declared.record.Label.{Label}
 use Rattle.aio_handle.specs.TableInvariant.{TableInvariant}
 use Rattle.aio_handle.proofs.SeatSplitAndJoin.{all-here}
 use Rattle.aio_handle.specs.ContractViews.{ActorView, actor_known}
-use Rattle.aio_handle.specs.Closing.{EndState}
+use Rattle.aio_handle.specs.EndStates.{EndState}
 use Rattle.aio_word.specs.Totals.{incarnations, by_backends, by_runners}
 use Rattle.aio_handle.specs.ContractViews.{IsConfig}
 use Rattle.std.proofs.Math.Nat.{mul-le-mul}
@@ -96,7 +96,7 @@ pub all-idle : {R : Type 0} (label : R → Label) (aim_in : R → List ℕ) (Fit
     → h < handle_count c
     → owner c h < actor_count c → w.state ≡ Idle
 all-idle label aim_in Fits c s r quiet h w at range inside =
-    let hs = (stands-from-ranks c r.ws (lists_joined s.views) r.stands).each_handle h w at in
+    let hs = (stands-from-ranks c r.ws (lists_joined s.views) r.words_match_lists).each_handle h w at in
     let small = place-small w.state w.claimed in
     let D : Known → ℕ = λ p. count_at_rank h (8 * w.generation + 0) p.marks in
     let L : Known → ℕ = λ p. count_at_rank h (8 * w.generation + 7) p.marks in
@@ -162,26 +162,26 @@ end-state label aim_in Fits c id v xs ws slots e all config quiet (s, (r, atv), 
     let here : lists_joined s.views ≡ map actor_known xs =
     all-here label aim_in Fits c s id v r atv long ∙ e in
     let rk : StandsByRank c ws' (map actor_known xs) = subst
-    (λ (z : List Known). StandsByRank c ws' z) here r.stands in
+    (λ (z : List Known). StandsByRank c ws' z) here r.words_match_lists in
     let idle : (h : ℕ) (w : Word) → get_elem? ws' h ≡ some w → w.state ≡ Idle =
     λ h w at. let inside : h < handle_count c =
-    (let b = index-below ws' h w at in let d = r.stands.wide in omega arith) in
+    (let b = index-below ws' h w at in let d = r.words_match_lists.one_per_handle in omega arith) in
     all-idle label aim_in Fits c s r
     (λ p i. quiet p (subst (λ (z : List Known). IsIn p z) here i)) h w at inside
     (owner-inside c h inside) in
-    let balanced : incarnations c ws' ≡ by_backends c (map actor_known xs) + by_runners c
+    let totals_agree : incarnations c ws' ≡ by_backends c (map actor_known xs) + by_runners c
     (map actor_known xs) = totals-agree c ws' (map actor_known xs) rk
     (λ h w at. idle-place w (idle h w at)) in
     let most : incarnations c ws' ≤ length ws' * 2 ^ 58 = sum-small c ws'
     (λ h w at. (rk.each_handle h w at).lawful.bound) in
-    let wide : length ws' ≡ handle_count c = rk.wide in
+    let one_per_handle : length ws' ≡ handle_count c = rk.one_per_handle in
     let few : handle_count c ≤ 1024 = few-handles c config in (
       record {
         words = ws';
-        stands = stands-from-ranks c ws' (map actor_known xs) rk;
+        words_match_lists = stands-from-ranks c ws' (map actor_known xs) rk;
         idle = idle;
-        balanced =
-            balanced;
+        totals_agree =
+            totals_agree;
       },
       omega arith,
     )

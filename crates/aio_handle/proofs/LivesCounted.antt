@@ -17,8 +17,8 @@ use Rattle.aio_word.specs.Words.{last_generation}
 use Rattle.aio_word.specs.Events.{wait_ref}
 use Rattle.aio_handle.specs.declared.actor.AcquireRefusal.{AcquireRefusal}
 use Rattle.aio_handle.specs.declared.actor.AcquireRefusal.TheVariants as refusal
-use Rattle.aio_handle.specs.Closing.{HasNoOwnerTokens}
-use Rattle.aio_handle.specs.Free.{IsRoom, IsCause}
+use Rattle.aio_handle.specs.EndStates.{HasNoOwnerTokens}
+use Rattle.aio_handle.specs.FreeHandles.{IsRoom, IsCause}
 use Rattle.aio_handle.specs.CallEvents.{generation_of}
 
 pub other-life : (i h : ℕ) (k : Kind) → i ≢ h → one_if ((h == i) && (kind_place k == 7)) ≡ 0
@@ -71,12 +71,12 @@ pub backend-is-served : (c : Config) (p q : Known) (room ended : ℕ) (why : Acq
     → p.number < c.backends → IsRoom c p room → ended < room → q.number ≡ p.number
     → ((h : ℕ) → lives_ended h q.marks ≤ lives_ended h p.marks + ended) → HasNoOwnerTokens q
     → IsCause c q why → ⊥
-backend-is-served c p q room ended refusal.OneIsOut backend r lt same lived rests out =
+backend-is-served c p q room ended refusal.OneIsOut backend r lt same own_generation rests out =
     let none = rests.0 in let some = out.1 in absurd (cc)
-backend-is-served c p q room ended refusal.NoneFree backend r lt same lived rests none =
+backend-is-served c p q room ended refusal.NoneFree backend r lt same own_generation rests none =
     let (h, range, own, is) = r.exact backend in
-    let few = lived h in
+    let few = own_generation h in
     ⊎_elim (λ last. omega arith)
     (λ amid.
-    let over = rests.1 (wait_ref h (generation_of c q h)) in
+    let past_marks = rests.1 (wait_ref h (generation_of c q h)) in
     let (defined, kept) = amid in omega arith) (none.1 h range (same ∙ own))

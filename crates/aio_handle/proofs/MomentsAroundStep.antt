@@ -28,7 +28,7 @@ use Rattle.aio_handle.specs.KnownChanges.{known_after}
 use Rattle.aio_handle.proofs.SeatLists.{index-below}
 use Rattle.aio_handle.proofs.StateAtStep.{StepFinds, stood-here, numbered-here, moment-now}
 use Rattle.aio_handle.proofs.InvariantAfterStep.{same-length}
-use Rattle.aio_handle.proofs.MarkEffects.{ListEffect}
+use Rattle.aio_handle.proofs.EventEffects.{ListEffect}
 
 -- a step of the machine from a moment of an actor to its next one
 pub record Passes (c : Config) (h : ℕ) (w w' : Word) (e : Event) (p q : Known) : Type 0 where
@@ -38,10 +38,9 @@ pub record Passes (c : Config) (h : ℕ) (w w' : Word) (e : Event) (p q : Known)
       record { actor = p.number; handle = h; generation = w.generation; step = e }
       ≡ Some then.machine
 
-module _ {R : Type 0} (label : R → Label) (aim_in : R → List ℕ) (Fits : R → Type 0) (c : Config)
-    (s : State (Option R) (List Known)) (r : TableInvariant label aim_in Fits c s) (id h : ℕ)
-    (p : Known)
-    (f : StepFinds label aim_in Fits c s r id h p) (e : Event) (w' : Word) (a : List ℕ) where
+module _ {R : Type 0} {label : R → Label} {aim_in : R → List ℕ} {Fits : R → Type 0} {c : Config}
+    {s : State (Option R) (List Known)} {r : TableInvariant label aim_in Fits c s} {id h : ℕ}
+    {p : Known} (f : StepFinds label aim_in Fits c s r id h p) (e : Event) (w' : Word) (a : List ℕ) where
   abbrev front : List Known
   front = f.lying.front
 
@@ -64,7 +63,7 @@ module _ {R : Type 0} (label : R → Label) (aim_in : R → List ℕ) (Fits : R 
         × MachineHasParts c m' (set r.ws h w') (front ++ p1 ∷ back)
     along = machine-keeps-parts c r.machine r.ws front back p p1 happened w w'
         (subst (λ (z : List Known). MachineHasParts c r.machine r.ws z) f.lying.now r.is)
-        (numbered-here label aim_in Fits c s r id h p f)
+        (numbered-here f)
         refl refl refl f.word refl allowed
         (ap (λ (z : List Word). may_hand_out c p.number z e) r.is.words ∙ free) row
 
@@ -73,7 +72,7 @@ module _ {R : Type 0} (label : R → Label) (aim_in : R → List ℕ) (Fits : R 
 
     stands-now : IsLawfulMachine c along.0
     stands-now =
-        let t = stood-here label aim_in Fits c s r id h p f in
+        let t = stood-here f in
         let lo = t.begun in let hi = t.lawful.bound in
         let small : c.start < 2 ^ 58 = omega arith in
         reachable-is-lawful c small along.0 reached-now
@@ -83,10 +82,10 @@ module _ {R : Type 0} (label : R → Label) (aim_in : R → List ℕ) (Fits : R 
         ∙ set_here r.ws h w' (index-below r.ws h w f.word)
 
     -- no other handle of the owner is handed out
-    alone : w'.state ≡ HandedOut → (i : ℕ) (v : Word) → get_elem? r.ws i ≡ some v
+    pub alone : w'.state ≡ HandedOut → (i : ℕ) (v : Word) → get_elem? r.ws i ≡ some v
         → v.state ≡ HandedOut → owner c i ≡ owner c h → i ≡ h
     alone out i v at ho same = dite (ℕ_discrete i h) (λ x. x)
-        (λ ne. stands-now.stands.one_out i h v w'
+        (λ ne. stands-now.words_match_lists.one_out i h v w'
         (ap (λ (z : List Word). get_elem? z i) along.2.words ∙ (set_else r.ws h i w' ne ∙ at))
         word-now ho out same)
 
@@ -95,18 +94,18 @@ module _ {R : Type 0} (label : R → Label) (aim_in : R → List ℕ) (Fits : R 
       stood-then = subst (λ (z : List Word). Stands c z (front ++ p1 ∷ back)) (sym along.2.words)
           (stands-from-ranks c (set r.ws h w') (front ++ p1 ∷ back)
           (all-handles-kept c r.ws front back h p p1 w w'
-          (subst (λ (z : List Known). StandsByRank c r.ws z) f.lying.now r.stands) f.word
-          g.notes g.stands alone))
+          (subst (λ (z : List Known). StandsByRank c r.ws z) f.lying.now r.words_match_lists) f.word
+          g.notes g.words_match_lists alone))
 
       pub passes : Passes c h w w' e p p1
       passes = record {
-        moment = moment-now label aim_in Fits c s r id h p f;
+        moment = moment-now f;
         then = record {
           machine = along.0;
           parts = front ++ p1 ∷ back;
           reached = reached-now;
           is = record { words = refl; lists = along.2.lists; all = along.2.all };
-          stands = stood-then;
+          words_match_lists = stood-then;
           here = in-here front back p1;
           all = same-length front back p p1 ∙ (sym (ap length f.lying.now) ∙ r.all);
           word = at-get along.0.words h w' word-now;

@@ -23,8 +23,8 @@ use Rattle.aio_word.specs.StandsByRank.{is_due, StandsForHandleByRank, StandsByR
 use Rattle.aio_handle.specs.declared.record.Label.{Label}
 use Rattle.aio_handle.specs.ContractViews.{TableView, ActorView, AreNewActors, IsConfig}
 use Rattle.std.proofs.Math.Nat.{mul-lt-mul_of_pos_left}
-use Rattle.aio_handle.specs.declared.own.OwnHandle.{OwnHandle}
-use Rattle.aio_handle.specs.Own.{own_at, no_handle}
+use Rattle.aio_handle.specs.declared.own_handles.OwnHandle.{OwnHandle}
+use Rattle.aio_handle.specs.OwnHandles.{own_at, no_handle}
 use Rattle.aio_handle.specs.OwnHandleCache.{handle_at, MatchesOwnHandles}
 use Rattle.aio_handle.specs.TableInvariant.{initial_known, initial_known_from, initial_lists}
 use Rattle.aio_handle.specs.TableInvariant.{KnownMatchesWord, HandleInvariant, IsLawfulActor}
@@ -81,9 +81,9 @@ module _ {R : Type 0} (label : R → Label) (aim_in : R → List ℕ) (Fits : R 
         ≤ count_at_rank h (8 * g + 3) z.marks)
         × (count_at_rank h (8 * g + 5) z.marks ≤ count_at_rank h (8 * g + 3) z.marks)) r.is
         (le_refl 0, le_refl 0);
-    classed = λ p i m class j _ _ _. let r = initial-in c 0 (actor_count c) p i in
+    class_of_io = λ p i m class j _ _ _. let r = initial-in c 0 (actor_count c) p i in
         absurd (subst (λ (z : Known). IsIn m z.marks) (sym r.is) j);
-    agreed = λ p q i i' m n one other j _ _ _ _ _ _. let r = initial-in c 0 (actor_count c) p i in
+    class_of_local = λ p q i i' m n one other j _ _ _ _ _ _. let r = initial-in c 0 (actor_count c) p i in
         absurd (subst (λ (z : Known). IsIn m z.marks) (sym r.is) j);
     seen = λ p i. let r = initial-in c 0 (actor_count c) p i in
         subst (λ (z : Known). seen_rank z h ≤ 8 * c.start + 0) r.is
@@ -95,15 +95,15 @@ module _ {R : Type 0} (label : R → Label) (aim_in : R → List ℕ) (Fits : R 
       (initial_lists c))
   new-ruled = record {
     ws = replicate (handle_count c) (first c);
-    shown = sym (map-replicate packed_word (handle_count c) (first c) ∙ ap
+    packed_words = sym (map-replicate packed_word (handle_count c) (first c) ∙ ap
         (λ (z : ℕ). replicate (handle_count c) z)
         (let e : packed_word (first c) ≡ 64 * c.start = omega arith in e));
     homes = ap length (map-replicate some (handle_count c) None) ∙ length-replicate (handle_count c)
         (some None);
-    stands = subst (λ (z : List Known). StandsByRank c (replicate (handle_count c) (first c)) z)
+    words_match_lists = subst (λ (z : List Known). StandsByRank c (replicate (handle_count c) (first c)) z)
         (sym (append-nil all)) record {
-          wide = length-replicate (handle_count c) (first c);
-          numbered = λ n. initial-numbers c n 0 (actor_count c);
+          one_per_handle = length-replicate (handle_count c) (first c);
+          distinct_numbers = λ n. initial-numbers c n 0 (actor_count c);
           each_handle = λ h w e. handle-new h w (at-replicate (handle_count c) h (first c) w e);
           each_list = λ p i. let r = initial-in c 0 (actor_count c) p i in
               subst (λ (z : Known). IsLawfulList c z) r.is (list-new c r.number);
@@ -125,7 +125,7 @@ module _ {R : Type 0} (label : R → Label) (aim_in : R → List ℕ) (Fits : R 
                   (λ x. absurd (let y : Idle ≡ HandedOut = x.0 in cc)),
                   (λ x. absurd (none-some (wait_ref h g) x)),
                 );
-                lived = λ _. let z : lives_ended h [] ≡ 0 = refl in omega arith;
+                own_generation = λ _. let z : lives_ended h [] ≡ 0 = refl in omega arith;
                 aims = λ x j. absurd j;
                 submitted = λ _ three. absurd (omega arith);
                 held = λ _ more. absurd

@@ -11,7 +11,7 @@ use Rattle.aio_word.specs.declared.Word.{Word}
 use Rattle.aio_word.specs.declared.Known.{Known}
 use Rattle.aio_word.specs.Stands.{IsIn, seen_rank}
 use Rattle.aio_word.specs.Tokens.{MarksOnceAndSeen}
-use Rattle.aio_handle.specs.Front.{insert_second, moved_to_front}
+use Rattle.aio_handle.specs.MoveToFront.{insert_second, moved_to_front}
 use Rattle.aio_handle.specs.CallEvents.{EventMade, WordLoaded}
 use Rattle.aio_handle.specs.Seats.{SlotIsOut, IsSeated, seat_known}
 use Rattle.aio_handle.proofs.TokensAfterEvent.{marks-once-on, marks-once-looked, slot-out-elsewhere}
@@ -112,13 +112,14 @@ rest-was z [] i = i
 rest-was z (c ∷ cs) i = inr i
 
 -- an event whose actor's seat has these slots afterwards
-pub seated : {R : Type 0} (c : Config) (n : ℕ) (m m' : Me (Option R) (List Known)) (e : Event)
-    (h : ℕ) (w w' : Word) (aim : List ℕ) (p q : Known) → IsSeated c n m → m.0 ≡ p ∷ []
+seated : {R : Type 0} {c : Config} {n : ℕ} {m m' : Me (Option R) (List Known)} {e : Event}
+    {h : ℕ} {w w' : Word} {aim : List ℕ} {p q : Known} → IsSeated c n m → m.0 ≡ p ∷ []
     → m'.0 ≡ q ∷ [] → EventMade e h w w' aim p q
     → (SlotIsOut q h → IsIn (h, None) m'.1)
     → ((i : ℕ) → i ≢ h → IsIn (i, None) m.1 → IsIn (i, None) m'.1)
     → ((i : ℕ) (x : Option R) → IsIn (i, x) m'.1 → x ≡ None) → IsSeated c n m'
-seated {R} c n m m' e h w w' aim p q s mine seat md here else empty =
+seated {m = m} {m' = m'} {e = e} {h = h} {w = w} {w' = w'} {aim = aim} {p = p} {q = q} s mine seat
+    md here else empty =
     let was : seat_known m.0 ≡ p = ap seat_known mine in
     let now : seat_known m'.0 ≡ q = ap seat_known seat in record {
       one = seat ∙ ap (λ (z : List Known). seat_known z ∷ []) (sym seat);
@@ -126,66 +127,61 @@ seated {R} c n m m' e h w w' aim p q s mine seat md here else empty =
           (sym (ap (λ (z : Known). z.number) was) ∙ s.number);
       config = ap (λ (z : Known). z.config) (now ∙ md.is) ∙
           (sym (ap (λ (z : Known). z.config) was) ∙ s.config);
-      keeps = subst (λ (z : Known). MarksOnceAndSeen (seen_rank z) z.marks) (sym now)
+      marks_once = subst (λ (z : Known). MarksOnceAndSeen (seen_rank z) z.marks) (sym now)
           (marks-once-on e h w w' aim p q md
-          (subst (λ (z : Known). MarksOnceAndSeen (seen_rank z) z.marks) was s.keeps));
-      carried = λ i away'. let away = subst (λ (z : Known). SlotIsOut z i) now away' in
+          (subst (λ (z : Known). MarksOnceAndSeen (seen_rank z) z.marks) was s.marks_once));
+      out_slots = λ i away'. let away = subst (λ (z : Known). SlotIsOut z i) now away' in
           dite (ℕ_discrete i h)
           (λ x. subst (λ (z : ℕ). IsIn (z, None) m'.1) (sym x)
           (here (subst (λ (z : ℕ). SlotIsOut q z) x away)))
           (λ ne. else i ne
-          (s.carried i (subst (λ (z : Known). SlotIsOut z i) (sym was)
+          (s.out_slots i (subst (λ (z : Known). SlotIsOut z i) (sym was)
           (slot-out-elsewhere e h w w' aim p q i md.is ne away))));
       empty = empty;
     }
 
--- the slots stayed
-pub seated-same : {R : Type 0} (c : Config) (n : ℕ) (m m' : Me (Option R) (List Known)) (e : Event)
-    (h : ℕ) (w w' : Word) (aim : List ℕ) (p q : Known) → IsSeated c n m → m.0 ≡ p ∷ []
-    → m' ≡ (q ∷ [], m.1) → EventMade e h w w' aim p q → SlotIsOut (seat_known m.0) h
-    → IsSeated c n m'
-seated-same {R} c n m m' e h w w' aim p q s mine then md away =
-    let slots : m'.1 ≡ m.1 = ap (λ (z : Me (Option R) (List Known)). z.1) then in
-    seated c n m m' e h w w' aim p q s mine (ap (λ (z : Me (Option R) (List Known)). z.0) then) md
-    (λ _. subst (λ (z : List (ℕ × Option R)). IsIn (h, None) z) (sym slots) (s.carried h away))
-    (λ i ne j. subst (λ (z : List (ℕ × Option R)). IsIn (i, None) z) (sym slots) j)
-    (λ i x j. s.empty i x (subst (λ (z : List (ℕ × Option R)). IsIn (i, x) z) slots j))
+module _ {R : Type 0} {c : Config} {n : ℕ} {m m' : Me (Option R) (List Known)} {e : Event}
+    {h : ℕ} {w w' : Word} {aim : List ℕ} {p q : Known} (s : IsSeated c n m) (mine : m.0 ≡ p ∷ [])
+    (md : EventMade e h w w' aim p q) where
+  -- the slots stayed
+  pub seated-same : m' ≡ (q ∷ [], m.1) → SlotIsOut (seat_known m.0) h → IsSeated c n m'
+  seated-same then away =
+      let slots : m'.1 ≡ m.1 = ap (λ (z : Me (Option R) (List Known)). z.1) then in
+      seated s mine (ap (λ (z : Me (Option R) (List Known)). z.0) then) md
+      (λ _. subst (λ (z : List (ℕ × Option R)). IsIn (h, None) z) (sym slots) (s.out_slots h away))
+      (λ i ne j. subst (λ (z : List (ℕ × Option R)). IsIn (i, None) z) (sym slots) j)
+      (λ i x j. s.empty i x (subst (λ (z : List (ℕ × Option R)). IsIn (i, x) z) slots j))
 
--- an empty slot came first
-pub seated-more : {R : Type 0} (c : Config) (n : ℕ) (m m' : Me (Option R) (List Known)) (e : Event)
-    (h : ℕ) (w w' : Word) (aim : List ℕ) (p q : Known) → IsSeated c n m → m.0 ≡ p ∷ []
-    → m' ≡ (q ∷ [], (h, None) ∷ m.1) → EventMade e h w w' aim p q
-    → IsSeated c n m'
-seated-more {R} c n m m' e h w w' aim p q s mine then md =
-    let slots : m'.1 ≡ (h, None) ∷ m.1 = ap (λ (z : Me (Option R) (List Known)). z.1) then in
-    seated c n m m' e h w w' aim p q s mine (ap (λ (z : Me (Option R) (List Known)). z.0) then) md
-    (λ _. subst (λ (z : List (ℕ × Option R)). IsIn (h, None) z) (sym slots) (inl refl))
-    (λ i ne j. subst (λ (z : List (ℕ × Option R)). IsIn (i, None) z) (sym slots) (inr j))
-    (λ i x j. ⊎_elim (λ a. sym (ap (λ (z : ℕ × Option R). z.1) a)) (λ t. s.empty i x t)
-    (subst (λ (z : List (ℕ × Option R)). IsIn (i, x) z) slots j))
+  -- an empty slot came first
+  pub seated-more : m' ≡ (q ∷ [], (h, None) ∷ m.1) → IsSeated c n m'
+  seated-more then =
+      let slots : m'.1 ≡ (h, None) ∷ m.1 = ap (λ (z : Me (Option R) (List Known)). z.1) then in
+      seated s mine (ap (λ (z : Me (Option R) (List Known)). z.0) then) md
+      (λ _. subst (λ (z : List (ℕ × Option R)). IsIn (h, None) z) (sym slots) (inl refl))
+      (λ i ne j. subst (λ (z : List (ℕ × Option R)). IsIn (i, None) z) (sym slots) (inr j))
+      (λ i x j. ⊎_elim (λ a. sym (ap (λ (z : ℕ × Option R). z.1) a)) (λ t. s.empty i x t)
+      (subst (λ (z : List (ℕ × Option R)). IsIn (i, x) z) slots j))
 
--- the slot went home
-pub seated-less : {R : Type 0} (c : Config) (n : ℕ) (m m' : Me (Option R) (List Known)) (e : Event)
-    (h : ℕ) (w w' : Word) (aim : List ℕ) (p q : Known) → IsSeated c n m → m.0 ≡ p ∷ []
-    → m' ≡ (q ∷ [], rest (moved_to_front h m.1)) → EventMade e h w w' aim p q
-    → SlotIsOut (seat_known m.0) h → (SlotIsOut q h → ⊥) → IsSeated c n m'
-seated-less {R} c n m m' e h w w' aim p q s mine then md away gone =
-    let slots : m'.1 ≡ rest (moved_to_front h m.1) = ap
-    (λ (z : Me (Option R) (List Known)). z.1) then in
-    let b = moved_to_front-first h None m.1 (s.carried h away) in
-    seated c n m m' e h w w' aim p q s mine (ap (λ (z : Me (Option R) (List Known)). z.0) then) md
-    (λ a. absurd (gone a))
-    (λ i ne j. subst (λ (z : List (ℕ × Option R)). IsIn (i, None) z) (sym slots)
-    (rest-others h i b.0 None m.1 b.1 ne j))
-    (λ i x j. s.empty i x
-    (moved_to_front-was h (i, x) m.1
-    (rest-was (i, x) (moved_to_front h m.1)
-    (subst (λ (z : List (ℕ × Option R)). IsIn (i, x) z) slots j))))
+  -- the slot went home
+  pub seated-less : m' ≡ (q ∷ [], rest (moved_to_front h m.1)) → SlotIsOut (seat_known m.0) h
+      → (SlotIsOut q h → ⊥) → IsSeated c n m'
+  seated-less then away gone =
+      let slots : m'.1 ≡ rest (moved_to_front h m.1) = ap
+      (λ (z : Me (Option R) (List Known)). z.1) then in
+      let b = moved_to_front-first h None m.1 (s.out_slots h away) in
+      seated s mine (ap (λ (z : Me (Option R) (List Known)). z.0) then) md
+      (λ a. absurd (gone a))
+      (λ i ne j. subst (λ (z : List (ℕ × Option R)). IsIn (i, None) z) (sym slots)
+      (rest-others h i b.0 None m.1 b.1 ne j))
+      (λ i x j. s.empty i x
+      (moved_to_front-was h (i, x) m.1
+      (rest-was (i, x) (moved_to_front h m.1)
+      (subst (λ (z : List (ℕ × Option R)). IsIn (i, x) z) slots j))))
 
-pub seated-looked : {R : Type 0} (c : Config) (n h : ℕ) (w : Word)
-    (m m' : Me (Option R) (List Known)) (p q : Known) → IsSeated c n m → m.0 ≡ p ∷ []
+pub seated-looked : {R : Type 0} {c : Config} {n h : ℕ} {w : Word}
+    {m m' : Me (Option R) (List Known)} {p q : Known} → IsSeated c n m → m.0 ≡ p ∷ []
     → m' ≡ (q ∷ [], m.1) → WordLoaded h w p q → IsSeated c n m'
-seated-looked {R} c n h w m m' p q s mine then lk =
+seated-looked {R} {h = h} {w = w} {m = m} {m' = m'} {p = p} {q = q} s mine then lk =
     let was : seat_known m.0 ≡ p = ap seat_known mine in
     let seat : m'.0 ≡ q ∷ [] = ap (λ (z : Me (Option R) (List Known)). z.0) then in
     let slots : m'.1 ≡ m.1 = ap (λ (z : Me (Option R) (List Known)). z.1) then in
@@ -195,34 +191,22 @@ seated-looked {R} c n h w m m' p q s mine then lk =
           (sym (ap (λ (z : Known). z.number) was) ∙ s.number);
       config = ap (λ (z : Known). z.config) (now ∙ lk.is) ∙
           (sym (ap (λ (z : Known). z.config) was) ∙ s.config);
-      keeps = subst (λ (z : Known). MarksOnceAndSeen (seen_rank z) z.marks) (sym now)
+      marks_once = subst (λ (z : Known). MarksOnceAndSeen (seen_rank z) z.marks) (sym now)
           (marks-once-looked h w p q lk
-          (subst (λ (z : Known). MarksOnceAndSeen (seen_rank z) z.marks) was s.keeps));
-      carried = λ i away'. subst (λ (z : List (ℕ × Option R)). IsIn (i, None) z) (sym slots)
-          (s.carried i (subst (λ (z : Known). SlotIsOut z i) (sym was)
+          (subst (λ (z : Known). MarksOnceAndSeen (seen_rank z) z.marks) was s.marks_once));
+      out_slots = λ i away'. subst (λ (z : List (ℕ × Option R)). IsIn (i, None) z) (sym slots)
+          (s.out_slots i (subst (λ (z : Known). SlotIsOut z i) (sym was)
           (slot-out-looked h w i p (subst (λ (z : Known). SlotIsOut z i) (now ∙ lk.is) away'))));
       empty = λ i x j. s.empty i x (subst (λ (z : List (ℕ × Option R)). IsIn (i, x) z) slots j);
     }
 
 -- an empty slot of the handle comes first when it is moved to the front
-pub moved_to_front-none : {R : Type 0} (c : Config) (n h : ℕ) (m : Me (Option R) (List Known))
+pub moved_to_front-none : {R : Type 0} {c : Config} {n h : ℕ} {m : Me (Option R) (List Known)}
     → IsSeated c n m → SlotIsOut (seat_known m.0) h
     → moved_to_front h m.1 ≡ (h, None) ∷ rest (moved_to_front h m.1)
-moved_to_front-none {R} c n h m s away =
-    let b = moved_to_front-first h None m.1 (s.carried h away) in
+moved_to_front-none {R} {h = h} {m = m} s away =
+    let b = moved_to_front-first h None m.1 (s.out_slots h away) in
     let none' : b.0 ≡ None = s.empty h b.0
     (moved_to_front-was h (h, b.0) m.1
     (subst (λ (z : List (ℕ × Option R)). IsIn (h, b.0) z) (sym b.1) (inl refl))) in
     b.1 ∙ ap (λ (z : Option R). (h, z) ∷ rest (moved_to_front h m.1)) none'
-
--- what an event without a class tells, at the generation of the word that was written
-pub event-of-step : {R : Type 0} (e : Event) (from to : ℕ → Word) (aim : List ℕ) (h g g' new : ℕ)
-    (m m' : Me (Option R) (List Known)) (p q : Known) (slots : List (ℕ × Option R)) → m.0 ≡ p ∷ []
-    → m' ≡ (q ∷ [], slots) → EventMade e h (from g') (to g') aim p q → g' ≡ g
-    → EventMade e h (from g) (to g) aim (seat_known m.0) (seat_known m'.0)
-event-of-step {R} e from to aim h g g' new m m' p q slots mine then md same =
-    subst (λ (z : Known). EventMade e h (from g) (to g) aim z (seat_known m'.0))
-    (sym (ap seat_known mine))
-    (subst (λ (z : Known). EventMade e h (from g) (to g) aim p z)
-    (sym (ap seat_known (ap (λ (z : Me (Option R) (List Known)). z.0) then)))
-    (subst (λ (z : ℕ). EventMade e h (from z) (to z) aim p q) same md))

@@ -31,7 +31,7 @@ use Rattle.aio_word.proofs.RanksAgree.{stands-from-ranks}
 use Rattle.aio_handle.specs.declared.record.Label.{Label}
 use Rattle.aio_handle.specs.TableInvariant.{TableInvariant}
 use Rattle.aio_handle.specs.Seats.{seat_known, rest_of, front_of}
-use Rattle.aio_handle.specs.Together.{StandTogether, Compares}
+use Rattle.aio_handle.specs.ActorPairs.{StandTogether, Compares}
 
 -- where the lists of one seat lie among all
 pub record ListIsAt {A : Type 0} (vs : List (List A)) (id : ℕ) (v : List A) : Type 0 where
@@ -90,24 +90,24 @@ module _ {R : Type 0} (label : R → Label) (aim_in : R → List ℕ) (Fits : R 
         parts = lists_joined s.views;
         reached = r.reached;
         is = record { words = refl; lists = r.is.lists; all = r.is.all };
-        stands = subst (λ (z : List Word). Stands c z (lists_joined s.views)) (sym r.is.words)
-            (stands-from-ranks c r.ws (lists_joined s.views) r.stands);
+        words_match_lists = subst (λ (z : List Word). Stands c z (lists_joined s.views)) (sym r.is.words)
+            (stands-from-ranks c r.ws (lists_joined s.views) r.words_match_lists);
         all = r.all;
         one = one;
         other = in-all q (in-here l.front (p ∷ l.back) q);
         apart = other-number l.front (p ∷ l.back) q p
             (subst (λ (z : List Known). sum_by
             (λ (y : Known). one_if (y.number == q.number)) z ≤ 1) l.now
-            (r.stands.numbered q.number)) (in-here l.front l.back p);
+            (r.words_match_lists.distinct_numbers q.number)) (in-here l.front l.back p);
       }
 
   pub compares : (slots id : ℕ) (me : Me (Option R) (List Known)) → 0 < handle_count c
       → Allows (TableInvariant label aim_in Fits c) slots id me 0 (λ n. n)
       (Compares (step slots 0 0 0 none) me)
-  compares slots id me some-handle s r wide at' _ =
-      let (w, word) = entry-at r.ws 0 (let x = r.stands.wide in omega arith) in
+  compares slots id me some-handle s r one_per_handle at' _ =
+      let (w, word) = entry-at r.ws 0 (let x = r.words_match_lists.one_per_handle in omega arith) in
       let first : get_elem? s.words 0 ≡ some (packed_word w) =
-      ap (λ (z : List ℕ). get_elem? z 0) r.shown ∙ at_map packed_word r.ws 0 w word in
+      ap (λ (z : List ℕ). get_elem? z 0) r.packed_words ∙ at_map packed_word r.ws 0 w word in
       let words : set s.words 0 (packed_word w) ≡ s.words =
       set_again s.words 0 (packed_word w) first in
       let views : set s.views id me.0 ≡ s.views = set_again s.views id me.0 at' in (
@@ -173,7 +173,7 @@ module _ (c : Config) (p q : Known) (t : WaitRef) (s : StandTogether c p q) wher
   pub not-both : (k : Kind) → 0 < mark_count t k p.marks → 0 < mark_count t k q.marks → ⊥
   not-both k lt lt' = s.apart (ap (λ (z : Known). z.number)
       (both-one (λ (z : Known). mark_count t k z.marks) s.parts p q
-      (mark-once c s.machine.words s.parts s.stands t k) lt lt' s.one s.other))
+      (mark-once c s.machine.words s.parts s.words_match_lists t k) lt lt' s.one s.other))
 
   pub not-other : (k : Kind) → 0 < mark_count t k p.marks → mark_count t k q.marks ≡ 0
   not-other k lt = dite (ℕ_discrete (mark_count t k q.marks) 0) (λ e. e)
@@ -186,15 +186,15 @@ module _ (c : Config) (p q : Known) (t : WaitRef) (s : StandTogether c p q) wher
       let some-claim : mark_count t kind.Claimed p.marks ≤ mark_total t kind.Claimed s.parts =
       sum-in (λ (z : Known). mark_count t kind.Claimed z.marks) s.parts p s.one in
       let earlier : mark_total t kind.Claimed s.parts ≤ mark_total t kind.Submitted s.parts =
-      earlier-mark-total c s.machine.words s.parts s.stands t kind.Submitted kind.Claimed
+      earlier-mark-total c s.machine.words s.parts s.words_match_lists t kind.Submitted kind.Claimed
       (omega arith) in
       let who = has-counted f s.parts (omega arith) in
       let number : who.it.number ≡ q.number =
-      own-mark c who.it t.handle t.generation 2 (s.stands.each_list who.it who.within)
+      own-mark c who.it t.handle t.generation 2 (s.words_match_lists.each_list who.it who.within)
       (omega arith) (inl (omega arith)) who.more ∙ sym own in
       let n : Known → ℕ = λ z. one_if (z.number == q.number) in
       let mine : n q ≡ 1 = number-itself q.number in
       let its : n who.it ≡ 1 = ap (λ (z : ℕ). one_if (z == q.number)) number ∙ mine in
-      let same : who.it ≡ q = both-one n s.parts who.it q (s.stands.numbered q.number)
+      let same : who.it ≡ q = both-one n s.parts who.it q (s.words_match_lists.distinct_numbers q.number)
       (omega arith) (omega arith) who.within s.other in
       subst (λ (z : Known). 0 < mark_count t kind.Submitted z.marks) same who.more

@@ -33,17 +33,17 @@ handle-again c xs ys h w r s = record {
   last = s.last;
   counted = λ n. r.sums (λ p. count_at_rank h n p.marks) ∙ s.counted n;
   claimed = λ p i. s.claimed p (r.members p i);
-  classed = λ p i. s.classed p (r.members p i);
-  agreed = λ p q i j. s.agreed p q (r.members p i) (r.members q j);
+  class_of_io = λ p i. s.class_of_io p (r.members p i);
+  class_of_local = λ p q i j. s.class_of_local p q (r.members p i) (r.members q j);
   seen = λ p i. s.seen p (r.members p i);
 }
 
 stands-again : (c : Config) (ws : List Word) (xs ys : List Known) → Rearranged xs ys
     → StandsByRank c ws xs → StandsByRank c ws ys
 stands-again c ws xs ys r s = record {
-  wide = s.wide;
-  numbered = λ n. subst (λ (z : ℕ). z ≤ 1) (sym (r.sums (λ p. one_if (p.number == n))))
-      (s.numbered n);
+  one_per_handle = s.one_per_handle;
+  distinct_numbers = λ n. subst (λ (z : ℕ). z ≤ 1) (sym (r.sums (λ p. one_if (p.number == n))))
+      (s.distinct_numbers n);
   each_handle = λ h w e. handle-again c xs ys h w r (s.each_handle h w e);
   each_list = λ p i. s.each_list p (r.members p i);
   one_out = s.one_out;
@@ -62,9 +62,9 @@ module _ {R : Type 0} (label : R → Label) (aim_in : R → List ℕ) (Fits : R 
       }
   ruled-again s views' m r = record {
     ws = r.ws;
-    shown = r.shown;
+    packed_words = r.packed_words;
     homes = r.homes;
-    stands = stands-again c r.ws (lists_joined s.views) (lists_joined views') m r.stands;
+    words_match_lists = stands-again c r.ws (lists_joined s.views) (lists_joined views') m r.words_match_lists;
     handle = λ h w home ew eh. let t = r.handle h w home ew eh in
         record { aim = t.aim; slot = t.slot; known = λ p i. t.known p (m.members p i) };
     actor = λ p i. r.actor p (m.members p i);
@@ -277,7 +277,7 @@ module _ {R : Type 0} (label : R → Label) (aim_in : R → List ℕ) (Fits : R 
 
   pub empty-seat-enters : (slots i : ℕ) → Enters (TableInvariant label aim_in Fits c) slots i
       (λ n v. v ≡ [])
-  empty-seat-enters slots i s r wide _ =
+  empty-seat-enters slots i s r one_per_handle _ =
       ([], ruled-again label aim_in Fits c s (s.views ++ [] ∷ []) (added s.views) r, refl)
 
   -- the seat that carries as many lists as there are actors carries all

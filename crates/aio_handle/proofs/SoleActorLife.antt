@@ -40,7 +40,7 @@ pub one-list : (c : Config) (p : Known) (h : ℕ) (class : Class) (g : ℕ)
     → AtMoment c p h (completed_word class g) → actor_count c ≡ 1 → (k : Kind)
     → mark_count (wait_ref h g) k p.marks ≡ one_if (nat_lt (kind_place k) 6)
 one-list c p h class g m one k =
-    let s = m.stands.each_handle h (completed_word class g)
+    let s = m.words_match_lists.each_handle h (completed_word class g)
     (get-at m.machine.words h (completed_word class g) m.word) in
     let e : m.parts ≡ p ∷ [] = sole m.parts p (m.all ∙ one) m.here in
     let f : Known → ℕ = λ q. count_at_rank h (8 * g + kind_place k) q.marks in
@@ -100,14 +100,14 @@ io-stands c p h class g m one =
     let four : kind_place found.it.kind ≡ 4 = omega arith in
     let same : found.it.generation ≡ g = omega arith in
     let (x, ek) = is-io found.it.kind four in
-    let s = m.stands.each_handle h (completed_word class g)
+    let s = m.words_match_lists.each_handle h (completed_word class g)
     (get-at m.machine.words h (completed_word class g) m.word) in
     let is : found.it ≡ mark_by_parts h g (kind.Io x) = mark-is found.it h g
     (kind.Io x) eh same ek in
     let here : IsIn (mark_by_parts h g (kind.Io x)) p.marks = subst
     (λ (z : Mark). IsIn z p.marks) is found.within in
     subst (λ (z : Class). IsIn (mark_by_parts h g (kind.Io z)) p.marks)
-    (s.classed p m.here x here) here
+    (s.class_of_io p m.here x here) here
 
 -- after the owner has taken the result in a table of one actor, its list has the whole life up to
 -- there
@@ -127,8 +127,8 @@ whole-life c p q h class g aim kp cf range m one =
     let le = m.before in omega arith in
     let list = with_mark-list c h g (kind.Local class) p q
     (ap (λ (z : Known). z.number) m.is) marks range
-    (λ _. subst (λ (z : Config). p.number ≡ owner z h) cf (m.mine tt)) under
-    (moment.stands.each_list p moment.here) in record {
+    (λ _. subst (λ (z : Config). p.number ≡ owner z h) cf (m.by_owner tt)) under
+    (moment.words_match_lists.each_list p moment.here) in record {
       once = seven-marks c p q h class g aim kp cf m one;
       ordered = list.ordered;
       executed = subst (λ (z : List Mark). IsIn (mark_by_parts h g (kind.Io class)) z) (sym marks)

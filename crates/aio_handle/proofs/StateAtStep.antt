@@ -46,26 +46,24 @@ pub record StepFinds {R : Type 0} (label : R → Label) (aim_in : R → List ℕ
   pub home_is : get_elem? s.homes h ≡ some home
   pub found : get_or s.words h 0 ≡ packed_word w
 
-module _ {R : Type 0} (label : R → Label) (aim_in : R → List ℕ) (Fits : R → Type 0)
-    (c : Config) where
-  pub step-finds : (s : State (Option R) (List Known)) (r : TableInvariant label aim_in Fits c s)
-      (id h : ℕ)
-      (p : Known) → get_elem? s.views id ≡ some (p ∷ []) → h < handle_count c
+module _ {R : Type 0} {label : R → Label} {aim_in : R → List ℕ} {Fits : R → Type 0} {c : Config}
+    {s : State (Option R) (List Known)} where
+  pub step-finds : (r : TableInvariant label aim_in Fits c s) (id h : ℕ) (p : Known) → get_elem? s.views id ≡ some (p ∷ []) → h < handle_count c
       → StepFinds label aim_in Fits c s r id h p
-  step-finds s r id h p at range =
-      let (w, word) = entry-at r.ws h (let x = r.stands.wide in omega arith) in
+  step-finds r id h p at range =
+      let (w, word) = entry-at r.ws h (let x = r.words_match_lists.one_per_handle in omega arith) in
       let (home, is) = entry-at s.homes h (let x = r.homes in omega arith) in record {
         lying = list-is-at s.views id (p ∷ []) at;
         w = w;
         word = word;
         home = home;
         home_is = is;
-        found = ap (λ (z : List ℕ). get_or z h 0) r.shown ∙ get_or-at (map packed_word r.ws) h
+        found = ap (λ (z : List ℕ). get_or z h 0) r.packed_words ∙ get_or-at (map packed_word r.ws) h
             (packed_word w) 0 (at_map packed_word r.ws h w word);
       }
 
-  module _ (s : State (Option R) (List Known)) (r : TableInvariant label aim_in Fits c s) (id h : ℕ)
-      (p : Known) (f : StepFinds label aim_in Fits c s r id h p) where
+  module _ {r : TableInvariant label aim_in Fits c s} {id h : ℕ} {p : Known}
+      (f : StepFinds label aim_in Fits c s r id h p) where
     abbrev w : Word
     w = f.w
 
@@ -93,7 +91,7 @@ module _ {R : Type 0} (label : R → Label) (aim_in : R → List ℕ) (Fits : R 
 
     pub stood-here : StandsForHandleByRank c (front ++ p ∷ back) h w
     stood-here = subst (λ (z : List Known). StandsForHandleByRank c z h w) f.lying.now
-        (r.stands.each_handle h w f.word)
+        (r.words_match_lists.each_handle h w f.word)
 
     pub ruled-here : HandleInvariant label aim_in Fits c (front ++ p ∷ back) h w f.home
     ruled-here = subst
@@ -107,14 +105,14 @@ module _ {R : Type 0} (label : R → Label) (aim_in : R → List ℕ) (Fits : R 
     actor-here = r.actor p here-in
 
     pub lists-here : (q : Known) → IsIn q (front ++ p ∷ back) → IsLawfulList c q
-    lists-here q i = r.stands.each_list q (subst (λ (z : List Known). IsIn q z) (sym f.lying.now) i)
+    lists-here q i = r.words_match_lists.each_list q (subst (λ (z : List Known). IsIn q z) (sym f.lying.now) i)
 
     pub numbered-here : sum_by (λ (y : Known). one_if (y.number == p.number))
         (front ++ p ∷ back) ≤ 1
     numbered-here = subst
         (λ (z : List Known). sum_by
         (λ (y : Known). one_if (y.number == p.number)) z ≤ 1) f.lying.now
-        (r.stands.numbered p.number)
+        (r.words_match_lists.distinct_numbers p.number)
 
     pub others : (q : Known) → IsIn q (front ++ back) → q.number ≢ p.number
     others q i = other-number front back p q numbered-here i
@@ -129,8 +127,8 @@ module _ {R : Type 0} (label : R → Label) (aim_in : R → List ℕ) (Fits : R 
       parts = lists_joined s.views;
       reached = r.reached;
       is = record { words = refl; lists = r.is.lists; all = r.is.all };
-      stands = subst (λ (z : List Word). Stands c z (lists_joined s.views)) (sym r.is.words)
-          (stands-from-ranks c r.ws (lists_joined s.views) r.stands);
+      words_match_lists = subst (λ (z : List Word). Stands c z (lists_joined s.views)) (sym r.is.words)
+          (stands-from-ranks c r.ws (lists_joined s.views) r.words_match_lists);
       here = here-in;
       all = r.all;
       word = at-get r.machine.words h w (ap (λ (z : List Word). get_elem? z h) r.is.words ∙ f.word);

@@ -1,14 +1,12 @@
 -- A step on one handle keeps the rule of the table.
-use Rattle.std.proofs.Common.{◌≡◌, ◌≢◌, ℕ, ◌+◌, ◌*◌, ◌<◌, max, true, List, [], ◌∷◌, ◌++◌, length}
+use Rattle.std.proofs.Common.{◌≡◌, ◌≢◌, ℕ, ◌+◌, ◌*◌, ◌<◌, max, true, List, [], ◌∷◌, ◌++◌}
 use Rattle.std.proofs.Common.{set, ◌==◌, refl, sym, ap, ◌∙◌, subst, inl, ⊎_elim, arith, length-set}
 use Rattle.std.proofs.Common.{Option}
 use Rattle.std.proofs.lemmas.Bool.Decides.{nat_tests}
 use mathlib.Core.Option.{some}
 use mathlib.Core.Option as maybe
-use lib.ListN.{get_elem?}
 use Rattle.atomic_table.specs.Table.{State}
 use Rattle.aio_word.specs.declared.Config.{Config}
-use Rattle.aio_word.specs.declared.State.TheVariants.{HandedOut}
 use Rattle.aio_word.specs.declared.Step.{Step as Event}
 use Rattle.aio_word.specs.declared.Step.TheVariants as event
 use Rattle.aio_word.specs.declared.WaitRef.{WaitRef}
@@ -28,9 +26,12 @@ use Rattle.aio_handle.specs.KnownChanges.{known_after}
 use Rattle.aio_handle.specs.CallEvents.{EventMade, IsByOwner, generation_of}
 use Rattle.aio_handle.proofs.StateAtStep.{StepFinds, stood-here, ruled-here, actor-here, others}
 use Rattle.aio_handle.proofs.StateAtStep.{before-here}
-use Rattle.aio_handle.proofs.MarkEffects.{StepOfAnyActor, NoteEffect, ListEffect}
+use Rattle.aio_handle.proofs.EventEffects.{ListEffect, list-effect}
+use Rattle.aio_handle.proofs.NoteEffects.{StepOfAnyActor, NoteEffect}
+use Rattle.aio_handle.proofs.SeatLists.{index-below}
+use Rattle.atomic_table.proofs.Lists.{set_here, set_else}
 use Rattle.aio_handle.proofs.InvariantAfterStep.{invariant-after}
-use Rattle.aio_handle.proofs.MomentsAroundStep.{Passes, along, reached-now, passes}
+use Rattle.aio_handle.proofs.MomentsAroundStep.{Passes, along, alone, reached-now, passes}
 
 same-nat : (a b : ℕ) → (a == b) ≡ true → a ≡ b
 same-nat a b h = grind (arith, nat_tests)
@@ -40,10 +41,9 @@ in-same : (h g g' : ℕ) (a a' : List ℕ) (aims : List (WaitRef × List ℕ)) �
 in-same h g g' a a' aims eg ea i = subst (λ (z : WaitRef × List ℕ). IsIn z aims)
     (λ k. (wait_ref h (sym eg k), sym ea k)) i
 
-module _ {R : Type 0} (label : R → Label) (aim_in : R → List ℕ) (Fits : R → Type 0) (c : Config)
-    (s : State (Option R) (List Known)) (r : TableInvariant label aim_in Fits c s) (id h : ℕ)
-    (p : Known)
-    (f : StepFinds label aim_in Fits c s r id h p) (range : h < handle_count c) where
+module _ {R : Type 0} {label : R → Label} {aim_in : R → List ℕ} {Fits : R → Type 0} {c : Config}
+    {s : State (Option R) (List Known)} {r : TableInvariant label aim_in Fits c s} {id h : ℕ}
+    {p : Known} (f : StepFinds label aim_in Fits c s r id h p) (range : h < handle_count c) where
   abbrev front : List Known
   front = f.lying.front
 
@@ -57,13 +57,13 @@ module _ {R : Type 0} (label : R → Label) (aim_in : R → List ℕ) (Fits : R 
   back = f.lying.back
 
   abbrev ruled : HandleInvariant label aim_in Fits c (front ++ p ∷ back) h w f.home
-  ruled = ruled-here label aim_in Fits c s r id h p f
+  ruled = ruled-here f
 
   actor : IsLawfulActor c p
-  actor = actor-here label aim_in Fits c s r id h p f
+  actor = actor-here f
 
   before : StandsForHandleByRank c (front ++ p ∷ back) h w
-  before = stood-here label aim_in Fits c s r id h p f
+  before = stood-here f
 
   module _ (e : Event) (w' : Word) (a : List ℕ) where
     abbrev p1 : Known
@@ -72,8 +72,10 @@ module _ {R : Type 0} (label : R → Label) (aim_in : R → List ℕ) (Fits : R 
     small' : word_place w' < 8
     small' = place-small w'.state w'.claimed
 
-    module _ (aim' : List ℕ) (g : ListEffect c h front back p p1 w w')
-        (d : NoteEffect c h r.ws w w' e ruled.aim aim' p p1) where
+    module _ (aim' : List ℕ) (d : NoteEffect c h r.ws w w' e ruled.aim aim' p p1) where
+      g : ListEffect c h front back p p1 w w'
+      g = list-effect f range e w' a d.row d.allowed
+
       in-old : (aims : List (WaitRef × List ℕ))
           → ((x : WaitRef × List ℕ) → IsIn x aims → x.0.handle ≡ h
           → (8 * x.0.generation + 2 < word_rank w)
@@ -93,15 +95,15 @@ module _ {R : Type 0} (label : R → Label) (aim_in : R → List ℕ) (Fits : R 
           let j = others-in front back p q i in
           let k = ruled.known q j in record {
             out = λ o n. ⊎_elim
-                (λ own. absurd (others label aim_in Fits c s r id h p f q i (o ∙ sym own)))
+                (λ own. absurd (others f q i (o ∙ sym own)))
                 (λ (x : StepOfAnyActor w w').
                 ((λ y. absurd (x.now y.0)), (λ y. absurd (x.was ((k.out o n).1 y).0)))) d.who;
-            lived = λ o. ⊎_elim
-                (λ own. absurd (others label aim_in Fits c s r id h p f q i (o ∙ sym own)))
-                (λ (x : StepOfAnyActor w w'). x.generation ∙ k.lived o) d.who;
+            own_generation = λ o. ⊎_elim
+                (λ own. absurd (others f q i (o ∙ sym own)))
+                (λ (x : StepOfAnyActor w w'). x.generation ∙ k.own_generation o) d.who;
             aims = in-old q.aims k.aims;
             submitted = λ o _. ⊎_elim
-                (λ own. absurd (others label aim_in Fits c s r id h p f q i (o ∙ sym own)))
+                (λ own. absurd (others f q i (o ∙ sym own)))
                 (λ (x : StepOfAnyActor w w'). in-same h w.generation w'.generation ruled.aim aim'
                 q.aims
                 x.generation (d.same_aim x.place x.generation) (k.submitted o x.place)) d.who;
@@ -120,7 +122,7 @@ module _ {R : Type 0} (label : R → Label) (aim_in : R → List ℕ) (Fits : R 
       known-own =
           let k = ruled.known p (in-here front back p) in record {
             out = d.out;
-            lived = d.lived;
+            own_generation = d.own_generation;
             aims = ⊎_elim
                 (λ (e', _, _). subst
                 (λ (z : List (WaitRef × List ℕ)). (x : WaitRef × List ℕ) → IsIn x z
@@ -156,7 +158,7 @@ module _ {R : Type 0} (label : R → Label) (aim_in : R → List ℕ) (Fits : R 
                 d.aims;
             held = λ lt more. ⊎_elim
                 (λ (e', n2, n3).
-                let st = (rank-in-bounds c (front ++ p1 ∷ back) h w' g.stands p1
+                let st = (rank-in-bounds c (front ++ p1 ∷ back) h w' g.words_match_lists p1
                 (in-here front back p1)
                 (8 * w'.generation + 3) more).1 in
                 let up = g.grows in let one = g.by_one in let sm = small in let sm' = small' in
@@ -187,7 +189,7 @@ module _ {R : Type 0} (label : R → Label) (aim_in : R → List ℕ) (Fits : R 
           (in-left x p.aims ((wait_ref h w.generation, aim') ∷ []) j)) d.aims in record {
             out = λ o n. let t = d.out_else (wait_ref i n) ne in let k' = k.out o n in
                 ((λ x. t.0 (k'.0 x)), (λ x. k'.1 (t.1 x)));
-            lived = λ o. k.lived o ∙ ap (λ (z : ℕ). c.start + z) (sym (g.lives_else i ne));
+            own_generation = λ o. k.own_generation o ∙ ap (λ (z : ℕ). c.start + z) (sym (g.lives_else i ne));
             aims = λ x j eh. k.aims x
                 (⊎_elim (λ (e', _, _). subst (λ (z : List (WaitRef × List ℕ)). IsIn x z) e' j)
                 (λ (e', _, _). ⊎_elim (λ old. old)
@@ -216,28 +218,22 @@ module _ {R : Type 0} (label : R → Label) (aim_in : R → List ℕ) (Fits : R 
         out = d.is_out;
       }
 
-      pub invariant-kept : (homes' : List (maybe.Option (Option R)))
-          (home' : maybe.Option (Option R))
-          → length homes' ≡ length s.homes
-          → ((i : ℕ) → i ≢ h → get_elem? homes' i ≡ get_elem? s.homes i)
-          → get_elem? homes' h ≡ some home'
+      pub invariant-kept : (home' : maybe.Option (Option R))
           → SlotMatchesWord label aim_in Fits h w' aim' home'
-          → (w'.state ≡ HandedOut → (i : ℕ) (v : Word) → get_elem? r.ws i ≡ some v
-          → v.state ≡ HandedOut → owner c i ≡ owner c h → i ≡ h)
           → TableInvariant label aim_in Fits c
           record {
             words = set s.words h (packed_word w');
-            homes = homes';
-            views =
-                set s.views id (p1 ∷ []);
+            homes = set s.homes h home';
+            views = set s.views id (p1 ∷ []);
           }
-      invariant-kept homes' home' wide others' mine slot alone =
-          let next = along label aim_in Fits c s r id h p f e w' a d.row d.allowed d.free in
-          invariant-after label aim_in Fits c s r id h p f range homes' home' wide others' mine w'
-          p1
-          g.notes g.stands alone
+      invariant-kept home' slot =
+          let next = along f e w' a d.row d.allowed d.free in
+          invariant-after f range (set s.homes h home') home' (length-set s.homes h home')
+          (λ i ne. set_else s.homes h i home' ne)
+          (set_here s.homes h home' (index-below s.homes h f.home f.home_is)) w' p1 g.notes g.words_match_lists
+          (alone f e w' a d.row d.allowed d.free)
           record { aim = aim'; slot = slot; known = known-all } elsewhere actor-now next.0
-          (reached-now label aim_in Fits c s r id h p f e w' a d.row d.allowed d.free) next.2
+          (reached-now f e w' a d.row d.allowed d.free) next.2
 
       own-by-event : (x : Event) → is_allowed c p.number p.marks h w.generation x ≡ true
           → IsByOwner x
@@ -256,16 +252,16 @@ module _ {R : Type 0} (label : R → Label) (aim_in : R → List ℕ) (Fits : R 
       pub event-made : EventMade e h w w' a p p1
       event-made = let x : Passes p.config h w w' e p p1 = subst
           (λ (z : Config). Passes z h w w' e p p1) (sym actor.config)
-          (passes label aim_in Fits c s r id h p f e w' a d.row d.allowed d.free g) in record {
+          (passes f e w' a d.row d.allowed d.free g) in record {
             moment = x.moment;
             then = x.then;
             is_step = x.is_step;
             row = d.row;
             is = refl;
-            before = before-here label aim_in Fits c s r id h p f;
+            before = before-here f;
             now = g.now;
-            mine = λ o. subst (λ (z : Config). p.number ≡ owner z h) (sym actor.config)
+            by_owner = λ o. subst (λ (z : Config). p.number ≡ owner z h) (sym actor.config)
                 (own-by-event e d.allowed o);
-            lived = subst (λ (z : Config). p.number ≡ owner z h → w.generation ≡ generation_of z p h)
-                (sym actor.config) (λ o. (ruled.known p (in-here front back p)).lived o);
+            own_generation = subst (λ (z : Config). p.number ≡ owner z h → w.generation ≡ generation_of z p h)
+                (sym actor.config) (λ o. (ruled.known p (in-here front back p)).own_generation o);
           }

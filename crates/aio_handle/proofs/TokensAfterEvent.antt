@@ -21,7 +21,7 @@ use Rattle.aio_word.specs.Stands.{IsIn, one_if, seen_rank}
 use Rattle.aio_word.specs.Tokens.{IsDefined, IsStaged, IsInFlight, IsLocal}
 use Rattle.aio_word.specs.Tokens.{IsClaimed, IsExecuted, MarksOnceAndSeen}
 use Rattle.aio_word.proofs.ReplacedElement.{in-right}
-use Rattle.aio_word.proofs.AppendKeepsHandle.{mark_by_parts, count_at_rank-push}
+use Rattle.aio_word.proofs.AppendKeepsHandle.{mark_by_parts, count_at_rank-push, counted-in}
 use Rattle.aio_word.proofs.EventRows.{LawfulAndIdleAtLast, row-with-mark}
 use Rattle.aio_word.proofs.EventEffect.{get-at}
 use Rattle.aio_word.proofs.ListWithMark.{no-mark}
@@ -52,7 +52,7 @@ look-grows h w p q m i = subst (λ (z : Known). seen_rank p i ≤ seen_rank z i)
 
 pub begun-of : (e : Event) (h : ℕ) (w w' : Word) (aim : List ℕ) (p q : Known)
     → EventMade e h w w' aim p q → LawfulAndIdleAtLast w
-begun-of e h w w' aim p q m = let t = m.moment.stands.each_handle h w
+begun-of e h w w' aim p q m = let t = m.moment.words_match_lists.each_handle h w
     (get-at m.moment.machine.words h w m.moment.word) in record { lawful = t.lawful; last = t.last }
 
 -- each mark once, and each seen
@@ -119,7 +119,7 @@ none-later s h g k ms kp le j lt =
     (λ n. absurd (let c = kp.below h (8 * g + j) (omega arith) in omega arith)) in
     omega arith
 
-module _ (h g : ℕ) (aim : List ℕ) (p q : Known) (kp : MarksOnceAndSeen (seen_rank p) p.marks) where
+module _ {h g : ℕ} {aim : List ℕ} {p q : Known} (kp : MarksOnceAndSeen (seen_rank p) p.marks) where
   pub defined-token : EventMade event.Define h (handed_out_word g) (defined_word g) aim p q
       → IsDefined q (wait_ref h g)
   defined-token m = let n = none-later (seen_rank p) h g kind.Defined p.marks kp m.before in
@@ -156,10 +156,10 @@ module _ (h g : ℕ) (aim : List ℕ) (p q : Known) (kp : MarksOnceAndSeen (seen
         until = let c = n 4 (omega arith) in let d = n 5 (omega arith) in omega arith;
       }
 
-  pub executed-token : (class : Class)
+  pub executed-token : {class : Class}
       → EventMade (event.Io class) h (claimed_word g) (executed_word class g) aim p q
       → IsExecuted class q (wait_ref h g)
-  executed-token class m = let n = none-later (seen_rank p) h g
+  executed-token {class} m = let n = none-later (seen_rank p) h g
       (kind.Io class) p.marks kp m.before in
       subst (λ (z : Known). IsExecuted class z (wait_ref h g)) (sym m.is) record {
         since = in-right (mark_by_parts h g (kind.Io class)) p.marks
@@ -168,10 +168,10 @@ module _ (h g : ℕ) (aim : List ℕ) (p q : Known) (kp : MarksOnceAndSeen (seen
         until = n 5 (omega arith);
       }
 
-  pub local-token : (class : Class)
+  pub local-token : {class : Class}
       → EventMade event.Local h (completed_word class g) (taken_word class g) aim p q
       → IsLocal q (wait_ref h g)
-  local-token class m = let n = none-later (seen_rank p) h g
+  local-token {class} m = let n = none-later (seen_rank p) h g
       (kind.Local class) p.marks kp m.before in
       subst (λ (z : Known). IsLocal z (wait_ref h g)) (sym m.is) record {
         since = stands-new (seen_rank p) h g (kind.Local class) p.marks kp m.before;
@@ -179,25 +179,25 @@ module _ (h g : ℕ) (aim : List ℕ) (p q : Known) (kp : MarksOnceAndSeen (seen
       }
 
 -- the note of an incarnation's aim
-pub submit-notes : (h g : ℕ) (aim : List ℕ) (p q : Known)
+pub submit-notes : {h g : ℕ} {aim : List ℕ} {p q : Known}
     → EventMade event.Submit h (staged_word g) (unclaimed_word g) aim p q
     → IsIn (wait_ref h g, aim) q.aims
-submit-notes h g aim p q m = subst (λ (z : Known). IsIn (wait_ref h g, aim) z.aims) (sym m.is)
+submit-notes {h} {g} {aim} {p} m = subst (λ (z : Known). IsIn (wait_ref h g, aim) z.aims) (sym m.is)
     (in-right (wait_ref h g, aim) p.aims ((wait_ref h g, aim) ∷ []) (inl refl))
 
-pub claim-notes : (h g : ℕ) (aim : List ℕ) (p q : Known)
+pub claim-notes : {h g : ℕ} {aim : List ℕ} {p q : Known}
     → EventMade event.Claim h (unclaimed_word g) (claimed_word g) aim p q
     → IsIn (wait_ref h g, aim) q.aims
-claim-notes h g aim p q m = subst (λ (z : Known). IsIn (wait_ref h g, aim) z.aims) (sym m.is)
+claim-notes {h} {g} {aim} {p} m = subst (λ (z : Known). IsIn (wait_ref h g, aim) z.aims) (sym m.is)
     (in-right (wait_ref h g, aim) p.aims ((wait_ref h g, aim) ∷ []) (inl refl))
 
 -- which slots are out with an actor
-pub defined-slot-out : (p : Known) (h g : ℕ) → IsDefined p (wait_ref h g) → SlotIsOut p h
-defined-slot-out p h g t =
+pub defined-slot-out : {p : Known} {h g : ℕ} → IsDefined p (wait_ref h g) → SlotIsOut p h
+defined-slot-out {g = g} t =
     (g, inr ((0, 2), inl refl, record { since = t.since; until = let u = t.until in omega arith }))
 
-pub staged-slot-out : (p : Known) (h g : ℕ) → IsStaged p (wait_ref h g) → SlotIsOut p h
-staged-slot-out p h g t = (
+pub staged-slot-out : {p : Known} {h g : ℕ} → IsStaged p (wait_ref h g) → SlotIsOut p h
+staged-slot-out {g = g} t = (
   g,
   inr (
     (1, 2),
@@ -206,8 +206,8 @@ staged-slot-out p h g t = (
   ),
 )
 
-pub claimed-slot-out : (p : Known) (h g : ℕ) → IsClaimed p (wait_ref h g) → SlotIsOut p h
-claimed-slot-out p h g t = (
+pub claimed-slot-out : {p : Known} {h g : ℕ} → IsClaimed p (wait_ref h g) → SlotIsOut p h
+claimed-slot-out {g = g} t = (
   g,
   inr (
     (3, 5),
@@ -216,14 +216,22 @@ claimed-slot-out p h g t = (
   ),
 )
 
-pub executed-slot-out : (class : Class) (p : Known) (h g : ℕ)
-    → 0 < count_at_rank h (8 * g + 4) p.marks
-    → count_at_rank h (8 * g + 5) p.marks ≡ 0 → SlotIsOut p h
-executed-slot-out class p h g a b =
-    (g, inr ((4, 5), inr (inr (inr (inl refl))), record { since = a; until = b }))
+pub executed-slot-out : {class : Class} {p : Known} {h g : ℕ} → IsExecuted class p (wait_ref h g)
+    → SlotIsOut p h
+executed-slot-out {class} {p} {h} {g} t = (
+  g,
+  inr (
+    (4, 5),
+    inr (inr (inr (inl refl))),
+    record {
+      since = counted-in (mark_by_parts h g (kind.Io class)) p.marks t.since;
+      until = t.until;
+    },
+  ),
+)
 
-pub local-slot-out : (p : Known) (h g : ℕ) → IsLocal p (wait_ref h g) → SlotIsOut p h
-local-slot-out p h g t =
+pub local-slot-out : {p : Known} {h g : ℕ} → IsLocal p (wait_ref h g) → SlotIsOut p h
+local-slot-out {g = g} t =
     (g, inr ((6, 7), inr (inr (inr (inr (inl refl)))), record { since = t.since; until = t.until }))
 
 some-same : (a b : WaitRef) → Some a ≡ Some b → a ≡ b
@@ -301,12 +309,3 @@ counts-apart e h w w' aim p q m i n apart = ap (λ (z : Known). count_at_rank i 
         (let push = count_at_rank-push i n p.marks (mark_by_parts h w.generation k) in let no =
         none-here k (row-with-mark w w' e k (begun-of e h w w' aim p q m) m.row lv).place in
         push ∙ (omega arith))
-
--- an event on another handle leaves the token of an I/O in flight
-pub flight-else : (e : Event) (h : ℕ) (w w' : Word) (aim : List ℕ) (p q : Known) (t : WaitRef)
-    → EventMade e h w w' aim p q → t.handle ≢ h → IsInFlight p t → IsInFlight q t
-flight-else e h w w' aim p q t m ne f =
-    let c = counts-apart e h w w' aim p q m t.handle in
-    let a = c (8 * t.generation + 2) (inl ne) in let b = c (8 * t.generation + 6) (inl ne) in
-    let d = c (8 * t.generation + 7) (inl ne) in
-    let s = f.since in let u = f.until in record { since = omega arith; until = omega arith }

@@ -68,7 +68,7 @@ unchanged-then t p q r a b = record {
 pub unchanged-by-execution : (t : WaitRef) (held : List Mark) (p q : Known) (a b c d : ℕ)
     → ExecutesAll held p q a b c d → TokenUnchanged t p q
 unchanged-by-execution t held p q a b c d k =
-    let none : owner_mark_count t (held ++ k.more) ≡ 0 = k.took.owners t in
+    let none : owner_mark_count t (held ++ k.more) ≡ 0 = k.claims_completed.owners t in
     let none-of : (i : ℕ) → count_at_place t i (held ++ k.more) ≡ 0
     → count_at_place t i q.marks ≡ count_at_place t i p.marks =
     λ i z. ap (count_at_place t i) k.grows.marks ∙
@@ -166,11 +166,11 @@ pub unchanged-by-define : (t : WaitRef) (h g : ℕ) (aim : List ℕ) (p q : Know
     → MarksOnceAndSeen (seen_rank p) p.marks
     → EventMade event.Define h (handed_out_word g) (defined_word g) aim p q
     → TokenUnchanged t p q
-unchanged-by-define t h g aim p q keeps m =
+unchanged-by-define t h g aim p q marks_once m =
     let new : (i : ℕ) → 0 < count_at_place t i p.marks → t ≢ wait_ref h g = λ i there e.
     let there' : 0 < count_at_place (wait_ref h g) i p.marks =
     subst (λ (z : WaitRef). 0 < count_at_place z i p.marks) e there in
-    let seen = keeps.below h (8 * g + i) there' in let before = m.before in omega arith in
+    let seen = marks_once.below h (8 * g + i) there' in let before = m.before in omega arith in
     let kept = unchanged-elsewhere t event.Define h (handed_out_word g) (defined_word g) aim p q m
     in record {
       defined = λ d. (kept (new 0 d.since)).defined d;
@@ -268,14 +268,14 @@ module _ (t : WaitRef) (e : Event) (h : ℕ) (w w' : Word) (aim : List ℕ) (p q
       (aims-unchanged t e h w w' aim p q m)
 
 module _ (t : WaitRef) (h g : ℕ) (aim : List ℕ) (p q : Known)
-    (keeps : MarksOnceAndSeen (seen_rank p) p.marks)
+    (marks_once : MarksOnceAndSeen (seen_rank p) p.marks)
     (m : EventMade event.Claim h (unclaimed_word g) (claimed_word g) aim p q) where
   -- what is claimed has no mark of a claimer yet, since its handle was seen at none of them
   not-this : (i : ℕ) → 2 < i → 0 < count_at_place t i p.marks → t ≢ wait_ref h g
   not-this i more there e =
       let there' : 0 < count_at_place (wait_ref h g) i p.marks =
       subst (λ (z : WaitRef). 0 < count_at_place z i p.marks) e there in
-      let seen = keeps.below h (8 * g + i) there' in let before = m.before in omega arith
+      let seen = marks_once.below h (8 * g + i) there' in let before = m.before in omega arith
 
   pub claimed-is-other : IsClaimed p t → t ≢ wait_ref h g
   claimed-is-other d = not-this 3 (omega arith) d.since

@@ -23,8 +23,7 @@ use Rattle.aio_word.proofs.AppendKeepsHandle.{mark_by_parts, place-small, rank-i
 use Rattle.aio_word.proofs.AppendKeepsHandle.{counted-in}
 use Rattle.aio_word.proofs.OwnMarksBoundWord.{owner-at, owner-below, claimer-at, claimer-below}
 use Rattle.aio_word.proofs.OwnMarksBoundWord.{own-mark}
-use Rattle.aio_word.proofs.StateByPlace.{is-defined, is-staged, is-claimed, is-io, is-completed}
-use Rattle.aio_word.proofs.StateByPlace.{is-taken}
+use Rattle.aio_word.proofs.StateByPlace.{state_at_place, state-at, claim-at}
 use Rattle.aio_handle.specs.declared.record.Label.{Label}
 use Rattle.aio_handle.specs.TableInvariant.{TableInvariant}
 use Rattle.aio_handle.specs.LifeWords.{idle_word, handed_out_word, defined_word, staged_word}
@@ -52,10 +51,9 @@ some-same a b e = cc
 pub none-some : {A : Type 0} (a : A) → None ≡ Some a → ⊥
 none-some a e = cc
 
-module _ {R : Type 0} (label : R → Label) (aim_in : R → List ℕ) (Fits : R → Type 0) (c : Config)
-    (s : State (Option R) (List Known)) (r : TableInvariant label aim_in Fits c s) (id h : ℕ)
-    (p : Known)
-    (f : StepFinds label aim_in Fits c s r id h p) (g : ℕ) where
+module _ {R : Type 0} {label : R → Label} {aim_in : R → List ℕ} {Fits : R → Type 0} {c : Config}
+    {s : State (Option R) (List Known)} {r : TableInvariant label aim_in Fits c s} {id h : ℕ}
+    {p : Known} (f : StepFinds label aim_in Fits c s r id h p) (g : ℕ) where
   abbrev w : Word
   w = f.w
 
@@ -74,14 +72,14 @@ module _ {R : Type 0} (label : R → Label) (aim_in : R → List ℕ) (Fits : R 
   pub owns : (i : ℕ) → i < 8 → (i < 3) ⊎ (5 < i) → 0 < count_at_rank h (8 * g + i) p.marks
       → p.number ≡ owner c h
   owns i si ki since = own-mark c p h g i
-      (lists-here label aim_in Fits c s r id h p f p here) si ki since
+      (lists-here f p here) si ki since
 
   -- the word by its state
   exact : (st : WordState) (b : Bool) (class : Class) → w.state ≡ st
       → (ClaimFits st w.claimed → w.claimed ≡ b) → (ClassFits st w.class → w.class ≡ class)
       → w.generation ≡ g → w ≡ record { state = st; claimed = b; class = class; generation = g }
   exact st b class es eb ec eg =
-      let l = (stood-here label aim_in Fits c s r id h p f).lawful in
+      let l = (stood-here f).lawful in
       word-is w st b class g es (eb (subst (λ (z : WordState). ClaimFits z w.claimed) es l.claim))
       (ec (subst (λ (z : WordState). ClassFits z w.class) es l.class)) eg
 
@@ -89,8 +87,8 @@ module _ {R : Type 0} (label : R → Label) (aim_in : R → List ℕ) (Fits : R 
       → 0 < count_at_rank h (8 * g + i) p.marks → count_at_rank h (8 * g + (i + 1)) p.marks ≡ 0
       → word_rank w ≡ 8 * g + (i + 1)
   owner-rank i si ki oi since until = owner-at c front back p h w
-      (stood-here label aim_in Fits c s r id h p f) (lists-here label aim_in Fits c s r id h p f)
-      (numbered-here label aim_in Fits c s r id h p f)
+      (stood-here f) (lists-here f)
+      (numbered-here f)
       (owns i (omega arith) oi since) g i si ki since until
 
   generation-at : (n : ℕ) → n < 8 → word_rank w ≡ 8 * g + n → w.generation ≡ g
@@ -99,22 +97,25 @@ module _ {R : Type 0} (label : R → Label) (aim_in : R → List ℕ) (Fits : R 
   place-at : (n : ℕ) → n < 8 → word_rank w ≡ 8 * g + n → word_place w ≡ n
   place-at n sn e = let sm = small in omega arith
 
+  by-rank : (n : ℕ) → 0 < n → n < 8 → word_rank w ≡ 8 * g + n → w.state ≡ state_at_place n
+  by-rank n more sn e = state-at n w.state w.claimed more (place-at n sn e)
+
   pub is-handed_out_word : p.out ≡ Some (wait_ref h g) → w ≡ handed_out_word g
   is-handed_out_word out = let own =
-      ((actor-here label aim_in Fits c s r id h p f).out (wait_ref h g) out).1 in
-      let t = ((known-matches-word label aim_in Fits c s r id h p f).out own g).1 out in
+      ((actor-here f).out (wait_ref h g) out).1 in
+      let t = ((known-matches-word f).out own g).1 out in
       exact HandedOut false Unended t.0 (λ z. z) (λ z. z) t.1
 
   -- by the owner's marks the handle is Idle where its generation is not defined and not handed out
   pub is-idle_word : p.number ≡ owner c h → p.out ≡ None → g ≡ c.start + lives_ended h p.marks
       → count_at_rank h (8 * g + 0) p.marks ≡ 0 → w ≡ idle_word g
   is-idle_word own out gen until =
-      let k = known-matches-word label aim_in Fits c s r id h p f in
-      let lived = k.lived own in
-      let hs = stood-here label aim_in Fits c s r id h p f in
+      let k = known-matches-word f in
+      let own_generation = k.own_generation own in
+      let hs = stood-here f in
       let below : word_rank w ≤ 8 * g + 0 = owner-below c front back p h w hs
-      (lists-here label aim_in Fits c s r id h p f)
-      (numbered-here label aim_in Fits c s r id h p f) own g 0 (omega arith) (inl (omega arith))
+      (lists-here f)
+      (numbered-here f) own g 0 (omega arith) (inl (omega arith))
       (let b = hs.begun in omega arith) until in
       let same : w.generation ≡ g = omega arith in
       let zero' : word_place w ≡ 0 = omega arith in
@@ -128,7 +129,7 @@ module _ {R : Type 0} (label : R → Label) (aim_in : R → List ℕ) (Fits : R 
       let z : count_at_rank h (8 * g + 1) p.marks ≡ 0 = let u = t.until in omega arith in
       let e : word_rank w ≡ 8 * g + 1 = owner-rank 0 (omega arith) (inl (omega arith))
       (inl (omega arith)) t.since z in
-      exact Defined false Unended (is-defined w.state w.claimed (place-at 1 (omega arith) e))
+      exact Defined false Unended (by-rank 1 (omega arith) (omega arith) e)
       (λ z. z) (λ z. z) (generation-at 1 (omega arith) e)
 
   pub is-staged_word : IsStaged p (wait_ref h g) → w ≡ staged_word g
@@ -136,52 +137,52 @@ module _ {R : Type 0} (label : R → Label) (aim_in : R → List ℕ) (Fits : R 
       let z : count_at_rank h (8 * g + 2) p.marks ≡ 0 = let u = t.until in omega arith in
       let e : word_rank w ≡ 8 * g + 2 = owner-rank 1 (omega arith) (inl (omega arith))
       (inl (omega arith)) t.since z in
-      exact Staged false Unended (is-staged w.state w.claimed (place-at 2 (omega arith) e)) (λ z. z)
+      exact Staged false Unended (by-rank 2 (omega arith) (omega arith) e) (λ z. z)
       (λ z. z) (generation-at 2 (omega arith) e)
 
   pub is-completed_word : IsInFlight p (wait_ref h g) → 8 * g + 6 ≤ seen_rank p h
       → w ≡ completed_word w.class g
   is-completed_word t saw =
       let z : count_at_rank h (8 * g + 6) p.marks ≡ 0 = let u = t.until in omega arith in
-      let hs = stood-here label aim_in Fits c s r id h p f in
+      let hs = stood-here f in
       let lo = hs.seen p here in
       let st = (rank-in-bounds c (front ++ p ∷ back) h w hs p here (8 * g + 2) t.since).0 in
       let hi : word_rank w ≤ 8 * g + 6 = owner-below c front back p h w hs
-      (lists-here label aim_in Fits c s r id h p f)
-      (numbered-here label aim_in Fits c s r id h p f)
+      (lists-here f)
+      (numbered-here f)
       (owns 2 (omega arith) (inl (omega arith)) t.since) g 6 (omega arith) (inr (omega arith))
       (omega arith) z in
       let e : word_rank w ≡ 8 * g + 6 = omega arith in
       exact CompletedShared false w.class
-      (is-completed w.state w.claimed (place-at 6 (omega arith) e)) (λ z. z) (λ z. refl)
+      (by-rank 6 (omega arith) (omega arith) e) (λ z. z) (λ z. refl)
       (generation-at 6 (omega arith) e)
 
   pub is-taken_word : IsLocal p (wait_ref h g) → w ≡ taken_word w.class g
   is-taken_word t =
       let e : word_rank w ≡ 8 * g + 7 = owner-rank 6 (omega arith) (inr (omega arith))
       (inr (omega arith)) t.since t.until in
-      exact CompletedLocal false w.class (is-taken w.state w.claimed (place-at 7 (omega arith) e))
+      exact CompletedLocal false w.class (by-rank 7 (omega arith) (omega arith) e)
       (λ z. z) (λ z. refl) (generation-at 7 (omega arith) e)
 
   pub is-claimed_word : IsClaimed p (wait_ref h g) → w ≡ claimed_word g
   is-claimed_word t =
       let z : count_at_rank h (8 * g + 4) p.marks ≡ 0 = let u = t.until in omega arith in
       let e : word_rank w ≡ 8 * g + 4 = claimer-at c front back p h w
-      (stood-here label aim_in Fits c s r id h p f) g t.since z in
-      let two = is-claimed w.state w.claimed (place-at 4 (omega arith) e) in
-      exact Submitted true Unended two.0 (λ _. two.1) (λ z. z) (generation-at 4 (omega arith) e)
+      (stood-here f) g t.since z in
+      exact Submitted true Unended (by-rank 4 (omega arith) (omega arith) e)
+      (λ _. claim-at w.state w.claimed (place-at 4 (omega arith) e)) (λ z. z) (generation-at 4 (omega arith) e)
 
   -- the claimer has the Claimed mark too
   pub has-claimed : (class : Class) → IsExecuted class p (wait_ref h g)
       → 0 < count_at_rank h (8 * g + 3) p.marks
   has-claimed class t = let io : 0 < count_at_rank h (8 * g + 4) p.marks = counted-in
       (mark_by_parts h g (kind.Io class)) p.marks t.since in let le =
-      ((stood-here label aim_in Fits c s r id h p f).claimed p here g).0 in omega arith
+      ((stood-here f).claimed p here g).0 in omega arith
 
   pub is-executed_word : (class : Class) → IsExecuted class p (wait_ref h g)
       → w ≡ executed_word class g
   is-executed_word class t =
-      let hs = stood-here label aim_in Fits c s r id h p f in
+      let hs = stood-here f in
       let io : 0 < count_at_rank h (8 * g + 4) p.marks = counted-in
       (mark_by_parts h g (kind.Io class)) p.marks t.since in
       let lo = (rank-in-bounds c (front ++ p ∷ back) h w hs p here (8 * g + 4) io).1 in
@@ -189,6 +190,6 @@ module _ {R : Type 0} (label : R → Label) (aim_in : R → List ℕ) (Fits : R 
       (has-claimed class t) t.until in
       let e : word_rank w ≡ 8 * g + 5 = omega arith in
       let gen = generation-at 5 (omega arith) e in
-      exact CompletedIo true class (is-io w.state w.claimed (place-at 5 (omega arith) e)) (λ z. z)
-      (λ z. sym (hs.classed p here (mark_by_parts h g (kind.Io class)) class t.since refl
+      exact CompletedIo true class (by-rank 5 (omega arith) (omega arith) e) (λ z. z)
+      (λ z. sym (hs.class_of_io p here (mark_by_parts h g (kind.Io class)) class t.since refl
       (sym gen) refl)) gen

@@ -47,8 +47,8 @@ pub record EventMade (e : Event) (h : ℕ) (w w' : Word) (aim : List ℕ) (p q :
   pub before : seen_rank p h ≤ word_rank w
   pub now : seen_rank q h ≡ word_rank w'
   -- an owner's event is on a handle of its own, whose generation its marks tell
-  pub mine : IsByOwner e → p.number ≡ owner p.config h
-  pub lived : p.number ≡ owner p.config h → w.generation ≡ generation_of p.config p h
+  pub by_owner : IsByOwner e → p.number ≡ owner p.config h
+  pub own_generation : p.number ≡ owner p.config h → w.generation ≡ generation_of p.config p h
 
 -- the actor that knew p found the word w at the handle h, and now knows q
 pub record WordLoaded (h : ℕ) (w : Word) (p q : Known) : Type 0 where
@@ -69,9 +69,9 @@ pub record TakesResult (t : WaitRef) (p q : Known) (l : Label) : Type 0 where
   pub between : Known
   pub found : Word
   pub class : Class
-  pub looked : WordLoaded t.handle found p between
+  pub word_load : WordLoaded t.handle found p between
   pub completed : IsCompleted found t.generation
-  pub made : EventMade step.Local t.handle (make_word CompletedShared false class t.generation)
+  pub event_made : EventMade step.Local t.handle (make_word CompletedShared false class t.generation)
       (taken_word class t.generation) [] between q
   pub ended : class ≢ Unended
   pub label : l ≡
@@ -80,12 +80,12 @@ pub record TakesResult (t : WaitRef) (p q : Known) (l : Label) : Type 0 where
 -- a load of the word of the incarnation t, and what it answers
 pub record CheckAnswer (t : WaitRef) (answer : Bool) (p q : Known) : Type 0 where
   pub word : Word
-  pub looked : WordLoaded t.handle word p q
+  pub word_load : WordLoaded t.handle word p q
   pub exact : IsTrue answer ↔ IsDone word t.generation
   -- where the answer is true, the incarnation's Shared mark stands once over all lists, whatever
   -- came since
   pub shared : IsTrue answer → p.config.start ≤ t.generation
-      → mark_total t kind.Shared looked.moment.parts ≡ 1
+      → mark_total t kind.Shared word_load.moment.parts ≡ 1
 
 -- in a table of one actor: the marks of t from Defined to Local stand once each in its list, in
 -- the order of the life, and the Io mark has this class

@@ -16,14 +16,14 @@ use Rattle.aio_handle.specs.Execution.{ExecutesAll}
 pub record ClaimWon (t : WaitRef) (p q : Known) (reads reads' faults faults' : ℕ) : Type 0 where
   pub aim : List ℕ
   pub between : Known
-  pub made : EventMade Claim t.handle (unclaimed_word t.generation)
+  pub event_made : EventMade Claim t.handle (unclaimed_word t.generation)
       (claimed_word t.generation) aim p between
   pub ended : ExecutesAll (make_mark t kind.Claimed ∷ []) between q reads reads' faults faults'
 
 -- the claim was lost to a word that was not submitted and unclaimed under that generation
 pub record ClaimLost (t : WaitRef) (p q : Known) : Type 0 where
   pub found : Word
-  pub looked : WordLoaded t.handle found p q
+  pub word_load : WordLoaded t.handle found p q
   pub other : found ≢ unclaimed_word t.generation
 
 -- the actor has seen the incarnation claimed (place 4) or further, or a later one of its handle

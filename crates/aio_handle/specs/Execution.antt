@@ -21,5 +21,5 @@ pub record ExecutesAll (held : List Mark) (p q : Known)
     (reads reads' faults faults' : ℕ) : Type 0 where
   pub more : List Mark
   pub grows : AppendsMarks p q more
-  pub took : ClaimsAreCompleted (held ++ more)
+  pub claims_completed : ClaimsAreCompleted (held ++ more)
   pub counters_follow : CountersFollowMarks reads reads' faults faults' more

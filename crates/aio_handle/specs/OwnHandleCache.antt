@@ -7,10 +7,10 @@ use Rattle.aio_word.specs.declared.Kind.TheVariants as kind
 use Rattle.aio_word.specs.Words.{last_generation}
 use Rattle.aio_word.specs.Events.{wait_ref, mark_count, owner}
 use Rattle.aio_word.specs.Tokens.{claimed_mark_count}
-use Rattle.aio_handle.specs.declared.own.OwnHandle.{OwnHandle}
+use Rattle.aio_handle.specs.declared.own_handles.OwnHandle.{OwnHandle}
 use Rattle.aio_handle.specs.CallEvents.{generation_of}
-use Rattle.aio_handle.specs.Free.{HasOneOut}
-use Rattle.aio_handle.specs.Own.{own_at}
+use Rattle.aio_handle.specs.FreeHandles.{HasOneOut}
+use Rattle.aio_handle.specs.OwnHandles.{own_at}
 
 -- by the actor's marks, the generation of one of its own handles, and whether that is defined
 abbrev pub own_handle : Config → Known → ℕ → OwnHandle
@@ -41,8 +41,8 @@ OnlyPastReclaimed c p = (handle g : ℕ) → p.number ≡ owner c handle → gen
 pub record CachesOwnHandles (c : Config) (own : List OwnHandle) (turn : ℕ) (is_out : Bool)
     (claims : ℕ)
     (p : Known) : Type 0 where
-  pub owns : MatchesOwnHandles c own p
-  pub unspent : OnlyPastReclaimed c p
-  pub turn_in : turn ≤ length own
+  pub own_handles_match : MatchesOwnHandles c own p
+  pub only_past_reclaimed : OnlyPastReclaimed c p
+  pub turn_in_range : turn ≤ length own
   pub out : (is_out ≡ true) ↔ HasOneOut p
   pub counted : claims ≡ min (claimed_mark_count p.marks) (2 ^ 128 - 1)

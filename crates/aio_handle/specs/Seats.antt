@@ -54,6 +54,6 @@ pub record IsSeated {R : Type 0} (c : Config) (n : ℕ)
   pub one : me.0 ≡ seat_known me.0 ∷ []
   pub number : (seat_known me.0).number ≡ n
   pub config : (seat_known me.0).config ≡ c
-  pub keeps : MarksOnceAndSeen (seen_rank (seat_known me.0)) (seat_known me.0).marks
-  pub carried : (h : ℕ) → SlotIsOut (seat_known me.0) h → IsIn (h, None) me.1
+  pub marks_once : MarksOnceAndSeen (seen_rank (seat_known me.0)) (seat_known me.0).marks
+  pub out_slots : (h : ℕ) → SlotIsOut (seat_known me.0) h → IsIn (h, None) me.1
   pub empty : (h : ℕ) (x : Option R) → IsIn (h, x) me.1 → x ≡ None

@@ -17,44 +17,52 @@ use Rattle.aio_handle.specs.CallEvents.{EventMade, WordLoaded}
 use Rattle.aio_handle.specs.Seats.{SlotIsOut}
 use Rattle.aio_word.specs.declared.Step.TheVariants as step
 
+-- a step makes the event on its handle, whose word goes from one to the other, and its seat has
+-- these slots afterwards
+pub record StepMakesEvent {S : Type 0} (e : Event) (from to : ℕ → Word) (aim : List ℕ)
+    (slots : List (ℕ × S)) (st : Step S) (m : Me S (List Known)) (n : ℕ)
+    (m' : Me S (List Known)) : Type 0 where
+  pub p : Known
+  pub q : Known
+  pub g : ℕ
+  pub by_owner : m.0 ≡ p ∷ []
+  pub then : m' ≡ (q ∷ [], slots)
+  pub found : n ≡ packed_word (from g)
+  pub wrote : st.first ≡ packed_word (to g)
+  pub event_made : EventMade e st.word (from g) (to g) aim p q
+
 -- a step that moves no slot
-abbrev pub StepMakesEvent : {S : Type 0} → Event → (ℕ → Word) → (ℕ → Word) → Step S
-    → Me S (List Known)
-    → ℕ
-    → Me S (List Known) → Type 0
-StepMakesEvent e from to st m n m' = (p : Known) × (q : Known) × (g : ℕ) × (m.0 ≡ p ∷ [])
-    × (m' ≡ (q ∷ [], m.1)) × (n ≡ packed_word (from g)) × (st.first ≡ packed_word (to g))
-    × EventMade e st.word (from g) (to g) [] p q
+abbrev pub KeepsSlots : {S : Type 0} → Event → (ℕ → Word) → (ℕ → Word) → List ℕ → Step S
+    → Me S (List Known) → ℕ → Me S (List Known) → Type 0
+KeepsSlots e from to aim st m n m' = StepMakesEvent e from to aim m.1 st m n m'
 
 abbrev pub Executes : {S : Type 0} → Step S → Me S (List Known) → ℕ → Me S (List Known) → Type 0
-Executes st m n m' = (p : Known) × (q : Known) × (g : ℕ) × (class : Class) × (m.0 ≡ p ∷ [])
-    × (m' ≡ (q ∷ [], m.1)) × (n ≡ packed_word (claimed_word g))
-    × (st.first ≡ packed_word (executed_word class g))
-    × EventMade (step.Io class) st.word (claimed_word g) (executed_word class g) [] p q
+Executes st m n m' = (class : Class)
+    × KeepsSlots (step.Io class) claimed_word (executed_word class) [] st m n m'
 
 -- a load
 abbrev pub NumberLoaded : ℕ → ℕ → Known → Known → Type 0
 NumberLoaded h found p q = (w : Word) × (packed_word w ≡ found) × WordLoaded h w p q
 
-abbrev pub StepLoadsWord : {S : Type 0} → Step S → Me S (List Known) → ℕ → Me S (List Known)
-    → Type 0
-StepLoadsWord st m n m' = (p : Known) × (q : Known) × (m.0 ≡ p ∷ []) × (m' ≡ (q ∷ [], m.1))
-    × NumberLoaded st.word n p q
+pub record StepLoadsWord {S : Type 0} (st : Step S) (m : Me S (List Known)) (n : ℕ)
+    (m' : Me S (List Known)) : Type 0 where
+  pub p : Known
+  pub q : Known
+  pub by_owner : m.0 ≡ p ∷ []
+  pub then : m' ≡ (q ∷ [], m.1)
+  pub loaded : NumberLoaded st.word n p q
 
 -- the handle is handed out, and its empty slot comes with it
 abbrev pub HandsOut : {R : Type 0} → Step (Option R) → Me (Option R) (List Known) → ℕ
     → Me (Option R) (List Known) → Type 0
-HandsOut {R} st m n m' = (p : Known) × (q : Known) × (g : ℕ) × (m.0 ≡ p ∷ [])
-    × (m' ≡ (q ∷ [], (st.word, None) ∷ m.1)) × (n ≡ packed_word (idle_word g))
-    × (st.first ≡ packed_word (handed_out_word g))
-    × EventMade step.HandOut st.word (idle_word g) (handed_out_word g) [] p q
+HandsOut {R} st m n m' =
+    StepMakesEvent step.HandOut idle_word handed_out_word [] ((st.word, None) ∷ m.1) st m n m'
 
 -- the slot goes home with its handle
 abbrev pub ReturnsSlot : {S : Type 0} → Event → (ℕ → Word) → (ℕ → Word) → List ℕ → Step S
     → Me S (List Known) → ℕ → Me S (List Known) → Type 0
-ReturnsSlot e from to aim st m n m' = (p : Known) × (q : Known) × (g : ℕ) × (m.0 ≡ p ∷ [])
-    × (m' ≡ (q ∷ [], rest m.1)) × (n ≡ packed_word (from g)) × (st.first ≡ packed_word (to g))
-    × EventMade e st.word (from g) (to g) aim p q × (SlotIsOut q st.word → ⊥)
+ReturnsSlot e from to aim st m n m' =
+    (d : StepMakesEvent e from to aim (rest m.1) st m n m') × (SlotIsOut d.q st.word → ⊥)
 
 -- the same for an empty slot
 abbrev pub Releases : {S : Type 0} → Step S → Me S (List Known) → ℕ → Me S (List Known) → Type 0
@@ -85,20 +93,29 @@ module _ {R : Type 0} (label : R → Label) (aim_in : R → List ℕ) (Fits : R 
       × (label r ≡ bound_label h g) × Fits r
 
   -- the found word was the expected one, and the record was taken; or it was another
-  abbrev pub Claims : Step (Option R) → Me (Option R) (List Known) → ℕ → Me (Option R) (List Known)
-      → Type 0
-  Claims st m n m' = (p : Known) × (q : Known) × (m.0 ≡ p ∷ [])
-      × (n ≡ st.first → (g : ℕ) × TakesRecord st.word g n m p q m')
-      × (n ≢ st.first → (m' ≡ (q ∷ [], m.1)) × NumberLoaded st.word n p q)
+  pub record Claims (st : Step (Option R)) (m : Me (Option R) (List Known)) (n : ℕ)
+      (m' : Me (Option R) (List Known)) : Type 0 where
+    pub p : Known
+    pub q : Known
+    pub by_owner : m.0 ≡ p ∷ []
+    pub won : n ≡ st.first → (g : ℕ) × TakesRecord st.word g n m p q m'
+    pub lost : n ≢ st.first → (m' ≡ (q ∷ [], m.1)) × NumberLoaded st.word n p q
 
   -- the result was taken: the word went up by one, and kept its class
-  abbrev pub TakesCompleted : Step (Option R) → Me (Option R) (List Known) → ℕ
-      → Me (Option R) (List Known)
-      → Type 0
-  TakesCompleted st m n m' = (p : Known) × (q : Known) × (g : ℕ) × (class : Class) × (x : R)
-      × (m.0 ≡ p ∷ [])
-      × (m' ≡ (q ∷ [], (st.word, Some x) ∷ m.1)) × (n ≡ packed_word (completed_word class g))
-      × EventMade step.Local st.word (completed_word class g) (taken_word class g) [] p q
-      × (label x ≡ record { handle = st.word; generation = g; ended = class; settled = false })
-      × ((a : List ℕ) → IsIn (wait_ref st.word g, a) p.aims → aim_in x ≡ a) × Fits x
-      × ((n : ℕ) → IsInFlight p (wait_ref st.word n) → 8 * n + 6 ≤ seen_rank p st.word → g ≡ n)
+  pub record TakesCompleted (st : Step (Option R)) (m : Me (Option R) (List Known)) (n : ℕ)
+      (m' : Me (Option R) (List Known)) : Type 0 where
+    pub p : Known
+    pub q : Known
+    pub g : ℕ
+    pub class : Class
+    pub x : R
+    pub by_owner : m.0 ≡ p ∷ []
+    pub then : m' ≡ (q ∷ [], (st.word, Some x) ∷ m.1)
+    pub found : n ≡ packed_word (completed_word class g)
+    pub event_made : EventMade step.Local st.word (completed_word class g) (taken_word class g) [] p q
+    pub label_is : label x ≡
+        record { handle = st.word; generation = g; ended = class; settled = false }
+    pub aimed : (a : List ℕ) → IsIn (wait_ref st.word g, a) p.aims → aim_in x ≡ a
+    pub fits : Fits x
+    pub same : (n : ℕ) → IsInFlight p (wait_ref st.word n) → 8 * n + 6 ≤ seen_rank p st.word
+        → g ≡ n

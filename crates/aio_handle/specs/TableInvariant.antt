@@ -53,7 +53,7 @@ pub record KnownMatchesWord (c : Config) (h : ℕ) (w : Word) (aim : List ℕ)
   pub out : p.number ≡ owner c h → (g : ℕ) → ((w.state ≡ HandedOut) × (w.generation ≡ g))
       ↔ (p.out ≡ Some (wait_ref h g))
   -- the owner's Reclaimed marks tell the generation
-  pub lived : p.number ≡ owner c h → w.generation ≡ c.start + lives_ended h p.marks
+  pub own_generation : p.number ≡ owner c h → w.generation ≡ c.start + lives_ended h p.marks
   -- an aim is noted from Submit on, and that of the word's generation is the incarnation's
   pub aims : (e : WaitRef × List ℕ) → IsIn e p.aims → e.0.handle ≡ h
       → (8 * e.0.generation + 2 < word_rank w) × (e.0.generation ≡ w.generation → e.1 ≡ aim)
@@ -73,7 +73,7 @@ pub record IsLawfulActor (c : Config) (p : Known) : Type 0 where
 module _ {R : Type 0} (label : R → Label) (aim_in : R → List ℕ) (Fits : R → Type 0) where
   -- a record for the incarnation of the word
   pub record IsRecordFor (h : ℕ) (w : Word) (aim : List ℕ) (ended : Class) (r : R) : Type 0 where
-    pub labelled : label r ≡
+    pub label_is : label r ≡
         record { handle = h; generation = w.generation; ended = ended; settled = false }
     pub aimed : aim_in r ≡ aim
     pub fits : Fits r
@@ -100,9 +100,9 @@ module _ {R : Type 0} (label : R → Label) (aim_in : R → List ℕ) (Fits : R 
 
   pub record TableInvariant (c : Config) (s : State (Option R) (List Known)) : Type 0 where
     pub ws : List Word
-    pub shown : s.words ≡ map packed_word ws
+    pub packed_words : s.words ≡ map packed_word ws
     pub homes : length s.homes ≡ handle_count c
-    pub stands : StandsByRank c ws (lists_joined s.views)
+    pub words_match_lists : StandsByRank c ws (lists_joined s.views)
     pub handle : (h : ℕ) (w : Word) (home : maybe.Option (Option R)) → get_elem? ws h ≡ some w
         → get_elem? s.homes h ≡ some home → HandleInvariant c (lists_joined s.views) h w home
     pub actor : (p : Known) → IsIn p (lists_joined s.views) → IsLawfulActor c p

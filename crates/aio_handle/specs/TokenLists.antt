@@ -31,6 +31,6 @@ TokenUnchangedAt _ = TokenUnchanged
 abbrev pub AreDistinctTokens : {A : Type 0} → (A → WaitRef) → (Known → WaitRef → Type 0) → Known
     → List A
     → Type 0
-AreDistinctTokens of Stands p [] = Unit {0}
-AreDistinctTokens {A} of Stands p (t ∷ ts) = Stands p (of t) × ((u : A) → IsIn u ts → of u ≢ of t)
-    × AreDistinctTokens of Stands p ts
+AreDistinctTokens reference_of Stands p [] = Unit {0}
+AreDistinctTokens {A} reference_of Stands p (t ∷ ts) = Stands p (reference_of t) × ((u : A) → IsIn u ts → reference_of u ≢ reference_of t)
+    × AreDistinctTokens reference_of Stands p ts

@@ -4,9 +4,9 @@ ghost use Rattle.aio_word.specs.Events.{handle_count};
 ghost use Rattle.aio_word.specs.Stands.{seen_rank};
 ghost use Rattle.aio_word.specs.Tokens.{MarksOnceAndSeen, claimed_mark_count};
 ghost use Rattle.aio_handle.specs.OwnHandleCache.{OnlyPastReclaimed};
-ghost use Rattle.aio_handle.specs.Free.{IsFree, HasNoneFree, IsRoom};
+ghost use Rattle.aio_handle.specs.FreeHandles.{IsFree, HasNoneFree, IsRoom};
 
-use crate::own::{OwnHandle, next_free, room_of};
+use crate::own_handles::{OwnHandle, next_free, room_of};
 use crate::record::Record;
 use crate::rule::View;
 use aio_word::{Config, WaitRef};
@@ -37,7 +37,7 @@ pub struct Actor<R: Record, W: World> {
     pub(crate) is_out: bool,
     // How often it has claimed.
     pub(crate) claims: u128,
-    pub(crate) of: PhantomData<W>,
+    pub(crate) marker: PhantomData<W>,
 }
 
 impl<R: Record, W: World> Model for Actor<R, W> {

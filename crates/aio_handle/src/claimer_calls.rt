@@ -18,7 +18,7 @@ ghost use Rattle.aio_handle.specs.ClaimAttempt.{ClaimWon, ClaimLost, OwnerKnowsC
 use crate::actor::Actor;
 use crate::execute::Execute;
 use crate::front::move_slot_to_front;
-use crate::own::LAST_GENERATION;
+use crate::own_handles::LAST_GENERATION;
 use crate::record::Record;
 use crate::steps::{ClaimStep, ExecuteStep, LookStep, ShareStep};
 use crate::table::{Table, number_of};
@@ -74,7 +74,7 @@ impl<R: Record, W: World> Table<R, W> {
                 Some(Claimed {
                     reference,
                     io,
-                    of: PhantomData,
+                    marker: PhantomData,
                 })
             }
             None => unreachable!(),
@@ -164,7 +164,7 @@ impl<R: Record, W: World> Table<R, W> {
         let Claimed {
             reference,
             io,
-            of: _,
+            marker: _,
         } = claimed;
         let handle = reference.handle as usize;
         let word = number_of(

@@ -5,7 +5,7 @@ ghost use Rattle.aio_word.specs.Events.{actor_count};
 ghost use Rattle.aio_word.specs.Totals.{by_backends as claimed_by_backends};
 ghost use Rattle.aio_word.specs.Totals.{by_runners as claimed_by_runners};
 ghost use Rattle.aio_handle.specs.ContractViews.{IsActorOf, actor_known};
-ghost use Rattle.aio_handle.specs.Closing.{NoneHasOwnerTokens, EndState, AreTotals};
+ghost use Rattle.aio_handle.specs.EndStates.{NoneHasOwnerTokens, EndState, AreTotals};
 
 use crate::actor::Actor;
 use crate::record::Record;
@@ -28,7 +28,7 @@ pub struct Totals {
 }
 
 impl Model for Totals {
-    ghost use Rattle.aio_handle.specs.Closing.{TotalsView};
+    ghost use Rattle.aio_handle.specs.EndStates.{TotalsView};
 
     ghost Value = { TotalsView };
 
@@ -98,7 +98,7 @@ impl<R: Record, W: World> Table<R, W> {
     pub fn close(self, actors: Vec<Actor<R, W>>) -> Totals
         requires table { All (IsActorOf self) actors.items }
         requires all { length actors.items ≡ actor_count self.config }
-        requires quiet { NoneHasOwnerTokens (map actor_known actors.items) }
+        requires no_owner_tokens { NoneHasOwnerTokens (map actor_known actors.items) }
         ensures { AreTotals self.config (map actor_known actors.items) result }
     {
         let (by_backends, by_runners) = count_claims(&self.config, actors.as_slice());
@@ -114,14 +114,14 @@ impl<R: Record, W: World> Table<R, W> {
     fn end(self, actors: Vec<Actor<R, W>>) -> Closed<Option<R>, Global>
         requires table { All (IsActorOf self) actors.items }
         requires all { length actors.items ≡ actor_count self.config }
-        requires quiet { NoneHasOwnerTokens (map actor_known actors.items) }
+        requires no_owner_tokens { NoneHasOwnerTokens (map actor_known actors.items) }
         ensures slots { IsFull result.slots }
-        ensures ends { EndState self.config (map actor_known actors.items) }
+        ensures end_state { EndState self.config (map actor_known actors.items) }
         ensures small { claimed_by_backends self.config
             (map actor_known actors.items) + claimed_by_runners self.config
             (map actor_known actors.items) < 2 ^ 128 - 1 }
     {
-        let seat = self.gather(actors);
+        let seat = self.join_seats(actors);
         let Table {
             inner,
             config: _,
@@ -131,7 +131,7 @@ impl<R: Record, W: World> Table<R, W> {
     }
 
     // One seat with the lists of all these actors, in their order.
-    fn gather(&self, mut actors: Vec<Actor<R, W>>) -> Seat<Option<R>, View>
+    fn join_seats(&self, mut actors: Vec<Actor<R, W>>) -> Seat<Option<R>, View>
         requires table { All (IsActorOf self.now) actors.items }
         ensures table { result.table_id ≡ self.now.table }
         ensures lists { result.me.0 ≡ map actor_known actors.items }

@@ -19,16 +19,16 @@ ghost use Rattle.aio_word.specs.Tokens.{claimed_mark_count};
 ghost use Rattle.aio_word.specs.Tokens.{failed_mark_count, failed_result_count};
 ghost use Rattle.aio_word.specs.Words.{last_generation};
 ghost use Rattle.aio_handle.specs.declared.actor.AcquireRefusal.{AcquireRefusal};
-ghost use Rattle.aio_handle.specs.Closing.{EndState, IsExecutedIn, HasNoOwnerTokens};
+ghost use Rattle.aio_handle.specs.EndStates.{EndState, IsExecutedIn, HasNoOwnerTokens};
 ghost use Rattle.aio_handle.specs.Execution.{ExecutesAll};
-ghost use Rattle.aio_handle.specs.Free.{IsRoom, IsCause};
+ghost use Rattle.aio_handle.specs.FreeHandles.{IsRoom, IsCause};
 ghost use Rattle.aio_handle.specs.TokenLists.{Place, TokenIsAt, TokenUnchangedAt};
 ghost use Rattle.aio_handle.specs.TokenLists.{AreDistinctTokens};
 ghost use Rattle.aio_handle.specs.UnchangedTokens.{TokenUnchanged, ClaimUnchanged, UsesToken};
 ghost use Rattle.aio_handle.specs.LifeWords.{handed_out_word, defined_word, unclaimed_word};
 ghost use Rattle.aio_handle.specs.LifeWords.{claimed_word};
 ghost use Rattle.aio_handle.specs.CallEvents.{EventMade, WordLoaded, IsByOwner};
-ghost use Rattle.aio_handle.specs.Together.{StandTogether};
+ghost use Rattle.aio_handle.specs.ActorPairs.{StandTogether};
 
 /// Once no token is out, each actor has executed as many I/Os as it has claimed.
 pub fn each_claim_was_executed()
@@ -107,7 +107,7 @@ pub fn events_keep_other_claims()
 /// What is claimed was not claimed by this actor before: each of its claimed I/Os is another one,
 /// and stays. `Actor::has_seen_its_marks` gives the condition.
 pub fn claim_keeps_claims()
-    ensures kept { (t : WaitRef) (h g : ℕ) (aim : List ℕ) (p q : Known)
+    ensures claims_stay { (t : WaitRef) (h g : ℕ) (aim : List ℕ) (p q : Known)
         → MarksOnceAndSeen (seen_rank p) p.marks
         → EventMade Claim h (unclaimed_word g) (claimed_word g) aim p q → ClaimUnchanged t p q }
     ensures other { (t : WaitRef) (h g : ℕ) (aim : List ℕ) (p q : Known)
@@ -164,28 +164,28 @@ pub fn executions_compose()
 /// Tokens that stand at one place, no two of one incarnation, stay so where each is kept, and go
 /// together to another place where each goes there.
 pub fn distinct_tokens_stay<A>()
-    ensures kept { (place : Place) (of : A → WaitRef) (p q : Known) (ts : List A)
-        → ((t : A) → IsIn t ts → TokenUnchangedAt place (of t) p q)
-        → AreDistinctTokens of (TokenIsAt place) p ts
-        → AreDistinctTokens of (TokenIsAt place) q ts }
-    ensures moved { (from to : Place) (of : A → WaitRef) (p q : Known) (ts : List A)
-        → ((t : A) → IsIn t ts → TokenIsAt from p (of t) → TokenIsAt to q (of t))
-        → AreDistinctTokens of (TokenIsAt from) p ts → AreDistinctTokens of (TokenIsAt to) q ts }
-    ensures each { (place : Place) (of : A → WaitRef) (p : Known) (ts : List A) (t : A)
-        → AreDistinctTokens of (TokenIsAt place) p ts → IsIn t ts → TokenIsAt place p (of t) }
+    ensures tokens_stay { (place : Place) (reference_of : A → WaitRef) (p q : Known) (ts : List A)
+        → ((t : A) → IsIn t ts → TokenUnchangedAt place (reference_of t) p q)
+        → AreDistinctTokens reference_of (TokenIsAt place) p ts
+        → AreDistinctTokens reference_of (TokenIsAt place) q ts }
+    ensures tokens_moved { (from to : Place) (reference_of : A → WaitRef) (p q : Known) (ts : List A)
+        → ((t : A) → IsIn t ts → TokenIsAt from p (reference_of t) → TokenIsAt to q (reference_of t))
+        → AreDistinctTokens reference_of (TokenIsAt from) p ts → AreDistinctTokens reference_of (TokenIsAt to) q ts }
+    ensures each { (place : Place) (reference_of : A → WaitRef) (p : Known) (ts : List A) (t : A)
+        → AreDistinctTokens reference_of (TokenIsAt place) p ts → IsIn t ts → TokenIsAt place p (reference_of t) }
 {}
 
 /// A token of another incarnation may come to them, and one of them may go: the others are of other
 /// incarnations.
 pub fn distinct_tokens_change<A>()
-    ensures comes { (place : Place) (of : A → WaitRef) (p : Known) (ts : List A) (t : A)
-        → AreDistinctTokens of (TokenIsAt place) p ts → TokenIsAt place p (of t)
-        → ((u : A) → IsIn u ts → of u ≢ of t)
-        → AreDistinctTokens of (TokenIsAt place) p (ts ++ t ∷ []) }
-    ensures goes { (place : Place) (of : A → WaitRef) (p : Known) (front back : List A) (t : A)
-        → AreDistinctTokens of (TokenIsAt place) p (front ++ t ∷ back)
-        → AreDistinctTokens of (TokenIsAt place) p (front ++ back) }
-    ensures apart { (place : Place) (of : A → WaitRef) (p : Known) (front back : List A) (t u : A)
-        → AreDistinctTokens of (TokenIsAt place) p (front ++ t ∷ back) → IsIn u (front ++ back)
-        → of u ≢ of t }
+    ensures token_added { (place : Place) (reference_of : A → WaitRef) (p : Known) (ts : List A) (t : A)
+        → AreDistinctTokens reference_of (TokenIsAt place) p ts → TokenIsAt place p (reference_of t)
+        → ((u : A) → IsIn u ts → reference_of u ≢ reference_of t)
+        → AreDistinctTokens reference_of (TokenIsAt place) p (ts ++ t ∷ []) }
+    ensures token_removed { (place : Place) (reference_of : A → WaitRef) (p : Known) (front back : List A) (t : A)
+        → AreDistinctTokens reference_of (TokenIsAt place) p (front ++ t ∷ back)
+        → AreDistinctTokens reference_of (TokenIsAt place) p (front ++ back) }
+    ensures others_differ { (place : Place) (reference_of : A → WaitRef) (p : Known) (front back : List A) (t u : A)
+        → AreDistinctTokens reference_of (TokenIsAt place) p (front ++ t ∷ back) → IsIn u (front ++ back)
+        → reference_of u ≢ reference_of t }
 {}

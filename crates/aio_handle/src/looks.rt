@@ -21,7 +21,7 @@ impl<R: Record, W: World> Table<R, W> {
         requires range { reference.handle < W.handles }
         ensures same { IsSameActor actor.old actor.new }
         ensures look { CheckAnswer reference result actor.old.known actor.new.known }
-        ensures seen { HasSeenDone actor.old.known reference → IsTrue result }
+        ensures seen_done { HasSeenDone actor.old.known reference → IsTrue result }
     {
         let number = self
             .inner

@@ -13,12 +13,12 @@ ghost use Rattle.aio_handle.specs.LifeWords.{idle_word, handed_out_word, defined
 ghost use Rattle.aio_handle.specs.LifeWords.{unclaimed_word, taken_word};
 ghost use Rattle.aio_handle.specs.CallEvents.{EventMade, WordLoaded, IsCompleted, TakesResult};
 ghost use Rattle.aio_handle.specs.CallEvents.{HasWholeLife};
-ghost use Rattle.aio_handle.specs.Free.{IsFree, IsCause};
+ghost use Rattle.aio_handle.specs.FreeHandles.{IsFree, IsCause};
 ghost use Rattle.aio_handle.specs.TakeAnswer.{IfReady, IfNotYet};
 
 use crate::actor::{AcquireRefusal, Actor};
 use crate::front::move_slot_to_front;
-use crate::own::{OwnHandle, place_of, remember};
+use crate::own_handles::{OwnHandle, place_of, remember};
 use crate::record::Record;
 use crate::steps::{
     DefineStep, HandOutStep, LookStep, ReclaimStep, ReleaseStep, StageStep, SubmitStep, TakeStep,
@@ -88,7 +88,7 @@ impl<R: Record, W: World> Table<R, W> {
         actor.turn = place_of(actor.config.per_backend, reference.handle) + 1;
         HandedOut {
             reference,
-            of: PhantomData,
+            marker: PhantomData,
         }
     }
 
@@ -100,7 +100,10 @@ impl<R: Record, W: World> Table<R, W> {
         ensures event { EventMade Release token.handle (handed_out_word token.generation)
             (idle_word token.generation) [] actor.old.known actor.new.known }
     {
-        let HandedOut { reference, of: _ } = token;
+        let HandedOut {
+            reference,
+            marker: _,
+        } = token;
         let handle = reference.handle as usize;
         let word = number_of(State::Idle, false, Class::Unended, reference.generation);
         move_slot_to_front(&mut actor.seat, handle);
@@ -121,7 +124,10 @@ impl<R: Record, W: World> Table<R, W> {
         ensures token { (result.0 ≡ token) × (R.aim result.1 ≡ R.aim io)
             × IsDefined actor.new.known result.0 }
     {
-        let HandedOut { reference, of: _ } = token;
+        let HandedOut {
+            reference,
+            marker: _,
+        } = token;
         io.bind(reference.handle, reference.generation);
         let word = number_of(State::Defined, false, Class::Unended, reference.generation);
         self.inner
@@ -141,7 +147,7 @@ impl<R: Record, W: World> Table<R, W> {
         Defined {
             reference,
             io,
-            of: PhantomData,
+            marker: PhantomData,
         }
     }
 
@@ -157,7 +163,7 @@ impl<R: Record, W: World> Table<R, W> {
         let Defined {
             reference,
             io,
-            of: _,
+            marker: _,
         } = token;
         let word = number_of(State::Staged, false, Class::Unended, reference.generation);
         self.inner
@@ -166,7 +172,7 @@ impl<R: Record, W: World> Table<R, W> {
         Staged {
             reference,
             io,
-            of: PhantomData,
+            marker: PhantomData,
         }
     }
 
@@ -183,7 +189,7 @@ impl<R: Record, W: World> Table<R, W> {
         let Staged {
             reference,
             io,
-            of: _,
+            marker: _,
         } = token;
         let handle = reference.handle as usize;
         let word = number_of(
@@ -201,7 +207,7 @@ impl<R: Record, W: World> Table<R, W> {
             .swap::<SubmitStep>(&mut actor.seat, handle, word);
         InFlight {
             reference,
-            of: PhantomData,
+            marker: PhantomData,
         }
     }
 
@@ -217,14 +223,17 @@ impl<R: Record, W: World> Table<R, W> {
         ensures ready { IfReady result
             (λ t. (t.0 ≡ token) × IsLocal actor.new.known t.0
             × TakesResult token actor.old.known actor.new.known (R.label t.1)) }
-        ensures alone { IfReady result
+        ensures sole_actor { IfReady result
             (λ t. actor_count self.now.config ≡ 1
             → HasWholeLife t.0 (R.label t.1).ended actor.new.known) }
         ensures record { IfReady result
             (λ t. R.fits W.told W.relations t.1
             × ((aim : List ℕ) → IsIn (token, aim) actor.old.known.aims → R.aim t.1 ≡ aim)) }
     {
-        let InFlight { reference, of: _ } = token;
+        let InFlight {
+            reference,
+            marker: _,
+        } = token;
         let handle = reference.handle as usize;
         let found = self.inner.shared.load::<LookStep>(&mut actor.seat, handle);
         let Ok(word) = unpack(found) else {
@@ -233,7 +242,7 @@ impl<R: Record, W: World> Table<R, W> {
         if !is_completed(&word, reference.generation) {
             return Take::NotYet(InFlight {
                 reference,
-                of: PhantomData,
+                marker: PhantomData,
             });
         }
         self.inner
@@ -243,7 +252,7 @@ impl<R: Record, W: World> Table<R, W> {
             Some(io) => Take::Ready(Local {
                 reference,
                 io,
-                of: PhantomData,
+                marker: PhantomData,
             }),
             None => unreachable!(),
         }
@@ -263,7 +272,7 @@ impl<R: Record, W: World> Table<R, W> {
         let Local {
             reference,
             io,
-            of: _,
+            marker: _,
         } = token;
         let handle = reference.handle as usize;
         move_slot_to_front(&mut actor.seat, handle);

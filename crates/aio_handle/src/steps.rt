@@ -1,12 +1,12 @@
 //! What each step tells. These types are for the proofs alone.
 ghost use Rattle.std.specs.Prelude.{◌≡◌, [], ◌++◌};
 ghost use Rattle.aio_word.specs.declared.Step.TheVariants.{Define, Stage};
-ghost use Rattle.aio_handle.specs.Steps.{StepLoadsWord, StepMakesEvent, Executes, HandsOut};
+ghost use Rattle.aio_handle.specs.Steps.{StepLoadsWord, KeepsSlots, Executes, HandsOut};
 ghost use Rattle.aio_handle.specs.Steps.{Releases};
 ghost use Rattle.aio_handle.specs.Steps.{Reclaims, Claims, Submits, Shares, TakesCompleted};
 ghost use Rattle.aio_handle.specs.LifeWords.{handed_out_word, defined_word, staged_word};
 ghost use Rattle.aio_handle.specs.Seats.{front_of, rest_of};
-ghost use Rattle.aio_handle.specs.Together.{Compares};
+ghost use Rattle.aio_handle.specs.ActorPairs.{Compares};
 
 use crate::record::Record;
 use crate::rule::View;
@@ -63,13 +63,13 @@ impl<R> Play<Option<R>, View> for ReleaseStep {
 pub struct DefineStep;
 
 impl<R> Play<Option<R>, View> for DefineStep {
-    ghost then = { StepMakesEvent Define handed_out_word defined_word };
+    ghost then = { KeepsSlots Define handed_out_word defined_word [] };
 }
 
 pub struct StageStep;
 
 impl<R> Play<Option<R>, View> for StageStep {
-    ghost then = { StepMakesEvent Stage defined_word staged_word };
+    ghost then = { KeepsSlots Stage defined_word staged_word [] };
 }
 
 pub struct SubmitStep;
@@ -79,7 +79,7 @@ impl<R: Record> Play<Option<R>, View> for SubmitStep {
 }
 
 pub struct ClaimStep<W> {
-    of: PhantomData<W>,
+    marker: PhantomData<W>,
 }
 
 impl<R: Record, W: World> Play<Option<R>, View> for ClaimStep<W> {
@@ -99,7 +99,7 @@ impl<R> Play<Option<R>, View> for ShareStep {
 }
 
 pub struct TakeStep<W> {
-    of: PhantomData<W>,
+    marker: PhantomData<W>,
 }
 
 impl<R: Record, W: World> Play<Option<R>, View> for TakeStep<W> {

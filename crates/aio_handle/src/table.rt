@@ -9,7 +9,7 @@ ghost use Rattle.aio_word.specs.Events.{handle_count, actor_count, make_word};
 ghost use Rattle.aio_handle.specs.TableInvariant.{initial_known};
 
 use crate::actor::Actor;
-use crate::own::OwnHandle;
+use crate::own_handles::OwnHandle;
 use crate::record::Record;
 use crate::rule::{Handles, View};
 use crate::sleepers::Sleepers;
@@ -129,14 +129,14 @@ impl<R: Record, W: World> Table<R, W> {
             sleepers,
         };
         for n in 0..number {
-            let actor = table.deal(alloc, &mut seat, n)?;
+            let actor = table.new_actor(alloc, &mut seat, n)?;
             actors.push_reserved(actor);
         }
         Ok((table, actors))
     }
 
     // The actor of this number, whose list is the first that the seat carries.
-    fn deal(
+    fn new_actor(
         &self,
         alloc: Global,
         seat: &mut Seat<Option<R>, View>,
@@ -170,7 +170,7 @@ impl<R: Record, W: World> Table<R, W> {
             turn: 0,
             is_out: false,
             claims: 0,
-            of: PhantomData,
+            marker: PhantomData,
         })
     }
 }

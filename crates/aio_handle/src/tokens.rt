@@ -8,7 +8,7 @@ use std::marker::{Model, PhantomData};
 #[derive(Drop)]
 pub struct HandedOut<W: World> {
     pub(crate) reference: WaitRef,
-    pub(crate) of: PhantomData<W>,
+    pub(crate) marker: PhantomData<W>,
 }
 
 impl<W: World> Model for HandedOut<W> {
@@ -27,7 +27,7 @@ impl<W: World> Model for HandedOut<W> {
 pub struct Defined<R: Record, W: World> {
     pub(crate) reference: WaitRef,
     pub(crate) io: R,
-    pub(crate) of: PhantomData<W>,
+    pub(crate) marker: PhantomData<W>,
 }
 
 impl<R: Record, W: World> Model for Defined<R, W> {
@@ -49,7 +49,7 @@ impl<R: Record, W: World> Model for Defined<R, W> {
 pub struct Staged<R: Record, W: World> {
     pub(crate) reference: WaitRef,
     pub(crate) io: R,
-    pub(crate) of: PhantomData<W>,
+    pub(crate) marker: PhantomData<W>,
 }
 
 impl<R: Record, W: World> Model for Staged<R, W> {
@@ -70,7 +70,7 @@ impl<R: Record, W: World> Model for Staged<R, W> {
 #[derive(Drop)]
 pub struct InFlight<W: World> {
     pub(crate) reference: WaitRef,
-    pub(crate) of: PhantomData<W>,
+    pub(crate) marker: PhantomData<W>,
 }
 
 impl<W: World> Model for InFlight<W> {
@@ -89,7 +89,7 @@ impl<W: World> Model for InFlight<W> {
 pub struct Claimed<R: Record, W: World> {
     pub(crate) reference: WaitRef,
     pub(crate) io: R,
-    pub(crate) of: PhantomData<W>,
+    pub(crate) marker: PhantomData<W>,
 }
 
 impl<R: Record, W: World> Model for Claimed<R, W> {
@@ -108,7 +108,7 @@ impl<R: Record, W: World> Model for Claimed<R, W> {
 pub struct Local<R: Record, W: World> {
     pub(crate) reference: WaitRef,
     pub(crate) io: R,
-    pub(crate) of: PhantomData<W>,
+    pub(crate) marker: PhantomData<W>,
 }
 
 impl<R: Record, W: World> Model for Local<R, W> {

@@ -1,7 +1,7 @@
 -- The line of totals.
 use Rattle.std.specs.Prelude.{ℕ, List, [], ◌∷◌, codes, decimal}
 use Rattle.std.specs.List.{concat}
-use Rattle.aio_handle.specs.Closing.{TotalsView}
+use Rattle.aio_handle.specs.EndStates.{TotalsView}
 
 -- `incarnations N workers W backends B`
 abbrev pub numbers_line : ℕ → ℕ → ℕ → List ℕ

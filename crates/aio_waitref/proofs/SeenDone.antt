@@ -29,12 +29,12 @@ done-rank w g d = ⊎_elim (λ past. omega arith)
 pub checked_seen : (t : WaitRef) (b : Bool) (p q : Known) → CheckAnswer t b p q → b ≡ true
     → HasSeenDone q t
 checked_seen t b p q c is_true = let a = done-rank c.word t.generation (c.exact.0 is_true) in
-    let b = c.looked.now in omega arith
+    let b = c.word_load.now in omega arith
 
 -- an actor that only looked and looks again
 pub checks_on : (t : WaitRef) (b : Bool) (p q r : Known) → AppendsMarks p q [] → CheckAnswer t b q r
     → AppendsMarks p r []
-checks_on t b p q r g c = appends-then p q r [] [] g (look-on t.handle c.word q r c.looked)
+checks_on t b p q r g c = appends-then p q r [] [] g (look-on t.handle c.word q r c.word_load)
 
 pub looks_on : (h : ℕ) (w : Word) (p q r : Known) → AppendsMarks p q [] → WordLoaded h w q r
     → AppendsMarks p r []

@@ -12,7 +12,7 @@ use Rattle.aio_word.specs.Tokens.{IsInFlight, HasSeenDone}
 use Rattle.aio_word.proofs.EventEffect.{get-at}
 use Rattle.aio_word.proofs.OwnMarksBoundWord.{own-mark, owner-below}
 use Rattle.aio_word.proofs.RanksAgree.{stands-by-rank}
-use Rattle.aio_word.proofs.StateByPlace.{is-completed}
+use Rattle.aio_word.proofs.StateByPlace.{state-at}
 use Rattle.aio_word.proofs.AppendKeepsHandle.{place-small, rank-in-bounds}
 use Rattle.aio_handle.specs.Execution.{ExecutesAll}
 use Rattle.aio_handle.specs.CallEvents.{WordLoaded, IsCompleted}
@@ -45,7 +45,7 @@ not-past c p w t m f =
     let l = list-position p m.parts m.here in
     let r : StandsByRank c m.machine.words (l.front ++ p ∷ l.back) =
     subst (λ (z : List Known). StandsByRank c m.machine.words z) l.now
-    (stands-by-rank c m.machine.words m.parts m.stands) in
+    (stands-by-rank c m.machine.words m.parts m.words_match_lists) in
     let here : IsIn p (l.front ++ p ∷ l.back) =
     subst (λ (z : List Known). IsIn p z) l.now m.here in
     let s = r.each_handle h w (get-at m.machine.words h w m.word) in
@@ -54,7 +54,7 @@ not-past c p w t m f =
     let lo = (rank-in-bounds c (l.front ++ p ∷ l.back) h w s p here
     (8 * t.generation + 2) f.since).0 in
     let until = f.until in
-    owner-below c l.front l.back p h w s r.each_list (r.numbered p.number) own t.generation 6
+    owner-below c l.front l.back p h w s r.each_list (r.distinct_numbers p.number) own t.generation 6
     (omega arith) (inr (omega arith)) (omega arith) (omega arith)
 
 -- a look at one's own I/O in flight that was seen done finds it completed, and not taken
@@ -64,7 +64,7 @@ in_flight-completed t w p q l f d =
     let above = l.before in
     let below = not-past p.config p w t l.moment f in
     let small = place-small w.state w.claimed in
-    (is-completed w.state w.claimed (omega arith), omega arith)
+    (state-at 6 w.state w.claimed (omega arith) (omega arith), omega arith)
 
 -- so the result is there, once the owner has waited
 pub in_flight_taken : (t u : WaitRef) (w : Word) (p q r : Known) (reads reads' faults faults' : ℕ)

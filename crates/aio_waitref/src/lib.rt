@@ -18,8 +18,8 @@
 //! does not complete it, and forever where the reference is of a generation that never comes.
 #![tactic(auto)]
 
-mod own;
+mod own_io;
 mod waits;
 
-pub use own::wait_own;
+pub use own_io::wait_own;
 pub use waits::wait;

@@ -4,7 +4,7 @@ ghost use Rattle.aio_word.specs.Tokens.{AppendsMarks, HasSeenDone};
 ghost use Rattle.aio_handle.specs.Execution.{ExecutesAll};
 ghost use Rattle.aio_handle.specs.ContractViews.{IsActorOf, IsSameActor};
 ghost use Rattle.aio_handle.specs.ClaimAttempt.{ClaimWon};
-ghost use Rattle.aio_waitref.specs.Waiting.{LostThenLooked};
+ghost use Rattle.aio_waitref.specs.WaitOutcomes.{LostThenLooked};
 
 use aio_handle::{Actor, Execute, Record, Table};
 use aio_word::WaitRef;
@@ -59,7 +59,7 @@ pub fn wait<R: Record, W: World, E: Execute<R, W>, T: Wait>(
         (E.reads runner.old) (E.reads runner.new)
         (E.faults runner.old) (E.faults runner.new) }
     ensures done { HasSeenDone actor.new.known reference }
-    ensures tried { ClaimWon reference actor.old.known actor.new.known (E.reads runner.old)
+    ensures claim_attempt { ClaimWon reference actor.old.known actor.new.known (E.reads runner.old)
         (E.reads runner.new) (E.faults runner.old) (E.faults runner.new)
         ⊎ (LostThenLooked reference actor.old.known actor.new.known × (runner.new ≡ runner.old)) }
 {

@@ -16,10 +16,11 @@ use Rattle.aio_word.specs.declared.Word.{Word}
 use Rattle.aio_word.specs.declared.Kind.{Kind}
 use Rattle.aio_word.specs.declared.Kind.TheVariants as kind
 use Rattle.aio_word.specs.declared.Known.{Known}
-use Rattle.aio_word.specs.Words.{IsLawful, last_generation, state_place, word_place, word_rank}
+use Rattle.aio_word.specs.Words.{state_place, word_place, word_rank}
 use Rattle.aio_word.specs.Events.{kind_place, mark_rank, is_mark, count_at_rank}
 use Rattle.aio_word.specs.Stands.{IsIn, one_if, total_at_rank, seen_rank}
 use Rattle.aio_word.specs.StandsByRank.{is_due, StandsForHandleByRank}
+use Rattle.aio_word.proofs.EventRows.{AddsMark}
 use Rattle.aio_word.proofs.ReplacedElement.{in-append, in-replaced, in-here, sum-replaced, sum-in}
 use Rattle.aio_word.proofs.MarksDue.{one-if-le, one-if-no, due-true, due-more, not-due}
 
@@ -105,15 +106,9 @@ none-above c parts h w s q i n le =
 -- becomes w'
 pub record AppendsNextMark (h : ℕ) (p p' : Known) (w w' : Word) (k : Kind) : Type 0 where
   pub marks : p'.marks ≡ p.marks ++ mark_by_parts h w.generation k ∷ []
-  pub place : kind_place k ≡ word_place w
-  pub rank : word_rank w' ≡ word_rank w + 1
-  pub lawful : IsLawful w'
-  pub last : w'.generation ≡ last_generation → w'.state ≡ Idle
+  pub row : AddsMark w w' k
   pub claims : 3 < word_place w → word_place w < 6 → 0 < count_at_rank h
       (8 * w.generation + 3) p.marks
-  pub same_class : w'.generation ≡ w.generation → 4 < word_place w → w.class ≡ w'.class
-  pub io_class : (class : Class) → k ≡ kind.Io class → class ≡ w'.class
-  pub local_class : (class : Class) → k ≡ kind.Local class → class ≡ w.class
   pub seen : seen_rank p' h ≤ word_rank w'
 
 module _ (c : Config) (a b : List Known) (h : ℕ) (p p' : Known) (w w' : Word) (k : Kind)
@@ -139,7 +134,7 @@ module _ (c : Config) (a b : List Known) (h : ℕ) (p p' : Known) (w w' : Word) 
       ∙ (count_at_rank-push h n p.marks m0
       ∙ ap (λ (z : ℕ). count_at_rank h n p.marks + z)
       (same-rank h (8 * w.generation + kind_place k) r n
-      (ap (λ (z : ℕ). 8 * w.generation + z) d.place)))
+      (ap (λ (z : ℕ). 8 * w.generation + z) d.row.place)))
 
   counted : (n : ℕ) → total_at_rank h n (a ++ p' ∷ b) ≡ one_if (is_due c.start (word_rank w') n)
   counted n =
@@ -150,7 +145,7 @@ module _ (c : Config) (a b : List Known) (h : ℕ) (p p' : Known) (w w' : Word) 
       let due : one_if (is_due c.start (r + 1) n) ≡ one_if (is_due c.start r n) + one_if (r == n) =
       due-more c.start r n begun in
       let now : sum_by f (a ++ p' ∷ b) ≡ one_if (is_due c.start (r + 1) n) = omega arith in
-      now ∙ ap (λ (z : ℕ). one_if (is_due c.start z n)) (sym d.rank)
+      now ∙ ap (λ (z : ℕ). one_if (is_due c.start z n)) (sym d.row.rank)
 
   mine : (g : ℕ) → (count_at_rank h (8 * g + 4) p'.marks ≤ count_at_rank h (8 * g + 3) p'.marks)
       × (count_at_rank h (8 * g + 5) p'.marks ≤ count_at_rank h (8 * g + 3) p'.marks)
@@ -195,7 +190,7 @@ module _ (c : Config) (a b : List Known) (h : ℕ) (p p' : Known) (w w' : Word) 
   io-before o i m class j eh eg ek =
       let lt : mark_rank m < word_rank w = mark-below-word c before h w s o i m j eh in
       let four : kind_place m.kind ≡ 4 = ap kind_place ek in
-      (s.classed o i m class j eh eg ek, omega arith)
+      (s.class_of_io o i m class j eh eg ek, omega arith)
 
   above : (o : Known) → IsIn o before → (m : Mark) → IsIn m o.marks → m.handle ≡ h
       → w.generation < m.generation → ⊥
@@ -203,24 +198,24 @@ module _ (c : Config) (a b : List Known) (h : ℕ) (p p' : Known) (w w' : Word) 
       mark-below-word c before h w s o i m j eh in let sm = small in omega arith
 
   generations : (w'.generation ≡ w.generation) ⊎ (w'.generation ≡ w.generation + 1)
-  generations = let e = d.rank in let small' : word_place w' < 8 =
+  generations = let e = d.row.rank in let small' : word_place w' < 8 =
       place-small w'.state w'.claimed in
       let sm = small in dite (ℕ_discrete w'.generation w.generation) inl (λ n. inr (omega arith))
 
-  classed : (q : Known) → IsIn q (a ++ p' ∷ b) → (m : Mark) (class : Class) → IsIn m q.marks
+  class_of_io : (q : Known) → IsIn q (a ++ p' ∷ b) → (m : Mark) (class : Class) → IsIn m q.marks
       → m.handle ≡ h → m.generation ≡ w'.generation → m.kind ≡ kind.Io class → class ≡ w'.class
-  classed q i m class j eh eg ek = ⊎_elim
-      (λ e. d.io_class class (ap (λ (z : Mark). z.kind) e ∙ ek))
+  class_of_io q i m class j eh eg ek = ⊎_elim
+      (λ e. d.row.io_class class (ap (λ (z : Mark). z.kind) e ∙ ek))
       (λ (o, io, jo). ⊎_elim (λ same. let was = io-before o io m class jo eh (eg ∙ same) ek in was.0
-      ∙ d.same_class same was.1)
+      ∙ d.row.same_class same was.1)
       (λ next. absurd (above o io m jo eh (omega arith))) generations)
       (cases q i m j)
 
-  agreed : (q t : Known) → IsIn q (a ++ p' ∷ b) → IsIn t (a ++ p' ∷ b)
+  class_of_local : (q t : Known) → IsIn q (a ++ p' ∷ b) → IsIn t (a ++ p' ∷ b)
       → (m n : Mark) (one other : Class) → IsIn m q.marks → IsIn n t.marks → m.handle ≡ h
       → n.handle ≡ h → m.generation ≡ n.generation
       → m.kind ≡ kind.Io one → n.kind ≡ kind.Local other → one ≡ other
-  agreed q t i i' m n one other j j' eh eh' eg ek ek' = ⊎_elim
+  class_of_local q t i i' m n one other j j' eh eh' eg ek ek' = ⊎_elim
       (λ e. ⊎_elim
       (λ e'. absurd (let x : kind_place m.kind ≡ kind_place n.kind =
       ap (λ (z : Mark). kind_place z.kind) (sym e
@@ -230,28 +225,28 @@ module _ (c : Config) (a b : List Known) (h : ℕ) (p p' : Known) (w w' : Word) 
       mark-below-word c before h w s o' io' n jo' eh' in
       let gm : w.generation ≡ m.generation = ap (λ (z : Mark). z.generation) e in
       let km : kind_place k ≡ 4 = ap (λ (z : Mark). kind_place z.kind) e ∙ ap kind_place ek in
-      let kn : kind_place n.kind ≡ 6 = ap kind_place ek' in let pl = d.place in omega arith))
+      let kn : kind_place n.kind ≡ 6 = ap kind_place ek' in let pl = d.row.place in omega arith))
       (cases t i' n j'))
       (λ (o, io, jo). ⊎_elim
       (λ e'. let gn : w.generation ≡ n.generation = ap (λ (z : Mark). z.generation) e' in
       let kn : k ≡ kind.Local other = ap (λ (z : Mark). z.kind) e' ∙ ek' in
-      (io-before o io m one jo eh (eg ∙ sym gn) ek).0 ∙ sym (d.local_class other kn))
-      (λ (o', io', jo'). s.agreed o o' io io' m n one other jo jo' eh eh' eg ek ek')
+      (io-before o io m one jo eh (eg ∙ sym gn) ek).0 ∙ sym (d.row.local_class other kn))
+      (λ (o', io', jo'). s.class_of_local o o' io io' m n one other jo jo' eh eh' eg ek ek')
       (cases t i' n j'))
       (cases q i m j)
 
   pub append-keeps-handle : StandsForHandleByRank c (a ++ p' ∷ b) h w'
   append-keeps-handle = record {
-    lawful = d.lawful;
+    lawful = d.row.lawful;
     begun = let x = s.begun in
         ⊎_elim {C = c.start ≤ w'.generation} (λ e. omega arith) (λ e. omega arith) generations;
-    last = d.last;
+    last = d.row.last;
     counted = counted;
     claimed = claimed;
-    classed = classed;
-    agreed = agreed;
+    class_of_io = class_of_io;
+    class_of_local = class_of_local;
     seen = λ q i. ⊎_elim {C =
         seen_rank q h ≤ word_rank w'}
         (λ e. subst (λ (z : Known). seen_rank z h ≤ word_rank w') e d.seen)
-        (λ old. let x = s.seen q old in let y = d.rank in omega arith) (in-replaced a b p p' q i);
+        (λ old. let x = s.seen q old in let y = d.row.rank in omega arith) (in-replaced a b p p' q i);
   }

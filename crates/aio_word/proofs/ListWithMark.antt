@@ -60,8 +60,8 @@ with_mark-list c h g k p p' number marks range own under l = record {
       (λ x. absurd x) new)
       (in-append m p.marks (mark_by_parts h g k ∷ []) (subst
       (λ (z : List Mark). IsIn m z) marks j));
-  owned = λ m j o. number
-      ∙ ⊎_elim (λ old. l.owned m old o)
+  in_owner_list = λ m j o. number
+      ∙ ⊎_elim (λ old. l.in_owner_list m old o)
       (λ new. ⊎_elim (λ e. subst (λ (z : Mark). IsOwnerKind z.kind
       → p.number ≡ owner c z.handle) e own o) (λ x. absurd x) new)
       (in-append m p.marks (mark_by_parts h g k ∷ []) (subst

@@ -45,7 +45,7 @@ module _ (c : Config) (words : List Word) (parts : List Known) (s : Stands c wor
 
   -- where a mark stands its handle has a word
   word-of : (h n : ℕ) → 0 < total_at_rank h n parts → (w : Word) × (slice_get words h ≡ Some w)
-  word-of h n more = let lt = in-range h n more in let wide = s.wide in
+  word-of h n more = let lt = in-range h n more in let one_per_handle = s.one_per_handle in
       (get_or words h (first_word c), slice_get-get_or words h (first_word c) (omega arith))
 
   pub mark-once : (t : WaitRef) (k : Kind) → mark_total t k parts ≤ 1

@@ -78,7 +78,7 @@ module _ (c : Config) (a b : List Known) (p : Known) (h : ℕ) (w : Word)
       s.counted n in let one = due-one c.start (word_rank w) n lo hi in omega arith)
 
   module _ (lists : (q : Known) → IsIn q (a ++ p ∷ b)
-      → IsLawfulList c q) (numbered : sum_by (λ (q : Known). one_if (q.number == p.number))
+      → IsLawfulList c q) (distinct_numbers : sum_by (λ (q : Known). one_if (q.number == p.number))
       (a ++ p ∷ b) ≤ 1) (own : p.number ≡ owner c h) where
     -- an owner's mark that is due stands in the owner's list
     owner-has : (g i : ℕ) → i < 8 → (i < 3) ⊎ (5 < i) → 8 * c.start ≤ 8 * g + i
@@ -90,14 +90,14 @@ module _ (c : Config) (a b : List Known) (p : Known) (h : ℕ) (w : Word)
         let ord : kind_place m.it.kind ≡ i = let o = kind_place-small m.it.kind in
         let r : 8 * m.it.generation + kind_place m.it.kind ≡ 8 * g + i = that.1 in omega arith in
         let number : t.it.number ≡ p.number =
-        (lists t.it t.within).owned m.it m.within
+        (lists t.it t.within).in_owner_list m.it m.within
         (owner-kinds m.it.kind (subst (λ (z : ℕ). (z < 3) ⊎ (5 < z)) (sym ord) kinds))
         ∙ (ap (owner c) that.0 ∙ sym own) in
         let f : Known → ℕ = λ q. one_if (q.number == p.number) in
         let fq : f t.it ≡ 1 = ap (λ (z : ℕ). one_if (z == p.number)) number
         ∙ number-itself p.number in
         let fp : f p ≡ 1 = number-itself p.number in
-        let same : p ≡ t.it = sole f a b p t.it numbered (omega arith) (omega arith) t.within in
+        let same : p ≡ t.it = sole f a b p t.it distinct_numbers (omega arith) (omega arith) t.within in
         subst (λ (z : Known). 0 < count_at_rank h (8 * g + i) z.marks) (sym same) t.more
 
     -- the owner's mark at i stands, and the next does not: so the word is just there
@@ -173,6 +173,6 @@ own-mark c p h g i l small kinds since =
     let that = is-that h (8 * g + i) m.it m.more in
     let ord : kind_place m.it.kind ≡ i = let o = kind_place-small m.it.kind in
     let r : 8 * m.it.generation + kind_place m.it.kind ≡ 8 * g + i = that.1 in omega arith in
-    l.owned m.it m.within
+    l.in_owner_list m.it m.within
     (owner-kinds m.it.kind (subst (λ (z : ℕ). (z < 3) ⊎ (5 < z)) (sym ord) kinds))
     ∙ ap (owner c) that.0

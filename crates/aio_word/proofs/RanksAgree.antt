@@ -66,7 +66,7 @@ handle-from-ranks c parts h w s = record {
   lawful = s.lawful;
   begun = s.begun;
   last = s.last;
-  over = λ g lo hi k. s.counted (8 * g + kind_place k)
+  past_marks = λ g lo hi k. s.counted (8 * g + kind_place k)
       ∙ due-over c.start g w.generation (word_place w) (kind_place k) lo hi (kind_place-small k);
   now = λ k. s.counted (8 * w.generation + kind_place k)
       ∙ due-now c.start w.generation (word_place w) (kind_place k) s.begun;
@@ -74,9 +74,9 @@ handle-from-ranks c parts h w s = record {
       ∙ due-none c.start g w.generation (word_place w) (kind_place k) o (kind_place-small k)
       (place-small w.state w.claimed);
   claimed = s.claimed;
-  classed = λ p i class j. s.classed p i
+  class_of_io = λ p i class j. s.class_of_io p i
       (make_mark (wait_ref h w.generation) (kind.Io class)) class j refl refl refl;
-  agreed = λ p q i j g ended taken m n. s.agreed p q i j (make_mark (wait_ref h g) (kind.Io ended))
+  class_of_local = λ p q i j g ended taken m n. s.class_of_local p q i j (make_mark (wait_ref h g) (kind.Io ended))
       (make_mark (wait_ref h g) (kind.Local taken)) ended taken m n refl refl refl refl refl;
   seen = λ p i. pair-of (seen_rank p h) w.generation (word_place w) (place-small w.state w.claimed)
       (s.seen p i);
@@ -100,7 +100,7 @@ handle-counted-by-rank c parts h w s g i lt =
     (λ ne. s.none g (inr (omega arith)) k
     ∙ sym (due-none c.start g w.generation (word_place w) (kind_place k) (inr (omega arith))
     (kind_place-small k) (place-small w.state w.claimed))))
-    (λ n. s.over g lo (omega arith) k
+    (λ n. s.past_marks g lo (omega arith) k
     ∙ sym (due-over c.start g w.generation (word_place w) (kind_place k) lo (omega arith)
     (kind_place-small k))))
     (λ n. s.none g (inl (omega arith)) k
@@ -121,10 +121,10 @@ handle-by-rank c parts h w s = record {
       subst (λ (z : ℕ). total_at_rank h z parts ≡ one_if (is_due c.start (word_rank w) z)) e
       (handle-counted-by-rank c parts h w s (n / 8) (n % 8) (omega arith));
   claimed = s.claimed;
-  classed = λ p i m class j eh eg ek. s.classed p i class
+  class_of_io = λ p i m class j eh eg ek. s.class_of_io p i class
       (subst (λ (z : Mark). IsIn z p.marks)
       (that-mark m h w.generation (kind.Io class) eh eg ek) j);
-  agreed = λ p q i i' m n one other j j' eh eh' eg ek ek'. s.agreed p q i i' m.generation one other
+  class_of_local = λ p q i i' m n one other j j' eh eh' eg ek ek'. s.class_of_local p q i i' m.generation one other
       (subst (λ (z : Mark). IsIn z p.marks) (that-mark m h m.generation (kind.Io one) eh refl ek) j)
       (subst (λ (z : Mark). IsIn z q.marks)
       (that-mark n h m.generation (kind.Local other) eh' (sym eg) ek') j');
@@ -134,8 +134,8 @@ handle-by-rank c parts h w s = record {
 pub stands-from-ranks : (c : Config) (ws : List Word) (parts : List Known) → StandsByRank c ws parts
     → Stands c ws parts
 stands-from-ranks c ws parts r = record {
-  wide = r.wide;
-  numbered = r.numbered;
+  one_per_handle = r.one_per_handle;
+  distinct_numbers = r.distinct_numbers;
   each_handle =
       λ h w e. handle-from-ranks c parts h w (r.each_handle h w e);
   each_list = r.each_list;
@@ -147,8 +147,8 @@ pub stands-by-rank : (c : Config) (ws : List Word) (parts : List Known) → Stan
     → StandsByRank c ws parts
 stands-by-rank c ws parts r =
     record {
-      wide = r.wide;
-      numbered = r.numbered;
+      one_per_handle = r.one_per_handle;
+      distinct_numbers = r.distinct_numbers;
       each_handle =
           λ h w e. handle-by-rank c parts h w (r.each_handle h w e);
       each_list = r.each_list;

@@ -70,10 +70,10 @@ number-above c n a (suc k) lt =
     let rest : sum_by f (parts_from c (a + 1) k) ≡ 0 = number-above c n (a + 1) k (omega arith) in
     let all = sum_by-cons f (known_with_marks c a []) (parts_from c (a + 1) k) in omega arith
 
-numbered : (c : Config) (n a k : ℕ)
+distinct_numbers : (c : Config) (n a k : ℕ)
     → sum_by (λ (p : Known). one_if (p.number == n)) (parts_from c a k) ≤ 1
-numbered c n a zero = omega arith
-numbered c n a (suc k) =
+distinct_numbers c n a zero = omega arith
+distinct_numbers c n a (suc k) =
     let f : Known → ℕ = λ p. one_if (p.number == n) in
     let all : sum_by f (known_with_marks c a [] ∷ parts_from c (a + 1) k)
     ≡ f (known_with_marks c a []) + sum_by f
@@ -84,7 +84,7 @@ numbered c n a (suc k) =
     number-above c n (a + 1) k (omega arith) in
     omega arith)
     (λ ne. let no : f (known_with_marks c a []) ≡ 0 = one-if-no a n ne in
-    let rest : sum_by f (parts_from c (a + 1) k) ≤ 1 = numbered c n (a + 1) k in omega arith)
+    let rest : sum_by f (parts_from c (a + 1) k) ≤ 1 = distinct_numbers c n (a + 1) k in omega arith)
 
 none-due : (s n : ℕ) → one_if (is_due s (8 * s + 0) n) ≡ 0
 none-due s n = grind (arith, nat_tests)
@@ -102,22 +102,22 @@ first-is-lawful c small =
           ≤ count_at_rank h (8 * g + 3) z.marks)
           × (count_at_rank h (8 * g + 5) z.marks ≤ count_at_rank h (8 * g + 3) z.marks)) r.is
           (le_refl 0, le_refl 0);
-      classed = λ p i m class j _ _ _. let r = new-in c 0 (actor_count c) p i in
+      class_of_io = λ p i m class j _ _ _. let r = new-in c 0 (actor_count c) p i in
           absurd (subst (λ (z : Known). IsIn m z.marks) (sym r.is) j);
-      agreed = λ p q i i' m n one other j _ _ _ _ _ _. let r = new-in c 0 (actor_count c) p i in
+      class_of_local = λ p q i i' m n one other j _ _ _ _ _ _. let r = new-in c 0 (actor_count c) p i in
           absurd (subst (λ (z : Known). IsIn m z.marks) (sym r.is) j);
       seen = λ p i. let r = new-in c 0 (actor_count c) p i in
           subst (λ (z : Known). seen_rank z h ≤ 8 * c.start + 0) r.is (omega arith);
     } in record {
-      stands = stands-from-ranks c (replicate (handle_count c) (first_word c)) all record {
-        wide = length-replicate (handle_count c) (first_word c);
-        numbered = λ n. numbered c n 0 (actor_count c);
+      words_match_lists = stands-from-ranks c (replicate (handle_count c) (first_word c)) all record {
+        one_per_handle = length-replicate (handle_count c) (first_word c);
+        distinct_numbers = λ n. distinct_numbers c n 0 (actor_count c);
         each_handle = λ h w e. subst (λ (z : Word). StandsForHandleByRank c all h z)
             (at-replicate (handle_count c) h (first_word c) w e) (one h);
         each_list = λ p i. let r = new-in c 0 (actor_count c) p i in
             subst (λ (z : Known). IsLawfulList c z) r.is record {
               in_range = λ m j. absurd j;
-              owned =
+              in_owner_list =
                   λ m j. absurd j;
               ordered = λ i j d lt below. absurd (omega arith);
             };
@@ -152,7 +152,7 @@ pub done-shared : (c : Config) (parts : List Known) (h : ℕ) (w : Word) (g : �
     → StandsForHandle c parts h w → c.start ≤ g → IsDone w g
     → mark_total (wait_ref h g) kind.Shared parts ≡ 1
 done-shared c parts h w g s lo done = ⊎_elim
-    (λ lt. s.over g lo lt kind.Shared)
+    (λ lt. s.past_marks g lo lt kind.Shared)
     (λ (same, ended). subst (λ (z : ℕ). mark_total (wait_ref h z) kind.Shared parts ≡ 1) same
     (s.now kind.Shared ∙ less 5 (word_place w) (ended-place w.state w.claimed ended)))
     done
@@ -162,4 +162,4 @@ pub shared-mark-total : (c : Config) (p : Known) (h : ℕ) (w : Word) (g : ℕ) 
     → c.start ≤ g → IsDone w g → mark_total (wait_ref h g) kind.Shared t.parts ≡ 1
 shared-mark-total c p h w g t lo done =
     done-shared c t.parts h w g
-    (t.stands.each_handle h w (get-at t.machine.words h w t.word)) lo done
+    (t.words_match_lists.each_handle h w (get-at t.machine.words h w t.word)) lo done

@@ -1,73 +1,33 @@
--- The state by the place.
-use Rattle.std.proofs.Common.{◌≡◌, Bool, true, false, refl, arith}
+-- The state by the place, from Defined on.
+use Rattle.std.proofs.Common.{◌≡◌, ℕ, ◌<◌, ◌==◌, Bool, true, false, cond, refl, ap, ◌∙◌}
+use Rattle.std.proofs.Common.{arith, subst}
 use Rattle.aio_word.specs.declared.State.{State}
 use Rattle.aio_word.specs.declared.State.TheVariants.{Idle, HandedOut, Defined, Staged, Submitted}
 use Rattle.aio_word.specs.declared.State.TheVariants.{CompletedIo, CompletedShared, CompletedLocal}
 use Rattle.aio_word.specs.Words.{state_place}
 
-pub is-defined : (s : State) (b : Bool) → state_place s b ≡ 1 → s ≡ Defined
-is-defined Idle b e = absurd (omega arith)
-is-defined HandedOut b e = absurd (omega arith)
-is-defined Defined b e = refl
-is-defined Staged b e = absurd (omega arith)
-is-defined Submitted true e = absurd (omega arith)
-is-defined Submitted false e = absurd (omega arith)
-is-defined CompletedIo b e = absurd (omega arith)
-is-defined CompletedShared b e = absurd (omega arith)
-is-defined CompletedLocal b e = absurd (omega arith)
+abbrev pub state_at_place : ℕ → State
+state_at_place n = cond (n == 1) Defined (cond (n == 2) Staged
+    (cond (n == 3) Submitted (cond (n == 4) Submitted
+    (cond (n == 5) CompletedIo (cond (n == 6) CompletedShared CompletedLocal)))))
 
-pub is-staged : (s : State) (b : Bool) → state_place s b ≡ 2 → s ≡ Staged
-is-staged Idle b e = absurd (omega arith)
-is-staged HandedOut b e = absurd (omega arith)
-is-staged Defined b e = absurd (omega arith)
-is-staged Staged b e = refl
-is-staged Submitted true e = absurd (omega arith)
-is-staged Submitted false e = absurd (omega arith)
-is-staged CompletedIo b e = absurd (omega arith)
-is-staged CompletedShared b e = absurd (omega arith)
-is-staged CompletedLocal b e = absurd (omega arith)
+at-own-place : (s : State) (b : Bool) → 0 < state_place s b → s ≡ state_at_place (state_place s b)
+at-own-place Idle b e = absurd (omega arith)
+at-own-place HandedOut b e = absurd (omega arith)
+at-own-place Defined b e = refl
+at-own-place Staged b e = refl
+at-own-place Submitted true e = refl
+at-own-place Submitted false e = refl
+at-own-place CompletedIo b e = refl
+at-own-place CompletedShared b e = refl
+at-own-place CompletedLocal b e = refl
+
+pub state-at : (n : ℕ) (s : State) (b : Bool) → 0 < n → state_place s b ≡ n → s ≡ state_at_place n
+state-at n s b more e = at-own-place s b (omega arith) ∙ ap state_at_place e
 
 -- with the claim
-pub is-claimed : (s : State) (b : Bool) → state_place s b ≡ 4 → (s ≡ Submitted) × (b ≡ true)
-is-claimed Idle b e = absurd (omega arith)
-is-claimed HandedOut b e = absurd (omega arith)
-is-claimed Defined b e = absurd (omega arith)
-is-claimed Staged b e = absurd (omega arith)
-is-claimed Submitted true e = (refl, refl)
-is-claimed Submitted false e = absurd (omega arith)
-is-claimed CompletedIo b e = absurd (omega arith)
-is-claimed CompletedShared b e = absurd (omega arith)
-is-claimed CompletedLocal b e = absurd (omega arith)
-
-pub is-io : (s : State) (b : Bool) → state_place s b ≡ 5 → s ≡ CompletedIo
-is-io Idle b e = absurd (omega arith)
-is-io HandedOut b e = absurd (omega arith)
-is-io Defined b e = absurd (omega arith)
-is-io Staged b e = absurd (omega arith)
-is-io Submitted true e = absurd (omega arith)
-is-io Submitted false e = absurd (omega arith)
-is-io CompletedIo b e = refl
-is-io CompletedShared b e = absurd (omega arith)
-is-io CompletedLocal b e = absurd (omega arith)
-
-pub is-completed : (s : State) (b : Bool) → state_place s b ≡ 6 → s ≡ CompletedShared
-is-completed Idle b e = absurd (omega arith)
-is-completed HandedOut b e = absurd (omega arith)
-is-completed Defined b e = absurd (omega arith)
-is-completed Staged b e = absurd (omega arith)
-is-completed Submitted true e = absurd (omega arith)
-is-completed Submitted false e = absurd (omega arith)
-is-completed CompletedIo b e = absurd (omega arith)
-is-completed CompletedShared b e = refl
-is-completed CompletedLocal b e = absurd (omega arith)
-
-pub is-taken : (s : State) (b : Bool) → state_place s b ≡ 7 → s ≡ CompletedLocal
-is-taken Idle b e = absurd (omega arith)
-is-taken HandedOut b e = absurd (omega arith)
-is-taken Defined b e = absurd (omega arith)
-is-taken Staged b e = absurd (omega arith)
-is-taken Submitted true e = absurd (omega arith)
-is-taken Submitted false e = absurd (omega arith)
-is-taken CompletedIo b e = absurd (omega arith)
-is-taken CompletedShared b e = absurd (omega arith)
-is-taken CompletedLocal b e = refl
+pub claim-at : (s : State) (b : Bool) → state_place s b ≡ 4 → b ≡ true
+claim-at s true e = refl
+claim-at s false e =
+    let x : state_place Submitted false ≡ 4 = subst (λ (z : State). state_place z false ≡ 4)
+    (state-at 4 s false (omega arith) e) e in absurd (omega arith)

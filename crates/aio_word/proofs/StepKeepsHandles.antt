@@ -5,24 +5,21 @@ use mathlib.Core.Option.{some}
 use lib.ListN.{get_elem?}
 use Rattle.aio_word.specs.declared.Config.{Config}
 use Rattle.aio_word.specs.declared.Mark.{Mark}
-use Rattle.aio_word.specs.declared.State.TheVariants.{Idle, HandedOut}
+use Rattle.aio_word.specs.declared.State.TheVariants.{HandedOut}
 use Rattle.aio_word.specs.declared.Word.{Word}
 use Rattle.aio_word.specs.declared.Known.{Known}
-use Rattle.aio_word.specs.Words.{IsLawful, last_generation, word_rank}
+use Rattle.aio_word.specs.Words.{word_rank}
 use Rattle.aio_word.specs.Events.{owner, count_at_rank}
 use Rattle.aio_word.specs.Stands.{IsIn, one_if, seen_rank, IsLawfulList}
 use Rattle.aio_word.specs.StandsByRank.{is_due, StandsForHandleByRank, StandsByRank}
+use Rattle.aio_word.proofs.EventRows.{AddsNoMark}
 use Rattle.aio_word.proofs.ReplacedElement.{at-set, in-replaced, in-here, sum-replaced}
 
 -- no mark of the handle is new, and its word keeps its rank, generation and class
 pub record KeepsRank (h : ℕ) (p p' : Known) (w w' : Word) : Type 0 where
   pub same_times : (n : ℕ) → count_at_rank h n p'.marks ≡ count_at_rank h n p.marks
   pub members : (m : Mark) → IsIn m p'.marks → m.handle ≡ h → IsIn m p.marks
-  pub rank : word_rank w' ≡ word_rank w
-  pub generation : w'.generation ≡ w.generation
-  pub class : w'.class ≡ w.class
-  pub lawful : IsLawful w'
-  pub last : w'.generation ≡ last_generation → w'.state ≡ Idle
+  pub row : AddsNoMark w w'
   pub seen : seen_rank p' h ≤ word_rank w'
 
 module _ (c : Config) (a b : List Known) (h : ℕ) (p p' : Known) (w w' : Word)
@@ -38,9 +35,9 @@ module _ (c : Config) (a b : List Known) (h : ℕ) (p p' : Known) (w w' : Word)
 
   pub handle-kept : StandsForHandleByRank c (a ++ p' ∷ b) h w'
   handle-kept = record {
-    lawful = d.lawful;
-    begun = subst (λ (z : ℕ). c.start ≤ z) (sym d.generation) s.begun;
-    last = d.last;
+    lawful = d.row.lawful;
+    begun = subst (λ (z : ℕ). c.start ≤ z) (sym d.row.generation) s.begun;
+    last = d.row.last;
     counted = λ n.
         let f : Known → ℕ = λ q. count_at_rank h n q.marks in
         let swap : sum_by f (a ++ p' ∷ b) + f p ≡ sum_by f before + f p' =
@@ -48,7 +45,7 @@ module _ (c : Config) (a b : List Known) (h : ℕ) (p p' : Known) (w w' : Word)
         let same : f p' ≡ f p = d.same_times n in
         let was : sum_by f before ≡ one_if (is_due c.start (word_rank w) n) = s.counted n in
         let now : sum_by f (a ++ p' ∷ b) ≡ one_if (is_due c.start (word_rank w) n) = omega arith in
-        now ∙ ap (λ (z : ℕ). one_if (is_due c.start z n)) (sym d.rank);
+        now ∙ ap (λ (z : ℕ). one_if (is_due c.start z n)) (sym d.row.rank);
     claimed = λ q i g. ⊎_elim
         (λ e. subst (λ (z : Known). (count_at_rank h (8 * g + 4) z.marks
         ≤ count_at_rank h (8 * g + 3) z.marks)
@@ -57,13 +54,13 @@ module _ (c : Config) (a b : List Known) (h : ℕ) (p p' : Known) (w w' : Word)
         let t5 = d.same_times (8 * g + 5) in let was = s.claimed p (in-here a b p) g in
         let w0 = was.0 in let w1 = was.1 in (omega arith, omega arith)))
         (λ old. s.claimed q old g) (in-replaced a b p p' q i);
-    classed = λ q i m class j eh eg ek. let (o, io, jo) = was-in q i m j eh in
-        s.classed o io m class jo eh (eg ∙ d.generation) ek ∙ sym d.class;
-    agreed = λ q t i i' m n one other j j' eh eh' eg ek ek'. let (o, io, jo) = was-in q i m j eh in
+    class_of_io = λ q i m class j eh eg ek. let (o, io, jo) = was-in q i m j eh in
+        s.class_of_io o io m class jo eh (eg ∙ d.row.generation) ek ∙ sym d.row.class;
+    class_of_local = λ q t i i' m n one other j j' eh eh' eg ek ek'. let (o, io, jo) = was-in q i m j eh in
         let (o', io', jo') = was-in t i' n j' eh' in
-        s.agreed o o' io io' m n one other jo jo' eh eh' eg ek ek';
+        s.class_of_local o o' io io' m n one other jo jo' eh eh' eg ek ek';
     seen = λ q i. ⊎_elim (λ e. subst (λ (z : Known). seen_rank z h ≤ word_rank w') e d.seen)
-        (λ old. subst (λ (z : ℕ). seen_rank q h ≤ z) (sym d.rank) (s.seen q old))
+        (λ old. subst (λ (z : ℕ). seen_rank q h ≤ z) (sym d.row.rank) (s.seen q old))
         (in-replaced a b p p' q i);
   }
 
@@ -84,13 +81,13 @@ module _ (c : Config) (words : List Word) (a b : List Known) (h : ℕ) (p p' : K
       → v.state ≡ HandedOut → owner c i ≡ owner c h → i ≡ h)
       → StandsByRank c (set words h w') (a ++ p' ∷ b)
   all-handles-kept n here alone = record {
-    wide = length-set words h w' ∙ s.wide;
-    numbered = λ k.
+    one_per_handle = length-set words h w' ∙ s.one_per_handle;
+    distinct_numbers = λ k.
         let f : Known → ℕ = λ q. one_if (q.number == k) in
         let swap : sum_by f (a ++ p' ∷ b) + f p ≡ sum_by f (a ++ p ∷ b) + f p' =
         sum-replaced f a b p p' in
         let same : f p' ≡ f p = ap (λ (z : ℕ). one_if (z == k)) n.number in
-        let was : sum_by f (a ++ p ∷ b) ≤ 1 = s.numbered k in
+        let was : sum_by f (a ++ p ∷ b) ≤ 1 = s.distinct_numbers k in
         let now : sum_by f (a ++ p' ∷ b) ≤ 1 = omega arith in now;
     each_handle = λ i v e. ⊎_elim
         (λ (ei, ev). subst (λ (z : ℕ). StandsForHandleByRank c (a ++ p' ∷ b) z v) (sym ei)
@@ -98,11 +95,13 @@ module _ (c : Config) (words : List Word) (a b : List Known) (h : ℕ) (p p' : K
         (λ (ne, old). let t = s.each_handle i v old in handle-kept c a b i p p' v v t record {
           same_times = n.times_elsewhere i ne;
           members = λ m j eh. n.members_elsewhere m j (λ x. ne (sym eh ∙ x));
-          rank = refl;
-          generation = refl;
-          class = refl;
-          lawful = t.lawful;
-          last = t.last;
+          row = record {
+            rank = refl;
+            generation = refl;
+            class = refl;
+            lawful = t.lawful;
+            last = t.last;
+          };
           seen = subst (λ (z : ℕ). z ≤ word_rank v) (sym (n.elsewhere i ne))
               (t.seen p (in-here a b p));
         })

@@ -242,7 +242,7 @@ totals-agree c ws parts s idle =
     let all : sum_by claim_count parts ≡ sum_below (λ h. (get_or ws h d).generation - c.start)
     (handle_count c) =
     all-claims c ws parts s (λ h. (get_or ws h d).generation)
-    (λ h lt. let inside : h < length ws = let wide = s.wide in omega arith in
+    (λ h lt. let inside : h < length ws = let one_per_handle = s.one_per_handle in omega arith in
     let at = at-place ws h d inside in (get_or ws h d, at, idle h (get_or ws h d) at, refl)) in
-    sum ∙ (ap (λ (n : ℕ). sum_below (λ h. (get_or ws h d).generation - c.start) n) s.wide
+    sum ∙ (ap (λ (n : ℕ). sum_below (λ h. (get_or ws h d).generation - c.start) n) s.one_per_handle
     ∙ (sym all ∙ sym (both-claims c parts)))

@@ -61,7 +61,7 @@ pub record StandsForHandle (c : Config) (parts : List Known) (handle : ℕ) (w :
   pub begun : c.start ≤ w.generation
   pub last : w.generation ≡ last_generation → w.state ≡ Idle
   -- (b) each generation that is over has each mark of a life once
-  pub over : (g : ℕ) → c.start ≤ g → g < w.generation
+  pub past_marks : (g : ℕ) → c.start ≤ g → g < w.generation
       → (k : Kind) → mark_total (wait_ref handle g) k parts ≡ 1
   -- (b) the word's generation has the first marks once each, as many as the place says
   pub now : (k : Kind)
@@ -77,10 +77,10 @@ pub record StandsForHandle (c : Config) (parts : List Known) (handle : ℕ) (w :
       × (mark_count (wait_ref handle g) kind.Shared p.marks
       ≤ mark_count (wait_ref handle g) kind.Claimed p.marks)
   -- (d) the class of an Io mark of the word's generation is the word's
-  pub classed : (p : Known) → IsIn p parts → (class : Class)
+  pub class_of_io : (p : Known) → IsIn p parts → (class : Class)
       → IsIn (make_mark (wait_ref handle w.generation) (kind.Io class)) p.marks → class ≡ w.class
   -- (d) the class of a Local mark is that of its incarnation's Io mark
-  pub agreed : (p q : Known) → IsIn p parts → IsIn q parts → (g : ℕ) (ended taken : Class)
+  pub class_of_local : (p q : Known) → IsIn p parts → IsIn q parts → (g : ℕ) (ended taken : Class)
       → IsIn (make_mark (wait_ref handle g) (kind.Io ended)) p.marks
       → IsIn (make_mark (wait_ref handle g) (kind.Local taken)) q.marks → ended ≡ taken
   -- (f) the pair that an actor has seen is not above the word's
@@ -92,15 +92,15 @@ pub record IsLawfulList (c : Config) (p : Known) : Type 0 where
   -- (b) no handle out of range has a mark
   pub in_range : (m : Mark) → IsIn m p.marks → m.handle < handle_count c
   -- (c) an owner's marks stand in the owner's list
-  pub owned : (m : Mark) → IsIn m p.marks → IsOwnerKind m.kind → p.number ≡ owner c m.handle
+  pub in_owner_list : (m : Mark) → IsIn m p.marks → IsOwnerKind m.kind → p.number ≡ owner c m.handle
   -- (c) the marks of a handle stand in the order of its lives
   pub ordered : AllPairs (λ m n. m.handle ≡ n.handle → mark_rank m < mark_rank n) p.marks
 
 -- the lists stand for the words
 pub record Stands (c : Config) (words : List Word) (parts : List Known) : Type 0 where
-  pub wide : length words ≡ handle_count c
+  pub one_per_handle : length words ≡ handle_count c
   -- (a) no two actors have one number
-  pub numbered : (n : ℕ) → sum_by (λ (p : Known). one_if (p.number == n)) parts ≤ 1
+  pub distinct_numbers : (n : ℕ) → sum_by (λ (p : Known). one_if (p.number == n)) parts ≤ 1
   pub each_handle : (h : ℕ) (w : Word) → get_elem? words h ≡ some w → StandsForHandle c parts h w
   pub each_list : (p : Known) → IsIn p parts → IsLawfulList c p
   -- (e) no owner has two handles handed out
@@ -126,7 +126,7 @@ machine_parts c n (marks ∷ lists) = known_with_marks c n marks ∷ machine_par
 
 -- the lists of the machine stand for its words
 pub record IsLawfulMachine (c : Config) (m : Machine) : Type 0 where
-  pub stands : Stands c m.words (machine_parts c 0 m.lists)
+  pub words_match_lists : Stands c m.words (machine_parts c 0 m.lists)
   pub all : length m.lists ≡ actor_count c
 
 -- a state of the machine has these words and, under each actor's number, its list
@@ -143,7 +143,7 @@ pub record AtMoment (c : Config) (p : Known) (h : ℕ) (w : Word) : Type 0 where
   pub parts : List Known
   pub reached : IsReachable c machine
   pub is : MachineHasParts c machine machine.words parts
-  pub stands : Stands c machine.words parts
+  pub words_match_lists : Stands c machine.words parts
   pub here : IsIn p parts
   pub all : length parts ≡ actor_count c
   pub word : slice_get machine.words h ≡ Some w

@@ -30,9 +30,9 @@ pub record StandsForHandleByRank (c : Config) (parts : List Known) (handle : ℕ
   pub claimed : (p : Known) → IsIn p parts → (g : ℕ)
       → (count_at_rank handle (8 * g + 4) p.marks ≤ count_at_rank handle (8 * g + 3) p.marks)
       × (count_at_rank handle (8 * g + 5) p.marks ≤ count_at_rank handle (8 * g + 3) p.marks)
-  pub classed : (p : Known) → IsIn p parts → (m : Mark) (class : Class) → IsIn m p.marks
+  pub class_of_io : (p : Known) → IsIn p parts → (m : Mark) (class : Class) → IsIn m p.marks
       → m.handle ≡ handle → m.generation ≡ w.generation → m.kind ≡ kind.Io class → class ≡ w.class
-  pub agreed : (p q : Known) → IsIn p parts → IsIn q parts → (m n : Mark) (one other : Class)
+  pub class_of_local : (p q : Known) → IsIn p parts → IsIn q parts → (m n : Mark) (one other : Class)
       → IsIn m p.marks → IsIn n q.marks
       → m.handle ≡ handle → n.handle ≡ handle → m.generation ≡ n.generation
       → m.kind ≡ kind.Io one → n.kind ≡ kind.Local other → one ≡ other
@@ -40,8 +40,8 @@ pub record StandsForHandleByRank (c : Config) (parts : List Known) (handle : ℕ
 
 -- the lists stand for the words, by ranks
 pub record StandsByRank (c : Config) (words : List Word) (parts : List Known) : Type 0 where
-  pub wide : length words ≡ handle_count c
-  pub numbered : (n : ℕ) → sum_by (λ (p : Known). one_if (p.number == n)) parts ≤ 1
+  pub one_per_handle : length words ≡ handle_count c
+  pub distinct_numbers : (n : ℕ) → sum_by (λ (p : Known). one_if (p.number == n)) parts ≤ 1
   pub each_handle : (h : ℕ) (w : Word) → get_elem? words h ≡ some w
       → StandsForHandleByRank c parts h w
   pub each_list : (p : Known) → IsIn p parts → IsLawfulList c p

@@ -1,7 +1,7 @@
 //! What the backend does with its handle, on both sides of the I/O.
 ghost use Rattle.std.specs.Prelude.{◌≡◌, ◌<◌, IfSome};
 ghost use Rattle.aio_handle.specs.ContractViews.{IsActorOf};
-ghost use Rattle.example_handle.specs.Offered.{IsOffered, IsIdle};
+ghost use Rattle.example_handle.specs.ActorPair.{IsInFlightAbout, IsIdle};
 
 use crate::note::Note;
 use aio_handle::{Actor, InFlight, Table, Take};
@@ -16,7 +16,7 @@ pub fn offer<W: World>(
 ) -> Option<(Actor<Note, W>, InFlight<W>)>
     requires idle { IsIdle table.now backend }
     requires backend { backend.known.number < table.now.config.backends }
-    ensures { IfSome result (λ r. IsActorOf table.now r.0 × IsOffered r.1 21 r.0.known) }
+    ensures { IfSome result (λ r. IsActorOf table.now r.0 × IsInFlightAbout r.1 21 r.0.known) }
 {
     let Ok(token) = table.acquire(&mut backend) else {
         return None;
@@ -36,7 +36,7 @@ pub fn take_in<W: World, T: Wait>(
     mut token: InFlight<W>,
 ) -> (Actor<Note, W>, u64)
     requires table { IsActorOf table.now backend }
-    requires offered { IsOffered token 21 backend.known }
+    requires in_flight { IsInFlightAbout token 21 backend.known }
     ensures idle { IsIdle table.now result.0 }
     ensures double { result.1 ≡ 42 }
 {

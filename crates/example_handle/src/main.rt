@@ -4,7 +4,7 @@
 
 ghost use Rattle.std.specs.Prelude.{◌≡◌, ◌<◌, IfOk, IfSome};
 ghost use Rattle.aio_handle.specs.ContractViews.{IsActorOf};
-ghost use Rattle.example_handle.specs.Offered.{IsOffered, IsIdle};
+ghost use Rattle.example_handle.specs.ActorPair.{IsInFlightAbout, IsIdle};
 
 mod backend;
 mod note;
@@ -45,7 +45,7 @@ fn live<W: World + Send + Sync, T: Threads + Wait + Sync>(
             ensures { IsIdle shared.entry.now result }
         { execute(shared, runner, reference) },
         || -> (Actor<Note, W>, u64)
-            requires { IsActorOf shared.now backend × IsOffered token 21 backend.known }
+            requires { IsActorOf shared.now backend × IsInFlightAbout token 21 backend.known }
             ensures { IsIdle shared.entry.now result.0 × (result.1 ≡ 42) }
         { take_in(rt, shared, backend, token) },
     );

@@ -1,6 +1,6 @@
 //! A table of one handle with its two actors: opened, and closed.
 ghost use Rattle.std.specs.Prelude.{◌≡◌, ◌+◌, IfOk};
-ghost use Rattle.example_handle.specs.Offered.{ArePair, IsIdle};
+ghost use Rattle.example_handle.specs.ActorPair.{ArePair, IsIdle};
 
 use crate::note::Note;
 use aio_fixtures::{close_with_two, last_actor};

@@ -1,6 +1,6 @@
 //! What the runner does with an I/O that a backend has submitted.
 ghost use Rattle.std.specs.Prelude.{◌<◌};
-ghost use Rattle.example_handle.specs.Offered.{IsIdle};
+ghost use Rattle.example_handle.specs.ActorPair.{IsIdle};
 
 use crate::note::Note;
 use aio_handle::{Actor, Table};

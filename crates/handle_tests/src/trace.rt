@@ -1,6 +1,6 @@
 //! Runs that are replayed, and lines of totals, one of a table that was used.
 ghost use Rattle.std.specs.Prelude.{◌≡◌, ◌<◌, IsTrue};
-ghost use Rattle.aio_handle.specs.Closing.{HasNoOwnerTokens};
+ghost use Rattle.aio_handle.specs.EndStates.{HasNoOwnerTokens};
 ghost use Rattle.aio_handle.specs.ContractViews.{IsActorOf, IsSameActor};
 
 use aio_core::StepRefusal;

@@ -27,7 +27,9 @@ fn submit_all<W: World, T: Wait>(
     requires table { IsActorOf table.now actor.old }
     requires tokens { AreStagedTokens actor.old.known batch.old }
 {
-    let mut runner = Sleeper { of: PhantomData };
+    let mut runner = Sleeper {
+        marker: PhantomData,
+    };
     let mut all = Vec::new(alloc);
     for n in 0..count {
         let token = batch.submit_next(rt, table, actor, method, &mut runner);

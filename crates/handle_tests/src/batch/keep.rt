@@ -28,7 +28,9 @@ fn submit_two<W: World, T: Wait>(
     ensures first { IfSome result (λ t. IsInFlight actor.new.known t.0) }
     ensures second { IfSome result (λ t. IsInFlight actor.new.known t.1) }
 {
-    let mut runner = Sleeper { of: PhantomData };
+    let mut runner = Sleeper {
+        marker: PhantomData,
+    };
     laws::submitting_keeps_tokens::<EmptyIo>();
     let first = batch.submit_next(rt, table, actor, method, &mut runner)?;
     let second = batch.submit_next(rt, table, actor, method, &mut runner)?;
@@ -54,7 +56,7 @@ fn are_pending<W: World>(
 }
 
 /// Two I/Os are submitted, which nobody executes, and both are looked for.
-fn kept<W: World, T: Wait>(rt: &T, alloc: Global) -> Result<Option<bool>, AllocError>
+fn both_in_flight<W: World, T: Wait>(rt: &T, alloc: Global) -> Result<Option<bool>, AllocError>
     requires { W.handles ≡ 2 }
 {
     let (table, mut actors) = Table::<EmptyIo, W>::open(alloc, 1, 2, 0, 0)?;
@@ -74,6 +76,6 @@ fn kept<W: World, T: Wait>(rt: &T, alloc: Global) -> Result<Option<bool>, AllocE
 
 #[test]
 fn two_in_flight_are_both_kept(rt: HostRuntime) -> Result<(), AllocError> {
-    assert!(&rt; kept::<Brand, _>(&rt, rt.alloc())? == Some(true));
+    assert!(&rt; both_in_flight::<Brand, _>(&rt, rt.alloc())? == Some(true));
     Ok(())
 }

@@ -10,7 +10,7 @@ use std::sync::Wait;
 /// An executor that nobody calls: its call does not return.
 #[derive(Drop)]
 pub(super) struct Sleeper<W: World> {
-    pub(super) of: PhantomData<W>,
+    pub(super) marker: PhantomData<W>,
 }
 
 impl<W: World> Execute<EmptyIo, W> for Sleeper<W> {

@@ -2,7 +2,7 @@
 ghost use Rattle.std.specs.Prelude.{◌≡◌, ◌<◌, [], ◌∷◌, IsTrue, Some, IfSome, length};
 ghost use Rattle.aio_word.specs.Events.{actor_count};
 ghost use Rattle.aio_word.specs.Tokens.{IsInFlight};
-ghost use Rattle.aio_handle.specs.Closing.{HasNoOwnerTokens, AllReclaimed};
+ghost use Rattle.aio_handle.specs.EndStates.{HasNoOwnerTokens, AllReclaimed};
 ghost use Rattle.aio_handle.specs.ContractViews.{IsActorOf, IsSameActor};
 ghost use Rattle.aio_fixtures.specs.Actors.{AreAtRest};
 ghost use Rattle.aio_fixtures.specs.Lives.{HasUnreclaimed};
@@ -22,7 +22,7 @@ fn end_own<W: World>(
     requires token { IsInFlight actor.old.known token }
     requires unreclaimed { HasUnreclaimed (token ∷ []) actor.old.known }
     ensures same { IsSameActor actor.old actor.new }
-    ensures rests { IsTrue result → HasNoOwnerTokens actor.new.known }
+    ensures no_owner_tokens { IsTrue result → HasNoOwnerTokens actor.new.known }
 {
     claim_and_complete(table, actor, token.reference(), Class::Whole)
         && take_and_reclaim(table, actor, token)
@@ -36,9 +36,9 @@ pub(super) fn live_on<W: World>(
 ) -> bool
     requires table { IsActorOf table.now actor.old }
     requires token { actor.old.known.out ≡ Some token }
-    requires rests { AllReclaimed actor.old.known }
+    requires all_reclaimed { AllReclaimed actor.old.known }
     ensures same { IsSameActor actor.old actor.new }
-    ensures rests { IsTrue result → HasNoOwnerTokens actor.new.known }
+    ensures no_owner_tokens { IsTrue result → HasNoOwnerTokens actor.new.known }
 {
     let token = submit_acquired(table, actor, token, EmptyIo::new());
     end_own(table, actor, token)
@@ -48,9 +48,9 @@ pub(super) fn live_on<W: World>(
 pub(super) fn live<W: World>(table: &Table<EmptyIo, W>, actor: &mut Actor<EmptyIo, W>) -> bool
     requires table { IsActorOf table.now actor.old }
     requires backend { actor.old.known.number < table.now.config.backends }
-    requires rests { HasNoOwnerTokens actor.old.known }
+    requires no_owner_tokens { HasNoOwnerTokens actor.old.known }
     ensures same { IsSameActor actor.old actor.new }
-    ensures rests { IsTrue result → HasNoOwnerTokens actor.new.known }
+    ensures no_owner_tokens { IsTrue result → HasNoOwnerTokens actor.new.known }
 {
     let Some(token) = submit_io(table, actor, EmptyIo::new()) else {
         return false;

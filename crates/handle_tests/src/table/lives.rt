@@ -10,7 +10,7 @@ use std::alloc::{AllocError, Global};
 use std::marker::Brand;
 
 /// Acquire, release, acquire, a refusal, and a whole life of what was acquired.
-fn lived_once<W: World>(
+fn one_life<W: World>(
     alloc: Global,
 ) -> Result<Option<(AcquireRefusal, (u128, u128, u128))>, AllocError>
     requires { W.handles ≡ 1 }
@@ -32,7 +32,7 @@ fn lived_once<W: World>(
 
 #[test]
 fn a_life_is_counted_once(rt: HostRuntime) -> Result<(), AllocError> {
-    let Some((refusal, totals)) = lived_once::<Brand>(rt.alloc())? else {
+    let Some((refusal, totals)) = one_life::<Brand>(rt.alloc())? else {
         panic!(&rt; "a handle is free")
     };
     assert!(&rt; refusal == AcquireRefusal::OneIsOut);
@@ -41,7 +41,7 @@ fn a_life_is_counted_once(rt: HostRuntime) -> Result<(), AllocError> {
 }
 
 /// The last life of a handle, and the refusal after it.
-fn lived_to_the_end<W: World>(
+fn last_life<W: World>(
     alloc: Global,
 ) -> Result<Option<(AcquireRefusal, (u128, u128, u128))>, AllocError>
     requires { W.handles ≡ 1 }
@@ -63,7 +63,7 @@ fn lived_to_the_end<W: World>(
 
 #[test]
 fn one_life_before_the_last_generation(rt: HostRuntime) -> Result<(), AllocError> {
-    let Some((refusal, totals)) = lived_to_the_end::<Brand>(rt.alloc())? else {
+    let Some((refusal, totals)) = last_life::<Brand>(rt.alloc())? else {
         panic!(&rt; "a handle is free")
     };
     assert!(&rt; refusal == AcquireRefusal::NoneFree);

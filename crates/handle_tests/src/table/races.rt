@@ -1,6 +1,6 @@
 //! Two threads at one table.
 ghost use Rattle.std.specs.Prelude.{◌≡◌, ◌<◌, IfSome};
-ghost use Rattle.aio_handle.specs.Closing.{HasNoOwnerTokens};
+ghost use Rattle.aio_handle.specs.EndStates.{HasNoOwnerTokens};
 ghost use Rattle.aio_handle.specs.ContractViews.{IsActorOf};
 
 use crate::table::life::{close, live};
@@ -22,9 +22,9 @@ fn claim_beside<W: World>(
 ) -> (Actor<EmptyIo, W>, bool)
     requires table { IsActorOf table.now actor }
     requires range { reference.handle < W.handles }
-    requires rests { HasNoOwnerTokens actor.known }
+    requires no_owner_tokens { HasNoOwnerTokens actor.known }
     ensures table { IsActorOf table.now result.0 }
-    ensures rests { HasNoOwnerTokens result.0.known }
+    ensures no_owner_tokens { HasNoOwnerTokens result.0.known }
 {
     let won = claim_and_complete(table, &mut actor, reference, Class::Whole);
     (actor, won)
@@ -32,7 +32,7 @@ fn claim_beside<W: World>(
 
 /// What came of one I/O that two actors tried to claim at once.
 #[derive(Drop)]
-struct Raced {
+struct RaceOutcome {
     first: bool,
     second: bool,
     totals: (u128, u128, u128),
@@ -41,7 +41,7 @@ struct Raced {
 fn race<W: World + Send + Sync, T: Threads + Sync>(
     rt: &T,
     alloc: Global,
-) -> Result<Option<Raced>, AllocError>
+) -> Result<Option<RaceOutcome>, AllocError>
     requires { W.handles ≡ 8 }
 {
     let (table, mut actors) = Table::<EmptyIo, W>::open(alloc, 2, 4, 1, 0)?;
@@ -79,7 +79,7 @@ fn race<W: World + Send + Sync, T: Threads + Sync>(
     add_actor(&table, &mut all, owner)?;
     add_actor(&table, &mut all, other)?;
     add_actor(&table, &mut all, runner)?;
-    Ok(Some(Raced {
+    Ok(Some(RaceOutcome {
         first,
         second,
         totals: close(table, all),
@@ -104,9 +104,9 @@ fn lives<W: World>(
 ) -> Option<Actor<EmptyIo, W>>
     requires table { IsActorOf table.now actor }
     requires backend { actor.known.number < table.now.config.backends }
-    requires rests { HasNoOwnerTokens actor.known }
+    requires no_owner_tokens { HasNoOwnerTokens actor.known }
     ensures table { IfSome result (λ a. IsActorOf table.now a) }
-    ensures rests { IfSome result (λ a. HasNoOwnerTokens a.known) }
+    ensures no_owner_tokens { IfSome result (λ a. HasNoOwnerTokens a.known) }
 {
     for n in 0..count {
         if !live(table, &mut actor) {

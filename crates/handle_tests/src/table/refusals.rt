@@ -80,7 +80,7 @@ fn each_handle_is_given_once(rt: HostRuntime) -> Result<(), AllocError> {
 
 /// What is seen of a table whose one handle begins at the last generation.
 #[derive(Drop)]
-struct AtTheEnd {
+struct LastGeneration {
     refusal: AcquireRefusal,
     /// The room and the number of the backend, and those of the runner.
     backend: (u64, u32),
@@ -88,7 +88,7 @@ struct AtTheEnd {
     totals: (u128, u128, u128),
 }
 
-fn at_the_end<W: World>(alloc: Global) -> Result<Option<AtTheEnd>, AllocError>
+fn at_the_end<W: World>(alloc: Global) -> Result<Option<LastGeneration>, AllocError>
     requires { W.handles ≡ 1 }
 {
     let (table, mut actors) = Table::<EmptyIo, W>::open(alloc, 1, 1, 1, (1 << 58) - 1)?;
@@ -106,7 +106,7 @@ fn at_the_end<W: World>(alloc: Global) -> Result<Option<AtTheEnd>, AllocError>
     let mut all = no_actors(&table, alloc);
     add_actor(&table, &mut all, backend)?;
     add_actor(&table, &mut all, runner)?;
-    Ok(Some(AtTheEnd {
+    Ok(Some(LastGeneration {
         refusal,
         backend: of_backend,
         runner: of_runner,

@@ -65,7 +65,7 @@ fn sleep_beside_runner<W: World + Send + Sync, T: Threads + Wait + Sync>(
 /// What is seen behind a sleep: on which handle it was, whether its I/O was done, and whether
 /// anybody is still counted on one of the two handles.
 #[derive(Clone, Copy, Debug, PartialEq, Eq)]
-struct Slept {
+struct SleepOutcome {
     handle: u32,
     done: bool,
     counted: (bool, bool),
@@ -74,7 +74,7 @@ struct Slept {
 fn sleep_once<W: World + Send + Sync, T: Threads + Wait + Sync>(
     rt: &T,
     alloc: Global,
-) -> Result<Option<Slept>, AllocError>
+) -> Result<Option<SleepOutcome>, AllocError>
     requires { W.handles ≡ 2 }
 {
     let (table, mut actors) = Table::<EmptyIo, W>::open(alloc, 1, 2, 1, 0)?;
@@ -92,7 +92,7 @@ fn sleep_once<W: World + Send + Sync, T: Threads + Wait + Sync>(
         return Ok(None);
     };
     let done = sleep_beside_runner(rt, &table, owner, reference, runner, claimed);
-    Ok(Some(Slept {
+    Ok(Some(SleepOutcome {
         handle: reference.handle,
         done,
         counted: (table.is_rested_on(0), table.is_rested_on(1)),
@@ -104,7 +104,7 @@ fn an_actor_sleeps_until_its_io_ends(rt: HostRuntime) -> Result<(), AllocError> 
     let Some(slept) = sleep_once::<Brand, _>(&rt, rt.alloc())? else {
         panic!(&rt; "a handle is free")
     };
-    let wanted = Slept {
+    let wanted = SleepOutcome {
         handle: 1,
         done: true,
         counted: (false, false),

@@ -23,13 +23,13 @@ fn of_generation(generation: u64) -> WaitRef
 /// What the calls answer to references of the generations before, at and after that of an I/O in
 /// flight.
 #[derive(Drop)]
-struct Stale {
+struct StaleAnswers {
     checks: [bool; 3],
     claims: [bool; 3],
     early: bool,
 }
 
-fn of_three_generations<W: World>(alloc: Global) -> Result<Option<Stale>, AllocError>
+fn of_three_generations<W: World>(alloc: Global) -> Result<Option<StaleAnswers>, AllocError>
     requires { W.handles ≡ 1 }
 {
     let (table, mut actors) = Table::<EmptyIo, W>::open(alloc, 1, 1, 1, 5)?;
@@ -59,7 +59,7 @@ fn of_three_generations<W: World>(alloc: Global) -> Result<Option<Stale>, AllocE
         table.claim(&mut runner, now).is_some(),
     ];
     let early = matches!(table.try_take(&mut backend, token), Take::NotYet(_));
-    Ok(Some(Stale {
+    Ok(Some(StaleAnswers {
         checks,
         claims,
         early,
@@ -80,13 +80,13 @@ fn stale_reference(rt: HostRuntime) -> Result<(), AllocError> {
 /// What the calls answer to references below the start, at it and far above it, and to one that
 /// was reclaimed.
 #[derive(Drop)]
-struct Far {
+struct FarAnswers {
     checks: [bool; 3],
     far_claim: bool,
     reclaimed_claims: [bool; 2],
 }
 
-fn of_far_generations<W: World>(alloc: Global) -> Result<Option<Far>, AllocError>
+fn of_far_generations<W: World>(alloc: Global) -> Result<Option<FarAnswers>, AllocError>
     requires { W.handles ≡ 1 }
 {
     let (table, mut actors) = Table::<EmptyIo, W>::open(alloc, 1, 1, 1, 7)?;
@@ -112,7 +112,7 @@ fn of_far_generations<W: World>(alloc: Global) -> Result<Option<Far>, AllocError
         table.claim(&mut runner, first).is_some(),
         table.claim(&mut runner, first).is_some(),
     ];
-    Ok(Some(Far {
+    Ok(Some(FarAnswers {
         checks,
         far_claim,
         reclaimed_claims,

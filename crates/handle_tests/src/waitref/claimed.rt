@@ -6,7 +6,7 @@ ghost use Rattle.aio_fixtures.specs.Actors.{HasClaimed};
 
 use crate::second_handle::submit_second;
 use crate::waitref::moment::Moment;
-use crate::waitref::own::{Waited, wait_counted};
+use crate::waitref::own::{WaitOutcome, wait_counted};
 use aio_fixtures::{EmptyIo, claim_io, complete_as, last_actor};
 use aio_handle::{Actor, Claimed, InFlight, Table};
 use aio_word::Class;
@@ -25,14 +25,14 @@ pub(super) fn owner_beside_runner<W: World + Send + Sync, T: Threads + Wait + Sy
     mut runner: Actor<EmptyIo, W>,
     claimed: Claimed<EmptyIo, W>,
     moment: &Moment,
-) -> Waited
+) -> WaitOutcome
     requires owner { IsActorOf table.now owner × IsInFlight owner.known token }
     requires runner { HasClaimed table.now runner claimed.0 claimed.1.label }
     requires handles { W.handles ≡ 8 }
 {
     let (waited, ()) = join(
         rt,
-        || -> Waited
+        || -> WaitOutcome
             requires { IsActorOf table.now owner × IsInFlight owner.known token }
         {
             moment.begin();
@@ -57,7 +57,7 @@ fn claimed_before<W: World + Send + Sync, T: Threads + Wait + Sync>(
     rt: &T,
     alloc: Global,
     moment: &Moment,
-) -> Result<Option<Waited>, AllocError>
+) -> Result<Option<WaitOutcome>, AllocError>
     requires { W.handles ≡ 8 }
 {
     let (table, mut actors) = Table::<EmptyIo, W>::open(alloc, 2, 4, 1, 3)?;
@@ -76,7 +76,7 @@ fn claimed_before<W: World + Send + Sync, T: Threads + Wait + Sync>(
     Ok(Some(owner_beside_runner(rt, &table, owner, token, runner, claimed, moment)))
 }
 
-pub(super) const SHORT: Waited = Waited {
+pub(super) const SHORT: WaitOutcome = WaitOutcome {
     handle: 5,
     class: Class::Short,
     calls: 0,

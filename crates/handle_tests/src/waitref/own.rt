@@ -15,7 +15,7 @@ use std::sync::Wait;
 /// What came of an owner's wait: its record's handle and class, and how often its executor was
 /// called.
 #[derive(Clone, Copy, Debug, PartialEq, Eq)]
-pub(super) struct Waited {
+pub(super) struct WaitOutcome {
     pub(super) handle: u32,
     pub(super) class: Class,
     pub(super) calls: u64,
@@ -27,13 +27,13 @@ pub(super) fn wait_counted<W: World, T: Wait>(
     table: &Table<EmptyIo, W>,
     mut owner: Actor<EmptyIo, W>,
     token: InFlight<W>,
-) -> Waited
+) -> WaitOutcome
     requires table { IsActorOf table.now owner }
     requires token { IsInFlight owner.known token }
 {
     let mut executor = WholeExecutor::<W>::new();
     let local = wait_own(rt, table, &mut owner, token, &mut executor);
-    Waited {
+    WaitOutcome {
         handle: local.record().handle(),
         class: local.record().ended(),
         calls: executor.calls,
@@ -41,7 +41,10 @@ pub(super) fn wait_counted<W: World, T: Wait>(
 }
 
 /// An I/O that nobody has claimed when its owner begins to wait.
-fn unclaimed<W: World, T: Wait>(rt: &T, alloc: Global) -> Result<Option<Waited>, AllocError>
+fn wait_for_unclaimed<W: World, T: Wait>(
+    rt: &T,
+    alloc: Global,
+) -> Result<Option<WaitOutcome>, AllocError>
     requires { W.handles ≡ 1 }
 {
     let (table, mut actors) = Table::<EmptyIo, W>::open(alloc, 1, 1, 0, 0)?;
@@ -56,10 +59,10 @@ fn unclaimed<W: World, T: Wait>(rt: &T, alloc: Global) -> Result<Option<Waited>,
 
 #[test]
 fn owner_executes_its_own_unclaimed_io(rt: HostRuntime) -> Result<(), AllocError> {
-    let Some(waited) = unclaimed::<Brand, _>(&rt, rt.alloc())? else {
+    let Some(waited) = wait_for_unclaimed::<Brand, _>(&rt, rt.alloc())? else {
         panic!(&rt; "a handle is free")
     };
-    let whole = Waited {
+    let whole = WaitOutcome {
         handle: 0,
         class: Class::Whole,
         calls: 1,

@@ -7,7 +7,7 @@ ghost use Rattle.aio_fixtures.specs.Actors.{HasClaimed};
 use crate::second_handle::submit_second;
 use crate::waitref::claimed::{SHORT, owner_beside_runner};
 use crate::waitref::moment::Moment;
-use crate::waitref::own::Waited;
+use crate::waitref::own::WaitOutcome;
 use aio_fixtures::{EmptyIo, WholeExecutor, claim_io, last_actor};
 use aio_handle::{Actor, Table};
 use aio_waitref::wait;
@@ -66,7 +66,7 @@ fn three_wait<W: World + Send + Sync, T: Threads + Wait + Sync>(
     rt: &T,
     alloc: Global,
     turns: u32,
-) -> Result<Option<(Waited, (u64, u64))>, AllocError>
+) -> Result<Option<(WaitOutcome, (u64, u64))>, AllocError>
     requires { W.handles ≡ 8 }
 {
     let (table, mut actors) = Table::<EmptyIo, W>::open(alloc, 2, 4, 3, 0)?;
@@ -93,7 +93,7 @@ fn three_wait<W: World + Send + Sync, T: Threads + Wait + Sync>(
     let shared = &table;
     Ok(Some(join(
         rt,
-        || -> Waited
+        || -> WaitOutcome
             requires { IsActorOf shared.now owner × IsInFlight owner.known token
                 × HasClaimed shared.now fourth claimed.0 claimed.1.label × (W.handles ≡ 8) }
         { owner_beside_runner(rt, shared, owner, token, fourth, claimed, &moment) },

@@ -30,14 +30,17 @@ fn live<W: World, T: Wait>(rt: &T, table: &Table<EmptyIo, W>, actor: &mut Actor<
 /// What came of a wait for an I/O that is over: how often the waiter's executor was called, and
 /// whether the I/O that the handle then had in flight could still be claimed.
 #[derive(Clone, Copy, Debug, PartialEq, Eq)]
-struct Stale {
+struct StaleAnswers {
     calls: u64,
     left: bool,
 }
 
 /// A handle lives three times, and has a fourth I/O in flight. Another actor then waits for the
 /// first.
-fn wait_for_the_first<W: World, T: Wait>(rt: &T, alloc: Global) -> Result<Option<Stale>, AllocError>
+fn wait_for_the_first<W: World, T: Wait>(
+    rt: &T,
+    alloc: Global,
+) -> Result<Option<StaleAnswers>, AllocError>
     requires { W.handles ≡ 1 }
 {
     let (table, mut actors) = Table::<EmptyIo, W>::open(alloc, 1, 1, 1, 5)?;
@@ -62,7 +65,7 @@ fn wait_for_the_first<W: World, T: Wait>(rt: &T, alloc: Global) -> Result<Option
     };
     let mut executor = WholeExecutor::<W>::new();
     wait(rt, &table, &mut waiter, first, &mut executor);
-    Ok(Some(Stale {
+    Ok(Some(StaleAnswers {
         calls: executor.calls,
         left: table.claim(&mut waiter, token.reference()).is_some(),
     }))
@@ -73,7 +76,7 @@ fn reference_three_generations_old_returns_at_once(rt: HostRuntime) -> Result<()
     let Some(stale) = wait_for_the_first::<Brand, _>(&rt, rt.alloc())? else {
         panic!(&rt; "a handle is free")
     };
-    let untouched = Stale {
+    let untouched = StaleAnswers {
         calls: 0,
         left: true,
     };

@@ -25,26 +25,26 @@ marks g c _ =
 pub returns-clause-marks : goal.returns-clause-marks
 returns-clause-marks g c done = marks g c done
 
-pub returns-clause-kept : goal.returns-clause-kept
-returns-clause-kept g c u = unchanged-by-execution u [] _ _ _ _ _ _
+pub returns-clause-tokens_unchanged : goal.returns-clause-tokens_unchanged
+returns-clause-tokens_unchanged g c u = unchanged-by-execution u [] _ _ _ _ _ _
     (completed-takes-up c.args.reference c.args.class _ _ (marks g c refl))
 
 pub returns-clause-unreclaimed : goal.returns-clause-unreclaimed
 returns-clause-unreclaimed g c ts o = taken-up-unreclaimed ts _ _ _ _ _ _
     (completed-takes-up c.args.reference c.args.class _ _ (marks g c refl)) o
 
-pub returns-clause-rests : goal.returns-clause-rests
-returns-clause-rests g c rests = taken-up-rests _ _ _ _ _ _
-    (completed-takes-up c.args.reference c.args.class _ _ (marks g c refl)) rests
+pub returns-clause-no_owner_tokens : goal.returns-clause-no_owner_tokens
+returns-clause-no_owner_tokens g c no_owner_tokens = taken-up-rests _ _ _ _ _ _
+    (completed-takes-up c.args.reference c.args.class _ _ (marks g c refl)) no_owner_tokens
 
-pub returns-in_default-clause-kept : goal.returns-in_default-clause-kept
-returns-in_default-clause-kept g c u = unchanged-by-execution u [] _ _ _ _ _ _
+pub returns-in_default-clause-tokens_unchanged : goal.returns-in_default-clause-tokens_unchanged
+returns-in_default-clause-tokens_unchanged g c u = unchanged-by-execution u [] _ _ _ _ _ _
     (looked-takes-up _ _ _ _ c.in_default.ensures.lost.1)
 
 pub returns-in_default-clause-unreclaimed : goal.returns-in_default-clause-unreclaimed
 returns-in_default-clause-unreclaimed g c ts o = taken-up-unreclaimed ts _ _ _ _ _ _
     (looked-takes-up _ _ _ _ c.in_default.ensures.lost.1) o
 
-pub returns-in_default-clause-rests : goal.returns-in_default-clause-rests
-returns-in_default-clause-rests g c rests = taken-up-rests _ _ _ _ _ _
-    (looked-takes-up _ _ _ _ c.in_default.ensures.lost.1) rests
+pub returns-in_default-clause-no_owner_tokens : goal.returns-in_default-clause-no_owner_tokens
+returns-in_default-clause-no_owner_tokens g c no_owner_tokens = taken-up-rests _ _ _ _ _ _
+    (looked-takes-up _ _ _ _ c.in_default.ensures.lost.1) no_owner_tokens

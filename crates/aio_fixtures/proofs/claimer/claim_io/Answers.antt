@@ -7,7 +7,7 @@ pub returns-in-Some : goal.returns-in-Some
 returns-in-Some g c =
     let e = c.in-Some.ensures in
     record {
-      of = (e.same.0 ∙ c.requires.table.0, e.same.1 ∙ c.requires.table.1);
+      of_table = (e.same.0 ∙ c.requires.table.0, e.same.1 ∙ c.requires.table.1);
       token = e.token.0;
       aim = e.token.1;
       label = subst (λ (z : WaitRef). c.in-Some.claimed.1.label ≡ bound_label z.handle z.generation)

@@ -27,8 +27,8 @@ returns-clause-unreclaimed g c over =
     subst (λ (x : WaitRef). HasUnreclaimed (x ∷ []) s) (sym same)
     (begun-unreclaimed c.args.token c.args.actor.now.known s over (begins g c) (search rules))
 
-pub returns-clause-kept : goal.returns-clause-kept
-returns-clause-kept g c u flies =
+pub returns-clause-others_in_flight : goal.returns-clause-others_in_flight
+returns-clause-others_in_flight g c u flies =
     let p : Known = c.args.actor.now.known in
     let q : Known = c.define-token.new.actor.known in
     let r : Known = c.stage-token.new.actor.known in

@@ -13,7 +13,7 @@ returns-in-Ok-clause-submitted g c =
     let r : Known = c.submit_acquired.new.actor.known in
     record {
       token = c.submit_acquired.ensures.token.1;
-      kept = λ u flies. c.submit_acquired.ensures.kept u
+      others_in_flight = λ u flies. c.submit_acquired.ensures.others_in_flight u
           ((c.events_keep_other_tokens.ensures.unused u event.HandOut _ _ _ _ p q
           c.in-Ok.ensures.event (λ x. x)).in_flight flies);
       unreclaimed = λ ts o. subst (λ (x : WaitRef). HasUnreclaimed (x ∷ ts) r)

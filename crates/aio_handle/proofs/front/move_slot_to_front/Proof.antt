@@ -18,7 +18,7 @@ use Rattle.atomic_table.proofs.Walks.{proved, leaves}
 use Rattle.atomic_table.specs.Table.{Me}
 use Rattle.atomic_table.specs.Seated.{TableId, mine, carried, seen, age, place, names}
 use Rattle.atomic_table.specs.contracts.shared.Seat as seat
-use Rattle.aio_handle.specs.Front.{insert_second, moved_to_front}
+use Rattle.aio_handle.specs.MoveToFront.{insert_second, moved_to_front}
 use Rattle.aio_handle.specs.contracts.front.move_slot_to_front.{ended, clauses}
 use Rattle.aio_handle.specs.contracts.front.move_slot_to_front.Key.{name as #self}
 use Rattle.aio_handle.proofs.front.move_slot_to_front.Statement.{statement}

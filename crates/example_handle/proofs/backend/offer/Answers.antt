@@ -33,18 +33,18 @@ returns g c =
     let begins = begun t.handle t.generation _ q d r define (amid-then d s r
     (amid event.Stage _ _ _ _ d s stage (omega arith) (omega arith))
     (amid event.Submit _ _ _ _ s r submit (omega arith) (omega arith))) in
-    let about = ap (λ (x : WaitRef × Note). x.1.number ∷ []) c.stage-token.ensures.token.0
+    let aim = ap (λ (x : WaitRef × Note). x.1.number ∷ []) c.stage-token.ensures.token.0
     ∙ (c.define-token.ensures.token.1 ∙ ap (λ (n : ℕ). n ∷ []) c.about.ensures.1) in (
       (
         of4.0 ∙ (of3.0 ∙ (of2.0 ∙ (of1.0 ∙ c.requires.idle.0.0))),
         of4.1 ∙ (of3.1 ∙ (of2.1 ∙ (of1.1 ∙ c.requires.idle.0.1))),
       ),
       record {
-        flight = c.submit-token.ensures.token.1;
+        in_flight = c.submit-token.ensures.token.1;
         only = subst (λ (x : WaitRef). HasUnreclaimed (x ∷ []) r) (sym one)
             (submitted-unreclaimed t [] _ _ _ p q r acquire begins out
             (none-at-rest p c.requires.idle.1));
-        about = subst (λ (a : List ℕ). IsIn (c.submit-token.result, a) r.aims) about
+        aim = subst (λ (a : List ℕ). IsIn (c.submit-token.result, a) r.aims) aim
             c.submit-token.ensures.token.2;
       },
     )

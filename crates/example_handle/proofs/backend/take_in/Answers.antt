@@ -8,8 +8,8 @@ use Rattle.aio_word.specs.declared.Step.TheVariants as event
 use Rattle.aio_handle.specs.declared.record.Label.{Label}
 use Rattle.aio_fixtures.proofs.UnreclaimedIos.{reclaimed-unreclaimed, rests-with-none}
 use Rattle.example_handle.specs.declared.note.Note.{Note}
-use Rattle.example_handle.specs.Offered.{IsOffered}
-use Rattle.example_handle.proofs.Idle.{still-offered}
+use Rattle.example_handle.specs.ActorPair.{IsInFlightAbout}
+use Rattle.example_handle.proofs.ActorsAtRest.{still-offered}
 use Rattle.example_handle.proofs.backend.take_in.Goals as goal
 
 pub returns-in-Ready-clause-idle : goal.returns-in-Ready-clause-idle
@@ -27,7 +27,7 @@ returns-in-Ready-clause-idle g c =
         two.1 ∙ (one.1 ∙ c.loop.invariant.table.1),
       ),
       rests-with-none r (reclaimed-unreclaimed u c.in-Ready.local.0 [] back.0 _ p q r got
-          c.in-Ready.ensures.ready.0 back.1 c.loop.invariant.offered.only),
+          c.in-Ready.ensures.ready.0 back.1 c.loop.invariant.in_flight_about.only),
     )
 
 pub returns-in-Ready-clause-double : goal.returns-in-Ready-clause-double
@@ -36,7 +36,7 @@ returns-in-Ready-clause-double g c =
     let got = c.in-Ready.ensures.ready.2 in
     let kept = c.in-Ready.ensures.record in
     let number : note.number ≡ 21 = ap (λ (a : List ℕ). get_or a 0 0)
-    (kept.1 (21 ∷ []) c.loop.invariant.offered.about) in
+    (kept.1 (21 ∷ []) c.loop.invariant.in_flight_about.aim) in
     let double : note.doubled ≡ 2 * note.number = kept.0
     (subst (λ (x : Class). x ≢ Unended) (sym (ap (λ (l : Label). l.ended) got.label)) got.ended) in
     let same : c.reclaim-note.result.doubled ≡ note.doubled =
@@ -60,7 +60,7 @@ loop-preserved g c =
         two.0 ∙ (one.0 ∙ c.loop.invariant.table.0),
         two.1 ∙ (one.1 ∙ c.loop.invariant.table.1),
       );
-      offered = subst (λ (x : WaitRef). IsOffered x 21 r) (sym again.0)
+      in_flight_about = subst (λ (x : WaitRef). IsInFlightAbout x 21 r) (sym again.0)
           (still-offered t 21 _ _ q r c.rest.ensures.look.1
-          (still-offered t 21 _ _ p q again.2.1 c.loop.invariant.offered));
+          (still-offered t 21 _ _ p q again.2.1 c.loop.invariant.in_flight_about));
     }

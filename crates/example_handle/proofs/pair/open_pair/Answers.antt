@@ -1,7 +1,7 @@
 use Rattle.std.proofs.Common.{◌≡◌, ◌+◌, length, ap, ◌∙◌, arith}
 use Rattle.aio_word.specs.declared.Config.{Config}
 use Rattle.aio_handle.specs.ContractViews.{ActorView}
-use Rattle.example_handle.proofs.Idle.{idle-new}
+use Rattle.example_handle.proofs.ActorsAtRest.{idle-new}
 use Rattle.example_handle.proofs.pair.open_pair.Goals as goal
 
 pub returns : goal.returns

@@ -8,7 +8,7 @@ returns-then-claim_and_complete-clause-owner g c done =
     (c.in-Some.ensures.submitted.unreclaimed [] (none-at-rest _ c.requires.owner)))
 
 pub returns-then-claim_and_complete-clause-other : goal.returns-then-claim_and_complete-clause-other
-returns-then-claim_and_complete-clause-other g c = c.claim_and_complete.ensures.rests c.requires.other
+returns-then-claim_and_complete-clause-other g c = c.claim_and_complete.ensures.no_owner_tokens c.requires.other
 
 pub returns-else-claim_and_complete-clause-other : goal.returns-else-claim_and_complete-clause-other
-returns-else-claim_and_complete-clause-other g c = c.claim_and_complete.ensures.rests c.requires.other
+returns-else-claim_and_complete-clause-other g c = c.claim_and_complete.ensures.no_owner_tokens c.requires.other

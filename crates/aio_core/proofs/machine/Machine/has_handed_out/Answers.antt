@@ -18,7 +18,7 @@ returns-then-matches c =
     subst (λ z. c.args.backend < z.config.backends) (sym c.self.view_is) c.requires in
     let lo = c.loop-handle.auto.handle in
     let hi = c.loop-handle-test.true in
-    let wide = c.self.invariant.stands.stands.wide in
+    let one_per_handle = c.self.invariant.lawful_machine.words_match_lists.one_per_handle in
     let all = within-all c.args.backend config.backends config.per_backend c.loop-handle.handle
     backends hi in
     let inside : c.loop-handle.handle < length c.self.inside.words.items = omega arith in
@@ -43,7 +43,7 @@ loop-handle-preserved c = λ i w lo hi at. dite (ℕ_discrete i c.loop-handle.ha
     let backends : c.args.backend < config.backends =
     subst (λ z. c.args.backend < z.config.backends) (sym c.self.view_is) c.requires in
     let end = c.loop-handle-test.true in
-    let wide = c.self.invariant.stands.stands.wide in
+    let one_per_handle = c.self.invariant.lawful_machine.words_match_lists.one_per_handle in
     let all = within-all c.args.backend config.backends config.per_backend c.loop-handle.handle
     backends end in
     let inside : c.loop-handle.handle < length c.self.inside.words.items = omega arith in

@@ -18,7 +18,7 @@ invariant_of-result c =
     (first_word config) = search rules in
     let lists : c.in_ok-lists.lists.items ≡ replicate (c.args.backends + c.args.runners) [] =
     search rules in
-    let wide : length c.in_ok-last_claimers.last_claimers.items
+    let one_per_handle : length c.in_ok-last_claimers.last_claimers.items
     ≡ c.args.backends * c.args.per_backend = search rules in
     opened-invariant config c.in_ok-words.words.items c.in_ok-lists.lists.items
     c.in_ok-last_claimers.last_claimers.items
@@ -30,7 +30,7 @@ invariant_of-result c =
       few_runners = c.requires.runners;
       start = c.requires.start;
     }
-    words lists wide
+    words lists one_per_handle
 
-pub returns-clause-stands : goal.returns-clause-stands
-returns-clause-stands c = (invariant_of-result c).stands
+pub returns-clause-lawful_machine : goal.returns-clause-lawful_machine
+returns-clause-lawful_machine c = (invariant_of-result c).lawful_machine

@@ -21,7 +21,7 @@ returns-in-Io c =
     let last : c.index.result.now ≡ get_or inside.last_claimers.items c.args.event.handle 0 =
     get_or_read inside.last_claimers.items c.args.event.handle c.index.result.now
     (let in-words = slice_get_within inside.words.items c.args.event.handle has.w has.word in
-    let wide = c.self.invariant.stands.stands.wide in let wide' = c.self.invariant.wide in
+    let one_per_handle = c.self.invariant.lawful_machine.words_match_lists.one_per_handle in let wide' = c.self.invariant.one_per_handle in
     omega arith)
     c.index.ensures 0 in
     ap (λ (n : ℕ). c.args.event.actor == n) last

@@ -14,12 +14,12 @@ loop-i-preserved c =
     let did = c.in_default.ensures in
     record {
       config = did.config ∙ c.loop-i.invariant.config;
-      stands = did.stands;
-      made = machine-after-one-more c.args.self.now.config c.args.self.now.machine
+      lawful_machine = did.lawful_machine;
+      new_machine = machine-after-one-more c.args.self.now.config c.args.self.now.machine
           c.loop-i.self.machine
           c.step.new.self.machine c.args.events.now c.loop-i.i default c.loop-i-test.true
-          c.loop-i.invariant.made
+          c.loop-i.invariant.new_machine
           (subst (λ (z : Config). machine_after z c.loop-i.self.machine
           (get_or c.args.events.now c.loop-i.i default)
-          ≡ Some c.step.new.self.machine) c.loop-i.invariant.config did.made);
+          ≡ Some c.step.new.self.machine) c.loop-i.invariant.config did.new_machine);
     }

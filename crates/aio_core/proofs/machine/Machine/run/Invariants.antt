@@ -6,7 +6,7 @@ use Rattle.aio_core.proofs.machine.Machine.run.Given as goal
 abbrev pub invariant-loop-i : goal.invariant-loop-i
 invariant-loop-i l = record {
   config : l.self.config ≡ l.fn.self.config;
-  stands : IsLawfulMachine l.self.config l.self.machine;
-  made : machine_after_all l.fn.self.config l.fn.self.machine (take l.i l.events)
+  lawful_machine : IsLawfulMachine l.self.config l.self.machine;
+  new_machine : machine_after_all l.fn.self.config l.fn.self.machine (take l.i l.events)
       ≡ Some l.self.machine;
 }

@@ -134,8 +134,8 @@ did c =
 pub invariant_of-self-2 : goal.invariant_of-self-2
 invariant_of-self-2 c = (did c).1
 
-pub returns-clause-made : goal.returns-clause-made
-returns-clause-made c = subst (λ z. machine_after z.config z.machine c.args.event
+pub returns-clause-new_machine : goal.returns-clause-new_machine
+returns-clause-new_machine c = subst (λ z. machine_after z.config z.machine c.args.event
     ≡ Some record {
       words = set c.self.inside.words.items c.args.event.handle c.in-Some.next;
       lists = take c.self.inside.lists.len
@@ -143,8 +143,8 @@ returns-clause-made c = subst (λ z. machine_after z.config z.machine c.args.eve
     })
     c.self.view_is (did c).0
 
-pub returns-clause-stands : goal.returns-clause-stands
-returns-clause-stands c = (did c).1.stands
+pub returns-clause-lawful_machine : goal.returns-clause-lawful_machine
+returns-clause-lawful_machine c = (did c).1.lawful_machine
 
 pub returns-then-is_err-clause-cause : goal.returns-then-is_err-clause-cause
 returns-then-is_err-clause-cause c =

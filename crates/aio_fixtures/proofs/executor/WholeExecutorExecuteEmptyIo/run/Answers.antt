@@ -21,7 +21,7 @@ returns-clause-marks g c =
     record {
       more = make_mark t (kind.Io Whole) ∷ make_mark t kind.Shared ∷ [];
       grows = c.complete_as.ensures.marks;
-      took = claims-completed-one Whole t.handle t.generation;
+      claims_completed = claims-completed-one Whole t.handle t.generation;
       counters_follow = record {
         read_each = λ below. let e = c.saturating_add-self.ensures in omega arith;
         fault_each = λ _. omega arith;

@@ -4,8 +4,8 @@ use Rattle.aio_word.specs.declared.WaitRef.{WaitRef}
 use Rattle.aio_word.specs.Events.{wait_ref, handle_count}
 use Rattle.aio_handle.specs.ContractViews.{ActorView}
 use Rattle.aio_handle.specs.Seats.{seat_known}
-use Rattle.aio_handle.specs.Free.{IsFree, HasNoneFree}
-use Rattle.aio_handle.specs.Own.{own_at, IsFreeHandle}
+use Rattle.aio_handle.specs.FreeHandles.{IsFree, HasNoneFree}
+use Rattle.aio_handle.specs.OwnHandles.{own_at, IsFreeHandle}
 use Rattle.aio_handle.proofs.FreeHandles.{tells-free, none-told}
 use Rattle.aio_handle.proofs.actor.Actor.free_handle.Goals as goal
 
@@ -15,7 +15,7 @@ returns-in_default-clause-none g c = subst
     (subst (λ (z : Config). HasNoneFree z (seat_known c.self.inside.seat.me.0))
     (sym c.self.invariant.0.config)
     (none-told c.self.inside.config c.self.inside.own.items
-    (seat_known c.self.inside.seat.me.0) c.self.invariant.2.owns c.self.invariant.2.unspent
+    (seat_known c.self.inside.seat.me.0) c.self.invariant.2.own_handles_match c.self.invariant.2.only_past_reclaimed
     (subst (λ xs. (k : ℕ) → k < length xs → IsFreeHandle (own_at xs k)
     → ⊥) c.as_slice-own.ensures.value c.in_default.ensures.none)))
 
@@ -32,7 +32,7 @@ returns-clause-some g c =
     (subst (λ (z : ActorView). z.known.number < z.known.config.backends)
     (sym c.self.view_is) c.requires.backend) in
     let free = tells-free c.self.inside.config c.self.inside.own.items
-    (seat_known c.self.inside.seat.me.0) c.in-Some.place c.self.invariant.2.owns got.0 backend got.1
+    (seat_known c.self.inside.seat.me.0) c.in-Some.place c.self.invariant.2.own_handles_match got.0 backend got.1
     in
     let t : ℕ → ℕ → WaitRef =
     λ n k. wait_ref (n * c.self.inside.config.per_backend + c.in-Some.place) k in

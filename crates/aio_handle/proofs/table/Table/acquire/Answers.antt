@@ -1,6 +1,6 @@
 use Rattle.std.proofs.Common.{◌≡◌, None, sym, subst, refl}
 use Rattle.aio_word.specs.declared.WaitRef.{WaitRef}
-use Rattle.aio_handle.specs.Free.{IsFree, HasNoneFree}
+use Rattle.aio_handle.specs.FreeHandles.{IsFree, HasNoneFree}
 use Rattle.aio_handle.specs.Seats.{seat_known}
 use Rattle.aio_handle.specs.ContractViews.{ActorView}
 use Rattle.aio_handle.proofs.FreeHandles.{none-out}

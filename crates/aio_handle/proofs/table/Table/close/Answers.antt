@@ -18,9 +18,9 @@ returns g c =
     (λ k. min (by_runners (config k) (map actor_known (parts k))) (2 ^ 128 - 1)) in
     let b' : c.count_claims-by_backends.result.0 ≡ backends = omega arith in
     let r' : c.count_claims-by_backends.result.1 ≡ runners = omega arith in
-    let balanced : incarnations c.args.self.config c.end.ensures.ends.words ≡ backends + runners =
-    c.end.ensures.ends.balanced in record {
-      ends = c.end.ensures.ends;
+    let totals_agree : incarnations c.args.self.config c.end.ensures.end_state.words ≡ backends + runners =
+    c.end.ensures.end_state.totals_agree in record {
+      end_state = c.end.ensures.end_state;
       incarnations_are = omega arith;
       by_backends_are = b';
       by_runners_are = r';

@@ -1,4 +1,4 @@
-use Rattle.std.proofs.Common.{◌≡◌, ℕ, ◌<◌, [], ◌∷◌, sym, ap, ◌∙◌, subst, refl, Some, false}
+use Rattle.std.proofs.Common.{◌≡◌, ℕ, ◌<◌, [], ◌∷◌, sym, ap, ◌∙◌, subst, Some, false}
 use Rattle.atomic_table.specs.Table.{rest}
 use Rattle.aio_word.specs.declared.WaitRef.{WaitRef}
 use Rattle.aio_word.specs.declared.Known.{Known}
@@ -10,16 +10,13 @@ use Rattle.aio_word.specs.Stands.{IsIn}
 use Rattle.aio_word.specs.Tokens.{IsExecuted}
 use Rattle.aio_handle.specs.Seats.{seat_known}
 use Rattle.aio_handle.specs.LifeWords.{executed_word, completed_word}
-use Rattle.aio_handle.proofs.CompletionSteps.{share-is-allowed}
+use Rattle.aio_handle.proofs.ClaimerSteps.{share-is-allowed}
 use Rattle.aio_handle.proofs.TokensAfterEvent.{executed-slot-out}
-use Rattle.aio_word.proofs.AppendKeepsHandle.{mark_by_parts, counted-in}
-use Rattle.aio_word.specs.declared.Kind.TheVariants as kind
 use Rattle.aio_handle.proofs.SeatAfterStep.{moved_to_front-first}
-use Rattle.aio_handle.proofs.CallSteps.{returns-made, returns-seated, by-generation}
+use Rattle.aio_handle.proofs.CallSteps.{event-of, returns-seated}
 use Rattle.aio_handle.specs.CallEvents.{EventMade}
 use Rattle.aio_word.proofs.PackIsInjective.{packed_word-injective}
-use Rattle.aio_handle.proofs.CacheAfterCalls.{caches-returned}
-use Rattle.aio_handle.specs.OwnHandleCache.{CachesOwnHandles}
+use Rattle.aio_handle.proofs.CacheAfterEvents.{caches-plain}
 use Rattle.aio_handle.proofs.table.Table.complete_shared.Goals as goal
 
 pub exchange-requires : goal.exchange-requires
@@ -32,13 +29,8 @@ exchange-requires g c =
     (g.R.Record.label z.1).ended c.args.actor.now.known z.0)
     (sym c.claimed.view_is) c.requires.token.0) in
     let b = moved_to_front-first c.claimed.inside.reference.handle _ c.actor.inside.seat.me.1
-    (c.actor.invariant.0.carried c.claimed.inside.reference.handle
-    (executed-slot-out (g.R.Record.label c.claimed.inside.io).ended
-    (seat_known c.actor.inside.seat.me.0) _ c.claimed.inside.reference.generation
-    (counted-in (mark_by_parts c.claimed.inside.reference.handle
-    c.claimed.inside.reference.generation
-    (kind.Io (g.R.Record.label c.claimed.inside.io).ended))
-    (seat_known c.actor.inside.seat.me.0).marks t.since) t.until)) in
+    (c.actor.invariant.0.out_slots c.claimed.inside.reference.handle
+    (executed-slot-out t)) in
     let e = ap (λ x. x.1) c.move_slot_to_front.ensures.2 in (
       c.move_slot_to_front.ensures.0 ∙
           (ap (λ x. x.table) c.actor.view_is ∙
@@ -64,15 +56,13 @@ swap-requires g c =
           (ap (λ x. x.table) c.actor.view_is ∙
           (c.requires.table.0 ∙ sym (ap (λ x. x.table) c.self.view_is)))),
       subst (λ (z : ℕ). h < z) (sym c.self.invariant.1) range,
-      share-is-allowed g.R.Record.label g.R.Record.aim
-          (g.R.Record.fits g.W.World.told g.W.World.relations) _ _ _ h
-          c.claimed.inside.reference.generation _ (g.R.Record.label c.claimed.inside.io).ended _
-          (seat_known c.actor.inside.seat.me.0) c.claimed.inside.io
-          (c.number_of-word.ensures ∙ ap (λ z. packed_word
+      share-is-allowed _ (ap (λ x. x.0) c.exchange.ensures.3
+          ∙ (ap (λ x. x.0) c.move_slot_to_front.ensures.2 ∙ c.actor.invariant.0.one))
+          (subst (λ z. h < handle_count z) (sym c.self.invariant.0) range)
+          c.claimed.inside.io (c.number_of-word.ensures ∙ ap (λ z. packed_word
           (completed_word z c.claimed.inside.reference.generation)) c.ended.ensures)
-          (ap (λ x. x.0) c.exchange.ensures.3 ∙ (ap (λ x. x.0) c.move_slot_to_front.ensures.2
-          ∙ c.actor.invariant.0.one)) (f ∙ ap (λ z. (h, Some c.claimed.inside.io) ∷ rest z)
-          (sym f)) (subst (λ z. h < handle_count z) (sym c.self.invariant.0) range) t
+          (f ∙ ap (λ z. (h, Some c.claimed.inside.io) ∷ rest z)
+          (sym f)) t
           (subst (λ (z : WaitRef × g.row.R.Denot). g.R.Record.label z.1
           ≡ record {
             handle = z.0.handle;
@@ -99,28 +89,15 @@ invariant_of-actor g c =
     (subst (λ (z : WaitRef × g.row.R.Denot). IsExecuted
     (g.R.Record.label z.1).ended c.args.actor.now.known z.0)
     (sym c.claimed.view_is) c.requires.token.0) in (
-      returns-seated c.self.inside.inner.shared.table_id.slots c.claimed.inside.reference.handle
-          c.claimed.inside.reference.generation _ _ c.actor.inside.seat.me c.exchange.new.seat.me _
+      returns-seated c.actor.invariant.0 c.swap.ensures.2.1
           (ap (λ x. x.0) c.exchange.ensures.3 ∙ ap (λ x. x.0) c.move_slot_to_front.ensures.2)
-          (ap (λ x. rest x.1) c.exchange.ensures.3 ∙ ap
-          (λ x. rest x.1) c.move_slot_to_front.ensures.2) _ _
-          event.Shared (executed_word c.swap.ensures.2.0) (completed_word c.swap.ensures.2.0) []
-          c.actor.invariant.0 (executed-slot-out (g.R.Record.label c.claimed.inside.io).ended
-          (seat_known c.actor.inside.seat.me.0) _ c.claimed.inside.reference.generation
-          (counted-in (mark_by_parts c.claimed.inside.reference.handle
-          c.claimed.inside.reference.generation
-          (kind.Io (g.R.Record.label c.claimed.inside.io).ended))
-          (seat_known c.actor.inside.seat.me.0).marks t.since) t.until) c.swap.ensures.2.1,
+          (ap (λ x. rest x.1) c.exchange.ensures.3
+          ∙ ap (λ x. rest x.1) c.move_slot_to_front.ensures.2)
+          (executed-slot-out t),
       c.actor.invariant.1,
-      caches-returned c.actor.inside.config c.actor.inside.own.items c.actor.inside.turn
-          c.actor.inside.claims c.actor.inside.is_out c.self.inside.inner.shared.table_id.slots
-          c.claimed.inside.reference.handle _ _ c.exchange.new.seat.me c.swap.new.seat.me
-          event.Shared (executed_word c.swap.ensures.2.0) (completed_word c.swap.ensures.2.0) [] tt
-          c.swap.ensures.2.1 (subst
-          (λ z. CachesOwnHandles c.actor.inside.config c.actor.inside.own.items
-          c.actor.inside.turn c.actor.inside.is_out c.actor.inside.claims (seat_known z))
-          (sym (ap (λ x. x.0) c.exchange.ensures.3 ∙ ap (λ x. x.0) c.move_slot_to_front.ensures.2))
-          c.actor.invariant.2),
+      caches-plain (event-of c.swap.ensures.2.1.0
+          (ap (λ x. x.0) c.exchange.ensures.3 ∙ ap (λ x. x.0) c.move_slot_to_front.ensures.2) c.swap.ensures.2.1.0.g
+          (λ a b x. x) c.swap.ensures.2.1.0.wrote) tt c.actor.invariant.2,
     )
 
 pub returns-clause-event : goal.returns-clause-event
@@ -128,19 +105,13 @@ returns-clause-event g c =
     let h : ℕ = c.claimed.inside.reference.handle in
     let n : ℕ = c.claimed.inside.reference.generation in
     let class : Class = c.swap.ensures.2.0 in
-    let (p, q, n', mine, then, found, wrote, md', gone) = c.swap.ensures.2.1 in
+    let d = c.swap.ensures.2.1.0 in
     let ec : class ≡ (g.R.Record.label c.claimed.inside.io).ended = ap (λ z. z.class)
-    (packed_word-injective (completed_word class n') (completed_word c.ended.result n)
-    (sym wrote ∙ c.number_of-word.ensures)) ∙ c.ended.ensures in
-    let wr = c.number_of-word.ensures ∙ ap (λ z. packed_word (completed_word z n))
-    (c.ended.ensures ∙ sym ec) in
-    let md = returns-made c.self.inside.inner.shared.table_id.slots h n _ _ c.actor.inside.seat.me
-    c.exchange.new.seat.me c.swap.new.seat.me (ap (λ x. x.0) c.exchange.ensures.3 ∙ ap
-    (λ x. x.0) c.move_slot_to_front.ensures.2) (ap (λ x. rest x.1) c.exchange.ensures.3 ∙ ap
-    (λ x. rest x.1)
-    c.move_slot_to_front.ensures.2)
-    event.Shared (executed_word class) (completed_word class) []
-    (by-generation (completed_word class) (λ x. refl)) wr c.swap.ensures.2.1 in
+    (packed_word-injective (completed_word class d.g) (completed_word c.ended.result n)
+    (sym d.wrote ∙ c.number_of-word.ensures)) ∙ c.ended.ensures in
+    let md = event-of d (ap (λ x. x.0) c.exchange.ensures.3 ∙ ap (λ x. x.0) c.move_slot_to_front.ensures.2) n
+    (λ a b x. x) (c.number_of-word.ensures ∙ ap (λ z. packed_word (completed_word z n))
+    (c.ended.ensures ∙ sym ec)) in
     subst (λ (z : (WaitRef × g.row.R.Denot) × Known). EventMade event.Shared z.0.0.handle
     (executed_word (g.R.Record.label z.0.1).ended z.0.0.generation)
     (completed_word (g.R.Record.label z.0.1).ended z.0.0.generation) [] z.1

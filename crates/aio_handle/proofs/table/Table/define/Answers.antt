@@ -1,20 +1,18 @@
+use Rattle.std.proofs.Common.{◌≡◌, ℕ, ◌<◌, [], sym, ap, ◌∙◌, subst, refl, Some, inl, false}
 use Rattle.aio_word.specs.declared.WaitRef.{WaitRef}
 use Rattle.aio_word.specs.declared.Known.{Known}
-use Rattle.aio_handle.specs.CallEvents.{EventMade}
-use Rattle.aio_handle.proofs.CallSteps.{makes-made}
-use Rattle.std.proofs.Common.{false}
-use Rattle.std.proofs.Common.{◌≡◌, ℕ, ◌<◌, [], sym, ap, ◌∙◌, subst, refl, Some, inl}
 use Rattle.aio_word.specs.declared.Step.TheVariants as event
 use Rattle.aio_word.specs.Events.{handle_count}
 use Rattle.aio_handle.specs.Seats.{seat_known}
+use Rattle.aio_handle.specs.CallEvents.{EventMade}
 use Rattle.aio_handle.specs.LifeWords.{handed_out_word, defined_word}
+use Rattle.aio_handle.specs.OwnHandleCache.{CachesOwnHandles}
 use Rattle.aio_handle.proofs.CallAnswers.{inside-from-view}
-use Rattle.aio_handle.proofs.DefineSteps.{define-is-allowed}
+use Rattle.aio_handle.proofs.OwnerSteps.{define-is-allowed}
 use Rattle.aio_handle.proofs.TokensAfterEvent.{defined-token}
-use Rattle.aio_handle.proofs.CallSteps.{makes-made, makes-seated}
+use Rattle.aio_handle.proofs.CallSteps.{event-of, stays-seated}
 use Rattle.aio_handle.proofs.CacheAfterLives.{caches-defined}
 use Rattle.aio_handle.proofs.FreeHandles.{owner-place}
-use Rattle.aio_handle.specs.OwnHandleCache.{CachesOwnHandles}
 use Rattle.aio_handle.proofs.table.Table.define.Goals as goal
 
 pub swap-requires : goal.swap-requires
@@ -22,78 +20,55 @@ swap-requires g c =
     let h : ℕ = c.token.inside.reference.handle in
     let range : h < handle_count c.self.inside.config = subst (λ (z : ℕ). h < z)
     (sym c.self.invariant.3) c.token.invariant.handle in
-    let t = inside-from-view (λ k t. k.out ≡ Some t)
-    (seat_known c.actor.inside.seat.me.0) c.args.actor.now.known c.token.inside.reference
-    c.args.token
-    (ap (λ x. x.known) c.actor.view_is) (c.token.view_is) (c.requires.token) in (
-      (ap (λ x. x.table) c.actor.view_is ∙
-          (c.requires.table.0 ∙ sym (ap (λ x. x.table) c.self.view_is))),
+    let t = inside-from-view (λ k t. k.out ≡ Some t) (ap (λ x. x.known) c.actor.view_is)
+    c.token.view_is c.requires.token in (
+      ap (λ x. x.table) c.actor.view_is ∙
+          (c.requires.table.0 ∙ sym (ap (λ x. x.table) c.self.view_is)),
       subst (λ (z : ℕ). h < z) (sym c.self.invariant.1) range,
-      define-is-allowed g.R.Record.label g.R.Record.aim
-          (g.R.Record.fits g.W.World.told g.W.World.relations) _ _ _ h
-          c.token.inside.reference.generation _ _ (seat_known c.actor.inside.seat.me.0)
-          c.number_of-word.ensures c.actor.invariant.0.one
-          (subst (λ z. h < handle_count z) (sym c.self.invariant.0) range) t,
+      define-is-allowed _ c.actor.invariant.0.one
+          (subst (λ z. h < handle_count z) (sym c.self.invariant.0) range)
+          c.number_of-word.ensures t,
     )
 
 pub invariant_of-actor : goal.invariant_of-actor
 invariant_of-actor g c =
-    let t = inside-from-view (λ k t. k.out ≡ Some t)
-    (seat_known c.actor.inside.seat.me.0) c.args.actor.now.known c.token.inside.reference
-    c.args.token
-    (ap (λ x. x.known) c.actor.view_is) (c.token.view_is) (c.requires.token) in (
-      makes-seated c.self.inside.inner.shared.table_id.slots c.token.inside.reference.handle
-          c.token.inside.reference.generation _ _ _ _ _ _ event.Define handed_out_word defined_word
-          c.actor.invariant.0 (c.token.inside.reference.generation, inl t) c.swap.ensures.2,
+    let h : ℕ = c.token.inside.reference.handle in
+    let t = inside-from-view (λ k t. k.out ≡ Some t) (ap (λ x. x.known) c.actor.view_is)
+    c.token.view_is c.requires.token in
+    let md = event-of c.swap.ensures.2 refl c.token.inside.reference.generation (λ a b x. x)
+    c.number_of-word.ensures in
+    let same = (sym c.actor.invariant.0.config ∙ ap (λ x. x.known.config) c.actor.view_is) ∙
+    (c.requires.table.1 ∙ sym (ap (λ x. x.config) c.self.view_is)) in
+    let at = owner-place md tt c.actor.invariant.0.config
+    (subst (λ z. h < handle_count z) (sym same)
+    (subst (λ (z : ℕ). h < z) (sym c.self.invariant.3) c.token.invariant.handle))
+    c.actor.invariant.2.own_handles_match in (
+      stays-seated c.actor.invariant.0 c.swap.ensures.2 (c.token.inside.reference.generation, inl t),
       c.actor.invariant.1,
-      (let same = (sym c.actor.invariant.0.config ∙ ap (λ x. x.known.config) c.actor.view_is) ∙
-          (c.requires.table.1 ∙ sym (ap (λ x. x.config) c.self.view_is)) in let md =
-          (makes-made c.self.inside.inner.shared.table_id.slots c.token.inside.reference.handle
-          c.token.inside.reference.generation _ _ c.actor.inside.seat.me c.swap.new.seat.me
-          event.Define handed_out_word defined_word
-          (λ x. refl) c.number_of-word.ensures c.swap.ensures.2)
-          in let at = owner-place c.actor.inside.config c.actor.inside.own.items event.Define
-          c.token.inside.reference.handle _ _ [] (seat_known c.actor.inside.seat.me.0)
-          (seat_known c.swap.new.seat.me.0) md tt c.actor.invariant.0.config
-          (subst (λ z. c.token.inside.reference.handle < handle_count z) (sym same)
-          (subst (λ (z : ℕ). c.token.inside.reference.handle < z) (sym c.self.invariant.3)
-          c.token.invariant.handle)) c.actor.invariant.2.owns in subst
-          (λ xs. CachesOwnHandles c.actor.inside.config xs c.actor.inside.turn false
+      subst (λ xs. CachesOwnHandles c.actor.inside.config xs c.actor.inside.turn false
           c.actor.inside.claims (seat_known c.swap.new.seat.me.0)) (sym c.remember.ensures)
-          (caches-defined _ _ _ _ _ c.token.inside.reference.handle
-          c.token.inside.reference.generation _ [] (seat_known c.actor.inside.seat.me.0)
-          (seat_known c.swap.new.seat.me.0) md c.actor.invariant.0.config
-          c.actor.invariant.0.keeps at.1 at.0 c.token.invariant.generation
-          c.actor.invariant.2)),
+          (caches-defined md c.actor.invariant.0.config c.actor.invariant.0.marks_once at.1 at.0
+          c.token.invariant.generation c.actor.invariant.2),
     )
 
 pub returns-clause-token : goal.returns-clause-token
 returns-clause-token g c = (
   c.token.view_is,
   c.bind.ensures.aim,
-  (defined-token c.token.inside.reference.handle c.token.inside.reference.generation []
-      (seat_known c.actor.inside.seat.me.0)
-      (seat_known c.swap.new.seat.me.0) c.actor.invariant.0.keeps
-      (makes-made c.self.inside.inner.shared.table_id.slots c.token.inside.reference.handle
-      c.token.inside.reference.generation _ _ c.actor.inside.seat.me c.swap.new.seat.me
-      event.Define handed_out_word defined_word
-      (λ x. refl) c.number_of-word.ensures c.swap.ensures.2)),
+  defined-token c.actor.invariant.0.marks_once (event-of c.swap.ensures.2 refl
+      c.token.inside.reference.generation (λ a b x. x) c.number_of-word.ensures),
 )
 
 pub remember-requires : goal.remember-requires
 remember-requires g c =
+    let h : ℕ = c.token.inside.reference.handle in
     let same = (sym c.actor.invariant.0.config ∙ ap (λ x. x.known.config) c.actor.view_is) ∙
     (c.requires.table.1 ∙ sym (ap (λ x. x.config) c.self.view_is)) in
-    let md = (makes-made c.self.inside.inner.shared.table_id.slots c.token.inside.reference.handle
-    c.token.inside.reference.generation _ _ c.actor.inside.seat.me c.swap.new.seat.me
-    event.Define handed_out_word defined_word (λ x. refl) c.number_of-word.ensures c.swap.ensures.2)
-    in
-    let at = owner-place c.actor.inside.config c.actor.inside.own.items event.Define
-    c.token.inside.reference.handle _ _ [] (seat_known c.actor.inside.seat.me.0)
-    (seat_known c.swap.new.seat.me.0) md tt c.actor.invariant.0.config
-    (subst (λ z. c.token.inside.reference.handle < handle_count z) (sym same)
-    (subst (λ (z : ℕ). c.token.inside.reference.handle < z) (sym c.self.invariant.3)
-    c.token.invariant.handle)) c.actor.invariant.2.owns in record {
+    let at = owner-place (event-of c.swap.ensures.2 refl c.token.inside.reference.generation
+    (λ a b x. x) c.number_of-word.ensures) tt c.actor.invariant.0.config
+    (subst (λ z. h < handle_count z) (sym same)
+    (subst (λ (z : ℕ). h < z) (sym c.self.invariant.3) c.token.invariant.handle))
+    c.actor.invariant.2.own_handles_match in record {
       some = c.actor.invariant.1.per_backend.0;
       range = at.0;
     }
@@ -103,6 +78,5 @@ returns-clause-event g c = subst
     (λ (z : WaitRef × Known). EventMade event.Define z.0.handle (handed_out_word z.0.generation)
     (defined_word z.0.generation) [] z.1 (seat_known c.swap.new.seat.me.0))
     (λ k. (c.token.view_is k, (c.actor.view_is k).known))
-    (makes-made c.self.inside.inner.shared.table_id.slots c.token.inside.reference.handle
-    c.token.inside.reference.generation _ _ c.actor.inside.seat.me c.swap.new.seat.me
-    event.Define handed_out_word defined_word (λ x. refl) c.number_of-word.ensures c.swap.ensures.2)
+    (event-of c.swap.ensures.2 refl c.token.inside.reference.generation (λ a b x. x)
+    c.number_of-word.ensures)

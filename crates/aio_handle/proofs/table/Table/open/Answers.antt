@@ -25,8 +25,8 @@ vacant-requires g c =
     (g.R.Record.fits g.W.World.told g.W.World.relations) config c.requires.start)
 
 -- src/table.rt:76:34
-pub deal-requires-clause-view : goal.deal-requires-clause-view
-deal-requires-clause-view g c κs within = (
+pub new_actor-requires-clause-view : goal.new_actor-requires-clause-view
+new_actor-requires-clause-view g c κs within = (
   _,
   next-view
       record {

@@ -1,22 +1,21 @@
-use Rattle.std.proofs.Common.{ℕ, ◌+◌, ◌<◌, [], ◌∷◌, sym, ap, ◌∙◌, subst, None}
+use Rattle.std.proofs.Common.{ℕ, ◌+◌, ◌<◌, [], ◌∷◌, sym, ap, ◌∙◌, subst, arith, None}
 use Rattle.atomic_table.specs.Table.{rest}
+use Rattle.aio_word.specs.declared.WaitRef.{WaitRef}
+use Rattle.aio_word.specs.declared.Known.{Known}
 use Rattle.aio_word.specs.declared.Step.TheVariants as event
 use Rattle.aio_word.specs.Events.{handle_count}
 use Rattle.aio_word.specs.Tokens.{IsLocal}
 use Rattle.aio_handle.specs.Seats.{seat_known}
-use Rattle.aio_word.specs.declared.Known.{Known}
-use Rattle.aio_word.specs.declared.WaitRef.{WaitRef}
-use Rattle.aio_handle.specs.LifeWords.{idle_word, taken_word}
 use Rattle.aio_handle.specs.CallEvents.{EventMade}
+use Rattle.aio_handle.specs.LifeWords.{idle_word, taken_word}
+use Rattle.aio_handle.specs.OwnHandleCache.{CachesOwnHandles}
 use Rattle.aio_handle.proofs.CallAnswers.{inside-from-view}
-use Rattle.aio_handle.proofs.ReclaimSteps.{reclaim-is-allowed}
+use Rattle.aio_handle.proofs.OwnerSteps.{reclaim-is-allowed}
 use Rattle.aio_handle.proofs.TokensAfterEvent.{local-slot-out}
 use Rattle.aio_handle.proofs.SeatAfterStep.{moved_to_front-none}
-use Rattle.aio_handle.proofs.CallSteps.{returns-seated}
+use Rattle.aio_handle.proofs.CallSteps.{event-of, returns-seated}
 use Rattle.aio_handle.proofs.CacheAfterLives.{caches-reclaimed}
 use Rattle.aio_handle.proofs.FreeHandles.{owner-place}
-use Rattle.aio_handle.specs.OwnHandleCache.{CachesOwnHandles}
-use Rattle.aio_handle.proofs.CallSteps.{returns-made, by-next}
 use Rattle.aio_handle.proofs.table.Table.reclaim.Goals as goal
 
 pub swap-requires : goal.swap-requires
@@ -24,80 +23,54 @@ swap-requires g c =
     let h : ℕ = c.token.inside.reference.handle in
     let range : h < handle_count c.self.inside.config = subst (λ (z : ℕ). h < z)
     (sym c.self.invariant.3) c.token.invariant.handle in
-    let t = inside-from-view (IsLocal)
-    (seat_known c.actor.inside.seat.me.0) c.args.actor.now.known c.token.inside.reference
-    c.args.token.0 (ap (λ x. x.known) c.actor.view_is) (ap (λ z. z.0) c.token.view_is)
-    (c.requires.token) in
+    let t = inside-from-view IsLocal (ap (λ x. x.known) c.actor.view_is)
+    (ap (λ z. z.0) c.token.view_is) c.requires.token in
     let f = ap (λ x. x.1) c.move_slot_to_front.ensures.2 in
-    let b = moved_to_front-none _ _ h c.actor.inside.seat.me c.actor.invariant.0
-    (local-slot-out (seat_known c.actor.inside.seat.me.0) _ _ t) in (
+    let b = moved_to_front-none c.actor.invariant.0 (local-slot-out t) in (
       c.move_slot_to_front.ensures.0 ∙
           (ap (λ x. x.table) c.actor.view_is ∙
           (c.requires.table.0 ∙ sym (ap (λ x. x.table) c.self.view_is))),
       subst (λ (z : ℕ). h < z) (sym c.self.invariant.1) range,
-      reclaim-is-allowed g.R.Record.label g.R.Record.aim
-          (g.R.Record.fits g.W.World.told g.W.World.relations) _ _ _ h
-          c.token.inside.reference.generation _ _ (seat_known c.actor.inside.seat.me.0)
-          c.number_of-word.ensures (ap (λ x. x.0) c.move_slot_to_front.ensures.2
-          ∙ c.actor.invariant.0.one)
-          (f ∙ (b ∙ ap (λ z. (h, None) ∷ rest z) (sym f)))
-          (subst (λ z. h < handle_count z) (sym c.self.invariant.0) range) t,
+      reclaim-is-allowed _
+          (ap (λ x. x.0) c.move_slot_to_front.ensures.2 ∙ c.actor.invariant.0.one)
+          (subst (λ z. h < handle_count z) (sym c.self.invariant.0) range)
+          c.number_of-word.ensures (f ∙ (b ∙ ap (λ z. (h, None) ∷ rest z) (sym f))) t,
     )
 
 pub invariant_of-actor : goal.invariant_of-actor
 invariant_of-actor g c =
-    let t = inside-from-view (IsLocal)
-    (seat_known c.actor.inside.seat.me.0) c.args.actor.now.known c.token.inside.reference
-    c.args.token.0 (ap (λ x. x.known) c.actor.view_is) (ap (λ z. z.0) c.token.view_is)
-    (c.requires.token) in (
-      returns-seated c.self.inside.inner.shared.table_id.slots c.token.inside.reference.handle
-          c.token.inside.reference.generation _ _ c.actor.inside.seat.me
-          c.move_slot_to_front.new.seat.me _
-          (ap (λ x. x.0) c.move_slot_to_front.ensures.2) (ap
-          (λ x. rest x.1) c.move_slot_to_front.ensures.2) _ _ event.Reclaim
-          (taken_word c.swap.ensures.2.0) (λ x. idle_word (x + 1)) [] c.actor.invariant.0
-          (local-slot-out (seat_known c.actor.inside.seat.me.0) _ _ t) c.swap.ensures.2.1,
+    let h : ℕ = c.token.inside.reference.handle in
+    let t = inside-from-view IsLocal (ap (λ x. x.known) c.actor.view_is)
+    (ap (λ z. z.0) c.token.view_is) c.requires.token in
+    let md = event-of c.swap.ensures.2.1.0 (ap (λ x. x.0) c.move_slot_to_front.ensures.2)
+    c.token.inside.reference.generation (λ a b x. omega arith) c.number_of-word.ensures in
+    let same = (sym c.actor.invariant.0.config ∙ ap (λ x. x.known.config) c.actor.view_is) ∙
+    (c.requires.table.1 ∙ sym (ap (λ x. x.config) c.self.view_is)) in
+    let at = owner-place md tt c.actor.invariant.0.config
+    (subst (λ z. h < handle_count z) (sym same)
+    (subst (λ (z : ℕ). h < z) (sym c.self.invariant.3) c.token.invariant.handle))
+    c.actor.invariant.2.own_handles_match in (
+      returns-seated c.actor.invariant.0 c.swap.ensures.2.1 (ap (λ x. x.0) c.move_slot_to_front.ensures.2)
+          (ap (λ x. rest x.1) c.move_slot_to_front.ensures.2) (local-slot-out t),
       c.actor.invariant.1,
-      (let same = (sym c.actor.invariant.0.config ∙ ap (λ x. x.known.config) c.actor.view_is) ∙
-          (c.requires.table.1 ∙ sym (ap (λ x. x.config) c.self.view_is)) in let md =
-          (returns-made c.self.inside.inner.shared.table_id.slots c.token.inside.reference.handle
-          c.token.inside.reference.generation _ _ c.actor.inside.seat.me
-          c.move_slot_to_front.new.seat.me
-          c.swap.new.seat.me (ap (λ x. x.0) c.move_slot_to_front.ensures.2)
-          (ap (λ x. rest x.1) c.move_slot_to_front.ensures.2) event.Reclaim
-          (taken_word c.swap.ensures.2.0)
-          (λ x. idle_word (x + 1)) [] by-next c.number_of-word.ensures c.swap.ensures.2.1)
-          in let at = owner-place c.actor.inside.config c.actor.inside.own.items event.Reclaim
-          c.token.inside.reference.handle _ _ [] (seat_known c.actor.inside.seat.me.0)
-          (seat_known c.swap.new.seat.me.0) md tt c.actor.invariant.0.config
-          (subst (λ z. c.token.inside.reference.handle < handle_count z) (sym same)
-          (subst (λ (z : ℕ). c.token.inside.reference.handle < z) (sym c.self.invariant.3)
-          c.token.invariant.handle)) c.actor.invariant.2.owns in subst
-          (λ xs. CachesOwnHandles c.actor.inside.config xs c.actor.inside.turn c.actor.inside.is_out
-          c.actor.inside.claims (seat_known c.swap.new.seat.me.0)) (sym c.remember.ensures)
-          (caches-reclaimed _ _ _ _ _ c.token.inside.reference.handle
-          c.token.inside.reference.generation _ c.swap.ensures.2.0 []
-          (seat_known c.actor.inside.seat.me.0) (seat_known c.swap.new.seat.me.0) md
-          c.actor.invariant.0.config c.actor.invariant.0.keeps at.1 at.0
-          c.token.invariant.generation c.actor.invariant.2)),
+      subst (λ xs. CachesOwnHandles c.actor.inside.config xs c.actor.inside.turn
+          c.actor.inside.is_out c.actor.inside.claims (seat_known c.swap.new.seat.me.0))
+          (sym c.remember.ensures)
+          (caches-reclaimed md c.actor.invariant.0.config c.actor.invariant.0.marks_once at.1 at.0
+          c.token.invariant.generation c.actor.invariant.2),
     )
 
 pub remember-requires : goal.remember-requires
 remember-requires g c =
+    let h : ℕ = c.token.inside.reference.handle in
     let same = (sym c.actor.invariant.0.config ∙ ap (λ x. x.known.config) c.actor.view_is) ∙
     (c.requires.table.1 ∙ sym (ap (λ x. x.config) c.self.view_is)) in
-    let md = (returns-made c.self.inside.inner.shared.table_id.slots c.token.inside.reference.handle
-    c.token.inside.reference.generation _ _ c.actor.inside.seat.me c.move_slot_to_front.new.seat.me
-    c.swap.new.seat.me (ap (λ x. x.0) c.move_slot_to_front.ensures.2) (ap
-    (λ x. rest x.1) c.move_slot_to_front.ensures.2)
-    event.Reclaim (taken_word c.swap.ensures.2.0) (λ x. idle_word (x + 1)) [] by-next
-    c.number_of-word.ensures c.swap.ensures.2.1) in
-    let at = owner-place c.actor.inside.config c.actor.inside.own.items event.Reclaim
-    c.token.inside.reference.handle _ _ [] (seat_known c.actor.inside.seat.me.0)
-    (seat_known c.swap.new.seat.me.0) md tt c.actor.invariant.0.config
-    (subst (λ z. c.token.inside.reference.handle < handle_count z) (sym same)
-    (subst (λ (z : ℕ). c.token.inside.reference.handle < z) (sym c.self.invariant.3)
-    c.token.invariant.handle)) c.actor.invariant.2.owns in record {
+    let at = owner-place (event-of c.swap.ensures.2.1.0 (ap (λ x. x.0) c.move_slot_to_front.ensures.2)
+    c.token.inside.reference.generation (λ a b x. omega arith) c.number_of-word.ensures) tt
+    c.actor.invariant.0.config
+    (subst (λ z. h < handle_count z) (sym same)
+    (subst (λ (z : ℕ). h < z) (sym c.self.invariant.3) c.token.invariant.handle))
+    c.actor.invariant.2.own_handles_match in record {
       some = c.actor.invariant.1.per_backend.0;
       range = at.0;
     }
@@ -109,11 +82,6 @@ returns-clause-event g c = (
       (taken_word c.swap.ensures.2.0 z.0.generation) (idle_word (z.0.generation + 1)) [] z.1
       (seat_known c.swap.new.seat.me.0))
       (λ k. ((c.token.view_is k).0, (c.actor.view_is k).known))
-      (returns-made c.self.inside.inner.shared.table_id.slots c.token.inside.reference.handle
-      c.token.inside.reference.generation _ _ c.actor.inside.seat.me
-      c.move_slot_to_front.new.seat.me
-      c.swap.new.seat.me (ap (λ x. x.0) c.move_slot_to_front.ensures.2) (ap
-      (λ x. rest x.1) c.move_slot_to_front.ensures.2)
-      event.Reclaim (taken_word c.swap.ensures.2.0) (λ x. idle_word (x + 1)) [] by-next
-      c.number_of-word.ensures c.swap.ensures.2.1),
+      (event-of c.swap.ensures.2.1.0 (ap (λ x. x.0) c.move_slot_to_front.ensures.2)
+      c.token.inside.reference.generation (λ a b x. omega arith) c.number_of-word.ensures),
 )

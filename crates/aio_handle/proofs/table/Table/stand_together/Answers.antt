@@ -7,7 +7,7 @@ use Rattle.aio_handle.specs.TableInvariant.{TableInvariant}
 use Rattle.aio_handle.specs.Seats.{seat_known, front_of, rest_of, IsSeated}
 use Rattle.aio_handle.specs.ContractViews.{IsConfig}
 use Rattle.aio_handle.specs.OwnHandleCache.{CachesOwnHandles}
-use Rattle.aio_handle.specs.Together.{StandTogether}
+use Rattle.aio_handle.specs.ActorPairs.{StandTogether}
 use Rattle.aio_handle.proofs.SeatLists.{compares, both-lists, lists-laid, one-again, other-again}
 use Rattle.aio_handle.proofs.SeatSplitAndJoin.{all-lists-split, lists-join, first-list-splits}
 use Rattle.aio_handle.proofs.NewTableMeetsInvariant.{some-handles}

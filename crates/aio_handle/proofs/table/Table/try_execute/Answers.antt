@@ -31,7 +31,7 @@ returns-in-Some-clause-won g c _ =
       record {
         aim = g.R.Record.aim c.in-Some.claimed.1;
         between = q;
-        made = won.1;
+        event_made = won.1;
         ended = subst (λ (z : WaitRef). ExecutesAll (make_mark z kind.Claimed ∷ []) q r
             (g.E.Execute.reads c.args.runner.now) (g.E.Execute.reads c.execute.new.self)
             (g.E.Execute.faults c.args.runner.now) (g.E.Execute.faults c.execute.new.self))

@@ -4,4 +4,4 @@ use Rattle.handle_tests.proofs.table.life.live.Goals as goal
 
 pub end_own-requires-clause-unreclaimed : goal.end_own-requires-clause-unreclaimed
 end_own-requires-clause-unreclaimed g c =
-    c.in-Some.ensures.submitted.unreclaimed [] (none-at-rest _ c.requires.rests)
+    c.in-Some.ensures.submitted.unreclaimed [] (none-at-rest _ c.requires.no_owner_tokens)

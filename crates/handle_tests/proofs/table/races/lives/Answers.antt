@@ -10,5 +10,5 @@ loop-n-preserved g c = record {
   );
   backend = subst (λ (z : ℕ). z < c.args.table.now.config.backends)
       (sym c.live.ensures.same.2) c.loop-n.invariant.backend;
-  rests = c.live.ensures.rests c.if-not-live.false;
+  no_owner_tokens = c.live.ensures.no_owner_tokens c.if-not-live.false;
 }
