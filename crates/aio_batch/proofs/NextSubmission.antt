@@ -17,14 +17,14 @@ pub next-submission : {R : Type 0} (aim_in : R → List ℕ) (before after : Lis
     (unclaimed_word token.0.generation) (aim_in token.1) p q
     → (t ≡ token.0) × IsInFlight q t × IsIn (t, aim_in token.1) q.aims
     → ExecutesAll [] q r a b c d → IsNextSubmission aim_in before after t p r a b c d
-next-submission aim_in before after token t p q r a b c d first made tk begun =
+next-submission aim_in before after token t p q r a b c d first event_made tk begun =
     let kept = unchanged-by-execution t [] q r a b c d begun in record {
       token = token;
       first = first;
       reference = tk.0;
       between = q;
-      made = subst (λ (z : WaitRef). EventMade event.Submit z.handle (staged_word z.generation)
-          (unclaimed_word z.generation) (aim_in token.1) p q) (sym tk.0) made;
+      event_made = subst (λ (z : WaitRef). EventMade event.Submit z.handle (staged_word z.generation)
+          (unclaimed_word z.generation) (aim_in token.1) p q) (sym tk.0) event_made;
       begun = begun;
       in_flight = kept.in_flight tk.1;
       aim = kept.aims (aim_in token.1) tk.2;

@@ -46,7 +46,7 @@ module _ {R : Type 0} where
       in staged_tokens-kept p q after (λ u i. unchanged-then u.0 p n.between q
       (unchanged-elsewhere u.0 event.Submit t.handle (staged_word t.generation)
       (unclaimed_word t.generation)
-      (aim_in n.token.1) p n.between n.made
+      (aim_in n.token.1) p n.between n.event_made
       (subst (λ (z : WaitRef). u.0 ≢ z) (sym n.reference) (h.1 u i)))
       (unchanged-by-execution u.0 [] n.between q a b c d n.begun)) h.2
 
@@ -63,7 +63,7 @@ module _ {R : Type 0} where
       let kept : u ≢ t → TokenUnchanged u p q = λ ne. unchanged-then u p n.between q
       (unchanged-elsewhere u event.Submit t.handle (staged_word t.generation)
       (unclaimed_word t.generation)
-      (aim_in n.token.1) p n.between n.made ne) begun in record {
+      (aim_in n.token.1) p n.between n.event_made ne) begun in record {
         defined = λ x. (kept (λ e. let y = (subst (λ (z : WaitRef). IsDefined p z) e x).until in
             omega arith)).defined x;
         staged = λ x. (kept (other x)).staged x;
@@ -73,7 +73,7 @@ module _ {R : Type 0} where
             omega arith)).local x;
         aims = λ aim i. begun.aims aim
             (aims-unchanged u event.Submit t.handle (staged_word t.generation)
-            (unclaimed_word t.generation) (aim_in n.token.1) p n.between n.made aim i);
+            (unclaimed_word t.generation) (aim_in n.token.1) p n.between n.event_made aim i);
       }
 
   -- what is defined is not staged

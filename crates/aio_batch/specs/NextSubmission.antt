@@ -18,7 +18,7 @@ pub record IsNextSubmission {R : Type 0} (aim_in : R → List ℕ) (before after
   pub reference : t ≡ token.0
   -- what the actor knew between the two
   pub between : Known
-  pub made : EventMade Submit t.handle (staged_word t.generation) (unclaimed_word t.generation)
+  pub event_made : EventMade Submit t.handle (staged_word t.generation) (unclaimed_word t.generation)
       (aim_in token.1)
       p between
   pub begun : ExecutesAll [] between q reads reads' faults faults'

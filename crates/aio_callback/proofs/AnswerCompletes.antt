@@ -17,12 +17,12 @@ use Rattle.aio_callback.specs.declared.chain.Raw.{Raw}
 use Rattle.aio_callback.specs.declared.chain.Raw.TheVariants.{Read, Failed}
 use Rattle.aio_callback.specs.Chain.{is_bad, is_bad_verdict, class_of, chain_start, chain_result}
 use Rattle.aio_callback.specs.Chain.{good_count, Outcome}
-use Rattle.aio_callback.specs.Good.{IsGivenAs}
+use Rattle.aio_callback.specs.GoodPages.{IsGivenAs}
 use Rattle.aio_callback.specs.ReadIoView.{ReadIoView, IsToldRead, HasAnswer, IsCompletedRead}
 use Rattle.aio_callback.specs.ReadIoView.{ReadFits, after_shared, IsAfterShared, record_aim}
 use Rattle.aio_callback.specs.ReadIoView.{number_of_id}
 use Rattle.aio_callback.proofs.ChainLowersResult.{good_below}
-use Rattle.aio_callback.proofs.ChainChangesPages.{IsHeld, held_at, held_pages, begun_holds}
+use Rattle.aio_callback.proofs.ChainChangesPages.{PageMatchesMark, match_at, matching_pages, begun_holds}
 use Rattle.aio_callback.proofs.CheckedPages.{good_clean}
 
 not_bad : (v : Verdict) → is_bad_verdict v ≡ false → v ≢ Bad
@@ -72,7 +72,7 @@ told_at (Some t) relation first n i pages lt h = record {
 
 -- what a page that is held in place of a told one is given as
 given_as : (told : Option Told) (relation block : ℕ) (mark : Bool) (read page : List ℕ)
-    → IfSome told (λ t. IsPageOf t relation block read) → IsValid page → IsHeld mark read page
+    → IfSome told (λ t. IsPageOf t relation block read) → IsValid page → PageMatchesMark mark read page
     → IsGivenAs told relation block page mark
 given_as told relation block false read page there valid held = record {
   valid = valid;
@@ -102,7 +102,7 @@ goods told r (Read n) pages h room i lt =
     (good_clean r.count r.ids (Read n) pages (omega arith) i lt) in
     given_as told r.relation (r.first + i) (get_or o.zeroed i false) (get_or pages i [])
     (get_or o.pages i []) (told_at told r.relation r.first n i pages (omega arith) h.1) valid
-    (held_at o.zeroed pages o.pages i (omega arith) (begun_holds r.count r.ids (Read n) pages))
+    (match_at o.zeroed pages o.pages i (omega arith) (begun_holds r.count r.ids (Read n) pages))
 
 few : (told : Option Told) (r : ReadIoView) (answer : Raw) (pages : List (List ℕ))
     → IsToldRead told r answer pages → good_count r.ids (run r answer pages).result ≤ r.count
@@ -178,4 +178,4 @@ aim_after told r s a h =
     let o = run r a.answer r.pages in
     ap record_aim (shared_by_answer r s r.raw a.answer a.is h)
     ∙ ap (λ (n : ℕ). n ∷ r.relation ∷ r.first ∷ r.count ∷ map number_of_id r.ids)
-    (held_pages o.zeroed r.pages o.pages (begun_holds r.count r.ids a.answer r.pages))
+    (matching_pages o.zeroed r.pages o.pages (begun_holds r.count r.ids a.answer r.pages))

@@ -26,25 +26,25 @@ pub zeros_not_bad : is_bad zero_page ≡ false
 zeros_not_bad = not_bad_verdict (verdict_of zero_page) zero_page_valid
 
 -- a page that was read, whether it is marked, and what is held in its place
-pub record IsZeros (read page : List ℕ) : Type 0 where
+pub record ZerosReplaceBad (read page : List ℕ) : Type 0 where
   pub zeros : page ≡ zero_page
   pub bad : is_bad read ≡ true
 
-abbrev pub IsHeld : Bool → List ℕ → List ℕ → Type 0
-IsHeld false read page = page ≡ read
-IsHeld true read page = IsZeros read page
+abbrev pub PageMatchesMark : Bool → List ℕ → List ℕ → Type 0
+PageMatchesMark false read page = page ≡ read
+PageMatchesMark true read page = ZerosReplaceBad read page
 
 -- page by page
-abbrev pub AreHeld : List Bool → List (List ℕ) → List (List ℕ) → Type 0
-AreHeld [] [] [] = Unit {0}
-AreHeld [] [] (p ∷ ps) = ⊥
-AreHeld [] (r ∷ rs) ps = ⊥
-AreHeld (m ∷ ms) [] ps = ⊥
-AreHeld (m ∷ ms) (r ∷ rs) [] = ⊥
-AreHeld (m ∷ ms) (r ∷ rs) (p ∷ ps) = IsHeld m r p × AreHeld ms rs ps
+abbrev pub AllMatchMarks : List Bool → List (List ℕ) → List (List ℕ) → Type 0
+AllMatchMarks [] [] [] = Unit {0}
+AllMatchMarks [] [] (p ∷ ps) = ⊥
+AllMatchMarks [] (r ∷ rs) ps = ⊥
+AllMatchMarks (m ∷ ms) [] ps = ⊥
+AllMatchMarks (m ∷ ms) (r ∷ rs) [] = ⊥
+AllMatchMarks (m ∷ ms) (r ∷ rs) (p ∷ ps) = PageMatchesMark m r p × AllMatchMarks ms rs ps
 
 -- before any callback
-pub all_read : (pages : List (List ℕ)) → AreHeld (none_zeroed (length pages)) pages pages
+pub all_read : (pages : List (List ℕ)) → AllMatchMarks (none_zeroed (length pages)) pages pages
 all_read [] = tt
 all_read (p ∷ ps) = (refl, all_read ps)
 
@@ -53,31 +53,31 @@ zeros_stay : (bad : Bool) (page : List ℕ) → page ≡ zero_page
 zeros_stay true page e = refl
 zeros_stay false page e = e
 
-held_by : (bad mark : Bool) (read page : List ℕ) → is_bad page ≡ bad → IsHeld mark read page
-    → IsHeld (bad || mark) read (if bad then zero_page else page)
-held_by true false read page e h = record { zeros = refl; bad = sym (ap is_bad h) ∙ e }
-held_by true true read page e h = record { zeros = refl; bad = h.bad }
-held_by false false read page e h = h
-held_by false true read page e h = h
+match_if_bad : (bad mark : Bool) (read page : List ℕ) → is_bad page ≡ bad → PageMatchesMark mark read page
+    → PageMatchesMark (bad || mark) read (if bad then zero_page else page)
+match_if_bad true false read page e h = record { zeros = refl; bad = sym (ap is_bad h) ∙ e }
+match_if_bad true true read page e h = record { zeros = refl; bad = h.bad }
+match_if_bad false false read page e h = h
+match_if_bad false true read page e h = h
 
-held_more : (mark : Bool) (read page : List ℕ) → IsHeld mark read page
-    → IsHeld (mark_if_bad (page, mark)) read (zeros_if_bad page)
-held_more mark read page h = held_by (is_bad page) mark read page refl h
+match_after_zeroing : (mark : Bool) (read page : List ℕ) → PageMatchesMark mark read page
+    → PageMatchesMark (mark_if_bad (page, mark)) read (zeros_if_bad page)
+match_after_zeroing mark read page h = match_if_bad (is_bad page) mark read page refl h
 
 -- the bad ones among the first n become zeros
-pub zeros_held : (n : ℕ) (ms : List Bool) (rs ps : List (List ℕ)) → AreHeld ms rs ps
-    → AreHeld (front_marks n ps ms) rs (front_zeros n ps)
-zeros_held zero ms rs ps h = h
-zeros_held (suc n) [] [] [] h = tt
-zeros_held (suc n) [] [] (p ∷ ps) h = absurd h
-zeros_held (suc n) [] (r ∷ rs) ps h = absurd h
-zeros_held (suc n) (m ∷ ms) [] ps h = absurd h
-zeros_held (suc n) (m ∷ ms) (r ∷ rs) [] h = absurd h
-zeros_held (suc n) (m ∷ ms) (r ∷ rs) (p ∷ ps) h =
-    (held_more m r p h.0, zeros_held n ms rs ps h.1)
+pub zeros_match_marks : (n : ℕ) (ms : List Bool) (rs ps : List (List ℕ)) → AllMatchMarks ms rs ps
+    → AllMatchMarks (front_marks n ps ms) rs (front_zeros n ps)
+zeros_match_marks zero ms rs ps h = h
+zeros_match_marks (suc n) [] [] [] h = tt
+zeros_match_marks (suc n) [] [] (p ∷ ps) h = absurd h
+zeros_match_marks (suc n) [] (r ∷ rs) ps h = absurd h
+zeros_match_marks (suc n) (m ∷ ms) [] ps h = absurd h
+zeros_match_marks (suc n) (m ∷ ms) (r ∷ rs) [] h = absurd h
+zeros_match_marks (suc n) (m ∷ ms) (r ∷ rs) (p ∷ ps) h =
+    (match_after_zeroing m r p h.0, zeros_match_marks n ms rs ps h.1)
 
 abbrev pub Holds : List (List ℕ) → Outcome → Type 0
-Holds read o = AreHeld o.zeroed read o.pages
+Holds read o = AllMatchMarks o.zeroed read o.pages
 
 either_holds : (b : Bool) (read : List (List ℕ)) (x y : Outcome) → Holds read x → Holds read y
     → Holds read (if b then x else y)
@@ -88,7 +88,7 @@ zero_holds : (read : List (List ℕ)) (o : Outcome) → Holds read o → Holds r
 unfolding after_zero
 zero_holds read o h =
     either_holds (is_error o.result.status) read o (zeroed_first (natural_part o.result.result) o) h
-    (zeros_held (natural_part o.result.result) o.zeroed read o.pages h)
+    (zeros_match_marks (natural_part o.result.result) o.zeroed read o.pages h)
 
 callback_holds : (count : ℕ) (id : CallbackId) (read : List (List ℕ)) (o : Outcome) → Holds read o
     → Holds read (after_callback count id o)
@@ -110,16 +110,16 @@ begun_holds count ids answer read = chain_holds count ids read (chain_start answ
     (all_read read)
 
 -- there are as many pages and marks as before
-pub held_pages : (ms : List Bool) (rs ps : List (List ℕ)) → AreHeld ms rs ps
+pub matching_pages : (ms : List Bool) (rs ps : List (List ℕ)) → AllMatchMarks ms rs ps
     → length ps ≡ length rs
-held_pages [] [] [] h = refl
-held_pages [] [] (p ∷ ps) h = absurd h
-held_pages [] (r ∷ rs) ps h = absurd h
-held_pages (m ∷ ms) [] ps h = absurd h
-held_pages (m ∷ ms) (r ∷ rs) [] h = absurd h
-held_pages (m ∷ ms) (r ∷ rs) (p ∷ ps) h = (let e = held_pages ms rs ps h.1 in omega arith)
+matching_pages [] [] [] h = refl
+matching_pages [] [] (p ∷ ps) h = absurd h
+matching_pages [] (r ∷ rs) ps h = absurd h
+matching_pages (m ∷ ms) [] ps h = absurd h
+matching_pages (m ∷ ms) (r ∷ rs) [] h = absurd h
+matching_pages (m ∷ ms) (r ∷ rs) (p ∷ ps) h = (let e = matching_pages ms rs ps h.1 in omega arith)
 
-pub held_marks : (ms : List Bool) (rs ps : List (List ℕ)) → AreHeld ms rs ps
+pub held_marks : (ms : List Bool) (rs ps : List (List ℕ)) → AllMatchMarks ms rs ps
     → length ms ≡ length rs
 held_marks [] [] [] h = refl
 held_marks [] [] (p ∷ ps) h = absurd h
@@ -128,12 +128,12 @@ held_marks (m ∷ ms) [] ps h = absurd h
 held_marks (m ∷ ms) (r ∷ rs) [] h = absurd h
 held_marks (m ∷ ms) (r ∷ rs) (p ∷ ps) h = (let e = held_marks ms rs ps h.1 in omega arith)
 
-pub held_at : (ms : List Bool) (rs ps : List (List ℕ)) (i : ℕ) → i < length rs → AreHeld ms rs ps
-    → IsHeld (get_or ms i false) (get_or rs i []) (get_or ps i [])
-held_at [] [] [] i lt h = absurd (omega arith)
-held_at [] [] (p ∷ ps) i lt h = absurd h
-held_at [] (r ∷ rs) ps i lt h = absurd h
-held_at (m ∷ ms) [] ps i lt h = absurd h
-held_at (m ∷ ms) (r ∷ rs) [] i lt h = absurd h
-held_at (m ∷ ms) (r ∷ rs) (p ∷ ps) zero lt h = h.0
-held_at (m ∷ ms) (r ∷ rs) (p ∷ ps) (suc i) lt h = held_at ms rs ps i (omega arith) h.1
+pub match_at : (ms : List Bool) (rs ps : List (List ℕ)) (i : ℕ) → i < length rs → AllMatchMarks ms rs ps
+    → PageMatchesMark (get_or ms i false) (get_or rs i []) (get_or ps i [])
+match_at [] [] [] i lt h = absurd (omega arith)
+match_at [] [] (p ∷ ps) i lt h = absurd h
+match_at [] (r ∷ rs) ps i lt h = absurd h
+match_at (m ∷ ms) [] ps i lt h = absurd h
+match_at (m ∷ ms) (r ∷ rs) [] i lt h = absurd h
+match_at (m ∷ ms) (r ∷ rs) (p ∷ ps) zero lt h = h.0
+match_at (m ∷ ms) (r ∷ rs) (p ∷ ps) (suc i) lt h = match_at ms rs ps i (omega arith) h.1

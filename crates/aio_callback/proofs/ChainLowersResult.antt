@@ -12,7 +12,7 @@ use Rattle.aio_callback.specs.Chain.{result_of, natural_part, is_negative, is_er
 use Rattle.aio_callback.specs.Chain.{first_bad}
 use Rattle.aio_callback.specs.Chain.{stopped_at, after_file, after_buffer, Outcome, after_callback}
 use Rattle.aio_callback.specs.declared.chain.CallbackId.TheVariants.{ZeroBuffer}
-use Rattle.aio_callback.specs.Chain.{chain_result, is_checked, good_count, warned, after_zero}
+use Rattle.aio_callback.specs.Chain.{chain_result, has_check_behind_file, good_count, with_warning, after_zero}
 use Rattle.aio_callback.specs.Chain.{bad_among, zeroed_first, raw_result, IsWithin}
 use Rattle.aio_callback.specs.declared.chain.Raw.{Raw}
 use Rattle.aio_callback.specs.declared.chain.Raw.TheVariants.{Read, Failed}
@@ -49,7 +49,7 @@ buffer_below pages p =
     either_below (is_error p.status) p _ (natural_part p.result) (le_refl (natural_part p.result))
     (stopped_below pages p (first_bad (take (natural_part p.result) pages)) refl)
 
-pub warned_same : (k : ℕ) (p : AioResult) → (warned k p).result ≡ p.result
+pub warned_same : (k : ℕ) (p : AioResult) → (with_warning k p).result ≡ p.result
 warned_same zero p = refl
 warned_same (suc k) p = refl
 
@@ -88,7 +88,7 @@ good_few false n = omega arith
 pub good_below : (count : ℕ) (ids : List CallbackId) (o : Outcome)
     → good_count ids (chain_result count ids o).result ≤ natural_part o.result.result
 good_below count ids o =
-    let a = good_few (is_checked ids) (natural_part (chain_result count ids o).result.result) in
+    let a = good_few (has_check_behind_file ids) (natural_part (chain_result count ids o).result.result) in
     let b = chain_below count ids o in omega arith
 
 first_within : (count : ℕ) (answer : Raw) → IsWithin count answer
@@ -104,6 +104,6 @@ pub good_within : (count : ℕ) (ids : List CallbackId) (raw : Option Raw) (answ
 good_within count ids raw answer first p w e f below =
     let within = subst (λ (o : Option Raw). IfSome o (λ a. IsWithin count a)) e w in
     let a = first_within count answer within in
-    let b = good_few (is_checked ids) (natural_part p.result) in
+    let b = good_few (has_check_behind_file ids) (natural_part p.result) in
     let same = ap (λ (q : AioResult). natural_part q.result) f in
     omega arith

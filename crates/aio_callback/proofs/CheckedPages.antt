@@ -17,11 +17,11 @@ use Rattle.aio_callback.specs.Chain.{result_of, natural_part, is_negative, is_er
 use Rattle.aio_callback.specs.Chain.{first_bad}
 use Rattle.aio_callback.specs.Chain.{stopped_at, raw_result, after_file, after_buffer, Outcome}
 use Rattle.aio_callback.specs.declared.chain.CallbackId.TheVariants.{ZeroBuffer}
-use Rattle.aio_callback.specs.Chain.{chain_result, is_checked, good_count, chain_start, after_zero}
+use Rattle.aio_callback.specs.Chain.{chain_result, has_check_behind_file, good_count, chain_start, after_zero}
 use Rattle.aio_callback.specs.Chain.{bad_among, zeroed_first, is_check}
 use Rattle.page_check.specs.SynchronousAnswer.{zero_page}
 use Rattle.aio_callback.proofs.ChainLowersResult.{chain_below, warned_same}
-use Rattle.aio_callback.proofs.ChainChangesPages.{zeros_not_bad, held_pages, begun_holds}
+use Rattle.aio_callback.proofs.ChainChangesPages.{zeros_not_bad, matching_pages, begun_holds}
 use Rattle.aio_callback.proofs.BadPagesZeroed.{front_zeros}
 
 -- the first n pages are not bad
@@ -135,7 +135,7 @@ zero_tells c o le t =
 abbrev has_check : List CallbackId → Bool
 has_check ids = list_any is_check ids
 
-checked_has : (ids : List CallbackId) → is_checked ids ≡ true → has_check ids ≡ true
+checked_has : (ids : List CallbackId) → has_check_behind_file ids ≡ true → has_check ids ≡ true
 checked_has [] e = e
 checked_has (Buffer ∷ ids) e = refl
 checked_has (ZeroBuffer ∷ ids) e = refl
@@ -150,7 +150,7 @@ in_room : (count : ℕ) (ids : List CallbackId) (raw : Raw) (pages : List (List 
 in_room count ids raw pages le =
     let o = chain_result count ids (chain_start raw pages) in
     let b = chain_below count ids (chain_start raw pages) in
-    let l = held_pages o.zeroed pages o.pages (begun_holds count ids raw pages) in omega arith
+    let l = matching_pages o.zeroed pages o.pages (begun_holds count ids raw pages) in omega arith
 
 chain_tells : (count : ℕ) (ids : List CallbackId) (raw : Raw) (pages : List (List ℕ))
     → natural_part (raw_result raw).result ≤ length pages
@@ -184,5 +184,5 @@ pub good_clean : (count : ℕ) (ids : List CallbackId) (raw : Raw) (pages : List
     (good_count ids (chain_result count ids (chain_start raw pages)).result)
 good_clean count ids raw pages le =
     let o = chain_result count ids (chain_start raw pages) in
-    good_by (is_checked ids) o.pages o.result
+    good_by (has_check_behind_file ids) o.pages o.result
     (λ e. (chain_tells count ids raw pages le).passed (checked_has ids e))

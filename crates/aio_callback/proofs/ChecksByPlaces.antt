@@ -7,7 +7,7 @@ use Rattle.std.proofs.lemmas.Option.{same_Some}
 use Rattle.aio_callback.specs.declared.chain.CallbackId.{CallbackId}
 use Rattle.aio_callback.specs.declared.chain.CallbackId.TheVariants.{File, Buffer, Count}
 use Rattle.aio_callback.specs.declared.chain.CallbackId.TheVariants.{ZeroBuffer}
-use Rattle.aio_callback.specs.Chain.{is_file, has_file, is_check, is_checked, ChecksBehindFile}
+use Rattle.aio_callback.specs.Chain.{is_file, has_file, is_check, has_check_behind_file, ChecksBehindFile}
 
 abbrev IsCheckAt : List CallbackId → ℕ → Type 0
 IsCheckAt ids i = (slice_get ids i ≡ Some Buffer) ⊎ (slice_get ids i ≡ Some ZeroBuffer)
@@ -47,7 +47,7 @@ has_at (id ∷ ids) zero at =
     ap (λ (x : CallbackId). is_file x || has_file ids) (same_Some id File at)
 has_at (id ∷ ids) (suc j) at = or_later (is_file id) (has_file ids) (has_at ids j at)
 
-places : (ids : List CallbackId) → is_checked ids ≡ true → ChecksBehindFile ids
+places : (ids : List CallbackId) → has_check_behind_file ids ≡ true → ChecksBehindFile ids
 places [] e = absurd (cc)
 places (id ∷ ids) e = ⊎_elim
     (λ here. let (j, at) = some_file ids here.1 in record {
@@ -64,22 +64,22 @@ places (id ∷ ids) e = ⊎_elim
       checks = p.checks;
       reads = p.reads;
     })
-    (both_or_later (is_check id) (has_file ids) (is_checked ids) e)
+    (both_or_later (is_check id) (has_file ids) (has_check_behind_file ids) e)
 
 checked_at : (ids : List CallbackId) (i j : ℕ) → i < j → IsCheckAt ids i
-    → slice_get ids j ≡ Some File → is_checked ids ≡ true
+    → slice_get ids j ≡ Some File → has_check_behind_file ids ≡ true
 checked_at ids i zero lt check file = absurd (omega arith)
 checked_at [] i (suc j) lt check file = absurd (cc)
 checked_at (id ∷ ids) zero (suc j) lt check file =
     let is : is_check id ≡ true = ⊎_elim
     (λ b. ap is_check (same_Some id Buffer b))
     (λ z. ap is_check (same_Some id ZeroBuffer z)) check in
-    ap (λ (x : Bool). (x && has_file ids) || is_checked ids) is
-    ∙ ap (λ (x : Bool). x || is_checked ids) (has_at ids j file)
+    ap (λ (x : Bool). (x && has_file ids) || has_check_behind_file ids) is
+    ∙ ap (λ (x : Bool). x || has_check_behind_file ids) (has_at ids j file)
 checked_at (id ∷ ids) (suc i) (suc j) lt check file =
-    or_later (is_check id && has_file ids) (is_checked ids)
+    or_later (is_check id && has_file ids) (has_check_behind_file ids)
     (checked_at ids i j (omega arith) check file)
 
-pub checked_by_places : (ids : List CallbackId) → (is_checked ids ≡ true) ↔ ChecksBehindFile ids
+pub checked_by_places : (ids : List CallbackId) → (has_check_behind_file ids ≡ true) ↔ ChecksBehindFile ids
 checked_by_places ids =
     (places ids, λ p. checked_at ids p.check p.file p.order p.checks p.reads)

@@ -50,8 +50,8 @@ one_told a b c r s good i page same few is h k =
     (subst (λ (o : Option (List ℕ)). FinishesGrew b c (told_at s i o ∷ [])) here
     (subst (λ (z : ReadIoView). FinishesGrew b c (told_at z i page ∷ [])) same k))
 
-pub all_finished : (a b : Option (List Finish)) (r : ReadIoView) (n : ℕ) → n ≡ r.count
+pub grew_by_all : (a b : Option (List Finish)) (r : ReadIoView) (n : ℕ) → n ≡ r.count
     → FinishesGrew a b (map (one_finish r) (range_with_len 0 n)) → FinishesGrew a b (all_finishes r)
 unfolding all_finishes
-all_finished a b r n e h =
+grew_by_all a b r n e h =
     subst (λ (m : ℕ). FinishesGrew a b (map (one_finish r) (range_with_len 0 m))) e h

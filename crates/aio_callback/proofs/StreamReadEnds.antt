@@ -21,11 +21,11 @@ use Rattle.aio_callback.specs.declared.chain.CallbackId.{CallbackId}
 use Rattle.aio_callback.specs.Chain.{result_of, is_bad, first_bad, stopped_at}
 use Rattle.aio_callback.specs.Chain.{raw_result, class_of, bad_among, natural_part}
 use Rattle.aio_callback.specs.Chain.{after_file, after_buffer, chain_result, outcome_of, good_count}
-use Rattle.aio_callback.specs.Chain.{Outcome, chain_start, none_zeroed, after_zero, warned}
+use Rattle.aio_callback.specs.Chain.{Outcome, chain_start, none_zeroed, after_zero, with_warning}
 use Rattle.aio_callback.specs.ReadIoView.{ReadIoView, IsToldRead, ReadFits, IsCompletedRead}
 use Rattle.aio_callback.specs.ReadIoView.{record_zeroed}
-use Rattle.aio_callback.specs.Cases.{stream_ids, IsOneOf, Whole, Rest, Warned, Invalid}
-use Rattle.aio_callback.specs.Cases.{Unread, PastEnd, given_count, zeroed_among}
+use Rattle.aio_callback.specs.StreamOutcomes.{stream_ids, IsStreamOutcome, Whole, Rest, Warned, Invalid}
+use Rattle.aio_callback.specs.StreamOutcomes.{Unread, PastEnd, given_count, zeroed_among}
 use Rattle.aio_callback.proofs.AnswerCompletes.{found_bad, told_at}
 use Rattle.aio_callback.proofs.BadPagesZeroed.{front_marks, marked_count}
 
@@ -103,7 +103,7 @@ checked true pages p =
 -- what is then made of a result that is no error
 abbrev looked : Bool → List (List ℕ) → AioResult → AioResult
 looked false pages p = stopped_at p (first_bad (take (natural_part p.result) pages))
-looked true pages p = warned (bad_among (take (natural_part p.result) pages)) p
+looked true pages p = with_warning (bad_among (take (natural_part p.result) pages)) p
 
 error_stays : (on : Bool) (pages : List (List ℕ)) (error : ℕ)
     → checked on pages (result_of 1 Error error (pos 0)) ≡ result_of 1 Error error (pos 0)
@@ -129,7 +129,7 @@ whole_looked true pages n = refl
 stopped : (told : Option Told) (r : ReadIoView) (n i : ℕ) (pages : List (List ℕ)) → n ≤ r.count
     → IfSome told (λ t. ReadsPages t r.relation r.first n pages)
     → first_bad (take n pages) ≡ Some i → r.result ≡ result_of 2 Error i (pos i)
-    → IsOneOf false told r
+    → IsStreamOutcome false told r
 stopped told r n i pages le h e is =
     let b = bad_within n i pages e in
     let lt = b.0 in
@@ -138,8 +138,8 @@ stopped told r n i pages le h e is =
 -- of the first bad page
 of_first : (told : Option Told) (r : ReadIoView) (n : ℕ) (pages : List (List ℕ)) (p : AioResult)
     → n ≤ r.count → IfSome told (λ t. ReadsPages t r.relation r.first n pages)
-    → (r.result ≡ p → IsOneOf false told r) → (o : Option ℕ) → first_bad (take n pages) ≡ o
-    → r.result ≡ stopped_at p o → IsOneOf false told r
+    → (r.result ≡ p → IsStreamOutcome false told r) → (o : Option ℕ) → first_bad (take n pages) ≡ o
+    → r.result ≡ stopped_at p o → IsStreamOutcome false told r
 of_first told r n pages p le h good None e is = good is
 of_first told r n pages p le h good (Some i) e is = stopped told r n i pages le h e is
 
@@ -170,8 +170,8 @@ zeroed_bad r n pages some marks =
 -- of the number of bad pages
 of_bad : (told : Option Told) (r : ReadIoView) (n : ℕ) (p : AioResult) → 0 < n → n ≤ r.count
     → p.result ≡ pos n → r.label.ended ≡ class_of r.count (Read n)
-    → (r.result ≡ p → IsOneOf true told r) → (k : ℕ) → k ≡ zeroed_among r n
-    → r.result ≡ warned k p → IsOneOf true told r
+    → (r.result ≡ p → IsStreamOutcome true told r) → (k : ℕ) → k ≡ zeroed_among r n
+    → r.result ≡ with_warning k p → IsStreamOutcome true told r
 of_bad told r n p some le number ended good zero zeroed is = good is
 of_bad told r n p some le number ended good (suc k) zeroed is =
     Warned (suc k) n refl (omega arith) zeroed
@@ -181,22 +181,22 @@ of_bad told r n p some le number ended good (suc k) zeroed is =
 of_looked : (on : Bool) (told : Option Told) (r : ReadIoView) (n : ℕ) (pages : List (List ℕ))
     (p : AioResult) → p.result ≡ pos n → 0 < n → n ≤ r.count
     → IfSome told (λ t. ReadsPages t r.relation r.first n pages)
-    → r.label.ended ≡ class_of r.count (Read n) → (r.result ≡ p → IsOneOf on told r)
+    → r.label.ended ≡ class_of r.count (Read n) → (r.result ≡ p → IsStreamOutcome on told r)
     → r.zeroed ≡ marks_of on r.count pages (Read n) → r.result ≡ looked on pages p
-    → IsOneOf on told r
+    → IsStreamOutcome on told r
 of_looked false told r n pages p number some le h ended good marks is =
     of_first told r n pages p le h good (first_bad (take n pages)) refl
     (is ∙ ap (λ (z : ℤ). stopped_at p (first_bad (take (natural_part z) pages))) number)
 of_looked true told r n pages p number some le h ended good marks is =
     of_bad told r n p some le number ended good (bad_among (take n pages))
     (zeroed_bad r n pages some marks)
-    (is ∙ ap (λ (z : ℤ). warned (bad_among (take (natural_part z) pages)) p) number)
+    (is ∙ ap (λ (z : ℤ). with_warning (bad_among (take (natural_part z) pages)) p) number)
 
 part : (on : Bool) (told : Option Told) (r : ReadIoView) (n : ℕ) (pages : List (List ℕ)) → 0 < n
     → n < r.count → IfSome told (λ t. ReadsPages t r.relation r.first n pages)
     → r.label.ended ≡ class_of r.count (Read n)
     → r.zeroed ≡ marks_of on r.count pages (Read n)
-    → r.result ≡ checked on pages (result_of 1 Partial 0 (pos n)) → IsOneOf on told r
+    → r.result ≡ checked on pages (result_of 1 Partial 0 (pos n)) → IsStreamOutcome on told r
 part on told r n pages some less h ended marks is =
     of_looked on told r n pages (result_of 1 Partial 0 (pos n)) refl some (omega arith) h ended
     (λ e. Rest n e some less (ended ∙ class_part r.count n less)) marks
@@ -206,7 +206,7 @@ whole : (on : Bool) (told : Option Told) (r : ReadIoView) (pages : List (List �
     → IfSome told (λ t. ReadsPages t r.relation r.first r.count pages)
     → r.label.ended ≡ class_of r.count (Read r.count)
     → r.zeroed ≡ marks_of on r.count pages (Read r.count)
-    → r.result ≡ checked on pages (result_of 0 Good 0 (pos r.count)) → IsOneOf on told r
+    → r.result ≡ checked on pages (result_of 0 Good 0 (pos r.count)) → IsStreamOutcome on told r
 whole on told r pages some h ended marks is =
     of_looked on told r r.count pages (result_of 0 Good 0 (pos r.count)) refl some
     (omega arith) h ended (λ e. Whole e (ended ∙ class_whole r.count)) marks
@@ -226,7 +226,7 @@ after_read : (on : Bool) (told : Option Told) (r : ReadIoView) (n : ℕ) (pages 
     → 0 < r.count → IfSome told (λ t. ReadsPages t r.relation r.first n pages)
     → r.result ≡ of_stream on r.count pages (Read n)
     → r.zeroed ≡ marks_of on r.count pages (Read n) → r.label.ended ≡ class_of r.count (Read n)
-    → (n ≡ 0) ⊎ (((0 < n) × (n < r.count)) ⊎ (n ≡ r.count)) → IsOneOf on told r
+    → (n ≡ 0) ⊎ (((0 < n) × (n < r.count)) ⊎ (n ≡ r.count)) → IsStreamOutcome on told r
 after_read on told r n pages some h is marks ended (inl z) =
     let none = subst (λ (k : ℕ). IfSome told (λ t. ReadsPages t r.relation r.first k pages)) z h in
     PastEnd
@@ -246,7 +246,7 @@ after_read on told r n pages some h is marks ended (inr (inr e)) =
 after_answer : (on : Bool) (told : Option Told) (r : ReadIoView) (answer : Raw)
     (pages : List (List ℕ)) → 0 < r.count → IsToldRead told r answer pages
     → r.result ≡ of_stream on r.count pages answer → r.zeroed ≡ marks_of on r.count pages answer
-    → r.label.ended ≡ class_of r.count answer → IsOneOf on told r
+    → r.label.ended ≡ class_of r.count answer → IsStreamOutcome on told r
 after_answer on told r Failed pages some h is marks ended =
     Unread (is ∙ error_stays on pages 1) ended
 after_answer on told r (Read n) pages some h is marks ended =
@@ -260,7 +260,7 @@ stream_result true count pages answer = refl
 
 completed_one : (on : Bool) (told : Option Told) (r : ReadIoView) → 0 < r.count
     → IsCompletedRead told r
-    → r.ids ≡ stream_ids on → IsOneOf on told r
+    → r.ids ≡ stream_ids on → IsStreamOutcome on told r
 completed_one on told r some c ids =
     let outcome = c.outcome
     ∙ ap (λ (l : List CallbackId). chain_result r.count l (chain_start c.answer c.read)) ids in
@@ -270,7 +270,7 @@ completed_one on told r some c ids =
 
 pub six_ways : (told : Option Told) (relations : ℕ) (r : ReadIoView) (on : Bool)
     → ReadFits told relations r → r.label.ended ≢ class.Unended → r.ids ≡ stream_ids on
-    → IsOneOf on told r
+    → IsStreamOutcome on told r
 six_ways told relations r on f ended ids =
     completed_one on told r f.some (f.ended ended) ids
 

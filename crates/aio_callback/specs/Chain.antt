@@ -118,14 +118,14 @@ abbrev pub bad_among : List (List ℕ) → ℕ
 bad_among pages = count_by is_bad pages
 
 -- a warning that says how many pages were zeroed, if any was
-abbrev pub warned : ℕ → AioResult → AioResult
-warned zero p = p
-warned (suc k) p = result_of 4 Warning (suc k) p.result
+abbrev pub with_warning : ℕ → AioResult → AioResult
+with_warning zero p = p
+with_warning (suc k) p = result_of 4 Warning (suc k) p.result
 
 -- the bad ones among the first n pages are set to zeros
 abbrev pub zeroed_first : ℕ → Outcome → Outcome
 zeroed_first n o = record {
-  result = warned (bad_among (take n o.pages)) o.result;
+  result = with_warning (bad_among (take n o.pages)) o.result;
   pages = zeros_for_bad (take n o.pages) ++ drop n o.pages;
   zeroed = marks_for_bad (take n o.pages) (take n o.zeroed) ++ drop n o.zeroed;
 }
@@ -168,10 +168,10 @@ is_check ZeroBuffer = true
 is_check _ = false
 
 -- whether one is so registered
-abbrev pub is_checked : List CallbackId → Bool
-is_checked [] = false
-is_checked (id ∷ ids) = (is_check id && has_file ids) || is_checked ids
+abbrev pub has_check_behind_file : List CallbackId → Bool
+has_check_behind_file [] = false
+has_check_behind_file (id ∷ ids) = (is_check id && has_file ids) || has_check_behind_file ids
 
 -- how many pages are good
 abbrev pub good_count : List CallbackId → AioResult → ℕ
-good_count ids p = if is_checked ids then natural_part p.result else 0
+good_count ids p = if has_check_behind_file ids then natural_part p.result else 0

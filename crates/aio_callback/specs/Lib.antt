@@ -1,8 +1,8 @@
-pub mod Good
+pub mod GoodPages
 pub mod Chain
 pub mod ReadIoView
 pub mod Finishes
-pub mod Counting
-pub mod Cases
+pub mod CallbackCounts
+pub mod StreamOutcomes
 pub mod RecordInvariant
 pub mod Row

@@ -19,7 +19,7 @@ use Rattle.aio_callback.specs.declared.chain.CallbackId.TheVariants.{ZeroBuffer}
 use Rattle.aio_callback.specs.Chain.{Outcome, outcome_of, none_zeroed, chain_start, result_of}
 use Rattle.aio_callback.specs.Chain.{class_of}
 use Rattle.aio_callback.specs.Chain.{chain_result, good_count}
-use Rattle.aio_callback.specs.Good.{IsGivenAs}
+use Rattle.aio_callback.specs.GoodPages.{IsGivenAs}
 
 pub record ReadIoView : Type 0 where
   pub label : Label

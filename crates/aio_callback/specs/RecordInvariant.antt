@@ -8,11 +8,11 @@ use Rattle.aio_callback.specs.declared.record.ReadIo.TheInside.{Inside}
 pub record RecordInvariant (r : Inside) : Type 0 where
   pub few : r.id_count ≤ 4
   pub most : r.room ≤ 128
-  pub space : r.room ≤ vec_capacity r.pages
-  pub held : (r.pages.items ≡ []) ⊎ (length r.pages.items ≡ r.room)
+  pub capacity : r.room ≤ vec_capacity r.pages
+  pub room_or_none : (r.pages.items ≡ []) ⊎ (length r.pages.items ≡ r.room)
   pub marks : length r.zeroed.items ≡ r.room
   pub within : r.count ≤ r.room
-  pub top : r.first + r.count ≤ 2 ^ 32
+  pub in_range : r.first + r.count ≤ 2 ^ 32
   pub some : r.aimed ≡ true → 0 < r.count
   pub answered : IfSome r.raw (λ a. IsWithin r.count a)
   pub read : r.label.ended ≢ Unended → length r.pages.items ≡ r.room

@@ -4,7 +4,7 @@ ghost use Rattle.aio_callback.specs.Chain.{natural_part, is_bad, first_bad, is_e
 ghost use Rattle.aio_callback.specs.Chain.{class_of, IsWithin, after_file, after_buffer};
 ghost use Rattle.aio_callback.specs.Chain.{outcome_of, after_zero, after_callback, chain_result};
 ghost use Rattle.aio_callback.specs.Chain.{zeros_if_bad, bad_among, zeros_for_bad, marks_for_bad};
-ghost use Rattle.aio_callback.specs.Chain.{has_file, is_checked};
+ghost use Rattle.aio_callback.specs.Chain.{has_file, has_check_behind_file};
 
 use aio_result::{AioResult, Status};
 use aio_word::Class;
@@ -258,7 +258,7 @@ fn has_file_in(ids: &[CallbackId]) -> bool
 
 // Whether some Buffer or ZeroBuffer runs after some File.
 pub(crate) fn checks(ids: &[CallbackId]) -> bool
-    ensures { result ≡ is_checked ids.now }
+    ensures { result ≡ has_check_behind_file ids.now }
 {
     match ids {
         [] => false,

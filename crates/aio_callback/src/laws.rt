@@ -5,18 +5,18 @@ ghost use Rattle.page_check.specs.Told.{Told};
 ghost use Rattle.aio_word.specs.declared.Class.TheVariants.{Unended};
 ghost use Rattle.aio_callback.specs.declared.chain.Raw.{Raw};
 ghost use Rattle.aio_callback.specs.declared.chain.CallbackId.{CallbackId};
-ghost use Rattle.aio_callback.specs.Chain.{good_count, is_checked, ChecksBehindFile};
+ghost use Rattle.aio_callback.specs.Chain.{good_count, has_check_behind_file, ChecksBehindFile};
 ghost use Rattle.aio_callback.specs.ReadIoView.{ReadIoView, ReadFits, IsToldRead, HasAnswer};
 ghost use Rattle.aio_callback.specs.ReadIoView.{with_pages};
 ghost use Rattle.aio_callback.specs.ReadIoView.{record_aim, ReadsAs, record_zeroed};
-ghost use Rattle.aio_callback.specs.Cases.{stream_ids, IsOneOf, given_count};
+ghost use Rattle.aio_callback.specs.StreamOutcomes.{stream_ids, IsStreamOutcome, given_count};
 
 /// A record with the callbacks of a stream has ended in one of six ways, and its good pages are as
 /// many as its owner gives in that case. None of them was zeroed unless damaged pages are.
 pub fn stream_records_end_in_six_ways()
     ensures case { (told : Option Told) (relations : ℕ) (r : ReadIoView) (zero : Bool)
         → ReadFits told relations r → r.label.ended ≢ Unended → r.ids ≡ stream_ids zero
-        → IsOneOf zero told r }
+        → IsStreamOutcome zero told r }
     ensures given { (r : ReadIoView) (zero : Bool) → r.ids ≡ stream_ids zero
         → good_count r.ids r.result ≡ given_count r.result }
     ensures not_zeroed { (told : Option Told) (relations : ℕ) (r : ReadIoView)
@@ -27,7 +27,7 @@ pub fn stream_records_end_in_six_ways()
 /// Pages are checked exactly where a Buffer or ZeroBuffer is registered before a File. Callbacks
 /// run from the last to the first, so it runs after that File.
 pub fn pages_are_checked_behind_a_file()
-    ensures { (ids : List CallbackId) → (is_checked ids ≡ true) ↔ ChecksBehindFile ids }
+    ensures { (ids : List CallbackId) → (has_check_behind_file ids ≡ true) ↔ ChecksBehindFile ids }
 {}
 
 /// A record whose first pages were lent and read, and that was then given what the read answered,

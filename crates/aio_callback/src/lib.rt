@@ -14,13 +14,13 @@
 //! callback does.
 #![tactic(auto)]
 
+mod callback_counts;
 mod chain;
-mod counting;
 pub mod laws;
 mod places;
 mod record;
 
+pub use callback_counts::Counts;
 pub use chain::{CallbackId, Raw};
-pub use counting::Counts;
 pub use places::{NoPlaces, Places};
 pub use record::{ReadIo, TooMany};

@@ -1,6 +1,6 @@
 //! Where the pages of a completed read go.
 ghost use Rattle.std.specs.Prelude.{List, Option, [], ◌∷◌, IfSome, option_map};
-ghost use Rattle.aio_callback.specs.Good.{IsGood};
+ghost use Rattle.aio_callback.specs.GoodPages.{IsGood};
 ghost use Rattle.aio_callback.specs.Finishes.{Finish, FinishesGrew};
 
 use aio_word::WaitRef;

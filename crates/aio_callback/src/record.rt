@@ -9,7 +9,7 @@ ghost use Rattle.aio_word.specs.declared.Class.TheVariants.{Unended};
 ghost use Rattle.aio_callback.specs.contracts.record.ReadIo.{the_row};
 ghost use Rattle.aio_handle.specs.Labels.{bound_label};
 ghost use Rattle.aio_callback.specs.Chain.{good_count, IsWithin};
-ghost use Rattle.aio_callback.specs.Good.{IsGivenAs};
+ghost use Rattle.aio_callback.specs.GoodPages.{IsGivenAs};
 
 use crate::chain::{CallbackId, Raw, checks, number};
 use aio_handle::{Label, Record};
@@ -92,7 +92,7 @@ impl Record for ReadIo {
         ensures fits { (told : Option Told) (relations : ℕ) → ReadFits told relations self.old
             → ReadFits told relations self.new }
     {
-        self.label = unended(handle, generation);
+        self.label = unended_label(handle, generation);
         self.raw = None;
     }
 
@@ -114,7 +114,7 @@ impl Record for ReadIo {
 }
 
 // The label of an I/O that has not ended.
-fn unended(handle: u32, generation: u64) -> Label
+fn unended_label(handle: u32, generation: u64) -> Label
     ensures { result ≡ bound_label handle generation }
 {
     Label {
@@ -127,11 +127,11 @@ fn unended(handle: u32, generation: u64) -> Label
 
 // Makes the pages of zeros of a record that was not used.
 fn fill_room(pages: &mut Vec<Page>, room: u32)
-    requires space { room ≤ vec_capacity pages.old }
-    requires held { (pages.old.items ≡ []) ⊎ (length pages.old.items ≡ room) }
+    requires capacity { room ≤ vec_capacity pages.old }
+    requires room_or_none { (pages.old.items ≡ []) ⊎ (length pages.old.items ≡ room) }
     ensures same { pages.new.items ≡ row_of room pages.old.items }
     ensures size { length pages.new.items ≡ room }
-    ensures space { room ≤ vec_capacity pages.new }
+    ensures capacity { room ≤ vec_capacity pages.new }
 {
     if pages.is_empty() {
         for _ in 0..room {
@@ -154,7 +154,7 @@ impl ReadIo {
         let pages = Vec::with_capacity(alloc, room as usize)?;
         let zeroed = vec![in alloc; false; room as usize]?;
         Ok(ReadIo {
-            label: unended(0, 0),
+            label: unended_label(0, 0),
             relation: 0,
             first: 0,
             count: 0,
@@ -188,7 +188,7 @@ impl ReadIo {
     ) -> Result<(), TooMany>
         requires some { 1 ≤ count }
         requires room { count ≤ length self.old.pages }
-        requires top { first + count ≤ 2 ^ 32 }
+        requires in_range { first + count ≤ 2 ^ 32 }
         ensures ok { IfOk result (λ _. (length ids.now ≤ 4)
             × (self.new ≡ with_aim relation first count ids.now self.old)) }
         ensures err { IfErr result (λ e. (e.0 ≡ length ids.now) × (4 < length ids.now)
@@ -197,7 +197,7 @@ impl ReadIo {
         if ids.len() > 4 {
             return Err(TooMany(ids.len()));
         }
-        self.label = unended(self.label.handle, self.label.generation);
+        self.label = unended_label(self.label.handle, self.label.generation);
         self.relation = relation;
         self.first = first;
         self.count = count;
@@ -228,7 +228,7 @@ impl ReadIo {
         ensures room { result ≤ length self.now.pages }
         ensures few { result ≤ 128 }
         ensures some { self.now.aimed ≡ true → 0 < result }
-        ensures top { self.now.first + result ≤ 2 ^ 32 }
+        ensures in_range { self.now.first + result ≤ 2 ^ 32 }
     {
         self.count
     }

@@ -8,9 +8,9 @@ use Rattle.buf_pool.specs.declared.descriptor.Tag.{Tag}
 use Rattle.buf_pool.specs.declared.descriptor.Descriptor.{Descriptor}
 use Rattle.buf_pool.specs.declared.descriptor.Descriptor.TheVariants.{Free, InProgress}
 use Rattle.buf_pool.specs.Frames.{descriptor_at, descriptor_tag, tag_at, is_free, IsAbsent}
-use Rattle.buf_pool.specs.Lawful.{PoolLawful}
+use Rattle.buf_pool.specs.PoolLawful.{PoolLawful}
 use Rattle.buf_pool.specs.Probes.{ProbesFind, IsIndexed}
-use Rattle.buf_pool.specs.Sound.{IsTable, IsClock, AreFrames}
+use Rattle.buf_pool.specs.IndexInvariant.{IsTable, IsClock, AreFrames}
 
 -- the new entry's tag stands at no other frame, and its reference is in range
 pub record Fits (handles : ℕ) (frames : List Descriptor) (f : ℕ) (entry : Descriptor) : Type 0 where

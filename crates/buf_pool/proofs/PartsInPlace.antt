@@ -8,7 +8,7 @@ use Rattle.crossbeam_utils.specs.declared.cache_padded.CachePadded.{CachePadded}
 use Rattle.page_check.specs.declared.world.World.{Ghosts}
 use Rattle.buf_pool.specs.declared.part.Part.{Part}
 use Rattle.buf_pool.specs.Parts.{part_count, part_size, first_frame}
-use Rattle.buf_pool.specs.Divided.{slots_of, frames_of, IsPart, AreInPlace, AreParts}
+use Rattle.buf_pool.specs.PoolParts.{slots_of, frames_of, IsPart, AreInPlace, AreParts}
 use Rattle.buf_pool.proofs.PartFrames.{next_first, first_of_all, first_after_last}
 
 module _ {W : Type 0} {m : Ghosts W} where

@@ -32,10 +32,10 @@ pub reaches_kept : (old new : List (Option ℕ)) (tag : Tag) (f : ℕ) → Keeps
 reaches_kept old new tag f k r = record {
   steps = r.steps;
   within = omega (arith, k.size, r.within);
-  there = rw k.size (k.taken _ _ r.there);
+  there = rw k.size (k.full_slots _ _ r.there);
   before = λ j b e.
       let held = taken_holds _ (r.before j b) in
-      let kept : probe new tag j ≡ Some held.0 = rw k.size (k.taken _ _ held.1) in
+      let kept : probe new tag j ≡ Some held.0 = rw k.size (k.full_slots _ _ held.1) in
       cc;
 }
 
@@ -45,7 +45,7 @@ pub keeps_taken : (slots : List (Option ℕ)) (at f : ℕ) → slot_at slots at 
     (set slots at (Some f))
 keeps_taken slots at f empty = record {
   size = length-set slots at (Some f);
-  taken = λ k g e.
+  full_slots = λ k g e.
       ⊎_elim
       (λ (same : k ≡ at). absurd (let clash : slot_at slots k ≡ None = rw same empty in cc))
       (λ (other : k ≡ at → ⊥). get_or-set_other slots at k (Some f) None other ∙ e)
@@ -67,7 +67,7 @@ reaches_new slots tag f step within some before empty =
       there = rw size (get_or-set_same slots at (Some f) None (mod_below _ _ some));
       before = λ k b e.
           let held = taken_holds _ (before k b) in
-          let still : probe new tag k ≡ Some held.0 = rw size (kept.taken _ _ held.1) in
+          let still : probe new tag k ≡ Some held.0 = rw size (kept.full_slots _ _ held.1) in
           cc;
     }
 

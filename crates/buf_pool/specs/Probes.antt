@@ -33,7 +33,7 @@ pub record ProbesFind (slots : List (Option ℕ)) (tag : Tag) (f : ℕ) : Type 0
 -- each slot that was taken is as before
 pub record KeepsFullSlots (old new : List (Option ℕ)) : Type 0 where
   pub size : length new ≡ length old
-  pub taken : (k : ℕ) (f : ℕ) → slot_at old k ≡ Some f → slot_at new k ≡ Some f
+  pub full_slots : (k : ℕ) (f : ℕ) → slot_at old k ≡ Some f → slot_at new k ≡ Some f
 
 -- the search for the tag of each entry comes to its frame
 abbrev pub IsIndexed : List (Option ℕ) → List Descriptor → Type 0

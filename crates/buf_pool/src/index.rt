@@ -12,10 +12,10 @@ ghost use Rattle.buf_pool.specs.Frames.{descriptor_at, descriptor_tag, tag_at, p
 ghost use Rattle.buf_pool.specs.Frames.{frames_with_pins};
 ghost use Rattle.buf_pool.specs.Frames.{is_free};
 ghost use Rattle.buf_pool.specs.Frames.{IsAbsent, IsFrameOf};
-ghost use Rattle.buf_pool.specs.Lawful.{PoolLawful};
+ghost use Rattle.buf_pool.specs.PoolLawful.{PoolLawful};
 
 use crate::descriptor::{Descriptor, Tag};
-use crate::strategy::{Clock, FreeFrames, Wanted, find_round};
+use crate::strategy::{Clock, FrameKind, FreeFrames, find_round};
 use crate::table::{TagTable, find};
 use aio_word::WaitRef;
 use circular_buffer::HeapCircularBuffer;
@@ -59,13 +59,13 @@ pub struct PoolIndex<W: World> {
     table: TagTable,
     clock: Clock,
     free: FreeFrames,
-    of: PhantomData<W>,
+    marker: PhantomData<W>,
 }
 
 impl<W: World> Model for PoolIndex<W> {
     ghost use Rattle.std.specs.Prelude.{List};
     ghost use Rattle.buf_pool.specs.declared.descriptor.Descriptor.{Descriptor};
-    ghost use Rattle.buf_pool.specs.Sound.{IsTable, IsClock, AreFrames};
+    ghost use Rattle.buf_pool.specs.IndexInvariant.{IsTable, IsClock, AreFrames};
 
     ghost Value = { List Descriptor };
 
@@ -100,7 +100,7 @@ impl<W: World> PoolIndex<W> {
                 ring: HeapCircularBuffer::with_capacity(alloc, RING_FRAMES)?,
             },
             free: FreeFrames { count, start: 0 },
-            of: PhantomData,
+            marker: PhantomData,
         })
     }
 
@@ -139,12 +139,12 @@ impl<W: World> PoolIndex<W> {
     }
 
     // Puts another entry of the same tag at the frame, or none.
-    fn change(&mut self, frame: u32, entry: Descriptor)
-        requires taken { (frame < length self.old) ×
+    fn set_entry(&mut self, frame: u32, entry: Descriptor)
+        requires not_free { (frame < length self.old) ×
             (is_free (descriptor_at self.old frame) ≡ false) }
         requires tag { (tag : Tag) → descriptor_tag entry ≡ Some tag → tag_at self.old frame
             ≡ Some tag }
-        requires over { (tag : Tag) (reference : WaitRef) → entry ≡ InProgress tag reference → ⊥ }
+        requires not_in_progress { (tag : Tag) (reference : WaitRef) → entry ≡ InProgress tag reference → ⊥ }
         ensures frames { self.new ≡ slice_set self.old frame entry }
         ensures lawful { PoolLawful W.handles self.new }
     {
@@ -154,7 +154,7 @@ impl<W: World> PoolIndex<W> {
     }
 
     // Puts a new entry in progress at the frame.
-    fn place(&mut self, frame: u32, tag: Tag, reference: WaitRef)
+    fn begin_entry(&mut self, frame: u32, tag: Tag, reference: WaitRef)
         requires absent { IsAbsent self.old tag }
         requires frame { frame < length self.old }
         requires range { reference.handle < W.handles }
@@ -169,7 +169,7 @@ impl<W: World> PoolIndex<W> {
     }
 
     // A frame for a new entry.
-    fn choose(&mut self) -> Option<u32>
+    fn choose_frame(&mut self) -> Option<u32>
         ensures frames { self.new ≡ self.old }
         ensures lawful { PoolLawful W.handles self.new }
         ensures found { MatchOption result (IsFull self.old) (λ f. IsVictim self.old f) }
@@ -177,7 +177,7 @@ impl<W: World> PoolIndex<W> {
         if self.free.count == 0 {
             self.clock.victim(&self.frames)
         } else {
-            find_round(&self.frames, self.free.start, Wanted::FreeFrame)
+            find_round(&self.frames, self.free.start, FrameKind::FreeFrame)
         }
     }
 
@@ -190,7 +190,7 @@ impl<W: World> PoolIndex<W> {
     {
         if let Some(Descriptor::Valid(tag, pins)) = self.frames.get(frame as usize).copied() {
             self.clock.touch(frame as usize);
-            self.change(frame, Descriptor::Valid(tag, pins + 1));
+            self.set_entry(frame, Descriptor::Valid(tag, pins + 1));
         }
     }
 
@@ -202,7 +202,7 @@ impl<W: World> PoolIndex<W> {
         ensures lawful { PoolLawful W.handles self.new }
     {
         if let Some(Descriptor::Valid(tag, pins)) = self.frames.get(frame as usize).copied() {
-            self.change(frame, Descriptor::Valid(tag, pins - 1));
+            self.set_entry(frame, Descriptor::Valid(tag, pins - 1));
         }
     }
 
@@ -228,10 +228,10 @@ impl<W: World> PoolIndex<W> {
             Look::Busy(holder) => return Begun::Busy(holder),
             Look::Absent => {}
         }
-        let Some(frame) = self.choose() else {
+        let Some(frame) = self.choose_frame() else {
             return Begun::NoRoom;
         };
-        self.place(frame, tag, reference);
+        self.begin_entry(frame, tag, reference);
         Begun::Yes(frame)
     }
 
@@ -265,7 +265,7 @@ impl<W: World> PoolIndex<W> {
         } else {
             Descriptor::Free
         };
-        self.change(frame, entry);
+        self.set_entry(frame, entry);
         Some(frame)
     }
 }

@@ -4,7 +4,7 @@ ghost use Rattle.std.specs.Prelude.{slice_set};
 ghost use Rattle.buf_pool.specs.declared.descriptor.Descriptor.TheVariants.{InProgress, Valid};
 ghost use Rattle.buf_pool.specs.Frames.{descriptor_at, frames_with_pins};
 ghost use Rattle.buf_pool.specs.Parts.{part_size, FallsTo, HasOwnTags};
-ghost use Rattle.buf_pool.specs.Found.{IsLookOf, IsBegunOf};
+ghost use Rattle.buf_pool.specs.LookupAnswers.{IsLookOf, IsBegunOf};
 ghost use Rattle.buf_pool.specs.Answers.{LookAnswers, PinAnswers, BeginAnswers, IsNotInProgress};
 ghost use Rattle.buf_pool.specs.Answers.{entry_after_io, IsPinnedAt};
 

@@ -1,8 +1,8 @@
 //! A pin on a page of the pool.
 ghost use Rattle.std.specs.Prelude.{◌≡◌, true};
-ghost use Rattle.buf_pool.specs.Pinned.{carries_tag};
+ghost use Rattle.buf_pool.specs.PinnedPages.{carries_tag};
 
-use crate::carried::CarriedPage;
+use crate::carried_page::CarriedPage;
 use crate::descriptor::Tag;
 use counted_slot::Claim;
 use page_check::{Page, World};
@@ -18,8 +18,8 @@ pub struct Pin<'p, W: World> {
 }
 
 impl<'p, W: World> Pin<'p, W> {
-    ghost use Rattle.buf_pool.specs.Found.{pinned_tag, pinned_page};
-    ghost use Rattle.aio_callback.specs.Good.{IsGood};
+    ghost use Rattle.buf_pool.specs.LookupAnswers.{pinned_tag, pinned_page};
+    ghost use Rattle.aio_callback.specs.GoodPages.{IsGood};
 
     /// The tag that was asked for.
     pub fn tag(&self) -> Tag

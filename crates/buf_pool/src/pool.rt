@@ -34,7 +34,7 @@ pub struct Pool<W: World> {
 
 impl<W: World> Model for Pool<W> {
     ghost use Rattle.std.specs.Prelude.{ℕ};
-    ghost use Rattle.buf_pool.specs.Divided.{frames_of, AreParts};
+    ghost use Rattle.buf_pool.specs.PoolParts.{frames_of, AreParts};
 
     ghost Value = { ℕ };
 
@@ -44,7 +44,7 @@ impl<W: World> Model for Pool<W> {
 }
 
 impl<W: World> Pool<W> {
-    ghost use Rattle.buf_pool.specs.Found.{IsFound, IsLookOf, IsBegunOf};
+    ghost use Rattle.buf_pool.specs.LookupAnswers.{IsFound, IsLookOf, IsBegunOf};
     ghost use Rattle.buf_pool.specs.Parts.{IsFrameFor, FallsTo};
 
     /// A pool of so many frames, 16 to 16384, all of them free. All memory of the pool is taken

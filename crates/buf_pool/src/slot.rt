@@ -1,11 +1,11 @@
 //! The memory of a frame.
 ghost use Rattle.std.specs.Prelude.{◌≡◌, IfSome};
 ghost use Rattle.counted_slot.specs.Counting.{readers};
-ghost use Rattle.buf_pool.specs.Carried.{Carries};
-ghost use Rattle.buf_pool.specs.Found.{pinned_tag, pinned_page};
-ghost use Rattle.aio_callback.specs.Good.{IsGood};
+ghost use Rattle.buf_pool.specs.FrameMemory.{Carries};
+ghost use Rattle.buf_pool.specs.LookupAnswers.{pinned_tag, pinned_page};
+ghost use Rattle.aio_callback.specs.GoodPages.{IsGood};
 
-use crate::carried::CarriedPage;
+use crate::carried_page::CarriedPage;
 use crate::descriptor::Tag;
 use crate::memory::PageMemory;
 use crate::pin::Pin;
@@ -39,7 +39,7 @@ impl<W: World> PageSlot<W> {
         let carried = CarriedPage {
             tag: None,
             memory: PageMemory::open(alloc)?,
-            of: PhantomData,
+            marker: PhantomData,
         };
         let slot = PageSlot {
             inner: Counted::new(None, &()),

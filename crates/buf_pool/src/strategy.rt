@@ -1,40 +1,40 @@
 //! Which frame is taken for a new entry.
 ghost use Rattle.std.specs.Prelude.{◌≡◌, ℕ, ◌+◌, ◌<◌, ◌≤◌, length, true, IfSome, if◌then◌else◌};
 ghost use Rattle.buf_pool.specs.Frames.{descriptor_at, is_free, is_unpinned};
-ghost use Rattle.buf_pool.specs.Wanted.{is_wanted, IsSearchAnswer};
-ghost use Rattle.buf_pool.specs.Sound.{IsClock};
+ghost use Rattle.buf_pool.specs.FrameSearch.{is_of_kind, IsSearchAnswer};
+ghost use Rattle.buf_pool.specs.IndexInvariant.{IsClock};
 
 use crate::descriptor::Descriptor;
 use circular_buffer::HeapCircularBuffer;
 
 /// What a search over the frames looks for.
 #[derive(Clone, Copy)]
-pub(crate) enum Wanted {
+pub(crate) enum FrameKind {
     FreeFrame,
     UnpinnedFrame,
 }
 
-impl Wanted {
-    fn is(self, frame: &Descriptor) -> bool
-        ensures { result ≡ is_wanted self frame.now }
+impl FrameKind {
+    fn matches(self, frame: &Descriptor) -> bool
+        ensures { result ≡ is_of_kind self frame.now }
     {
         match self {
-            Wanted::FreeFrame => frame.is_free(),
-            Wanted::UnpinnedFrame => frame.is_unpinned(),
+            FrameKind::FreeFrame => frame.is_free(),
+            FrameKind::UnpinnedFrame => frame.is_unpinned(),
         }
     }
 }
 
 /// The first such frame from `start` on, round the frames.
-pub(crate) fn find_round(frames: &[Descriptor], start: usize, wanted: Wanted) -> Option<u32>
+pub(crate) fn find_round(frames: &[Descriptor], start: usize, wanted: FrameKind) -> Option<u32>
     requires start { start < length frames.now }
     requires size { length frames.now ≤ 16384 }
-    ensures { IsSearchAnswer (is_wanted wanted) frames.now result }
+    ensures { IsSearchAnswer (is_of_kind wanted) frames.now result }
 {
     let size = frames.len();
     for step in 0..size {
         let at = (start + step) % size;
-        if wanted.is(&frames[at]) {
+        if wanted.matches(&frames[at]) {
             return Some(at as u32);
         }
     }
@@ -151,7 +151,7 @@ impl Clock {
         if let Some(frame) = self.sweep(frames) {
             return Some(frame);
         }
-        find_round(frames, self.hand, Wanted::UnpinnedFrame)
+        find_round(frames, self.hand, FrameKind::UnpinnedFrame)
     }
 
     /// A frame with a page that has no pin: that of the ring, else that of the sweep, which then

@@ -5,7 +5,7 @@ ghost use Rattle.buf_pool.specs.declared.descriptor.Tag.{Tag};
 ghost use Rattle.buf_pool.specs.Frames.{tag_at, IsFrameOf};
 ghost use Rattle.buf_pool.specs.Probes.{tag_hash, home_slot, ProbesFind, KeepsFullSlots, IsIndexed};
 ghost use Rattle.buf_pool.specs.Probes.{empty_slots};
-ghost use Rattle.buf_pool.specs.Sound.{IsTable};
+ghost use Rattle.buf_pool.specs.IndexInvariant.{IsTable};
 
 use crate::descriptor::{Descriptor, Tag};
 
@@ -64,7 +64,7 @@ pub(crate) fn find(slots: &[Option<u32>], frames: &[Descriptor], tag: Tag) -> Op
 fn insert(slots: &mut [Option<u32>], tag: Tag, frame: u32)
     requires size { length slots.old ≤ 65536 }
     requires room { 0 < empty_slots slots.old }
-    ensures kept { KeepsFullSlots slots.old slots.new }
+    ensures full_slots { KeepsFullSlots slots.old slots.new }
     ensures reached { ProbesFind slots.new tag frame }
     ensures room { empty_slots slots.old ≤ empty_slots slots.new + 1 }
 {

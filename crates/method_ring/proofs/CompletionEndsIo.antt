@@ -13,7 +13,7 @@ use Rattle.aio_handle.specs.CallEvents.{EventMade}
 use Rattle.aio_handle.proofs.ListsGrow.{appends-then, io-grows, share-grows}
 use Rattle.aio_callback.specs.ReadIoView.{ReadIoView, IsCompletedRead, record_aim}
 use Rattle.aio_callback.specs.Finishes.{Finish, FinishesGrew, all_finishes, record_reference}
-use Rattle.method_ring.specs.RingRunner.{IsEndedAs}
+use Rattle.method_ring.specs.RingRunner.{ReadCompletedAs}
 
 pub ended-as : (told : Option Told) (t : WaitRef) (aim : List ℕ) (class : Class) (p m q : Known)
     (r : ReadIoView) (before after : Option (List Finish))
@@ -22,20 +22,20 @@ pub ended-as : (told : Option Told) (t : WaitRef) (aim : List ℕ) (class : Clas
     → EventMade event.Shared t.handle (executed_word r.label.ended t.generation)
     (completed_word r.label.ended t.generation) [] m q
     → r.label.ended ≡ class → record_aim r ≡ aim → record_reference r ≡ t → IsCompletedRead told r
-    → FinishesGrew before after (all_finishes r) → IsEndedAs told t aim class p q before after
+    → FinishesGrew before after (all_finishes r) → ReadCompletedAs told t aim class p q before after
 ended-as told t aim class p m q r before after io shared same aimed named done handed = record {
-  reading = r;
-  aimed = aimed;
-  named = named;
-  ended = same;
-  completed = done;
-  grows = subst (λ (z : WaitRef). AppendsMarks p q
+  read_io = r;
+  aim_is = aimed;
+  reference_is = named;
+  class_is = same;
+  completed_read = done;
+  marks_grow = subst (λ (z : WaitRef). AppendsMarks p q
       (make_mark z (kind.Io r.label.ended) ∷ make_mark z kind.Shared ∷ [])) (sym named)
       (appends-then p m q (make_mark t (kind.Io r.label.ended) ∷ []) (make_mark t kind.Shared ∷ [])
       (subst (λ (z : Class). AppendsMarks p m (make_mark t (kind.Io z) ∷ [])) (sym same)
       (io-grows class t.handle t.generation p m io))
       (share-grows r.label.ended t.handle t.generation m q shared));
-  handed = handed;
+  finishes_grow = handed;
 }
 
 pub kept-then : (t : WaitRef) (p q r : Known) → ClaimUnchanged t p q → ClaimUnchanged t q r

@@ -20,9 +20,10 @@ use Rattle.aio_handle.proofs.ListsGrow.{claim-grows, appends-none, appends-then,
 use Rattle.aio_handle.proofs.TokensStay.{claim-unchanged-by-claim, claimed-is-other}
 use Rattle.aio_handle.proofs.TokensStay.{claim-unchanged-by-look}
 use Rattle.aio_callback.specs.ReadIoView.{ReadIoView, ReadFits, record_aim}
-use Rattle.method_ring.specs.ClaimedIos.{ClaimedIo, claimed_mark, without_claimed, claimed_with}
-use Rattle.method_ring.specs.ClaimedIos.{IsUnread, IsClaimedIo}
-use Rattle.method_ring.specs.ClaimedIos.{AreClaimedIos, AreBelow}
+use Rattle.method_ring.specs.ClaimedIos.{ClaimedIo, claimed_mark, without_claimed}
+use Rattle.method_ring.specs.ClaimedIos.{claimed_with_number}
+use Rattle.method_ring.specs.ClaimedIos.{IsReadableRecord, IsClaimedIo}
+use Rattle.method_ring.specs.ClaimedIos.{AllClaimedIos, NumbersBelow}
 use Rattle.method_ring.specs.RingRunner.{group_claims, GathersIos}
 use Rattle.method_ring.proofs.NumberedLookup.{in-pushed, apart-push, apart-without, in-without}
 use Rattle.method_ring.proofs.NumberedLookup.{others-differ}
@@ -40,16 +41,16 @@ held-on told relations p q x k h = record {
 -- a record that was claimed and not executed has no answer
 pub unread-of : (told : Option Told) (relations n : ℕ) (r : ReadIoView) (t : WaitRef)
     → n ≡ relations
-    → r.label ≡ bound_label t.handle t.generation → ReadFits told relations r → IsUnread n r
+    → r.label ≡ bound_label t.handle t.generation → ReadFits told relations r → IsReadableRecord n r
 unread-of told relations n r t same label fits = record {
-  aimed = fits.aimed;
-  within = subst (λ (z : ℕ). r.relation < z) (sym same) fits.within;
-  raw = fits.fresh (ap (λ l. l.ended) label);
+  is_aimed = fits.aimed;
+  relation_in_range = subst (λ (z : ℕ). r.relation < z) (sym same) fits.within;
+  no_answer = fits.fresh (ap (λ l. l.ended) label);
 }
 
 pub below-push : (held : List ClaimedIo) (x : ClaimedIo) → x.0 ≡ length held
-    → AreBelow (length held) held
-    → AreBelow (length (held ++ x ∷ [])) (held ++ x ∷ [])
+    → NumbersBelow (length held) held
+    → NumbersBelow (length (held ++ x ∷ [])) (held ++ x ∷ [])
 below-push held x same below y i =
     let n = length-append held (x ∷ []) in
     ⊎_elim (λ old. let b = below y old in omega arith)
@@ -63,18 +64,19 @@ pub gathers-won : (told : Option Told) (relations : ℕ) (p q : Known) (held : L
     (record_aim c.1) p q
     → IsClaimed q c.0 → IsIn (c.0, record_aim c.1) q.aims
     → c.1.label ≡ bound_label t.handle t.generation
-    → ReadFits told relations c.1 → AreBelow (length held) held
-    → AreClaimedIos told relations p held
+    → ReadFits told relations c.1 → NumbersBelow (length held) held
+    → AllClaimedIos told relations p held
     → GathersIos told relations 1 p q held (held ++ (length held, c) ∷ [])
 gathers-won told relations p q held t c keeps same m token aim label fits below holds =
     let x : ClaimedIo = (length held, c) in record {
       others = x ∷ [];
-      few = omega arith;
-      is = refl;
+      at_most = omega arith;
+      claimed_ios_are = refl;
       numbers = below-push held x refl below;
-      grows = subst (λ (z : WaitRef). AppendsMarks p q (make_mark z kind.Claimed ∷ [])) (sym same)
+      marks_grow = subst (λ (z : WaitRef). AppendsMarks p q (make_mark z kind.Claimed ∷ []))
+          (sym same)
           (claim-grows t.handle t.generation (record_aim c.1) p q m);
-      holds = record {
+      all_claimed = record {
         each = λ y i. ⊎_elim
             (λ old. held-on told relations p q y
             (claim-unchanged-by-claim y.1.0 t.handle t.generation (record_aim c.1) p q keeps m)
@@ -85,38 +87,39 @@ gathers-won told relations p q held t c keeps same m token aim label fits below 
               label = label ∙ sym (ap (λ (z : WaitRef). bound_label z.handle z.generation) same);
               fits = fits;
             })) (in-pushed held x y i);
-        apart = apart-push held x holds.apart (λ y i e. claimed-is-other y.1.0 t.handle
+        references_differ = apart-push held x holds.references_differ (λ y i e. claimed-is-other
+            y.1.0 t.handle
             t.generation (record_aim c.1) p q keeps m (holds.each y i).claimed (e ∙ same));
       };
     }
 
 -- a claim that was lost
 pub gathers-lost : (told : Option Told) (relations : ℕ) (p q : Known) (held : List ClaimedIo)
-    (h : ℕ) (w : Word) → WordLoaded h w p q → AreBelow (length held) held
-    → AreClaimedIos told relations p held → GathersIos told relations 1 p q held held
+    (h : ℕ) (w : Word) → WordLoaded h w p q → NumbersBelow (length held) held
+    → AllClaimedIos told relations p held → GathersIos told relations 1 p q held held
 gathers-lost told relations p q held h w l below holds = record {
   others = [];
-  few = omega arith;
-  is = sym (append-nil held);
+  at_most = omega arith;
+  claimed_ios_are = sym (append-nil held);
   numbers = below;
-  grows = look-on h w p q l;
-  holds = record {
+  marks_grow = look-on h w p q l;
+  all_claimed = record {
     each = λ y i. held-on told relations p q y (claim-unchanged-by-look y.1.0 h w p q l)
         (holds.each y i);
-    apart = holds.apart;
+    references_differ = holds.references_differ;
   };
 }
 
 pub gathers-none : (told : Option Told) (relations : ℕ) (p : Known) (held : List ClaimedIo)
-    → AreBelow (length held) held → AreClaimedIos told relations p held
+    → NumbersBelow (length held) held → AllClaimedIos told relations p held
     → GathersIos told relations 0 p p held held
 gathers-none told relations p held below holds = record {
   others = [];
-  few = omega arith;
-  is = sym (append-nil held);
+  at_most = omega arith;
+  claimed_ios_are = sym (append-nil held);
   numbers = below;
-  grows = appends-none p;
-  holds = holds;
+  marks_grow = appends-none p;
+  all_claimed = holds;
 }
 
 pub gathers-then : (told : Option Told) (relations n m : ℕ) (p q r : Known)
@@ -125,14 +128,17 @@ pub gathers-then : (told : Option Told) (relations n m : ℕ) (p q r : Known)
     → GathersIos told relations (n + m) p r held held''
 gathers-then told relations n m p q r held held' held'' a b = record {
   others = a.others ++ b.others;
-  few = let x = a.few in let y = b.few in let z = length-append a.others b.others in omega arith;
-  is = b.is ∙ (ap (λ (hs : List ClaimedIo). hs ++ b.others) a.is
+  at_most = let x = a.at_most in let y = b.at_most in let z = length-append a.others b.others in
+      omega arith;
+  claimed_ios_are = b.claimed_ios_are ∙ (ap (λ (hs : List ClaimedIo). hs ++ b.others)
+      a.claimed_ios_are
       ∙ append_assoc held a.others b.others);
   numbers = b.numbers;
-  grows = subst (λ (ms : List Mark). AppendsMarks p r ms)
+  marks_grow = subst (λ (ms : List Mark). AppendsMarks p r ms)
       (sym (map-append claimed_mark a.others b.others))
-      (appends-then p q r (group_claims a.others) (group_claims b.others) a.grows b.grows);
-  holds = b.holds;
+      (appends-then p q r (group_claims a.others) (group_claims b.others) a.marks_grow
+      b.marks_grow);
+  all_claimed = b.all_claimed;
 }
 
 pub gathers-most : (told : Option Told) (relations n m : ℕ) (p q : Known)
@@ -140,29 +146,29 @@ pub gathers-most : (told : Option Told) (relations n m : ℕ) (p q : Known)
     → GathersIos told relations m p q held held'
 gathers-most told relations n m p q held held' le a = record {
   others = a.others;
-  few = let x = a.few in omega arith;
-  is = a.is;
+  at_most = let x = a.at_most in omega arith;
+  claimed_ios_are = a.claimed_ios_are;
   numbers = a.numbers;
-  grows = a.grows;
-  holds = a.holds;
+  marks_grow = a.marks_grow;
+  all_claimed = a.all_claimed;
 }
 
 pub length-gathered : (told : Option Told) (relations n : ℕ) (p q : Known)
     (held held' : List ClaimedIo) → GathersIos told relations n p q held held'
     → length held' ≤ length held + n
 length-gathered told relations n p q held held' a =
-    let x : length held' ≡ length (held ++ a.others) = ap length a.is in
-    let y = length-append held a.others in let z = a.few in omega arith
+    let x : length held' ≡ length (held ++ a.others) = ap length a.claimed_ios_are in
+    let y = length-append held a.others in let z = a.at_most in omega arith
 
 -- what is left is held, after one I/O has ended
 pub held-without : (told : Option Told) (relations : ℕ) (p q : Known) (n : ℕ)
     (held : List ClaimedIo)
-    (x : ClaimedIo) → claimed_with n held ≡ Some x
-    → ((t : WaitRef) → t ≢ x.1.0 → ClaimUnchanged t p q) → AreClaimedIos told relations p held
-    → AreClaimedIos told relations q (without_claimed n held)
+    (x : ClaimedIo) → claimed_with_number n held ≡ Some x
+    → ((t : WaitRef) → t ≢ x.1.0 → ClaimUnchanged t p q) → AllClaimedIos told relations p held
+    → AllClaimedIos told relations q (without_claimed n held)
 held-without told relations p q n held x is kept holds = record {
   each = λ y i. held-on told relations p q y
-      (kept y.1.0 (others-differ n held x y holds.apart is i))
+      (kept y.1.0 (others-differ n held x y holds.references_differ is i))
       (holds.each y (in-without n held y i));
-  apart = apart-without n held holds.apart;
+  references_differ = apart-without n held holds.references_differ;
 }

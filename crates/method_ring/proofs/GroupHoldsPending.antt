@@ -5,7 +5,7 @@ use Rattle.std.proofs.lemmas.List.{map-append, length-map, length-take}
 use Rattle.std.specs.Prelude.{option_map}
 use Rattle.std.specs.List.{length_refill}
 use Rattle.page_check.specs.Told.{Told}
-use Rattle.aio_disk.specs.Counts.{CountRose, raised_by, HasCause}
+use Rattle.aio_disk.specs.Counts.{CountRose, count_plus, HasCause}
 use Rattle.aio_disk.specs.Disk.{AnswersPages}
 use Rattle.aio_word.specs.declared.WaitRef.{WaitRef}
 use Rattle.aio_callback.specs.declared.chain.Raw.{Raw}
@@ -15,17 +15,19 @@ use Rattle.aio_callback.specs.ReadIoView.{number_of_id}
 use Rattle.aio_callback.proofs.FirstPagesRead.{answered_by}
 use Rattle.method_ring.specs.declared.ring.Entry.{Entry}
 use Rattle.method_ring.specs.Pending.{pending_entry, without_entry, IsFilledBy}
-use Rattle.method_ring.specs.ClaimedIos.{ClaimedIo, claimed_with, without_claimed, claimed_entry}
-use Rattle.method_ring.specs.ClaimedIos.{AreBelow, IsUnread}
-use Rattle.method_ring.specs.Group.{HoldsPending, PickedFrom, raw_answer}
+use Rattle.method_ring.specs.ClaimedIos.{ClaimedIo, claimed_with_number, without_claimed}
+use Rattle.method_ring.specs.ClaimedIos.{claimed_entry}
+use Rattle.method_ring.specs.ClaimedIos.{NumbersBelow, IsReadableRecord}
+use Rattle.method_ring.specs.Group.{PendingReadsClaimed, PickedFrom, raw_answer}
 use Rattle.method_ring.proofs.NumberedLookup.{entry-of-held, without-entry-of-held, none-pending}
 use Rattle.method_ring.proofs.NumberedLookup.{in-held}
 use Rattle.method_ring.proofs.NumberedLookup.{in-without, in-pushed}
 
-pub joined-none : (pending : List Entry) (n : ℕ) → pending ≡ [] → HoldsPending pending n []
+pub joined-none : (pending : List Entry) (n : ℕ) → pending ≡ [] → PendingReadsClaimed pending n []
 joined-none pending n e = record { pending_is = e; unread = λ x i. absurd i }
 
-module _ (pending : List Entry) (n : ℕ) (held : List ClaimedIo) (j : HoldsPending pending n held)
+module _ (pending : List Entry) (n : ℕ) (held : List ClaimedIo) (j : PendingReadsClaimed pending n
+    held)
   where
     pub room-for-one : length held < 8 → length pending < 8
     room-for-one lt =
@@ -33,28 +35,28 @@ module _ (pending : List Entry) (n : ℕ) (held : List ClaimedIo) (j : HoldsPend
         ap length j.pending_is ∙ length-map held claimed_entry in
         omega arith
 
-    pub new-number : AreBelow (length held) held → pending_entry (length held) pending ≡ None
+    pub new-number : NumbersBelow (length held) held → pending_entry (length held) pending ≡ None
     new-number below = ap (λ es. pending_entry (length held) es) j.pending_is
         ∙ none-pending (length held) held below
 
     pub joined-push : (pending' : List Entry) (n' : ℕ) (x : ClaimedIo)
-        → pending' ≡ pending ++ claimed_entry x ∷ [] → n' ≡ n → IsUnread n x.1.1
-        → HoldsPending pending' n' (held ++ x ∷ [])
+        → pending' ≡ pending ++ claimed_entry x ∷ [] → n' ≡ n → IsReadableRecord n x.1.1
+        → PendingReadsClaimed pending' n' (held ++ x ∷ [])
     joined-push pending' n' x is same fresh = record {
       pending_is = is ∙ (ap (λ es. es ++ claimed_entry x ∷ []) j.pending_is
           ∙ sym (map-append claimed_entry held (x ∷ [])));
-      unread = λ y i. subst (λ (z : ℕ). IsUnread z y.1.1) (sym same) (⊎_elim
+      unread = λ y i. subst (λ (z : ℕ). IsReadableRecord z y.1.1) (sym same) (⊎_elim
           (λ old. j.unread y old)
-          (λ (e : x ≡ y). subst (λ (z : ClaimedIo). IsUnread n z.1.1) e fresh)
+          (λ (e : x ≡ y). subst (λ (z : ClaimedIo). IsReadableRecord n z.1.1) e fresh)
           (in-pushed held x y i));
     }
 
     pub joined-without : (pending' : List Entry) (n' user : ℕ) → pending' ≡ without_entry user pending
-        → n' ≡ n → HoldsPending pending' n' (without_claimed user held)
+        → n' ≡ n → PendingReadsClaimed pending' n' (without_claimed user held)
     joined-without pending' n' user is same = record {
       pending_is = is ∙ (ap (λ es. without_entry user es) j.pending_is
           ∙ without-entry-of-held user held);
-      unread = λ y i. subst (λ (z : ℕ). IsUnread z y.1.1) (sym same)
+      unread = λ y i. subst (λ (z : ℕ). IsReadableRecord z y.1.1) (sym same)
           (j.unread y (in-without user held y i));
     }
 
@@ -65,16 +67,18 @@ module _ (pending : List Entry) (n : ℕ) (held : List ClaimedIo) (j : HoldsPend
         by [] e = refl
         by (h ∷ hs) e = absurd (cc)
 
-    pub entry-found : (user : ℕ) (x : ClaimedIo) → claimed_with user held ≡ Some x
+    pub entry-found : (user : ℕ) (x : ClaimedIo) → claimed_with_number user held ≡ Some x
         → pending_entry user pending ≡ Some (claimed_entry x)
     entry-found user x is = ap (λ es. pending_entry user es) j.pending_is
         ∙ (entry-of-held user held ∙ ap (λ o. option_map claimed_entry o) is)
 
-    pub is-held : (user : ℕ) → pending_entry user pending ≢ None → claimed_with user held ≢ None
+    pub is-held : (user : ℕ) → pending_entry user pending ≢ None → claimed_with_number user held
+        ≢ None
     is-held user ne e = ne (ap (λ es. pending_entry user es) j.pending_is
         ∙ (entry-of-held user held ∙ ap (λ o. option_map claimed_entry o) e))
 
-    pub unread-held : (user : ℕ) (x : ClaimedIo) → claimed_with user held ≡ Some x → IsUnread n x.1.1
+    pub unread-held : (user : ℕ) (x : ClaimedIo) → claimed_with_number user held ≡ Some x
+        → IsReadableRecord n x.1.1
     unread-held user x is = j.unread x (in-held user held x is)
 
 pub filled-by : (o : Option Entry) (e : Entry) (pages : ℕ) → o ≡ Some e → pages ≡ e.count
@@ -105,30 +109,30 @@ taken-fits n pages e = let a = length-take n pages in omega arith
 pub picked-from : {E : Type 0} (told : Option Told) (held held' : List ClaimedIo) (user : ℕ)
     (x : ClaimedIo)
     (pages : List (List ℕ)) (res : Result ℕ E) (raw : Raw) (c : WaitRef × ReadIoView)
-    (reads reads' faults faults' : ℕ) → claimed_with user held ≡ Some x
+    (reads reads' faults faults' : ℕ) → claimed_with_number user held ≡ Some x
     → held' ≡ without_claimed user held → c.0 ≡ x.1.0
     → c.1 ≡ record (with_pages x.1.1 pages) { raw = Some raw } → raw ≡ raw_answer res
     → length (take x.1.1.count x.1.1.pages) ≡ x.1.1.count → length pages ≡ x.1.1.count
-    → AnswersPages told x.1.1.relation x.1.1.first res pages → reads' ≡ raised_by 1 reads
+    → AnswersPages told x.1.1.relation x.1.1.first res pages → reads' ≡ count_plus 1 reads
     → HasCause faults faults' res
     → PickedFrom told held held' c raw reads reads' faults faults'
 picked-from told held held' user x pages res raw c reads reads' faults faults' taken left named is
     same room size answers read cause = record {
       user = user;
       from = x;
-      taken = taken;
+      was_claimed = taken;
       others = left;
-      named = named;
+      reference_is = named;
       aim = ap record_aim is ∙ aim-read x.1.1 pages;
       label = ap (λ (r : ReadIoView). r.label) is;
       aimed = ap (λ (r : ReadIoView). r.aimed) is;
       relation = ap (λ (r : ReadIoView). r.relation) is;
-      is = ap (λ (r : ReadIoView). r.raw) is;
-      answered = subst (λ (r : ReadIoView). HasAnswer told r) (sym is)
+      raw_is = ap (λ (r : ReadIoView). r.raw) is;
+      has_answer = subst (λ (r : ReadIoView). HasAnswer told r) (sym is)
           (answered_by told x.1.1 raw pages size (taken-fits x.1.1.count x.1.1.pages room)
           (subst (λ (z : Raw). IsToldRead told x.1.1 z pages) (sym same)
           (told-read told x.1.1 res pages size answers)));
-      read = read;
-      later = cause.later;
-      failed = λ e. failed-read faults faults' res cause (sym same ∙ e);
+      read_counted = read;
+      faults_not_reduced = cause.later;
+      failure_counted = λ e. failed-read faults faults' res cause (sym same ∙ e);
     }

@@ -6,3 +6,4 @@ mod ClaimAttempts
 mod PoppedReferences
 mod CompletionEndsIo
 mod GroupMarks
+mod GroupCompletion

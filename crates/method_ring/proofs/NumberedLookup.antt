@@ -8,11 +8,12 @@ use Rattle.aio_word.specs.declared.WaitRef.{WaitRef}
 use Rattle.aio_word.specs.Stands.{IsIn}
 use Rattle.aio_word.proofs.MoreMarksKeep.{count_at_place, mark_count-more}
 use Rattle.method_ring.specs.declared.ring.Entry.{Entry}
-use Rattle.method_ring.specs.Numbered.{first_by, without}
+use Rattle.method_ring.specs.Numbered.{first_with_number, without_number}
 use Rattle.method_ring.specs.Pending.{pending_entry, without_entry}
-use Rattle.method_ring.specs.ClaimedIos.{ClaimedIo, claimed_number, claimed_with, without_claimed}
+use Rattle.method_ring.specs.ClaimedIos.{ClaimedIo, claimed_number, claimed_with_number}
+use Rattle.method_ring.specs.ClaimedIos.{without_claimed}
 use Rattle.method_ring.specs.ClaimedIos.{claimed_entry}
-use Rattle.method_ring.specs.ClaimedIos.{claimed_mark, AreBelow, AreApart}
+use Rattle.method_ring.specs.ClaimedIos.{claimed_mark, NumbersBelow, ReferencesDiffer}
 use Rattle.method_ring.specs.RingRunner.{group_claims}
 
 some-is : {A : Type 0} (x y : A) → Some x ≡ Some y → x ≡ y
@@ -28,14 +29,15 @@ if-some-then (Some x) P Q f p = f x p
 
 -- the entry that is pending under a number is that of what is held under it
 pub entry-of-held : (n : ℕ) (held : List ClaimedIo)
-    → pending_entry n (map claimed_entry held) ≡ option_map claimed_entry (claimed_with n held)
+    → pending_entry n (map claimed_entry held) ≡ option_map claimed_entry (claimed_with_number n
+    held)
 entry-of-held n [] = refl
 entry-of-held n (x ∷ xs) = pick (x.0 == n) (entry-of-held n xs)
   where
     pick : (b : Bool) → pending_entry n (map claimed_entry xs)
-        ≡ option_map claimed_entry (claimed_with n xs)
+        ≡ option_map claimed_entry (claimed_with_number n xs)
         → cond b (Some (claimed_entry x)) (pending_entry n (map claimed_entry xs))
-        ≡ option_map claimed_entry (cond b (Some x) (claimed_with n xs))
+        ≡ option_map claimed_entry (cond b (Some x) (claimed_with_number n xs))
     pick true rest = refl
     pick false rest = rest
 
@@ -53,25 +55,25 @@ without-entry-of-held n (x ∷ xs) = pick (x.0 == n) (without-entry-of-held n xs
 
 module _ {A : Type 0} (number : A → ℕ) where
   -- what is found stands there, and so does what is left
-  pub found-in : (n : ℕ) (xs : List A) (x : A) → first_by number n xs ≡ Some x → IsIn x xs
+  pub found-in : (n : ℕ) (xs : List A) (x : A) → first_with_number number n xs ≡ Some x → IsIn x xs
   found-in n [] x e = absurd (none-is-not x e)
   found-in n (y ∷ ys) x e = pick (number y == n) (λ f. found-in n ys x f) e
     where
-      pick : (b : Bool) → (first_by number n ys ≡ Some x → IsIn x ys)
-          → cond b (Some y) (first_by number n ys) ≡ Some x → IsIn x (y ∷ ys)
+      pick : (b : Bool) → (first_with_number number n ys ≡ Some x → IsIn x ys)
+          → cond b (Some y) (first_with_number number n ys) ≡ Some x → IsIn x (y ∷ ys)
       pick true rest e = inl (some-is y x e)
       pick false rest e = inr (rest e)
 
-  pub rest-in : (n : ℕ) (xs : List A) (x : A) → IsIn x (without number n xs) → IsIn x xs
+  pub rest-in : (n : ℕ) (xs : List A) (x : A) → IsIn x (without_number number n xs) → IsIn x xs
   rest-in n [] x i = i
   rest-in n (y ∷ ys) x i = pick (number y == n) (λ j. rest-in n ys x j) i
     where
-      pick : (b : Bool) → (IsIn x (without number n ys) → IsIn x ys)
-          → IsIn x (cond b ys (y ∷ without number n ys)) → IsIn x (y ∷ ys)
+      pick : (b : Bool) → (IsIn x (without_number number n ys) → IsIn x ys)
+          → IsIn x (cond b ys (y ∷ without_number number n ys)) → IsIn x (y ∷ ys)
       pick true rest i = inr i
       pick false rest i = ⊎_elim (λ e. inl e) (λ r. inr (rest r)) i
 
-pub in-held : (n : ℕ) (held : List ClaimedIo) (x : ClaimedIo) → claimed_with n held ≡ Some x
+pub in-held : (n : ℕ) (held : List ClaimedIo) (x : ClaimedIo) → claimed_with_number n held ≡ Some x
     → IsIn x held
 in-held = found-in claimed_number
 
@@ -89,28 +91,29 @@ not-equal : (a b n : ℕ) → a < b → (a == b) ≡ false
 not-equal a b n lt = grind (arith, nat_tests)
 
 -- no number is that many where each is below it
-pub none-below : (n : ℕ) (held : List ClaimedIo) → AreBelow n held → claimed_with n held ≡ None
+pub none-below : (n : ℕ) (held : List ClaimedIo) → NumbersBelow n held → claimed_with_number n held
+    ≡ None
 none-below n [] below = refl
-none-below n (x ∷ xs) below = ap (λ (b : Bool). cond b (Some x) (claimed_with n xs))
+none-below n (x ∷ xs) below = ap (λ (b : Bool). cond b (Some x) (claimed_with_number n xs))
     (not-equal x.0 n n (below x (inl refl)))
     ∙ none-below n xs (λ y i. below y (inr i))
 
-pub none-pending : (n : ℕ) (held : List ClaimedIo) → AreBelow n held
+pub none-pending : (n : ℕ) (held : List ClaimedIo) → NumbersBelow n held
     → pending_entry n (map claimed_entry held) ≡ None
 none-pending n held below =
     entry-of-held n held
     ∙ ap (λ (o : Option ClaimedIo). option_map claimed_entry o) (none-below n held below)
 
 -- the others are other incarnations
-pub others-differ : (n : ℕ) (held : List ClaimedIo) (x y : ClaimedIo) → AreApart held
-    → claimed_with n held ≡ Some x → IsIn y (without_claimed n held) → y.1.0 ≢ x.1.0
+pub others-differ : (n : ℕ) (held : List ClaimedIo) (x y : ClaimedIo) → ReferencesDiffer held
+    → claimed_with_number n held ≡ Some x → IsIn y (without_claimed n held) → y.1.0 ≢ x.1.0
 others-differ n [] x y a e i = absurd i
 others-differ n (z ∷ zs) x y a e i =
     pick (z.0 == n) (λ f j. others-differ n zs x y a.1 f j) e i
   where
     pick : (b : Bool)
-        → (claimed_with n zs ≡ Some x → IsIn y (without_claimed n zs) → y.1.0 ≢ x.1.0)
-        → cond b (Some z) (claimed_with n zs) ≡ Some x
+        → (claimed_with_number n zs ≡ Some x → IsIn y (without_claimed n zs) → y.1.0 ≢ x.1.0)
+        → cond b (Some z) (claimed_with_number n zs) ≡ Some x
         → IsIn y (cond b zs (z ∷ without_claimed n zs)) → y.1.0 ≢ x.1.0
     pick true rest e i = let same = some-is z x e in λ same-ref. a.0 y i
         (same-ref ∙ sym (ap (λ (h : ClaimedIo). h.1.0) same))
@@ -119,19 +122,19 @@ others-differ n (z ∷ zs) x y a e i =
         (sym same-ref ∙ sym (ap (λ (h : ClaimedIo). h.1.0) is)))
         (λ r. rest e r) i
 
-pub apart-without : (n : ℕ) (held : List ClaimedIo) → AreApart held
-    → AreApart (without_claimed n held)
+pub apart-without : (n : ℕ) (held : List ClaimedIo) → ReferencesDiffer held
+    → ReferencesDiffer (without_claimed n held)
 apart-without n [] a = a
 apart-without n (z ∷ zs) a = pick (z.0 == n) (apart-without n zs a.1)
   where
-    pick : (b : Bool) → AreApart (without_claimed n zs)
-        → AreApart (cond b zs (z ∷ without_claimed n zs))
+    pick : (b : Bool) → ReferencesDiffer (without_claimed n zs)
+        → ReferencesDiffer (cond b zs (z ∷ without_claimed n zs))
     pick true rest = a.1
     pick false rest = ((λ y i. a.0 y (in-without n zs y i)), rest)
 
 -- one more, that differs from each
-pub apart-push : (held : List ClaimedIo) (x : ClaimedIo) → AreApart held
-    → ((y : ClaimedIo) → IsIn y held → y.1.0 ≢ x.1.0) → AreApart (held ++ x ∷ [])
+pub apart-push : (held : List ClaimedIo) (x : ClaimedIo) → ReferencesDiffer held
+    → ((y : ClaimedIo) → IsIn y held → y.1.0 ≢ x.1.0) → ReferencesDiffer (held ++ x ∷ [])
 apart-push [] x a ne = ((λ y i. absurd i), tt)
 apart-push (z ∷ zs) x a ne = (
   (λ y i. ⊎_elim (λ r. a.0 y r) (λ (e : x ≡ y). λ same. ne z (inl refl)
@@ -140,21 +143,22 @@ apart-push (z ∷ zs) x a ne = (
 )
 
 -- how many there are
-pub one-fewer : (n : ℕ) (held : List ClaimedIo) (x : ClaimedIo) → claimed_with n held ≡ Some x
+pub one-fewer : (n : ℕ) (held : List ClaimedIo) (x : ClaimedIo) → claimed_with_number n held
+    ≡ Some x
     → length held ≡ suc (length (without_claimed n held))
 one-fewer n [] x e = absurd (none-is-not x e)
 one-fewer n (z ∷ zs) x e = pick (z.0 == n) (λ f. one-fewer n zs x f) e
   where
-    pick : (b : Bool) → (claimed_with n zs ≡ Some x
+    pick : (b : Bool) → (claimed_with_number n zs ≡ Some x
         → length zs ≡ suc (length (without_claimed n zs)))
-        → cond b (Some z) (claimed_with n zs) ≡ Some x
+        → cond b (Some z) (claimed_with_number n zs) ≡ Some x
         → suc (length zs) ≡ suc (length (cond b zs (z ∷ without_claimed n zs)))
     pick true rest e = refl
     pick false rest e = ap (λ (k : ℕ). suc k) (rest e)
 
 -- how often an incarnation stands among them
 pub claims-without : (t : WaitRef) (n : ℕ) (held : List ClaimedIo) (x : ClaimedIo)
-    → claimed_with n held ≡ Some x → count_at_place t 3 (group_claims held)
+    → claimed_with_number n held ≡ Some x → count_at_place t 3 (group_claims held)
     ≡ count_at_place t 3 (claimed_mark x ∷ []) + count_at_place t 3
     (group_claims (without_claimed n held))
 claims-without t n [] x e = absurd (none-is-not x e)
@@ -165,10 +169,11 @@ claims-without t n (z ∷ zs) x e = pick (z.0 == n) (λ f. claims-without t n zs
     first = mark_count-more t 3 (claimed_mark z ∷ []) (group_claims zs)
 
     pick : (b : Bool)
-        → (claimed_with n zs ≡ Some x → count_at_place t 3 (group_claims zs)
+        → (claimed_with_number n zs ≡ Some x → count_at_place t 3 (group_claims zs)
         ≡ count_at_place t 3 (claimed_mark x ∷ []) + count_at_place t 3
         (group_claims (without_claimed n zs)))
-        → cond b (Some z) (claimed_with n zs) ≡ Some x → count_at_place t 3 (group_claims (z ∷ zs))
+        → cond b (Some z) (claimed_with_number n zs) ≡ Some x → count_at_place t 3 (group_claims (z
+        ∷ zs))
         ≡ count_at_place t 3 (claimed_mark x ∷ []) + count_at_place t 3
         (group_claims (cond b zs (z ∷ without_claimed n zs)))
     pick true rest e = first

@@ -5,7 +5,7 @@ use Rattle.std.proofs.Common.{◌∙◌, arith, rules, append_assoc, append-nil,
 use Rattle.std.proofs.lemmas.List.{drop_more, take_more, at_drop_all, take_all}
 use Rattle.std.proofs.lemmas.Bool.Decides.{nat_tests}
 use Rattle.method_ring.specs.declared.ring.Entry.{Entry}
-use Rattle.method_ring.specs.Numbered.{first_by, without}
+use Rattle.method_ring.specs.Numbered.{first_with_number, without_number}
 use Rattle.method_ring.specs.Pending.{pending_entry}
 
 none-is-not : {A : Type 0} (x : A) → Some x ≡ None → ⊥
@@ -24,18 +24,18 @@ drop-is xs i x lt is = drop_more xs i x lt ∙ ap (λ z. z ∷ drop (i + 1) xs) 
 module _ {A : Type 0} (number : A → ℕ) (n : ℕ) (xs : List A) where
   -- one element that has another number
   pub first-later : (i : ℕ) (x : A) → i < length xs → x ≡ get_or xs i x → number x ≢ n
-      → first_by number n (drop i xs) ≡ first_by number n (drop (i + 1) xs)
-  first-later i x lt is other = ap (λ ys. first_by number n ys) (drop-is xs i x lt is)
-      ∙ ap (λ (b : Bool). cond b (Some x) (first_by number n (drop (i + 1) xs)))
+      → first_with_number number n (drop i xs) ≡ first_with_number number n (drop (i + 1) xs)
+  first-later i x lt is other = ap (λ ys. first_with_number number n ys) (drop-is xs i x lt is)
+      ∙ ap (λ (b : Bool). cond b (Some x) (first_with_number number n (drop (i + 1) xs)))
       (not-equal (number x) n other)
 
   pub others-later : (i : ℕ) (x : A) → i < length xs → x ≡ get_or xs i x → number x ≢ n
-      → take i xs ++ without number n (drop i xs)
-      ≡ take (i + 1) xs ++ without number n (drop (i + 1) xs)
+      → take i xs ++ without_number number n (drop i xs)
+      ≡ take (i + 1) xs ++ without_number number n (drop (i + 1) xs)
   others-later i x lt is other =
-      let rest = without number n (drop (i + 1) xs) in
-      let one : without number n (drop i xs) ≡ x ∷ rest =
-      ap (λ ys. without number n ys) (drop-is xs i x lt is)
+      let rest = without_number number n (drop (i + 1) xs) in
+      let one : without_number number n (drop i xs) ≡ x ∷ rest =
+      ap (λ ys. without_number number n ys) (drop-is xs i x lt is)
       ∙ ap (λ (b : Bool). cond b (drop (i + 1) xs) (x ∷ rest)) (not-equal (number x) n other) in
       let more : take (i + 1) xs ≡ take i xs ++ x ∷ [] =
       take_more xs i x lt ∙ ap (λ z. take i xs ++ z ∷ []) (sym is) in
@@ -44,24 +44,25 @@ module _ {A : Type 0} (number : A → ℕ) (n : ℕ) (xs : List A) where
 
   -- the first element with the number
   pub first-here : (i : ℕ) (x : A) → i < length xs → x ≡ get_or xs i x → number x ≡ n
-      → first_by number n (drop i xs) ≡ Some x
-  first-here i x lt is same = ap (λ ys. first_by number n ys) (drop-is xs i x lt is)
-      ∙ ap (λ (b : Bool). cond b (Some x) (first_by number n (drop (i + 1) xs)))
+      → first_with_number number n (drop i xs) ≡ Some x
+  first-here i x lt is same = ap (λ ys. first_with_number number n ys) (drop-is xs i x lt is)
+      ∙ ap (λ (b : Bool). cond b (Some x) (first_with_number number n (drop (i + 1) xs)))
       (equal-to (number x) n same)
 
   pub others-here : (i : ℕ) (x : A) → i < length xs → x ≡ get_or xs i x → number x ≡ n
-      → without number n (drop i xs) ≡ drop (i + 1) xs
-  others-here i x lt is same = ap (λ ys. without number n ys) (drop-is xs i x lt is)
-      ∙ ap (λ (b : Bool). cond b (drop (i + 1) xs) (x ∷ without number n (drop (i + 1) xs)))
+      → without_number number n (drop i xs) ≡ drop (i + 1) xs
+  others-here i x lt is same = ap (λ ys. without_number number n ys) (drop-is xs i x lt is)
+      ∙ ap (λ (b : Bool). cond b (drop (i + 1) xs) (x ∷ without_number number n (drop (i + 1) xs)))
       (equal-to (number x) n same)
 
   -- nothing is there from the end on
-  pub first-end : (i : ℕ) → length xs ≤ i → first_by number n (drop i xs) ≡ None
-  first-end i le = at_drop_all (λ ys. first_by number n ys) xs i le
+  pub first-end : (i : ℕ) → length xs ≤ i → first_with_number number n (drop i xs) ≡ None
+  first-end i le = at_drop_all (λ ys. first_with_number number n ys) xs i le
 
   pub others-end : (i : ℕ) → length xs ≤ i
-      → take i xs ++ without number n (drop i xs) ≡ xs
-  others-end i le = ap (λ ys. take i xs ++ ys) (at_drop_all (λ ys. without number n ys) xs i le)
+      → take i xs ++ without_number number n (drop i xs) ≡ xs
+  others-end i le = ap (λ ys. take i xs ++ ys) (at_drop_all (λ ys. without_number number n ys) xs i
+      le)
       ∙ (append-nil (take i xs) ∙ take_all i xs le)
 
 -- an entry of the list is found by its number

@@ -13,21 +13,21 @@ use Rattle.aio_handle.specs.KnownChanges.{look}
 use Rattle.aio_handle.specs.LifeWords.{unclaimed_word}
 
 -- between p and q the actor appended the Claimed mark of the incarnation
-pub record Claims (t : WaitRef) (p q : Known) : Type 0 where
+pub record AppendsClaim (t : WaitRef) (p q : Known) : Type 0 where
   pub more : List Mark
   pub marks : q.marks ≡ p.marks ++ more
-  pub claimed : IsIn (make_mark t kind.Claimed) more
+  pub has_claim : IsIn (make_mark t kind.Claimed) more
 
 -- between p and q a look of the actor at the handle found a word that was not Submitted, unclaimed,
 -- of that generation
-pub record FindsTaken (t : WaitRef) (p q : Known) : Type 0 where
+pub record FindsUnclaimable (t : WaitRef) (p q : Known) : Type 0 where
   pub more : List Look
   pub looks : q.looks ≡ p.looks ++ more
   pub word : Word
   pub lawful : IsLawful word
-  pub found : IsIn (look t.handle (packed_word word)) more
-  pub other : word ≢ unclaimed_word t.generation
+  pub look_found : IsIn (look t.handle (packed_word word)) more
+  pub not_claimable : word ≢ unclaimed_word t.generation
 
 -- the actor claimed the incarnation, or found that it could not be claimed
-abbrev pub ClaimsOrFindsTaken : Known → Known → WaitRef → Type 0
-ClaimsOrFindsTaken p q t = Claims t p q ⊎ FindsTaken t p q
+abbrev pub ClaimsOrFindsUnclaimable : Known → Known → WaitRef → Type 0
+ClaimsOrFindsUnclaimable p q t = AppendsClaim t p q ⊎ FindsUnclaimable t p q

@@ -10,7 +10,7 @@ use Rattle.aio_word.specs.Tokens.{IsClaimed, make_mark}
 use Rattle.aio_handle.specs.Labels.{bound_label}
 use Rattle.aio_callback.specs.ReadIoView.{ReadIoView, ReadFits, record_aim}
 use Rattle.method_ring.specs.declared.ring.Entry.{Entry}
-use Rattle.method_ring.specs.Numbered.{first_by, without}
+use Rattle.method_ring.specs.Numbered.{first_with_number, without_number}
 use Rattle.method_ring.specs.Pending.{entry}
 
 -- the number of the read, the incarnation, and its record
@@ -20,11 +20,11 @@ ClaimedIo = ℕ × (WaitRef × ReadIoView)
 abbrev pub claimed_number : ClaimedIo → ℕ
 claimed_number x = x.0
 
-abbrev pub claimed_with : ℕ → List ClaimedIo → Option ClaimedIo
-claimed_with user held = first_by claimed_number user held
+abbrev pub claimed_with_number : ℕ → List ClaimedIo → Option ClaimedIo
+claimed_with_number user held = first_with_number claimed_number user held
 
 abbrev pub without_claimed : ℕ → List ClaimedIo → List ClaimedIo
-without_claimed user held = without claimed_number user held
+without_claimed user held = without_number claimed_number user held
 
 -- the entry of the ring that reads it
 abbrev pub claimed_entry : ClaimedIo → Entry
@@ -34,19 +34,19 @@ abbrev pub claimed_mark : ClaimedIo → Mark
 claimed_mark x = make_mark x.1.0 kind.Claimed
 
 -- a record that is aimed at a relation that is there, and that no answer has
-pub record IsUnread (relations : ℕ) (r : ReadIoView) : Type 0 where
-  pub aimed : r.aimed ≡ true
-  pub within : r.relation < relations
-  pub raw : r.raw ≡ None
+pub record IsReadableRecord (relations : ℕ) (r : ReadIoView) : Type 0 where
+  pub is_aimed : r.aimed ≡ true
+  pub relation_in_range : r.relation < relations
+  pub no_answer : r.raw ≡ None
 
 -- each number is below this one
-abbrev pub AreBelow : ℕ → List ClaimedIo → Type 0
-AreBelow n held = (x : ClaimedIo) → IsIn x held → x.0 < n
+abbrev pub NumbersBelow : ℕ → List ClaimedIo → Type 0
+NumbersBelow n held = (x : ClaimedIo) → IsIn x held → x.0 < n
 
 -- the incarnations differ from one another
-abbrev pub AreApart : List ClaimedIo → Type 0
-AreApart [] = Unit {0}
-AreApart (x ∷ xs) = ((y : ClaimedIo) → IsIn y xs → y.1.0 ≢ x.1.0) × AreApart xs
+abbrev pub ReferencesDiffer : List ClaimedIo → Type 0
+ReferencesDiffer [] = Unit {0}
+ReferencesDiffer (x ∷ xs) = ((y : ClaimedIo) → IsIn y xs → y.1.0 ≢ x.1.0) × ReferencesDiffer xs
 
 -- the actor has claimed the incarnation and not executed it, and the record is as the claim gave it
 pub record IsClaimedIo (told : Option Told) (relations : ℕ) (p : Known) (x : ClaimedIo) : Type 0
@@ -56,7 +56,7 @@ pub record IsClaimedIo (told : Option Told) (relations : ℕ) (p : Known) (x : C
     pub label : x.1.1.label ≡ bound_label x.1.0.handle x.1.0.generation
     pub fits : ReadFits told relations x.1.1
 
-pub record AreClaimedIos (told : Option Told) (relations : ℕ) (p : Known) (held : List ClaimedIo)
+pub record AllClaimedIos (told : Option Told) (relations : ℕ) (p : Known) (held : List ClaimedIo)
     : Type 0 where
   pub each : (x : ClaimedIo) → IsIn x held → IsClaimedIo told relations p x
-  pub apart : AreApart held
+  pub references_differ : ReferencesDiffer held

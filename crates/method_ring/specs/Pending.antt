@@ -1,7 +1,7 @@
 -- What is pending in a ring.
 use Rattle.std.specs.Prelude.{ℕ, ◌≡◌, List, Option, Some, None}
 use Rattle.method_ring.specs.declared.ring.Entry.{Entry}
-use Rattle.method_ring.specs.Numbered.{first_by, without}
+use Rattle.method_ring.specs.Numbered.{first_with_number, without_number}
 
 abbrev pub entry : ℕ → ℕ → ℕ → ℕ → Entry
 entry user relation first count =
@@ -12,11 +12,11 @@ entry_user e = e.user
 
 -- the entry with this number
 abbrev pub pending_entry : ℕ → List Entry → Option Entry
-pending_entry user entries = first_by entry_user user entries
+pending_entry user entries = first_with_number entry_user user entries
 
 -- the others
 abbrev pub without_entry : ℕ → List Entry → List Entry
-without_entry user entries = without entry_user user entries
+without_entry user entries = without_number entry_user user entries
 
 -- there is such an entry, and it reads as many pages as this
 abbrev pub IsFilledBy : Option Entry → ℕ → Type 0

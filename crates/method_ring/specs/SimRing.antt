@@ -23,14 +23,14 @@ pub record SimRingView (D : Type 0) : Type 0 where
   pub picked : Option ℕ
 
 -- a read of a relation that is there
-pub record IsReadIn (relations : ℕ) (e : Entry) : Type 0 where
+pub record IsValidEntry (relations : ℕ) (e : Entry) : Type 0 where
   pub relation : e.relation < relations
-  pub some : 1 ≤ e.count
-  pub few : e.count ≤ 128
+  pub at_least_one : 1 ≤ e.count
+  pub at_most_128 : e.count ≤ 128
 
 -- each read that is pending can be made
-abbrev pub AreReads : ℕ → List Entry → Type 0
-AreReads relations entries = (e : Entry) → IsIn e entries → IsReadIn relations e
+abbrev pub AllEntriesValid : ℕ → List Entry → Type 0
+AllEntriesValid relations entries = (e : Entry) → IsIn e entries → IsValidEntry relations e
 
 abbrev pub new_sim_ring : {D : Type 0} → D → List ℕ → SimRingView D
 new_sim_ring disk order =

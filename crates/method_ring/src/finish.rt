@@ -8,8 +8,8 @@ ghost use Rattle.aio_handle.specs.UnchangedTokens.{ClaimUnchanged};
 ghost use Rattle.aio_handle.specs.ContractViews.{IsActorOf, IsSameActor};
 ghost use Rattle.aio_callback.specs.Chain.{class_of};
 ghost use Rattle.aio_callback.specs.ReadIoView.{HasAnswer, record_aim};
-ghost use Rattle.method_ring.specs.ClaimedIos.{AreClaimedIos};
-ghost use Rattle.method_ring.specs.RingRunner.{IsEndedAs, EndsGroup};
+ghost use Rattle.method_ring.specs.ClaimedIos.{AllClaimedIos};
+ghost use Rattle.method_ring.specs.RingRunner.{ReadCompletedAs, CompletesGroup};
 
 use crate::group::Group;
 use crate::ring::Ring;
@@ -35,9 +35,10 @@ fn complete<W: World, P: Places<W>, T: Wait>(
     requires raw { claimed.1.raw ≡ Some raw }
     requires answered { HasAnswer W.told claimed.1 }
     ensures same { IsSameActor actor.old actor.new }
-    ensures ended { IsEndedAs W.told claimed.0 (record_aim claimed.1) (class_of claimed.1.count raw)
+    ensures read_completed { ReadCompletedAs W.told claimed.0 (record_aim claimed.1)
+        (class_of claimed.1.count raw)
         actor.old.known actor.new.known (P.finished places.old) (P.finished places.new) }
-    ensures kept { (t : WaitRef) → t ≢ claimed.0
+    ensures other_claims_unchanged { (t : WaitRef) → t ≢ claimed.0
         → ClaimUnchanged t actor.old.known actor.new.known }
 {
     aio_handle::laws::events_keep_other_claims();
@@ -58,13 +59,14 @@ pub(crate) fn finish<W: World, G: Ring, P: Places<W>, T: Wait>(
     requires table { IsActorOf table.now actor.old }
     requires told { (G.told group.old.ring ≡ W.told)
         × (G.relations group.old.ring ≡ W.relations) }
-    requires held { AreClaimedIos W.told W.relations actor.old.known group.old.held }
-    ensures empty { group.new.held ≡ [] }
+    requires all_claimed { AllClaimedIos W.told W.relations actor.old.known group.old.claimed_ios }
+    ensures empty { group.new.claimed_ios ≡ [] }
     ensures pending { G.pending group.new.ring ≡ [] }
     ensures same { IsSameActor actor.old actor.new }
     ensures told { (G.told group.new.ring ≡ G.told group.old.ring)
         × (G.relations group.new.ring ≡ G.relations group.old.ring) }
-    ensures finishes { EndsGroup W.told group.old.held [] actor.old.known actor.new.known
+    ensures finishes { CompletesGroup W.told group.old.claimed_ios [] actor.old.known
+        actor.new.known
         (P.finished places.old) (P.finished places.new) (G.reads group.old.ring)
         (G.reads group.new.ring) (G.faults group.old.ring) (G.faults group.new.ring) }
 {

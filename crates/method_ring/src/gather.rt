@@ -2,9 +2,9 @@
 ghost use Rattle.std.specs.Prelude.{◌≡◌, ◌<◌, length};
 ghost use Rattle.aio_handle.specs.ContractViews.{IsActorOf, IsSameActor};
 ghost use Rattle.method_worker.specs.QueueViews.{IsSeatOf, IsSameSeat};
-ghost use Rattle.method_ring.specs.ClaimedIos.{AreClaimedIos, AreBelow};
+ghost use Rattle.method_ring.specs.ClaimedIos.{AllClaimedIos, NumbersBelow};
 ghost use Rattle.method_ring.specs.RingRunner.{GathersIos, PopsReferences};
-ghost use Rattle.method_ring.specs.ClaimAttempts.{ClaimsOrFindsTaken};
+ghost use Rattle.method_ring.specs.ClaimAttempts.{ClaimsOrFindsUnclaimable};
 
 use crate::group::Group;
 use crate::ring::Ring;
@@ -26,17 +26,18 @@ fn join<W: World, G: Ring>(
     requires told { (G.told group.old.ring ≡ W.told)
         × (G.relations group.old.ring ≡ W.relations) }
     requires range { reference.handle < W.handles }
-    requires room { length group.old.held < 8 }
-    requires numbers { AreBelow (length group.old.held) group.old.held }
-    requires held { AreClaimedIos W.told W.relations actor.old.known group.old.held }
+    requires room { length group.old.claimed_ios < 8 }
+    requires numbers { NumbersBelow (length group.old.claimed_ios) group.old.claimed_ios }
+    requires all_claimed { AllClaimedIos W.told W.relations actor.old.known group.old.claimed_ios }
     ensures same { IsSameActor actor.old actor.new }
     ensures told { (G.told group.new.ring ≡ G.told group.old.ring)
         × (G.relations group.new.ring ≡ G.relations group.old.ring) }
     ensures counts { (G.reads group.new.ring ≡ G.reads group.old.ring)
         × (G.faults group.new.ring ≡ G.faults group.old.ring) }
-    ensures gathers { GathersIos W.told W.relations 1 actor.old.known actor.new.known group.old.held
-        group.new.held }
-    ensures sees { ClaimsOrFindsTaken actor.old.known actor.new.known reference }
+    ensures gathers { GathersIos W.told W.relations 1 actor.old.known actor.new.known
+        group.old.claimed_ios
+        group.new.claimed_ios }
+    ensures claim_tried { ClaimsOrFindsUnclaimable actor.old.known actor.new.known reference }
 {
     actor.has_seen_its_marks();
     if let Some(claimed) = table.claim(actor, reference) {
@@ -57,17 +58,18 @@ pub(crate) fn gather<W: World, G: Ring, T: Wait>(
     requires table { IsActorOf table.now actor.old }
     requires told { (G.told group.old.ring ≡ W.told)
         × (G.relations group.old.ring ≡ W.relations) }
-    requires one { length group.old.held ≡ 1 }
-    requires numbers { AreBelow 1 group.old.held }
-    requires held { AreClaimedIos W.told W.relations actor.old.known group.old.held }
+    requires one_claimed { length group.old.claimed_ios ≡ 1 }
+    requires numbers { NumbersBelow 1 group.old.claimed_ios }
+    requires all_claimed { AllClaimedIos W.told W.relations actor.old.known group.old.claimed_ios }
     ensures seat { IsSameSeat seat.old seat.new }
     ensures same { IsSameActor actor.old actor.new }
     ensures told { (G.told group.new.ring ≡ G.told group.old.ring)
         × (G.relations group.new.ring ≡ G.relations group.old.ring) }
     ensures counts { (G.reads group.new.ring ≡ G.reads group.old.ring)
         × (G.faults group.new.ring ≡ G.faults group.old.ring) }
-    ensures gathers { GathersIos W.told W.relations 7 actor.old.known actor.new.known group.old.held
-        group.new.held }
+    ensures gathers { GathersIos W.told W.relations 7 actor.old.known actor.new.known
+        group.old.claimed_ios
+        group.new.claimed_ios }
     ensures pops { PopsReferences 7 seat.old seat.new actor.old.known actor.new.known }
 {
     for popped in 0..7u32 {

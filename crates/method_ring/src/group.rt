@@ -1,6 +1,6 @@
 //! A ring, and the claimed I/Os whose reads are in it.
 ghost use Rattle.std.specs.Prelude.{◌≡◌, ◌<◌, ◌++◌, ◌∷◌, [], length, IfSome, IfNone};
-ghost use Rattle.method_ring.specs.ClaimedIos.{IsUnread, AreBelow};
+ghost use Rattle.method_ring.specs.ClaimedIos.{IsReadableRecord, NumbersBelow};
 ghost use Rattle.method_ring.specs.Group.{PickedFrom, raw_answer};
 
 use crate::ring::Ring;
@@ -30,25 +30,25 @@ pub(crate) struct Group<G: Ring, W: World> {
 }
 
 impl<G: Ring, W: World> Model for Group<G, W> {
-    ghost use Rattle.method_ring.specs.Group.{GroupView, HoldsPending};
+    ghost use Rattle.method_ring.specs.Group.{GroupView, PendingReadsClaimed};
 
     ghost Value = { GroupView G };
 
-    ghost view = { λ g. record { ring = g.ring; held = g.room } };
+    ghost view = { λ g. record { ring = g.ring; claimed_ios = g.room } };
 
-    ghost invariant = { λ g. HoldsPending (G.pending g.ring) (G.relations g.ring) g.room };
+    ghost invariant = { λ g. PendingReadsClaimed (G.pending g.ring) (G.relations g.ring) g.room };
 }
 
 impl<G: Ring, W: World> Group<G, W> {
     pub(crate) fn new(ring: G, room: RingRoom<W>) -> Group<G, W>
         requires { (G.pending ring ≡ []) × (room ≡ []) }
-        ensures { result ≡ record { ring = ring; held = [] } }
+        ensures { result ≡ record { ring = ring; claimed_ios = [] } }
     {
         Group { ring, room }
     }
 
     pub(crate) fn into_parts(self) -> (G, RingRoom<W>)
-        requires { self.held ≡ [] }
+        requires { self.claimed_ios ≡ [] }
         ensures parts { (result.0 ≡ self.ring) × (result.1 ≡ []) }
         ensures pending { G.pending result.0 ≡ [] }
     {
@@ -57,10 +57,11 @@ impl<G: Ring, W: World> Group<G, W> {
 
     /// Submits the read of a claimed I/O, under a number that no other has.
     pub(crate) fn enter(&mut self, claimed: Claimed<ReadIo, W>)
-        requires room { length self.old.held < 8 }
-        requires numbers { AreBelow (length self.old.held) self.old.held }
-        requires unread { IsUnread (G.relations self.old.ring) claimed.1 }
-        ensures held { self.new.held ≡ self.old.held ++ (length self.old.held, claimed) ∷ [] }
+        requires room { length self.old.claimed_ios < 8 }
+        requires numbers { NumbersBelow (length self.old.claimed_ios) self.old.claimed_ios }
+        requires unread { IsReadableRecord (G.relations self.old.ring) claimed.1 }
+        ensures claimed_appended { self.new.claimed_ios ≡ self.old.claimed_ios
+            ++ (length self.old.claimed_ios, claimed) ∷ [] }
         ensures told { (G.told self.new.ring ≡ G.told self.old.ring)
             × (G.relations self.new.ring ≡ G.relations self.old.ring) }
         ensures counts { (G.reads self.new.ring ≡ G.reads self.old.ring)
@@ -78,10 +79,11 @@ impl<G: Ring, W: World> Group<G, W> {
     /// None exactly where nothing is pending.
     pub(crate) fn next(&mut self) -> Option<(Claimed<ReadIo, W>, Raw)>
         requires told { G.told self.old.ring ≡ W.told }
-        ensures some { IfSome result (λ r. PickedFrom W.told self.old.held self.new.held r.0 r.1
+        ensures some { IfSome result (λ r. PickedFrom W.told self.old.claimed_ios
+            self.new.claimed_ios r.0 r.1
             (G.reads self.old.ring) (G.reads self.new.ring) (G.faults self.old.ring)
             (G.faults self.new.ring)) }
-        ensures none { IfNone result ((self.old.held ≡ []) × (self.new.held ≡ [])
+        ensures none { IfNone result ((self.old.claimed_ios ≡ []) × (self.new.claimed_ios ≡ [])
             × (G.reads self.new.ring ≡ G.reads self.old.ring)
             × (G.faults self.new.ring ≡ G.faults self.old.ring)) }
         ensures pending { IfNone result (G.pending self.new.ring ≡ []) }

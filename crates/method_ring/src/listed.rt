@@ -1,6 +1,6 @@
 //! Elements that are looked up by a number.
 ghost use Rattle.std.specs.Prelude.{◌≡◌, ℕ, vec_capacity};
-ghost use Rattle.method_ring.specs.Numbered.{first_by, without};
+ghost use Rattle.method_ring.specs.Numbered.{first_with_number, without_number};
 
 /// Something with a number.
 pub(crate) trait Numbered {
@@ -12,8 +12,8 @@ pub(crate) trait Numbered {
 
 /// Takes the first element with the number out. The others stay in their order.
 pub(crate) fn take_out<T: Numbered>(items: &mut Vec<T>, user: u32) -> Option<T>
-    ensures taken { result ≡ first_by T.number user items.old.items }
-    ensures others { items.new.items ≡ without T.number user items.old.items }
+    ensures result_is { result ≡ first_with_number T.number user items.old.items }
+    ensures others { items.new.items ≡ without_number T.number user items.old.items }
     ensures room { vec_capacity items.new ≡ vec_capacity items.old }
 {
     for index in 0..items.len() {

@@ -2,7 +2,7 @@
 ghost use Rattle.std.specs.Prelude.{◌≡◌, ◌≢◌, ◌≤◌, ◌<◌, ◌++◌, ◌∷◌, [], ℕ, length, List, Option};
 ghost use Rattle.std.specs.Prelude.{Some, None, IfSome, IfNone};
 ghost use Rattle.page_check.specs.Told.{Told};
-ghost use Rattle.aio_disk.specs.Counts.{HasCause, raised_by};
+ghost use Rattle.aio_disk.specs.Counts.{HasCause, count_plus};
 ghost use Rattle.aio_disk.specs.Disk.{AnswersPages};
 ghost use Rattle.method_ring.specs.declared.ring.Entry.{Entry};
 ghost use Rattle.method_ring.specs.Pending.{entry, pending_entry, without_entry, IsFilledBy};
@@ -80,5 +80,5 @@ pub trait Ring: Drop {
         ensures pending { pending self.new ≡ without_entry user (pending self.old) }
         ensures picked { picked self.new ≡ None }
         ensures told { (told self.new ≡ told self.old) × (relations self.new ≡ relations self.old) }
-        ensures reads { reads self.new ≡ raised_by 1 (reads self.old) };
+        ensures reads { reads self.new ≡ count_plus 1 (reads self.old) };
 }

@@ -1,6 +1,7 @@
 //! Room for the I/Os of a group.
 ghost use Rattle.std.specs.Prelude.{◌≡◌, ◌<◌, ◌++◌, ◌∷◌, [], length, IfOk};
-ghost use Rattle.method_ring.specs.ClaimedIos.{claimed_number, claimed_with, without_claimed};
+ghost use Rattle.method_ring.specs.ClaimedIos.{claimed_number, claimed_with_number};
+ghost use Rattle.method_ring.specs.ClaimedIos.{without_claimed};
 
 use crate::listed::{Numbered, take_out};
 use aio_callback::ReadIo;
@@ -81,7 +82,7 @@ impl<W: World> RingRoom<W> {
 
     /// Takes the I/O with this number out.
     pub(crate) fn take(&mut self, user: u32) -> Option<ClaimedEntry<W>>
-        ensures taken { result ≡ claimed_with user self.old }
+        ensures result_is { result ≡ claimed_with_number user self.old }
         ensures others { self.new ≡ without_claimed user self.old }
     {
         take_out(&mut self.held, user)

@@ -50,7 +50,7 @@ impl<'q, G: Ring, P, W: World> Model for RingRunner<'q, G, P, W> {
       seat = r.seat;
     } };
 
-    ghost invariant = { λ r. (r.group.held ≡ []) × IsSeatOf r.queue.now r.seat };
+    ghost invariant = { λ r. (r.group.claimed_ios ≡ []) × IsSeatOf r.queue.now r.seat };
 }
 
 impl<'q, G: Ring, P: Drop, W: World> RingRunner<'q, G, P, W> {

@@ -1,7 +1,7 @@
 //! A ring over a disk, which completes its reads in an order that is handed in.
 ghost use Rattle.std.specs.Prelude.{◌≡◌, ◌≢◌, ◌≤◌, ◌<◌, ◌+◌, ◌++◌, ◌∷◌, [], length};
 ghost use Rattle.std.specs.Prelude.{Some, None, IfOk, IfErr, IfSome, IfNone};
-ghost use Rattle.aio_disk.specs.Counts.{HasCause, raised_by};
+ghost use Rattle.aio_disk.specs.Counts.{HasCause, count_plus};
 ghost use Rattle.aio_disk.specs.Disk.{AnswersPages};
 ghost use Rattle.method_ring.specs.Pending.{entry, entry_user, pending_entry, without_entry};
 ghost use Rattle.method_ring.specs.Pending.{IsFilledBy};
@@ -96,7 +96,7 @@ pub struct SimRing<D: Disk> {
 
 impl<D: Disk> Model for SimRing<D> {
     ghost use Rattle.std.specs.Prelude.{◌≡◌, ◌≤◌, ◌<◌, [], length, vec_capacity};
-    ghost use Rattle.method_ring.specs.SimRing.{SimRingView, AreReads};
+    ghost use Rattle.method_ring.specs.SimRing.{SimRingView, AllEntriesValid};
 
     ghost Value = { SimRingView D };
 
@@ -108,7 +108,7 @@ impl<D: Disk> Model for SimRing<D> {
       picked = s.picked;
     } };
 
-    ghost invariant = { λ s. AreReads (D.relations s.disk) s.entries.items
+    ghost invariant = { λ s. AllEntriesValid (D.relations s.disk) s.entries.items
         × (8 ≤ vec_capacity s.entries)
         × (0 < length s.order.items → s.turn < length s.order.items) };
 }
@@ -241,7 +241,7 @@ impl<D: Disk> Ring for SimRing<D> {
         ensures picked { self.new.picked ≡ None }
         ensures told { (D.told self.new.disk ≡ D.told self.old.disk)
             × (D.relations self.new.disk ≡ D.relations self.old.disk) }
-        ensures reads { D.reads self.new.disk ≡ raised_by 1 (D.reads self.old.disk) }
+        ensures reads { D.reads self.new.disk ≡ count_plus 1 (D.reads self.old.disk) }
     {
         let Some(entry) = take_out(&mut self.entries, user) else {
             unreachable!()

@@ -2,7 +2,7 @@
 use Rattle.std.proofs.Common.{◌≡◌, ℕ, ◌≤◌, List, [], ◌∷◌, Option, refl, sym, ◌∙◌}
 use Rattle.std.proofs.Common.{subst, arith}
 use Rattle.page_check.specs.Told.{Told}
-use Rattle.aio_disk.specs.Counts.{raised_by, CountRose}
+use Rattle.aio_disk.specs.Counts.{count_plus, CountRose}
 use Rattle.aio_word.specs.declared.Class.{Class}
 use Rattle.aio_word.specs.declared.Class.TheVariants.{Unended, Whole, Short, Failed}
 use Rattle.aio_word.specs.declared.WaitRef.{WaitRef}
@@ -20,7 +20,7 @@ use Rattle.aio_word.specs.declared.Step.TheVariants as event
 
 -- one read, which failed only where the count of faults rose
 pays-one : (class : Class) (t : WaitRef) (reads reads' faults faults' : ℕ)
-    → reads' ≡ raised_by 1 reads → faults ≤ faults' → (class ≡ Failed → CountRose faults faults')
+    → reads' ≡ count_plus 1 reads → faults ≤ faults' → (class ≡ Failed → CountRose faults faults')
     → CountersFollowMarks reads reads' faults faults'
     (make_mark t (kind.Io class) ∷ make_mark t kind.Shared ∷ [])
 pays-one Unended t reads reads' faults faults' one later failed =
@@ -34,12 +34,12 @@ pays-one Failed t reads reads' faults faults' one later failed =
 
 takes-one : (class : Class) (t : WaitRef) (p q : Known) (reads reads' faults faults' : ℕ)
     → AppendsMarks p q (make_mark t (kind.Io class) ∷ make_mark t kind.Shared ∷ [])
-    → reads' ≡ raised_by 1 reads → faults ≤ faults' → (class ≡ Failed → CountRose faults faults')
+    → reads' ≡ count_plus 1 reads → faults ≤ faults' → (class ≡ Failed → CountRose faults faults')
     → ExecutesAll (make_mark t kind.Claimed ∷ []) p q reads reads' faults faults'
 takes-one class t p q reads reads' faults faults' grows one later failed = record {
   more = make_mark t (kind.Io class) ∷ make_mark t kind.Shared ∷ [];
   grows = grows;
-  took = claims-completed-one class t.handle t.generation;
+  claims_completed = claims-completed-one class t.handle t.generation;
   counters_follow = pays-one class t reads reads' faults faults' one later failed;
 }
 
@@ -55,23 +55,24 @@ pub executed-as : (told : Option Told) (t : WaitRef) (aim : List ℕ) (p m q : K
     → IsExecutedAs told t aim p q before after faults faults'
 executed-as told t aim p m q class r before after faults faults' io shared same aimed named done
     handed failed = record {
-      reading = r;
-      aimed = aimed;
-      named = named;
-      completed = done;
-      grows = appends-then p m q (make_mark t (kind.Io r.label.ended) ∷ [])
+      read_io = r;
+      aim_is = aimed;
+      reference_is = named;
+      completed_read = done;
+      marks_grow = appends-then p m q (make_mark t (kind.Io r.label.ended) ∷ [])
           (make_mark t kind.Shared ∷ [])
           (subst (λ (z : Class). AppendsMarks p m (make_mark t (kind.Io z) ∷ [])) (sym same)
           (io-grows class t.handle t.generation p m io))
           (share-grows r.label.ended t.handle t.generation m q shared);
-      handed = handed;
-      failed = λ e. failed (sym same ∙ e);
+      finishes_grow = handed;
+      failure_counted = λ e. failed (sym same ∙ e);
     }
 
 -- and what it took up
 pub takes-executed : (told : Option Told) (t : WaitRef) (aim : List ℕ) (p q : Known)
     (before after : Option (List Finish)) (reads reads' faults faults' : ℕ)
-    → IsExecutedAs told t aim p q before after faults faults' → reads' ≡ raised_by 1 reads
+    → IsExecutedAs told t aim p q before after faults faults' → reads' ≡ count_plus 1 reads
     → faults ≤ faults' → ExecutesAll (make_mark t kind.Claimed ∷ []) p q reads reads' faults faults'
 takes-executed told t aim p q before after reads reads' faults faults' x one later =
-    takes-one x.reading.label.ended t p q reads reads' faults faults' x.grows one later x.failed
+    takes-one x.read_io.label.ended t p q reads reads' faults faults' x.marks_grow one later
+    x.failure_counted

@@ -15,11 +15,11 @@ use Rattle.aio_callback.specs.Finishes.{Finish, FinishesGrew, all_finishes, reco
 -- it failed only where the disk's count of faults rose
 pub record IsExecutedAs (told : Option Told) (t : WaitRef) (aim : List ℕ) (p q : Known)
     (before after : Option (List Finish)) (faults faults' : ℕ) : Type 0 where
-  pub reading : ReadIoView
-  pub aimed : record_aim reading ≡ aim
-  pub named : record_reference reading ≡ t
-  pub completed : IsCompletedRead told reading
-  pub grows : AppendsMarks p q
-      (make_mark t (kind.Io reading.label.ended) ∷ make_mark t kind.Shared ∷ [])
-  pub handed : FinishesGrew before after (all_finishes reading)
-  pub failed : reading.label.ended ≡ Failed → CountRose faults faults'
+  pub read_io : ReadIoView
+  pub aim_is : record_aim read_io ≡ aim
+  pub reference_is : record_reference read_io ≡ t
+  pub completed_read : IsCompletedRead told read_io
+  pub marks_grow : AppendsMarks p q
+      (make_mark t (kind.Io read_io.label.ended) ∷ make_mark t kind.Shared ∷ [])
+  pub finishes_grow : FinishesGrew before after (all_finishes read_io)
+  pub failure_counted : read_io.label.ended ≡ Failed → CountRose faults faults'

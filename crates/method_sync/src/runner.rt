@@ -1,6 +1,6 @@
 //! Who executes an I/O by one read of a disk.
 ghost use Rattle.std.specs.Prelude.{◌≡◌, ◌≢◌, ◌∷◌, [], None, IfSome};
-ghost use Rattle.aio_disk.specs.Counts.{raised_by};
+ghost use Rattle.aio_disk.specs.Counts.{count_plus};
 ghost use Rattle.aio_word.specs.declared.Kind.TheVariants as kind;
 ghost use Rattle.aio_word.specs.Stands.{IsIn};
 ghost use Rattle.aio_word.specs.Tokens.{IsClaimed, make_mark};
@@ -55,7 +55,7 @@ impl<W: World, D: Disk, P: Places<W>> Execute<ReadIo, W> for Runner<D, P> {
         ensures same { IsSameActor actor.old actor.new }
         ensures told { (D.told self.new.disk ≡ D.told self.old.disk)
             × (D.relations self.new.disk ≡ D.relations self.old.disk) }
-        ensures reads { D.reads self.new.disk ≡ raised_by 1 (D.reads self.old.disk) }
+        ensures reads { D.reads self.new.disk ≡ count_plus 1 (D.reads self.old.disk) }
         ensures marks { IfSome claimed.old
             (λ t. ExecutesAll (make_mark t.0 kind.Claimed ∷ []) actor.old.known actor.new.known
             (D.reads self.old.disk) (D.reads self.new.disk) (D.faults self.old.disk)

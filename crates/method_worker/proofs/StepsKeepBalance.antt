@@ -12,7 +12,8 @@ use Rattle.aio_word.specs.declared.WaitRef.{WaitRef}
 use Rattle.method_worker.specs.declared.log.Log.{Log}
 use Rattle.method_worker.specs.QueueViews.{SeatView}
 use Rattle.method_worker.specs.SeatCalls.{RuleAllows, WasFull, WasEmpty}
-use Rattle.method_worker.specs.QueueRule.{queue_log, IsBalanced, LogAllows, IsIdle, all_parts}
+use Rattle.method_worker.specs.QueueRule.{queue_log, IsBalanced, LogAllows, HasNoPushesOrPops}
+use Rattle.method_worker.specs.QueueRule.{all_parts}
 
 -- a sum after a change of one
 total_set : {X : Type 0} (f : X → ℕ) (xs : List X) (port : ℕ) (v w : X) → get_elem? xs port ≡ some v
@@ -63,11 +64,13 @@ all_mine parts f (x ∷ xs) (suc port) v at e idle =
     (λ port v at. idle (suc port) v at) in
     omega (arith, sum_by-cons f x xs, here, rest)
 
-idle_set : (views : List Log) (port : ℕ) (w : Log) → (w.parts ≡ 0 → IsIdle w)
-    → ((p : ℕ) (v : Log) → get_elem? views p ≡ some v → v.parts ≡ 0 → IsIdle v)
-    → (p : ℕ) (v : Log) → get_elem? (set views port w) p ≡ some v → v.parts ≡ 0 → IsIdle v
+idle_set : (views : List Log) (port : ℕ) (w : Log) → (w.parts ≡ 0 → HasNoPushesOrPops w)
+    → ((p : ℕ) (v : Log) → get_elem? views p ≡ some v → v.parts ≡ 0 → HasNoPushesOrPops v)
+    → (p : ℕ) (v : Log) → get_elem? (set views port w) p ≡ some v → v.parts ≡ 0
+    → HasNoPushesOrPops v
 idle_set views port w mine others p v at none =
-    ⊎_elim (λ (x : (p ≡ port) × (w ≡ v)). subst IsIdle x.1 (mine (ap (λ (y : Log). y.parts) x.1
+    ⊎_elim (λ (x : (p ≡ port) × (w ≡ v)). subst HasNoPushesOrPops x.1
+    (mine (ap (λ (y : Log). y.parts) x.1
     ∙ none)))
     (λ (x : (p ≢ port) × (get_elem? views p ≡ some v)). others p v x.1 none)
     (at_set views port p w v at)
@@ -200,7 +203,8 @@ was-full handles n v s same is held =
     subst (λ (u : Log). Held 64 (LogAllows handles u)) (sym same)
     (subst (λ (m : ℕ). Held m (LogAllows handles v)) is held) in record {
       moment = here;
-      alone = λ all. counts handles 64 (queue_log s.parts s.pushes s.pops) here.0 all here.1 here.2;
+      if_only_seat = λ all. counts handles 64 (queue_log s.parts s.pushes s.pops) here.0 all here.1
+          here.2;
     }
 
 pub was-empty : (handles : ℕ) (v : Log) (s : SeatView) → queue_log s.parts s.pushes s.pops ≡ v
@@ -209,7 +213,7 @@ was-empty handles v s same held =
     let here : Held 0 (RuleAllows handles s) =
     subst (λ (u : Log). Held 0 (LogAllows handles u)) (sym same) held in record {
       moment = here;
-      alone = λ all. omega (
+      if_only_seat = λ all. omega (
         arith,
         counts handles 0 (queue_log s.parts s.pushes s.pops) here.0 all here.1
             here.2,

@@ -9,7 +9,8 @@ use lib.ListN.{get_elem?}
 use Rattle.atomic_table.specs.Table.{Me, keeps, Allows, Splits}
 use Rattle.atomic_table.proofs.Lists.{set_else}
 use Rattle.method_worker.specs.declared.log.Notes.{Notes}
-use Rattle.method_worker.specs.ClosingWord.{word_notes, ListHas, IsClosedIn, IsClosedUnder}
+use Rattle.method_worker.specs.ClosingWord.{word_notes, ListHas, SomeSeatClosed}
+use Rattle.method_worker.specs.ClosingWord.{ClosingWordHasCloser}
 use Rattle.method_worker.specs.ClosingWord.{ClosingWordIsLawful}
 
 here : {A : Type 0} (l : List A) (i : ℕ) (v w : A) → get_elem? l i ≡ some v
@@ -20,7 +21,8 @@ here (x ∷ xs) (suc i) v w at = here xs i v w at
 
 -- a seat whose list of closes only grows leaves what was closed
 stays : (views : List Notes) (id : ℕ) (v w : Notes) (q : ℕ) → get_elem? views id ≡ some v
-    → (ListHas v.closes q → ListHas w.closes q) → IsClosedIn views q → IsClosedIn (set views id w) q
+    → (ListHas v.closes q → ListHas w.closes q) → SomeSeatClosed views q
+    → SomeSeatClosed (set views id w) q
 stays views id v w q at grows c =
     ⊎_elim
     (λ t. let same : c.1 ≡ v = some-injective _ _ (sym c.2 ∙ (ap (λ j. get_elem? views j) t.1 ∙ at))
@@ -50,12 +52,12 @@ word_other [] x = refl
 word_other (w ∷ ws) x = refl
 
 abbrev Odd : ℕ → List Notes → Type 0
-Odd n views = n % 2 ≡ 1 → IsClosedIn views (n / 2)
+Odd n views = n % 2 ≡ 1 → SomeSeatClosed views (n / 2)
 
 pub loads : {S : Type 0} (slots id : ℕ) (me : Me S Notes)
     → Allows ClosingWordIsLawful slots id me 0 (λ n. n)
     (λ n w. (w ≡ (word_notes me.0.closes (me.0.loads ++ n ∷ []), me.1))
-    × (n % 2 ≡ 1 → IsClosedUnder w.0 n))
+    × (n % 2 ≡ 1 → ClosingWordHasCloser w.0 n))
 loads slots id me s kept homes at small =
     let n = slice_index s.words 0 in
     let w : Notes = word_notes me.0.closes (me.0.loads ++ n ∷ []) in

@@ -3,7 +3,8 @@ use Rattle.std.proofs.Common.{◌≡◌, ℕ, Bool, true, false, [], ◌∷◌, 
 use Rattle.aio_word.specs.declared.Known.{Known}
 use Rattle.aio_word.specs.declared.WaitRef.{WaitRef}
 use Rattle.aio_handle.specs.ClaimAttempt.{ClaimWon, ClaimLost}
-use Rattle.method_worker.specs.WorkerSteps.{WorkerState, ExecutesIfClaimed, WorkerStep, IsWorking}
+use Rattle.method_worker.specs.WorkerSteps.{WorkerState, ExecutesIfClaimed, WorkerStep}
+use Rattle.method_worker.specs.WorkerSteps.{WorkerAdvanced}
 use Rattle.method_worker.specs.WorkerSteps.{WorksUntilClosed}
 
 -- whether the claim was won or lost, the actor tried the I/O
@@ -16,8 +17,8 @@ tries-of false t p q reads reads' faults faults' w l = inr (l refl)
 
 -- one turn more, after which there may be another
 pub turns-then : (handles number : ℕ) (m k m' : WorkerState) (b : Bool)
-    → IsWorking handles number m k
-    → WorkerStep handles number k m' b → b ≡ true → IsWorking handles number m m'
+    → WorkerAdvanced handles number m k
+    → WorkerStep handles number k m' b → b ≡ true → WorkerAdvanced handles number m m'
 turns-then handles number m k m' b before turned is =
     let more : WorkerStep handles number k m' true = subst (WorkerStep handles number k m') is
     turned in
@@ -31,10 +32,10 @@ turns-then handles number m k m' b before turned is =
 
 -- the last turn
 pub turns-last : (handles number : ℕ) (m k m' : WorkerState) (b : Bool)
-    → IsWorking handles number m k
+    → WorkerAdvanced handles number m k
     → WorkerStep handles number k m' b → b ≡ false → WorksUntilClosed handles number m m'
 turns-last handles number m k m' b before turned is = record {
-  last = k;
-  before = before;
-  ended = subst (WorkerStep handles number k m') is turned;
+  last_state = k;
+  steps_before = before;
+  found_closed = subst (WorkerStep handles number k m') is turned;
 }

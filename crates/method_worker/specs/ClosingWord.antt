@@ -13,17 +13,17 @@ abbrev pub ListHas : List ℕ → ℕ → Type 0
 ListHas xs n = (before : List ℕ) × (after : List ℕ) × (xs ≡ before ++ n ∷ after)
 
 -- some seat has closed the queue under that number of reopenings
-abbrev pub IsClosedIn : List Notes → ℕ → Type 0
-IsClosedIn views number = (port : ℕ) × (v : Notes) × (get_elem? views port ≡ some v)
+abbrev pub SomeSeatClosed : List Notes → ℕ → Type 0
+SomeSeatClosed views number = (port : ℕ) × (v : Notes) × (get_elem? views port ≡ some v)
     × ListHas v.closes number
 
 -- the closing word is odd only where some seat has closed the queue under its number
 abbrev pub ClosingWordIsLawful : {S : Type 0} → State S Notes → Type 0
 ClosingWordIsLawful s = slice_index s.words 0 % 2 ≡ 1
-    → IsClosedIn s.views (slice_index s.words 0 / 2)
+    → SomeSeatClosed s.views (slice_index s.words 0 / 2)
 
 -- beside this seat's notes there are such of the other seats that one seat has closed the queue
 -- under the number of this closing word
-abbrev pub IsClosedUnder : Notes → ℕ → Type 0
-IsClosedUnder v word = (views : List Notes) × (port : ℕ) × (get_elem? views port ≡ some v)
-    × IsClosedIn views (word / 2)
+abbrev pub ClosingWordHasCloser : Notes → ℕ → Type 0
+ClosingWordHasCloser v word = (views : List Notes) × (port : ℕ) × (get_elem? views port ≡ some v)
+    × SomeSeatClosed views (word / 2)

@@ -14,8 +14,8 @@ abbrev pub all_parts : ℕ
 all_parts = 48
 
 -- it has pushed and popped nothing
-abbrev pub IsIdle : Log → Type 0
-IsIdle v = (v.pushes ≡ []) × (v.pops ≡ [])
+abbrev pub HasNoPushesOrPops : Log → Type 0
+HasNoPushesOrPops v = (v.pushes ≡ []) × (v.pops ≡ [])
 
 -- However the references are weighed, what was pushed over all seats weighs what was popped over
 -- all seats and what stands in the queue. So each reference was pushed as often as it was popped
@@ -27,7 +27,8 @@ pub record IsBalanced (handles : ℕ) (items : List WaitRef) (views : List Log) 
   pub range : All (λ r. r.handle < handles) items
   -- the parts are all there, and who has none has pushed and popped nothing
   pub parts : sum_by (λ v. v.parts) views ≡ all_parts
-  pub idle : (port : ℕ) (v : Log) → get_elem? views port ≡ some v → v.parts ≡ 0 → IsIdle v
+  pub idle : (port : ℕ) (v : Log) → get_elem? views port ≡ some v → v.parts ≡ 0
+      → HasNoPushesOrPops v
 
 -- the rule allows these entries beside this seat's lists, with some lists of the other seats
 abbrev pub LogAllows : ℕ → Log → List WaitRef → Type 0

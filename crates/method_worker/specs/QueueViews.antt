@@ -39,13 +39,13 @@ abbrev pub IsSeatOf : QueueView → SeatView → Type 0
 IsSeatOf q s = (s.entries ≡ q.entries) × (s.words ≡ q.words)
 
 -- the only seat of its queue
-abbrev pub IsAlone : SeatView → Type 0
-IsAlone s = s.parts ≡ all_parts
+abbrev pub IsOnlySeat : SeatView → Type 0
+IsOnlySeat s = s.parts ≡ all_parts
 
 -- a seat of a queue that was opened for one seat or for several, and it has done nothing
-pub record IsNew (q : QueueView) (seats : ℕ) (s : SeatView) : Type 0 where
-  pub of : IsSeatOf q s
-  pub alone : seats ≡ 1 → IsAlone s
+pub record IsNewSeat (q : QueueView) (seats : ℕ) (s : SeatView) : Type 0 where
+  pub seat_of_queue : IsSeatOf q s
+  pub is_only_seat : seats ≡ 1 → IsOnlySeat s
   pub pushes : s.pushes ≡ []
   pub pops : s.pops ≡ []
   pub loads : s.loads ≡ []

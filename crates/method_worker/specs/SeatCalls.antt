@@ -3,8 +3,8 @@ use Rattle.std.specs.Prelude.{ℕ, List, [], ◌∷◌, ◌++◌, ◌≡◌, ◌
 use Rattle.crossbeam_queue.specs.Fifo.{Held}
 use Rattle.aio_word.specs.declared.WaitRef.{WaitRef}
 use Rattle.method_worker.specs.QueueRule.{queue_log, LogAllows}
-use Rattle.method_worker.specs.ClosingWord.{word_notes, IsClosedUnder}
-use Rattle.method_worker.specs.QueueViews.{SeatView, IsAlone}
+use Rattle.method_worker.specs.ClosingWord.{word_notes, ClosingWordHasCloser}
+use Rattle.method_worker.specs.QueueViews.{SeatView, IsOnlySeat}
 use Rattle.method_worker.specs.declared.queue.Pop.{Pop}
 use Rattle.method_worker.specs.declared.queue.Pop.TheVariants as pop
 
@@ -15,12 +15,12 @@ RuleAllows handles s items = LogAllows handles (queue_log s.parts s.pushes s.pop
 -- at a moment of the call 64 entries stood in the queue
 pub record WasFull (handles : ℕ) (s : SeatView) : Type 0 where
   pub moment : Held 64 (RuleAllows handles s)
-  pub alone : IsAlone s → length s.pushes ≡ length s.pops + 64
+  pub if_only_seat : IsOnlySeat s → length s.pushes ≡ length s.pops + 64
 
 -- at a moment of the call no entry stood in the queue
 pub record WasEmpty (handles : ℕ) (s : SeatView) : Type 0 where
   pub moment : Held 0 (RuleAllows handles s)
-  pub alone : IsAlone s → length s.pops ≡ length s.pushes
+  pub if_only_seat : IsOnlySeat s → length s.pops ≡ length s.pushes
 
 -- the seat pushed the reference
 pub record SeatPushes (t : WaitRef) (s s' : SeatView) : Type 0 where
@@ -46,9 +46,9 @@ pub record SeatCloses (number : ℕ) (s s' : SeatView) : Type 0 where
 -- the seat's last load read the closing word of a queue that is closed under this number of
 -- reopenings, some seat has closed it so, and at a later moment of the call no entry stood there
 pub record FoundClosed (handles number word : ℕ) (s : SeatView) : Type 0 where
-  pub under : word ≡ number * 2 + 1
-  pub closed : IsClosedUnder (word_notes s.closes s.loads) word
-  pub empty : WasEmpty handles s
+  pub word_is : word ≡ number * 2 + 1
+  pub has_closer : ClosingWordHasCloser (word_notes s.closes s.loads) word
+  pub was_empty : WasEmpty handles s
 
 -- what a pop tells that has read this closing word before
 abbrev pub PopAnswers : ℕ → ℕ → ℕ → SeatView → SeatView → Pop → Type 0

@@ -44,12 +44,12 @@ StepSequence handles number (k ∷ before) m m' = StepSequence handles number be
     × WorkerStep handles number k m' true
 
 -- from one moment to another the worker made such turns, or none
-abbrev pub IsWorking : ℕ → ℕ → WorkerState → WorkerState → Type 0
-IsWorking handles number m m' = (m' ≡ m)
+abbrev pub WorkerAdvanced : ℕ → ℕ → WorkerState → WorkerState → Type 0
+WorkerAdvanced handles number m m' = (m' ≡ m)
     ⊎ ((turns : List WorkerState) × StepSequence handles number turns m m')
 
 -- the worker made turns, and in the last one found the queue empty and closed
 pub record WorksUntilClosed (handles : ℕ) (number : ℕ) (m m' : WorkerState) : Type 0 where
-  pub last : WorkerState
-  pub before : IsWorking handles number m last
-  pub ended : WorkerStep handles number last m' false
+  pub last_state : WorkerState
+  pub steps_before : WorkerAdvanced handles number m last_state
+  pub found_closed : WorkerStep handles number last_state m' false

@@ -3,7 +3,7 @@ ghost use Rattle.std.specs.Prelude.{◌≡◌, ◌≤◌, ◌<◌, ◌+◌, ◌-
 ghost use Rattle.std.specs.Prelude.{length, IfOk, IfErr, OnOk};
 ghost use Rattle.aio_word.specs.declared.WaitRef.{WaitRef};
 ghost use Rattle.std.specs.List.{All};
-ghost use Rattle.method_worker.specs.QueueViews.{IsNew, IsSeatOf, IsSameSeat};
+ghost use Rattle.method_worker.specs.QueueViews.{IsNewSeat, IsSeatOf, IsSameSeat};
 ghost use Rattle.method_worker.specs.SeatCalls.{RuleAllows, WasFull, SeatPushes, PopAnswers};
 ghost use Rattle.method_worker.specs.SeatCalls.{SeatCloses};
 
@@ -99,7 +99,7 @@ impl<W: World> SubmitQueue<W> {
         requires seats { (1 ≤ seats) × (seats ≤ 48) }
         ensures queue { IfOk result (λ q. q.0.reopened ≡ 0) }
         ensures count { IfOk result (λ q. length q.1.items ≡ seats) }
-        ensures seats { IfOk result (λ q. All (IsNew q.0 seats) q.1.items) }
+        ensures seats { IfOk result (λ q. All (IsNewSeat q.0 seats) q.1.items) }
     {
         let mut all = Vec::with_capacity(alloc, seats as usize)?;
         let (entries, pass) = RuledQueue::ruled(alloc, ROOM)?;
@@ -127,7 +127,7 @@ impl<W: World> SubmitQueue<W> {
         ensures parts { first.new.parts + 1 ≡ first.old.parts }
         ensures same { (first.new.pushes ≡ first.old.pushes) × (first.new.pops ≡ first.old.pops)
             × (first.new.loads ≡ first.old.loads) × (first.new.closes ≡ first.old.closes) }
-        ensures new { IsNew self.now 2 result }
+        ensures new { IsNewSeat self.now 2 result }
     {
         QueueSeat {
             pass: self.entries.another::<SeatSplit>(&mut first.pass),
@@ -149,7 +149,7 @@ impl<W: World> SubmitQueue<W> {
         requires queue { IsSeatOf self.now seat.old }
         requires range { reference.handle < W.handles }
         ensures same { IsSameSeat seat.old seat.new }
-        ensures pushed { OnOk result (SeatPushes reference seat.old seat.new) }
+        ensures seat_pushes { OnOk result (SeatPushes reference seat.old seat.new) }
         ensures moment { OnOk result ((items : List WaitRef)
             × RuleAllows W.handles seat.new (items ++ reference ∷ [])) }
         ensures full { IfErr result
@@ -175,7 +175,7 @@ impl<W: World> SubmitQueue<W> {
     pub fn pop<T: Wait>(&self, rt: &T, seat: &mut QueueSeat) -> Pop
         requires queue { IsSeatOf self.now seat.old }
         ensures same { IsSameSeat seat.old seat.new }
-        ensures popped { (word : ℕ)
+        ensures pop_answers { (word : ℕ)
             × PopAnswers W.handles self.now.reopened word seat.old seat.new result }
     {
         let word = load_closing(&self.words, &mut seat.word_seat);

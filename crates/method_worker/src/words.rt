@@ -1,6 +1,6 @@
 //! The closing word and the bell.
 ghost use Rattle.std.specs.Prelude.{◌≡◌, ◌<◌, ◌^◌, ◌/◌, ◌%◌, ◌++◌, ◌∷◌, [], IfOk};
-ghost use Rattle.method_worker.specs.ClosingWord.{word_notes, IsClosedUnder};
+ghost use Rattle.method_worker.specs.ClosingWord.{word_notes, ClosingWordHasCloser};
 
 use crate::log::Notes;
 use atomic_table::{Play, Seat, Split, Table, TableRule};
@@ -32,10 +32,10 @@ pub(crate) struct LoadStep;
 
 impl Play<(), Notes> for LoadStep {
     ghost use Rattle.std.specs.Prelude.{◌≡◌, ◌++◌, ◌∷◌, [], ◌%◌};
-    ghost use Rattle.method_worker.specs.ClosingWord.{word_notes, IsClosedUnder};
+    ghost use Rattle.method_worker.specs.ClosingWord.{word_notes, ClosingWordHasCloser};
 
     ghost then = { λ s v n w. (w ≡ (word_notes v.0.closes (v.0.loads ++ n ∷ []), v.1))
-        × (n % 2 ≡ 1 → IsClosedUnder w.0 n) };
+        × (n % 2 ≡ 1 → ClosingWordHasCloser w.0 n) };
 }
 
 /// A close notes its number, and writes an odd word.
@@ -84,7 +84,7 @@ pub(crate) fn open_words(alloc: Global) -> Result<(Words, WordSeat), AllocError>
 
 /// A further seat on the words.
 pub(crate) fn split_word_seat(words: &Words, seat: &mut WordSeat) -> WordSeat
-    requires fits { (seat.old.table_id ≡ words.now.shared.table_id)
+    requires same_table { (seat.old.table_id ≡ words.now.shared.table_id)
         × (words.now.shared.table_id.words ≡ 2) }
     ensures same { (seat.new.table_id ≡ seat.old.table_id) × (seat.new.me ≡ seat.old.me) }
     ensures new { (result.table_id ≡ seat.old.table_id) × (result.me ≡ (word_notes [] [], [])) }
@@ -94,23 +94,23 @@ pub(crate) fn split_word_seat(words: &Words, seat: &mut WordSeat) -> WordSeat
 
 /// The closing word.
 pub(crate) fn load_closing(words: &Words, seat: &mut WordSeat) -> u64
-    requires fits { (seat.old.table_id ≡ words.now.shared.table_id)
+    requires same_table { (seat.old.table_id ≡ words.now.shared.table_id)
         × (words.now.shared.table_id.words ≡ 2) }
     ensures same { seat.new.table_id ≡ seat.old.table_id }
-    ensures noted { seat.new.me
+    ensures notes_are { seat.new.me
         ≡ (word_notes seat.old.me.0.closes (seat.old.me.0.loads ++ result ∷ []), seat.old.me.1) }
-    ensures closed { result % 2 ≡ 1 → IsClosedUnder seat.new.me.0 result }
+    ensures closed { result % 2 ≡ 1 → ClosingWordHasCloser seat.new.me.0 result }
 {
     words.shared.load::<LoadStep>(seat, CLOSING)
 }
 
 /// Closes under this number of reopenings.
 pub(crate) fn close_under(words: &Words, seat: &mut WordSeat, number: u64)
-    requires fits { (seat.old.table_id ≡ words.now.shared.table_id)
+    requires same_table { (seat.old.table_id ≡ words.now.shared.table_id)
         × (words.now.shared.table_id.words ≡ 2) }
     requires few { number < 2 ^ 63 }
     ensures same { seat.new.table_id ≡ seat.old.table_id }
-    ensures noted { seat.new.me
+    ensures notes_are { seat.new.me
         ≡ (word_notes (seat.old.me.0.closes ++ number ∷ []) seat.old.me.0.loads, seat.old.me.1) }
 {
     words
@@ -120,7 +120,7 @@ pub(crate) fn close_under(words: &Words, seat: &mut WordSeat, number: u64)
 
 /// Opens under this number of reopenings.
 pub(crate) fn open_under(words: &Words, seat: &mut WordSeat, number: u64)
-    requires fits { (seat.old.table_id ≡ words.now.shared.table_id)
+    requires same_table { (seat.old.table_id ≡ words.now.shared.table_id)
         × (words.now.shared.table_id.words ≡ 2) }
     requires few { number < 2 ^ 63 }
     ensures same { (seat.new.table_id ≡ seat.old.table_id) × (seat.new.me ≡ seat.old.me) }
@@ -130,7 +130,7 @@ pub(crate) fn open_under(words: &Words, seat: &mut WordSeat, number: u64)
 
 /// Raises the bell, wrapping.
 pub(crate) fn ring(words: &Words, seat: &mut WordSeat)
-    requires fits { (seat.old.table_id ≡ words.now.shared.table_id)
+    requires same_table { (seat.old.table_id ≡ words.now.shared.table_id)
         × (words.now.shared.table_id.words ≡ 2) }
     ensures same { (seat.new.table_id ≡ seat.old.table_id) × (seat.new.me ≡ seat.old.me) }
 {

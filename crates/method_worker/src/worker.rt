@@ -30,7 +30,8 @@ fn turn<W: World, E: Execute<ReadIo, W>, T: Wait>(
         × (E.relations runner.new ≡ E.relations runner.old) }
     ensures marks { ExecutesAll [] actor.old.known actor.new.known (E.reads runner.old)
         (E.reads runner.new) (E.faults runner.old) (E.faults runner.new) }
-    ensures turned { WorkerStep W.handles queue.now.reopened (worker_state seat.old actor.old.known)
+    ensures worker_step { WorkerStep W.handles queue.now.reopened (worker_state seat.old
+        actor.old.known)
         (worker_state seat.new actor.new.known) result }
 {
     let bell = queue.bell();
@@ -69,7 +70,7 @@ pub fn work<W: World, E: Execute<ReadIo, W>, T: Wait>(
         × (E.relations runner.new ≡ E.relations runner.old) }
     ensures marks { ExecutesAll [] actor.old.known actor.new.known (E.reads runner.old)
         (E.reads runner.new) (E.faults runner.old) (E.faults runner.new) }
-    ensures works { WorksUntilClosed W.handles queue.now.reopened
+    ensures works_until_closed { WorksUntilClosed W.handles queue.now.reopened
         (worker_state seat.old actor.old.known)
         (worker_state seat.new actor.new.known) }
 {

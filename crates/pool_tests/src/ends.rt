@@ -1,6 +1,6 @@
 //! Ends of reads.
 ghost use Rattle.std.specs.Prelude.{◌≡◌, None, IfSome};
-ghost use Rattle.aio_callback.specs.Good.{IsGood};
+ghost use Rattle.aio_callback.specs.GoodPages.{IsGood};
 
 use crate::pages::{LATER, MINE, SEVEN, page_of};
 use aio_callback::Places;

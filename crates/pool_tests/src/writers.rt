@@ -18,7 +18,7 @@ const NEXT: Tag = Tag {
 
 /// What comes of a read into a frame whose page is still shown by a pin, and of one after it.
 #[derive(Clone, Copy)]
-struct Refused {
+struct WriterRefusal {
     before: Look,
     taken: Begun,
     while_pinned: Look,
@@ -33,7 +33,7 @@ fn write_under_a_pin<W: World, R: Wait>(
     pool: &Pool<W>,
     pin: Pin<'_, W>,
     page: &Page,
-) -> Refused
+) -> WriterRefusal
     requires told { W.told ≡ None }
     requires range { 1 < W.handles }
     requires valid { IsValid page.now }
@@ -49,7 +49,7 @@ fn write_under_a_pin<W: World, R: Wait>(
     let shown = shows(&pin, SEVEN);
     pool.unpin(rt, pin);
     let _ = read_into(rt, pool, NEXT, page);
-    Refused {
+    WriterRefusal {
         before,
         taken,
         while_pinned,
@@ -60,7 +60,10 @@ fn write_under_a_pin<W: World, R: Wait>(
 
 /// Reads block 7 into two pools and pins it in both. The pin of the second is spent at the first,
 /// whose index then has no pin on the page.
-fn refuse_a_writer<W: World, R: Wait>(rt: &R, alloc: Global) -> Result<Option<Refused>, AllocError>
+fn refuse_a_writer<W: World, R: Wait>(
+    rt: &R,
+    alloc: Global,
+) -> Result<Option<WriterRefusal>, AllocError>
     requires { (W.told ≡ None) × (W.handles ≡ 2) }
 {
     let pool: Pool<W> = Pool::open(alloc, 16)?;

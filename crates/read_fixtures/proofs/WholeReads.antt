@@ -50,7 +50,7 @@ ended-whole t p m q class l reads reads' io shared same whole counted = record {
       (share-grows Whole t.handle t.generation m q
       (subst (λ (z : Class). EventMade event.Shared t.handle (executed_word z t.generation)
       (completed_word z t.generation) [] m q) (same ∙ whole) shared));
-  took = claims-completed-one Whole t.handle t.generation;
+  claims_completed = claims-completed-one Whole t.handle t.generation;
   counters_follow = record {
     read_each = λ below. let e = counted below in omega arith;
     fault_each =

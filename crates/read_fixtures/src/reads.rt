@@ -49,7 +49,7 @@ pub fn take_and_reclaim<W: World>(
     requires table { IsActorOf table.now actor.old }
     requires token { IsInFlight actor.old.known token }
     ensures same { IsSameActor actor.old actor.new }
-    ensures kept { (u : WaitRef) → u ≢ token → IsInFlight actor.old.known u
+    ensures others_in_flight { (u : WaitRef) → u ≢ token → IsInFlight actor.old.known u
         → IsInFlight actor.new.known u }
     ensures unreclaimed { IsTrue result → (ts : List WaitRef)
         → HasUnreclaimed (token ∷ ts) actor.old.known → HasUnreclaimed ts actor.new.known }

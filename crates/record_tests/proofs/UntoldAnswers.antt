@@ -5,7 +5,7 @@ use Rattle.aio_callback.specs.declared.chain.Raw.{Raw}
 use Rattle.aio_callback.specs.declared.chain.Raw.TheVariants.{Read, Failed}
 use Rattle.aio_callback.specs.Chain.{IsWithin}
 use Rattle.aio_callback.specs.ReadIoView.{ReadIoView, IsToldRead, HasAnswer}
-use Rattle.record_tests.specs.Awaited.{IsAwaited}
+use Rattle.record_tests.specs.PendingReads.{IsPendingRead}
 
 says_nothing : (r : ReadIoView) (blocks : ℕ) (answer : Raw) → r.count ≡ blocks
     → IsWithin blocks answer
@@ -23,7 +23,7 @@ given : (r : ReadIoView) (answer : Raw) → IsToldRead None r answer r.pages
 given r answer h = record { answer = answer; is = refl; told_read = still r answer h }
 
 pub answered_untold : (told : Option Told) (r s : ReadIoView) (blocks : ℕ) (answer : Raw)
-    → told ≡ None → IsAwaited blocks r → IsWithin blocks answer
+    → told ≡ None → IsPendingRead blocks r → IsWithin blocks answer
     → s ≡ record r { raw = Some answer } → HasAnswer told s
 answered_untold told r s blocks answer e a w is =
     subst (λ (t : Option Told). HasAnswer t s) (sym e)

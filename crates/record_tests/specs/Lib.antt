@@ -1,1 +1,1 @@
-pub mod Awaited
+pub mod PendingReads

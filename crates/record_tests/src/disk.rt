@@ -2,7 +2,7 @@
 ghost use Rattle.std.specs.Prelude.{◌≡◌, ◌≢◌, ◌<◌, length, true, None, IfOk, IfSome};
 ghost use Rattle.aio_word.specs.declared.Class.TheVariants.{Unended};
 ghost use Rattle.aio_callback.specs.ReadIoView.{ReadFits};
-ghost use Rattle.aio_callback.specs.Cases.{stream_ids, IsOneOf, given_count};
+ghost use Rattle.aio_callback.specs.StreamOutcomes.{stream_ids, IsStreamOutcome, given_count};
 
 use crate::reads::{Ending, ending_of, is_blank, result_of, told_zeroed};
 use aio_callback::CallbackId::{Buffer, Count, File, ZeroBuffer};
@@ -17,11 +17,11 @@ use std::sync::Wait;
 use std::test::Fail;
 
 /// How many pages the owner of an ended record with a stream's callbacks gives.
-fn given<W: World>(io: &ReadIo, zero: bool) -> u32
+fn given_pages<W: World>(io: &ReadIo, zero: bool) -> u32
     requires fits { ReadFits W.told W.relations io.now }
     requires ended { io.now.label.ended ≢ Unended }
     requires ids { io.now.ids ≡ stream_ids zero }
-    ensures case { IsOneOf zero W.told io.now }
+    ensures case { IsStreamOutcome zero W.told io.now }
     ensures given { result ≡ given_count io.now.result }
 {
     laws::stream_records_end_in_six_ways();
@@ -37,7 +37,7 @@ fn read_in<W: World, D: Disk, T: Wait>(rt: &T, disk: &mut D, io: &mut ReadIo, ze
     requires unanswered { io.old.raw ≡ None }
     requires unended { io.old.label.ended ≡ Unended }
     requires ids { io.old.ids ≡ stream_ids zero }
-    ensures case { IsOneOf zero W.told io.new }
+    ensures case { IsStreamOutcome zero W.told io.new }
     ensures fits { ReadFits W.told W.relations io.new }
     ensures ended { io.new.label.ended ≢ Unended }
 {
@@ -48,7 +48,7 @@ fn read_in<W: World, D: Disk, T: Wait>(rt: &T, disk: &mut D, io: &mut ReadIo, ze
     };
     io.answer(answer);
     io.complete_shared::<W, NoPlaces, T>(rt, &mut NoPlaces);
-    given::<W>(io, zero)
+    given_pages::<W>(io, zero)
 }
 
 /// A disk with one file of three blocks of zeros, but for a byte of the second.

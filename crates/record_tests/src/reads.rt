@@ -2,7 +2,7 @@
 ghost use Rattle.std.specs.Prelude.{◌≡◌, ◌≢◌, ◌<◌, false, None, IfOk, IfSome};
 ghost use Rattle.aio_word.specs.declared.Class.TheVariants.{Unended};
 ghost use Rattle.aio_callback.specs.Chain.{IsWithin};
-ghost use Rattle.record_tests.specs.Awaited.{IsAwaited};
+ghost use Rattle.record_tests.specs.PendingReads.{IsPendingRead};
 
 use aio_callback::{CallbackId, Places, Raw, ReadIo, TooMany};
 use aio_handle::Record;
@@ -17,7 +17,7 @@ use std::test::Fail;
 
 /// A call of `finish`.
 #[derive(Clone, Copy, Debug, PartialEq, Eq)]
-struct Finished {
+struct FinishCall {
     relation: u32,
     block: u32,
     handle: u32,
@@ -28,7 +28,7 @@ struct Finished {
 /// Places that write down what they are told.
 #[derive(Drop)]
 struct Notes {
-    calls: Vec<Finished>,
+    calls: Vec<FinishCall>,
 }
 
 impl<W: World> Places<W> for Notes {
@@ -44,7 +44,7 @@ impl<W: World> Places<W> for Notes {
         reference: WaitRef,
         page: Option<&Page>,
     ) {
-        let _ = self.calls.push(Finished {
+        let _ = self.calls.push(FinishCall {
             relation,
             block,
             handle: reference.handle,
@@ -60,7 +60,7 @@ pub(crate) fn aimed(
     alloc: Global,
     ids: &[CallbackId],
 ) -> Result<Result<ReadIo, TooMany>, AllocError>
-    ensures { IfOk result (λ o. IfOk o (λ r. IsAwaited 4 r)) }
+    ensures { IfOk result (λ o. IfOk o (λ r. IsPendingRead 4 r)) }
 {
     let mut io = ReadIo::make(alloc, 5)?;
     match io.aim(3, 10, 4, ids) {
@@ -74,9 +74,9 @@ pub(crate) fn aimed(
 
 /// Puts a page into the place of another one.
 fn place(io: &mut ReadIo, index: usize, page: &Page)
-    requires awaited { IsAwaited 4 io.old }
+    requires pending { IsPendingRead 4 io.old }
     requires index { index < 4 }
-    ensures { IsAwaited 4 io.new }
+    ensures { IsPendingRead 4 io.new }
 {
     let pages = io.pages_mut();
     pages[index].copy_from(page);
@@ -114,7 +114,7 @@ pub(crate) fn completed<W: World, P: Places<W>, T: Wait>(
     places: &mut P,
 ) -> Ending
     requires told { W.told ≡ None }
-    requires awaited { IsAwaited 4 io.old }
+    requires pending { IsPendingRead 4 io.old }
     requires answer { IsWithin 4 answer }
     ensures { (io.new.label.ended ≢ Unended) × (io.new.label.settled ≡ false) }
 {
@@ -139,7 +139,7 @@ pub(crate) fn is_blank(page: &Page) -> bool {
 /// What became of a read, what the places were told, and for each good page whether it was zeroed
 /// and whether it is all zeros.
 #[derive(Drop)]
-struct Ended {
+struct EndOutcome {
     ending: Ending,
     notes: Notes,
     zeroed: Vec<(bool, bool)>,
@@ -152,7 +152,7 @@ fn end_of<T: Wait>(
     ids: &[CallbackId],
     answer: Raw,
     bad: Option<usize>,
-) -> Result<Option<Ended>, AllocError>
+) -> Result<Option<EndOutcome>, AllocError>
     requires answer { IsWithin 4 answer }
     requires bad { IfSome bad (λ i. i < 4) }
 {
@@ -170,7 +170,7 @@ fn end_of<T: Wait>(
     for index in 0..io.good() {
         zeroed.push((io.zeroed(index), is_blank(io.page(index))))?;
     }
-    Ok(Some(Ended {
+    Ok(Some(EndOutcome {
         ending,
         notes,
         zeroed,
@@ -204,10 +204,14 @@ pub(crate) fn case_of(
 }
 
 /// What the places are told where this many pages are good, and one of them may have been zeroed.
-fn told_calls(alloc: Global, good: u32, zeroed: Option<u32>) -> Result<Vec<Finished>, AllocError> {
+fn told_calls(
+    alloc: Global,
+    good: u32,
+    zeroed: Option<u32>,
+) -> Result<Vec<FinishCall>, AllocError> {
     let mut calls = Vec::new(alloc);
     for index in 0..4 {
-        calls.push(Finished {
+        calls.push(FinishCall {
             relation: 3,
             block: 10 + index,
             handle: 7,

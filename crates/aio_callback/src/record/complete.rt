@@ -3,12 +3,12 @@ ghost use Rattle.std.specs.Prelude.{◌≡◌, ◌≢◌, ◌≤◌, ◌<◌, �
 ghost use Rattle.std.specs.Prelude.{nat_lt, option_map, if◌then◌else◌, Option, Some, None, IfSome};
 ghost use Rattle.page_check.specs.Told.{Told};
 ghost use Rattle.aio_word.specs.declared.Class.TheVariants.{Unended};
-ghost use Rattle.aio_callback.specs.Counting.{counts_after};
+ghost use Rattle.aio_callback.specs.CallbackCounts.{counts_after};
 ghost use Rattle.aio_callback.specs.Chain.{good_count};
 
 use super::{ReadIo, fill_room};
+use crate::callback_counts::{Counts, run_local};
 use crate::chain::{first_result, run_chain};
-use crate::counting::{Counts, run_local};
 use crate::places::Places;
 use aio_word::WaitRef;
 use page_check::{Page, World};

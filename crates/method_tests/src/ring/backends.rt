@@ -1,7 +1,7 @@
 //! The two backends of a table, and the seats of their queue.
 ghost use Rattle.std.specs.Prelude.{◌≡◌, ◌<◌, IfSome, length};
 ghost use Rattle.std.specs.List.{All};
-ghost use Rattle.aio_handle.specs.Closing.{HasNoOwnerTokens};
+ghost use Rattle.aio_handle.specs.EndStates.{HasNoOwnerTokens};
 ghost use Rattle.aio_handle.specs.ContractViews.{IsActorOf, AreNewActors};
 ghost use Rattle.method_worker.specs.QueueViews.{IsSeatOf};
 

@@ -49,7 +49,7 @@ fn place_of(order: &[u32], turn: usize, count: usize) -> usize
 }
 
 /// These numbers in the order in which the turns take them out, one after the other.
-fn slow(alloc: Global, order: &[u32], numbers: Vec<u32>) -> Result<Vec<u32>, AllocError> {
+fn plain_order(alloc: Global, order: &[u32], numbers: Vec<u32>) -> Result<Vec<u32>, AllocError> {
     let mut left = numbers;
     let mut taken = Vec::new(alloc);
     for turn in 0..left.len() {
@@ -65,7 +65,7 @@ fn compare<R: Abort + AllocGlobal>(rt: &R, state: &mut u64, ring: u32) -> Result
     let alloc = rt.alloc();
     let count = 1 + below(state, 8);
     let order = random_order(alloc, state)?;
-    let expected = slow(alloc, order.as_slice(), all_below(alloc, count)?)?;
+    let expected = plain_order(alloc, order.as_slice(), all_below(alloc, count)?)?;
     let Some((picked, read)) = picks_and_reads(rt, order, count)? else {
         panic!(rt; "ring {ring}: a read is not picked, fails or is left pending")
     };

@@ -1,6 +1,6 @@
 //! Reads of one block that are pushed, or waited for.
 ghost use Rattle.std.specs.Prelude.{◌≡◌, ◌<◌, IfSome, IsTrue};
-ghost use Rattle.aio_handle.specs.Closing.{HasNoOwnerTokens};
+ghost use Rattle.aio_handle.specs.EndStates.{HasNoOwnerTokens};
 ghost use Rattle.aio_handle.specs.ContractViews.{IsActorOf, IsSameActor};
 ghost use Rattle.aio_fixtures.specs.Lives.{IsSubmitted};
 ghost use Rattle.method_worker.specs.QueueViews.{IsSeatOf, IsSameSeat};
@@ -53,9 +53,9 @@ pub(super) fn read_and_wait<W: World, E: Execute<ReadIo, W>, T: Wait>(
     requires backend { actor.old.known.number < table.now.config.backends }
     requires told { (E.told runner.old ≡ W.told) × (E.relations runner.old ≡ W.relations) }
     requires some { 0 < W.relations }
-    requires rests { HasNoOwnerTokens actor.old.known }
+    requires no_owner_tokens { HasNoOwnerTokens actor.old.known }
     ensures same { IsSameActor actor.old actor.new }
-    ensures rests { IsTrue result → HasNoOwnerTokens actor.new.known }
+    ensures no_owner_tokens { IsTrue result → HasNoOwnerTokens actor.new.known }
 {
     let Ok(io) = ReadIo::make(alloc, 1) else {
         return false;

@@ -1,6 +1,6 @@
 //! Two backends with a ring each.
 ghost use Rattle.std.specs.Prelude.{◌≡◌, ◌<◌, IfOk, IsTrue};
-ghost use Rattle.aio_handle.specs.Closing.{HasNoOwnerTokens};
+ghost use Rattle.aio_handle.specs.EndStates.{HasNoOwnerTokens};
 ghost use Rattle.aio_handle.specs.ContractViews.{IsActorOf, IsSameActor};
 ghost use Rattle.method_worker.specs.QueueViews.{IsSeatOf};
 
@@ -39,9 +39,9 @@ fn four_and_one<W: World, E: Execute<ReadIo, W>, T: Wait>(
     requires queue { IsSeatOf queue.now seat.old }
     requires told { (E.told runner.old ≡ W.told) × (E.relations runner.old ≡ W.relations) }
     requires some { 0 < W.relations }
-    requires rests { HasNoOwnerTokens zero.old.known × HasNoOwnerTokens one.old.known }
+    requires no_owner_tokens { HasNoOwnerTokens zero.old.known × HasNoOwnerTokens one.old.known }
     ensures same { IsSameActor zero.old zero.new × IsSameActor one.old one.new }
-    ensures rests { IsTrue result → HasNoOwnerTokens zero.new.known
+    ensures no_owner_tokens { IsTrue result → HasNoOwnerTokens zero.new.known
         × HasNoOwnerTokens one.new.known }
 {
     let Some(a) = submit_and_push(rt, alloc, table, zero, queue, seat, 0) else {
@@ -94,7 +94,7 @@ fn disk_in<'q, W: World, D: Disk>(runner: RingRunner<'q, SimRing<D>, NoPlaces, W
 
 /// How many incarnations there were and how many of them backends have claimed, and the disks.
 #[derive(Drop)]
-struct Ran<D> {
+struct RingRun<D> {
     incarnations: u128,
     by_backends: u128,
     disks: (D, D),
@@ -106,7 +106,7 @@ fn two_backends<W: World, D: Disk, T: Wait>(
     alloc: Global,
     first: D,
     second: D,
-) -> Result<Option<Ran<D>>, AllocError>
+) -> Result<Option<RingRun<D>>, AllocError>
     requires handles { W.handles ≡ 8 }
     requires second { (D.told second ≡ W.told) × (D.relations second ≡ W.relations) }
     requires some { 0 < W.relations }
@@ -127,7 +127,7 @@ fn two_backends<W: World, D: Disk, T: Wait>(
         return Ok(None);
     }
     let totals = close_with_two(alloc, table, zero, one)?;
-    Ok(Some(Ran {
+    Ok(Some(RingRun {
         incarnations: totals.incarnations(),
         by_backends: totals.by_backends(),
         disks: (disk_in(idle), disk_in(busy)),

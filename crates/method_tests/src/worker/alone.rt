@@ -1,6 +1,6 @@
 //! A runner that works alone over what was pushed.
 ghost use Rattle.std.specs.Prelude.{◌≡◌, ◌<◌, None};
-ghost use Rattle.aio_handle.specs.Closing.{HasNoOwnerTokens};
+ghost use Rattle.aio_handle.specs.EndStates.{HasNoOwnerTokens};
 ghost use Rattle.aio_handle.specs.ContractViews.{IsActorOf, IsSameActor};
 ghost use Rattle.method_worker.specs.QueueViews.{IsSeatOf, IsSameSeat};
 
@@ -40,10 +40,10 @@ pub(super) fn work_alone<W: World, T: Wait>(
     requires queue { IsSeatOf queue.now seat.old }
     requires table { IsActorOf table.now runner.old }
     requires untold { W.told ≡ None }
-    requires rests { HasNoOwnerTokens runner.old.known }
+    requires no_owner_tokens { HasNoOwnerTokens runner.old.known }
     ensures same { IsSameActor runner.old runner.new }
     ensures seat { IsSameSeat seat.old seat.new }
-    ensures rests { HasNoOwnerTokens runner.new.known }
+    ensures no_owner_tokens { HasNoOwnerTokens runner.new.known }
 {
     let mut executor = WholeExecutor { calls: 0 };
     work(rt, queue, seat, table, runner, &mut executor);

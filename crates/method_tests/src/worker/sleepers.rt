@@ -1,6 +1,6 @@
 //! A worker that sleeps where the queue is empty, and is woken.
 ghost use Rattle.std.specs.Prelude.{◌≡◌, ◌≤◌, ◌<◌, None, IfOk, IfSome};
-ghost use Rattle.aio_handle.specs.Closing.{HasNoOwnerTokens};
+ghost use Rattle.aio_handle.specs.EndStates.{HasNoOwnerTokens};
 ghost use Rattle.aio_handle.specs.ContractViews.{IsActorOf};
 ghost use Rattle.method_worker.specs.QueueViews.{IsSeatOf};
 
@@ -30,7 +30,7 @@ fn work_until_closed<W: World, T: Wait>(
     requires queue { IsSeatOf queue.now seat }
     requires table { IsActorOf table.now runner }
     requires untold { W.told ≡ None }
-    requires rests { HasNoOwnerTokens runner.known }
+    requires no_owner_tokens { HasNoOwnerTokens runner.known }
     ensures { IsSeatOf queue.now result.1 }
 {
     let calls = work_alone(rt, queue, &mut seat, table, &mut runner);

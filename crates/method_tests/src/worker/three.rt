@@ -1,6 +1,6 @@
 //! Three reads that a backend submits.
 ghost use Rattle.std.specs.Prelude.{◌≡◌, ◌<◌, None, IfOk, IfSome};
-ghost use Rattle.aio_handle.specs.Closing.{HasNoOwnerTokens};
+ghost use Rattle.aio_handle.specs.EndStates.{HasNoOwnerTokens};
 ghost use Rattle.aio_handle.specs.ContractViews.{IsActorOf, IsSameActor};
 ghost use Rattle.method_worker.specs.QueueViews.{IsSeatOf};
 
@@ -36,10 +36,10 @@ fn three_begun<'q, W: World, T: Wait>(
     requires queue { IsSeatOf method.old.queue.now seat.old }
     requires untold { W.told ≡ None }
     requires some { 0 < W.relations }
-    requires owner_rests { HasNoOwnerTokens owner.old.known }
-    requires runner_rests { HasNoOwnerTokens runner.old.known }
+    requires owner_has_no_tokens { HasNoOwnerTokens owner.old.known }
+    requires runner_has_no_tokens { HasNoOwnerTokens runner.old.known }
     ensures same { IsSameActor owner.old owner.new × IsSameActor runner.old runner.new }
-    ensures rests { IfOk result (λ r. IfSome r
+    ensures no_owner_tokens { IfOk result (λ r. IfSome r
         (λ _. HasNoOwnerTokens owner.new.known × HasNoOwnerTokens runner.new.known)) }
 {
     let io = ReadIo::make(alloc, 1)?;

@@ -10,7 +10,7 @@ loop-i-preserved c =
     elim c.match-tag.branch [
       | in-Some w ↦ record {
         size = c.match-tag.auto.slots ∙ c.loop-i.invariant.size;
-        room = rw w.slots-is (omega (arith, w.insert.ensures.room, w.insert.ensures.kept.size));
+        room = rw w.slots-is (omega (arith, w.insert.ensures.room, w.insert.ensures.full_slots.size));
         found = λ f tag b e.
             ⊎_elim
             (λ (same : f ≡ c.loop-i.i).
@@ -18,7 +18,7 @@ loop-i-preserved c =
             rw w.slots-is (reaches_same _ tag w.in-Some.tag f c.loop-i.i (cc) same
             w.insert.ensures.reached))
             (λ (other : f ≡ c.loop-i.i → ⊥).
-            rw w.slots-is (reaches_kept _ _ tag f w.insert.ensures.kept
+            rw w.slots-is (reaches_kept _ _ tag f w.insert.ensures.full_slots
             (c.loop-i.invariant.found f tag (omega arith) e)))
             (cases_eq f c.loop-i.i);
       }

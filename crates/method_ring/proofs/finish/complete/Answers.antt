@@ -5,12 +5,12 @@ use Rattle.aio_word.specs.declared.WaitRef.{WaitRef}
 use Rattle.aio_callback.specs.Chain.{class_of}
 use Rattle.aio_callback.specs.ReadIoView.{ReadIoView, record_aim}
 use Rattle.aio_callback.specs.Finishes.{record_reference}
-use Rattle.method_ring.specs.RingRunner.{IsEndedAs}
+use Rattle.method_ring.specs.RingRunner.{ReadCompletedAs}
 use Rattle.method_ring.proofs.CompletionEndsIo.{ended-as, kept-then}
 use Rattle.method_ring.proofs.finish.complete.Goals as goal
 
-pub returns-clause-ended : goal.returns-clause-ended
-returns-clause-ended g c =
+pub returns-clause-read_completed : goal.returns-clause-read_completed
+returns-clause-read_completed g c =
     let t : WaitRef × ReadIoView = c.args.claimed in
     let r : ReadIoView = c.complete_shared.new.self in
     let p : Known = c.args.actor.now.known in
@@ -26,15 +26,15 @@ returns-clause-ended g c =
     let class : c.class.result ≡ class_of t.1.count c.args.raw =
     c.class.ensures ∙ ap (λ n. class_of n c.args.raw) count in
     let named : record_reference r ≡ t.0 = search rules in
-    subst (λ (k : Class). IsEndedAs g.W.World.told t.0 (record_aim t.1) k p q
+    subst (λ (k : Class). ReadCompletedAs g.W.World.told t.0 (record_aim t.1) k p q
     (g.P.Places.finished c.args.places.now) (g.P.Places.finished c.complete_shared.new.places))
     class
     (ended-as g.W.World.told t.0 (record_aim t.1) c.class.result p m q r _ _
     (search rules) (search rules) same aimed named c.complete_shared.ensures.completed
     c.complete_shared.ensures.finished)
 
-pub returns-clause-kept : goal.returns-clause-kept
-returns-clause-kept g c t ne =
+pub returns-clause-other_claims_unchanged : goal.returns-clause-other_claims_unchanged
+returns-clause-other_claims_unchanged g c t ne =
     let p : Known = c.args.actor.now.known in
     let m : Known = c.complete_io.new.actor.known in
     let q : Known = c.complete_shared-2.new.actor.known in

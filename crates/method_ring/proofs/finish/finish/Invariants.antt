@@ -1,7 +1,7 @@
 use Rattle.std.proofs.Common.{◌≡◌, length}
 use Rattle.aio_handle.specs.ContractViews.{IsActorOf, IsSameActor}
-use Rattle.method_ring.specs.ClaimedIos.{AreClaimedIos}
-use Rattle.method_ring.specs.RingRunner.{EndsGroup}
+use Rattle.method_ring.specs.ClaimedIos.{AllClaimedIos}
+use Rattle.method_ring.specs.RingRunner.{CompletesGroup}
 use Rattle.method_ring.proofs.finish.finish.Given as goal
 
 abbrev pub invariant-loop-claimed : goal.invariant-loop-claimed
@@ -10,12 +10,13 @@ invariant-loop-claimed g l = record {
   same : IsSameActor l.fn.actor l.actor;
   told : g.G.Ring.told l.group.ring ≡ g.G.Ring.told l.fn.group.ring;
   relations : g.G.Ring.relations l.group.ring ≡ g.G.Ring.relations l.fn.group.ring;
-  holds : AreClaimedIos g.W.World.told g.W.World.relations l.actor.known l.group.held;
-  finishes : EndsGroup g.W.World.told l.fn.group.held l.group.held l.fn.actor.known l.actor.known
+  holds : AllClaimedIos g.W.World.told g.W.World.relations l.actor.known l.group.claimed_ios;
+  finishes : CompletesGroup g.W.World.told l.fn.group.claimed_ios l.group.claimed_ios
+      l.fn.actor.known l.actor.known
       (g.P.Places.finished l.fn.places) (g.P.Places.finished l.places)
       (g.G.Ring.reads l.fn.group.ring) (g.G.Ring.reads l.group.ring)
       (g.G.Ring.faults l.fn.group.ring) (g.G.Ring.faults l.group.ring);
 }
 
 abbrev pub decreases-loop-claimed : goal.decreases-loop-claimed
-decreases-loop-claimed g l = length l.group.held
+decreases-loop-claimed g l = length l.group.claimed_ios

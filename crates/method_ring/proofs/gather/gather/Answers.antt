@@ -1,6 +1,6 @@
 use Rattle.std.proofs.Common.{ℕ, refl, sym, ◌∙◌, subst}
 use Rattle.aio_word.specs.declared.Known.{Known}
-use Rattle.method_ring.specs.ClaimedIos.{AreBelow}
+use Rattle.method_ring.specs.ClaimedIos.{NumbersBelow}
 use Rattle.method_ring.specs.RingRunner.{group_claims}
 use Rattle.method_ring.proofs.GroupClaims.{gathers-none, gathers-then}
 use Rattle.method_ring.proofs.PoppedReferences.{pops-none, pops-one}
@@ -17,9 +17,10 @@ loop-popped-init g c = record {
   reads = refl;
   faults = refl;
   gathers = gathers-none g.W.World.told g.W.World.relations c.args.actor.now.known
-      c.args.group.now.held
-      (subst (λ (n : ℕ). AreBelow n c.args.group.now.held) (sym c.requires.one) c.requires.numbers)
-      c.requires.held;
+      c.args.group.now.claimed_ios
+      (subst (λ (n : ℕ). NumbersBelow n c.args.group.now.claimed_ios) (sym c.requires.one_claimed)
+      c.requires.numbers)
+      c.requires.all_claimed;
   pops = pops-none c.args.seat.now c.args.actor.now.known;
 }
 
@@ -34,7 +35,7 @@ loop-popped-preserved g c =
     let p : Known = c.args.actor.now.known in
     let q : Known = c.loop-popped.actor.known in
     let r : Known = c.join.new.actor.known in
-    let (word, popped) = c.in-Entry.ensures.popped in
+    let (word, popped) = c.in-Entry.ensures.pop_answers in
     record {
       queue = (seat.0 ∙ i.queue.0, seat.1 ∙ i.queue.1);
       seat = (seat.0 ∙ i.seat.0, seat.1 ∙ i.seat.1, seat.2 ∙ i.seat.2);
@@ -45,9 +46,11 @@ loop-popped-preserved g c =
       reads = counts.0 ∙ i.reads;
       faults = counts.1 ∙ i.faults;
       gathers = gathers-then g.W.World.told g.W.World.relations c.loop-popped.popped 1 p q r
-          c.args.group.now.held c.loop-popped.group.held c.join.new.group.held i.gathers now;
+          c.args.group.now.claimed_ios c.loop-popped.group.claimed_ios c.join.new.group.claimed_ios
+          i.gathers now;
       pops = pops-one c.loop-popped.popped word c.in-Entry.reference
           (group_claims i.gathers.others) (group_claims now.others) c.args.seat.now
           c.loop-popped.seat
-          c.pop.new.seat p q r i.pops i.gathers.grows popped.0 now.grows c.join.ensures.sees;
+          c.pop.new.seat p q r i.pops i.gathers.marks_grow popped.0 now.marks_grow
+          c.join.ensures.claim_tried;
     }

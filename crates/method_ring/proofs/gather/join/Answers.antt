@@ -13,13 +13,15 @@ returns-in-Some-clause-gathers g c =
     let token = c.in-Some.ensures.token in
     let io = c.in-Some.ensures.record in
     subst (λ (hs : List ClaimedIo). GathersIos g.W.World.told g.W.World.relations 1 p q
-    c.args.group.now.held hs) (sym c.enter.ensures.held)
-    (gathers-won g.W.World.told g.W.World.relations p q c.args.group.now.held c.args.reference
+    c.args.group.now.claimed_ios hs) (sym c.enter.ensures.claimed_appended)
+    (gathers-won g.W.World.told g.W.World.relations p q c.args.group.now.claimed_ios
+    c.args.reference
     c.in-Some.claimed c.has_seen_its_marks.ensures won.0 won.1 token.0 token.1 io.0 io.1
     c.requires.numbers
-    c.requires.held)
+    c.requires.all_claimed)
 
 pub returns-in_default-clause-gathers : goal.returns-in_default-clause-gathers
 returns-in_default-clause-gathers g c =
     gathers-lost g.W.World.told g.W.World.relations c.args.actor.now.known c.claim.new.actor.known
-    c.args.group.now.held _ _ c.in_default.ensures.lost.1 c.requires.numbers c.requires.held
+    c.args.group.now.claimed_ios _ _ c.in_default.ensures.lost.1 c.requires.numbers
+    c.requires.all_claimed

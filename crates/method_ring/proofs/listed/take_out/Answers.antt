@@ -34,8 +34,8 @@ loop-index-preserved g c =
           ∙ others-later g.T.Numbered.number c.args.user xs c.loop-index.index x lt is other;
     }
 
-pub returns-then-user-clause-taken : goal.returns-then-user-clause-taken
-returns-then-user-clause-taken g c =
+pub returns-then-user-clause-result_is : goal.returns-then-user-clause-result_is
+returns-then-user-clause-result_is g c =
     let xs = c.args.items.now.items in
     let same = c.loop-index.invariant.same in
     let ok = c.args.items.now.ok.0 in
@@ -71,8 +71,8 @@ returns-then-user-clause-others g c =
     ∙ sym (c.loop-index.invariant.others ∙ ap (λ ys. take c.loop-index.index xs ++ ys)
     (others-here g.T.Numbered.number c.args.user xs c.loop-index.index y lt read number)))
 
-pub returns-clause-taken : goal.returns-clause-taken
-returns-clause-taken g c =
+pub returns-clause-result_is : goal.returns-clause-result_is
+returns-clause-result_is g c =
     let xs = c.args.items.now.items in
     let ok = c.args.items.now.ok.0 in
     let len = c.len-index-end.ensures in

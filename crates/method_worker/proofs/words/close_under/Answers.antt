@@ -3,4 +3,4 @@ use Rattle.method_worker.proofs.StepsKeepClosingWord.{closes}
 use Rattle.method_worker.proofs.words.close_under.Goals as goal
 
 pub fetch_max-requires : goal.fetch_max-requires
-fetch_max-requires c = (c.requires.fits.0, search rules, closes _ _ _ _)
+fetch_max-requires c = (c.requires.same_table.0, search rules, closes _ _ _ _)

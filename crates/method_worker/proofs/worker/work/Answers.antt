@@ -27,7 +27,7 @@ loop-preserved g c =
       works = turns-then g.W.World.handles c.args.queue.now.reopened
           (worker_state c.args.seat.now p) (worker_state c.loop.seat q)
           (worker_state c.turn.new.seat r)
-          c.turn.result i.works c.turn.ensures.turned (search rules);
+          c.turn.result i.works c.turn.ensures.worker_step (search rules);
     }
 
 pub loop-init : goal.loop-init
@@ -49,10 +49,11 @@ returns-then-not-turn-clause-marks g c =
     executes_then c.args.actor.now.known c.loop.actor.known c.turn.new.actor.known _ _ _ _ _ _
     c.loop.invariant.takes c.turn.ensures.marks
 
-pub returns-then-not-turn-clause-works : goal.returns-then-not-turn-clause-works
-returns-then-not-turn-clause-works g c =
+pub returns-then-not-turn-clause-works_until_closed
+    : goal.returns-then-not-turn-clause-works_until_closed
+returns-then-not-turn-clause-works_until_closed g c =
     turns-last g.W.World.handles c.args.queue.now.reopened
     (worker_state c.args.seat.now c.args.actor.now.known)
     (worker_state c.loop.seat c.loop.actor.known)
     (worker_state c.turn.new.seat c.turn.new.actor.known) c.turn.result c.loop.invariant.works
-    c.turn.ensures.turned (search rules)
+    c.turn.ensures.worker_step (search rules)

@@ -2,7 +2,7 @@ use Rattle.std.proofs.Common.{◌≡◌, []}
 use Rattle.aio_handle.specs.Execution.{ExecutesAll}
 use Rattle.aio_handle.specs.ContractViews.{IsActorOf, IsSameActor}
 use Rattle.method_worker.specs.QueueViews.{IsSeatOf, IsSameSeat}
-use Rattle.method_worker.specs.WorkerSteps.{IsWorking, worker_state}
+use Rattle.method_worker.specs.WorkerSteps.{WorkerAdvanced, worker_state}
 use Rattle.method_worker.proofs.worker.work.Given as goal
 
 abbrev pub invariant-loop : goal.invariant-loop
@@ -18,6 +18,7 @@ invariant-loop g l = record {
   takes : ExecutesAll [] l.fn.actor.known l.actor.known (g.E.Execute.reads l.fn.runner)
       (g.E.Execute.reads l.runner)
       (g.E.Execute.faults l.fn.runner) (g.E.Execute.faults l.runner);
-  works : IsWorking g.W.World.handles l.queue.reopened (worker_state l.fn.seat l.fn.actor.known)
+  works : WorkerAdvanced g.W.World.handles l.queue.reopened (worker_state l.fn.seat
+      l.fn.actor.known)
       (worker_state l.seat l.actor.known);
 }

@@ -8,8 +8,8 @@ returns-clause-unreclaimed g c _ ts o =
     c.try_take.new.actor.known c.reclaim.new.actor.known c.in-Ready.ensures.ready.2
     c.in-Ready.ensures.ready.0 back.1 o
 
-pub returns-clause-kept : goal.returns-clause-kept
-returns-clause-kept g c u ne flies =
+pub returns-clause-others_in_flight : goal.returns-clause-others_in_flight
+returns-clause-others_in_flight g c u ne flies =
     let back = c.reclaim.ensures.event in
     reclaimed-kept u c.args.token c.in-Ready.local.0 back.0 _ c.args.actor.now.known
     c.try_take.new.actor.known c.reclaim.new.actor.known c.in-Ready.ensures.ready.2

@@ -1,7 +1,7 @@
 use Rattle.std.proofs.Common.{◌≡◌, ap, ◌∙◌, arith}
 use Rattle.aio_callback.specs.ReadIoView.{ReadIoView}
 use Rattle.aio_callback.specs.contracts.record.ReadIo.{the_view}
-use Rattle.aio_callback.proofs.FinishesGrow.{one_told, all_finished}
+use Rattle.aio_callback.proofs.FinishesGrow.{one_told, grew_by_all}
 use Rattle.aio_callback.proofs.record.ReadIo.finish_all.Goals as goal
 
 pub loop-index-preserved : goal.loop-index-preserved
@@ -15,5 +15,5 @@ returns g c =
     let low = c.loop-index.auto.index-end in
     let high = c.loop-index-test.false in
     let here : c.loop-index.index ≡ c.self.inside.count = omega arith in
-    all_finished _ _ c.args.self.now c.loop-index.index
+    grew_by_all _ _ c.args.self.now c.loop-index.index
     (here ∙ ap (λ (r : ReadIoView). r.count) c.self.view_is) c.loop-index.invariant

@@ -10,7 +10,7 @@ invariant_of-self c =
     let pages = c.fill_room.new.pages in
     let chain = c.run_chain-self-inside in
     let marks = c.fill.new.self in
-    let held = length_refill pages.len pages.items chain.new.pages pages.ok.0 in
+    let room_or_none = length_refill pages.len pages.items chain.new.pages pages.ok.0 in
     let marked = length_refill marks.len marks.items chain.new.zeroed marks.ok.0 in
     let same = c.fill.ensures.len in
     let size = c.fill_room.ensures.size in
@@ -19,11 +19,11 @@ invariant_of-self c =
     record {
       few = before.few;
       most = before.most;
-      space = c.fill_room.ensures.space;
-      held = inr (omega arith);
+      capacity = c.fill_room.ensures.capacity;
+      room_or_none = inr (omega arith);
       marks = (let e = before.marks in omega arith);
       within = before.within;
-      top = before.top;
+      in_range = before.in_range;
       some = before.some;
       answered = before.answered;
       read = λ ended. omega arith;

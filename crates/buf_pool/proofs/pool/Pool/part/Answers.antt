@@ -1,7 +1,7 @@
 use Rattle.std.proofs.Common.{◌≡◌, ◌+◌, ◌-◌, ◌<◌, ◌%◌, length, ◌∙◌, ap, sym, subst, bit_and, arith}
 use Rattle.std.proofs.lemmas.Nat.{mod_below}
 use Rattle.buf_pool.specs.Parts.{part_count}
-use Rattle.buf_pool.specs.Divided.{frames_of, IsPart}
+use Rattle.buf_pool.specs.PoolParts.{frames_of, IsPart}
 use Rattle.buf_pool.proofs.PartFrames.{masked, parts_some}
 use Rattle.buf_pool.proofs.pool.Pool.part.Goals as goal
 

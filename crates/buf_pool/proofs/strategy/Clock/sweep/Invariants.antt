@@ -1,4 +1,4 @@
-use Rattle.buf_pool.specs.Sound.{IsClock}
+use Rattle.buf_pool.specs.IndexInvariant.{IsClock}
 use Rattle.buf_pool.proofs.strategy.Clock.sweep.Given as goal
 
 abbrev pub invariant-loop : goal.invariant-loop

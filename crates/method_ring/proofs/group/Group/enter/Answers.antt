@@ -1,14 +1,15 @@
 use Rattle.std.proofs.Common.{◌≡◌, length, List, ◌++◌, [], ◌∷◌, ap, ◌∙◌, subst, sym}
 use Rattle.method_ring.specs.Pending.{entry, pending_entry}
-use Rattle.method_ring.specs.ClaimedIos.{ClaimedIo, AreBelow, claimed_entry, IsUnread}
-use Rattle.method_ring.specs.Group.{HoldsPending}
+use Rattle.method_ring.specs.ClaimedIos.{ClaimedIo, NumbersBelow, claimed_entry, IsReadableRecord}
+use Rattle.method_ring.specs.Group.{PendingReadsClaimed}
 use Rattle.method_ring.proofs.GroupHoldsPending.{new-number, joined-push}
 use Rattle.method_ring.proofs.group.Group.enter.Goals as goal
 
 pub submit-requires-clause-new : goal.submit-requires-clause-new
 submit-requires-clause-new g c =
-    let below : AreBelow (length c.self.inside.room) c.self.inside.room =
-    subst (λ z. AreBelow (length z.held) z.held) (sym c.self.view_is) c.requires.numbers in
+    let below : NumbersBelow (length c.self.inside.room) c.self.inside.room =
+    subst (λ z. NumbersBelow (length z.claimed_ios) z.claimed_ios) (sym c.self.view_is)
+    c.requires.numbers in
     ap (λ n. pending_entry n (g.G.Ring.pending c.self.inside.ring)) c.len-user.ensures
     ∙ new-number (g.G.Ring.pending c.self.inside.ring) (g.G.Ring.relations c.self.inside.ring)
     c.self.inside.room c.self.invariant below
@@ -26,10 +27,10 @@ invariant_of-self g c =
     let is : g.G.Ring.pending c.submit.new.self ≡ pending ++ claimed_entry x ∷ [] =
     c.submit.ensures.pending
     ∙ (λ k. pending ++ entry x.0 (relation k) (first k) (count k) ∷ []) in
-    let unread : IsUnread (g.G.Ring.relations c.self.inside.ring) x.1.1 =
-    subst (λ z. IsUnread (g.G.Ring.relations z.ring) x.1.1) (sym c.self.view_is)
+    let unread : IsReadableRecord (g.G.Ring.relations c.self.inside.ring) x.1.1 =
+    subst (λ z. IsReadableRecord (g.G.Ring.relations z.ring) x.1.1) (sym c.self.view_is)
     c.requires.unread in
-    subst (λ (h : List ClaimedIo). HoldsPending (g.G.Ring.pending c.submit.new.self)
+    subst (λ (h : List ClaimedIo). PendingReadsClaimed (g.G.Ring.pending c.submit.new.self)
     (g.G.Ring.relations c.submit.new.self) h) (sym c.put.ensures)
     (joined-push pending (g.G.Ring.relations c.self.inside.ring) c.self.inside.room
     c.self.invariant (g.G.Ring.pending c.submit.new.self) (g.G.Ring.relations c.submit.new.self) x

@@ -15,7 +15,7 @@ returns-clause-submitted g c =
     c.begun.ensures.marks).in_flight flies in
     record {
       token = keeps c.in_ok-token.token submitted.token;
-      kept = λ u flies. let other = submitted.kept u flies in (other.0, keeps u other.1);
+      others_in_flight = λ u flies. let other = submitted.others_in_flight u flies in (other.0, keeps u other.1);
       unreclaimed = λ ts o. taken-up-unreclaimed (c.in_ok-token.token ∷ ts) q r
           _ _ _ _ c.begun.ensures.marks (submitted.unreclaimed ts o);
     }

@@ -1,14 +1,14 @@
 use Rattle.std.proofs.Common.{◌≡◌, ◌≢◌, ℕ, ◌+◌, ◌≤◌, ◌++◌, [], ◌∷◌, List, sym, subst, arith, rules}
 use Rattle.std.specs.List.{All}
 use Rattle.std.proofs.lemmas.List.Elements.{All-push}
-use Rattle.method_worker.specs.QueueViews.{QueueView, SeatView, IsNew, IsSeatOf}
+use Rattle.method_worker.specs.QueueViews.{QueueView, SeatView, IsNewSeat, IsSeatOf}
 use Rattle.method_worker.proofs.queue.SubmitQueue.open.Goals as goal
 
 -- a seat of a queue of two seats is one of a queue of several
-of-several : (q : QueueView) (n : ℕ) (s : SeatView) → n ≢ 1 → IsNew q 2 s → IsNew q n s
+of-several : (q : QueueView) (n : ℕ) (s : SeatView) → n ≢ 1 → IsNewSeat q 2 s → IsNewSeat q n s
 of-several q n s ne i = record {
-  of = i.of;
-  alone = λ e. absurd (ne e);
+  seat_of_queue = i.seat_of_queue;
+  is_only_seat = λ e. absurd (ne e);
   pushes = i.pushes;
   pops = i.pops;
   loads = i.loads;
@@ -16,17 +16,17 @@ of-several q n s ne i = record {
 }
 
 new-more : (q : QueueView) (n : ℕ) (ss ss' : List SeatView) (s : SeatView) → ss' ≡ ss ++ s ∷ []
-    → All (IsNew q n) ss → IsNew q n s → All (IsNew q n) ss'
-new-more q n ss ss' s e all one = subst (λ (l : List SeatView). All (IsNew q n) l) (sym e)
-    (All-push (IsNew q n) ss s all one)
+    → All (IsNewSeat q n) ss → IsNewSeat q n s → All (IsNewSeat q n) ss'
+new-more q n ss ss' s e all one = subst (λ (l : List SeatView). All (IsNewSeat q n) l) (sym e)
+    (All-push (IsNewSeat q n) ss s all one)
 
 -- the first seat, with the parts that are left
 first-new : (q : QueueView) (n m : ℕ) (s : SeatView) → IsSeatOf q s → s.parts + m ≡ 49
     → n + 1 ≤ m + 1
-    → m ≤ n → s.pushes ≡ [] → s.pops ≡ [] → s.loads ≡ [] → s.closes ≡ [] → IsNew q n s
+    → m ≤ n → s.pushes ≡ [] → s.pops ≡ [] → s.loads ≡ [] → s.closes ≡ [] → IsNewSeat q n s
 first-new q n m s of parts lo hi pushes pops loads closes = record {
-  of = of;
-  alone = λ e. omega (arith, parts, lo, hi, e);
+  seat_of_queue = of;
+  is_only_seat = λ e. omega (arith, parts, lo, hi, e);
   pushes = pushes;
   pops = pops;
   loads = loads;

@@ -1,6 +1,6 @@
 use Rattle.std.proofs.Common.{◌≡◌, ◌+◌, [], length}
 use Rattle.std.specs.List.{All}
-use Rattle.method_worker.specs.QueueViews.{IsNew, IsSeatOf}
+use Rattle.method_worker.specs.QueueViews.{IsNewSeat, IsSeatOf}
 use Rattle.method_worker.proofs.queue.SubmitQueue.open.Given as goal
 
 abbrev pub invariant-loop : goal.invariant-loop
@@ -12,5 +12,5 @@ invariant-loop g l = record {
   loads : l.first.loads ≡ [];
   closes : l.first.closes ≡ [];
   count : length l.all.items + 1 ≡ l.counter;
-  all : All (IsNew l.queue l.fn.seats) l.all.items;
+  all : All (IsNewSeat l.queue l.fn.seats) l.all.items;
 }

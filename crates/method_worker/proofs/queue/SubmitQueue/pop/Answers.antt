@@ -7,8 +7,8 @@ use Rattle.method_worker.proofs.queue.SubmitQueue.pop.Goals as goal
 pub pop_as-requires-clause-rule : goal.pop_as-requires-clause-rule
 pop_as-requires-clause-rule g c = (takes _ _ _ c.seat.invariant.1, learns _ _ _)
 
-pub returns-then-word-self-clause-popped : goal.returns-then-word-self-clause-popped
-returns-then-word-self-clause-popped g c =
+pub returns-then-word-self-clause-pop_answers : goal.returns-then-word-self-clause-pop_answers
+returns-then-word-self-clause-pop_answers g c =
     let old = c.seat.inside in
     let word_seat = c.load_closing-word.new.seat in
     let pass = c.pop_as.new.pass in
@@ -19,17 +19,18 @@ returns-then-word-self-clause-popped g c =
         read-none c.args.seat.now old.pass.table_id old.word_seat.table_id pass.table_id
             word_seat.table_id
             (view old.pass) (view pass) old.word_seat.me.0 word_seat.me.0 word c.seat.view_is r.0
-            (ap (λ x. x.0) c.load_closing-word.ensures.noted),
+            (ap (λ x. x.0) c.load_closing-word.ensures.notes_are),
         record {
-          under = search rules;
-          closed = c.load_closing-word.ensures.closed (let e = c.if-word-self.true in omega (arith, e));
-          empty = empty-again g.W.World.handles (view old.pass) (view pass) _ r.0 refl r.1;
+          word_is = search rules;
+          has_closer = c.load_closing-word.ensures.closed (let e = c.if-word-self.true in omega
+              (arith, e));
+          was_empty = empty-again g.W.World.handles (view old.pass) (view pass) _ r.0 refl r.1;
         },
       ),
     )
 
-pub returns-clause-popped : goal.returns-clause-popped
-returns-clause-popped g c =
+pub returns-clause-pop_answers : goal.returns-clause-pop_answers
+returns-clause-pop_answers g c =
     let old = c.seat.inside in
     let word_seat = c.load_closing-word.new.seat in
     let pass = c.pop_as.new.pass in
@@ -40,7 +41,7 @@ returns-clause-popped g c =
         read-none c.args.seat.now old.pass.table_id old.word_seat.table_id pass.table_id
             word_seat.table_id
             (view old.pass) (view pass) old.word_seat.me.0 word_seat.me.0 word c.seat.view_is r.0
-            (ap (λ x. x.0) c.load_closing-word.ensures.noted),
+            (ap (λ x. x.0) c.load_closing-word.ensures.notes_are),
         search rules,
         empty-again g.W.World.handles (view old.pass) (view pass) _ r.0 refl r.1,
       ),

@@ -1,4 +1,4 @@
-use Rattle.record_tests.proofs.disk.given.Goals as goal
+use Rattle.record_tests.proofs.disk.given_pages.Goals as goal
 
 pub returns-clause-case : goal.returns-clause-case
 returns-clause-case g c =

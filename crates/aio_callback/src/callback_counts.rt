@@ -1,6 +1,6 @@
 //! What the owner of a read counts once it has the result.
 ghost use Rattle.std.specs.Prelude.{◌≡◌};
-ghost use Rattle.aio_callback.specs.Counting.{counts_after};
+ghost use Rattle.aio_callback.specs.CallbackCounts.{counts_after};
 
 use crate::chain::{CallbackId, number};
 use aio_result::AioResult;

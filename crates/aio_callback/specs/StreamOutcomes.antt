@@ -25,23 +25,23 @@ given_count p = natural_part p.result
 abbrev pub zeroed_among : ReadIoView → ℕ → ℕ
 zeroed_among r n = count_by (λ zeroed. zeroed) (take n r.zeroed)
 
-pub data IsOneOf (zero : Bool) (told : Option Told) (r : ReadIoView) : Type 0 where
+pub data IsStreamOutcome (zero : Bool) (told : Option Told) (r : ReadIoView) : Type 0 where
   -- all pages were read, and are good
   Whole : (r.result ≡ result_of 0 Good 0 (pos r.count)) → (r.label.ended ≡ class.Whole)
-      → IsOneOf zero told r
+      → IsStreamOutcome zero told r
   -- fewer pages were read than asked for, and are good
   Rest : (n : ℕ) → (r.result ≡ result_of 1 Partial 0 (pos n)) → 0 < n → n < r.count
-      → (r.label.ended ≡ class.Short) → IsOneOf zero told r
+      → (r.label.ended ≡ class.Short) → IsStreamOutcome zero told r
   -- all pages were read, or fewer; k of them, at least one, were bad and are zeroed
   Warned : (k n : ℕ) → zero ≡ true → 0 < k → k ≡ zeroed_among r n
       → (r.result ≡ result_of 4 Warning k (pos n)) → 0 < n → n ≤ r.count
-      → (r.label.ended ≡ class_of r.count (Read n)) → IsOneOf zero told r
+      → (r.label.ended ≡ class_of r.count (Read n)) → IsStreamOutcome zero told r
   -- the page behind the first i is bad
   Invalid : (i : ℕ) → zero ≡ false → (r.result ≡ result_of 2 Error i (pos i)) → i < r.count
-      → IfSome told (λ t. found_at t r.relation (r.first + i) ≡ Damaged) → IsOneOf zero told r
+      → IfSome told (λ t. found_at t r.relation (r.first + i) ≡ Damaged) → IsStreamOutcome zero told r
   -- the read failed
   Unread : (r.result ≡ result_of 1 Error 1 (pos 0)) → (r.label.ended ≡ class.Failed)
-      → IsOneOf zero told r
+      → IsStreamOutcome zero told r
   -- the relation ends at or before the first block
   PastEnd : (r.result ≡ result_of 1 Error 2 (pos 0)) → (r.label.ended ≡ class.Short)
-      → IfSome told (λ t. found_at t r.relation r.first ≡ Absent) → IsOneOf zero told r
+      → IfSome told (λ t. found_at t r.relation r.first ≡ Absent) → IsStreamOutcome zero told r

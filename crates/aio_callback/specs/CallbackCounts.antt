@@ -4,7 +4,7 @@ use Rattle.aio_result.specs.declared.AioResult.{AioResult}
 use Rattle.aio_callback.specs.declared.chain.CallbackId.{CallbackId}
 use Rattle.aio_callback.specs.declared.chain.CallbackId.TheVariants.{File, Buffer, Count}
 use Rattle.aio_callback.specs.declared.chain.CallbackId.TheVariants.{ZeroBuffer}
-use Rattle.aio_callback.specs.declared.counting.Counts.{Counts}
+use Rattle.aio_callback.specs.declared.callback_counts.Counts.{Counts}
 use Rattle.aio_callback.specs.Chain.{natural_part}
 
 -- one I/O more, and as many blocks as the result says; each number stays at its last value

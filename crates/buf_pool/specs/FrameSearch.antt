@@ -1,14 +1,14 @@
 -- What a search over the frames looks for.
 use Rattle.std.specs.Prelude.{◌≡◌, ℕ, ◌<◌, Bool, true, false, List, Option, length, MatchOption}
 use Rattle.buf_pool.specs.declared.descriptor.Descriptor.{Descriptor}
-use Rattle.buf_pool.specs.declared.strategy.Wanted.{Wanted}
-use Rattle.buf_pool.specs.declared.strategy.Wanted.TheVariants.{FreeFrame, UnpinnedFrame}
+use Rattle.buf_pool.specs.declared.strategy.FrameKind.{FrameKind}
+use Rattle.buf_pool.specs.declared.strategy.FrameKind.TheVariants.{FreeFrame, UnpinnedFrame}
 use Rattle.buf_pool.specs.Frames.{descriptor_at, is_free, is_unpinned}
 
 -- whether a frame is such a one
-abbrev pub is_wanted : Wanted → Descriptor → Bool
-is_wanted FreeFrame frame = is_free frame
-is_wanted UnpinnedFrame frame = is_unpinned frame
+abbrev pub is_of_kind : FrameKind → Descriptor → Bool
+is_of_kind FreeFrame frame = is_free frame
+is_of_kind UnpinnedFrame frame = is_unpinned frame
 
 -- a search answers a frame that passes the test, and None exactly where no frame passes
 abbrev pub IsSearchAnswer : (Descriptor → Bool) → List Descriptor → Option ℕ → Type 0

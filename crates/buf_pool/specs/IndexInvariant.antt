@@ -2,7 +2,7 @@
 use Rattle.std.specs.Prelude.{◌≡◌, ℕ, ◌*◌, ◌<◌, ◌≤◌, Bool, List, Option, length, count_by}
 use Rattle.buf_pool.specs.declared.descriptor.Descriptor.{Descriptor}
 use Rattle.buf_pool.specs.Frames.{is_free}
-use Rattle.buf_pool.specs.Lawful.{PoolLawful}
+use Rattle.buf_pool.specs.PoolLawful.{PoolLawful}
 use Rattle.buf_pool.specs.Probes.{IsIndexed, empty_slots}
 
 -- the table has four slots for each frame, finds each entry, and has at least so many slots left

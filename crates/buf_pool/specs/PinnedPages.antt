@@ -1,7 +1,7 @@
 -- What a reader of a frame sees.
 use Rattle.std.specs.Prelude.{ℕ, ◌==◌, ◌&&◌, Bool, false, List, [], Option, Some, None}
 use Rattle.buf_pool.specs.declared.descriptor.Tag.{Tag}
-use Rattle.buf_pool.specs.declared.carried.CarriedPage.{CarriedPage}
+use Rattle.buf_pool.specs.declared.carried_page.CarriedPage.{CarriedPage}
 
 -- whether this is the tag
 abbrev pub is_tag : Option Tag → Tag → Bool

@@ -5,7 +5,7 @@ use Rattle.buf_pool.specs.Frames.{is_free}
 use Rattle.buf_pool.proofs.ElementCounts.{counted_after}
 use Rattle.buf_pool.proofs.FrameChanges.{Fits, absent_fits, lawful_set, frames_set}
 use Rattle.buf_pool.proofs.FrameChanges.{clock_set}
-use Rattle.buf_pool.proofs.index.PoolIndex.place.Goals as goal
+use Rattle.buf_pool.proofs.index.PoolIndex.begin_entry.Goals as goal
 
 pub invariant_of-self : goal.invariant_of-self
 invariant_of-self g c =

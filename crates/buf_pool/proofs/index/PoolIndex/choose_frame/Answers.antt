@@ -1,7 +1,7 @@
 use Rattle.std.proofs.Common.{◌<◌, count_by, arith}
 use Rattle.buf_pool.specs.Frames.{is_free}
 use Rattle.buf_pool.proofs.VictimFrames.{taken_by_free}
-use Rattle.buf_pool.proofs.index.PoolIndex.choose.Goals as goal
+use Rattle.buf_pool.proofs.index.PoolIndex.choose_frame.Goals as goal
 
 pub returns-else-self-eq0-clause-found : goal.returns-else-self-eq0-clause-found
 returns-else-self-eq0-clause-found g c =

@@ -1,5 +1,5 @@
 //! What the memory of a frame holds.
-ghost use Rattle.buf_pool.specs.Carried.{Carries};
+ghost use Rattle.buf_pool.specs.FrameMemory.{Carries};
 
 use crate::descriptor::Tag;
 use crate::memory::PageMemory;
@@ -12,7 +12,7 @@ use std::marker::PhantomData;
 pub(crate) struct CarriedPage<W: World> {
     pub(crate) tag: Option<Tag>,
     pub(crate) memory: PageMemory,
-    pub(crate) of: PhantomData<W>,
+    pub(crate) marker: PhantomData<W>,
 }
 
 impl<W: World> Fits for CarriedPage<W> {

@@ -5,15 +5,15 @@ use Rattle.buf_pool.specs.Frames.{is_free}
 use Rattle.buf_pool.proofs.ElementCounts.{counted_after}
 use Rattle.buf_pool.proofs.FrameChanges.{Fits, same_tag_fits, lawful_set, frames_set, table_set}
 use Rattle.buf_pool.proofs.FrameChanges.{clock_set}
-use Rattle.buf_pool.proofs.index.PoolIndex.change.Goals as goal
+use Rattle.buf_pool.proofs.index.PoolIndex.set_entry.Goals as goal
 
 pub invariant_of-self : goal.invariant_of-self
 invariant_of-self g c =
     let items = c.self.inside.frames.items in
-    let inside : c.args.frame < length items = rw c.self.view_is c.requires.taken.0 in
+    let inside : c.args.frame < length items = rw c.self.view_is c.requires.not_free.0 in
     let fits : Fits g.W.World.handles items c.args.frame c.args.entry =
     same_tag_fits _ _ _ _ c.self.invariant.0.lawful (rw c.self.view_is c.requires.tag)
-    c.requires.over in
+    c.requires.not_in_progress in
     let read = get_or_read items c.args.frame c.index.result.now inside c.index.ensures Free in
     let counted : c.note.new.self.count ≡ count_by is_free (set items c.args.frame c.args.entry) =
     counted_after is_free Free items c.args.frame c.args.entry c.self.inside.free.count _ inside
@@ -27,6 +27,6 @@ invariant_of-self g c =
 
 pub returns-clause-lawful : goal.returns-clause-lawful
 returns-clause-lawful g c =
-    lawful_set _ _ _ _ (rw c.self.view_is c.requires.taken.0) c.self.invariant.0.lawful
+    lawful_set _ _ _ _ (rw c.self.view_is c.requires.not_free.0) c.self.invariant.0.lawful
     (same_tag_fits _ _ _ _ c.self.invariant.0.lawful (rw c.self.view_is c.requires.tag)
-    c.requires.over)
+    c.requires.not_in_progress)
