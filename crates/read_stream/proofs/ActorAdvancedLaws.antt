@@ -21,7 +21,7 @@ use Rattle.aio_handle.specs.CallEvents.{WordLoaded}
 use Rattle.aio_handle.specs.LifeWords.{staged_word, unclaimed_word}
 use Rattle.aio_handle.specs.declared.record.Label.{Label}
 use Rattle.aio_batch.specs.NextSubmission.{IsNextSubmission}
-use Rattle.aio_waitref.specs.Waiting.{WaitsAndTakes}
+use Rattle.aio_waitref.specs.WaitOutcomes.{WaitsAndTakes}
 use Rattle.read_stream.specs.ActorProgress.{AllClaimsCompleted, ActorAdvanced, MarkedSince}
 
 pub completed_nothing : AllClaimsCompleted []
@@ -96,7 +96,7 @@ advanced_taking_up p q reads reads' faults faults' a = record {
   config = a.grows.config;
   marks = a.grows.marks;
   aims = a.grows.aims;
-  claims_completed = record { io = a.took.io; shared = a.took.shared; all = a.took.all };
+  claims_completed = record { io = a.claims_completed.io; shared = a.claims_completed.shared; all = a.claims_completed.all };
   counters_follow = a.counters_follow;
 }
 
@@ -210,7 +210,7 @@ pub advanced_submitting : {R : Type 0} (aim_in : R → List ℕ) (before after :
 advanced_submitting aim_in before after t p q a b d e n =
     advanced_then p n.between q a a b d d e
     (advanced_made event.Submit t.handle (staged_word t.generation) (unclaimed_word t.generation)
-    (aim_in n.token.1) p n.between a d tt n.made)
+    (aim_in n.token.1) p n.between a d tt n.event_made)
     (advanced_taking_up n.between q a b d e n.begun)
 
 -- a load
@@ -224,11 +224,11 @@ advanced_looking h w p q reads faults l = advanced-same p q reads faults
 pub advanced_waiting : (t : WaitRef) (p q : Known) (a b d e : ℕ) (l : Label)
     → WaitsAndTakes t p q a b d e l → ActorAdvanced p q a b d e
 advanced_waiting t p q a b d e l w =
-    let o = w.taken in
-    advanced_then p w.between q a b b d e e (advanced_taking_up p w.between a b d e w.took)
+    let o = w.result_taken in
+    advanced_then p w.between q a b b d e e (advanced_taking_up p w.between a b d e w.execution)
     (advanced_then w.between o.between q b b b e e e
-    (advanced_looking t.handle o.found w.between o.between b e o.looked)
-    (advanced_made event.Local t.handle _ _ [] o.between q b e tt o.made))
+    (advanced_looking t.handle o.found w.between o.between b e o.word_load)
+    (advanced_made event.Local t.handle _ _ [] o.between q b e tt o.event_made))
 
 pub advanced-from : (p p' q : Known) (a b d e : ℕ) → p ≡ p' → ActorAdvanced p q a b d e
     → ActorAdvanced p' q a b d e

@@ -12,8 +12,9 @@ use Rattle.aio_batch.specs.StagedTokens.{AreStagedTokens}
 use Rattle.aio_callback.specs.ReadIoView.{ReadIoView}
 use Rattle.read_stream.specs.declared.reads.Reads.{Reads}
 use Rattle.read_stream.specs.declared.scope.Scope.{Scope}
-use Rattle.read_stream.specs.StreamIos.{IsAimed, IsNewIncarnation, Issued, IssuedExcept, references}
-use Rattle.read_stream.specs.StreamIos.{record_count, ios_allowed}
+use Rattle.read_stream.specs.StreamIos.{IsStreamRecord, IsNewIncarnation, Issued, IssuedExcept}
+use Rattle.read_stream.specs.StreamIos.{staged_references}
+use Rattle.read_stream.specs.StreamIos.{record_count, ios_started}
 use Rattle.read_stream.proofs.PushedList.{each-pushed}
 
 held-push : (q : Known) (ts : List (WaitRef × ReadIoView)) (t : WaitRef × ReadIoView)
@@ -41,7 +42,8 @@ staged-of p (y ∷ ys) u h j = ⊎_elim
 module _ {W : Type 0} (c : Scope W) where
   in-pushed : (x t : WaitRef) (r : ReadIoView) (bs : List (WaitRef × ReadIoView))
       (fs : List WaitRef)
-      → IsIn x ((t ∷ []) ++ references bs ++ fs) → IsIn x (references (bs ++ (t, r) ∷ []) ++ fs)
+      → IsIn x ((t ∷ []) ++ staged_references bs ++ fs) → IsIn x (staged_references (bs ++ (t, r)
+      ∷ []) ++ fs)
   in-pushed x t r [] fs i = i
   in-pushed x t r (b ∷ bs) fs i = ⊎_elim
       (λ e. inr (in-pushed x t r bs fs (inl e)))
@@ -50,13 +52,13 @@ module _ {W : Type 0} (c : Scope W) where
   -- a staged token was pushed
   pub issued-pushed : (told : Option Told) (relations : ℕ) (p : Known) (s : Reads W)
       (x : WaitRef × ReadIoView) (after : List (WaitRef × ReadIoView)) → after ≡ s.batch ++ x ∷ []
-      → IsStaged p x.0 → IsAimed c x.1 → IsNewIncarnation c x.0
+      → IsStaged p x.0 → IsStreamRecord c x.1 → IsNewIncarnation c x.0
       → ((u : WaitRef × ReadIoView) → IsIn u s.batch → u.0 ≢ x.0)
       → record_count s < c.total
       → IssuedExcept (x.0 ∷ []) c told relations p s
       → IssuedExcept [] c told relations p (record s { batch = after })
       × (record_count (record s { batch = after }) ≡ record_count s + 1)
-      × (ios_allowed (record s { batch = after }) ≡ ios_allowed s + 1)
+      × (ios_started (record s { batch = after }) ≡ ios_started s + 1)
   issued-pushed told relations p s x after is new aimed fresh apart room k =
       let more = length-append s.batch (x ∷ []) in
       let whole : length after ≡ length (s.batch ++ x ∷ []) =
@@ -66,31 +68,34 @@ module _ {W : Type 0} (c : Scope W) where
             free = k.room.free;
             in_flight = k.room.in_flight;
             ended = k.room.ended;
-            few = let f = k.room.few in omega arith;
+            count_within = let f = k.room.count_within in omega arith;
           };
           number = k.number;
           config = k.config;
-          out = k.out;
+          nothing_handed_out = k.nothing_handed_out;
           free = k.free;
-          held = subst (λ (z : List (WaitRef × ReadIoView)). AreStagedTokens p z) (sym is)
-              (held-push p s.batch x k.held new apart);
-          staged = subst (λ (z : List (WaitRef × ReadIoView)). (u : WaitRef × ReadIoView) → IsIn u z
-              → IsAimed c u.1 × IsNewIncarnation c u.0) (sym is)
-              (each-pushed (λ u. IsAimed c u.1 × IsNewIncarnation c u.0) s.batch x k.staged
+          staged_tokens = subst (λ (z : List (WaitRef × ReadIoView)). AreStagedTokens p z) (sym is)
+              (held-push p s.batch x k.staged_tokens new apart);
+          staged_ios = subst (λ (z : List (WaitRef × ReadIoView)). (u : WaitRef × ReadIoView)
+              → IsIn u z
+              → IsStreamRecord c u.1 × IsNewIncarnation c u.0) (sym is)
+              (each-pushed (λ u. IsStreamRecord c u.1 × IsNewIncarnation c u.0) s.batch x
+              k.staged_ios
               (aimed, fresh));
           stream_ios = k.stream_ios;
-          ended = k.ended;
-          owed = λ y. ⊎_elim (λ over. inl over)
+          ended_records = k.ended_records;
+          unreclaimed_ios = λ y. ⊎_elim (λ over. inl over)
               (λ j. inr (subst
-              (λ (z : List (WaitRef × ReadIoView)). IsIn y (references z ++ s.in_flight.items))
+              (λ (z : List (WaitRef × ReadIoView)). IsIn y (staged_references z
+              ++ s.in_flight.items))
               (sym is) (in-pushed y x.0 x.1 s.batch s.in_flight.items j)))
-              (k.owed y);
-          most = let f = k.most in omega arith;
-          small = k.small;
+              (k.unreclaimed_ios y);
+          within_most = let f = k.within_most in omega arith;
+          most_in_range = k.most_in_range;
           room_was = k.room_was;
-          taken = k.taken;
-          lived = k.lived;
-          since = k.since;
+          taken_in_count = k.taken_in_count;
+          lives_bound = k.lives_bound;
+          marks_since_open = k.marks_since_open;
         },
         omega arith,
         omega arith,
@@ -99,7 +104,7 @@ module _ {W : Type 0} (c : Scope W) where
   -- and the batch has it
   pub issued-put : (told : Option Told) (relations : ℕ) (p : Known) (s s' : Reads W)
       (x : WaitRef × ReadIoView) → s' ≡ record s { batch = s.batch ++ x ∷ [] }
-      → IsStaged p x.0 → IsAimed c x.1 → IsNewIncarnation c x.0
+      → IsStaged p x.0 → IsStreamRecord c x.1 → IsNewIncarnation c x.0
       → ((u : WaitRef × ReadIoView) → IsIn u s.batch → u.0 ≢ x.0)
       → record_count s < c.total → IssuedExcept (x.0 ∷ []) c told relations p s
       → Issued c told relations p s'

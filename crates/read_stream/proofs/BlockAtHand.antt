@@ -6,9 +6,9 @@ use Rattle.std.specs.List.{range_with_len}
 use Rattle.std.specs.Option.{is_some}
 use Rattle.page_check.specs.Told.{Told}
 use Rattle.aio_word.specs.declared.Known.{Known}
-use Rattle.aio_callback.specs.Good.{IsGood}
+use Rattle.aio_callback.specs.GoodPages.{IsGood}
 use Rattle.aio_callback.specs.ReadIoView.{ReadIoView}
-use Rattle.buf_pool.specs.Found.{pinned_page}
+use Rattle.buf_pool.specs.LookupAnswers.{pinned_page}
 use Rattle.buf_pool.specs.declared.pin.Pin.{Pin}
 use Rattle.read_stream.specs.declared.queue.QueuedBlock.{QueuedBlock}
 use Rattle.read_stream.specs.declared.answer.Step.{Step}
@@ -17,7 +17,7 @@ use Rattle.read_stream.specs.declared.stream.ReadStream.{ReadStream}
 use Rattle.read_stream.specs.WantedBlocks.{block_number, wanted_blocks, pending_blocks}
 use Rattle.read_stream.specs.PagesAtHand.{record_blocks_from, blocks_at_hand, spent_ios}
 use Rattle.read_stream.specs.PagesAtHand.{record_blocks_left, IsAtHand, HasMoreBlocks}
-use Rattle.read_stream.specs.StreamState.{Reaches, UnderwayWith}
+use Rattle.read_stream.specs.StreamState.{BlockIsAtHand, UnderwayWith}
 use Rattle.read_stream.specs.Parts.{CoversBlock}
 use Rattle.read_stream.proofs.SameDeskKeepsInvariant.{invariant_beside}
 use Rattle.read_stream.proofs.WantedBlocks.{few_in_queue}
@@ -98,6 +98,16 @@ pub spent-once : (o : Option ReadIoView) (block : ℕ) → spent_ios o block ≤
 spent-once None block = omega arith
 spent-once (Some io) block = omega arith
 
+-- where an I/O was spent, at least one block is at hand
+pub spent_at_hand : {W : Type 0} (told : Option Told) (relation block : ℕ) (pin : Option (Pin W))
+    (o : Option ReadIoView) → IsAtHand told relation pin o block
+    → spent_ios o block ≤ length (blocks_at_hand o block)
+spent_at_hand told relation block pin None at = omega arith
+spent_at_hand told relation block None (Some io) at =
+    let n = length-range_with_len block (io.first + io.count - block) in
+    let (a, b) = at in omega arith
+spent_at_hand told relation block (Some pin) (Some io) at = absurd at
+
 pub in-record : {W : Type 0} (told : Option Told) (relation block : ℕ) (pin : Option (Pin W))
     (o : Option ReadIoView) → IsAtHand told relation pin o block
     → IfSome o (λ io. block < io.first + io.count)
@@ -115,7 +125,7 @@ module _ {W S P : Type 0} (left : S → List (ℕ × P)) (told : Option Told)
   no_current p s giving none u =
       let few = few_in_queue s.desk.now.combine handles s.desk.now.wants.items
       (map block_number s.desk.now.queue.items) (record_blocks_left s.current s.step)
-      (pending_blocks s.plan.pending) [] u.running.wants u.running.front in
+      (pending_blocks s.plan.pending) [] u.running.wants u.running.queue_order in
       let long : length (map block_number s.desk.now.queue.items) ≡ 0 =
       ap (λ (z : List (QueuedBlock P)). length (map block_number z)) none in
       current_none s.current s.step giving (omega arith)
@@ -127,25 +137,25 @@ module _ {W S P : Type 0} (left : S → List (ℕ × P)) (told : Option Told)
   underway_spent p s pin hand hand' spent e u =
       let g = u.running in
       record {
-        steady = invariant_beside left told relations handles p s (record s { pin = pin }) u.steady;
+        invariant = invariant_beside left told relations handles p s (record s { pin = pin })
+            u.invariant;
         running = record {
-          few = g.few;
+          given_within = g.given_within;
           readable = g.readable;
           blocks = g.blocks;
-          over = g.over;
-          front = g.front ∙ ap (λ (z : List ℕ). z
+          none_left_if_over = g.none_left_if_over;
+          queue_order = g.queue_order ∙ ap (λ (z : List ℕ). z
               ++ (wanted_blocks s.desk.now.wants.items ++ (pending_blocks s.plan.pending ++ []))) e;
           wants = g.wants;
           runs = g.runs;
-          io_budget = let z = g.io_budget in omega arith;
+          few_ios = let z = g.few_ios in omega arith;
           ahead = g.ahead;
-          within = g.within;
+          queue_within_limit = g.queue_within_limit;
           in_use = g.in_use;
-          spare = g.spare;
+          spare_record = g.spare_record;
           combine = g.combine;
           max_ios = g.max_ios;
           limit = g.limit;
-          most = g.most;
         };
       }
 
@@ -153,7 +163,7 @@ module _ {W S P : Type 0} (left : S → List (ℕ × P)) (told : Option Told)
   pub reaches_pinned : (p : Known) (s : ReadStream W S P) (pin : Pin W) (block : ℕ)
       → s.current ≡ None → IsGood told s.scope.relation block (pinned_page pin)
       → UnderwayWith left told relations handles (block ∷ []) [] 0 p s
-      → Reaches left told relations handles block p (record s { pin = Some pin })
+      → BlockIsAtHand left told relations handles block p (record s { pin = Some pin })
   reaches_pinned p s pin block none good u = record {
     underway = underway_spent p s (Some pin) (block ∷ []) (blocks_at_hand s.current block)
         (spent_ios s.current block)
@@ -168,14 +178,14 @@ module _ {W S P : Type 0} (left : S → List (ℕ × P)) (told : Option Told)
       → HasMoreBlocks s.current s.step → s.current ≢ None → s.pin ≡ None
       → slice_get (map block_number s.desk.now.queue.items) 0 ≡ Some block
       → UnderwayWith left told relations handles (record_blocks_left s.current s.step) [] 0 p s
-      → Reaches left told relations handles block p s
+      → BlockIsAtHand left told relations handles block p s
   reaches_already p s block giving some no_pin at u =
       let (io, b, now, rest, behind, before) = given_from s.current s.step giving some in
       let more : List ℕ = wanted_blocks s.desk.now.wants.items
       ++ (pending_blocks s.plan.pending ++ []) in
       let here : b ≡ block = front_is (map block_number s.desk.now.queue.items)
       (range_with_len (b + 1) (io.first + io.count - b - 1) ++ more) b block
-      (u.running.front ∙ ap (λ (z : List ℕ). z ++ more)
+      (u.running.queue_order ∙ ap (λ (z : List ℕ). z ++ more)
       (rest ∙ range_first b (io.first + io.count - b) (omega arith))) at in
       record {
         underway = underway_spent p s s.pin (record_blocks_left s.current s.step)

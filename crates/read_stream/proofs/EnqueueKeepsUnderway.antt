@@ -16,8 +16,8 @@ use Rattle.read_stream.specs.declared.reads.Reads.{Reads}
 use Rattle.read_stream.specs.declared.scope.Scope.{Scope}
 use Rattle.read_stream.specs.declared.stream.ReadStream.{ReadStream}
 use Rattle.read_stream.specs.StreamAnswers.{stream_entries}
-use Rattle.read_stream.specs.StreamIos.{Issued, ReadsForRuns, record_count, ios_allowed}
-use Rattle.read_stream.specs.WantedBlocks.{IsWant, source_item, block_number, wanted_blocks}
+use Rattle.read_stream.specs.StreamIos.{Issued, ReadsForRuns, record_count, ios_started}
+use Rattle.read_stream.specs.WantedBlocks.{IsValidWant, source_item, block_number, wanted_blocks}
 use Rattle.read_stream.specs.WantedBlocks.{wanted_runs, pending_blocks}
 use Rattle.read_stream.specs.PagesAtHand.{count_some, record_blocks_left}
 use Rattle.read_stream.specs.StreamState.{Underway, UnderwayWith}
@@ -25,7 +25,6 @@ use Rattle.read_stream.specs.Changes.{EnqueuesBlock}
 use Rattle.read_stream.proofs.NextAnswerCases.{readable-then}
 use Rattle.read_stream.proofs.ReadsMatchRuns.{reads-later}
 use Rattle.read_stream.proofs.ActorAdvancedLaws.{advanced_nothing}
-use Rattle.read_stream.proofs.QueueMovesKeepIssued.{more-budget}
 use Rattle.read_stream.proofs.StreamInvariantLaws.{SameScopeAndDesk, current_kept, invariant_moved}
 use Rattle.read_stream.proofs.BlockAtHand.{rest_kept}
 
@@ -45,7 +44,7 @@ module _ {W S P : Type 0} (left : S → List (ℕ × P)) (told : Option Told)
       let g = u.running in
       let e = k.consumer_unchanged in
       let d = e.settings in
-      let scope : n.scope ≡ s.scope = e.keeps.scope in
+      let scope : n.scope ≡ s.scope = e.same_stream.scope in
       let items : n.desk.now.queue.items ≡ s.desk.now.queue.items ++ a ∷ [] =
       ap (λ (z : Buffer (QueuedBlock P)). z.items) k.queue in
       let long : length n.desk.now.queue.items ≡ length (s.desk.now.queue.items ++ a ∷ []) =
@@ -53,15 +52,13 @@ module _ {W S P : Type 0} (left : S → List (ℕ × P)) (told : Option Told)
       let more = length-append s.desk.now.queue.items (a ∷ []) in
       let same : SameScopeAndDesk s n = record {
         scope = scope;
-        source_was = e.keeps.source_was;
+        source_was = e.same_stream.source_was;
         settings = d;
         queue = ap (λ (z : Buffer (QueuedBlock P)). z.capacity) k.queue;
         wants = ap (λ (z : Buffer Want). z.capacity) k.wants;
       } in
-      let io_budget : n.desk.now.reads.io_budget ≡ s.desk.now.reads.io_budget + 1 =
-      ap (λ (z : Reads W). z.io_budget) k.reads in
-      let made : ios_allowed n.desk.now.reads ≡ ios_allowed s.desk.now.reads + 1 =
-      ap (λ (z : Reads W). ios_allowed z) k.reads ∙ omega arith in
+      let started : ios_started n.desk.now.reads ≡ ios_started s.desk.now.reads =
+      ap (λ (z : Reads W). ios_started z) k.reads in
       let records : record_count n.desk.now.reads ≡ record_count s.desk.now.reads =
       ap (λ (z : Reads W). record_count z) k.reads in
       let free : length n.desk.now.reads.free.items ≡ length s.desk.now.reads.free.items =
@@ -72,7 +69,7 @@ module _ {W S P : Type 0} (left : S → List (ℕ × P)) (told : Option Told)
       let relation : n.scope.relation ≡ s.scope.relation =
       ap (λ (z : Scope W). z.relation) scope in
       let list : left n.source_was.value ≡ left s.source_was.value =
-      ap (λ z. left z.value) e.keeps.source_was in
+      ap (λ z. left z.value) e.same_stream.source_was in
       let long-list : length (left n.source_was.value) ≡ length (left s.source_was.value) =
       ap (λ (z : List (ℕ × P)). length z) list in
       let same-left : left n.source ≡ left source = ap left k.source in
@@ -110,23 +107,22 @@ module _ {W S P : Type 0} (left : S → List (ℕ × P)) (told : Option Told)
       ≡ rest ++ (bs ++ (pend ++ block_number a ∷ [])) =
       ap (λ (z : List (QueuedBlock P)). map block_number z) items
       ∙ (map-append block_number s.desk.now.queue.items (a ∷ [])
-      ∙ (ap (λ (z : List ℕ). z ++ block_number a ∷ []) g.front
+      ∙ (ap (λ (z : List ℕ). z ++ block_number a ∷ []) g.queue_order
       ∙ (append_assoc rest (bs ++ (pend ++ [])) (block_number a ∷ [])
       ∙ (ap (λ (z : List ℕ). rest ++ z)
       (append_assoc bs (pend ++ []) (block_number a ∷ []))
       ∙ ap (λ (z : List ℕ). rest ++ (bs ++ (z ++ block_number a ∷ []))) (append-nil pend))))) in
       record {
-        steady = invariant_moved left told relations handles p p s n same u.steady
+        invariant = invariant_moved left told relations handles p p s n same u.invariant
             (subst (λ (z : Scope W). Issued z told relations p n.desk.now.reads) (sym scope)
             (subst (λ (z : Reads W). Issued s.scope told relations p z) (sym k.reads)
-            (more-budget s.scope told relations p s.desk.now.reads
-            (let z = g.most in let y = u.steady.short in omega arith) u.steady.issued)))
-            (let z = u.steady.staged in omega arith)
+            u.invariant.issued))
+            (let z = u.invariant.batch_within in omega arith)
             (current_kept left told relations handles p p s n same 0 0 0 0 e.current
-            (advanced_nothing p 0 0) u.steady.current)
-            (let z = u.steady.all in omega arith);
+            (advanced_nothing p 0 0) u.invariant.current)
+            (let z = u.invariant.record_total in omega arith);
         running = record {
-          few = let z = g.few in let y = e.given in omega arith;
+          given_within = let z = g.given_within in let y = e.given in omega arith;
           readable = readable-then told s.scope.zero n.scope.zero s.given n.given
               (stream_entries s.scope.relation (left s.source_was.value))
               (stream_entries n.scope.relation (left n.source_was.value))
@@ -135,10 +131,10 @@ module _ {W S P : Type 0} (left : S → List (ℕ × P)) (told : Option Told)
               ∙ (g.blocks
               ∙ (ap (λ (z : ℕ). drop z (left s.source_was.value)) (sym e.given)
               ∙ ap (λ (z : List (ℕ × P)). drop n.given z) (sym list)));
-          over = λ o. absurd (let none = g.over (sym k.over ∙ o) in
+          none_left_if_over = λ o. absurd (let none = g.none_left_if_over (sym k.over ∙ o) in
               let zero : length (left s.source) ≡ 0 =
               ap (λ (z : List (ℕ × P)). length z) none in omega arith);
-          front = front
+          queue_order = front
               ∙ (ap (λ (z : List Want). rest ++ (wanted_blocks z ++ (pend ++ block_number a ∷ [])))
               (sym wants)
               ∙ (ap (λ (z : PlanView). rest ++ (wanted_blocks n.desk.now.wants.items
@@ -146,7 +142,7 @@ module _ {W S P : Type 0} (left : S → List (ℕ × P)) (told : Option Told)
               ∙ ap (λ (z : List ℕ). z ++ (wanted_blocks n.desk.now.wants.items
               ++ (pending_blocks n.plan.pending ++ block_number a ∷ [])))
               (sym (rest_kept s.current n.current s.step n.step e.current e.step))));
-          wants = λ w i. subst (λ (z : ℕ). IsWant z handles w) (sym d.0)
+          wants = λ w i. subst (λ (z : ℕ). IsValidWant z handles w) (sym d.0)
               (g.wants w (subst (λ (z : List Want). IsIn w z) wants i));
           runs = subst (λ (z : List Run). ReadsForRuns n.scope p n.desk.now.reads z)
               (ap (λ (z : List Want). wanted_runs z) (sym wants))
@@ -157,14 +153,13 @@ module _ {W S P : Type 0} (left : S → List (ℕ × P)) (told : Option Told)
               (ap (λ (z : Reads W). z.in_flight.items) k.reads)
               (ap (λ (z : Reads W). z.ended.items) k.reads)
               (ap (λ (z : Reads W). z.batch) k.reads) g.runs));
-          io_budget = let z = g.io_budget in omega arith;
+          few_ios = let z = g.few_ios in let y = e.given in omega arith;
           ahead = let z = g.ahead in omega arith;
-          within = let z = g.ahead in let y = g.limit in let x = d.2 in omega arith;
+          queue_within_limit = let z = g.ahead in let y = g.limit in let x = d.2 in omega arith;
           in_use = let z = g.in_use in omega arith;
-          spare = let z = g.spare in omega arith;
+          spare_record = let z = g.spare_record in omega arith;
           combine = ap (λ (z : PlanView). z.combine) k.plan ∙ (g.combine ∙ sym d.0);
           max_ios = ap (λ (z : PlanView). z.max_ios) k.plan ∙ (g.max_ios ∙ sym d.1);
           limit = ap (λ (z : PlanView). z.limit) k.plan ∙ (g.limit ∙ sym d.2);
-          most = let z = g.most in omega arith;
         };
       }

@@ -8,13 +8,13 @@ use Rattle.aio_word.specs.declared.Known.{Known}
 use Rattle.aio_word.specs.declared.WaitRef.{WaitRef}
 use Rattle.aio_word.specs.Events.{wait_ref}
 use Rattle.aio_word.specs.Stands.{IsIn}
-use Rattle.aio_handle.specs.Free.{HasNoneFree, IsRoom}
+use Rattle.aio_handle.specs.FreeHandles.{HasNoneFree, IsRoom}
 use Rattle.aio_handle.specs.CallEvents.{generation_of}
 use Rattle.aio_callback.specs.ReadIoView.{ReadIoView}
 use Rattle.read_stream.specs.declared.reads.Reads.{Reads}
 use Rattle.read_stream.specs.declared.scope.Scope.{Scope}
-use Rattle.read_stream.specs.StreamIos.{Issued, HasIdleHandle, references, known_at_open}
-use Rattle.read_stream.specs.StreamIos.{ios_allowed}
+use Rattle.read_stream.specs.StreamIos.{Issued, HasIdleHandle, staged_references, known_at_open}
+use Rattle.read_stream.specs.StreamIos.{ios_started}
 
 module _ {W : Type 0} (c : Scope W) (told : Option Told) (relations : ℕ) (k : Config) (p : Known)
     (s : Reads W) (same : c.was.value.known.config ≡ k) (i : Issued c told relations p s) where
@@ -30,20 +30,21 @@ module _ {W : Type 0} (c : Scope W) (told : Option Told) (relations : ℕ) (k : 
       let t : WaitRef = wait_ref h (generation_of k p h) in
       record {
         handle = h;
-        inside = inside;
-        own = i.number ∙ own;
-        none = λ amid. ⊎_elim
+        in_range = inside;
+        is_own = i.number ∙ own;
+        not_in_use = λ amid. ⊎_elim
             (λ over. let (defined, reclaimed) = amid in omega arith)
             (λ j. absurd (subst (λ (z : List WaitRef). IsIn t z) in_flight
-            (subst (λ (z : List (WaitRef × ReadIoView)). IsIn t (references z ++ s.in_flight.items))
+            (subst (λ (z : List (WaitRef × ReadIoView)). IsIn t (staged_references z
+            ++ s.in_flight.items))
             batch j)))
-            (i.owed t);
+            (i.unreclaimed_ios t);
       }
 
   -- fewer lives ended than each handle could have: so one that is idle is free
-  pub handle_is_free : ios_allowed s < c.most → HasIdleHandle k p → HasNoneFree k p → ⊥
-  handle_is_free io_budget idle none =
-      let left = room.for_each idle.handle idle.inside (sym i.number ∙ idle.own) in
-      let lived = i.lived idle.handle in
-      ⊎_elim (λ last. omega arith) (λ amid. idle.none amid)
-      (none idle.handle idle.inside idle.own)
+  pub handle_is_free : ios_started s < c.most → HasIdleHandle k p → HasNoneFree k p → ⊥
+  handle_is_free few idle none =
+      let left = room.for_each idle.handle idle.in_range (sym i.number ∙ idle.is_own) in
+      let lived = i.lives_bound idle.handle in
+      ⊎_elim (λ last. omega arith) (λ amid. idle.not_in_use amid)
+      (none idle.handle idle.in_range idle.is_own)

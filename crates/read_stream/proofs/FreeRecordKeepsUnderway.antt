@@ -9,7 +9,7 @@ use Rattle.circular_buffer.specs.Buffer.{Buffer, buffer}
 use Rattle.read_plan.specs.Plans.{PlanView}
 use Rattle.read_stream.specs.declared.reads.Reads.{Reads}
 use Rattle.read_stream.specs.declared.stream.ReadStream.{ReadStream}
-use Rattle.read_stream.specs.StreamIos.{Issued, IsTakenIn, record_count, ios_allowed}
+use Rattle.read_stream.specs.StreamIos.{Issued, IsTakenIn, record_count, ios_started}
 use Rattle.read_stream.specs.WantedBlocks.{wanted_blocks, wanted_runs, pending_blocks}
 use Rattle.read_stream.specs.PagesAtHand.{count_some}
 use Rattle.read_stream.specs.StreamState.{UnderwayWith}
@@ -32,7 +32,7 @@ module _ {W S P : Type 0} (left : S → List (ℕ × P)) (told : Option Told)
       (record (with_reads s r) { plan = pl; current = none })
   underway_freed p s io r pl none now gone is plan u =
       let g = u.running in
-      let v = u.steady in
+      let v = u.invariant in
       let reads : Reads W = s.desk.now.reads in
       let queue : Buffer ReadIoView = buffer (io ∷ reads.free.items) reads.free.capacity in
       let fuller : Reads W = record reads { free = queue } in
@@ -41,54 +41,52 @@ module _ {W S P : Type 0} (left : S → List (ℕ × P)) (told : Option Told)
       let taken : IsTakenIn s.scope told relations p io =
       subst (λ (z : Option ReadIoView). IfSome z (IsTakenIn s.scope told relations p)) now
       v.current in
-      let all = v.all in
+      let all = v.record_total in
       let more = more-free s.scope told relations p reads io queue refl (omega arith)
-      taken.aimed.room v.issued in
+      taken.is_stream_record.room v.issued in
       let counted = more.1 in
       let records : record_count r ≡ record_count fuller = ap (λ (z : Reads W). record_count z) is
       in
-      let made : ios_allowed r ≡ ios_allowed reads = ap (λ (z : Reads W). ios_allowed z) is in
+      let started : ios_started r ≡ ios_started reads = ap (λ (z : Reads W). ios_started z) is in
       let batch : length r.batch ≡ length reads.batch =
       ap (λ (z : Reads W). length z.batch) is in
       let free : length r.free.items ≡ length (io ∷ reads.free.items) =
       ap (λ (z : Reads W). length z.free.items) is in
-      let io_budget : r.io_budget ≡ reads.io_budget = ap (λ (z : Reads W). z.io_budget) is in
       let ios : pl.ios_in_progress ≡ s.plan.ios_in_progress - 1 =
       ap (λ (z : PlanView). z.ios_in_progress) plan in
       record {
-        steady = record {
-          place = v.place;
+        invariant = record {
+          relation_in_range = v.relation_in_range;
           settings = v.settings;
           scope = v.scope;
           zero = v.zero;
           queue = v.queue;
           wants = v.wants;
-          short = v.short;
+          list_within_most = v.list_within_most;
           issued = subst (λ (z : Reads W). Issued s.scope told relations p z) (sym is) more.0;
-          staged = let z = v.staged in omega arith;
+          batch_within = let z = v.batch_within in omega arith;
           current = subst (λ (z : Option ReadIoView). IfSome z (IsTakenIn s.scope told relations p))
               (sym gone) tt;
-          all = omega arith;
+          record_total = omega arith;
         };
         running = record {
-          few = g.few;
+          given_within = g.given_within;
           readable = g.readable;
           blocks = g.blocks;
-          over = g.over;
-          front = g.front ∙ ap (λ (z : PlanView). wanted_blocks s.desk.now.wants.items
+          none_left_if_over = g.none_left_if_over;
+          queue_order = g.queue_order ∙ ap (λ (z : PlanView). wanted_blocks s.desk.now.wants.items
               ++ (pending_blocks z.pending ++ [])) (sym plan);
           wants = g.wants;
           runs = reads-later s.scope p p reads r (wanted_runs s.desk.now.wants.items) (λ x i. i)
               (ap (λ (z : Reads W). z.in_flight.items) is) (ap (λ (z : Reads W). z.ended.items) is)
               (ap (λ (z : Reads W). z.batch) is) g.runs;
-          io_budget = let z = g.io_budget in omega arith;
+          few_ios = let z = g.few_ios in omega arith;
           ahead = ap (λ (z : PlanView). z.blocks_ahead) plan ∙ g.ahead;
-          within = g.within;
+          queue_within_limit = g.queue_within_limit;
           in_use = let z = g.in_use in omega arith;
-          spare = omega arith;
+          spare_record = omega arith;
           combine = ap (λ (z : PlanView). z.combine) plan ∙ g.combine;
           max_ios = ap (λ (z : PlanView). z.max_ios) plan ∙ g.max_ios;
           limit = ap (λ (z : PlanView). z.limit) plan ∙ g.limit;
-          most = let z = g.most in omega arith;
         };
       }

@@ -9,7 +9,7 @@ use Rattle.page_check.specs.IsAnswer.{IsNext, IfPage, Stop as SaidStop}
 use Rattle.aio_word.specs.declared.Known.{Known}
 use Rattle.aio_word.specs.Stands.{IsIn}
 use Rattle.aio_callback.specs.ReadIoView.{ReadIoView}
-use Rattle.buf_pool.specs.Found.{pinned_page}
+use Rattle.buf_pool.specs.LookupAnswers.{pinned_page}
 use Rattle.buf_pool.specs.declared.pin.Pin.{Pin}
 use Rattle.circular_buffer.specs.Buffer.{Buffer}
 use Rattle.read_plan.specs.Plans.{PlanView}
@@ -23,10 +23,11 @@ use Rattle.read_stream.specs.declared.stream.ReadStream.{ReadStream}
 use Rattle.read_stream.specs.StreamAnswers.{stream_entry, stream_entries, synchronous_ending}
 use Rattle.read_stream.specs.StreamAnswers.{step_answer, page_answer, IfRunning}
 use Rattle.read_stream.specs.StreamAnswers.{IfStopped, IsFailedRead, MayBeUnread}
-use Rattle.read_stream.specs.StreamIos.{Issued, ReadsForRuns, IsTakenIn, record_count, ios_allowed}
-use Rattle.read_stream.specs.WantedBlocks.{IsWant, source_item, block_number, wanted_blocks}
+use Rattle.read_stream.specs.StreamIos.{Issued, ReadsForRuns, IsTakenIn, record_count, ios_started}
+use Rattle.read_stream.specs.WantedBlocks.{IsValidWant, source_item, block_number, wanted_blocks}
 use Rattle.read_stream.specs.WantedBlocks.{wanted_runs, pending_blocks}
-use Rattle.read_stream.specs.PagesAtHand.{IsLent, HasCurrentPage, count_some, blocks_at_hand}
+use Rattle.read_stream.specs.PagesAtHand.{LendsCurrentPage, HasCurrentPage, count_some}
+use Rattle.read_stream.specs.PagesAtHand.{blocks_at_hand}
 use Rattle.read_stream.specs.PagesAtHand.{page_at, spent_ios}
 use Rattle.read_stream.specs.PagesAtHand.{record_blocks_left, current_page, zeroed_at}
 use Rattle.read_stream.specs.StreamState.{IsBetweenCalls, IsRunning, IfUnread, UnderwayWith}
@@ -37,6 +38,7 @@ use Rattle.read_stream.proofs.QueueMovesKeepIssued.{first-of}
 use Rattle.read_stream.proofs.NextAnswerCases.{next-page, readable-then}
 use Rattle.read_stream.proofs.StreamInvariantLaws.{SameScopeAndDesk, invariant_moved}
 use Rattle.read_stream.proofs.BlockAtHand.{hand_more, in-record, spent-once}
+use Rattle.read_stream.proofs.QueueFront.{ios_within_list}
 use Rattle.read_stream.proofs.StopIsNextAnswer.{left-of}
 
 tails : (xs ys : List ℕ) (a b : ℕ) → a ∷ xs ≡ b ∷ ys → xs ≡ ys
@@ -92,7 +94,7 @@ module _ {W S P : Type 0} (left : S → List (ℕ × P)) (told : Option Told)
         ≤ read_count f (stream_entries s.scope.relation (left s.source_was.value)))
     next = next-shown p s a s.pin s.current
         (map source_item (drop 1 s.desk.now.queue.items) ++ left s.source) here u.running.readable
-        u.steady.current is
+        u.invariant.current is
 
     pub given_next : IfPage (step_answer n.scope.relation n.step (current_page n)) IsPage
         → IsNext (reader_of s.scope.zero told) (MayBeUnread s.scope.was.value p)
@@ -105,7 +107,7 @@ module _ {W S P : Type 0} (left : S → List (ℕ × P)) (told : Option Told)
         IfPage said IsPage
         → IsNext (reader_of s.scope.zero told) (MayBeUnread s.scope.was.value p)
         (stream_entries s.scope.relation (left s.source_was.value)) s.given said in
-        subst (λ (z : Scope W). P' z n.pin n.current n.step) (sym k.keeps.scope)
+        subst (λ (z : Scope W). P' z n.pin n.current n.step) (sym k.same_stream.scope)
         (subst (λ (z : Option (Pin W)). P' s.scope z n.current n.step) (sym k.pin)
         (subst (λ (z : Option ReadIoView). P' s.scope s.pin z n.step) (sym k.current)
         (subst (λ (z : Step P). P' s.scope s.pin s.current z) (sym k.step) next.0)))
@@ -124,7 +126,7 @@ module _ {W S P : Type 0} (left : S → List (ℕ × P)) (told : Option Told)
         ap (λ (z : List (QueuedBlock P)). length z) items in omega arith
 
     list : left n.source_was.value ≡ left s.source_was.value
-    list = ap (λ z. left z.value) k.keeps.source_was
+    list = ap (λ z. left z.value) k.same_stream.source_was
 
     front-then : map block_number n.desk.now.queue.items
         ≡ record_blocks_left n.current (step.Page a.block a.per_buffer_data)
@@ -136,7 +138,7 @@ module _ {W S P : Type 0} (left : S → List (ℕ × P)) (told : Option Told)
         let whole : map block_number (a ∷ drop 1 was)
         ≡ a.block ∷ (record_blocks_left s.current t ++ more) =
         ap (λ (z : List (QueuedBlock P)). map block_number z) (sym (first-of was a first))
-        ∙ (u.running.front ∙ ap (λ (z : List ℕ). z ++ more)
+        ∙ (u.running.queue_order ∙ ap (λ (z : List ℕ). z ++ more)
         (hand_more s.current a.block a.per_buffer_data
         (in-record told s.scope.relation a.block s.pin s.current is.at_hand))) in
         ap (λ (z : List (QueuedBlock P)). map block_number z) items
@@ -151,8 +153,8 @@ module _ {W S P : Type 0} (left : S → List (ℕ × P)) (told : Option Told)
 
     same : SameScopeAndDesk s n
     same = record {
-      scope = k.keeps.scope;
-      source_was = k.keeps.source_was;
+      scope = k.same_stream.scope;
+      source_was = k.same_stream.source_was;
       settings = k.settings;
       queue = ap (λ (z : Buffer (QueuedBlock P)). z.capacity) k.queue;
       wants = ap (λ (z : Buffer Want). z.capacity) k.wants;
@@ -163,7 +165,7 @@ module _ {W S P : Type 0} (left : S → List (ℕ × P)) (told : Option Told)
     going-then =
         let g = u.running in
         let d = k.settings in
-        let scope : n.scope ≡ s.scope = k.keeps.scope in
+        let scope : n.scope ≡ s.scope = k.same_stream.scope in
         let relation : n.scope.relation ≡ s.scope.relation =
         ap (λ (z : Scope W). z.relation) scope in
         let total : n.scope.total ≡ s.scope.total = ap (λ (z : Scope W). z.total) scope in
@@ -180,8 +182,6 @@ module _ {W S P : Type 0} (left : S → List (ℕ × P)) (told : Option Told)
         let long-runs : length (wanted_runs n.desk.now.wants.items)
         ≡ length (wanted_runs s.desk.now.wants.items) =
         ap (λ (z : List Want). length (wanted_runs z)) wants in
-        let io_budget : n.desk.now.reads.io_budget ≡ s.desk.now.reads.io_budget =
-        ap (λ (z : Reads W). z.io_budget) k.reads in
         let free : length n.desk.now.reads.free.items ≡ length s.desk.now.reads.free.items =
         ap (λ (z : Reads W). length z.free.items) k.reads in
         let some : count_some n.current ≡ count_some s.current =
@@ -190,14 +190,14 @@ module _ {W S P : Type 0} (left : S → List (ℕ × P)) (told : Option Told)
         ap (λ (z : PlanView). z.blocks_ahead) k.plan in
         let ios : n.plan.ios_in_progress ≡ s.plan.ios_in_progress =
         ap (λ (z : PlanView). z.ios_in_progress) k.plan in
-        let made : ios_allowed n.desk.now.reads ≡ ios_allowed s.desk.now.reads =
-        ap (λ (z : Reads W). ios_allowed z) k.reads in
+        let started : ios_started n.desk.now.reads ≡ ios_started s.desk.now.reads =
+        ap (λ (z : Reads W). ios_started z) k.reads in
         let long-left : length (left n.source) ≡ length (left s.source) =
         ap (λ z. length (left z)) k.source in
         let owed = spent-once s.current a.block in
         let n-long = long in
         record {
-          few = let y = k.given in omega arith;
+          given_within = let y = k.given in omega arith;
           readable = readable-then told s.scope.zero n.scope.zero (s.given + 1) n.given
               (stream_entries s.scope.relation (left s.source_was.value))
               (stream_entries n.scope.relation (left n.source_was.value))
@@ -207,9 +207,9 @@ module _ {W S P : Type 0} (left : S → List (ℕ × P)) (told : Option Told)
               ∙ (sym (rest-at (left s.source_was.value) s.given (source_item a) more here)
               ∙ (ap (λ (z : ℕ). drop z (left s.source_was.value)) (sym k.given)
               ∙ ap (λ (z : List (ℕ × P)). drop n.given z) (sym list))));
-          over = λ o. ap left k.source ∙ g.over (sym k.over ∙ o);
-          front = front-then;
-          wants = λ w i. subst (λ (z : ℕ). IsWant z handles w) (sym d.0)
+          none_left_if_over = λ o. ap left k.source ∙ g.none_left_if_over (sym k.over ∙ o);
+          queue_order = front-then;
+          wants = λ w i. subst (λ (z : ℕ). IsValidWant z handles w) (sym d.0)
               (g.wants w (subst (λ (z : List Want). IsIn w z) wants i));
           runs = subst (λ (z : List Want). ReadsForRuns n.scope p n.desk.now.reads (wanted_runs z))
               (sym wants)
@@ -217,21 +217,20 @@ module _ {W S P : Type 0} (left : S → List (ℕ × P)) (told : Option Told)
               (wanted_runs s.desk.now.wants.items)) (sym scope)
               (subst (λ (z : Reads W). ReadsForRuns s.scope p z
               (wanted_runs s.desk.now.wants.items)) (sym k.reads) g.runs));
-          io_budget = let z = g.io_budget in omega arith;
+          few_ios = let z = g.few_ios in let y = k.given in omega arith;
           ahead = let z = g.ahead in omega arith;
-          within = let z = g.within in let y = d.2 in omega arith;
+          queue_within_limit = let z = g.queue_within_limit in let y = d.2 in omega arith;
           in_use = let z = g.in_use in omega arith;
-          spare = let z = g.spare in omega arith;
+          spare_record = let z = g.spare_record in omega arith;
           combine = ap (λ (z : PlanView). z.combine) k.plan ∙ (g.combine ∙ sym d.0);
           max_ios = ap (λ (z : PlanView). z.max_ios) k.plan ∙ (g.max_ios ∙ sym d.1);
           limit = ap (λ (z : PlanView). z.limit) k.plan ∙ (g.limit ∙ sym d.2);
-          most = let z = g.most in omega arith;
         }
 
     pub given_between : IsBetweenCalls left told relations handles p n
     given_between =
-        let v = u.steady in
-        let scope : n.scope ≡ s.scope = k.keeps.scope in
+        let v = u.invariant in
+        let scope : n.scope ≡ s.scope = k.same_stream.scope in
         let records : record_count n.desk.now.reads ≡ record_count s.desk.now.reads =
         ap (λ (z : Reads W). record_count z) k.reads in
         let batch : length n.desk.now.reads.batch ≡ length s.desk.now.reads.batch =
@@ -240,19 +239,21 @@ module _ {W S P : Type 0} (left : S → List (ℕ × P)) (told : Option Told)
         ap (λ (z : Option ReadIoView). count_some z) k.current in
         let t : Step P = step.Page a.block a.per_buffer_data in
         record {
-          steady = invariant_moved left told relations handles p p s n same v
+          invariant = invariant_moved left told relations handles p p s n same v
               (subst (λ (z : Scope W). Issued z told relations p n.desk.now.reads) (sym scope)
               (subst (λ (z : Reads W). Issued s.scope told relations p z) (sym k.reads) v.issued))
-              (let z = v.staged in omega arith)
+              (let z = v.batch_within in omega arith)
               (subst (λ (z : Option ReadIoView). IfSome z (IsTakenIn n.scope told relations p))
               (sym k.current)
               (subst (λ (z : Scope W). IfSome s.current (IsTakenIn z told relations p)) (sym scope)
               v.current))
-              (let z = v.all in omega arith);
-          made = let z = going-then.most in omega arith;
+              (let z = v.record_total in omega arith);
+          few_ios = let z = ios_within_list left told relations handles _ [] 0 p n going-then in
+              omega arith;
           running = subst (λ (z : Step P). IfRunning z (IsRunning left told relations handles
               (record_blocks_left n.current z) [] 0 p n)) (sym k.step) going-then;
-          lent = subst (λ (z : Step P). IsLent told n.scope.relation n.pin n.current z) (sym k.step)
+          lends_page = subst (λ (z : Step P). LendsCurrentPage told n.scope.relation n.pin n.current
+              z) (sym k.step)
               (subst (λ (z : Scope W). HasCurrentPage told z.relation n.pin n.current a.block)
               (sym scope)
               (subst (λ (z : Option (Pin W)). HasCurrentPage told s.scope.relation z n.current
@@ -260,10 +261,12 @@ module _ {W S P : Type 0} (left : S → List (ℕ × P)) (told : Option Told)
               (subst (λ (z : Option ReadIoView). HasCurrentPage told s.scope.relation s.pin z
               a.block)
               (sym k.current) is)));
-          stopped = subst (λ (z : Step P). IfStopped z (λ e. IsNext (reader_of n.scope.zero told)
+          stop_answer = subst (λ (z : Step P). IfStopped z (λ e. IsNext (reader_of n.scope.zero
+              told)
               (MayBeUnread n.scope.was.value p)
               (stream_entries n.scope.relation (left n.source_was.value)) n.given
               (SaidStop (synchronous_ending e)))) (sym k.step) tt;
-          kept = subst (λ (z : Step P). IfStopped z (λ e. IfUnread e (λ b. IsSomeAnd n.current
+          unread_record = subst (λ (z : Step P). IfStopped z (λ e. IfUnread e (λ b. IsSomeAnd
+              n.current
               (IsFailedRead n.scope.was.value p n.scope.relation b)))) (sym k.step) tt;
         }

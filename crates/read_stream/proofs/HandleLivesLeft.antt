@@ -2,7 +2,7 @@
 use Rattle.std.proofs.Common.{ℕ, ◌^◌, ◌<◌, ◌≤◌, arith}
 use Rattle.aio_word.specs.declared.Config.{Config}
 use Rattle.aio_word.specs.declared.Known.{Known}
-use Rattle.aio_handle.specs.Free.{IsRoom}
+use Rattle.aio_handle.specs.FreeHandles.{IsRoom}
 
 pub room_below : (c : Config) (p : Known) (room : ℕ) → p.number < c.backends → IsRoom c p room
     → room < 2 ^ 58

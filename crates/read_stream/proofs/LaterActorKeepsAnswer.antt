@@ -51,14 +51,14 @@ module _ {W S P : Type 0} (left : S → List (ℕ × P)) (told : Option Told)
       → IsBetweenCalls left told relations handles p (record s { actor_is = actor })
   between_known p s actor b =
       let n : ReadStream W S P = record s { actor_is = actor } in record {
-        steady = invariant_beside left told relations handles p s n b.steady;
-        made = b.made;
+        invariant = invariant_beside left told relations handles p s n b.invariant;
+        few_ios = b.few_ios;
         running = if-running s.step
             (IsRunning left told relations handles (record_blocks_left s.current s.step) [] 0 p s)
             (IsRunning left told relations handles (record_blocks_left s.current s.step) [] 0 p n)
             (λ g. running_beside left told relations handles p s n s.source s.over
-            (record_blocks_left s.current s.step) [] 0 refl g.over g) b.running;
-        lent = b.lent;
-        stopped = b.stopped;
-        kept = b.kept;
+            (record_blocks_left s.current s.step) [] 0 refl g.none_left_if_over g) b.running;
+        lends_page = b.lends_page;
+        stop_answer = b.stop_answer;
+        unread_record = b.unread_record;
       }

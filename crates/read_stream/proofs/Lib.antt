@@ -25,7 +25,7 @@ pub mod QueueFront
 pub mod SameQueueKeepsUnderway
 pub mod PlanChangeKeepsUnderway
 pub mod BlockAtHand
-pub mod IoBudget
+pub mod FreeRecords
 pub mod StartKeepsUnderway
 pub mod PushWantKeepsUnderway
 pub mod EnqueueKeepsUnderway

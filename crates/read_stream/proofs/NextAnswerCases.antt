@@ -11,7 +11,7 @@ use Rattle.page_check.specs.SynchronousAnswer.{read_count}
 use Rattle.page_check.specs.IsAnswer.{Page, Stop, IsNext}
 use Rattle.page_check.proofs.NextAnswer as found
 use Rattle.page_check.proofs.ValidPages.{zero_page_valid}
-use Rattle.aio_callback.specs.Good.{IsGivenAs}
+use Rattle.aio_callback.specs.GoodPages.{IsGivenAs}
 
 -- the first k entries can be read
 abbrev pub ReadableUpTo : {P : Type 0} → Bool → Option Told → ℕ → List (Entry P) → Type 0

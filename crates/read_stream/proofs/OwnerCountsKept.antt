@@ -123,9 +123,9 @@ pub owner-counts-taking-up : (p q : Known) (a b c d : ℕ) → ExecutesAll [] p 
     → OwnerCountsUnchanged p q
 owner-counts-taking-up p q a b c d k = owner-counts-growing p q k.more k.grows.number k.grows.config
     k.grows.marks k.grows.aims
-    (λ t. let o = k.took.owners t in omega arith)
-    (λ t. let o = k.took.owners t in omega arith)
-    (λ t. let o = k.took.owners t in omega arith)
+    (λ t. let o = k.claims_completed.owners t in omega arith)
+    (λ t. let o = k.claims_completed.owners t in omega arith)
+    (λ t. let o = k.claims_completed.owners t in omega arith)
 
 owner-counts-same : (p q : Known) → q.number ≡ p.number → q.config ≡ p.config → q.marks ≡ p.marks
     → q.aims ≡ p.aims → OwnerCountsUnchanged p q

@@ -6,8 +6,8 @@ use Rattle.page_check.specs.SynchronousAnswer.{Damaged, Absent, found_at}
 use Rattle.aio_word.specs.declared.Class.TheVariants as class
 use Rattle.aio_result.specs.declared.AioResult.{AioResult}
 use Rattle.aio_result.specs.declared.Status.TheVariants.{Good, Partial, Warning, Error}
-use Rattle.aio_callback.specs.Cases.{IsOneOf, Whole, Rest, Warned, Invalid, Unread, PastEnd}
-use Rattle.aio_callback.specs.Cases.{given_count, stream_ids}
+use Rattle.aio_callback.specs.StreamOutcomes.{IsStreamOutcome, Whole, Rest, Warned, Invalid, Unread, PastEnd}
+use Rattle.aio_callback.specs.StreamOutcomes.{given_count, stream_ids}
 use Rattle.aio_callback.specs.ReadIoView.{ReadIoView, record_zeroed}
 use Rattle.read_stream.specs.Parts.{CoversBlock}
 
@@ -34,7 +34,7 @@ module _ (zero : Bool) (told : Option Told) (io : ReadIoView) (block : ℕ)
   g = given_count io.result
 
   -- where no error stands at the block, the read ended before it
-  pub part_rest : IsOneOf zero told io → g ≤ block - io.first → (io.result.status ≡ Error → ⊥)
+  pub part_rest : IsStreamOutcome zero told io → g ≤ block - io.first → (io.result.status ≡ Error → ⊥)
       → io.first < block
   part_rest (Whole is ended) le fine =
       let n : g ≡ io.count = ap (λ (z : AioResult). given_count z) is in
@@ -50,7 +50,7 @@ module _ (zero : Bool) (told : Option Told) (io : ReadIoView) (block : ℕ)
   part_rest (Unread is ended) le fine = absurd (fine (ap (λ (z : AioResult). z.status) is))
   part_rest (PastEnd is ended past) le fine = absurd (fine (ap (λ (z : AioResult). z.status) is))
 
-  pub part_invalid : IsOneOf zero told io → block - io.first ≡ g → io.result.status ≡ Error
+  pub part_invalid : IsStreamOutcome zero told io → block - io.first ≡ g → io.result.status ≡ Error
       → io.result.id ≡ 2
       → (zero ≡ false) × IfSome told (λ t. found_at t io.relation block ≡ Damaged)
   part_invalid (Whole is ended) at error two =
@@ -69,7 +69,7 @@ module _ (zero : Bool) (told : Option Told) (io : ReadIoView) (block : ℕ)
   part_invalid (PastEnd is ended past) at error two =
       let m : io.result.id ≡ 1 = ap (λ (z : AioResult). z.id) is in absurd (omega arith)
 
-  pub part_unread : IsOneOf zero told io → block - io.first ≡ g → io.result.status ≡ Error
+  pub part_unread : IsStreamOutcome zero told io → block - io.first ≡ g → io.result.status ≡ Error
       → io.result.id ≢ 2 → io.result.error ≡ 1
       → (io.first ≡ block) × (io.label.ended ≡ class.Failed)
   part_unread (Whole is ended) at error not_two one =
@@ -86,7 +86,7 @@ module _ (zero : Bool) (told : Option Told) (io : ReadIoView) (block : ℕ)
   part_unread (PastEnd is ended past) at error not_two one =
       let m : io.result.error ≡ 2 = ap (λ (z : AioResult). z.error) is in absurd (omega arith)
 
-  pub part_past : IsOneOf zero told io → block - io.first ≡ g → io.result.status ≡ Error
+  pub part_past : IsStreamOutcome zero told io → block - io.first ≡ g → io.result.status ≡ Error
       → io.result.id ≢ 2 → io.result.error ≢ 1
       → IfSome told (λ t. found_at t io.relation block ≡ Absent)
   part_past (Whole is ended) at error not_two not_one =

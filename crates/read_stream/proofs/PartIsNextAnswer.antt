@@ -11,8 +11,8 @@ use Rattle.aio_word.specs.declared.Class.TheVariants.{Failed}
 use Rattle.aio_word.specs.declared.Kind.TheVariants as kind
 use Rattle.aio_word.specs.declared.Known.{Known}
 use Rattle.aio_word.specs.Events.{make_mark}
-use Rattle.aio_callback.specs.Good.{IsGivenAs}
-use Rattle.aio_callback.specs.Cases.{stream_ids}
+use Rattle.aio_callback.specs.GoodPages.{IsGivenAs}
+use Rattle.aio_callback.specs.StreamOutcomes.{stream_ids}
 use Rattle.aio_callback.specs.Finishes.{record_reference}
 use Rattle.aio_callback.specs.ReadIoView.{ReadIoView, record_page, record_zeroed}
 use Rattle.read_stream.specs.declared.answer.Ending.{Ending}
@@ -23,7 +23,7 @@ use Rattle.read_stream.specs.StreamAnswers.{stream_entry, stream_entries, synchr
 use Rattle.read_stream.specs.StreamAnswers.{page_answer, IsFailedRead}
 use Rattle.read_stream.specs.StreamAnswers.{MayBeUnread}
 use Rattle.read_stream.specs.StreamIos.{IsTakenIn, known_at_open}
-use Rattle.read_stream.specs.Parts.{CoversBlock, IsPart}
+use Rattle.read_stream.specs.Parts.{CoversBlock, IsValidPart}
 use Rattle.read_stream.specs.ActorProgress.{MarkedSince}
 use Rattle.read_stream.proofs.ListPositions.{here-at, mapped-at}
 use Rattle.read_stream.proofs.NextAnswerCases.{ReadableUpTo, next-page, next-invalid, next-past-end}
@@ -41,15 +41,15 @@ pub failed_read : {W : Type 0} (c : Scope W) (told : Option Told) (relations : �
     (io : ReadIoView) → IsTakenIn c told relations p io → (b : ℕ) → io.first ≡ b
     → io.label.ended ≡ Failed → IsFailedRead c.was.value p c.relation b io
 failed_read c told relations p io taken b first failed = record {
-  relation_is = taken.aimed.relation;
+  relation_is = taken.is_stream_record.relation;
   first = first;
-  failed = failed;
-  submitted = taken.submitted;
-  taken = subst (λ (z : Class). MarkedSince (known_at_open c) p
-      (make_mark (record_reference io) (kind.Local z))) failed taken.local;
-  alone = λ one. subst
+  class_is = failed;
+  was_submitted = taken.was_submitted;
+  local_mark = subst (λ (z : Class). MarkedSince (known_at_open c) p
+      (make_mark (record_reference io) (kind.Local z))) failed taken.local_mark;
+  io_mark_if_alone = λ one. subst
       (λ (z : Class). MarkedSince (known_at_open c) p (make_mark (record_reference io) (kind.Io z)))
-      failed (taken.alone one);
+      failed (taken.io_mark_if_alone one);
 }
 
 module _ {W P : Type 0} (c : Scope W) (told : Option Told) (relations : ℕ) (list : List (ℕ × P))
@@ -62,19 +62,19 @@ module _ {W P : Type 0} (c : Scope W) (told : Option Told) (relations : ℕ) (li
   at : slice_get (stream_entries c.relation list) k ≡ Some e
   at = mapped-at (stream_entry c.relation) list k (b, info) (here-at list k (b, info) rest here)
 
-  given-page : IsPart told io b part.Page → IsGivenAs told c.relation b
+  given-page : IsValidPart told io b part.Page → IsGivenAs told c.relation b
       (record_page io (b - io.first)) (record_zeroed io (b - io.first))
   given-page is =
-      let given = (taken.fits.ended taken.ended).good (b - io.first) is.0 in
+      let given = (taken.fits.ended taken.has_ended).good (b - io.first) is.0 in
       let (low, below) = has in
       let same : io.first + (b - io.first) ≡ b = omega arith in
       subst (λ (r : ℕ). IsGivenAs told r b (record_page io (b - io.first))
-      (record_zeroed io (b - io.first))) taken.aimed.relation
+      (record_zeroed io (b - io.first))) taken.is_stream_record.relation
       (subst (λ (n : ℕ). IsGivenAs told io.relation n (record_page io (b - io.first))
       (record_zeroed io (b - io.first))) same given)
 
   -- a page of the record
-  pub page_is_next : IsPart told io b part.Page
+  pub page_is_next : IsValidPart told io b part.Page
       → (IsPage (record_page io (b - io.first)) → IsNext (reader_of c.zero told)
       (MayBeUnread c.was.value p) (stream_entries c.relation list)
       k (page_answer c.relation b info (record_page io (b - io.first))
@@ -82,13 +82,13 @@ module _ {W P : Type 0} (c : Scope W) (told : Option Told) (relations : ℕ) (li
       × ReadableUpTo c.zero told (k + 1) (stream_entries c.relation list)
   page_is_next is = next-page c.zero (MayBeUnread c.was.value p) (stream_entries c.relation list) k
       e at told (record_page io (b - io.first)) (record_zeroed io (b - io.first)) far
-      (λ z. ids-apart c.zero true (sym taken.aimed.ids ∙ is.1 z)) (given-page is)
+      (λ z. ids-apart c.zero true (sym taken.is_stream_record.ids ∙ is.1 z)) (given-page is)
 
   maybe-unread : io.first ≡ b → io.label.ended ≡ Failed → MayBeUnread c.was.value p e
   maybe-unread first failed = (io, failed_read c told relations p io taken b first failed)
 
   -- what stops the stream at the block
-  pub stop_is_next : (end : Ending) → IsPart told io b (part.Stop end)
+  pub stop_is_next : (end : Ending) → IsValidPart told io b (part.Stop end)
       → IsNext (reader_of c.zero told) (MayBeUnread c.was.value p) (stream_entries c.relation list)
       k (SaidStop (synchronous_ending end))
   stop_is_next ending.End is = absurd is
@@ -97,8 +97,9 @@ module _ {W P : Type 0} (c : Scope W) (told : Option Told) (relations : ℕ) (li
       (stream_entries c.relation list) k (SaidStop (synchronous_ending (ending.Invalid z))))
       (sym is.0)
       (next-invalid c.zero (MayBeUnread c.was.value p) (stream_entries c.relation list) k e at told
-      far (ids-apart c.zero false (sym taken.aimed.ids ∙ is.1))
-      (subst (λ (r : ℕ). IfSome told (λ t. found_at t r b ≡ Damaged)) taken.aimed.relation is.2))
+      far (ids-apart c.zero false (sym taken.is_stream_record.ids ∙ is.1))
+      (subst (λ (r : ℕ). IfSome told (λ t. found_at t r b ≡ Damaged))
+      taken.is_stream_record.relation is.2))
   stop_is_next (ending.Unread n) is =
       subst (λ (z : ℕ). IsNext (reader_of c.zero told) (MayBeUnread c.was.value p)
       (stream_entries c.relation list) k (SaidStop (synchronous_ending (ending.Unread z))))
@@ -111,4 +112,5 @@ module _ {W P : Type 0} (c : Scope W) (told : Option Told) (relations : ℕ) (li
       (sym is.0)
       (next-past-end c.zero (MayBeUnread c.was.value p) (stream_entries c.relation list) k e at told
       far
-      (subst (λ (r : ℕ). IfSome told (λ t. found_at t r b ≡ Absent)) taken.aimed.relation is.1))
+      (subst (λ (r : ℕ). IfSome told (λ t. found_at t r b ≡ Absent)) taken.is_stream_record.relation
+      is.1))

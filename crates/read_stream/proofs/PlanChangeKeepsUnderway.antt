@@ -54,24 +54,24 @@ module _ {W S P : Type 0} (left : S → List (ℕ × P)) (told : Option Told)
   underway_plan pl hand behind behind' spent e out u =
       let g = u.running in
       record {
-        steady = invariant_beside left told relations handles p s (record s { plan = pl }) u.steady;
+        invariant = invariant_beside left told relations handles p s (record s { plan = pl })
+            u.invariant;
         running = record {
-          few = g.few;
+          given_within = g.given_within;
           readable = g.readable;
           blocks = g.blocks;
-          over = g.over;
-          front = g.front
+          none_left_if_over = g.none_left_if_over;
+          queue_order = g.queue_order
               ∙ ap (λ (z : List ℕ). hand ++ (wanted_blocks s.desk.now.wants.items ++ z)) out;
           wants = g.wants;
           runs = g.runs;
-          io_budget = g.io_budget;
+          few_ios = g.few_ios;
           ahead = e.counts.ahead ∙ g.ahead;
-          within = g.within;
+          queue_within_limit = g.queue_within_limit;
           in_use = let z = g.in_use in let y = e.ios in omega arith;
-          spare = g.spare;
+          spare_record = g.spare_record;
           combine = e.counts.combine ∙ g.combine;
           max_ios = e.counts.max_ios ∙ g.max_ios;
           limit = e.counts.limit ∙ g.limit;
-          most = g.most;
         };
       }

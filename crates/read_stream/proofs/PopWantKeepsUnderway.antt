@@ -14,7 +14,7 @@ use Rattle.read_stream.specs.declared.queue.Want.{Want}
 use Rattle.read_stream.specs.declared.reads.Reads.{Reads}
 use Rattle.read_stream.specs.declared.scope.Scope.{Scope}
 use Rattle.read_stream.specs.declared.stream.ReadStream.{ReadStream}
-use Rattle.read_stream.specs.StreamIos.{Issued, ReadsForRuns, ios_allowed}
+use Rattle.read_stream.specs.StreamIos.{Issued, ReadsForRuns}
 use Rattle.read_stream.specs.WantedBlocks.{blocks_of_want, wanted_blocks, runs_of_want, wanted_runs}
 use Rattle.read_stream.specs.WantedBlocks.{pending_blocks}
 use Rattle.read_stream.specs.PagesAtHand.{count_some}
@@ -32,8 +32,8 @@ module _ {W S P : Type 0} (left : S → List (ℕ × P)) (told : Option Told)
     pub pops_queue : SameQueue s n
     pops_queue = record {
       same = record {
-        scope = k.consumer_unchanged.keeps.scope;
-        source_was = k.consumer_unchanged.keeps.source_was;
+        scope = k.consumer_unchanged.same_stream.scope;
+        source_was = k.consumer_unchanged.same_stream.source_was;
         settings = k.consumer_unchanged.settings;
         queue = ap (λ (z : Buffer (QueuedBlock P)). z.capacity) k.queue;
         wants = ap (λ (z : Buffer Want). z.capacity) k.wants;
@@ -48,7 +48,6 @@ module _ {W S P : Type 0} (left : S → List (ℕ × P)) (told : Option Told)
       over = k.over;
       queue = ap (λ (z : Buffer (QueuedBlock P)). z.items) k.queue;
       given = k.consumer_unchanged.given;
-      made = ap (λ (z : Reads W). ios_allowed z) k.reads;
     }
 
     pub underway_popped : (w : Want) (ws : List Want) → s.desk.now.wants.items ≡ w ∷ ws
@@ -65,25 +64,26 @@ module _ {W S P : Type 0} (left : S → List (ℕ × P)) (told : Option Told)
         let long : length (wanted_runs n.desk.now.wants.items)
         ≡ length (wanted_runs s.desk.now.wants.items) =
         ap (λ (z : List Run). length z) same-runs in
-        let (reads, batch, free, io_budget) =
+        let (reads, batch, free, started) =
         same_counts s.desk.now.reads n.desk.now.reads k.reads in
         let some : count_some n.current ≡ count_some s.current =
         ap (λ (z : Option ReadIoView). count_some z) k.consumer_unchanged.current in
         let ios : n.plan.ios_in_progress ≡ s.plan.ios_in_progress =
         ap (λ (z : PlanView). z.ios_in_progress) k.plan in
-        let scope : n.scope ≡ s.scope = k.consumer_unchanged.keeps.scope in
+        let scope : n.scope ≡ s.scope = k.consumer_unchanged.same_stream.scope in
         record {
-          steady = invariant_moved left told relations handles p p s n pops_queue.same u.steady
+          invariant = invariant_moved left told relations handles p p s n pops_queue.same
+              u.invariant
               (subst (λ (z : Scope W). Issued z told relations p n.desk.now.reads) (sym scope)
               (subst (λ (z : Reads W). Issued s.scope told relations p z) (sym k.reads)
-              u.steady.issued))
-              (let z = u.steady.staged in omega arith)
+              u.invariant.issued))
+              (let z = u.invariant.batch_within in omega arith)
               (current_kept left told relations handles p p s n pops_queue.same 0 0 0 0
-              k.consumer_unchanged.current (advanced_nothing p 0 0) u.steady.current)
-              (let z = u.steady.all in omega arith);
+              k.consumer_unchanged.current (advanced_nothing p 0 0) u.invariant.current)
+              (let z = u.invariant.record_total in omega arith);
           running = running_moved left told relations handles p p s n pops_queue [] [] 0
               (blocks_of_want w) [] 0 g
-              (g.front
+              (g.queue_order
               ∙ (ap (λ (z : List Want). wanted_blocks z ++ (pending_blocks s.plan.pending ++ []))
               first
               ∙ (append_assoc (blocks_of_want w) (wanted_blocks ws)
@@ -99,7 +99,7 @@ module _ {W S P : Type 0} (left : S → List (ℕ × P)) (told : Option Told)
               (wanted_runs s.desk.now.wants.items)) (sym scope)
               (subst (λ (z : Reads W). ReadsForRuns s.scope p z
               (wanted_runs s.desk.now.wants.items)) (sym k.reads) g.runs)))
-              (let z = g.io_budget in omega arith)
+              (let z = g.few_ios in omega arith)
               (let z = g.in_use in omega arith)
-              (let z = g.spare in omega arith);
+              (let z = g.spare_record in omega arith);
         }

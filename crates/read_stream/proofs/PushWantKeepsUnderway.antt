@@ -13,8 +13,8 @@ use Rattle.read_stream.specs.declared.queue.Want.{Want}
 use Rattle.read_stream.specs.declared.reads.Reads.{Reads}
 use Rattle.read_stream.specs.declared.scope.Scope.{Scope}
 use Rattle.read_stream.specs.declared.stream.ReadStream.{ReadStream}
-use Rattle.read_stream.specs.StreamIos.{Issued, ReadsForRuns, ios_allowed}
-use Rattle.read_stream.specs.WantedBlocks.{IsWant, blocks_of_want, wanted_blocks, runs_of_want}
+use Rattle.read_stream.specs.StreamIos.{Issued, ReadsForRuns}
+use Rattle.read_stream.specs.WantedBlocks.{IsValidWant, blocks_of_want, wanted_blocks, runs_of_want}
 use Rattle.read_stream.specs.WantedBlocks.{wanted_runs, pending_blocks}
 use Rattle.read_stream.specs.PagesAtHand.{count_some, record_blocks_left}
 use Rattle.read_stream.specs.StreamState.{Underway, UnderwayWith}
@@ -35,7 +35,7 @@ module _ {W S P : Type 0} (left : S → List (ℕ × P)) (told : Option Told)
   -- the block behind is wanted from the pool
   pub underway_pushed : (w : Want)
       → UnderwayWith left told relations handles rest (blocks_of_want w) 0 p s
-      → s.plan.pending ≡ None → runs_of_want w ≡ [] → IsWant s.desk.now.combine handles w
+      → s.plan.pending ≡ None → runs_of_want w ≡ [] → IsValidWant s.desk.now.combine handles w
       → PushesWant w s n → Underway left told relations handles p n
   underway_pushed w u none no_run is k =
       let g = u.running in
@@ -51,8 +51,8 @@ module _ {W S P : Type 0} (left : S → List (ℕ × P)) (told : Option Told)
       let long : length (wanted_runs n.desk.now.wants.items) ≡ length (wanted_runs ws) =
       ap (λ (z : List Run). length z) same-runs in
       let same : SameScopeAndDesk s n = record {
-        scope = k.consumer_unchanged.keeps.scope;
-        source_was = k.consumer_unchanged.keeps.source_was;
+        scope = k.consumer_unchanged.same_stream.scope;
+        source_was = k.consumer_unchanged.same_stream.source_was;
         settings = k.consumer_unchanged.settings;
         queue = ap (λ (z : Buffer (QueuedBlock P)). z.capacity) k.queue;
         wants = ap (λ (z : Buffer Want). z.capacity) k.wants;
@@ -61,21 +61,21 @@ module _ {W S P : Type 0} (left : S → List (ℕ × P)) (told : Option Told)
       ap (λ (z : Option Run). pending_blocks z) none in
       let now-none : pending_blocks n.plan.pending ≡ [] =
       ap (λ (z : Option Run). pending_blocks z) (k.pending ∙ none) in
-      let (reads, batch, free, io_budget) =
+      let (reads, batch, free, started) =
       same_counts s.desk.now.reads n.desk.now.reads k.reads in
       let some : count_some n.current ≡ count_some s.current =
       ap (λ (z : Option ReadIoView). count_some z) k.consumer_unchanged.current in
-      let scope : n.scope ≡ s.scope = k.consumer_unchanged.keeps.scope in
+      let scope : n.scope ≡ s.scope = k.consumer_unchanged.same_stream.scope in
       record {
-        steady = invariant_moved left told relations handles p p s n same u.steady
+        invariant = invariant_moved left told relations handles p p s n same u.invariant
             (subst (λ (z : Scope W). Issued z told relations p n.desk.now.reads) (sym scope)
             (subst (λ (z : Reads W). Issued s.scope told relations p z) (sym k.reads)
-            u.steady.issued))
-            (let z = u.steady.staged in omega arith)
+            u.invariant.issued))
+            (let z = u.invariant.batch_within in omega arith)
             (current_kept left told relations handles p p s n same 0 0 0 0
             k.consumer_unchanged.current
-            (advanced_nothing p 0 0) u.steady.current)
-            (let z = u.steady.all in omega arith);
+            (advanced_nothing p 0 0) u.invariant.current)
+            (let z = u.invariant.record_total in omega arith);
         running = running_moved left told relations handles p p s n (record {
           same = same;
           counts = record {
@@ -88,9 +88,8 @@ module _ {W S P : Type 0} (left : S → List (ℕ × P)) (told : Option Told)
           over = k.over;
           queue = ap (λ (z : Buffer (QueuedBlock P)). z.items) k.queue;
           given = k.consumer_unchanged.given;
-          made = ap (λ (z : Reads W). ios_allowed z) k.reads;
         }) rest (blocks_of_want w) 0 (record_blocks_left n.current n.step) [] 0 g
-            (g.front
+            (g.queue_order
             ∙ (ap (λ (z : List ℕ). rest ++ (wanted_blocks ws ++ (z ++ blocks_of_want w))) was-none
             ∙ (ap (λ (z : List ℕ). rest ++ z)
             (sym (append-nil (wanted_blocks ws ++ blocks_of_want w)))
@@ -101,13 +100,14 @@ module _ {W S P : Type 0} (left : S → List (ℕ × P)) (told : Option Told)
             ++ (wanted_blocks n.desk.now.wants.items ++ (pending_blocks n.plan.pending ++ [])))
             (sym (rest_kept s.current n.current s.step n.step k.consumer_unchanged.current
             k.consumer_unchanged.step)))))))
-            (subst (λ (z : List Want). (x : Want) → IsIn x z → IsWant s.desk.now.combine handles x)
+            (subst (λ (z : List Want). (x : Want) → IsIn x z → IsValidWant s.desk.now.combine
+            handles x)
             (sym wants)
-            (each-pushed (λ x. IsWant s.desk.now.combine handles x) ws w g.wants is))
+            (each-pushed (λ x. IsValidWant s.desk.now.combine handles x) ws w g.wants is))
             (subst (λ (z : List Run). ReadsForRuns n.scope p n.desk.now.reads z) (sym same-runs)
             (subst (λ (z : Scope W). ReadsForRuns z p n.desk.now.reads (wanted_runs ws)) (sym scope)
             (subst (λ (z : Reads W). ReadsForRuns s.scope p z (wanted_runs ws)) (sym k.reads)
-            g.runs))) (let z = g.io_budget in omega arith)
+            g.runs))) (let z = g.few_ios in omega arith)
             (let z = g.in_use in let y = k.ios in omega arith)
-            (let z = g.spare in omega arith);
+            (let z = g.spare_record in omega arith);
       }

@@ -1,17 +1,18 @@
 -- The block at the front of a stream's queue.
 use Rattle.std.proofs.Common.{◌≡◌, ℕ, ◌+◌, ◌-◌, ◌<◌, ◌≤◌, List, [], ◌∷◌, ◌++◌, length, map, ap, sym}
-use Rattle.std.proofs.Common.{arith, ◌∙◌, append_assoc, suc}
+use Rattle.std.proofs.Common.{arith, ◌∙◌, append_assoc, suc, drop, length-append}
 use Rattle.std.specs.Prelude.{Option, Some, None, slice_get}
 use Rattle.std.specs.List.{range_with_len}
-use Rattle.std.proofs.lemmas.List.{length-map}
+use Rattle.std.proofs.lemmas.List.{length-map, length-drop}
 use Rattle.page_check.specs.Told.{Told}
 use Rattle.aio_word.specs.declared.Known.{Known}
 use Rattle.read_plan.specs.declared.runs.Run.{Run}
 use Rattle.read_stream.specs.declared.queue.Want.{Want}
 use Rattle.read_stream.specs.declared.stream.ReadStream.{ReadStream}
 use Rattle.read_stream.specs.WantedBlocks.{block_number, blocks_of_want, wanted_blocks}
-use Rattle.read_stream.specs.WantedBlocks.{pending_blocks}
-use Rattle.read_stream.specs.StreamState.{UnderwayWith}
+use Rattle.read_stream.specs.WantedBlocks.{pending_blocks, source_item}
+use Rattle.read_stream.specs.StreamIos.{ios_started}
+use Rattle.read_stream.specs.StreamState.{UnderwayWith, IsRunning}
 use Rattle.read_stream.proofs.WantedBlocks.{few_in_queue}
 
 pub front_is : (xs ys : List ℕ) (a b : ℕ) → xs ≡ a ∷ ys → slice_get xs 0 ≡ Some b → a ≡ b
@@ -35,7 +36,7 @@ module _ {W S P : Type 0} (left : S → List (ℕ × P)) (told : Option Told)
   front_want p s w ws b block first one at u =
       let more : List ℕ = wanted_blocks ws ++ (pending_blocks s.plan.pending ++ []) in
       front_is (map block_number s.desk.now.queue.items) more b block
-      (u.running.front
+      (u.running.queue_order
       ∙ (ap (λ (z : List Want). wanted_blocks z ++ (pending_blocks s.plan.pending ++ [])) first
       ∙ (append_assoc (blocks_of_want w) (wanted_blocks ws) (pending_blocks s.plan.pending ++ [])
       ∙ ap (λ (z : List ℕ). z ++ more) one))) at
@@ -46,18 +47,40 @@ module _ {W S P : Type 0} (left : S → List (ℕ × P)) (told : Option Told)
       → slice_get (map block_number s.desk.now.queue.items) 0 ≡ Some block
       → UnderwayWith left told relations handles [] [] 0 p s → ⊥
   no_front p s block none idle at u =
-      let empty : map block_number s.desk.now.queue.items ≡ [] = u.running.front
+      let empty : map block_number s.desk.now.queue.items ≡ [] = u.running.queue_order
       ∙ (ap (λ (z : List Want). wanted_blocks z ++ (pending_blocks s.plan.pending ++ [])) none
       ∙ ap (λ (z : Option Run). pending_blocks z ++ []) idle) in
       let e : None ≡ Some block = sym (ap (λ (z : List ℕ). slice_get z 0) empty) ∙ at in cc
 
-  -- one more I/O may be made for a block at hand
+  -- what was given and what is in the queue are blocks of the list
+  pub queue_within_list : (hand behind : List ℕ) (spent : ℕ) (p : Known) (s : ReadStream W S P)
+      → IsRunning left told relations handles hand behind spent p s
+      → s.given + length s.desk.now.queue.items ≤ length (left s.source_was.value)
+  queue_within_list hand behind spent p s g =
+      let all : length (map source_item s.desk.now.queue.items ++ left s.source)
+      ≡ length (drop s.given (left s.source_was.value)) =
+      ap (λ (z : List (ℕ × P)). length z) g.blocks in
+      let parts = length-append (map source_item s.desk.now.queue.items) (left s.source) in
+      let n = length-map s.desk.now.queue.items source_item in
+      let rest = length-drop s.given (left s.source_was.value) in
+      let few = g.given_within in omega arith
+
+  -- no more I/Os were started than the list has blocks, and fewer where one at hand has none
+  pub ios_within_list : (hand behind : List ℕ) (spent : ℕ) (p : Known) (s : ReadStream W S P)
+      → IsRunning left told relations handles hand behind spent p s
+      → ios_started s.desk.now.reads + length hand ≤ length (left s.source_was.value) + spent
+  ios_within_list hand behind spent p s g =
+      let few = few_in_queue s.desk.now.combine handles s.desk.now.wants.items
+      (map block_number s.desk.now.queue.items) hand (pending_blocks s.plan.pending) behind
+      g.wants g.queue_order in
+      let n = length-map s.desk.now.queue.items block_number in
+      let all = queue_within_list hand behind spent p s g in
+      let c = g.few_ios in omega arith
+
+  -- one more I/O may be started for a block at hand
   pub may_read : (p : Known) (s : ReadStream W S P) (hand : List ℕ)
       → UnderwayWith left told relations handles hand [] 0 p s → 1 ≤ length hand
-      → 0 < s.desk.now.reads.io_budget
+      → ios_started s.desk.now.reads < s.scope.most
   may_read p s hand u some =
-      let few = few_in_queue s.desk.now.combine handles s.desk.now.wants.items
-      (map block_number s.desk.now.queue.items) hand (pending_blocks s.plan.pending) []
-      u.running.wants u.running.front in
-      let n = length-map s.desk.now.queue.items block_number in
-      let c = u.running.io_budget in omega arith
+      let few = ios_within_list hand [] 0 p s u.running in
+      let short = u.invariant.list_within_most in omega arith

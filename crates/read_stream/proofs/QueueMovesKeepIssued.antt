@@ -12,9 +12,9 @@ use Rattle.aio_callback.specs.ReadIoView.{ReadIoView}
 use Rattle.circular_buffer.specs.Buffer.{Buffer, buffer}
 use Rattle.read_stream.specs.declared.reads.Reads.{Reads}
 use Rattle.read_stream.specs.declared.scope.Scope.{Scope}
-use Rattle.read_stream.specs.StreamIos.{Issued, HeldByCaller, AreStreamIos, IsTakenIn}
-use Rattle.read_stream.specs.StreamIos.{references}
-use Rattle.read_stream.specs.StreamIos.{record_count, ios_allowed}
+use Rattle.read_stream.specs.StreamIos.{Issued, HeldByCaller, AllStreamIos, IsTakenIn}
+use Rattle.read_stream.specs.StreamIos.{staged_references}
+use Rattle.read_stream.specs.StreamIos.{record_count, ios_started}
 use Rattle.read_stream.proofs.PushedList.{each-pushed}
 
 -- the first of a list, and what is behind it
@@ -52,23 +52,23 @@ module _ {W : Type 0} (c : Scope W) (told : Option Told) (relations : ℕ) (p : 
         free = most_free;
         in_flight = i.room.in_flight;
         ended = most_ended;
-        few = few;
+        count_within = few;
       };
       number = i.number;
       config = i.config;
-      out = i.out;
+      nothing_handed_out = i.nothing_handed_out;
       free = are_free;
-      held = i.held;
-      staged = i.staged;
+      staged_tokens = i.staged_tokens;
+      staged_ios = i.staged_ios;
       stream_ios = i.stream_ios;
-      ended = have_ended;
-      owed = i.owed;
-      most = i.most;
-      small = i.small;
+      ended_records = have_ended;
+      unreclaimed_ios = i.unreclaimed_ios;
+      within_most = i.within_most;
+      most_in_range = i.most_in_range;
       room_was = i.room_was;
-      taken = i.taken;
-      lived = i.lived;
-      since = i.since;
+      taken_in_count = i.taken_in_count;
+      lives_bound = i.lives_bound;
+      marks_since_open = i.marks_since_open;
     }
 
     -- the oldest record that has ended is taken out
@@ -86,10 +86,10 @@ module _ {W : Type 0} (c : Scope W) (told : Option Told) (relations : ℕ) (p : 
         let cap : queue.capacity ≡ s.ended.capacity =
         ap (λ (z : Buffer ReadIoView). z.capacity) now in (
           issued-records s.free queue i.room.free (let f = i.room.ended in omega arith)
-              (let f = i.room.few in omega arith) i.free
-              (λ x j. i.ended x (subst (λ (z : List ReadIoView). IsIn x z) (sym is)
+              (let f = i.room.count_within in omega arith) i.free
+              (λ x j. i.ended_records x (subst (λ (z : List ReadIoView). IsIn x z) (sym is)
               (inr (subst (λ (z : List ReadIoView). IsIn x z) items j)))) i,
-          i.ended r (subst (λ (z : List ReadIoView). IsIn r z) (sym is) (inl refl)),
+          i.ended_records r (subst (λ (z : List ReadIoView). IsIn r z) (sym is) (inl refl)),
           omega arith,
         )
 
@@ -99,7 +99,7 @@ module _ {W : Type 0} (c : Scope W) (told : Option Told) (relations : ℕ) (p : 
         → Issued c told relations p s
         → HeldByCaller c told relations p (record s { in_flight = queue }) t
         × (record_count s ≡ record_count (record s { in_flight = queue }) + 1)
-        × (ios_allowed s ≡ ios_allowed (record s { in_flight = queue }) + 1)
+        × (ios_started s ≡ ios_started (record s { in_flight = queue }) + 1)
     less-in-flight t rest queue is now i =
         let whole : length s.in_flight.items ≡ length (t ∷ rest) =
         ap (λ (z : List WaitRef). length z) is in
@@ -107,38 +107,38 @@ module _ {W : Type 0} (c : Scope W) (told : Option Told) (relations : ℕ) (p : 
         let parts : length queue.items ≡ length rest = ap (λ (z : List WaitRef). length z) items in
         let cap : queue.capacity ≡ s.in_flight.capacity =
         ap (λ (z : Buffer WaitRef). z.capacity) now in
-        let stream_ios : AreStreamIos c p (t ∷ rest) =
-        subst (λ (z : List WaitRef). AreStreamIos c p z) is i.stream_ios in (
+        let stream_ios : AllStreamIos c p (t ∷ rest) =
+        subst (λ (z : List WaitRef). AllStreamIos c p z) is i.stream_ios in (
           record {
             issued = record {
               room = record {
                 free = i.room.free;
                 in_flight = let f = i.room.in_flight in omega arith;
                 ended = i.room.ended;
-                few = let f = i.room.few in omega arith;
+                count_within = let f = i.room.count_within in omega arith;
               };
               number = i.number;
               config = i.config;
-              out = i.out;
+              nothing_handed_out = i.nothing_handed_out;
               free = i.free;
-              held = i.held;
-              staged = i.staged;
-              stream_ios = subst (λ (z : List WaitRef). AreStreamIos c p z) (sym items)
+              staged_tokens = i.staged_tokens;
+              staged_ios = i.staged_ios;
+              stream_ios = subst (λ (z : List WaitRef). AllStreamIos c p z) (sym items)
                   stream_ios.2;
-              ended = i.ended;
-              owed = λ x. ⊎_elim (λ over. inl over)
+              ended_records = i.ended_records;
+              unreclaimed_ios = λ x. ⊎_elim (λ over. inl over)
                   (λ j. inr (subst
-                  (λ (z : List WaitRef). IsIn x ((t ∷ []) ++ references s.batch ++ z))
+                  (λ (z : List WaitRef). IsIn x ((t ∷ []) ++ staged_references s.batch ++ z))
                   (sym items)
-                  (in-moved x t (references s.batch) rest
-                  (subst (λ (z : List WaitRef). IsIn x (references s.batch ++ z)) is j))))
-                  (i.owed x);
-              most = let f = i.most in omega arith;
-              small = i.small;
+                  (in-moved x t (staged_references s.batch) rest
+                  (subst (λ (z : List WaitRef). IsIn x (staged_references s.batch ++ z)) is j))))
+                  (i.unreclaimed_ios x);
+              within_most = let f = i.within_most in omega arith;
+              most_in_range = i.most_in_range;
               room_was = i.room_was;
-              taken = i.taken;
-              lived = i.lived;
-              since = i.since;
+              taken_in_count = i.taken_in_count;
+              lives_bound = i.lives_bound;
+              marks_since_open = i.marks_since_open;
             };
             stream_ios = stream_ios.0;
             apart = λ u j. stream_ios.1 u (subst (λ (z : List WaitRef). IsIn u z) items j);
@@ -167,7 +167,8 @@ module _ {W : Type 0} (c : Scope W) (told : Option Told) (relations : ℕ) (p : 
               (λ (z : List ReadIoView). (x : ReadIoView) → IsIn x z
               → IsTakenIn c told relations p x)
               (sym items)
-              (each-pushed (λ x. IsTakenIn c told relations p x) s.ended.items r i.ended new)) i,
+              (each-pushed (λ x. IsTakenIn c told relations p x) s.ended.items r i.ended_records
+              new)) i,
           omega arith,
         )
 
@@ -188,7 +189,7 @@ module _ {W : Type 0} (c : Scope W) (told : Option Told) (relations : ℕ) (p : 
               (omega arith)
               (subst (λ (z : List ReadIoView). (x : ReadIoView) → IsIn x z
               → length x.pages ≡ c.combine)
-              (sym items) first-or-free) i.ended i,
+              (sym items) first-or-free) i.ended_records i,
           omega arith,
         )
       where
@@ -213,37 +214,10 @@ module _ {W : Type 0} (c : Scope W) (told : Option Told) (relations : ℕ) (p : 
         let cap : queue.capacity ≡ s.free.capacity =
         ap (λ (z : Buffer ReadIoView). z.capacity) now in (
           issued-records queue s.ended (let f = i.room.free in omega arith) i.room.ended
-              (let f = i.room.few in omega arith)
+              (let f = i.room.count_within in omega arith)
               (λ x j. i.free x (subst (λ (z : List ReadIoView). IsIn x z) (sym is)
-              (inr (subst (λ (z : List ReadIoView). IsIn x z) items j)))) i.ended i,
+              (inr (subst (λ (z : List ReadIoView). IsIn x z) items j)))) i.ended_records i,
           i.free r (subst (λ (z : List ReadIoView). IsIn r z) (sym is) (inl refl)),
           omega arith,
           omega arith,
         )
-
-    -- one more I/O may be made
-    pub more-budget : ios_allowed s + 1 ≤ c.most → Issued c told relations p s
-        → Issued c told relations p (record s { io_budget = s.io_budget + 1 })
-    more-budget room i = record {
-      room = record {
-        free = i.room.free;
-        in_flight = i.room.in_flight;
-        ended = i.room.ended;
-        few = i.room.few;
-      };
-      number = i.number;
-      config = i.config;
-      out = i.out;
-      free = i.free;
-      held = i.held;
-      staged = i.staged;
-      stream_ios = i.stream_ios;
-      ended = i.ended;
-      owed = i.owed;
-      most = omega arith;
-      small = i.small;
-      room_was = i.room_was;
-      taken = i.taken;
-      lived = i.lived;
-      since = i.since;
-    }

@@ -12,7 +12,7 @@ use Rattle.circular_buffer.specs.Buffer.{buffer}
 use Rattle.read_plan.specs.declared.runs.Run.{Run}
 use Rattle.read_stream.specs.declared.reads.Reads.{Reads}
 use Rattle.read_stream.specs.declared.scope.Scope.{Scope}
-use Rattle.read_stream.specs.StreamIos.{IsAimed, IsForBlocks, InFlightForRuns, ReadsForRuns}
+use Rattle.read_stream.specs.StreamIos.{IsStreamRecord, ReadsBlocks, InFlightForRuns, ReadsForRuns}
 use Rattle.read_stream.specs.StreamIos.{IsRecordForRun, run_of}
 use Rattle.read_stream.specs.ActorProgress.{ActorAdvanced}
 use Rattle.read_stream.proofs.SubmitKeepsIssued.{is-none, only-one}
@@ -45,7 +45,7 @@ module _ {W : Type 0} (c : Scope W) where
   in-flight-later p q (t ∷ ts) [] aims f = absurd f
 
   in-flight-push : (p : Known) (ts : List WaitRef) (runs : List Run) (t : WaitRef) (run : Run)
-      → InFlightForRuns c p ts runs → IsForBlocks c run.first run.count p t
+      → InFlightForRuns c p ts runs → ReadsBlocks c run.first run.count p t
       → InFlightForRuns c p (ts ++ t ∷ []) (runs ++ run ∷ [])
   in-flight-push p [] [] t run f new = (new, tt)
   in-flight-push p (u ∷ ts) (r ∷ runs) t run f new = (f.0, in-flight-push p ts runs t run f.1 new)
@@ -55,7 +55,7 @@ module _ {W : Type 0} (c : Scope W) where
   -- the first I/O was waited for, and its record came
   pub in-flight-first : (p q : Known) (t : WaitRef) (ts : List WaitRef) (io : ReadIoView)
       (runs : List Run) → ((x : WaitRef × List ℕ) → IsIn x p.aims → IsIn x q.aims)
-      → ((first count : ℕ) → IsForBlocks c first count p t → (io.first ≡ first)
+      → ((first count : ℕ) → ReadsBlocks c first count p t → (io.first ≡ first)
       × (io.count ≡ count)) → InFlightForRuns c p (t ∷ ts) runs
       → (rest : List Run) × (runs ≡ run_of io ∷ rest) × InFlightForRuns c q ts rest
   in-flight-first p q t ts io [] aims aim f = absurd f
@@ -93,7 +93,8 @@ module _ {W : Type 0} (c : Scope W) where
       (t : WaitRef) (a b d e : ℕ) (runs : List Run)
       → IsNextSubmission record_aim s.batch after t p q a b d e
       → ActorAdvanced p q a b d e
-      → ((x : WaitRef × ReadIoView) → IsIn x s.batch → IsAimed c x.1) → ReadsForRuns c p s runs
+      → ((x : WaitRef × ReadIoView) → IsIn x s.batch → IsStreamRecord c x.1)
+      → ReadsForRuns c p s runs
       → ReadsForRuns c q (record s {
         batch = after;
         in_flight = buffer (s.in_flight.items ++ t ∷ []) s.in_flight.capacity;

@@ -29,16 +29,14 @@ use Rattle.aio_handle.proofs.TokensStay.{unchanged-elsewhere, unchanged-then}
 use Rattle.aio_handle.proofs.LivesCounted.{lives_ended-push}
 use Rattle.aio_batch.specs.StagedTokens.{AreStagedTokens}
 use Rattle.aio_batch.proofs.StagedTokensKept.{staged_tokens-kept}
-use Rattle.aio_waitref.specs.Waiting.{WaitsAndTakes}
+use Rattle.aio_waitref.specs.WaitOutcomes.{WaitsAndTakes}
 use Rattle.aio_callback.specs.ReadIoView.{ReadIoView, ReadFits, ReadsAs, record_aim, after_local}
 use Rattle.aio_callback.specs.Finishes.{record_reference}
 use Rattle.aio_callback.proofs.AimNamesRead.{reads-as}
 use Rattle.read_stream.specs.declared.reads.Reads.{Reads}
 use Rattle.read_stream.specs.declared.scope.Scope.{Scope}
-use Rattle.aio_callback.specs.declared.counting.Counts.{Counts}
 use Rattle.read_stream.specs.StreamIos.{IsNewIncarnation, IsStreamIo, IsTakenIn, IssuedExcept}
-use Rattle.read_stream.specs.StreamIos.{Issued, IsForBlocks, HasIdleHandle}
-use Rattle.read_stream.specs.StreamIos.{known_at_open}
+use Rattle.read_stream.specs.StreamIos.{Issued, ReadsBlocks, HasIdleHandle, known_at_open}
 use Rattle.read_stream.specs.ActorProgress.{ActorAdvanced, MarkedSince}
 use Rattle.read_stream.proofs.ActorAdvancedLaws.{advanced_then, advanced_made, advanced_waiting}
 use Rattle.read_stream.proofs.OwnerCountsKept.{OwnerCountsUnchanged, owner-counts-then}
@@ -55,20 +53,20 @@ module _ (p m q : Known) (t : WaitRef) (l : Label) (a b d e : ℕ) (class : Clas
     (idle_word (t.generation + 1)) [] m q)
   where
     abbrev before : Known
-    before = w.taken.between
+    before = w.result_taken.between
 
     idles : OwnerCountsUnchanged p before
-    idles = owner-counts-then p w.between before (owner-counts-taking-up p w.between a b d e w.took)
-        (owner-counts-looking t.handle w.taken.found w.between before w.taken.looked)
+    idles = owner-counts-then p w.between before (owner-counts-taking-up p w.between a b d e w.execution)
+        (owner-counts-looking t.handle w.result_taken.found w.between before w.result_taken.word_load)
 
     abbrev local-mark : Mark
-    local-mark = make_mark t (kind.Local w.taken.class)
+    local-mark = make_mark t (kind.Local w.result_taken.class)
 
     abbrev last-mark : Mark
     last-mark = make_mark t kind.Reclaimed
 
     marks-m : m.marks ≡ before.marks ++ local-mark ∷ []
-    marks-m = ap (λ (z : Known). z.marks) w.taken.made.is
+    marks-m = ap (λ (z : Known). z.marks) w.result_taken.event_made.is
 
     marks-q : q.marks ≡ m.marks ++ last-mark ∷ []
     marks-q = ap (λ (z : Known). z.marks) r.is
@@ -88,26 +86,26 @@ module _ (p m q : Known) (t : WaitRef) (l : Label) (a b d e : ℕ) (class : Clas
 
     pub config-is : q.config ≡ p.config
     config-is = ap (λ (z : Known). z.config) r.is
-        ∙ (ap (λ (z : Known). z.config) w.taken.made.is ∙ idles.config)
+        ∙ (ap (λ (z : Known). z.config) w.result_taken.event_made.is ∙ idles.config)
 
     pub number-is : q.number ≡ p.number
     number-is = ap (λ (z : Known). z.number) r.is
-        ∙ (ap (λ (z : Known). z.number) w.taken.made.is ∙ idles.number)
+        ∙ (ap (λ (z : Known). z.number) w.result_taken.event_made.is ∙ idles.number)
 
     out-is : q.out ≡ p.out
     out-is = ap (λ (z : Known). z.out) r.is
-        ∙ (ap (λ (z : Known). z.out) w.taken.made.is
-        ∙ (ap (λ (z : Known). z.out) w.taken.looked.is ∙ w.took.grows.out))
+        ∙ (ap (λ (z : Known). z.out) w.result_taken.event_made.is
+        ∙ (ap (λ (z : Known). z.out) w.result_taken.word_load.is ∙ w.execution.grows.out))
 
     pub kept : (u : WaitRef) → u ≢ t → TokenUnchanged u p q
     kept u ne = unchanged-then u p w.between q
-        (unchanged-by-execution u [] p w.between a b d e w.took)
+        (unchanged-by-execution u [] p w.between a b d e w.execution)
         (unchanged-then u w.between before q
-        (unchanged-by-look u t.handle w.taken.found w.between before w.taken.looked)
+        (unchanged-by-look u t.handle w.result_taken.found w.between before w.result_taken.word_load)
         (unchanged-then u before m q
         (unchanged-elsewhere u event.Local t.handle
-        (make_word CompletedShared false w.taken.class t.generation)
-        (taken_word w.taken.class t.generation) [] before m w.taken.made ne)
+        (make_word CompletedShared false w.result_taken.class t.generation)
+        (taken_word w.result_taken.class t.generation) [] before m w.result_taken.event_made ne)
         (unchanged-elsewhere u event.Reclaim t.handle (taken_word class t.generation)
         (idle_word (t.generation + 1)) [] m q r ne)))
 
@@ -151,8 +149,8 @@ module _ (p m q : Known) (t : WaitRef) (l : Label) (a b d e : ℕ) (class : Clas
         let to-k : m.config ≡ k = sym (ap (λ (z : Known). z.config) r.is) ∙ same in
         let there : IsIn local-mark m.marks = subst (λ (z : List Mark). IsIn local-mark z)
         (sym marks-m) (in-right local-mark before.marks (local-mark ∷ []) (inl refl)) in
-        let own = r.mine tt in
-        let lived = r.lived own in
+        let own = r.by_owner tt in
+        let lived = r.own_generation own in
         let count : lives_ended h q.marks ≡ lives_ended h (m.marks ++ last-mark ∷ []) =
         ap (lives_ended h) marks-q in
         let more = lives_ended-push h t.handle t.generation kind.Reclaimed m.marks in
@@ -161,67 +159,68 @@ module _ (p m q : Known) (t : WaitRef) (l : Label) (a b d e : ℕ) (class : Clas
         let generation : generation_of k q h ≡ t.generation + 1 = omega arith in
         record {
           handle = h;
-          inside = subst (λ (z : Config). h < handle_count z) to-k
-              ((r.moment.stands.each_list m r.moment.here).in_range local-mark there);
-          own = ap (λ (z : Known). z.number) r.is
+          in_range = subst (λ (z : Config). h < handle_count z) to-k
+              ((r.moment.words_match_lists.each_list m r.moment.here).in_range local-mark there);
+          is_own = ap (λ (z : Known). z.number) r.is
               ∙ (own ∙ ap (λ (z : Config). owner z h) to-k);
-          none = λ amid.
+          not_in_use = λ amid.
               (let seen = keeps.below h (8 * generation_of k q h + 0) amid.0 in
               let now = r.now in omega arith);
         }
 
     module _ {W : Type 0} (c : Scope W) (told : Option Told) (relations : ℕ) where
-      pub settled-issued : (s : Reads W) (k : Counts) → MarksOnceAndSeen (seen_rank q) q.marks
+      pub settled-issued : (s : Reads W) → MarksOnceAndSeen (seen_rank q) q.marks
           → IsStreamIo c p t
           → ((u : WaitRef) → IsIn u s.in_flight.items → u ≢ t)
           → IssuedExcept (t ∷ []) c told relations p s
-          → Issued c told relations q (record s { taken_in = s.taken_in + 1; counts = k })
-      settled-issued s k keeps stream_ios apart i =
+          → Issued c told relations q (record s { taken_in = s.taken_in + 1 })
+      settled-issued s keeps stream_ios apart i =
           record {
             room = record {
               free = i.room.free;
               in_flight = i.room.in_flight;
               ended = i.room.ended;
-              few = i.room.few;
+              count_within = i.room.count_within;
             };
             number = number-is ∙ i.number;
             config = config-is ∙ i.config;
-            out = out-is ∙ i.out;
+            nothing_handed_out = out-is ∙ i.nothing_handed_out;
             free = i.free;
-            held = held-kept-but c s.batch stream_ios i.held;
-            staged = i.staged;
+            staged_tokens = held-kept-but c s.batch stream_ios i.staged_tokens;
+            staged_ios = i.staged_ios;
             stream_ios = stream-ios-kept c p q s.in_flight.items (λ u j. kept u (apart u j))
                 i.stream_ios;
-            ended = λ x j. taken-grown c told relations p q more x grown advanced-settling.aims
-                (i.ended x j);
-            owed = λ x. ⊎_elim
-                (λ over. let f = same-defined t w.taken.class p.marks before.marks q.marks
+            ended_records = λ x j. taken-grown c told relations p q more x grown
+                advanced-settling.aims
+                (i.ended_records x j);
+            unreclaimed_ios = λ x. ⊎_elim
+                (λ over. let f = same-defined t w.result_taken.class p.marks before.marks q.marks
                 marks-both idles.defined x in
                 let g = more-reclaimed x in inl (omega arith))
                 (λ j. ⊎_elim
                 (λ same. inl (let f =
-                own-reclaimed t w.taken.class p.marks before.marks q.marks marks-both in
+                own-reclaimed t w.result_taken.class p.marks before.marks q.marks marks-both in
                 let o = keeps.once t.handle (8 * t.generation + 0) in
                 let own : count_at_place t 0 q.marks ≤ count_at_place t 7 q.marks = omega arith in
                 subst (λ (z : WaitRef). count_at_place z 0 q.marks ≤ count_at_place z 7 q.marks)
                 same own))
                 (λ rest. inr rest) j)
-                (i.owed x);
-            most = let f = i.most in omega arith;
-            small = i.small;
+                (i.unreclaimed_ios x);
+            within_most = let f = i.within_most in omega arith;
+            most_in_range = i.most_in_range;
             room_was = i.room_was;
-            taken =
-                let f = one-local t w.taken.class p.marks before.marks q.marks marks-both
+            taken_in_count =
+                let f = one-local t w.result_taken.class p.marks before.marks q.marks marks-both
                 idles.locals in
-                let g = i.taken in omega arith;
-            lived = λ h.
-                (let f = one-life t w.taken.class p.marks before.marks q.marks marks-both
+                let g = i.taken_in_count in omega arith;
+            lives_bound = λ h.
+                (let f = one-life t w.result_taken.class p.marks before.marks q.marks marks-both
                 idles.lived h in
-                let g = i.lived h in omega arith);
-            since = (
-              i.since.0 ++ more,
-              grown ∙ (ap (λ (z : List Mark). z ++ more) i.since.1
-                  ∙ append_assoc (known_at_open c).marks i.since.0 more),
+                let g = i.lives_bound h in omega arith);
+            marks_since_open = (
+              i.marks_since_open.0 ++ more,
+              grown ∙ (ap (λ (z : List Mark). z ++ more) i.marks_since_open.1
+                  ∙ append_assoc (known_at_open c).marks i.marks_since_open.0 more),
             );
           }
 
@@ -232,7 +231,7 @@ module _ (p m q : Known) (t : WaitRef) (l : Label) (a b d e : ℕ) (class : Clas
           → (actor_count c.was.value.known.config ≡ 1 → HasWholeLife t x.label.ended m)
           → IsTakenIn c told relations q y
       settled-reading s x y is labelled stream_ios i fits aimed alone =
-          let o = w.taken in
+          let o = w.result_taken in
           let label : x.label ≡ record {
             handle = t.handle;
             generation = t.generation;
@@ -245,47 +244,48 @@ module _ (p m q : Known) (t : WaitRef) (l : Label) (a b d e : ℕ) (class : Clas
           let named : record_reference y ≡ t =
           ap (λ (z : ReadIoView). record_reference z) is
           ∙ ap (λ (z : Label). wait_ref z.handle z.generation) label in
-          let z = stream_ios.aimed.0 in
-          let same : ReadsAs x z = reads-as x z (aimed (record_aim z) stream_ios.aimed.2) in
-          let is-aimed = stream_ios.aimed.1 in
-          let whole : q.marks ≡ (known_at_open c).marks ++ (i.since.0 ++ more) =
-          grown ∙ (ap (λ (z : List Mark). z ++ more) i.since.1
-          ∙ append_assoc (known_at_open c).marks i.since.0 more) in
+          let z = stream_ios.has_aim.0 in
+          let same : ReadsAs x z = reads-as x z (aimed (record_aim z) stream_ios.has_aim.2) in
+          let is-aimed = stream_ios.has_aim.1 in
+          let whole : q.marks ≡ (known_at_open c).marks ++ (i.marks_since_open.0 ++ more) =
+          grown ∙ (ap (λ (z : List Mark). z ++ more) i.marks_since_open.1
+          ∙ append_assoc (known_at_open c).marks i.marks_since_open.0 more) in
           let local : MarkedSince (known_at_open c) q (make_mark t (kind.Local o.class)) = (
-            i.since.0 ++ more,
+            i.marks_since_open.0 ++ more,
             whole,
-            in-right local-mark i.since.0 more local-in-more,
+            in-right local-mark i.marks_since_open.0 more local-in-more,
           ) in
           record {
             fits = fits;
-            ended = λ u. o.ended (sym ended ∙ u);
-            aimed = record {
+            has_ended = λ u. o.ended (sym ended ∙ u);
+            is_stream_record = record {
               ids = ap (λ (v : ReadIoView). v.ids) is ∙ (same.ids ∙ is-aimed.ids);
               relation = ap (λ (v : ReadIoView). v.relation) is
                   ∙ (same.relation ∙ is-aimed.relation);
               room = ap (λ (v : ReadIoView). length v.pages) is ∙ (same.room ∙ is-aimed.room);
             };
-            submitted = subst (λ (v : WaitRef). IsIn (v, record_aim y) q.aims) (sym named)
+            was_submitted = subst (λ (v : WaitRef). IsIn (v, record_aim y) q.aims) (sym named)
                 (subst (λ (v : List ℕ). IsIn (t, v) q.aims)
                 (sym (ap (λ (v : ReadIoView). record_aim v) is
-                ∙ aimed (record_aim z) stream_ios.aimed.2))
-                (advanced-settling.aims (t, record_aim z) stream_ios.aimed.2));
-            local = subst
+                ∙ aimed (record_aim z) stream_ios.has_aim.2))
+                (advanced-settling.aims (t, record_aim z) stream_ios.has_aim.2));
+            local_mark = subst
                 (λ (v : WaitRef). MarkedSince (known_at_open c) q
                 (make_mark v (kind.Local y.label.ended))) (sym named)
                 (subst (λ (v : Class). MarkedSince (known_at_open c) q (make_mark t (kind.Local v)))
                 (sym ended)
                 local);
-            alone = λ one.
+            io_mark_if_alone = λ one.
                 (let lived = alone one in
                 let there : IsIn (make_mark t (kind.Io x.label.ended)) q.marks =
                 subst (λ (v : List Mark). IsIn (make_mark t (kind.Io x.label.ended)) v)
                 (sym marks-q)
                 (in-left _ m.marks (last-mark ∷ []) lived.executed) in
                 let since : MarkedSince (known_at_open c) q (make_mark t (kind.Io x.label.ended)) = (
-                  i.since.0 ++ more,
+                  i.marks_since_open.0 ++ more,
                   whole,
-                  new-behind c (kind.Io x.label.ended) (i.since.0 ++ more) stream_ios.new
+                  new-behind c (kind.Io x.label.ended) (i.marks_since_open.0
+                      ++ more) stream_ios.is_new
                       (subst (λ (v : List Mark). IsIn (make_mark t (kind.Io x.label.ended)) v) whole
                       there),
                 ) in
@@ -298,7 +298,7 @@ module _ (p m q : Known) (t : WaitRef) (l : Label) (a b d e : ℕ) (class : Clas
 
       pub settled-for : (x y : ReadIoView) (first count : ℕ) → y ≡ after_local x
           → ((aim : List ℕ) → IsIn (t, aim) p.aims → record_aim x ≡ aim)
-          → IsForBlocks c first count p t → (y.first ≡ first) × (y.count ≡ count)
+          → ReadsBlocks c first count p t → (y.first ≡ first) × (y.count ≡ count)
       settled-for x y first count is aimed for_it =
           let same : ReadsAs x for_it.0 =
           reads-as x for_it.0 (aimed (record_aim for_it.0) for_it.2) in (

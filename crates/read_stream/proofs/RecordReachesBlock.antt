@@ -18,13 +18,13 @@ use Rattle.read_stream.specs.declared.queue.Want.TheVariants as want
 use Rattle.read_stream.specs.declared.reads.Reads.{Reads}
 use Rattle.read_stream.specs.declared.scope.Scope.{Scope}
 use Rattle.read_stream.specs.declared.stream.ReadStream.{ReadStream}
-use Rattle.read_stream.specs.StreamIos.{Issued, ReadsForRuns, IsTakenIn, record_count, ios_allowed}
+use Rattle.read_stream.specs.StreamIos.{Issued, ReadsForRuns, IsTakenIn, record_count, ios_started}
 use Rattle.read_stream.specs.StreamIos.{run_of}
-use Rattle.read_stream.specs.WantedBlocks.{IsWant, block_number, wanted_blocks, wanted_runs}
+use Rattle.read_stream.specs.WantedBlocks.{IsValidWant, block_number, wanted_blocks, wanted_runs}
 use Rattle.read_stream.specs.WantedBlocks.{pending_blocks}
 use Rattle.read_stream.specs.PagesAtHand.{record_blocks_from, count_some, blocks_at_hand, spent_ios}
 use Rattle.read_stream.specs.PagesAtHand.{IsAtHand}
-use Rattle.read_stream.specs.StreamState.{Reaches, UnderwayWith}
+use Rattle.read_stream.specs.StreamState.{BlockIsAtHand, UnderwayWith}
 use Rattle.read_stream.specs.Changes.{ReadsOne, PopsWant}
 use Rattle.read_stream.specs.Parts.{CoversBlock}
 use Rattle.read_stream.proofs.StreamInvariantLaws.{SameQueue, invariant_moved, running_moved}
@@ -47,20 +47,21 @@ module _ {W S P : Type 0} (left : S → List (ℕ × P)) (told : Option Told)
       → map block_number s.desk.now.queue.items
       ≡ record_blocks_from io block
       ++ (wanted_blocks n.desk.now.wants.items ++ (pending_blocks n.plan.pending ++ []))
-      → ((w : Want) → IsIn w n.desk.now.wants.items → IsWant s.desk.now.combine handles w)
+      → ((w : Want) → IsIn w n.desk.now.wants.items → IsValidWant s.desk.now.combine handles w)
       → ReadsForRuns n.scope q n.desk.now.reads (wanted_runs n.desk.now.wants.items)
-      → length s.desk.now.queue.items ≤ n.desk.now.reads.io_budget
-      + length (wanted_runs n.desk.now.wants.items) + spent_ios (Some io) block
+      → ios_started n.desk.now.reads
+      ≤ s.given + length (wanted_runs n.desk.now.wants.items) + spent_ios (Some io) block
       → n.plan.ios_in_progress + length n.desk.now.reads.free.items ≡ s.scope.total
-      → Reaches left told relations handles block q n
+      → BlockIsAtHand left told relations handles block q n
   reaches_record p q s n e io block hand spent u now none taken has issued few records front wants
-      runs io_budget in_use =
+      runs few_ios in_use =
       let some : count_some n.current ≡ 1 = ap (λ (z : Option ReadIoView). count_some z) now in
       let owed : spent_ios n.current block ≡ spent_ios (Some io) block =
       ap (λ (z : Option ReadIoView). spent_ios z block) now in
       record {
         underway = record {
-          steady = invariant_moved left told relations handles p q s n e.same u.steady issued few
+          invariant = invariant_moved left told relations handles p q s n e.same u.invariant issued
+              few
               (subst (λ (z : Option ReadIoView). IfSome z (IsTakenIn n.scope told relations q))
               (sym now) taken)
               (omega arith);
@@ -87,18 +88,22 @@ module _ {W S P : Type 0} (left : S → List (ℕ × P)) (told : Option Told)
       → Issued s.scope told relations q r → IsTakenIn s.scope told relations q io
       → run_of io ≡ run → length r.batch < 32
       → record_count s.desk.now.reads ≡ record_count r + 1
-      → ios_allowed r ≡ ios_allowed s.desk.now.reads → r.free ≡ s.desk.now.reads.free
-      → r.io_budget ≡ s.desk.now.reads.io_budget → ReadsForRuns s.scope q r (wanted_runs ws)
+      → ios_started r ≡ ios_started s.desk.now.reads → r.free ≡ s.desk.now.reads.free
+      → ReadsForRuns s.scope q r (wanted_runs ws)
       → PopsWant (with_reads s r) m → SamePlan m.plan pl → pl.pending ≡ m.plan.pending
-      → Reaches left told relations handles block q (record m { current = Some io; plan = pl })
-  reaches_run p q s m r pl io run ws block none no_pin first at u issued taken for few records made
-      free io_budget runs k plan pending =
+      → BlockIsAtHand left told relations handles block q (record m {
+        current = Some io;
+        plan =
+            pl;
+      })
+  reaches_run p q s m r pl io run ws block none no_pin first at u issued taken for few records
+      started free runs k plan pending =
       let g = u.running in
       let t : ReadStream W S P = record m { current = Some io; plan = pl } in
       let wants : m.desk.now.wants.items ≡ ws =
       ap (λ (z : Buffer Want). z.items) k.wants ∙ ap (λ (z : List Want). drop 1 z) first in
       let reads : m.desk.now.reads ≡ r = k.reads in
-      let scope : m.scope ≡ s.scope = k.consumer_unchanged.keeps.scope in
+      let scope : m.scope ≡ s.scope = k.consumer_unchanged.same_stream.scope in
       let is : IsRun s.desk.now.combine run =
       g.wants (want.Run run) (subst (λ (z : List Want). IsIn (want.Run run) z) (sym first)
       (inl refl)) in
@@ -110,7 +115,7 @@ module _ {W S P : Type 0} (left : S → List (ℕ × P)) (told : Option Told)
       ∙ ap (λ (z : PlanView). pending_blocks z.pending) k.plan in
       let front : map block_number s.desk.now.queue.items
       ≡ run_blocks run ++ (wanted_blocks ws ++ (pending_blocks s.plan.pending ++ [])) =
-      g.front
+      g.queue_order
       ∙ (ap (λ (z : List Want). wanted_blocks z ++ (pending_blocks s.plan.pending ++ [])) first
       ∙ append_assoc (run_blocks run) (wanted_blocks ws) (pending_blocks s.plan.pending ++ [])) in
       let begins : run.first ≡ block = front_is (map block_number s.desk.now.queue.items)
@@ -126,8 +131,8 @@ module _ {W S P : Type 0} (left : S → List (ℕ × P)) (told : Option Told)
       ap (λ (z : List Want). length (wanted_runs z)) first ∙ omega arith in
       let now-runs : length (wanted_runs m.desk.now.wants.items) ≡ length (wanted_runs ws) =
       ap (λ (z : List Want). length (wanted_runs z)) wants in
-      let now-io_budget : m.desk.now.reads.io_budget ≡ s.desk.now.reads.io_budget =
-      ap (λ (z : Reads W). z.io_budget) reads ∙ io_budget in
+      let now-started : ios_started m.desk.now.reads ≡ ios_started s.desk.now.reads =
+      ap (λ (z : Reads W). ios_started z) reads ∙ started in
       let now-free : length m.desk.now.reads.free.items ≡ length s.desk.now.reads.free.items =
       ap (λ (z : Reads W). length z.free.items) reads
       ∙ ap (λ (z : Buffer ReadIoView). length z.items) free in
@@ -142,7 +147,7 @@ module _ {W S P : Type 0} (left : S → List (ℕ × P)) (told : Option Told)
       let e : SameQueue s t = record {
         same = record {
           scope = scope;
-          source_was = k.consumer_unchanged.keeps.source_was;
+          source_was = k.consumer_unchanged.same_stream.source_was;
           settings = k.consumer_unchanged.settings;
           queue = ap (λ (z : Buffer (QueuedBlock P)). z.capacity) k.queue;
           wants = ap (λ (z : Buffer Want). z.capacity) k.wants;
@@ -157,7 +162,6 @@ module _ {W S P : Type 0} (left : S → List (ℕ × P)) (told : Option Told)
         over = k.over;
         queue = ap (λ (z : Buffer (QueuedBlock P)). z.items) k.queue;
         given = k.consumer_unchanged.given;
-        made = ap (λ (z : Reads W). ios_allowed z) reads ∙ made;
       } in
       reaches_record p q s t e io block [] 0 u refl (k.consumer_unchanged.pin ∙ no_pin)
       (subst (λ (z : Scope W). IsTakenIn z told relations q io) (sym scope) taken)
@@ -165,7 +169,7 @@ module _ {W S P : Type 0} (left : S → List (ℕ × P)) (told : Option Told)
       (subst (λ (z : Scope W). Issued z told relations q m.desk.now.reads) (sym scope)
       (subst (λ (z : Reads W). Issued s.scope told relations q z) (sym reads) issued))
       (omega arith)
-      (let z = u.steady.all in omega arith)
+      (let z = u.invariant.record_total in omega arith)
       (front
       ∙ (ap (λ (z : List ℕ). z ++ (wanted_blocks ws ++ (pending_blocks s.plan.pending ++ []))) hand
       ∙ (ap (λ (z : List Want). record_blocks_from io block
@@ -179,13 +183,14 @@ module _ {W S P : Type 0} (left : S → List (ℕ × P)) (told : Option Told)
       (sym wants)
       (subst (λ (z : Scope W). ReadsForRuns z q m.desk.now.reads (wanted_runs ws)) (sym scope)
       (subst (λ (z : Reads W). ReadsForRuns s.scope q z (wanted_runs ws)) (sym reads) runs)))
-      (let z = g.io_budget in omega arith)
+      (let z = g.few_ios in omega arith)
       (let z = g.in_use in let y = plan.ios in omega arith)
 
   -- the block was read at once, by a record that was nowhere before
   pub reaches_read : (p q : Known) (s m n : ReadStream W S P) (run : Run) (block : ℕ)
       (hand : List ℕ) → SameQueue s m → m.desk.now.wants ≡ s.desk.now.wants
-      → m.plan.pending ≡ s.plan.pending → m.desk.now.reads.io_budget ≡ s.desk.now.reads.io_budget
+      → m.plan.pending ≡ s.plan.pending
+      → ios_started m.desk.now.reads ≡ ios_started s.desk.now.reads
       → m.plan.ios_in_progress + length m.desk.now.reads.free.items ≡ s.scope.total
       → record_count m.desk.now.reads + 1 ≡ s.scope.total → m.pin ≡ None
       → ((runs : List Run) → ReadsForRuns s.scope p s.desk.now.reads runs
@@ -195,8 +200,8 @@ module _ {W S P : Type 0} (left : S → List (ℕ × P)) (told : Option Told)
       → Issued n.scope told relations q n.desk.now.reads → n.current ≢ None
       → IfSome n.current (λ r. IsTakenIn n.scope told relations q r × (r.first ≡ run.first)
       × (r.count ≡ run.count))
-      → ReadsOne m n → Reaches left told relations handles block q n
-  reaches_read p q s m n run block hand e wants pending io_budget ios records no_pin runs u begins
+      → ReadsOne m n → BlockIsAtHand left told relations handles block q n
+  reaches_read p q s m n run block hand e wants pending started ios records no_pin runs u begins
       some whole issued there is o =
       let g = u.running in
       let (io, now, (taken, first, count)) = some_of n.current
@@ -223,7 +228,7 @@ module _ {W S P : Type 0} (left : S → List (ℕ × P)) (told : Option Told)
       hand 0 u now
       (o.pin ∙ no_pin) taken (omega arith, omega arith) issued (omega arith)
       (let z = o.records in omega arith)
-      (g.front
+      (g.queue_order
       ∙ (ap (λ (z : List ℕ). z
       ++ (wanted_blocks s.desk.now.wants.items ++ (pending_blocks s.plan.pending ++ []))) from-io
       ∙ (ap (λ (z : List Want). record_blocks_from io block
@@ -234,5 +239,5 @@ module _ {W S P : Type 0} (left : S → List (ℕ × P)) (told : Option Told)
       (λ w i. g.wants w (subst (λ (z : List Want). IsIn w z) now-wants i))
       (subst (λ (z : List Want). ReadsForRuns n.scope q n.desk.now.reads (wanted_runs z))
       (sym now-wants) (runs (wanted_runs s.desk.now.wants.items) g.runs))
-      (let z = g.io_budget in let y = o.io_budget in omega arith)
+      (let z = g.few_ios in let y = o.started in omega arith)
       (let y = o.ios in omega arith)

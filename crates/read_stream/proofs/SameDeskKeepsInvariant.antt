@@ -17,17 +17,17 @@ module _ {W S P : Type 0} (left : S → List (ℕ × P)) (told : Option Told)
         source_was = s.source_was;
       })
   invariant_beside v = record {
-    place = v.place;
+    relation_in_range = v.relation_in_range;
     settings = v.settings;
     scope = v.scope;
     zero = v.zero;
     queue = v.queue;
     wants = v.wants;
-    short = v.short;
+    list_within_most = v.list_within_most;
     issued = v.issued;
-    staged = v.staged;
+    batch_within = v.batch_within;
     current = v.current;
-    all = v.all;
+    record_total = v.record_total;
   }
 
   -- the source has as much left
@@ -47,21 +47,20 @@ module _ {W S P : Type 0} (left : S → List (ℕ × P)) (told : Option Told)
   running_beside source over hand behind spent same none g =
       let long : length (left source) ≡ length (left s.source) =
       ap (λ (z : List (ℕ × P)). length z) same in record {
-        few = g.few;
+        given_within = g.given_within;
         readable = g.readable;
         blocks = ap (λ (z : List (ℕ × P)). map source_item s.desk.now.queue.items ++ z) same
             ∙ g.blocks;
-        over = none;
-        front = g.front;
+        none_left_if_over = none;
+        queue_order = g.queue_order;
         wants = g.wants;
         runs = g.runs;
-        io_budget = g.io_budget;
+        few_ios = g.few_ios;
         ahead = g.ahead;
-        within = g.within;
+        queue_within_limit = g.queue_within_limit;
         in_use = g.in_use;
-        spare = g.spare;
+        spare_record = g.spare_record;
         combine = g.combine;
         max_ios = g.max_ios;
         limit = g.limit;
-        most = let z = g.most in omega arith;
       }

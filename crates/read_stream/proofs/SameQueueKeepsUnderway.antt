@@ -9,7 +9,7 @@ use Rattle.read_plan.specs.Plans.{PlanView}
 use Rattle.read_plan.specs.declared.runs.Run.{Run}
 use Rattle.read_stream.specs.declared.reads.Reads.{Reads}
 use Rattle.read_stream.specs.declared.stream.ReadStream.{ReadStream}
-use Rattle.read_stream.specs.StreamIos.{Issued, ReadsForRuns, record_count, ios_allowed}
+use Rattle.read_stream.specs.StreamIos.{Issued, ReadsForRuns, record_count, ios_started}
 use Rattle.read_stream.specs.WantedBlocks.{wanted_runs}
 use Rattle.read_stream.specs.StreamState.{UnderwayWith}
 use Rattle.read_stream.specs.ActorProgress.{ActorAdvanced}
@@ -21,12 +21,12 @@ with_reads s r = record s { desk = record s.desk { now = record s.desk.now { rea
 -- the same I/Os are as many
 pub same_counts : {W : Type 0} (r q : Reads W) → q ≡ r → (record_count q ≡ record_count r)
     × (length q.batch ≡ length r.batch) × (length q.free.items ≡ length r.free.items)
-    × (q.io_budget ≡ r.io_budget)
+    × (ios_started q ≡ ios_started r)
 same_counts {W} r q e = (
   ap (λ (z : Reads W). record_count z) e,
   ap (λ (z : Reads W). length z.batch) e,
   ap (λ (z : Reads W). length z.free.items) e,
-  ap (λ (z : Reads W). z.io_budget) e,
+  ap (λ (z : Reads W). ios_started z) e,
 )
 
 pub queue_then : {W S P : Type 0} (a b d : ReadStream W S P) → SameQueue a b → SameQueue b d
@@ -57,7 +57,6 @@ queue_then a b d x y = record {
   over = y.over ∙ x.over;
   queue = y.queue ∙ x.queue;
   given = y.given ∙ x.given;
-  made = y.made ∙ x.made;
 }
 
 -- a free record was taken out, and the plan has one more I/O in progress
@@ -82,7 +81,6 @@ same_queue_popped s queue pl e = record {
   over = refl;
   queue = refl;
   given = refl;
-  made = refl;
 }
 
 -- the record was taken out
@@ -101,7 +99,6 @@ same_queue_taken_out s io = record {
   over = refl;
   queue = refl;
   given = refl;
-  made = refl;
 }
 
 module _ {W S P : Type 0} (left : S → List (ℕ × P)) (told : Option Told)
@@ -113,62 +110,61 @@ module _ {W S P : Type 0} (left : S → List (ℕ × P)) (told : Option Told)
       pub underway_reads : (r : Reads W) (hand behind : List ℕ) (spent : ℕ)
           → Issued s.scope told relations q r → length r.batch < 32
           → record_count r ≡ record_count s.desk.now.reads
-          → ios_allowed r ≡ ios_allowed s.desk.now.reads
-          → r.free ≡ s.desk.now.reads.free → r.io_budget ≡ s.desk.now.reads.io_budget
+          → ios_started r ≡ ios_started s.desk.now.reads
+          → r.free ≡ s.desk.now.reads.free
           → ((runs : List Run) → ReadsForRuns s.scope p s.desk.now.reads runs
           → ReadsForRuns s.scope q r runs)
           → UnderwayWith left told relations handles hand behind spent p s
           → UnderwayWith left told relations handles hand behind spent q (with_reads s r)
-      underway_reads r hand behind spent issued few records made free io_budget runs u =
+      underway_reads r hand behind spent issued few records started free runs u =
           let g = u.running in
-          let v = u.steady in
+          let v = u.invariant in
           let long : length r.free.items ≡ length s.desk.now.reads.free.items =
           ap (λ (z : Buffer ReadIoView). length z.items) free in
           record {
-            steady = record {
-              place = v.place;
+            invariant = record {
+              relation_in_range = v.relation_in_range;
               settings = v.settings;
               scope = v.scope;
               zero = v.zero;
               queue = v.queue;
               wants = v.wants;
-              short = v.short;
+              list_within_most = v.list_within_most;
               issued = issued;
-              staged = few;
+              batch_within = few;
               current = some_taken left told relations handles s.scope p q a b d f s.current
                   actor_advanced
                   v.current;
-              all = let z = v.all in omega arith;
+              record_total = let z = v.record_total in omega arith;
             };
             running = record {
-              few = g.few;
+              given_within = g.given_within;
               readable = g.readable;
               blocks = g.blocks;
-              over = g.over;
-              front = g.front;
+              none_left_if_over = g.none_left_if_over;
+              queue_order = g.queue_order;
               wants = g.wants;
               runs = runs (wanted_runs s.desk.now.wants.items) g.runs;
-              io_budget = let z = g.io_budget in omega arith;
+              few_ios = let z = g.few_ios in omega arith;
               ahead = g.ahead;
-              within = g.within;
+              queue_within_limit = g.queue_within_limit;
               in_use = let z = g.in_use in omega arith;
-              spare = let z = g.spare in omega arith;
+              spare_record = let z = g.spare_record in omega arith;
               combine = g.combine;
               max_ios = g.max_ios;
               limit = g.limit;
-              most = let z = g.most in omega arith;
             };
           }
 
       -- the same where nothing is staged any more
       pub underway_submitted : (r : Reads W) → Issued s.scope told relations q r → r.batch ≡ []
           → (record_count r ≡ record_count s.desk.now.reads)
-          × (ios_allowed r ≡ ios_allowed s.desk.now.reads)
-          × (r.free ≡ s.desk.now.reads.free) × (r.io_budget ≡ s.desk.now.reads.io_budget)
+          × (ios_started r ≡ ios_started s.desk.now.reads)
+          × (r.free ≡ s.desk.now.reads.free)
           → ((runs : List Run) → ReadsForRuns s.scope p s.desk.now.reads runs
           → ReadsForRuns s.scope q r runs)
           → (hand : List ℕ) → UnderwayWith left told relations handles hand [] 0 p s
           → UnderwayWith left told relations handles hand [] 0 q (with_reads s r)
       underway_submitted r issued none all runs hand u =
           let staged : length r.batch ≡ 0 = ap (λ (z : List _). length z) none in
-          underway_reads r hand [] 0 issued (omega arith) all.0 all.1 all.2 all.3 runs u
+          underway_reads r hand [] 0 issued (omega arith) all.0 all.1 all.2 runs u

@@ -24,13 +24,13 @@ use Rattle.aio_handle.proofs.LivesCounted.{lives_ended-same}
 use Rattle.aio_handle.proofs.TokensStay.{unchanged-then}
 use Rattle.aio_batch.proofs.StagedTokensKept.{staged_tokens-kept}
 use Rattle.aio_callback.specs.ReadIoView.{ReadIoView, ReadsAs, record_aim, with_aim}
-use Rattle.aio_callback.specs.Cases.{stream_ids}
+use Rattle.aio_callback.specs.StreamOutcomes.{stream_ids}
 use Rattle.aio_callback.proofs.AimNamesRead.{reads-as}
 use Rattle.read_stream.specs.declared.reads.Reads.{Reads}
 use Rattle.read_stream.specs.declared.scope.Scope.{Scope}
-use Rattle.read_stream.specs.StreamIos.{IssuedExcept, Issued, HandleHandedOut, references}
+use Rattle.read_stream.specs.StreamIos.{IssuedExcept, Issued, HandleHandedOut, staged_references}
 use Rattle.read_stream.specs.StreamIos.{known_at_open}
-use Rattle.read_stream.specs.StreamIos.{ios_allowed, IsAimed}
+use Rattle.read_stream.specs.StreamIos.{ios_started, IsStreamRecord}
 use Rattle.read_stream.specs.ActorProgress.{ActorAdvanced, local_mark_count}
 use Rattle.read_stream.proofs.ActorAdvancedLaws.{advanced_then, advanced_nothing, advanced_made}
 use Rattle.read_stream.proofs.ActorAdvancedLaws.{aims-same}
@@ -59,15 +59,15 @@ module _ {W : Type 0} (c : Scope W) (told : Option Told) (relations : ℕ) where
     before = p;
     actor_advanced = advanced_nothing p reads faults;
     issued = i;
-    made = made;
+    hand_out_event = made;
     token = out;
-    new = λ k lt.
+    is_new = λ k lt.
         let n = none-yet p q t kp made k in
         let g : count_at_place t k p.marks ≡ count_at_place t k
-        ((known_at_open c).marks ++ i.since.0) =
-        ap (count_at_place t k) i.since.1 in
-        let m = mark_count-more t k (known_at_open c).marks i.since.0 in omega arith;
-    keeps = kq;
+        ((known_at_open c).marks ++ i.marks_since_open.0) =
+        ap (count_at_place t k) i.marks_since_open.1 in
+        let m = mark_count-more t k (known_at_open c).marks i.marks_since_open.0 in omega arith;
+    marks_once = kq;
   }
 
   pub handed-out-later : (p m q : Known) (s : Reads W) (t : WaitRef) (a b d a' b' d' : ℕ)
@@ -77,10 +77,10 @@ module _ {W : Type 0} (c : Scope W) (told : Option Told) (relations : ℕ) where
     before = h.before;
     actor_advanced = advanced_then p m h.before a b d a' b' d' w h.actor_advanced;
     issued = h.issued;
-    made = h.made;
+    hand_out_event = h.hand_out_event;
     token = h.token;
-    new = h.new;
-    keeps = h.keeps;
+    is_new = h.is_new;
+    marks_once = h.marks_once;
   }
 
   -- how far the actor advanced with it
@@ -89,7 +89,7 @@ module _ {W : Type 0} (c : Scope W) (told : Option Told) (relations : ℕ) where
   advanced-handed-out p q s t a b d e h = advanced_then p h.before q a b b d e e h.actor_advanced
       (advanced_made event.HandOut t.handle (idle_word t.generation)
       (handed_out_word t.generation) [] h.before q
-      b e tt h.made)
+      b e tt h.hand_out_event)
 
   module _ (p q q1 q2 : Known) (s : Reads W) (t : WaitRef) (a b d e : ℕ)
       (h : HandleHandedOut c told relations p q a b d e s t)
@@ -116,10 +116,10 @@ module _ {W : Type 0} (c : Scope W) (told : Option Told) (relations : ℕ) where
           advanced-defined
 
       aims-handed : (e : WaitRef × List ℕ) → IsIn e o.aims → IsIn e q.aims
-      aims-handed = aims-same o q (ap (λ (z : Known). z.aims) h.made.is)
+      aims-handed = aims-same o q (ap (λ (z : Known). z.aims) h.hand_out_event.is)
 
       marks-o : q.marks ≡ o.marks
-      marks-o = ap (λ (z : Known). z.marks) h.made.is
+      marks-o = ap (λ (z : Known). z.marks) h.hand_out_event.is
 
       marks-1 : q1.marks ≡ o.marks ++ make_mark t kind.Defined ∷ []
       marks-1 = ap (λ (z : Known). z.marks) define.is
@@ -138,8 +138,8 @@ module _ {W : Type 0} (c : Scope W) (told : Option Told) (relations : ℕ) where
       to-q1 u = unchanged-then u o q q1
           (unchanged-unused u event.HandOut t.handle (idle_word t.generation)
           (handed_out_word t.generation) [] o q
-          h.made (λ x. x))
-          (unchanged-by-define u t.handle t.generation [] q q1 h.keeps define)
+          h.hand_out_event (λ x. x))
+          (unchanged-by-define u t.handle t.generation [] q q1 h.marks_once define)
 
       to-q2 : (u : WaitRef) → u ≢ t → TokenUnchanged u o q2
       to-q2 u ne = unchanged-then u o q1 q2 (to-q1 u)
@@ -160,7 +160,7 @@ module _ {W : Type 0} (c : Scope W) (told : Option Told) (relations : ℕ) where
           let y = is-defined.until in omega arith)
 
       pub staged-apart : (u : WaitRef × ReadIoView) → IsIn u s.batch → u.0 ≢ t
-      staged-apart u j = staged-else u.0 (staged-of o s.batch u h.issued.held j)
+      staged-apart u j = staged-else u.0 (staged-of o s.batch u h.issued.staged_tokens j)
 
       same-reclaimed : (x : WaitRef) → count_at_place x 7 q2.marks ≡ count_at_place x 7 o.marks
       same-reclaimed x = ap (count_at_place x 7) marks-2
@@ -200,9 +200,9 @@ module _ {W : Type 0} (c : Scope W) (told : Option Told) (relations : ℕ) where
 
       owed-staged : (x : WaitRef)
           → (mark_count x kind.Defined o.marks ≤ mark_count x kind.Reclaimed o.marks)
-          ⊎ IsIn x (references s.batch ++ s.in_flight.items)
+          ⊎ IsIn x (staged_references s.batch ++ s.in_flight.items)
           → (mark_count x kind.Defined q2.marks ≤ mark_count x kind.Reclaimed q2.marks)
-          ⊎ IsIn x ((t ∷ []) ++ references s.batch ++ s.in_flight.items)
+          ⊎ IsIn x ((t ∷ []) ++ staged_references s.batch ++ s.in_flight.items)
       owed-staged x old = dite (ℕ_discrete t.handle x.handle)
           (λ eh. dite (ℕ_discrete t.generation x.generation)
           (λ eg. inr (inl (same-ref x eh eg)))
@@ -211,47 +211,48 @@ module _ {W : Type 0} (c : Scope W) (told : Option Told) (relations : ℕ) where
         where
           other : (t.handle ≢ x.handle) ⊎ (t.generation ≢ x.generation)
               → (mark_count x kind.Defined q2.marks ≤ mark_count x kind.Reclaimed q2.marks)
-              ⊎ IsIn x ((t ∷ []) ++ references s.batch ++ s.in_flight.items)
+              ⊎ IsIn x ((t ∷ []) ++ staged_references s.batch ++ s.in_flight.items)
           other ne = ⊎_elim
               (λ over. let f = same-defined x ne in let g = same-reclaimed x in inl (omega arith))
               (λ j. inr (inr j)) old
 
-      pub issued-staged : ios_allowed s + 1 ≤ c.most
+      pub issued-staged : ios_started s + 1 ≤ c.most
           → IssuedExcept (t ∷ []) c told relations q2 s
       issued-staged most =
           let i = h.issued in record {
             room = i.room;
             number = ap (λ (z : Known). z.number) stage.is
                 ∙ (ap (λ (z : Known). z.number) define.is
-                ∙ (ap (λ (z : Known). z.number) h.made.is ∙ i.number));
+                ∙ (ap (λ (z : Known). z.number) h.hand_out_event.is ∙ i.number));
             config = ap (λ (z : Known). z.config) stage.is
                 ∙ (ap (λ (z : Known). z.config) define.is
-                ∙ (ap (λ (z : Known). z.config) h.made.is ∙ i.config));
-            out = ap (λ (z : Known). z.out) stage.is ∙ ap (λ (z : Known). z.out) define.is;
+                ∙ (ap (λ (z : Known). z.config) h.hand_out_event.is ∙ i.config));
+            nothing_handed_out = ap (λ (z : Known). z.out) stage.is ∙ ap (λ (z : Known). z.out)
+                define.is;
             free = i.free;
-            held = staged_tokens-kept o q2 s.batch
-                (λ u j. to-q2 u.0 (staged-apart u j)) i.held;
-            staged = i.staged;
+            staged_tokens = staged_tokens-kept o q2 s.batch
+                (λ u j. to-q2 u.0 (staged-apart u j)) i.staged_tokens;
+            staged_ios = i.staged_ios;
             stream_ios = stream-ios-kept c o q2 s.in_flight.items
                 (λ u j. to-q2 u
                 (in-flight-else u (stream-io-in c o s.in_flight.items u i.stream_ios j).in_flight))
                 i.stream_ios;
-            ended = λ x j. taken-grown c told relations o q2
+            ended_records = λ x j. taken-grown c told relations o q2
                 (make_mark t kind.Defined ∷ make_mark t kind.Staged ∷ []) x grown
-                (λ e j'. advanced-defined.aims e (aims-handed e j')) (i.ended x j);
-            owed = λ x. owed-staged x (i.owed x);
-            most = omega arith;
-            small = i.small;
+                (λ e j'. advanced-defined.aims e (aims-handed e j')) (i.ended_records x j);
+            unreclaimed_ios = λ x. owed-staged x (i.unreclaimed_ios x);
+            within_most = omega arith;
+            most_in_range = i.most_in_range;
             room_was = i.room_was;
-            taken = same-locals ∙ i.taken;
-            lived = λ k. (let f = same-lives k in let g = i.lived k in omega arith);
-            since = (
-              i.since.0 ++ (make_mark t kind.Defined ∷ make_mark t kind.Staged ∷ []),
+            taken_in_count = same-locals ∙ i.taken_in_count;
+            lives_bound = λ k. (let f = same-lives k in let g = i.lives_bound k in omega arith);
+            marks_since_open = (
+              i.marks_since_open.0 ++ (make_mark t kind.Defined ∷ make_mark t kind.Staged ∷ []),
               grown ∙ (ap
                   (λ (z : List Mark). z ++ (make_mark t kind.Defined ∷ make_mark t kind.Staged
                   ∷ []))
-                  i.since.1
-                  ∙ append_assoc (known_at_open c).marks i.since.0
+                  i.marks_since_open.1
+                  ∙ append_assoc (known_at_open c).marks i.marks_since_open.0
                   (make_mark t kind.Defined ∷ make_mark t kind.Staged ∷ [])),
             );
           }
@@ -259,7 +260,7 @@ module _ {W : Type 0} (c : Scope W) (told : Option Told) (relations : ℕ) where
 -- a record that was aimed, and then bound
 pub aimed-as : {W : Type 0} (c : Scope W) (io x y : ReadIoView) (first count : ℕ)
     → x ≡ with_aim c.relation first count (stream_ids c.zero) io → length io.pages ≡ c.combine
-    → record_aim y ≡ record_aim x → IsAimed c y × (y.first ≡ first) × (y.count ≡ count)
+    → record_aim y ≡ record_aim x → IsStreamRecord c y × (y.first ≡ first) × (y.count ≡ count)
 aimed-as c io x y first count is room same =
     let r : ReadsAs y x = reads-as y x same in (
       record {

@@ -15,7 +15,7 @@ use Rattle.read_stream.specs.declared.queue.Want.{Want}
 use Rattle.read_stream.specs.declared.queue.Want.TheVariants as want
 use Rattle.read_stream.specs.declared.stream.ReadStream.{ReadStream}
 use Rattle.read_stream.specs.StreamIos.{Issued, ReadsForRuns}
-use Rattle.read_stream.specs.WantedBlocks.{IsWant, wanted_blocks, wanted_runs, pending_blocks}
+use Rattle.read_stream.specs.WantedBlocks.{IsValidWant, wanted_blocks, wanted_runs, pending_blocks}
 use Rattle.read_stream.specs.PagesAtHand.{count_some, record_blocks_left}
 use Rattle.read_stream.specs.StreamState.{UnderwayWith}
 use Rattle.read_stream.specs.Changes.{StartsRun}
@@ -57,8 +57,8 @@ module _ {W S P : Type 0} (left : S → List (ℕ × P)) (told : Option Told)
       ap (λ (z : List Run). length z) started in
       let more = length-append (wanted_runs ws) (run ∷ []) in
       let same : SameScopeAndDesk s n = record {
-        scope = st.consumer_unchanged.keeps.scope;
-        source_was = st.consumer_unchanged.keeps.source_was;
+        scope = st.consumer_unchanged.same_stream.scope;
+        source_was = st.consumer_unchanged.same_stream.source_was;
         settings = st.consumer_unchanged.settings;
         queue = ap (λ (z : Buffer (QueuedBlock P)). z.capacity) st.queue;
         wants = ap (λ (z : Buffer Want). z.capacity) st.wants;
@@ -70,11 +70,11 @@ module _ {W S P : Type 0} (left : S → List (ℕ × P)) (told : Option Told)
       let some : count_some n.current ≡ count_some s.current =
       ap (λ (z : Option ReadIoView). count_some z) st.consumer_unchanged.current in
       record {
-        steady = invariant_moved left told relations handles p q s n same u.steady issued few
+        invariant = invariant_moved left told relations handles p q s n same u.invariant issued few
             (current_kept left told relations handles p q s n same a b d f
             st.consumer_unchanged.current actor_advanced
-            u.steady.current)
-            (let z = u.steady.all in let y = st.records in omega arith);
+            u.invariant.current)
+            (let z = u.invariant.record_total in let y = st.records in omega arith);
         running = running_moved left told relations handles p q s n (record {
           same = same;
           counts = record {
@@ -87,9 +87,8 @@ module _ {W S P : Type 0} (left : S → List (ℕ × P)) (told : Option Told)
           over = st.over;
           queue = ap (λ (z : Buffer (QueuedBlock P)). z.items) st.queue;
           given = st.consumer_unchanged.given;
-          made = st.made;
         }) rest behind 0 (record_blocks_left n.current n.step) behind' 0 g
-            (g.front
+            (g.queue_order
             ∙ (ap (λ (z : List ℕ). rest ++ (wanted_blocks ws ++ z)) out
             ∙ (ap (λ (z : List ℕ). rest ++ z)
             (sym (append_assoc (wanted_blocks ws) (run_blocks run)
@@ -102,12 +101,14 @@ module _ {W S P : Type 0} (left : S → List (ℕ × P)) (told : Option Told)
             ++ (wanted_blocks n.desk.now.wants.items ++ (pending_blocks n.plan.pending ++ behind')))
             (sym (rest_kept s.current n.current s.step n.step st.consumer_unchanged.current
             st.consumer_unchanged.step)))))))
-            (subst (λ (z : List Want). (w : Want) → IsIn w z → IsWant s.desk.now.combine handles w)
+            (subst (λ (z : List Want). (w : Want) → IsIn w z → IsValidWant s.desk.now.combine
+            handles w)
             (sym wants)
-            (each-pushed (λ w. IsWant s.desk.now.combine handles w) ws (want.Run run) g.wants is))
+            (each-pushed (λ w. IsValidWant s.desk.now.combine handles w) ws (want.Run run) g.wants
+            is))
             (subst (λ (z : List Run). ReadsForRuns n.scope q n.desk.now.reads z) (sym started)
             (runs (wanted_runs ws) g.runs))
-            (let z = g.io_budget in let y = st.io_budget in omega arith)
+            (let z = g.few_ios in let y = st.ios in omega arith)
             (let z = g.in_use in let y = st.free in let x = e.ios in omega arith)
             (let y = st.free in omega arith);
       }

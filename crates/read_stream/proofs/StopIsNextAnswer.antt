@@ -1,6 +1,6 @@
 -- A stream stops.
 use Rattle.std.proofs.Common.{◌≡◌, ℕ, List, [], ◌∷◌, ◌++◌, map, drop, refl, ap, sym, subst, arith}
-use Rattle.std.proofs.Common.{◌∙◌}
+use Rattle.std.proofs.Common.{◌∙◌, ◌≤◌, length}
 use Rattle.std.specs.Prelude.{Option, Some, None, IfSome, IsSomeAnd, slice_get}
 use Rattle.std.proofs.lemmas.List.{length-map}
 use Rattle.page_check.specs.Told.{Told}
@@ -20,17 +20,18 @@ use Rattle.read_stream.specs.StreamIos.{IsTakenIn}
 use Rattle.read_stream.specs.WantedBlocks.{source_item}
 use Rattle.read_stream.specs.PagesAtHand.{IsStop}
 use Rattle.read_stream.specs.StreamState.{IsBetweenCalls, IsRunning, IfUnread, UnderwayWith}
-use Rattle.read_stream.specs.Parts.{CoversBlock, IsPart}
+use Rattle.read_stream.specs.Parts.{CoversBlock, IsValidPart}
 use Rattle.read_stream.proofs.PartIsNextAnswer.{failed_read, stop_is_next}
 use Rattle.read_stream.proofs.ListPositions.{none-at}
 use Rattle.read_stream.proofs.QueueMovesKeepIssued.{first-of}
 use Rattle.read_stream.proofs.NextAnswerCases.{next-end}
+use Rattle.read_stream.proofs.QueueFront.{ios_within_list}
 use Rattle.read_stream.proofs.SameDeskKeepsInvariant.{invariant_beside}
 
 -- where the record is that stops the stream
 stop-record : (told : Option Told) (o : Option ReadIoView) (block : ℕ) (e : Ending)
     → IsStop told o block e → (io : ReadIoView) × (o ≡ Some io) × CoversBlock io block
-    × IsPart told io block (part.Stop e)
+    × IsValidPart told io block (part.Stop e)
 stop-record told None block e s = absurd s
 stop-record told (Some io) block e s = (io, refl, s.0, s.1)
 
@@ -38,21 +39,26 @@ module _ {W S P : Type 0} (left : S → List (ℕ × P)) (told : Option Told)
     (relations handles : ℕ) where
   -- a stream stops
   pub between_stopped : (p : Known) (s : ReadStream W S P) (hand behind : List ℕ) (spent : ℕ)
-      (e : Ending) → UnderwayWith left told relations handles hand behind spent p s
+      (e : Ending) → spent ≤ length hand
+      → UnderwayWith left told relations handles hand behind spent p s
       → IsNext (reader_of s.scope.zero told) (MayBeUnread s.scope.was.value p)
       (stream_entries s.scope.relation (left s.source_was.value)) s.given
       (SaidStop (synchronous_ending e)) → IfUnread e (λ b. IsSomeAnd s.current
       (IsFailedRead s.scope.was.value p s.scope.relation b))
       → IsBetweenCalls left told relations handles p (record s { step = step.Stop e })
-  between_stopped p s hand behind spent e u next kept =
+  between_stopped p s hand behind spent e at u next kept =
       record {
-        steady = invariant_beside left told relations handles p s (record s { step = step.Stop e })
-            u.steady;
-        made = let z = u.running.most in omega arith;
+        invariant = invariant_beside left told relations handles p s (record s {
+          step = step.Stop
+              e;
+        })
+            u.invariant;
+        few_ios = let z = ios_within_list left told relations handles hand behind spent p s u.running
+            in omega arith;
         running = tt;
-        lent = tt;
-        stopped = next;
-        kept = kept;
+        lends_page = tt;
+        stop_answer = next;
+        unread_record = kept;
       }
 
   -- the blocks that are left of the list
@@ -67,7 +73,7 @@ module _ {W S P : Type 0} (left : S → List (ℕ × P)) (told : Option Told)
 
   failed-kept : (p : Known) (s : ReadStream W S P) (io : ReadIoView) (block : ℕ) (e : Ending)
       → s.current ≡ Some io → IsTakenIn s.scope told relations p io
-      → IsPart told io block (part.Stop e)
+      → IsValidPart told io block (part.Stop e)
       → IfUnread e (λ b. IsSomeAnd s.current
       (IsFailedRead s.scope.was.value p s.scope.relation b))
   failed-kept p s io block ending.End now taken is = tt
@@ -81,41 +87,41 @@ module _ {W S P : Type 0} (left : S → List (ℕ × P)) (told : Option Told)
   -- the record has what stops the stream at the block
   pub stop_by_record : (p : Known) (s : ReadStream W S P) (hand behind : List ℕ) (spent : ℕ)
       (a : QueuedBlock P) (e : Ending) → slice_get s.desk.now.queue.items 0 ≡ Some a
-      → UnderwayWith left told relations handles hand behind spent p s
+      → spent ≤ length hand → UnderwayWith left told relations handles hand behind spent p s
       → IsStop told s.current a.block e
       → IsNext (reader_of s.scope.zero told) (MayBeUnread s.scope.was.value p)
       (stream_entries s.scope.relation (left s.source_was.value)) s.given
       (SaidStop (synchronous_ending e))
       × IsBetweenCalls left told relations handles p (record s { step = step.Stop e })
-  stop_by_record p s hand behind spent a e first u is =
+  stop_by_record p s hand behind spent a e first at u is =
       let (io, now, has, part) = stop-record told s.current a.block e is in
       let taken : IsTakenIn s.scope told relations p io =
       subst (λ (z : Option ReadIoView). IfSome z (IsTakenIn s.scope told relations p)) now
-      u.steady.current in
+      u.invariant.current in
       let next = stop_is_next s.scope told relations (left s.source_was.value) s.given a.block
       a.per_buffer_data (map source_item (drop 1 s.desk.now.queue.items) ++ left s.source)
       (left-of p s hand behind spent a first u.running) u.running.readable p io taken has e part in (
         next,
-        between_stopped p s hand behind spent e u next
+        between_stopped p s hand behind spent e at u next
             (failed-kept p s io a.block e now taken part),
       )
 
   -- no block is left
-  pub ended : (p : Known) (s : ReadStream W S P) (hand behind : List ℕ) (spent : ℕ)
+  pub ended : (p : Known) (s : ReadStream W S P) (hand behind : List ℕ)
       → s.desk.now.queue.items ≡ [] → left s.source ≡ []
-      → UnderwayWith left told relations handles hand behind spent p s
+      → UnderwayWith left told relations handles hand behind 0 p s
       → IsNext (reader_of s.scope.zero told) (MayBeUnread s.scope.was.value p)
       (stream_entries s.scope.relation (left s.source_was.value)) s.given
       (SaidStop (synchronous_ending ending.End))
       × IsBetweenCalls left told relations handles p (record s { step = step.Stop ending.End })
-  ended p s hand behind spent none empty u =
+  ended p s hand behind none empty u =
       let g = u.running in
       let all = none-at (left s.source_was.value) s.given
       (sym g.blocks ∙ (ap (λ (z : List (QueuedBlock P)). map source_item z ++ left s.source) none
       ∙ empty)) in
       let n = length-map (left s.source_was.value) (stream_entry s.scope.relation) in
-      let few = g.few in
+      let few = g.given_within in
       let next = next-end s.scope.zero (MayBeUnread s.scope.was.value p)
       (stream_entries s.scope.relation (left s.source_was.value)) s.given told g.readable
       (omega arith) in
-      (next, between_stopped p s hand behind spent ending.End u next tt)
+      (next, between_stopped p s hand behind 0 ending.End (omega arith) u next tt)

@@ -14,9 +14,9 @@ use Rattle.read_stream.specs.declared.queue.Want.{Want}
 use Rattle.read_stream.specs.declared.scope.Scope.{Scope}
 use Rattle.read_stream.specs.declared.stream.ReadStream.{ReadStream}
 use Rattle.read_stream.specs.StreamAnswers.{stream_entries}
-use Rattle.read_stream.specs.StreamIos.{Issued, ReadsForRuns, IsTakenIn, record_count, ios_allowed}
+use Rattle.read_stream.specs.StreamIos.{Issued, ReadsForRuns, IsTakenIn, record_count, ios_started}
 use Rattle.read_stream.specs.Desks.{SameDeskSettings}
-use Rattle.read_stream.specs.WantedBlocks.{IsWant, source_item, block_number, wanted_blocks}
+use Rattle.read_stream.specs.WantedBlocks.{IsValidWant, source_item, block_number, wanted_blocks}
 use Rattle.read_stream.specs.WantedBlocks.{wanted_runs, pending_blocks}
 use Rattle.read_stream.specs.PagesAtHand.{count_some}
 use Rattle.read_stream.specs.StreamState.{StreamInvariant, IsRunning}
@@ -48,14 +48,13 @@ pub record SameQueue {W S P : Type 0} (s n : ReadStream W S P) : Type 0 where
   pub over : n.over ≡ s.over
   pub queue : n.desk.now.queue.items ≡ s.desk.now.queue.items
   pub given : n.given ≡ s.given
-  pub made : ios_allowed n.desk.now.reads ≡ ios_allowed s.desk.now.reads
 
 pub same_queue_of_look_ahead : {W S P : Type 0} (s n : ReadStream W S P) → LookAheadUnchanged s n
     → SameQueue s n
 same_queue_of_look_ahead {P} s n m = record {
   same = record {
-    scope = m.keeps.scope;
-    source_was = m.keeps.source_was;
+    scope = m.same_stream.scope;
+    source_was = m.same_stream.source_was;
     settings = m.settings;
     queue = ap (λ (z : Buffer (QueuedBlock P)). z.capacity) m.queue;
     wants = m.wants;
@@ -70,7 +69,6 @@ same_queue_of_look_ahead {P} s n m = record {
   over = m.over;
   queue = ap (λ (z : Buffer (QueuedBlock P)). z.items) m.queue;
   given = m.given;
-  made = m.made;
 }
 
 pub same_stream_then : {W S P : Type 0} (a b d : ReadStream W S P) → SameStream a b → SameStream b d
@@ -98,7 +96,7 @@ same_stream_refl s = record { desk = refl; scope = refl; source_was = refl }
 
 pub consumer_unchanged_refl : {W S P : Type 0} (s : ReadStream W S P) → ConsumerUnchanged s s
 consumer_unchanged_refl s = record {
-  keeps = same_stream_refl s;
+  same_stream = same_stream_refl s;
   settings = (refl, refl, refl, refl, refl, refl, refl);
   pin = refl;
   current = refl;
@@ -109,7 +107,7 @@ consumer_unchanged_refl s = record {
 pub consumer_unchanged_then : {W S P : Type 0} (a b d : ReadStream W S P) → ConsumerUnchanged a b
     → ConsumerUnchanged b d → ConsumerUnchanged a d
 consumer_unchanged_then a b d x y = record {
-  keeps = same_stream_then a b d x.keeps y.keeps;
+  same_stream = same_stream_then a b d x.same_stream y.same_stream;
   settings = desk-then a b d x.settings y.settings;
   pin = y.pin ∙ x.pin;
   current = y.current ∙ x.current;
@@ -152,7 +150,7 @@ module _ {W S P : Type 0} (left : S → List (ℕ × P)) (told : Option Told)
         let long : length (left n.source_was.value) ≡ length (left s.source_was.value) =
         ap (λ z. length (left z.value)) e.source_was in
         record {
-          place = let z = u.place in omega arith;
+          relation_in_range = let z = u.relation_in_range in omega arith;
           settings = rw (d.0, d.1, d.2, d.5) u.settings;
           scope = (
             room ∙ (u.scope.0 ∙ sym d.0),
@@ -161,11 +159,11 @@ module _ {W S P : Type 0} (left : S → List (ℕ × P)) (told : Option Told)
           zero = ap (λ (z : Scope W). z.zero) e.scope ∙ (u.zero ∙ sym d.6);
           queue = let z = u.queue in let y = d.2 in let x = e.queue in omega arith;
           wants = let z = u.wants in let y = d.2 in let x = e.wants in omega arith;
-          short = let z = u.short in omega arith;
+          list_within_most = let z = u.list_within_most in omega arith;
           issued = issued;
-          staged = staged;
+          batch_within = staged;
           current = current;
-          all = omega arith;
+          record_total = omega arith;
         }
 
   module _ (p q : Known) (s n : ReadStream W S P) (e : SameQueue s n) (hand behind : List ℕ)
@@ -175,14 +173,14 @@ module _ {W S P : Type 0} (left : S → List (ℕ × P)) (told : Option Told)
         → map block_number s.desk.now.queue.items
         ≡ hand' ++ (wanted_blocks n.desk.now.wants.items
         ++ (pending_blocks n.plan.pending ++ behind'))
-        → ((w : Want) → IsIn w n.desk.now.wants.items → IsWant s.desk.now.combine handles w)
+        → ((w : Want) → IsIn w n.desk.now.wants.items → IsValidWant s.desk.now.combine handles w)
         → ReadsForRuns n.scope q n.desk.now.reads (wanted_runs n.desk.now.wants.items)
-        → length s.desk.now.queue.items
-        ≤ n.desk.now.reads.io_budget + length (wanted_runs n.desk.now.wants.items) + spent'
+        → ios_started n.desk.now.reads
+        ≤ s.given + length (wanted_runs n.desk.now.wants.items) + spent'
         → n.plan.ios_in_progress + length n.desk.now.reads.free.items ≡ s.scope.total
         → 0 < length n.desk.now.reads.free.items + count_some n.current
         → IsRunning left told relations handles hand' behind' spent' q n
-    running_moved g front wants runs io_budget in_use spare =
+    running_moved g front wants runs few_ios in_use spare =
         let f = e.same in
         let d = f.settings in
         let total : n.scope.total ≡ s.scope.total = ap (λ (z : Scope W). z.total) f.scope in
@@ -202,7 +200,7 @@ module _ {W S P : Type 0} (left : S → List (ℕ × P)) (told : Option Told)
         ap (λ (z : ℕ). stream_entries z (left n.source_was.value)) relation
         ∙ ap (λ (z : List (ℕ × P)). stream_entries s.scope.relation z) list in
         record {
-          few = let z = g.few in let y = e.given in omega arith;
+          given_within = let z = g.given_within in let y = e.given in omega arith;
           readable = readable-then told s.scope.zero n.scope.zero s.given n.given
               (stream_entries s.scope.relation (left s.source_was.value))
               (stream_entries n.scope.relation (left n.source_was.value))
@@ -212,17 +210,16 @@ module _ {W S P : Type 0} (left : S → List (ℕ × P)) (told : Option Told)
               ∙ (g.blocks
               ∙ (ap (λ (z : ℕ). drop z (left s.source_was.value)) (sym e.given)
               ∙ ap (λ (z : List (ℕ × P)). drop n.given z) (sym list))));
-          over = λ o. same-left ∙ g.over (sym e.over ∙ o);
-          front = ap (λ (z : List (QueuedBlock P)). map block_number z) e.queue ∙ front;
-          wants = λ w i. subst (λ (z : ℕ). IsWant z handles w) (sym d.0) (wants w i);
+          none_left_if_over = λ o. same-left ∙ g.none_left_if_over (sym e.over ∙ o);
+          queue_order = ap (λ (z : List (QueuedBlock P)). map block_number z) e.queue ∙ front;
+          wants = λ w i. subst (λ (z : ℕ). IsValidWant z handles w) (sym d.0) (wants w i);
           runs = runs;
-          io_budget = omega arith;
+          few_ios = let z = e.given in omega arith;
           ahead = e.counts.ahead ∙ (g.ahead ∙ sym long);
-          within = let z = g.within in let y = d.2 in omega arith;
+          queue_within_limit = let z = g.queue_within_limit in let y = d.2 in omega arith;
           in_use = omega arith;
-          spare = spare;
+          spare_record = spare;
           combine = e.counts.combine ∙ (g.combine ∙ sym d.0);
           max_ios = e.counts.max_ios ∙ (g.max_ios ∙ sym d.1);
           limit = e.counts.limit ∙ (g.limit ∙ sym d.2);
-          most = let z = g.most in let y = e.made in omega arith;
         }

@@ -23,8 +23,8 @@ use Rattle.circular_buffer.specs.Buffer.{buffer}
 use Rattle.read_stream.specs.declared.reads.Reads.{Reads}
 use Rattle.read_stream.specs.declared.scope.Scope.{Scope}
 use Rattle.read_stream.specs.ActorProgress.{AllSubmitted}
-use Rattle.read_stream.specs.StreamIos.{IsForBlocks, IsAimed, IsNewIncarnation, Issued}
-use Rattle.read_stream.specs.StreamIos.{IssuedExcept, HeldByCaller, IsStreamIo, references}
+use Rattle.read_stream.specs.StreamIos.{ReadsBlocks, IsStreamRecord, IsNewIncarnation, Issued}
+use Rattle.read_stream.specs.StreamIos.{IssuedExcept, HeldByCaller, IsStreamIo, staged_references}
 use Rattle.read_stream.specs.StreamIos.{record_count, known_at_open}
 use Rattle.read_stream.proofs.OwnerCountsKept.{OwnerCountsUnchanged, owner-counts-then}
 use Rattle.read_stream.proofs.OwnerCountsKept.{owner-counts-taking-up, owner-counts-submitting}
@@ -33,7 +33,7 @@ use Rattle.read_stream.proofs.InFlightUnchanged.{stream-ios-kept, stream-io-in, 
 use Rattle.read_stream.proofs.BatchPushKeepsIssued.{issued-put}
 
 pub in-references : (u : WaitRef × ReadIoView) (xs : List (WaitRef × ReadIoView)) → IsIn u xs
-    → IsIn u.0 (references xs)
+    → IsIn u.0 (staged_references xs)
 in-references u [] i = absurd i
 in-references u (x ∷ xs) i =
     ⊎_elim (λ e. inl (ap (λ (z : WaitRef × ReadIoView). z.0) e)) (λ j. inr (in-references u xs j)) i
@@ -45,34 +45,35 @@ is-none (x ∷ xs) le = absurd (omega arith)
 module _ {W : Type 0} (c : Scope W) where
   pub issued-kept : (caller_refs : List WaitRef) (told : Option Told) (relations : ℕ) (p q : Known)
       (s : Reads W) → OwnerCountsUnchanged p q → q.out ≡ None
-      → ((t : WaitRef) → IsIn t (references s.batch ++ s.in_flight.items) → TokenUnchanged t p q)
+      → ((t : WaitRef) → IsIn t (staged_references s.batch ++ s.in_flight.items)
+      → TokenUnchanged t p q)
       → IssuedExcept caller_refs c told relations p s
       → IssuedExcept caller_refs c told relations q s
   issued-kept caller_refs told relations p q s i out kept k = record {
     room = k.room;
     number = i.number ∙ k.number;
     config = i.config ∙ k.config;
-    out = out;
+    nothing_handed_out = out;
     free = k.free;
-    held = staged_tokens-kept p q s.batch
-        (λ u j. kept u.0 (in-left u.0 (references s.batch) s.in_flight.items
-        (in-references u s.batch j))) k.held;
-    staged = k.staged;
+    staged_tokens = staged_tokens-kept p q s.batch
+        (λ u j. kept u.0 (in-left u.0 (staged_references s.batch) s.in_flight.items
+        (in-references u s.batch j))) k.staged_tokens;
+    staged_ios = k.staged_ios;
     stream_ios = stream-ios-kept c p q s.in_flight.items
-        (λ t j. kept t (in-right t (references s.batch) s.in_flight.items j)) k.stream_ios;
-    ended = λ r j. taken-later c told relations p q r i (k.ended r j);
-    owed = λ t. ⊎_elim
+        (λ t j. kept t (in-right t (staged_references s.batch) s.in_flight.items j)) k.stream_ios;
+    ended_records = λ r j. taken-later c told relations p q r i (k.ended_records r j);
+    unreclaimed_ios = λ t. ⊎_elim
         (λ over. let a = i.defined t in let b = i.reclaimed t in inl (omega arith))
-        (λ j. inr j) (k.owed t);
-    most = k.most;
-    small = k.small;
+        (λ j. inr j) (k.unreclaimed_ios t);
+    within_most = k.within_most;
+    most_in_range = k.most_in_range;
     room_was = k.room_was;
-    taken = i.locals ∙ k.taken;
-    lived = λ h. (let a = i.lived h in let b = k.lived h in omega arith);
-    since = (
-      k.since.0 ++ i.more,
-      i.grown ∙ (ap (λ (z : List Mark). z ++ i.more) k.since.1
-          ∙ append_assoc (known_at_open c).marks k.since.0 i.more),
+    taken_in_count = i.locals ∙ k.taken_in_count;
+    lives_bound = λ h. (let a = i.lived h in let b = k.lives_bound h in omega arith);
+    marks_since_open = (
+      k.marks_since_open.0 ++ i.more,
+      i.grown ∙ (ap (λ (z : List Mark). z ++ i.more) k.marks_since_open.1
+          ∙ append_assoc (known_at_open c).marks k.marks_since_open.0 i.more),
     );
   }
 
@@ -82,7 +83,7 @@ module _ {W : Type 0} (c : Scope W) where
       → IssuedExcept caller_refs c told relations q s
   issued-taking-up caller_refs told relations p q s a b d e k i =
       issued-kept caller_refs told relations p q s (owner-counts-taking-up p q a b d e k)
-      (k.grows.out ∙ i.out) (λ t j. unchanged-by-execution t [] p q a b d e k) i
+      (k.grows.out ∙ i.nothing_handed_out) (λ t j. unchanged-by-execution t [] p q a b d e k) i
 
   -- one I/O of the batch was submitted, and its token lies with the caller
   pub issued-lent : (told : Option Told) (relations : ℕ) (p q : Known)
@@ -93,25 +94,26 @@ module _ {W : Type 0} (c : Scope W) where
   issued-lent told relations p q s after t a b d e n held k =
       let xs : List (WaitRef × ReadIoView) = n.token ∷ after in
       let was : AreStagedTokens p xs =
-      subst (λ (z : List (WaitRef × ReadIoView)). AreStagedTokens p z) n.first k.held in
+      subst (λ (z : List (WaitRef × ReadIoView)). AreStagedTokens p z) n.first k.staged_tokens in
       let staged-t : IsStaged p t =
       subst (λ (z : WaitRef). IsStaged p z) (sym n.reference) was.0 in
       let stage-since = staged-t.since in
       let stage-until = staged-t.until in
       let i : OwnerCountsUnchanged p q = owner-counts-then p n.between q
       (owner-counts-submitting t.handle (staged_word t.generation) (unclaimed_word t.generation)
-      (record_aim n.token.1) p n.between n.made)
+      (record_aim n.token.1) p n.between n.event_made)
       (owner-counts-taking-up n.between q a b d e n.begun) in
-      let out : q.out ≡ None = n.begun.grows.out ∙ (ap (λ (z : Known). z.out) n.made.is ∙ k.out) in
+      let out : q.out ≡ None = n.begun.grows.out ∙ (ap (λ (z : Known). z.out) n.event_made.is
+      ∙ k.nothing_handed_out) in
       let whole : length s.batch ≡ length (n.token ∷ after) =
       ap (λ (z : List (WaitRef × ReadIoView)). length z) n.first in
       let lengths : length s.batch ≡ length after + 1 = omega arith in
       let kept : (u : WaitRef) → IsIn u s.in_flight.items → TokenUnchanged u p q =
-      λ u j. submission-keeps record_aim s.batch after t u p q a b d e k.held n
+      λ u j. submission-keeps record_aim s.batch after t u p q a b d e k.staged_tokens n
       (λ st. absurd (let f = (stream-io-in c p s.in_flight.items u k.stream_ios j).in_flight.since
       in
       let y = st.until in omega arith)) in
-      let was-staged = k.staged n.token
+      let was-staged = k.staged_ios n.token
       (subst (λ (z : List (WaitRef × ReadIoView)). IsIn n.token z) (sym n.first) (inl refl)) in
       record {
         issued = record {
@@ -119,40 +121,40 @@ module _ {W : Type 0} (c : Scope W) where
             free = k.room.free;
             in_flight = k.room.in_flight;
             ended = k.room.ended;
-            few = let f = k.room.few in omega arith;
+            count_within = let f = k.room.count_within in omega arith;
           };
           number = i.number ∙ k.number;
           config = i.config ∙ k.config;
-          out = out;
+          nothing_handed_out = out;
           free = k.free;
-          held = held;
-          staged = λ x j. k.staged x
+          staged_tokens = held;
+          staged_ios = λ x j. k.staged_ios x
               (subst (λ (z : List (WaitRef × ReadIoView)). IsIn x z) (sym n.first) (inr j));
           stream_ios = stream-ios-kept c p q s.in_flight.items kept k.stream_ios;
-          ended = λ r j. taken-later c told relations p q r i (k.ended r j);
-          owed = λ x. ⊎_elim
+          ended_records = λ r j. taken-later c told relations p q r i (k.ended_records r j);
+          unreclaimed_ios = λ x. ⊎_elim
               (λ over. let y = i.defined x in let z = i.reclaimed x in inl (omega arith))
               (λ j. inr (subst
-              (λ (z : WaitRef). IsIn x ((z ∷ []) ++ references after ++ s.in_flight.items))
+              (λ (z : WaitRef). IsIn x ((z ∷ []) ++ staged_references after ++ s.in_flight.items))
               (sym n.reference)
               (subst (λ (z : List (WaitRef × ReadIoView)).
-              IsIn x (references z ++ s.in_flight.items)) n.first j)))
-              (k.owed x);
-          most = let f = k.most in omega arith;
-          small = k.small;
+              IsIn x (staged_references z ++ s.in_flight.items)) n.first j)))
+              (k.unreclaimed_ios x);
+          within_most = let f = k.within_most in omega arith;
+          most_in_range = k.most_in_range;
           room_was = k.room_was;
-          taken = i.locals ∙ k.taken;
-          lived = λ h. (let x = i.lived h in let y = k.lived h in omega arith);
-          since = (
-            k.since.0 ++ i.more,
-            i.grown ∙ (ap (λ (z : List Mark). z ++ i.more) k.since.1
-                ∙ append_assoc (known_at_open c).marks k.since.0 i.more),
+          taken_in_count = i.locals ∙ k.taken_in_count;
+          lives_bound = λ h. (let x = i.lived h in let y = k.lives_bound h in omega arith);
+          marks_since_open = (
+            k.marks_since_open.0 ++ i.more,
+            i.grown ∙ (ap (λ (z : List Mark). z ++ i.more) k.marks_since_open.1
+                ∙ append_assoc (known_at_open c).marks k.marks_since_open.0 i.more),
           );
         };
         stream_ios = record {
           in_flight = n.in_flight;
-          aimed = (n.token.1, was-staged.0, n.aim);
-          new = subst (λ (z : WaitRef). IsNewIncarnation c z) (sym n.reference) was-staged.1;
+          has_aim = (n.token.1, was-staged.0, n.aim);
+          is_new = subst (λ (z : WaitRef). IsNewIncarnation c z) (sym n.reference) was-staged.1;
         };
         apart = λ u j e'. (let f = (stream-io-in c p s.in_flight.items u k.stream_ios
             j).in_flight.since in
@@ -181,25 +183,26 @@ module _ {W : Type 0} (c : Scope W) where
           free = k.room.free;
           in_flight = k.room.in_flight;
           ended = k.room.ended;
-          few = omega arith;
+          count_within = omega arith;
         };
         number = k.number;
         config = k.config;
-        out = k.out;
+        nothing_handed_out = k.nothing_handed_out;
         free = k.free;
-        held = k.held;
-        staged = k.staged;
+        staged_tokens = k.staged_tokens;
+        staged_ios = k.staged_ios;
         stream_ios = stream-ios-push c p s.in_flight.items t k.stream_ios l.stream_ios
             (λ u j e. l.apart u j (sym e));
-        ended = k.ended;
-        owed = λ x. ⊎_elim (λ over. inl over)
-            (λ j. inr (in-behind x t (references s.batch) s.in_flight.items j)) (k.owed x);
-        most = let f = k.most in omega arith;
-        small = k.small;
+        ended_records = k.ended_records;
+        unreclaimed_ios = λ x. ⊎_elim (λ over. inl over)
+            (λ j. inr (in-behind x t (staged_references s.batch) s.in_flight.items j))
+            (k.unreclaimed_ios x);
+        within_most = let f = k.within_most in omega arith;
+        most_in_range = k.most_in_range;
         room_was = k.room_was;
-        taken = k.taken;
-        lived = k.lived;
-        since = k.since;
+        taken_in_count = k.taken_in_count;
+        lives_bound = k.lives_bound;
+        marks_since_open = k.marks_since_open;
       }
 
   -- one I/O of the batch was submitted, and its token stands behind those in flight
@@ -214,7 +217,7 @@ module _ {W : Type 0} (c : Scope W) where
   issued-submitted told relations p q s after t a b d e n held k =
       let whole : length s.batch ≡ length (n.token ∷ after) =
       ap (λ (z : List (WaitRef × ReadIoView)). length z) n.first in
-      let few = k.room.few in
+      let few = k.room.count_within in
       more-in-flight told relations q (record s { batch = after }) t (omega arith)
       (issued-lent told relations p q s after t a b d e n held k)
 
@@ -233,7 +236,7 @@ module _ {W : Type 0} (c : Scope W) where
   -- it was submitted, and lies with the caller
   pub lent-at-once : (told : Option Told) (relations : ℕ) (p q : Known) (s s' : Reads W)
       (x : WaitRef × ReadIoView) (after : List (WaitRef × ReadIoView)) (t : WaitRef) (a b d e : ℕ)
-      → s' ≡ record s { batch = s.batch ++ x ∷ [] } → IsStaged p x.0 → IsAimed c x.1
+      → s' ≡ record s { batch = s.batch ++ x ∷ [] } → IsStaged p x.0 → IsStreamRecord c x.1
       → IsNewIncarnation c x.0 → ((u : WaitRef × ReadIoView) → IsIn u s.batch → u.0 ≢ x.0)
       → record_count s < c.total
       → IssuedExcept (x.0 ∷ []) c told relations p s
@@ -246,13 +249,13 @@ module _ {W : Type 0} (c : Scope W) where
   -- and it is to read what its record was aimed at
   pub for-at-once : (p q : Known) (s s' : Reads W) (x : WaitRef × ReadIoView)
       (after : List (WaitRef × ReadIoView)) (t : WaitRef) (a b d e : ℕ) → length s.batch ≤ 0
-      → s' ≡ record s { batch = s.batch ++ x ∷ [] } → IsAimed c x.1
+      → s' ≡ record s { batch = s.batch ++ x ∷ [] } → IsStreamRecord c x.1
       → IsNextSubmission record_aim s'.batch after t p q a b d e
-      → IsForBlocks c x.1.first x.1.count q t
+      → ReadsBlocks c x.1.first x.1.count q t
   for-at-once p q s s' x after t a b d e none is aimed n =
       let token = (only-one p q s s' x after t a b d e none is n).0 in (
         n.token.1,
-        subst (λ (z : WaitRef × ReadIoView). IsAimed c z.1) (sym token) aimed,
+        subst (λ (z : WaitRef × ReadIoView). IsStreamRecord c z.1) (sym token) aimed,
         n.aim,
         ap (λ (z : WaitRef × ReadIoView). z.1.first) token,
         ap (λ (z : WaitRef × ReadIoView). z.1.count) token,
@@ -269,7 +272,9 @@ module _ {W : Type 0} (c : Scope W) where
       ⊎_elim (λ over. omega arith)
       (λ j. in-flight (⊎_elim
       (λ i. ⊎_elim (λ of. callers t of)
-      (λ b. absurd (subst (λ (z : List (WaitRef × ReadIoView)). IsIn t (references z)) none b))
-      (in-append t caller_refs (references s.batch) i))
+      (λ b. absurd (subst (λ (z : List (WaitRef × ReadIoView)). IsIn t (staged_references z)) none
+      b))
+      (in-append t caller_refs (staged_references s.batch) i))
       (λ f. stream-io-in c p s.in_flight.items t k.stream_ios f)
-      (in-append t (caller_refs ++ references s.batch) s.in_flight.items j))) (k.owed t))
+      (in-append t (caller_refs ++ staged_references s.batch) s.in_flight.items j)))
+      (k.unreclaimed_ios t))

@@ -22,14 +22,15 @@ module _ {W : Type 0} (c : Scope W) where
       → IsTakenIn c told relations p r → IsTakenIn c told relations q r
   taken-grown told relations p q more r grown aims k = record {
     fits = k.fits;
-    ended = k.ended;
-    aimed = k.aimed;
-    submitted = aims (record_reference r, record_aim r) k.submitted;
-    local = since_grown (known_at_open c) p q
+    has_ended = k.has_ended;
+    is_stream_record = k.is_stream_record;
+    was_submitted = aims (record_reference r, record_aim r) k.was_submitted;
+    local_mark = since_grown (known_at_open c) p q
         (make_mark (record_reference r) (kind.Local r.label.ended))
-        more grown k.local;
-    alone = λ one. since_grown (known_at_open c) p q
-        (make_mark (record_reference r) (kind.Io r.label.ended)) more grown (k.alone one);
+        more grown k.local_mark;
+    io_mark_if_alone = λ one. since_grown (known_at_open c) p q
+        (make_mark (record_reference r) (kind.Io r.label.ended)) more grown (k.io_mark_if_alone
+        one);
   }
 
   pub taken-later : (told : Option Told) (relations : ℕ) (p q : Known) (r : ReadIoView)

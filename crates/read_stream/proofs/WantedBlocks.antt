@@ -11,11 +11,11 @@ use Rattle.aio_word.specs.Stands.{IsIn}
 use Rattle.read_plan.specs.declared.runs.Run.{Run}
 use Rattle.read_plan.specs.declared.runs.Offer.{Offer}
 use Rattle.read_plan.specs.declared.runs.Offer.TheVariants as offer
-use Rattle.read_plan.specs.Offered.{Offers}
+use Rattle.read_plan.specs.OfferAnswer.{Offers}
 use Rattle.read_plan.specs.Runs.{run_blocks}
 use Rattle.read_stream.specs.declared.queue.Want.{Want}
 use Rattle.read_stream.specs.declared.queue.Want.TheVariants as want
-use Rattle.read_stream.specs.WantedBlocks.{IsWant, blocks_of_want, runs_of_want, wanted_blocks}
+use Rattle.read_stream.specs.WantedBlocks.{IsValidWant, blocks_of_want, runs_of_want, wanted_blocks}
 use Rattle.read_stream.specs.WantedBlocks.{wanted_runs, pending_blocks}
 
 pub runs_pushed : (ws : List Want) (w : Want) → wanted_runs (ws ++ w ∷ []) ≡ wanted_runs ws
@@ -27,7 +27,7 @@ pub blocks_pushed : (ws : List Want) (w : Want)
 blocks_pushed ws w = sym (flat_map_more blocks_of_want [] ws w)
 
 module _ (combine handles : ℕ) where
-  some-blocks : (w : Want) → IsWant combine handles w
+  some-blocks : (w : Want) → IsValidWant combine handles w
       → (1 ≤ length (blocks_of_want w)) × (length (runs_of_want w) ≤ length (blocks_of_want w))
   some-blocks (want.Run run) is =
       let n = length-range_with_len run.first run.count in
@@ -36,7 +36,7 @@ module _ (combine handles : ℕ) where
   some-blocks (want.Join block reference) is = (omega arith, omega arith)
 
   -- each has at least one block
-  pub few_wants : (ws : List Want) → ((w : Want) → IsIn w ws → IsWant combine handles w)
+  pub few_wants : (ws : List Want) → ((w : Want) → IsIn w ws → IsValidWant combine handles w)
       → (length ws ≤ length (wanted_blocks ws)) × (length (wanted_runs ws)
       ≤ length (wanted_blocks ws))
   few_wants [] all = (omega arith, omega arith)
@@ -49,7 +49,7 @@ module _ (combine handles : ℕ) where
 
   -- the other blocks of the queue have no run that is wanted
   pub few_in_queue : (ws : List Want) (queue hand pend behind : List ℕ)
-      → ((w : Want) → IsIn w ws → IsWant combine handles w)
+      → ((w : Want) → IsIn w ws → IsValidWant combine handles w)
       → queue ≡ hand ++ (wanted_blocks ws ++ (pend ++ behind))
       → (length hand + length ws + length pend + length behind ≤ length queue)
       × (length hand + length (wanted_runs ws) + length pend + length behind ≤ length queue)

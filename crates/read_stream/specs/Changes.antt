@@ -7,7 +7,7 @@ use Rattle.read_stream.specs.declared.queue.QueuedBlock.{QueuedBlock}
 use Rattle.read_stream.specs.declared.queue.Want.{Want}
 use Rattle.read_stream.specs.declared.queue.Want.TheVariants as want
 use Rattle.read_stream.specs.declared.stream.ReadStream.{ReadStream}
-use Rattle.read_stream.specs.StreamIos.{record_count, ios_allowed}
+use Rattle.read_stream.specs.StreamIos.{record_count, ios_started}
 use Rattle.read_stream.specs.Desks.{SameDeskSettings}
 
 -- what is the same over a whole call
@@ -18,7 +18,7 @@ pub record SameStream {W S P : Type 0} (old new : ReadStream W S P) : Type 0 whe
 
 -- what looking ahead leaves as it is
 pub record ConsumerUnchanged {W S P : Type 0} (old new : ReadStream W S P) : Type 0 where
-  pub keeps : SameStream old new
+  pub same_stream : SameStream old new
   pub settings : SameDeskSettings old.desk.now new.desk.now
   pub pin : new.pin ≡ old.pin
   pub current : new.current ≡ old.current
@@ -27,7 +27,7 @@ pub record ConsumerUnchanged {W S P : Type 0} (old new : ReadStream W S P) : Typ
 
 -- what serving a block leaves as it is, until the block is given
 pub record LookAheadUnchanged {W S P : Type 0} (old new : ReadStream W S P) : Type 0 where
-  pub keeps : SameStream old new
+  pub same_stream : SameStream old new
   pub settings : SameDeskSettings old.desk.now new.desk.now
   pub source : new.source ≡ old.source
   pub over : new.over ≡ old.over
@@ -40,7 +40,6 @@ pub record LookAheadUnchanged {W S P : Type 0} (old new : ReadStream W S P) : Ty
   pub combine : new.plan.combine ≡ old.plan.combine
   pub max_ios : new.plan.max_ios ≡ old.plan.max_ios
   pub limit : new.plan.limit ≡ old.plan.limit
-  pub made : ios_allowed new.desk.now.reads ≡ ios_allowed old.desk.now.reads
 
 -- the run was started by a free record
 pub record StartsRun {W S P : Type 0} (run : Run) (old new : ReadStream W S P) : Type 0 where
@@ -53,8 +52,7 @@ pub record StartsRun {W S P : Type 0} (run : Run) (old new : ReadStream W S P) :
   pub plan : new.plan ≡ record old.plan { ios_in_progress = old.plan.ios_in_progress + 1 }
   pub free : length old.desk.now.reads.free.items ≡ length new.desk.now.reads.free.items + 1
   pub records : record_count new.desk.now.reads ≡ record_count old.desk.now.reads
-  pub made : ios_allowed new.desk.now.reads ≡ ios_allowed old.desk.now.reads
-  pub io_budget : old.desk.now.reads.io_budget ≡ new.desk.now.reads.io_budget + 1
+  pub ios : ios_started new.desk.now.reads ≡ ios_started old.desk.now.reads + 1
 
 -- the block was put into the queue
 pub record EnqueuesBlock {W S P : Type 0} (a : QueuedBlock P) (old new : ReadStream W S P)
@@ -65,8 +63,7 @@ pub record EnqueuesBlock {W S P : Type 0} (a : QueuedBlock P) (old new : ReadStr
   pub queue : new.desk.now.queue
       ≡ buffer (old.desk.now.queue.items ++ a ∷ []) old.desk.now.queue.capacity
   pub wants : new.desk.now.wants ≡ old.desk.now.wants
-  pub reads : new.desk.now.reads
-      ≡ record old.desk.now.reads { io_budget = old.desk.now.reads.io_budget + 1 }
+  pub reads : new.desk.now.reads ≡ old.desk.now.reads
   pub plan : new.plan ≡ record old.plan { blocks_ahead = old.plan.blocks_ahead + 1 }
 
 -- what is wanted first is not wanted any more
@@ -89,12 +86,12 @@ pub record ReadsOne {W S P : Type 0} (old new : ReadStream W S P) : Type 0 where
   pub batch : new.desk.now.reads.batch ≡ []
   pub free : new.desk.now.reads.free ≡ old.desk.now.reads.free
   pub records : record_count new.desk.now.reads ≡ record_count old.desk.now.reads
-  pub io_budget : old.desk.now.reads.io_budget ≡ new.desk.now.reads.io_budget + 1
+  pub started : ios_started new.desk.now.reads ≡ ios_started old.desk.now.reads + 1
 
 -- the page of the block at the front was given
 pub record GivesPage {W S P : Type 0} (a : QueuedBlock P) (old new : ReadStream W S P)
     : Type 0 where
-  pub keeps : SameStream old new
+  pub same_stream : SameStream old new
   pub settings : SameDeskSettings old.desk.now new.desk.now
   pub source : new.source ≡ old.source
   pub over : new.over ≡ old.over

@@ -1,7 +1,7 @@
 -- The settings of a desk, and a desk that serves no stream.
 use Rattle.std.specs.Prelude.{◌≡◌, ℕ, ◌+◌, ◌≤◌, []}
 use Rattle.read_stream.specs.declared.desk.Desk.{Desk}
-use Rattle.read_stream.specs.StreamIos.{IsReady}
+use Rattle.read_stream.specs.StreamIos.{AllRecordsFree}
 
 -- the settings of a desk are in their ranges
 pub record AreValidSettings (combine ios limit segment : ℕ) : Type 0 where
@@ -13,7 +13,7 @@ pub record AreValidSettings (combine ios limit segment : ℕ) : Type 0 where
 -- all its records are free, and it holds nothing of a stream
 pub record IsFreeDesk {W P : Type 0} (d : Desk W P) : Type 0 where
   pub settings : AreValidSettings d.combine d.ios d.limit d.segment
-  pub ready : IsReady d.combine (d.ios + 1) d.reads
+  pub ready : AllRecordsFree d.combine (d.ios + 1) d.reads
   pub queue : d.queue.items ≡ []
   pub wants : d.wants.items ≡ []
   pub most_blocks : d.limit ≤ d.queue.capacity

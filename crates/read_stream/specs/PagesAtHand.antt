@@ -4,15 +4,15 @@ use Rattle.std.specs.Prelude.{None, IfSome, ⊤}
 use Rattle.std.specs.List.{range_with_len}
 use Rattle.page_check.specs.Told.{Told}
 use Rattle.aio_callback.specs.ReadIoView.{ReadIoView, record_page, record_zeroed}
-use Rattle.aio_callback.specs.Good.{IsGood}
-use Rattle.buf_pool.specs.Found.{pinned_page}
+use Rattle.aio_callback.specs.GoodPages.{IsGood}
+use Rattle.buf_pool.specs.LookupAnswers.{pinned_page}
 use Rattle.buf_pool.specs.declared.pin.Pin.{Pin}
 use Rattle.read_stream.specs.declared.answer.Ending.{Ending}
 use Rattle.read_stream.specs.declared.answer.Step.{Step}
 use Rattle.read_stream.specs.declared.answer.Step.TheVariants as step
 use Rattle.read_stream.specs.declared.parts.Part.TheVariants as part
 use Rattle.read_stream.specs.declared.stream.ReadStream.{ReadStream}
-use Rattle.read_stream.specs.Parts.{CoversBlock, IsPart}
+use Rattle.read_stream.specs.Parts.{CoversBlock, IsValidPart}
 
 -- 1 where there is one
 abbrev pub count_some : {X : Type 0} → Option X → ℕ
@@ -54,19 +54,21 @@ IsAtHand told relation None None block = ⊥
 pub record HasCurrentPage {W : Type 0} (told : Option Told) (relation : ℕ) (pin : Option (Pin W))
     (io : Option ReadIoView) (block : ℕ) : Type 0 where
   pub at_hand : IsAtHand told relation pin io block
-  pub good : IfSome io (λ r. IsPart told r block part.Page)
+  pub good : IfSome io (λ r. IsValidPart told r block part.Page)
 
 -- what is lent: nothing yet, or the page of the last step
-abbrev pub IsLent : {W P : Type 0} → Option Told → ℕ → Option (Pin W) → Option ReadIoView → Step P
+abbrev pub LendsCurrentPage : {W P : Type 0} → Option Told → ℕ → Option (Pin W) → Option ReadIoView
+    → Step P
     → Type 0
-IsLent told relation pin io (step.Page block info) = HasCurrentPage told relation pin io block
-IsLent told relation pin io step.Start = (pin ≡ None) × (io ≡ None)
-IsLent told relation pin io (step.Stop end) = ⊤
+LendsCurrentPage told relation pin io (step.Page block info) = HasCurrentPage told relation pin io
+    block
+LendsCurrentPage told relation pin io step.Start = (pin ≡ None) × (io ≡ None)
+LendsCurrentPage told relation pin io (step.Stop end) = ⊤
 
 -- what stops the stream at the block, by its record
 abbrev pub IsStop : Option Told → Option ReadIoView → ℕ → Ending → Type 0
 IsStop told None block end = ⊥
-IsStop told (Some io) block end = CoversBlock io block × IsPart told io block (part.Stop end)
+IsStop told (Some io) block end = CoversBlock io block × IsValidPart told io block (part.Stop end)
 
 -- the blocks behind the last step's that the record was to read
 abbrev pub record_blocks_left : {P : Type 0} → Option ReadIoView → Step P → List ℕ
@@ -88,7 +90,7 @@ abbrev pub blocks_at_hand : Option ReadIoView → ℕ → List ℕ
 blocks_at_hand (Some io) block = record_blocks_from io block
 blocks_at_hand None block = block ∷ []
 
--- 1 where an I/O of the budget was spent on the block at hand
+-- 1 where an I/O was spent on the block at hand
 abbrev pub spent_ios : Option ReadIoView → ℕ → ℕ
 spent_ios (Some io) block = 1 - (block - io.first)
 spent_ios None block = 1

@@ -3,7 +3,7 @@ use Rattle.std.specs.Prelude.{◌≡◌, ℕ, ◌-◌, ◌<◌, ◌≤◌, true,
 use Rattle.page_check.specs.Told.{Told}
 use Rattle.page_check.specs.SynchronousAnswer.{Damaged, Absent, found_at}
 use Rattle.aio_word.specs.declared.Class.TheVariants.{Failed}
-use Rattle.aio_callback.specs.Cases.{stream_ids}
+use Rattle.aio_callback.specs.StreamOutcomes.{stream_ids}
 use Rattle.aio_callback.specs.Chain.{good_count}
 use Rattle.aio_callback.specs.ReadIoView.{ReadIoView, record_zeroed}
 use Rattle.read_stream.specs.declared.answer.Ending.TheVariants as ending
@@ -15,15 +15,15 @@ abbrev pub CoversBlock : ReadIoView → ℕ → Type 0
 CoversBlock io block = (io.first ≤ block) × (block - io.first < io.count)
 
 -- a page was zeroed, and is not what stops the stream, only where damaged pages are zeroed
-abbrev pub IsPart : Option Told → ReadIoView → ℕ → Part → Type 0
-IsPart told io block part.Page = (block - io.first < good_count io.ids io.result)
+abbrev pub IsValidPart : Option Told → ReadIoView → ℕ → Part → Type 0
+IsValidPart told io block part.Page = (block - io.first < good_count io.ids io.result)
     × (record_zeroed io (block - io.first) ≡ true → io.ids ≡ stream_ids true)
-IsPart told io block part.Rest = io.first < block
-IsPart told io block (part.Stop ending.End) = ⊥
-IsPart told io block (part.Stop (ending.Invalid b)) =
+IsValidPart told io block part.Rest = io.first < block
+IsValidPart told io block (part.Stop ending.End) = ⊥
+IsValidPart told io block (part.Stop (ending.Invalid b)) =
     (b ≡ block) × (io.ids ≡ stream_ids false)
     × IfSome told (λ t. found_at t io.relation block ≡ Damaged)
-IsPart told io block (part.Stop (ending.Unread b)) =
+IsValidPart told io block (part.Stop (ending.Unread b)) =
     (b ≡ block) × (io.first ≡ block) × (io.label.ended ≡ Failed)
-IsPart told io block (part.Stop (ending.PastEnd b)) =
+IsValidPart told io block (part.Stop (ending.PastEnd b)) =
     (b ≡ block) × IfSome told (λ t. found_at t io.relation block ≡ Absent)

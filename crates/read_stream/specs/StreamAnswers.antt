@@ -41,11 +41,11 @@ pub record IsFailedRead (was : ActorView) (now : Known) (relation block : ℕ) (
     : Type 0 where
   pub relation_is : io.relation ≡ relation
   pub first : io.first ≡ block
-  pub failed : io.label.ended ≡ Failed
+  pub class_is : io.label.ended ≡ Failed
   -- it was submitted to read the block
-  pub submitted : IsIn (record_reference io, record_aim io) now.aims
-  pub taken : MarkedSince was.known now (make_mark (record_reference io) (kind.Local Failed))
-  pub alone : actor_count was.known.config ≡ 1
+  pub was_submitted : IsIn (record_reference io, record_aim io) now.aims
+  pub local_mark : MarkedSince was.known now (make_mark (record_reference io) (kind.Local Failed))
+  pub io_mark_if_alone : actor_count was.known.config ≡ 1
       → MarkedSince was.known now (make_mark (record_reference io) (kind.Io Failed))
 
 module _ {P : Type 0} where

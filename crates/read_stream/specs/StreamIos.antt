@@ -14,20 +14,20 @@ use Rattle.aio_word.specs.Tokens.{IsInFlight, MarksOnceAndSeen}
 use Rattle.aio_batch.specs.StagedTokens.{AreStagedTokens}
 use Rattle.aio_callback.specs.ReadIoView.{ReadIoView, ReadFits, record_aim}
 use Rattle.aio_callback.specs.Finishes.{record_reference}
-use Rattle.aio_callback.specs.Cases.{stream_ids}
+use Rattle.aio_callback.specs.StreamOutcomes.{stream_ids}
 use Rattle.read_plan.specs.declared.runs.Run.{Run}
 use Rattle.read_stream.specs.declared.reads.Reads.{Reads}
 use Rattle.read_stream.specs.declared.scope.Scope.{Scope}
 use Rattle.aio_word.specs.declared.Step.TheVariants.{HandOut}
 use Rattle.aio_handle.specs.LifeWords.{idle_word, handed_out_word}
 use Rattle.aio_handle.specs.CallEvents.{EventMade}
-use Rattle.aio_handle.specs.Free.{IsInUse, IsRoom}
+use Rattle.aio_handle.specs.FreeHandles.{IsInUse, IsRoom}
 use Rattle.read_stream.specs.ActorProgress.{ActorAdvanced, MarkedSince, local_mark_count}
 
 -- the references of staged I/Os
-abbrev pub references : List (WaitRef × ReadIoView) → List WaitRef
-references [] = []
-references (x ∷ xs) = x.0 ∷ references xs
+abbrev pub staged_references : List (WaitRef × ReadIoView) → List WaitRef
+staged_references [] = []
+staged_references (x ∷ xs) = x.0 ∷ staged_references xs
 
 -- the run that the record is to read
 abbrev pub run_of : ReadIoView → Run
@@ -41,9 +41,9 @@ IsRecordForRun run (Some r) = run_of r ≡ run
 -- one of the actor's handles is in the middle of no life
 pub record HasIdleHandle (k : Config) (p : Known) : Type 0 where
   pub handle : ℕ
-  pub inside : handle < handle_count k
-  pub own : p.number ≡ owner k handle
-  pub none : IsInUse k p handle → ⊥
+  pub in_range : handle < handle_count k
+  pub is_own : p.number ≡ owner k handle
+  pub not_in_use : IsInUse k p handle → ⊥
 
 module _ {W : Type 0} (c : Scope W) where
   -- what the actor knew when the stream was opened
@@ -51,7 +51,7 @@ module _ {W : Type 0} (c : Scope W) where
   known_at_open = c.was.value.known
 
   -- the record is aimed at some blocks of the relation, with a stream's callbacks
-  pub record IsAimed (r : ReadIoView) : Type 0 where
+  pub record IsStreamRecord (r : ReadIoView) : Type 0 where
     pub ids : r.ids ≡ stream_ids c.zero
     pub relation : r.relation ≡ c.relation
     pub room : length r.pages ≡ c.combine
@@ -65,36 +65,36 @@ module _ {W : Type 0} (c : Scope W) where
   -- an I/O of the stream in flight
   pub record IsStreamIo (p : Known) (t : WaitRef) : Type 0 where
     pub in_flight : IsInFlight p t
-    pub aimed : (r : ReadIoView) × IsAimed r × IsIn (t, record_aim r) p.aims
-    pub new : IsNewIncarnation t
+    pub has_aim : (r : ReadIoView) × IsStreamRecord r × IsIn (t, record_aim r) p.aims
+    pub is_new : IsNewIncarnation t
 
   -- each of these is in flight, and no two are of one incarnation
-  abbrev pub AreStreamIos : Known → List WaitRef → Type 0
-  AreStreamIos p [] = Unit {0}
-  AreStreamIos p (t ∷ ts) = IsStreamIo p t × ((u : WaitRef) → IsIn u ts → u ≢ t) × AreStreamIos p ts
+  abbrev pub AllStreamIos : Known → List WaitRef → Type 0
+  AllStreamIos p [] = Unit {0}
+  AllStreamIos p (t ∷ ts) = IsStreamIo p t × ((u : WaitRef) → IsIn u ts → u ≢ t) × AllStreamIos p ts
 
   -- the record was read by an I/O of this stream, which the actor took in: its Local mark stands
   -- in the actor's list, and in a table of one actor its Io mark too
   pub record IsTakenIn (told : Option Told) (relations : ℕ) (p : Known) (r : ReadIoView) : Type 0
     where
       pub fits : ReadFits told relations r
-      pub ended : r.label.ended ≢ Unended
-      pub aimed : IsAimed r
-      pub submitted : IsIn (record_reference r, record_aim r) p.aims
-      pub local : MarkedSince known_at_open p
+      pub has_ended : r.label.ended ≢ Unended
+      pub is_stream_record : IsStreamRecord r
+      pub was_submitted : IsIn (record_reference r, record_aim r) p.aims
+      pub local_mark : MarkedSince known_at_open p
           (make_mark (record_reference r) (kind.Local r.label.ended))
-      pub alone : actor_count c.was.value.known.config ≡ 1
+      pub io_mark_if_alone : actor_count c.was.value.known.config ≡ 1
           → MarkedSince known_at_open p (make_mark (record_reference r) (kind.Io r.label.ended))
 
   -- the I/O of this incarnation is to read so many blocks from the first on
-  abbrev pub IsForBlocks : ℕ → ℕ → Known → WaitRef → Type 0
-  IsForBlocks first count p t = (r : ReadIoView) × IsAimed r × IsIn (t, record_aim r) p.aims
+  abbrev pub ReadsBlocks : ℕ → ℕ → Known → WaitRef → Type 0
+  ReadsBlocks first count p t = (r : ReadIoView) × IsStreamRecord r × IsIn (t, record_aim r) p.aims
       × (r.first ≡ first) × (r.count ≡ count)
 
   -- these I/Os in flight are to read these runs, one each
   abbrev pub InFlightForRuns : Known → List WaitRef → List Run → Type 0
   InFlightForRuns p [] [] = Unit {0}
-  InFlightForRuns p (t ∷ ts) (run ∷ runs) = IsForBlocks run.first run.count p t
+  InFlightForRuns p (t ∷ ts) (run ∷ runs) = ReadsBlocks run.first run.count p t
       × InFlightForRuns p ts runs
   InFlightForRuns p [] (run ∷ runs) = ⊥
   InFlightForRuns p (t ∷ ts) [] = ⊥
@@ -105,16 +105,16 @@ module _ {W : Type 0} where
   record_count s =
       length s.free.items + length s.batch + length s.in_flight.items + length s.ended.items
 
-  -- how many I/Os were made, and how many more may be
-  abbrev pub ios_allowed : Reads W → ℕ
-  ios_allowed s = s.taken_in + length s.batch + length s.in_flight.items + s.io_budget
+  -- how many I/Os were started since the stream was opened
+  abbrev pub ios_started : Reads W → ℕ
+  ios_started s = s.taken_in + length s.batch + length s.in_flight.items
 
   -- there is room for so many records
   pub record HasRoom (total : ℕ) (s : Reads W) : Type 0 where
     pub free : total ≤ s.free.capacity
     pub in_flight : total ≤ s.in_flight.capacity
     pub ended : total ≤ s.ended.capacity
-    pub few : record_count s ≤ total
+    pub count_within : record_count s ≤ total
 
   -- the I/Os that were started and not given, the oldest first, are to read these runs
   pub record ReadsForRuns (c : Scope W) (p : Known) (s : Reads W) (runs : List Run) : Type 0 where
@@ -124,10 +124,10 @@ module _ {W : Type 0} where
         ++ map (λ x. run_of x.1) s.batch
 
   -- all records lie here, and nothing is under way
-  pub record IsReady (room total : ℕ) (s : Reads W) : Type 0 where
+  pub record AllRecordsFree (room total : ℕ) (s : Reads W) : Type 0 where
     pub has_room : HasRoom total s
     pub free : (r : ReadIoView) → IsIn r s.free.items → length r.pages ≡ room
-    pub all : length s.free.items ≡ total
+    pub free_count : length s.free.items ≡ total
     pub batch : s.batch ≡ []
     pub in_flight : s.in_flight.items ≡ []
     pub ended : s.ended.items ≡ []
@@ -140,25 +140,27 @@ module _ {W : Type 0} where
     pub number : p.number ≡ (known_at_open c).number
     pub config : p.config ≡ (known_at_open c).config
     -- nothing is handed out
-    pub out : p.out ≡ None
+    pub nothing_handed_out : p.out ≡ None
     pub free : (r : ReadIoView) → IsIn r s.free.items → length r.pages ≡ c.combine
-    pub held : AreStagedTokens p s.batch
-    pub staged : (x : WaitRef × ReadIoView) → IsIn x s.batch → IsAimed c x.1
+    pub staged_tokens : AreStagedTokens p s.batch
+    pub staged_ios : (x : WaitRef × ReadIoView) → IsIn x s.batch → IsStreamRecord c x.1
         × IsNewIncarnation c x.0
-    pub stream_ios : AreStreamIos c p s.in_flight.items
-    pub ended : (r : ReadIoView) → IsIn r s.ended.items → IsTakenIn c told relations p r
+    pub stream_ios : AllStreamIos c p s.in_flight.items
+    pub ended_records : (r : ReadIoView) → IsIn r s.ended.items → IsTakenIn c told relations p r
     -- each incarnation that is not over is one of these
-    pub owed : (t : WaitRef)
+    pub unreclaimed_ios : (t : WaitRef)
         → (mark_count t kind.Defined p.marks ≤ mark_count t kind.Reclaimed p.marks)
-        ⊎ IsIn t (caller_refs ++ references s.batch ++ s.in_flight.items)
-    pub most : ios_allowed s + length caller_refs ≤ c.most
-    pub small : c.most < 2 ^ 58
+        ⊎ IsIn t (caller_refs ++ staged_references s.batch ++ s.in_flight.items)
+    pub within_most : ios_started s + length caller_refs ≤ c.most
+    pub most_in_range : c.most < 2 ^ 58
     -- no more I/Os than each handle could have lives when the stream was opened
     pub room_was : IsRoom c.was.value.known.config (known_at_open c) c.most
     -- how many were taken in
-    pub taken : local_mark_count p.marks ≡ local_mark_count (known_at_open c).marks + s.taken_in
-    pub lived : (h : ℕ) → lives_ended h p.marks ≤ lives_ended h (known_at_open c).marks + s.taken_in
-    pub since : (more : List _) × (p.marks ≡ (known_at_open c).marks ++ more)
+    pub taken_in_count : local_mark_count p.marks ≡ local_mark_count (known_at_open c).marks
+        + s.taken_in
+    pub lives_bound : (h : ℕ) → lives_ended h p.marks ≤ lives_ended h (known_at_open c).marks
+        + s.taken_in
+    pub marks_since_open : (more : List _) × (p.marks ≡ (known_at_open c).marks ++ more)
 
   -- the caller holds this I/O in flight, which is none of those here
   pub record HeldByCaller (c : Scope W) (told : Option Told) (relations : ℕ) (p : Known)
@@ -173,11 +175,11 @@ module _ {W : Type 0} where
     pub before : Known
     pub actor_advanced : ActorAdvanced p before reads reads' faults faults'
     pub issued : IssuedExcept [] c told relations before s
-    pub made : EventMade HandOut t.handle (idle_word t.generation)
+    pub hand_out_event : EventMade HandOut t.handle (idle_word t.generation)
         (handed_out_word t.generation) [] before q
     pub token : q.out ≡ Some t
-    pub new : IsNewIncarnation c t
-    pub keeps : MarksOnceAndSeen (seen_rank q) q.marks
+    pub is_new : IsNewIncarnation c t
+    pub marks_once : MarksOnceAndSeen (seen_rank q) q.marks
 
   abbrev pub Issued : Scope W → Option Told → ℕ → Known → Reads W → Type 0
   Issued c told relations p s = IssuedExcept [] c told relations p s

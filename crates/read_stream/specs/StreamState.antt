@@ -14,11 +14,12 @@ use Rattle.read_stream.specs.declared.stream.ReadStream.{ReadStream}
 use Rattle.read_stream.specs.StreamAnswers.{stream_entries, synchronous_ending, pages_given}
 use Rattle.read_stream.specs.StreamAnswers.{step_answer, IsFailedRead}
 use Rattle.read_stream.specs.StreamAnswers.{MayBeUnread, IfStopped, IfRunning}
-use Rattle.read_stream.specs.StreamIos.{Issued, ReadsForRuns, IsTakenIn, record_count, ios_allowed}
+use Rattle.read_stream.specs.StreamIos.{Issued, ReadsForRuns, IsTakenIn, record_count, ios_started}
 use Rattle.read_stream.specs.Desks.{AreValidSettings}
-use Rattle.read_stream.specs.WantedBlocks.{IsWant, source_item, block_number, wanted_blocks}
+use Rattle.read_stream.specs.WantedBlocks.{IsValidWant, source_item, block_number, wanted_blocks}
 use Rattle.read_stream.specs.WantedBlocks.{pending_blocks, wanted_runs}
-use Rattle.read_stream.specs.PagesAtHand.{IsAtHand, IsLent, count_some, blocks_at_hand, spent_ios}
+use Rattle.read_stream.specs.PagesAtHand.{IsAtHand, LendsCurrentPage, count_some, blocks_at_hand}
+use Rattle.read_stream.specs.PagesAtHand.{spent_ios}
 use Rattle.read_stream.specs.PagesAtHand.{record_blocks_left}
 use Rattle.read_stream.specs.PagesAtHand.{current_page}
 
@@ -40,59 +41,59 @@ module _ {W S P : Type 0} (left : S → List (ℕ × P)) (told : Option Told)
 
   -- what holds of a stream at any time, whose actor knows p
   pub record StreamInvariant (p : Known) (s : ReadStream W S P) : Type 0 where
-    pub place : s.scope.relation < relations
+    pub relation_in_range : s.scope.relation < relations
     pub settings : AreValidSettings s.desk.now.combine s.desk.now.ios s.desk.now.limit
         s.desk.now.segment
     pub scope : (s.scope.combine ≡ s.desk.now.combine) × (s.scope.total ≡ s.desk.now.ios + 1)
     pub zero : s.scope.zero ≡ s.desk.now.zero
     pub queue : s.desk.now.limit ≤ s.desk.now.queue.capacity
     pub wants : s.desk.now.limit ≤ s.desk.now.wants.capacity
-    pub short : length (list_at_open s) ≤ s.scope.most
+    pub list_within_most : length (list_at_open s) ≤ s.scope.most
     pub issued : Issued s.scope told relations p s.desk.now.reads
-    pub staged : length s.desk.now.reads.batch < 32
+    pub batch_within : length s.desk.now.reads.batch < 32
     pub current : IfSome s.current (IsTakenIn s.scope told relations p)
-    pub all : record_count s.desk.now.reads + count_some s.current ≡ s.scope.total
+    pub record_total : record_count s.desk.now.reads + count_some s.current ≡ s.scope.total
 
   -- a stream that has not ended: what is left of the list is what it has taken, then what its
   -- source has left. The blocks that it has taken are those at hand, those that are wanted, those
   -- of the pending run and those behind
   pub record IsRunning (hand behind : List ℕ) (spent : ℕ) (p : Known) (s : ReadStream W S P)
       : Type 0 where
-    pub few : s.given ≤ length (list_at_open s)
+    pub given_within : s.given ≤ length (list_at_open s)
     pub readable : IfSome (reader_of s.scope.zero told)
         (λ f. s.given ≤ read_count f (entries_at_open s))
     pub blocks : map source_item s.desk.now.queue.items ++ left s.source
         ≡ drop s.given (list_at_open s)
-    pub over : s.over ≡ true → left s.source ≡ []
-    pub front : map block_number s.desk.now.queue.items
+    pub none_left_if_over : s.over ≡ true → left s.source ≡ []
+    pub queue_order : map block_number s.desk.now.queue.items
         ≡ hand ++ (wanted_blocks s.desk.now.wants.items
         ++ (pending_blocks s.plan.pending ++ behind))
-    pub wants : (w : Want) → IsIn w s.desk.now.wants.items → IsWant s.desk.now.combine handles w
+    pub wants : (w : Want) → IsIn w s.desk.now.wants.items → IsValidWant s.desk.now.combine handles
+        w
     -- the I/Os that were started and not taken up are for the runs that are wanted
     pub runs : ReadsForRuns s.scope p s.desk.now.reads (wanted_runs s.desk.now.wants.items)
-    -- each block that is taken raises the budget by one I/O
-    pub io_budget : length s.desk.now.queue.items
-        ≤ s.desk.now.reads.io_budget + length (wanted_runs s.desk.now.wants.items) + spent
+    -- each I/O was started for a block that was given, for a run that is wanted, or is spent
+    pub few_ios : ios_started s.desk.now.reads
+        ≤ s.given + length (wanted_runs s.desk.now.wants.items) + spent
     pub ahead : s.plan.blocks_ahead ≡ length s.desk.now.queue.items
-    pub within : length s.desk.now.queue.items ≤ s.desk.now.limit
+    pub queue_within_limit : length s.desk.now.queue.items ≤ s.desk.now.limit
     pub in_use : s.plan.ios_in_progress + length s.desk.now.reads.free.items ≡ s.scope.total
     -- a block that was looked for in the pool has a record to be read by
-    pub spare : 0 < length s.desk.now.reads.free.items + count_some s.current
+    pub spare_record : 0 < length s.desk.now.reads.free.items + count_some s.current
     pub combine : s.plan.combine ≡ s.desk.now.combine
     pub max_ios : s.plan.max_ios ≡ s.desk.now.ios
     pub limit : s.plan.limit ≡ s.desk.now.limit
-    pub most : ios_allowed s.desk.now.reads + length (left s.source) ≤ length (list_at_open s)
 
   -- between two calls
   pub record IsBetweenCalls (p : Known) (s : ReadStream W S P) : Type 0 where
-    pub steady : StreamInvariant p s
-    pub made : ios_allowed s.desk.now.reads ≤ length (list_at_open s)
+    pub invariant : StreamInvariant p s
+    pub few_ios : ios_started s.desk.now.reads ≤ length (list_at_open s)
     pub running : IfRunning s.step (IsRunning (record_blocks_left s.current s.step) [] 0 p s)
-    pub lent : IsLent told s.scope.relation s.pin s.current s.step
-    pub stopped : IfStopped s.step (λ e. IsNext (reader_of s.scope.zero told)
+    pub lends_page : LendsCurrentPage told s.scope.relation s.pin s.current s.step
+    pub stop_answer : IfStopped s.step (λ e. IsNext (reader_of s.scope.zero told)
         (MayBeUnread s.scope.was.value p) (entries_at_open s) s.given
         (SaidStop (synchronous_ending e)))
-    pub kept : IfStopped s.step (λ e. IfUnread e (λ b. IsSomeAnd s.current
+    pub unread_record : IfStopped s.step (λ e. IfUnread e (λ b. IsSomeAnd s.current
         (IsFailedRead s.scope.was.value p s.scope.relation b)))
 
   pub record IsOpen (s : ReadStream W S P) : Type 0 where
@@ -101,7 +102,7 @@ module _ {W S P : Type 0} (left : S → List (ℕ × P)) (told : Option Told)
     pub between : IsBetweenCalls s.actor_is.value.known s
 
   -- the same stream after a call that left its actor so and gave this answer
-  pub record Follows (old new : ReadStream W S P) (actor : ActorView) (answer : Said P)
+  pub record StreamAnswered (old new : ReadStream W S P) (actor : ActorView) (answer : Said P)
       : Type 0 where
     pub desk : new.desk.ghost_name ≡ old.desk.ghost_name
     pub source : new.source_was.value ≡ old.source_was.value
@@ -110,13 +111,13 @@ module _ {W S P : Type 0} (left : S → List (ℕ × P)) (told : Option Told)
     pub relation : new.scope.relation ≡ old.scope.relation
     pub zero : new.scope.zero ≡ old.scope.zero
     pub given : new.given ≡ old.given + pages_given answer
-    pub found : answer ≡ step_answer new.scope.relation new.step (current_page new)
+    pub answer_is : answer ≡ step_answer new.scope.relation new.step (current_page new)
     pub is_open : IsOpen new
 
   -- in the middle of a call
   pub record UnderwayWith (hand behind : List ℕ) (spent : ℕ) (p : Known) (s : ReadStream W S P)
       : Type 0 where
-    pub steady : StreamInvariant p s
+    pub invariant : StreamInvariant p s
     pub running : IsRunning hand behind spent p s
 
   -- before the block at the front of the queue is served
@@ -124,6 +125,6 @@ module _ {W S P : Type 0} (left : S → List (ℕ × P)) (told : Option Told)
   Underway p s = UnderwayWith (record_blocks_left s.current s.step) [] 0 p s
 
   -- the block's page is to be had from the pin or the record
-  pub record Reaches (block : ℕ) (p : Known) (s : ReadStream W S P) : Type 0 where
+  pub record BlockIsAtHand (block : ℕ) (p : Known) (s : ReadStream W S P) : Type 0 where
     pub underway : UnderwayWith (blocks_at_hand s.current block) [] (spent_ios s.current block) p s
     pub at_hand : IsAtHand told s.scope.relation s.pin s.current block

@@ -8,10 +8,10 @@ use Rattle.read_stream.specs.declared.queue.Want.{Want}
 use Rattle.read_stream.specs.declared.queue.Want.TheVariants as want
 
 -- a started run is one, and the reference of a join is in range
-abbrev pub IsWant : ℕ → ℕ → Want → Type 0
-IsWant combine handles (want.Run run) = IsRun combine run
-IsWant combine handles (want.Look block) = block < 2 ^ 32
-IsWant combine handles (want.Join block reference) =
+abbrev pub IsValidWant : ℕ → ℕ → Want → Type 0
+IsValidWant combine handles (want.Run run) = IsRun combine run
+IsValidWant combine handles (want.Look block) = block < 2 ^ 32
+IsValidWant combine handles (want.Join block reference) =
     (block < 2 ^ 32) × (reference.handle < handles)
 
 -- the blocks that are had by it

@@ -1,11 +1,11 @@
 //! How a stream has a handle of its actor for the next I/O.
 ghost use Rattle.std.specs.Prelude.{◌≡◌, ◌≤◌, ◌<◌, length, IfSome, IfNone, ℕ, List};
-ghost use Rattle.aio_handle.specs.Free.{HasNoneFree};
+ghost use Rattle.aio_handle.specs.FreeHandles.{HasNoneFree};
 ghost use Rattle.aio_handle.specs.ContractViews.{IsActorOf, IsSameActor};
 ghost use Rattle.read_stream.specs.IoContexts.{IsValidContext, ContextAdvanced};
 ghost use Rattle.read_plan.specs.declared.runs.Run.{Run};
 ghost use Rattle.read_stream.specs.StreamIos.{Issued, HandleHandedOut, ReadsForRuns, record_count};
-ghost use Rattle.read_stream.specs.StreamIos.{ios_allowed};
+ghost use Rattle.read_stream.specs.StreamIos.{ios_started};
 
 use crate::io_context::IoContext;
 use crate::reads::Reads;
@@ -29,7 +29,8 @@ impl<W: World> Reads<W> {
         requires backend { actor.old.known.number < table.now.config.backends }
         requires issued { Issued scope.now W.told W.relations actor.old.known self.now }
         ensures same { IsSameActor actor.old actor.new }
-        ensures handed { IfSome result (λ t. (reads faults : ℕ) → HandleHandedOut scope.now W.told
+        ensures handle_handed_out { IfSome result (λ t. (reads faults : ℕ)
+            → HandleHandedOut scope.now W.told
             W.relations actor.old.known actor.new.known reads reads faults faults self.now t) }
         ensures none { IfNone result ((actor.new ≡ actor.old)
             × HasNoneFree table.now.config actor.old.known) }
@@ -51,20 +52,21 @@ impl<W: World> Reads<W> {
         scope: &Scope<W>,
         context: &mut IoContext<W, M, E>,
     ) -> HandedOut<W>
-        requires handed { IsValidContext E.told E.relations W.told W.relations scope.now
+        requires valid_context { IsValidContext E.told E.relations W.told W.relations scope.now
             context.old }
         requires issued { Issued scope.now W.told W.relations context.old.actor.now.known self.old }
-        requires io_budget { ios_allowed self.old < scope.now.most }
+        requires few_ios { ios_started self.old < scope.now.most }
         ensures context_advanced { ContextAdvanced E.told E.relations E.reads E.faults M.stands_on
             context.old
             context.new }
-        ensures handed { HandleHandedOut scope.now W.told W.relations context.old.actor.now.known
+        ensures handle_handed_out { HandleHandedOut scope.now W.told W.relations
+            context.old.actor.now.known
             context.new.actor.now.known (E.reads context.old.runner.now)
             (E.reads context.new.runner.now)
             (E.faults context.old.runner.now) (E.faults context.new.runner.now) self.new result }
         ensures all { (record_count self.new ≡ record_count self.old)
-            × (ios_allowed self.new ≡ ios_allowed self.old)
-            × (self.new.free ≡ self.old.free) × (self.new.io_budget ≡ self.old.io_budget) }
+            × (ios_started self.new ≡ ios_started self.old)
+            × (self.new.free ≡ self.old.free) }
         ensures batch { length self.new.batch ≤ length self.old.batch }
         ensures runs { (runs : List Run) → ReadsForRuns scope.now context.old.actor.now.known
             self.old runs → ReadsForRuns scope.now context.new.actor.now.known self.new runs }

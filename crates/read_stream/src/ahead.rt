@@ -3,7 +3,7 @@ ghost use Rattle.std.specs.Prelude.{◌≡◌, ◌<◌, ◌≤◌, ◌+◌, ◌-
 ghost use Rattle.std.specs.Prelude.{true, false, ◌⊎◌};
 ghost use Rattle.read_stream.specs.IoContexts.{IsValidContext, ContextAdvanced};
 ghost use Rattle.read_plan.specs.Plans.{MayLookAhead};
-ghost use Rattle.read_stream.specs.WantedBlocks.{IsWant, blocks_of_want, runs_of_want};
+ghost use Rattle.read_stream.specs.WantedBlocks.{IsValidWant, blocks_of_want, runs_of_want};
 ghost use Rattle.read_stream.specs.PagesAtHand.{record_blocks_left};
 ghost use Rattle.read_stream.specs.StreamState.{Underway, UnderwayWith};
 ghost use Rattle.read_stream.specs.Changes.{EnqueuesBlock, PushesWant, ConsumerUnchanged};
@@ -29,7 +29,7 @@ impl<'d, 'p, W: World, S: BlockSource<P> + Drop, P: Copy> ReadStream<'d, 'p, W, 
         context: &mut IoContext<W, M, E>,
         block: u32,
     )
-        requires handed { IsValidContext E.told E.relations W.told W.relations self.old.scope
+        requires valid_context { IsValidContext E.told E.relations W.told W.relations self.old.scope
             context.old }
         requires underway { UnderwayWith S.left W.told W.relations W.handles (record_blocks_left
             self.old.current self.old.step) (block ∷ []) 0 context.old.actor.now.known self.old }
@@ -53,7 +53,7 @@ impl<'d, 'p, W: World, S: BlockSource<P> + Drop, P: Copy> ReadStream<'d, 'p, W, 
 
     // The block from where the pool has it or awaits it now.
     fn from_pool<T: Wait>(&self, rt: &T, block: u32) -> Option<Want>
-        ensures { IfSome result (λ w. IsWant self.now.desk.now.combine W.handles w
+        ensures { IfSome result (λ w. IsValidWant self.now.desk.now.combine W.handles w
             × (blocks_of_want w ≡ block ∷ []) × (runs_of_want w ≡ [])) }
     {
         let tag = Tag {
@@ -82,7 +82,6 @@ impl<'d, 'p, W: World, S: BlockSource<P> + Drop, P: Copy> ReadStream<'d, 'p, W, 
     fn enqueue(&mut self, block: u32, per_buffer_data: P)
         requires room { length self.old.desk.now.queue.items < self.old.desk.now.queue.capacity }
         requires ahead { self.old.plan.blocks_ahead < 2 ^ 32 - 1 }
-        requires io_budget { self.old.desk.now.reads.io_budget < 2 ^ 64 - 1 }
         ensures { EnqueuesBlock (record { block = block; per_buffer_data = per_buffer_data })
             self.old self.new }
     {
@@ -92,7 +91,6 @@ impl<'d, 'p, W: World, S: BlockSource<P> + Drop, P: Copy> ReadStream<'d, 'p, W, 
         };
         push(&mut self.desk.queue, asked);
         self.plan.taken();
-        self.desk.reads.io_budget += 1;
     }
 
     // Starts the pending run, and has the block from the pool.
@@ -102,12 +100,13 @@ impl<'d, 'p, W: World, S: BlockSource<P> + Drop, P: Copy> ReadStream<'d, 'p, W, 
         context: &mut IoContext<W, M, E>,
         want: Want,
     )
-        requires handed { IsValidContext E.told E.relations W.told W.relations self.old.scope
+        requires valid_context { IsValidContext E.told E.relations W.told W.relations self.old.scope
             context.old }
         requires underway { UnderwayWith S.left W.told W.relations W.handles (record_blocks_left
             self.old.current self.old.step) (blocks_of_want want) 0 context.old.actor.now.known
             self.old }
-        requires want { IsWant self.old.desk.now.combine W.handles want × (runs_of_want want ≡ [])
+        requires want { IsValidWant self.old.desk.now.combine W.handles want × (runs_of_want want
+            ≡ [])
             × (length (blocks_of_want want) ≡ 1) }
         requires free { 1 < length self.old.desk.now.reads.free.items }
         ensures context_advanced { ContextAdvanced E.told E.relations E.reads E.faults M.stands_on
@@ -129,7 +128,7 @@ impl<'d, 'p, W: World, S: BlockSource<P> + Drop, P: Copy> ReadStream<'d, 'p, W, 
         rt: &T,
         context: &mut IoContext<W, M, E>,
     )
-        requires handed { IsValidContext E.told E.relations W.told W.relations self.old.scope
+        requires valid_context { IsValidContext E.told E.relations W.told W.relations self.old.scope
             context.old }
         requires underway { Underway S.left W.told W.relations W.handles context.old.actor.now.known
             self.old }
@@ -161,7 +160,7 @@ impl<'d, 'p, W: World, S: BlockSource<P> + Drop, P: Copy> ReadStream<'d, 'p, W, 
     // Whether another block is to be taken from the source.
     pub(crate) fn wants_more(&self) -> bool
         ensures more { IsTrue result → MayLookAhead self.now.plan }
-        ensures goes_on { IsTrue result → self.now.over ≡ false }
+        ensures not_over { IsTrue result → self.now.over ≡ false }
         ensures idle { (IsTrue result → ⊥) → self.now.plan.blocks_ahead ≡ 0
             → self.now.plan.ios_in_progress ≡ 0 → self.now.over ≡ true }
     {
@@ -174,7 +173,7 @@ impl<'d, 'p, W: World, S: BlockSource<P> + Drop, P: Copy> ReadStream<'d, 'p, W, 
         rt: &T,
         context: &mut IoContext<W, M, E>,
     )
-        requires handed { IsValidContext E.told E.relations W.told W.relations self.old.scope
+        requires valid_context { IsValidContext E.told E.relations W.told W.relations self.old.scope
             context.old }
         requires underway { Underway S.left W.told W.relations W.handles context.old.actor.now.known
             self.old }

@@ -1,7 +1,7 @@
 //! The memory of a stream.
 ghost use Rattle.std.specs.Prelude.{◌≡◌, ◌≤◌, ◌+◌, IfOk, IfSome, length};
 ghost use Rattle.read_stream.specs.IoContexts.{IsValidContext, ContextAdvanced};
-ghost use Rattle.read_stream.specs.StreamIos.{Issued, record_count, ios_allowed};
+ghost use Rattle.read_stream.specs.StreamIos.{Issued, record_count, ios_started};
 ghost use Rattle.read_stream.specs.Desks.{SameDeskSettings, AreValidSettings, IsFreeDesk};
 ghost use Rattle.read_stream.specs.PagesAtHand.{count_some};
 
@@ -82,11 +82,10 @@ impl<W: World, P: Copy> Desk<W, P> {
     // For a new stream: it has made no I/O yet.
     pub(crate) fn begin(&mut self)
         ensures { self.new ≡ record self.old {
-          reads = record self.old.reads { taken_in = 0; io_budget = 0 };
+          reads = record self.old.reads { taken_in = 0 };
         } }
     {
         self.reads.taken_in = 0;
-        self.reads.io_budget = 0;
     }
 
     // A stream has ended: its I/Os are taken in, and `current` is its record besides. The answer is
@@ -98,7 +97,7 @@ impl<W: World, P: Copy> Desk<W, P> {
         context: &mut IoContext<W, M, E>,
         current: Option<ReadIo>,
     ) -> u64
-        requires handed { IsValidContext E.told E.relations W.told W.relations scope.now
+        requires valid_context { IsValidContext E.told E.relations W.told W.relations scope.now
             context.old }
         requires settings { AreValidSettings self.old.combine self.old.ios self.old.limit
             self.old.segment }
@@ -116,7 +115,7 @@ impl<W: World, P: Copy> Desk<W, P> {
             self.new.reads }
         ensures free { IsFreeDesk self.new × SameDeskSettings self.old self.new }
         ensures count { (result ≡ self.new.reads.taken_in)
-            × (ios_allowed self.new.reads ≡ ios_allowed self.old.reads) }
+            × (ios_started self.new.reads ≡ ios_started self.old.reads) }
     {
         self.queue.clear();
         self.wants.clear();

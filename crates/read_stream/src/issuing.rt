@@ -5,12 +5,13 @@ ghost use Rattle.aio_word.specs.Stands.{IsIn};
 ghost use Rattle.aio_word.specs.Tokens.{IsStaged};
 ghost use Rattle.read_stream.specs.IoContexts.{IsValidContext, ContextAdvanced};
 ghost use Rattle.aio_callback.specs.ReadIoView.{ReadIoView, with_aim};
-ghost use Rattle.aio_callback.specs.Cases.{stream_ids};
+ghost use Rattle.aio_callback.specs.StreamOutcomes.{stream_ids};
 ghost use Rattle.read_plan.specs.declared.runs.Run.{Run};
 ghost use Rattle.read_plan.specs.Runs.{IsRun};
-ghost use Rattle.read_stream.specs.StreamIos.{Issued, IssuedExcept, IsAimed, IsNewIncarnation};
+ghost use Rattle.read_stream.specs.StreamIos.{Issued, IssuedExcept, IsStreamRecord};
+ghost use Rattle.read_stream.specs.StreamIos.{IsNewIncarnation};
 ghost use Rattle.read_stream.specs.StreamIos.{IsTakenIn, ReadsForRuns};
-ghost use Rattle.read_stream.specs.StreamIos.{record_count, ios_allowed};
+ghost use Rattle.read_stream.specs.StreamIos.{record_count, ios_started};
 
 use crate::io_context::IoContext;
 use crate::reads::Reads;
@@ -52,7 +53,7 @@ fn begin_blocks<W: World, T: Wait>(
     reference: WaitRef,
 )
     requires range { reference.handle < W.handles }
-    requires top { run.first + run.count ≤ 2 ^ 32 }
+    requires blocks_in_range { run.first + run.count ≤ 2 ^ 32 }
 {
     for index in 0..run.count {
         let tag = Tag {
@@ -67,7 +68,7 @@ fn begin_blocks<W: World, T: Wait>(
 fn aim_record(mut io: ReadIo, relation: u32, run: Run, zero: bool) -> ReadIo
     requires some { 1 ≤ run.count }
     requires room { run.count ≤ length io.pages }
-    requires top { run.first + run.count ≤ 2 ^ 32 }
+    requires blocks_in_range { run.first + run.count ≤ 2 ^ 32 }
     ensures { result ≡ with_aim relation run.first run.count (stream_ids zero) io }
 {
     match io.aim(relation, run.first, run.count, &callbacks(zero)) {
@@ -84,7 +85,7 @@ impl<W: World> Reads<W> {
         scope: &Scope<W>,
         context: &mut IoContext<W, M, E>,
     )
-        requires handed { IsValidContext E.told E.relations W.told W.relations scope.now
+        requires valid_context { IsValidContext E.told E.relations W.told W.relations scope.now
             context.old }
         requires issued { Issued scope.now W.told W.relations context.old.actor.now.known self.old }
         ensures context_advanced { ContextAdvanced E.told E.relations E.reads E.faults M.stands_on
@@ -93,8 +94,8 @@ impl<W: World> Reads<W> {
         ensures issued { Issued scope.now W.told W.relations context.new.actor.now.known self.new }
         ensures none { self.new.batch ≡ [] }
         ensures all { (record_count self.new ≡ record_count self.old)
-            × (ios_allowed self.new ≡ ios_allowed self.old)
-            × (self.new.free ≡ self.old.free) × (self.new.io_budget ≡ self.old.io_budget) }
+            × (ios_started self.new ≡ ios_started self.old)
+            × (self.new.free ≡ self.old.free) }
         ensures runs { (runs : List Run) → ReadsForRuns scope.now context.old.actor.now.known
             self.old runs → ReadsForRuns scope.now context.new.actor.now.known self.new runs }
     {
@@ -119,30 +120,29 @@ impl<W: World> Reads<W> {
         io: ReadIo,
         run: Run,
     ) -> Staged<ReadIo, W>
-        requires handed { IsValidContext E.told E.relations W.told W.relations scope.now
+        requires valid_context { IsValidContext E.told E.relations W.told W.relations scope.now
             context.old }
         requires issued { Issued scope.now W.told W.relations context.old.actor.now.known self.old }
         requires relation { scope.now.relation < W.relations }
         requires record { length io.pages ≡ scope.now.combine }
         requires run { IsRun scope.now.combine run }
-        requires io_budget { 0 < self.old.io_budget }
+        requires few_ios { ios_started self.old < scope.now.most }
         ensures context_advanced { ContextAdvanced E.told E.relations E.reads E.faults M.stands_on
             context.old
             context.new }
         ensures issued { IssuedExcept (result.0 ∷ []) scope.now W.told W.relations
             context.new.actor.now.known self.new }
-        ensures token { IsStaged context.new.actor.now.known result.0 × IsAimed scope.now result.1
+        ensures token { IsStaged context.new.actor.now.known result.0 × IsStreamRecord scope.now
+            result.1
             × IsNewIncarnation scope.now result.0 }
         ensures run { (result.1.first ≡ run.first) × (result.1.count ≡ run.count) }
         ensures apart { (u : WaitRef × ReadIoView) → IsIn u self.new.batch → (u.0 ≡ result.0 → ⊥) }
         ensures all { (record_count self.new ≡ record_count self.old)
-            × (ios_allowed self.old ≡ ios_allowed self.new + 1) × (self.new.free ≡ self.old.free)
-            × (self.old.io_budget ≡ self.new.io_budget + 1) }
+            × (ios_started self.new ≡ ios_started self.old) × (self.new.free ≡ self.old.free) }
         ensures batch { length self.new.batch ≤ length self.old.batch }
         ensures runs { (runs : List Run) → ReadsForRuns scope.now context.old.actor.now.known
             self.old runs → ReadsForRuns scope.now context.new.actor.now.known self.new runs }
     {
-        self.io_budget -= 1;
         let token = self.acquire(rt, scope, context);
         let io = aim_record(io, scope.relation, run, scope.zero);
         let token = context.table.define(context.actor, token, io);
@@ -171,7 +171,7 @@ impl<W: World> Reads<W> {
         io: ReadIo,
         run: Run,
     )
-        requires handed { IsValidContext E.told E.relations W.told W.relations scope.now
+        requires valid_context { IsValidContext E.told E.relations W.told W.relations scope.now
             context.old }
         requires issued { Issued scope.now W.told W.relations context.old.actor.now.known self.old }
         requires relation { scope.now.relation < W.relations }
@@ -179,18 +179,17 @@ impl<W: World> Reads<W> {
         requires room { record_count self.old < scope.now.total }
         requires record { length io.pages ≡ scope.now.combine }
         requires run { IsRun scope.now.combine run }
-        requires io_budget { 0 < self.old.io_budget }
+        requires few_ios { ios_started self.old < scope.now.most }
         ensures context_advanced { ContextAdvanced E.told E.relations E.reads E.faults M.stands_on
             context.old
             context.new }
         ensures issued { Issued scope.now W.told W.relations context.new.actor.now.known self.new }
         ensures few { length self.new.batch < 32 }
         ensures all { (record_count self.new ≡ record_count self.old + 1)
-            × (ios_allowed self.new ≡ ios_allowed self.old) × (self.new.free ≡ self.old.free) }
+            × (ios_started self.new ≡ ios_started self.old + 1) × (self.new.free ≡ self.old.free) }
         ensures runs { (runs : List Run) → ReadsForRuns scope.now context.old.actor.now.known
             self.old runs
             → ReadsForRuns scope.now context.new.actor.now.known self.new (runs ++ run ∷ []) }
-        ensures io_budget { self.old.io_budget ≡ self.new.io_budget + 1 }
     {
         let token = self.stage(rt, scope, pool, context, io, run);
         self.put(token);
@@ -209,14 +208,14 @@ impl<W: World> Reads<W> {
         io: ReadIo,
         run: Run,
     ) -> ReadIo
-        requires handed { IsValidContext E.told E.relations W.told W.relations scope.now
+        requires valid_context { IsValidContext E.told E.relations W.told W.relations scope.now
             context.old }
         requires issued { Issued scope.now W.told W.relations context.old.actor.now.known self.old }
         requires room { record_count self.old < scope.now.total }
         requires relation { scope.now.relation < W.relations }
         requires record { length io.pages ≡ scope.now.combine }
         requires run { IsRun scope.now.combine run }
-        requires io_budget { 0 < self.old.io_budget }
+        requires few_ios { ios_started self.old < scope.now.most }
         ensures context_advanced { ContextAdvanced E.told E.relations E.reads E.faults M.stands_on
             context.old
             context.new }
@@ -225,10 +224,9 @@ impl<W: World> Reads<W> {
         ensures run { (result.first ≡ run.first) × (result.count ≡ run.count) }
         ensures none { self.new.batch ≡ [] }
         ensures all { (record_count self.new ≡ record_count self.old)
-            × (ios_allowed self.new ≡ ios_allowed self.old) × (self.new.free ≡ self.old.free) }
+            × (ios_started self.new ≡ ios_started self.old + 1) × (self.new.free ≡ self.old.free) }
         ensures runs { (runs : List Run) → ReadsForRuns scope.now context.old.actor.now.known
             self.old runs → ReadsForRuns scope.now context.new.actor.now.known self.new runs }
-        ensures io_budget { self.old.io_budget ≡ self.new.io_budget + 1 }
     {
         self.submit(rt, scope, context);
         let token = self.stage(rt, scope, pool, context, io, run);

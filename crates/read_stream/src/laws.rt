@@ -12,7 +12,7 @@ ghost use Rattle.read_stream.specs.declared.scope.Scope.{Scope};
 ghost use Rattle.read_stream.specs.StreamAnswers.{stream_entries, synchronous_ending, page_answer};
 ghost use Rattle.read_stream.specs.StreamAnswers.{MayBeUnread};
 ghost use Rattle.read_stream.specs.StreamIos.{IsTakenIn};
-ghost use Rattle.read_stream.specs.Parts.{CoversBlock, IsPart};
+ghost use Rattle.read_stream.specs.Parts.{CoversBlock, IsValidPart};
 
 use page_check::World;
 
@@ -23,7 +23,7 @@ pub(crate) fn parts_are_answers<W: World, P: Copy>()
         (k b : ℕ) (info : P) (rest : List (ℕ × P)) → drop k list ≡ (b, info) ∷ rest
         → IfSome (reader_of c.zero told) (λ f. k ≤ read_count f (stream_entries c.relation list))
         → (p : Known) (io : ReadIoView) → IsTakenIn c told relations p io → CoversBlock io b
-        → IsPart told io b Page → IsPage (record_page io (b - io.first))
+        → IsValidPart told io b Page → IsPage (record_page io (b - io.first))
         → IsNext (reader_of c.zero told) (MayBeUnread c.was.value p)
         (stream_entries c.relation list) k
         (page_answer c.relation b info (record_page io (b - io.first))
@@ -34,7 +34,7 @@ pub(crate) fn parts_are_answers<W: World, P: Copy>()
         (k b : ℕ) (info : P) (rest : List (ℕ × P)) → drop k list ≡ (b, info) ∷ rest
         → IfSome (reader_of c.zero told) (λ f. k ≤ read_count f (stream_entries c.relation list))
         → (p : Known) (io : ReadIoView) → IsTakenIn c told relations p io → CoversBlock io b
-        → (end : Ending) → IsPart told io b (Stop end)
+        → (end : Ending) → IsValidPart told io b (Stop end)
         → IsNext (reader_of c.zero told) (MayBeUnread c.was.value p)
         (stream_entries c.relation list) k (SaidStop (synchronous_ending end)) }
 {}

@@ -3,7 +3,7 @@ ghost use Rattle.std.specs.Prelude.{◌≡◌, ◌<◌, [], ◌∷◌, List, ℕ
 ghost use Rattle.aio_word.specs.Tokens.{HasSeenDone};
 ghost use Rattle.read_stream.specs.ActorProgress.{AllSubmitted};
 ghost use Rattle.read_stream.specs.IoContexts.{IsValidContext, ContextAdvanced};
-ghost use Rattle.read_stream.specs.StreamState.{Reaches, UnderwayWith};
+ghost use Rattle.read_stream.specs.StreamState.{BlockIsAtHand, UnderwayWith};
 ghost use Rattle.read_stream.specs.Changes.{LookAheadUnchanged, ConsumerUnchanged};
 
 use crate::io_context::IoContext;
@@ -28,7 +28,7 @@ impl<'d, 'p, W: World, S: BlockSource<P> + Drop, P: Copy> ReadStream<'d, 'p, W, 
         context: &mut IoContext<W, M, E>,
         block: u32,
     )
-        requires handed { IsValidContext E.told E.relations W.told W.relations self.old.scope
+        requires valid_context { IsValidContext E.told E.relations W.told W.relations self.old.scope
             context.old }
         requires underway { UnderwayWith S.left W.told W.relations W.handles (block ∷ []) [] 0
             context.old.actor.now.known self.old }
@@ -36,12 +36,12 @@ impl<'d, 'p, W: World, S: BlockSource<P> + Drop, P: Copy> ReadStream<'d, 'p, W, 
         ensures context_advanced { ContextAdvanced E.told E.relations E.reads E.faults M.stands_on
             context.old
             context.new }
-        ensures reaches { Reaches S.left W.told W.relations W.handles block
+        ensures reaches { BlockIsAtHand S.left W.told W.relations W.handles block
             context.new.actor.now.known self.new }
         ensures look_ahead_unchanged { LookAheadUnchanged self.old self.new }
     {
         match self.pool.lookup(rt, self.tag(block)) {
-            Found::Hit(pin) => self.hold(rt, pin),
+            Found::Hit(pin) => self.set_pin(rt, pin),
             Found::Busy(reference) => {
                 self.join(rt, context, block, reference);
             }
@@ -57,7 +57,7 @@ impl<'d, 'p, W: World, S: BlockSource<P> + Drop, P: Copy> ReadStream<'d, 'p, W, 
         block: u32,
         reference: WaitRef,
     )
-        requires handed { IsValidContext E.told E.relations W.told W.relations self.old.scope
+        requires valid_context { IsValidContext E.told E.relations W.told W.relations self.old.scope
             context.old }
         requires underway { UnderwayWith S.left W.told W.relations W.handles (block ∷ []) [] 0
             context.old.actor.now.known self.old }
@@ -66,7 +66,7 @@ impl<'d, 'p, W: World, S: BlockSource<P> + Drop, P: Copy> ReadStream<'d, 'p, W, 
         ensures context_advanced { ContextAdvanced E.told E.relations E.reads E.faults M.stands_on
             context.old
             context.new }
-        ensures reaches { Reaches S.left W.told W.relations W.handles block
+        ensures reaches { BlockIsAtHand S.left W.told W.relations W.handles block
             context.new.actor.now.known self.new }
         ensures look_ahead_unchanged { LookAheadUnchanged self.old self.new }
     {
@@ -74,7 +74,7 @@ impl<'d, 'p, W: World, S: BlockSource<P> + Drop, P: Copy> ReadStream<'d, 'p, W, 
         self.wait_for(rt, context, reference);
         let found = self.pool.lookup(rt, self.tag(block));
         match found {
-            Found::Hit(pin) => self.hold(rt, pin),
+            Found::Hit(pin) => self.set_pin(rt, pin),
             Found::Busy(_) | Found::Absent => {
                 self.read_block(rt, context, block);
             }
@@ -88,11 +88,11 @@ impl<'d, 'p, W: World, S: BlockSource<P> + Drop, P: Copy> ReadStream<'d, 'p, W, 
         context: &mut IoContext<W, M, E>,
         reference: WaitRef,
     )
-        requires handed { IsValidContext E.told E.relations W.told W.relations self.old.scope
+        requires valid_context { IsValidContext E.told E.relations W.told W.relations self.old.scope
             context.old }
         requires underway { (hand : List ℕ) × UnderwayWith S.left W.told W.relations W.handles hand
             [] 0 context.old.actor.now.known self.old }
-        requires submitted { AllSubmitted context.old.actor.now.known }
+        requires all_submitted { AllSubmitted context.old.actor.now.known }
         requires range { reference.handle < W.handles }
         ensures context_advanced { ContextAdvanced E.told E.relations E.reads E.faults M.stands_on
             context.old
@@ -120,7 +120,7 @@ impl<'d, 'p, W: World, S: BlockSource<P> + Drop, P: Copy> ReadStream<'d, 'p, W, 
     }
 
     // Holds the pin.
-    fn hold<T: Wait>(&mut self, rt: &T, pin: Pin<'p, W>)
+    fn set_pin<T: Wait>(&mut self, rt: &T, pin: Pin<'p, W>)
         ensures { self.new ≡ record self.old { pin = Some pin.entry } }
     {
         if let Some(old) = mem::replace(&mut self.pin, Some(pin)) {
@@ -135,7 +135,7 @@ impl<'d, 'p, W: World, S: BlockSource<P> + Drop, P: Copy> ReadStream<'d, 'p, W, 
         context: &mut IoContext<W, M, E>,
         block: u32,
     )
-        requires handed { IsValidContext E.told E.relations W.told W.relations self.old.scope
+        requires valid_context { IsValidContext E.told E.relations W.told W.relations self.old.scope
             context.old }
         requires underway { UnderwayWith S.left W.told W.relations W.handles (block ∷ []) [] 0
             context.old.actor.now.known self.old }
@@ -143,7 +143,7 @@ impl<'d, 'p, W: World, S: BlockSource<P> + Drop, P: Copy> ReadStream<'d, 'p, W, 
         ensures context_advanced { ContextAdvanced E.told E.relations E.reads E.faults M.stands_on
             context.old
             context.new }
-        ensures reaches { Reaches S.left W.told W.relations W.handles block
+        ensures reaches { BlockIsAtHand S.left W.told W.relations W.handles block
             context.new.actor.now.known self.new }
         ensures look_ahead_unchanged { LookAheadUnchanged self.old self.new }
     {

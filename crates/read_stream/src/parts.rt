@@ -1,9 +1,9 @@
 //! What a record that was taken in has for one of its blocks.
 ghost use Rattle.std.specs.Prelude.{◌≡◌, ◌≢◌, ◌<◌, ◌-◌, Bool};
 ghost use Rattle.aio_word.specs.declared.Class.TheVariants.{Unended};
-ghost use Rattle.aio_callback.specs.Cases.{stream_ids};
+ghost use Rattle.aio_callback.specs.StreamOutcomes.{stream_ids};
 ghost use Rattle.aio_callback.specs.ReadIoView.{ReadFits};
-ghost use Rattle.read_stream.specs.Parts.{IsPart, CoversBlock};
+ghost use Rattle.read_stream.specs.Parts.{IsValidPart, CoversBlock};
 
 use crate::answer::Ending;
 use aio_callback::{ReadIo, laws};
@@ -23,11 +23,11 @@ pub enum Part {
 
 /// What the record has for the block, which is one of those that it was to read.
 pub(crate) fn part_of<W: World>(io: &ReadIo, block: u32) -> Part
-    requires fits { ReadFits W.told W.relations io.now }
-    requires ended { io.now.label.ended ≢ Unended }
+    requires reads_fit { ReadFits W.told W.relations io.now }
+    requires has_ended { io.now.label.ended ≢ Unended }
     requires ids { (zero : Bool) × (io.now.ids ≡ stream_ids zero) }
-    requires has { CoversBlock io.now block }
-    ensures { IsPart W.told io.now block result }
+    requires covers_block { CoversBlock io.now block }
+    ensures { IsValidPart W.told io.now block result }
 {
     laws::stream_records_end_in_six_ways();
     let index = block - io.first();

@@ -3,7 +3,7 @@ ghost use Rattle.std.specs.Prelude.{◌≡◌, ◌<◌, ◌-◌, ◌^◌, ◌++�
 ghost use Rattle.read_stream.specs.IoContexts.{IsValidContext, ContextAdvanced};
 ghost use Rattle.read_plan.specs.Runs.{IsRun};
 ghost use Rattle.read_plan.specs.declared.runs.Run.{Run};
-ghost use Rattle.read_stream.specs.StreamIos.{Issued, ReadsForRuns};
+ghost use Rattle.read_stream.specs.StreamIos.{Issued, ReadsForRuns, ios_started};
 ghost use Rattle.read_stream.specs.PagesAtHand.{record_blocks_left};
 ghost use Rattle.read_stream.specs.StreamState.{Underway, UnderwayWith};
 ghost use Rattle.read_stream.specs.Changes.{StartsRun, ConsumerUnchanged};
@@ -30,7 +30,7 @@ impl<'d, 'p, W: World, S: BlockSource<P> + Drop, P: Copy> ReadStream<'d, 'p, W, 
         context: &mut IoContext<W, M, E>,
         run: Run,
     )
-        requires handed { IsValidContext E.told E.relations W.told W.relations self.old.scope
+        requires valid_context { IsValidContext E.told E.relations W.told W.relations self.old.scope
             context.old }
         requires issued { Issued self.old.scope W.told W.relations context.old.actor.now.known
             self.old.desk.now.reads }
@@ -39,7 +39,7 @@ impl<'d, 'p, W: World, S: BlockSource<P> + Drop, P: Copy> ReadStream<'d, 'p, W, 
         requires free { 0 < length self.old.desk.now.reads.free.items }
         requires few { length self.old.desk.now.reads.batch < 32 }
         requires plan { self.old.plan.ios_in_progress < 2 ^ 32 - 1 }
-        requires io_budget { 0 < self.old.desk.now.reads.io_budget }
+        requires few_ios { ios_started self.old.desk.now.reads < self.old.scope.most }
         requires room { length self.old.desk.now.wants.items < self.old.desk.now.wants.capacity }
         ensures context_advanced { ContextAdvanced E.told E.relations E.reads E.faults M.stands_on
             context.old
@@ -50,7 +50,7 @@ impl<'d, 'p, W: World, S: BlockSource<P> + Drop, P: Copy> ReadStream<'d, 'p, W, 
         ensures runs { (runs : List Run) → ReadsForRuns self.old.scope context.old.actor.now.known
             self.old.desk.now.reads runs → ReadsForRuns self.new.scope context.new.actor.now.known
             self.new.desk.now.reads (runs ++ run ∷ []) }
-        ensures starts { StartsRun run self.old self.new }
+        ensures starts_run { StartsRun run self.old self.new }
     {
         let Some(io) = self.desk.reads.free.pop_front() else {
             unreachable!()
@@ -86,7 +86,7 @@ impl<'d, 'p, W: World, S: BlockSource<P> + Drop, P: Copy> ReadStream<'d, 'p, W, 
         rt: &T,
         context: &mut IoContext<W, M, E>,
     )
-        requires handed { IsValidContext E.told E.relations W.told W.relations self.old.scope
+        requires valid_context { IsValidContext E.told E.relations W.told W.relations self.old.scope
             context.old }
         requires underway { (behind : List ℕ) × UnderwayWith S.left W.told W.relations W.handles
             (record_blocks_left self.old.current self.old.step) behind 0 context.old.actor.now.known
@@ -117,7 +117,7 @@ impl<'d, 'p, W: World, S: BlockSource<P> + Drop, P: Copy> ReadStream<'d, 'p, W, 
         rt: &T,
         context: &mut IoContext<W, M, E>,
     )
-        requires handed { IsValidContext E.told E.relations W.told W.relations self.old.scope
+        requires valid_context { IsValidContext E.told E.relations W.told W.relations self.old.scope
             context.old }
         requires underway { Underway S.left W.told W.relations W.handles context.old.actor.now.known
             self.old }
@@ -161,7 +161,7 @@ impl<'d, 'p, W: World, S: BlockSource<P> + Drop, P: Copy> ReadStream<'d, 'p, W, 
         rt: &T,
         context: &mut IoContext<W, M, E>,
     )
-        requires handed { IsValidContext E.told E.relations W.told W.relations self.old.scope
+        requires valid_context { IsValidContext E.told E.relations W.told W.relations self.old.scope
             context.old }
         requires underway { Underway S.left W.told W.relations W.handles context.old.actor.now.known
             self.old }
@@ -173,7 +173,7 @@ impl<'d, 'p, W: World, S: BlockSource<P> + Drop, P: Copy> ReadStream<'d, 'p, W, 
         ensures consumer_unchanged { ConsumerUnchanged self.old self.new }
         ensures none { self.new.desk.now.wants.items ≡ [] → self.new.current ≡ None
             → self.new.plan.pending ≡ None }
-        ensures kept { (self.new.desk.now.queue ≡ self.old.desk.now.queue)
+        ensures queue_unchanged { (self.new.desk.now.queue ≡ self.old.desk.now.queue)
             × (self.new.source ≡ self.old.source) }
     {
         if self.may_start_last() {

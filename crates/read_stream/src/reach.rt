@@ -3,7 +3,7 @@ ghost use Rattle.std.specs.Prelude.{◌≡◌, ◌<◌, [], map, IfSome, IfNone,
 ghost use Rattle.read_stream.specs.IoContexts.{IsValidContext, ContextAdvanced};
 ghost use Rattle.read_stream.specs.WantedBlocks.{block_number};
 ghost use Rattle.read_stream.specs.PagesAtHand.{HasCurrentPage, HasMoreBlocks, IsStop};
-ghost use Rattle.read_stream.specs.StreamState.{Reaches, Underway, UnderwayWith};
+ghost use Rattle.read_stream.specs.StreamState.{BlockIsAtHand, Underway, UnderwayWith};
 ghost use Rattle.read_stream.specs.Changes.{LookAheadUnchanged, PopsWant};
 ghost use Rattle.read_stream.specs.declared.queue.Want.TheVariants.{Run as RunWant};
 
@@ -27,26 +27,27 @@ impl<'d, 'p, W: World, S: BlockSource<P> + Drop, P: Copy> ReadStream<'d, 'p, W, 
         context: &mut IoContext<W, M, E>,
         block: u32,
     ) -> Option<Ending>
-        requires handed { IsValidContext E.told E.relations W.told W.relations self.old.scope
+        requires valid_context { IsValidContext E.told E.relations W.told W.relations self.old.scope
             context.old }
         requires underway { Underway S.left W.told W.relations W.handles context.old.actor.now.known
             self.old }
-        requires giving { HasMoreBlocks self.old.current self.old.step }
+        requires has_more_blocks { HasMoreBlocks self.old.current self.old.step }
         requires none { self.old.pin ≡ None }
-        requires front { slice_get (map block_number self.old.desk.now.queue.items) 0 ≡ Some block }
+        requires front_block { slice_get (map block_number self.old.desk.now.queue.items) 0
+            ≡ Some block }
         requires last { self.old.desk.now.wants.items ≡ [] → self.old.current ≡ None
             → self.old.plan.pending ≡ None }
         ensures context_advanced { ContextAdvanced E.told E.relations E.reads E.faults M.stands_on
             context.old
             context.new }
-        ensures reaches { Reaches S.left W.told W.relations W.handles block
+        ensures reaches { BlockIsAtHand S.left W.told W.relations W.handles block
             context.new.actor.now.known self.new }
         ensures look_ahead_unchanged { LookAheadUnchanged self.old self.new }
         ensures page { IfNone result
             (HasCurrentPage W.told self.new.scope.relation self.new.pin self.new.current block) }
         ensures stop { IfSome result (IsStop W.told self.new.current block) }
     {
-        self.reach(rt, context, block);
+        self.bring_to_hand(rt, context, block);
         if self.current.is_none() {
             return None;
         }
@@ -54,25 +55,26 @@ impl<'d, 'p, W: World, S: BlockSource<P> + Drop, P: Copy> ReadStream<'d, 'p, W, 
     }
 
     // Has the block at the front under the pin, or its record as the one whose pages are given.
-    fn reach<M: Method<ReadIo, W>, E: Execute<ReadIo, W>, T: Wait>(
+    fn bring_to_hand<M: Method<ReadIo, W>, E: Execute<ReadIo, W>, T: Wait>(
         &mut self,
         rt: &T,
         context: &mut IoContext<W, M, E>,
         block: u32,
     )
-        requires handed { IsValidContext E.told E.relations W.told W.relations self.old.scope
+        requires valid_context { IsValidContext E.told E.relations W.told W.relations self.old.scope
             context.old }
         requires underway { Underway S.left W.told W.relations W.handles context.old.actor.now.known
             self.old }
-        requires giving { HasMoreBlocks self.old.current self.old.step }
+        requires has_more_blocks { HasMoreBlocks self.old.current self.old.step }
         requires none { self.old.pin ≡ None }
-        requires front { slice_get (map block_number self.old.desk.now.queue.items) 0 ≡ Some block }
+        requires front_block { slice_get (map block_number self.old.desk.now.queue.items) 0
+            ≡ Some block }
         requires last { self.old.desk.now.wants.items ≡ [] → self.old.current ≡ None
             → self.old.plan.pending ≡ None }
         ensures context_advanced { ContextAdvanced E.told E.relations E.reads E.faults M.stands_on
             context.old
             context.new }
-        ensures reaches { Reaches S.left W.told W.relations W.handles block
+        ensures reaches { BlockIsAtHand S.left W.told W.relations W.handles block
             context.new.actor.now.known self.new }
         ensures look_ahead_unchanged { LookAheadUnchanged self.old self.new }
     {
@@ -88,18 +90,19 @@ impl<'d, 'p, W: World, S: BlockSource<P> + Drop, P: Copy> ReadStream<'d, 'p, W, 
         context: &mut IoContext<W, M, E>,
         block: u32,
     )
-        requires handed { IsValidContext E.told E.relations W.told W.relations self.old.scope
+        requires valid_context { IsValidContext E.told E.relations W.told W.relations self.old.scope
             context.old }
         requires underway { UnderwayWith S.left W.told W.relations W.handles [] [] 0
             context.old.actor.now.known self.old }
         requires none { (self.old.current ≡ None) × (self.old.pin ≡ None) }
-        requires front { slice_get (map block_number self.old.desk.now.queue.items) 0 ≡ Some block }
+        requires front_block { slice_get (map block_number self.old.desk.now.queue.items) 0
+            ≡ Some block }
         requires last { self.old.desk.now.wants.items ≡ [] → self.old.current ≡ None
             → self.old.plan.pending ≡ None }
         ensures context_advanced { ContextAdvanced E.told E.relations E.reads E.faults M.stands_on
             context.old
             context.new }
-        ensures reaches { Reaches S.left W.told W.relations W.handles block
+        ensures reaches { BlockIsAtHand S.left W.told W.relations W.handles block
             context.new.actor.now.known self.new }
         ensures look_ahead_unchanged { LookAheadUnchanged self.old self.new }
     {
@@ -139,17 +142,18 @@ impl<'d, 'p, W: World, S: BlockSource<P> + Drop, P: Copy> ReadStream<'d, 'p, W, 
         block: u32,
         run: Run,
     )
-        requires handed { IsValidContext E.told E.relations W.told W.relations self.old.scope
+        requires valid_context { IsValidContext E.told E.relations W.told W.relations self.old.scope
             context.old }
         requires underway { UnderwayWith S.left W.told W.relations W.handles [] [] 0
             context.old.actor.now.known self.old }
         requires none { (self.old.current ≡ None) × (self.old.pin ≡ None) }
-        requires front { slice_get (map block_number self.old.desk.now.queue.items) 0 ≡ Some block }
+        requires front_block { slice_get (map block_number self.old.desk.now.queue.items) 0
+            ≡ Some block }
         requires run { slice_get self.old.desk.now.wants.items 0 ≡ Some (RunWant run) }
         ensures context_advanced { ContextAdvanced E.told E.relations E.reads E.faults M.stands_on
             context.old
             context.new }
-        ensures reaches { Reaches S.left W.told W.relations W.handles block
+        ensures reaches { BlockIsAtHand S.left W.told W.relations W.handles block
             context.new.actor.now.known self.new }
         ensures look_ahead_unchanged { LookAheadUnchanged self.old self.new }
     {
@@ -165,18 +169,19 @@ impl<'d, 'p, W: World, S: BlockSource<P> + Drop, P: Copy> ReadStream<'d, 'p, W, 
         block: u32,
         run: Run,
     )
-        requires handed { IsValidContext E.told E.relations W.told W.relations self.old.scope
+        requires valid_context { IsValidContext E.told E.relations W.told W.relations self.old.scope
             context.old }
         requires underway { UnderwayWith S.left W.told W.relations W.handles [] [] 0
             context.old.actor.now.known self.old }
         requires none { (self.old.current ≡ None) × (self.old.pin ≡ None) }
-        requires front { slice_get (map block_number self.old.desk.now.queue.items) 0 ≡ Some block }
+        requires front_block { slice_get (map block_number self.old.desk.now.queue.items) 0
+            ≡ Some block }
         requires run { slice_get self.old.desk.now.wants.items 0 ≡ Some (RunWant run) }
-        requires staged { self.old.desk.now.reads.batch ≡ [] }
+        requires batch_empty { self.old.desk.now.reads.batch ≡ [] }
         ensures context_advanced { ContextAdvanced E.told E.relations E.reads E.faults M.stands_on
             context.old
             context.new }
-        ensures reaches { Reaches S.left W.told W.relations W.handles block
+        ensures reaches { BlockIsAtHand S.left W.told W.relations W.handles block
             context.new.actor.now.known self.new }
         ensures look_ahead_unchanged { LookAheadUnchanged self.old self.new }
     {

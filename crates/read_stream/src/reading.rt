@@ -2,16 +2,17 @@
 ghost use Rattle.std.specs.Prelude.{◌≡◌, ◌≢◌, ◌<◌, List, length, IfSome, IfNone};
 ghost use Rattle.aio_word.specs.declared.Class.TheVariants.{Unended};
 ghost use Rattle.read_stream.specs.IoContexts.{IsValidContext, ContextAdvanced};
-ghost use Rattle.aio_callback.specs.Cases.{stream_ids};
+ghost use Rattle.aio_callback.specs.StreamOutcomes.{stream_ids};
 ghost use Rattle.aio_callback.specs.ReadIoView.{ReadFits};
 ghost use Rattle.read_stream.specs.StreamIos.{Issued, ReadsForRuns, IsTakenIn, record_count};
+ghost use Rattle.read_stream.specs.StreamIos.{ios_started};
 ghost use Rattle.read_stream.specs.PagesAtHand.{HasCurrentPage, IsStop};
-ghost use Rattle.read_stream.specs.StreamState.{Reaches};
+ghost use Rattle.read_stream.specs.StreamState.{BlockIsAtHand};
 ghost use Rattle.read_stream.specs.Changes.{LookAheadUnchanged, ReadsOne};
 ghost use Rattle.read_plan.specs.Runs.{IsRun};
 ghost use Rattle.read_plan.specs.declared.runs.Run.{Run};
 ghost use Rattle.read_stream.specs.declared.parts.Part.TheVariants.{Page};
-ghost use Rattle.read_stream.specs.Parts.{CoversBlock, IsPart};
+ghost use Rattle.read_stream.specs.Parts.{CoversBlock, IsValidPart};
 
 use crate::answer::Ending;
 use crate::io_context::IoContext;
@@ -34,7 +35,7 @@ impl<'d, 'p, W: World, S: BlockSource<P> + Drop, P: Copy> ReadStream<'d, 'p, W, 
         io: ReadIo,
         run: Run,
     )
-        requires handed { IsValidContext E.told E.relations W.told W.relations self.old.scope
+        requires valid_context { IsValidContext E.told E.relations W.told W.relations self.old.scope
             context.old }
         requires issued { Issued self.old.scope W.told W.relations context.old.actor.now.known
             self.old.desk.now.reads }
@@ -42,7 +43,7 @@ impl<'d, 'p, W: World, S: BlockSource<P> + Drop, P: Copy> ReadStream<'d, 'p, W, 
         requires room { record_count self.old.desk.now.reads < self.old.scope.total }
         requires record { length io.pages ≡ self.old.scope.combine }
         requires run { IsRun self.old.scope.combine run }
-        requires io_budget { 0 < self.old.desk.now.reads.io_budget }
+        requires few_ios { ios_started self.old.desk.now.reads < self.old.scope.most }
         ensures context_advanced { ContextAdvanced E.told E.relations E.reads E.faults M.stands_on
             context.old
             context.new }
@@ -72,22 +73,22 @@ impl<'d, 'p, W: World, S: BlockSource<P> + Drop, P: Copy> ReadStream<'d, 'p, W, 
         context: &mut IoContext<W, M, E>,
         block: u32,
     ) -> Option<Ending>
-        requires handed { IsValidContext E.told E.relations W.told W.relations self.old.scope
+        requires valid_context { IsValidContext E.told E.relations W.told W.relations self.old.scope
             context.old }
-        requires reaches { Reaches S.left W.told W.relations W.handles block
+        requires reaches { BlockIsAtHand S.left W.told W.relations W.handles block
             context.old.actor.now.known self.old }
         requires some { self.old.current ≢ None }
         ensures context_advanced { ContextAdvanced E.told E.relations E.reads E.faults M.stands_on
             context.old
             context.new }
-        ensures reaches { Reaches S.left W.told W.relations W.handles block
+        ensures reaches { BlockIsAtHand S.left W.told W.relations W.handles block
             context.new.actor.now.known self.new }
         ensures look_ahead_unchanged { LookAheadUnchanged self.old self.new }
         ensures page { IfNone result
             (HasCurrentPage W.told self.new.scope.relation self.new.pin self.new.current block) }
         ensures stop { IfSome result (IsStop W.told self.new.current block) }
     {
-        match self.part(block) {
+        match self.part_of_current(block) {
             Part::Page => None,
             Part::Stop(ending) => Some(ending),
             Part::Rest => {
@@ -98,12 +99,12 @@ impl<'d, 'p, W: World, S: BlockSource<P> + Drop, P: Copy> ReadStream<'d, 'p, W, 
     }
 
     // What the record has for the block.
-    fn part(&self, block: u32) -> Part
+    fn part_of_current(&self, block: u32) -> Part
         requires some { self.now.current ≢ None }
-        requires fits { IfSome self.now.current (λ io. ReadFits W.told W.relations io
+        requires reads_fit { IfSome self.now.current (λ io. ReadFits W.told W.relations io
             × (io.label.ended ≢ Unended) × (io.ids ≡ stream_ids self.now.scope.zero)
             × CoversBlock io block) }
-        ensures { IfSome self.now.current (λ io. IsPart W.told io block result) }
+        ensures { IfSome self.now.current (λ io. IsValidPart W.told io block result) }
     {
         match &self.current {
             Some(io) => part_of::<W>(io, block),
@@ -114,15 +115,15 @@ impl<'d, 'p, W: World, S: BlockSource<P> + Drop, P: Copy> ReadStream<'d, 'p, W, 
     // The same where the record was to read the block first.
     fn part_of_rest(&self, block: u32) -> Option<Ending>
         requires some { self.now.current ≢ None }
-        requires fits { IfSome self.now.current (λ io. ReadFits W.told W.relations io
+        requires reads_fit { IfSome self.now.current (λ io. ReadFits W.told W.relations io
             × (io.label.ended ≢ Unended) × (io.ids ≡ stream_ids self.now.scope.zero)
             × CoversBlock io block) }
         requires first { IfSome self.now.current (λ io. io.first ≡ block) }
         ensures page { IfNone result
-            (IfSome self.now.current (λ io. IsPart W.told io block Page)) }
+            (IfSome self.now.current (λ io. IsValidPart W.told io block Page)) }
         ensures stop { IfSome result (IsStop W.told self.now.current block) }
     {
-        match self.part(block) {
+        match self.part_of_current(block) {
             Part::Page => None,
             Part::Stop(ending) => Some(ending),
             Part::Rest => unreachable!(),
@@ -136,16 +137,16 @@ impl<'d, 'p, W: World, S: BlockSource<P> + Drop, P: Copy> ReadStream<'d, 'p, W, 
         context: &mut IoContext<W, M, E>,
         block: u32,
     )
-        requires handed { IsValidContext E.told E.relations W.told W.relations self.old.scope
+        requires valid_context { IsValidContext E.told E.relations W.told W.relations self.old.scope
             context.old }
-        requires reaches { Reaches S.left W.told W.relations W.handles block
+        requires reaches { BlockIsAtHand S.left W.told W.relations W.handles block
             context.old.actor.now.known self.old }
         requires some { self.old.current ≢ None }
-        requires behind { IfSome self.old.current (λ io. io.first < block) }
+        requires block_behind_first { IfSome self.old.current (λ io. io.first < block) }
         ensures context_advanced { ContextAdvanced E.told E.relations E.reads E.faults M.stands_on
             context.old
             context.new }
-        ensures reaches { Reaches S.left W.told W.relations W.handles block
+        ensures reaches { BlockIsAtHand S.left W.told W.relations W.handles block
             context.new.actor.now.known self.new }
         ensures look_ahead_unchanged { LookAheadUnchanged self.old self.new }
         ensures first { IfSome self.new.current (λ io. io.first ≡ block)

@@ -1,11 +1,11 @@
 //! The I/Os of a stream.
 ghost use Rattle.std.specs.Prelude.{◌≡◌, ◌<◌, ◌≤◌, ◌∷◌, length, IfOk};
 ghost use Rattle.circular_buffer.specs.Buffer.{buffer};
-ghost use Rattle.read_stream.specs.StreamIos.{IsReady};
+ghost use Rattle.read_stream.specs.StreamIos.{AllRecordsFree};
 
 use crate::ring::{push, push_front};
 use aio_batch::Batch;
-use aio_callback::{Counts, ReadIo};
+use aio_callback::ReadIo;
 use aio_handle::InFlight;
 use circular_buffer::HeapCircularBuffer;
 use page_check::World;
@@ -26,9 +26,6 @@ pub struct Reads<W: World> {
     pub ended: HeapCircularBuffer<ReadIo>,
     /// How many were taken in since the stream was opened.
     pub taken_in: u64,
-    /// How many more may be made.
-    pub io_budget: u64,
-    pub counts: Counts,
 }
 
 impl<W: World> Reads<W> {
@@ -36,7 +33,7 @@ impl<W: World> Reads<W> {
     pub fn make(alloc: Global, total: u32, room: u32) -> Result<Reads<W>, AllocError>
         requires room { (1 ≤ room) × (room ≤ 128) }
         requires total { total ≤ 65 }
-        ensures { IfOk result (IsReady room total) }
+        ensures { IfOk result (AllRecordsFree room total) }
     {
         let mut free = HeapCircularBuffer::with_capacity(alloc, total as usize)?;
         for _ in 0..total {
@@ -49,8 +46,6 @@ impl<W: World> Reads<W> {
             in_flight: HeapCircularBuffer::with_capacity(alloc, total as usize)?,
             ended: HeapCircularBuffer::with_capacity(alloc, total as usize)?,
             taken_in: 0,
-            io_budget: 0,
-            counts: Counts { ios: 0, blocks: 0 },
         })
     }
 

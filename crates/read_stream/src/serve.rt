@@ -8,9 +8,10 @@ ghost use Rattle.read_stream.specs.IoContexts.{IsValidContext, ContextAdvanced};
 ghost use Rattle.read_stream.specs.StreamAnswers.{stream_entries, MayBeUnread, pages_given};
 ghost use Rattle.read_stream.specs.StreamAnswers.{step_answer};
 ghost use Rattle.read_stream.specs.StreamAnswers.{IfStopped};
-ghost use Rattle.read_stream.specs.PagesAtHand.{IsLent, HasMoreBlocks, record_blocks_left};
+ghost use Rattle.read_stream.specs.PagesAtHand.{LendsCurrentPage, HasMoreBlocks};
+ghost use Rattle.read_stream.specs.PagesAtHand.{record_blocks_left};
 ghost use Rattle.read_stream.specs.PagesAtHand.{current_page};
-ghost use Rattle.read_stream.specs.StreamState.{IsBetweenCalls, IsOpen, Follows, Underway};
+ghost use Rattle.read_stream.specs.StreamState.{IsBetweenCalls, IsOpen, StreamAnswered, Underway};
 ghost use Rattle.read_stream.specs.StreamState.{UnderwayWith};
 ghost use Rattle.read_stream.specs.Changes.{SameStream, LookAheadUnchanged, GivesPage};
 ghost use Rattle.read_stream.specs.Changes.{ConsumerUnchanged};
@@ -38,7 +39,7 @@ impl<'d, 'p, W: World, S: BlockSource<P> + Drop, P: Copy> ReadStream<'d, 'p, W, 
         rt: &T,
         context: &mut IoContext<W, M, E>,
     )
-        requires handed { IsValidContext E.told E.relations W.told W.relations self.old.scope
+        requires valid_context { IsValidContext E.told E.relations W.told W.relations self.old.scope
             context.old }
         requires actor { context.old.actor.now ≡ self.old.actor_is.value }
         requires is_open { IsOpen S.left W.told W.relations W.handles self.old }
@@ -52,8 +53,8 @@ impl<'d, 'p, W: World, S: BlockSource<P> + Drop, P: Copy> ReadStream<'d, 'p, W, 
             (stream_entries self.old.scope.relation (S.left self.old.source_was.value))
             self.old.given
             (step_answer self.new.scope.relation self.new.step (current_page self.new)) }
-        ensures again { IfStopped self.old.step (λ e. self.new.step ≡ Stop e) }
-        ensures follows { Follows S.left W.told W.relations W.handles self.old self.new
+        ensures answer_repeated { IfStopped self.old.step (λ e. self.new.step ≡ Stop e) }
+        ensures follows { StreamAnswered S.left W.told W.relations W.handles self.old self.new
             context.new.actor.now (step_answer self.new.scope.relation self.new.step
             (current_page self.new)) }
     {
@@ -76,7 +77,7 @@ impl<'d, 'p, W: World, S: BlockSource<P> + Drop, P: Copy> ReadStream<'d, 'p, W, 
         requires running { IfStopped self.old.step (λ _. ⊥) }
         ensures underway { Underway S.left W.told W.relations W.handles
             self.old.actor_is.value.known self.new }
-        ensures giving { HasMoreBlocks self.new.current self.new.step }
+        ensures has_more_blocks { HasMoreBlocks self.new.current self.new.step }
         ensures none { self.new.pin ≡ None }
         ensures look_ahead_unchanged { LookAheadUnchanged self.old self.new }
     {
@@ -89,13 +90,15 @@ impl<'d, 'p, W: World, S: BlockSource<P> + Drop, P: Copy> ReadStream<'d, 'p, W, 
 
     // Whether the page that was lent last is the last one of its record.
     fn is_record_end(&self) -> bool
-        requires lent { IsLent W.told self.now.scope.relation self.now.pin self.now.current
+        requires lends_page { LendsCurrentPage W.told self.now.scope.relation self.now.pin
+            self.now.current
             self.now.step }
         requires none { self.now.pin ≡ None }
         requires running { IfStopped self.now.step (λ _. ⊥) }
-        ensures through { IsTrue result
+        ensures record_is_read { IsTrue result
             → (self.now.current ≢ None) × (record_blocks_left self.now.current self.now.step ≡ []) }
-        ensures giving { (IsTrue result → ⊥) → HasMoreBlocks self.now.current self.now.step }
+        ensures has_more_blocks { (IsTrue result → ⊥) → HasMoreBlocks self.now.current
+            self.now.step }
     {
         match (&self.step, &self.current) {
             (Step::Page(block, _), Some(io)) => io.first() + (io.count() - 1) == *block,
@@ -125,7 +128,7 @@ impl<'d, 'p, W: World, S: BlockSource<P> + Drop, P: Copy> ReadStream<'d, 'p, W, 
         rt: &T,
         context: &mut IoContext<W, M, E>,
     )
-        requires handed { IsValidContext E.told E.relations W.told W.relations self.old.scope
+        requires valid_context { IsValidContext E.told E.relations W.told W.relations self.old.scope
             context.old }
         requires underway { (hand : List ℕ) × UnderwayWith S.left W.told W.relations W.handles hand
             [] 0 context.old.actor.now.known self.old }
@@ -140,7 +143,7 @@ impl<'d, 'p, W: World, S: BlockSource<P> + Drop, P: Copy> ReadStream<'d, 'p, W, 
         ensures consumer_unchanged { ConsumerUnchanged self.old self.new }
         ensures look_ahead_unchanged { LookAheadUnchanged self.old self.new }
         ensures wants { self.new.desk.now.wants ≡ self.old.desk.now.wants }
-        ensures staged { self.new.desk.now.reads.batch ≡ [] }
+        ensures batch_empty { self.new.desk.now.reads.batch ≡ [] }
     {
         if self.is_alone() {
             let mut by_itself = IoContext {
@@ -161,11 +164,11 @@ impl<'d, 'p, W: World, S: BlockSource<P> + Drop, P: Copy> ReadStream<'d, 'p, W, 
         rt: &T,
         context: &mut IoContext<W, M, E>,
     )
-        requires handed { IsValidContext E.told E.relations W.told W.relations self.old.scope
+        requires valid_context { IsValidContext E.told E.relations W.told W.relations self.old.scope
             context.old }
         requires underway { Underway S.left W.told W.relations W.handles context.old.actor.now.known
             self.old }
-        requires giving { HasMoreBlocks self.old.current self.old.step }
+        requires has_more_blocks { HasMoreBlocks self.old.current self.old.step }
         requires none { self.old.pin ≡ None }
         requires last { self.old.desk.now.wants.items ≡ [] → self.old.current ≡ None
             → self.old.plan.pending ≡ None }
@@ -176,7 +179,7 @@ impl<'d, 'p, W: World, S: BlockSource<P> + Drop, P: Copy> ReadStream<'d, 'p, W, 
             context.new }
         ensures between { IsBetweenCalls S.left W.told W.relations W.handles
             context.new.actor.now.known self.new }
-        ensures keeps { SameStream self.old self.new }
+        ensures same_stream { SameStream self.old self.new }
         ensures answer { IfPage (step_answer self.new.scope.relation self.new.step
             (current_page self.new)) IsPage
             → IsNext (reader_of self.old.scope.zero W.told)
@@ -184,32 +187,32 @@ impl<'d, 'p, W: World, S: BlockSource<P> + Drop, P: Copy> ReadStream<'d, 'p, W, 
             (stream_entries self.old.scope.relation (S.left self.old.source_was.value))
             self.old.given
             (step_answer self.new.scope.relation self.new.step (current_page self.new)) }
-        ensures given { self.new.given ≡ self.old.given
+        ensures pages_counted { self.new.given ≡ self.old.given
             + pages_given (step_answer self.new.scope.relation self.new.step
             (current_page self.new)) }
     {
-        let Some(asked) = self.front() else {
+        let Some(asked) = self.front_block() else {
             self.step = Step::Stop(Ending::End);
             return;
         };
         match self.find(rt, context, asked.block) {
             Some(ending) => self.step = Step::Stop(ending),
-            None => self.give(asked),
+            None => self.give_page(asked),
         }
     }
 
     // The block at the front of the queue.
-    fn front(&self) -> Option<QueuedBlock<P>>
+    fn front_block(&self) -> Option<QueuedBlock<P>>
         ensures { result ≡ slice_get self.now.desk.now.queue.items 0 }
     {
         self.desk.queue.front().copied()
     }
 
     // Gives the page of the block at the front.
-    fn give(&mut self, asked: QueuedBlock<P>)
-        requires front { slice_get self.old.desk.now.queue.items 0 ≡ Some asked }
+    fn give_page(&mut self, asked: QueuedBlock<P>)
+        requires front_block { slice_get self.old.desk.now.queue.items 0 ≡ Some asked }
         requires ahead { 0 < self.old.plan.blocks_ahead }
-        requires given { self.old.given < 2 ^ 64 - 1 }
+        requires given_in_range { self.old.given < 2 ^ 64 - 1 }
         ensures { GivesPage asked self.old self.new }
     {
         let _ = self.desk.queue.pop_front();

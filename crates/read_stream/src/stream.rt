@@ -4,15 +4,15 @@ ghost use Rattle.page_check.specs.SynchronousAnswer.{reader_of};
 ghost use Rattle.page_check.specs.PageBytes.{IsPage};
 ghost use Rattle.page_check.specs.IsAnswer.{IsNext, IfPage, Stop as SaidStop};
 ghost use Rattle.aio_word.specs.Events.{lives_ended};
-ghost use Rattle.aio_handle.specs.Closing.{HasNoOwnerTokens};
-ghost use Rattle.aio_handle.specs.Free.{IsRoom};
+ghost use Rattle.aio_handle.specs.EndStates.{HasNoOwnerTokens};
+ghost use Rattle.aio_handle.specs.FreeHandles.{IsRoom};
 ghost use Rattle.aio_handle.specs.ContractViews.{IsActorOf, IsSameActor};
 ghost use Rattle.read_stream.specs.StreamAnswers.{stream_entries, MayBeUnread, synchronous_answer};
 ghost use Rattle.read_stream.specs.StreamAnswers.{synchronous_ending, step_answer};
 ghost use Rattle.read_stream.specs.StreamAnswers.{IfStopped, IfZeroed};
 ghost use Rattle.read_stream.specs.Desks.{IsFreeDesk, SameDeskSettings};
 ghost use Rattle.read_stream.specs.PagesAtHand.{current_page, HasCurrentPage, page_at, zeroed_at};
-ghost use Rattle.read_stream.specs.StreamState.{IsOpen, Follows};
+ghost use Rattle.read_stream.specs.StreamState.{IsOpen, StreamAnswered};
 ghost use Rattle.std.specs.Prelude.{◌≢◌, IfSome, true};
 ghost use Rattle.aio_word.specs.declared.Class.TheVariants.{Unended};
 ghost use Rattle.read_stream.specs.declared.answer.Step.TheVariants.{Start, Stop};
@@ -70,7 +70,7 @@ impl<'d, 'p, W: World, S: BlockSource<P> + Drop, P: Copy> ReadStream<'d, 'p, W, 
     ) -> ReadStream<'d, 'p, W, S, P>
         requires desk { IsFreeDesk desk.old }
         requires backend { actor.now.known.number < actor.now.known.config.backends }
-        requires rest { HasNoOwnerTokens actor.now.known }
+        requires no_owner_tokens { HasNoOwnerTokens actor.now.known }
         requires room { (room : ℕ) × IsRoom actor.now.known.config actor.now.known room
             × (length (S.left source) ≤ room) }
         requires relation { relation < W.relations }
@@ -136,14 +136,14 @@ impl<'d, 'p, W: World, S: BlockSource<P> + Drop, P: Copy> ReadStream<'d, 'p, W, 
             self.old.given (synchronous_answer self.old.scope.relation result) }
         ensures zeroed { IfZeroed (synchronous_answer self.old.scope.relation result)
             (self.old.scope.zero ≡ true) }
-        ensures again { IfStopped self.old.step
+        ensures answer_repeated { IfStopped self.old.step
             (λ e. synchronous_answer self.old.scope.relation result
             ≡ SaidStop (synchronous_ending e)) }
         ensures* after { sem 𝓛 (Rests
             (the_row (record { mir = named 0; lft = [] }) (record { mir = named 1; lft = [] })
             W.row S.row P.row W.World)
             self.entry
-            (λ n. Follows S.left W.told W.relations W.handles self.old n actor.new
+            (λ n. StreamAnswered S.left W.told W.relations W.handles self.old n actor.new
             (synchronous_answer self.old.scope.relation result))) }
     {
         let mut context = IoContext {
@@ -231,11 +231,11 @@ impl<'d, 'p, W: World, S: BlockSource<P> + Drop, P: Copy> ReadStream<'d, 'p, W, 
         ensures actor_advanced { ActorAdvanced actor.old.known actor.new.known (E.reads runner.old)
             (E.reads runner.new) (E.faults runner.old) (E.faults runner.new) }
         ensures stands_on { M.stands_on method.new ≡ M.stands_on method.old }
-        ensures rest { HasNoOwnerTokens actor.new.known }
+        ensures no_owner_tokens { HasNoOwnerTokens actor.new.known }
         ensures count { local_mark_count actor.new.known.marks
             ≡ local_mark_count self.entry.scope.was.value.known.marks + result.0 }
         ensures few { result.0 ≤ length (S.left self.entry.source_was.value) }
-        ensures lived { (h : ℕ) → lives_ended h actor.new.known.marks
+        ensures lives_bound { (h : ℕ) → lives_ended h actor.new.known.marks
             ≤ lives_ended h self.entry.scope.was.value.known.marks + result.0 }
         ensures desk { (result.1.ghost_name ≡ self.entry.desk.ghost_name) × IsFreeDesk result.1.now
             × SameDeskSettings self.entry.desk.now result.1.now }

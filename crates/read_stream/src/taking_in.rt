@@ -4,17 +4,17 @@ ghost use Rattle.read_stream.specs.ActorProgress.{AllSubmitted};
 ghost use Rattle.read_stream.specs.IoContexts.{IsValidContext, ContextAdvanced};
 ghost use Rattle.read_plan.specs.declared.runs.Run.{Run};
 ghost use Rattle.read_stream.specs.StreamIos.{Issued, HeldByCaller, IsTakenIn, HasIdleHandle};
-ghost use Rattle.read_stream.specs.StreamIos.{IsReady};
-ghost use Rattle.read_stream.specs.StreamIos.{ReadsForRuns, InFlightForRuns, IsForBlocks};
+ghost use Rattle.read_stream.specs.StreamIos.{AllRecordsFree};
+ghost use Rattle.read_stream.specs.StreamIos.{ReadsForRuns, InFlightForRuns, ReadsBlocks};
 ghost use Rattle.read_stream.specs.StreamIos.{IsRecordForRun, run_of};
-ghost use Rattle.read_stream.specs.StreamIos.{record_count, ios_allowed};
+ghost use Rattle.read_stream.specs.StreamIos.{record_count, ios_started};
 
 use crate::io_context::IoContext;
 use crate::reads::Reads;
 use crate::ring::push;
 use crate::scope::Scope;
 use aio_batch::Method;
-use aio_callback::ReadIo;
+use aio_callback::{Counts, ReadIo};
 use aio_handle::{Execute, InFlight};
 use aio_waitref::wait_own;
 use page_check::World;
@@ -29,28 +29,30 @@ impl<W: World> Reads<W> {
         context: &mut IoContext<W, M, E>,
         token: InFlight<W>,
     ) -> ReadIo
-        requires handed { IsValidContext E.told E.relations W.told W.relations scope.now
+        requires valid_context { IsValidContext E.told E.relations W.told W.relations scope.now
             context.old }
-        requires lent { HeldByCaller scope.now W.told W.relations context.old.actor.now.known
+        requires held_by_caller { HeldByCaller scope.now W.told W.relations
+            context.old.actor.now.known
             self.old token }
-        requires submitted { AllSubmitted context.old.actor.now.known }
+        requires all_submitted { AllSubmitted context.old.actor.now.known }
         ensures context_advanced { ContextAdvanced E.told E.relations E.reads E.faults M.stands_on
             context.old
             context.new }
         ensures issued { Issued scope.now W.told W.relations context.new.actor.now.known self.new }
         ensures record { IsTakenIn scope.now W.told W.relations context.new.actor.now.known result }
-        ensures aim { (first count : ℕ) → IsForBlocks scope.now first count
+        ensures aim { (first count : ℕ) → ReadsBlocks scope.now first count
             context.old.actor.now.known token → (result.first ≡ first) × (result.count ≡ count) }
         ensures all { (self.new.free ≡ self.old.free) × (self.new.ended ≡ self.old.ended)
             × (self.new.in_flight ≡ self.old.in_flight) × (self.new.batch ≡ self.old.batch)
-            × (self.new.io_budget ≡ self.old.io_budget)
             × (self.new.taken_in ≡ self.old.taken_in + 1) }
         ensures idle { HasIdleHandle context.old.table.now.config context.new.actor.now.known }
         ensures runs { (runs : List Run) → ReadsForRuns scope.now context.old.actor.now.known
             self.old runs → ReadsForRuns scope.now context.new.actor.now.known self.new runs }
     {
         let mut local = wait_own(rt, context.table, context.actor, token, context.runner);
-        local.record_mut().complete_local(&mut self.counts);
+        local
+            .record_mut()
+            .complete_local(&mut Counts { ios: 0, blocks: 0 });
         let io = context.table.reclaim(context.actor, local);
         context.actor.has_seen_its_marks();
         context.actor.has_reclaimed_only_past();
@@ -65,10 +67,10 @@ impl<W: World> Reads<W> {
         scope: &Scope<W>,
         context: &mut IoContext<W, M, E>,
     ) -> Option<ReadIo>
-        requires handed { IsValidContext E.told E.relations W.told W.relations scope.now
+        requires valid_context { IsValidContext E.told E.relations W.told W.relations scope.now
             context.old }
         requires issued { Issued scope.now W.told W.relations context.old.actor.now.known self.old }
-        requires staged { self.old.batch ≡ [] }
+        requires batch_empty { self.old.batch ≡ [] }
         ensures context_advanced { ContextAdvanced E.told E.relations E.reads E.faults M.stands_on
             context.old
             context.new }
@@ -86,8 +88,7 @@ impl<W: World> Reads<W> {
         ensures same_state { IfNone result ((self.new ≡ self.old) × (context.new.actor.now ≡
             context.old.actor.now)) }
         ensures all { (self.new.free ≡ self.old.free) × (self.new.batch ≡ self.old.batch)
-            × (self.new.ended ≡ self.old.ended) × (ios_allowed self.new ≡ ios_allowed self.old)
-            × (self.new.io_budget ≡ self.old.io_budget) }
+            × (self.new.ended ≡ self.old.ended) × (ios_started self.new ≡ ios_started self.old) }
     {
         match self.in_flight.pop_front() {
             Some(token) => Some(self.settle(rt, scope, context, token)),
@@ -102,10 +103,10 @@ impl<W: World> Reads<W> {
         scope: &Scope<W>,
         context: &mut IoContext<W, M, E>,
     ) -> Option<ReadIo>
-        requires handed { IsValidContext E.told E.relations W.told W.relations scope.now
+        requires valid_context { IsValidContext E.told E.relations W.told W.relations scope.now
             context.old }
         requires issued { Issued scope.now W.told W.relations context.old.actor.now.known self.old }
-        requires staged { self.old.batch ≡ [] }
+        requires batch_empty { self.old.batch ≡ [] }
         ensures context_advanced { ContextAdvanced E.told E.relations E.reads E.faults M.stands_on
             context.old
             context.new }
@@ -115,8 +116,7 @@ impl<W: World> Reads<W> {
             × (record_count self.old ≡ record_count self.new + 1)) }
         ensures none { IfNone result (self.old.in_flight.items ≡ []) }
         ensures all { (self.new.free ≡ self.old.free) × (self.new.batch ≡ self.old.batch)
-            × (ios_allowed self.new ≡ ios_allowed self.old)
-            × (self.new.io_budget ≡ self.old.io_budget) }
+            × (ios_started self.new ≡ ios_started self.old) }
         ensures same_state { IfNone result ((self.old.ended.items ≡ [])
             × (record_count self.new ≡ record_count self.old)
             × (self.new.in_flight ≡ self.old.in_flight)) }
@@ -139,17 +139,17 @@ impl<W: World> Reads<W> {
         scope: &Scope<W>,
         context: &mut IoContext<W, M, E>,
     )
-        requires handed { IsValidContext E.told E.relations W.told W.relations scope.now
+        requires valid_context { IsValidContext E.told E.relations W.told W.relations scope.now
             context.old }
         requires issued { Issued scope.now W.told W.relations context.old.actor.now.known self.old }
-        requires staged { self.old.batch ≡ [] }
+        requires batch_empty { self.old.batch ≡ [] }
         ensures context_advanced { ContextAdvanced E.told E.relations E.reads E.faults M.stands_on
             context.old
             context.new }
         ensures issued { Issued scope.now W.told W.relations context.new.actor.now.known self.new }
         ensures all { (record_count self.new ≡ record_count self.old)
-            × (ios_allowed self.new ≡ ios_allowed self.old) × (self.new.batch ≡ self.old.batch)
-            × (self.new.free ≡ self.old.free) × (self.new.io_budget ≡ self.old.io_budget) }
+            × (ios_started self.new ≡ ios_started self.old) × (self.new.batch ≡ self.old.batch)
+            × (self.new.free ≡ self.old.free) }
         ensures idle { HasIdleHandle context.old.table.now.config context.new.actor.now.known }
         ensures runs { (runs : List Run) → ReadsForRuns scope.now context.old.actor.now.known
             self.old runs → ReadsForRuns scope.now context.new.actor.now.known self.new runs }
@@ -168,7 +168,7 @@ impl<W: World> Reads<W> {
         scope: &Scope<W>,
         context: &mut IoContext<W, M, E>,
     ) -> u64
-        requires handed { IsValidContext E.told E.relations W.told W.relations scope.now
+        requires valid_context { IsValidContext E.told E.relations W.told W.relations scope.now
             context.old }
         requires issued { Issued scope.now W.told W.relations context.old.actor.now.known self.old }
         requires all { record_count self.old ≡ scope.now.total }
@@ -176,9 +176,9 @@ impl<W: World> Reads<W> {
             context.old
             context.new }
         ensures issued { Issued scope.now W.told W.relations context.new.actor.now.known self.new }
-        ensures ready { IsReady scope.now.combine scope.now.total self.new }
+        ensures ready { AllRecordsFree scope.now.combine scope.now.total self.new }
         ensures count { (result ≡ self.new.taken_in)
-            × (ios_allowed self.new ≡ ios_allowed self.old) }
+            × (ios_started self.new ≡ ios_started self.old) }
     {
         self.submit(rt, scope, context);
         while let Some(io) = self.oldest_record(rt, scope, context) {

@@ -1,6 +1,6 @@
 //! A stream, and another backend between its answers.
 ghost use Rattle.std.specs.Prelude.{◌≡◌, ◌<◌};
-ghost use Rattle.aio_handle.specs.Closing.{HasNoOwnerTokens};
+ghost use Rattle.aio_handle.specs.EndStates.{HasNoOwnerTokens};
 ghost use Rattle.aio_handle.specs.ContractViews.{IsActorOf};
 ghost use Rattle.read_stream.specs.Desks.{AreValidSettings};
 

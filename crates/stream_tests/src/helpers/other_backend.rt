@@ -1,6 +1,6 @@
 //! Another backend, which reads before the stream does.
 ghost use Rattle.std.specs.Prelude.{◌≡◌, ◌<◌, ◌≤◌, length};
-ghost use Rattle.aio_handle.specs.Closing.{HasNoOwnerTokens};
+ghost use Rattle.aio_handle.specs.EndStates.{HasNoOwnerTokens};
 ghost use Rattle.aio_handle.specs.ContractViews.{IsActorOf};
 ghost use Rattle.read_stream.specs.Desks.{AreValidSettings};
 

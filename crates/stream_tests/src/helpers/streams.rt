@@ -1,6 +1,6 @@
 //! Streams over one pool.
 ghost use Rattle.std.specs.Prelude.{◌≡◌, ◌<◌};
-ghost use Rattle.aio_handle.specs.Closing.{HasNoOwnerTokens};
+ghost use Rattle.aio_handle.specs.EndStates.{HasNoOwnerTokens};
 ghost use Rattle.aio_handle.specs.ContractViews.{IsActorOf, IsSameActor};
 ghost use Rattle.read_stream.specs.Desks.{AreValidSettings};
 ghost use Rattle.read_stream.specs.StreamState.{IsOpen};

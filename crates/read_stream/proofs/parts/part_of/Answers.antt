@@ -1,7 +1,7 @@
 use Rattle.std.proofs.Common.{◌≡◌, ◌-◌, arith, refl, sym, ◌∙◌, ap}
 use Rattle.aio_result.specs.declared.AioResult.{AioResult}
 use Rattle.aio_callback.specs.ReadIoView.{ReadIoView}
-use Rattle.aio_callback.specs.Cases.{stream_ids}
+use Rattle.aio_callback.specs.StreamOutcomes.{stream_ids}
 use Rattle.read_stream.proofs.PartCases.{ids_zero, part_rest, part_invalid, part_unread, part_past}
 use Rattle.read_stream.proofs.parts.part_of.Goals as goal
 
@@ -15,8 +15,8 @@ returns-then-index-good g c =
     let below = c.if-index-good.true in (
       omega arith,
       ids_zero zero io (c.args.block - io.first) ids
-          (λ off. law.not_zeroed g.W.World.told g.W.World.relations io c.requires.fits
-          c.requires.ended off (c.args.block - io.first)),
+          (λ off. law.not_zeroed g.W.World.told g.W.World.relations io c.requires.reads_fit
+          c.requires.has_ended off (c.args.block - io.first)),
     )
 
 pub returns-then-result-eq2 : goal.returns-then-result-eq2
@@ -24,8 +24,8 @@ returns-then-result-eq2 g c =
     let io : ReadIoView = c.args.io.now in
     let law = c.stream_records_end_in_six_ways.ensures in
     let (zero, ids) = c.requires.ids in
-    let case = law.case g.W.World.told g.W.World.relations io zero c.requires.fits
-    c.requires.ended ids in
+    let case = law.case g.W.World.told g.W.World.relations io zero c.requires.reads_fit
+    c.requires.has_ended ids in
     let given = law.given io zero ids in
     let good = c.good-good.ensures.value in
     let first = c.first.ensures in
@@ -34,7 +34,8 @@ returns-then-result-eq2 g c =
     let two = c.if-result-eq2.true in
     let below = c.if-index-good.false in
     let above = c.if-index-good-2.false in
-    let both = part_invalid zero g.W.World.told io c.args.block c.requires.has case (omega arith)
+    let both = part_invalid zero g.W.World.told io c.args.block c.requires.covers_block case
+    (omega arith)
     (ap (λ (z : AioResult). z.status) (sym is) ∙ c.in-Error.is) (omega arith) in
     (refl, ids ∙ ap stream_ids both.0, both.1)
 
@@ -43,8 +44,8 @@ returns-then-result-eq1 g c =
     let io : ReadIoView = c.args.io.now in
     let law = c.stream_records_end_in_six_ways.ensures in
     let (zero, ids) = c.requires.ids in
-    let case = law.case g.W.World.told g.W.World.relations io zero c.requires.fits
-    c.requires.ended ids in
+    let case = law.case g.W.World.told g.W.World.relations io zero c.requires.reads_fit
+    c.requires.has_ended ids in
     let given = law.given io zero ids in
     let good = c.good-good.ensures.value in
     let first = c.first.ensures in
@@ -55,7 +56,8 @@ returns-then-result-eq1 g c =
     let one = c.if-result-eq1.true in
     let below = c.if-index-good.false in
     let above = c.if-index-good-2.false in
-    let both = part_unread zero g.W.World.told io c.args.block c.requires.has case (omega arith)
+    let both = part_unread zero g.W.World.told io c.args.block c.requires.covers_block case
+    (omega arith)
     (ap (λ (z : AioResult). z.status) (sym is) ∙ c.in-Error.is) (λ e. two (id ∙ e))
     (omega arith) in
     (refl, both.0, both.1)
@@ -65,8 +67,8 @@ returns-else-result-eq1 g c =
     let io : ReadIoView = c.args.io.now in
     let law = c.stream_records_end_in_six_ways.ensures in
     let (zero, ids) = c.requires.ids in
-    let case = law.case g.W.World.told g.W.World.relations io zero c.requires.fits
-    c.requires.ended ids in
+    let case = law.case g.W.World.told g.W.World.relations io zero c.requires.reads_fit
+    c.requires.has_ended ids in
     let given = law.given io zero ids in
     let good = c.good-good.ensures.value in
     let first = c.first.ensures in
@@ -78,7 +80,7 @@ returns-else-result-eq1 g c =
     let below = c.if-index-good.false in
     let above = c.if-index-good-2.false in (
       refl,
-      part_past zero g.W.World.told io c.args.block c.requires.has case (omega arith)
+      part_past zero g.W.World.told io c.args.block c.requires.covers_block case (omega arith)
           (ap (λ (z : AioResult). z.status) (sym is) ∙ c.in-Error.is) (λ e. two (id ∙ e))
           (λ e. one (er ∙ e)),
     )
@@ -88,12 +90,12 @@ returns-in_default g c =
     let io : ReadIoView = c.args.io.now in
     let law = c.stream_records_end_in_six_ways.ensures in
     let (zero, ids) = c.requires.ids in
-    let case = law.case g.W.World.told g.W.World.relations io zero c.requires.fits
-    c.requires.ended ids in
+    let case = law.case g.W.World.told g.W.World.relations io zero c.requires.reads_fit
+    c.requires.has_ended ids in
     let given = law.given io zero ids in
     let good = c.good-good.ensures.value in
     let first = c.first.ensures in
     let is : c.result-result.result ≡ io.result = c.result-result.ensures in
     let below = c.if-index-good.false in
-    part_rest zero g.W.World.told io c.args.block c.requires.has case (omega arith)
+    part_rest zero g.W.World.told io c.args.block c.requires.covers_block case (omega arith)
     (λ e. c.in_default.not-Error (ap (λ (z : AioResult). z.status) is ∙ e))

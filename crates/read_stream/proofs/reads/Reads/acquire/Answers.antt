@@ -11,15 +11,15 @@ use Rattle.read_stream.proofs.FreeHandleExists.{handle_is_free}
 use Rattle.read_stream.proofs.StageKeepsIssued.{handed-out-later, advanced-handed-out}
 use Rattle.read_stream.proofs.reads.Reads.acquire.Goals as goal
 
-pub returns-in-Some-clause-handed : goal.returns-in-Some-clause-handed
-returns-in-Some-clause-handed g c = c.in-Some.ensures.handed _ _
+pub returns-in-Some-clause-handle_handed_out : goal.returns-in-Some-clause-handle_handed_out
+returns-in-Some-clause-handle_handed_out g c = c.in-Some.ensures.handle_handed_out _ _
 
 pub submit-requires-clause-issued : goal.submit-requires-clause-issued
 submit-requires-clause-issued g c = subst (λ (z : ActorView). Issued c.args.scope.now g.W.World.told
     g.W.World.relations z.known c.args.self.now) (sym c.in_default.ensures.none.0) c.requires.issued
 
-pub returns-clause-handed : goal.returns-clause-handed
-returns-clause-handed g c =
+pub returns-clause-handle_handed_out : goal.returns-clause-handle_handed_out
+returns-clause-handle_handed_out g c =
     let p : Known = c.args.context.now.actor.now.known in
     let q : Known = c.submit.new.context.actor.now.known in
     let r : Known = c.take_in.new.context.actor.now.known in
@@ -30,7 +30,7 @@ returns-clause-handed g c =
     (ap (λ (z : ActorView). z.known) c.in_default.ensures.none.0)
     c.submit.ensures.context_advanced.actor_advanced)
     c.take_in.ensures.context_advanced.actor_advanced)
-    (c.in-Some-hand_out.ensures.handed _ _)
+    (c.in-Some-hand_out.ensures.handle_handed_out _ _)
 
 pub returns-in-Some-clause-runs : goal.returns-in-Some-clause-runs
 returns-in-Some-clause-runs g c = λ runs. reads-later c.args.scope.now
@@ -39,18 +39,18 @@ returns-in-Some-clause-runs g c = λ runs. reads-later c.args.scope.now
     (advanced-handed-out c.args.scope.now g.W.World.told g.W.World.relations
     c.args.context.now.actor.now.known
     c.hand_out.new.actor.known c.args.self.now c.in-Some.token 0 0 0 0
-    (c.in-Some.ensures.handed 0 0)).aims refl refl refl
+    (c.in-Some.ensures.handle_handed_out 0 0)).aims refl refl refl
 
 pub unreachable-requires : goal.unreachable-requires
 unreachable-requires g c =
     let first = c.submit.ensures.all.1 in
     let then = c.take_in.ensures.all.1 in
-    let io_budget = c.requires.io_budget in
+    let few = c.requires.few_ios in
     let table = c.take_in.ensures.context_advanced.table in
     let same = table ∙ c.submit.ensures.context_advanced.table in
     handle_is_free c.args.scope.now g.W.World.told g.W.World.relations _
     c.take_in.new.context.actor.now.known
-    c.take_in.new.self (c.requires.handed.scope.1 ∙ sym (ap (λ z. z.now.config) same))
+    c.take_in.new.self (c.requires.valid_context.scope.1 ∙ sym (ap (λ z. z.now.config) same))
     c.take_in.ensures.issued (omega arith)
     (subst (λ z. HasIdleHandle z.now.config c.take_in.new.context.actor.now.known) (sym table)
     c.take_in.ensures.idle) c.in-None.ensures.none.1
@@ -61,7 +61,8 @@ returns-clause-runs g c = λ runs f.
     let q : Known = c.hand_out-2.new.actor.known in
     reads-later c.args.scope.now r q c.take_in.new.self c.take_in.new.self runs
     (advanced-handed-out c.args.scope.now g.W.World.told g.W.World.relations r q c.take_in.new.self
-    c.in-Some-hand_out.token 0 0 0 0 (c.in-Some-hand_out.ensures.handed 0 0)).aims refl refl refl
+    c.in-Some-hand_out.token 0 0 0 0 (c.in-Some-hand_out.ensures.handle_handed_out 0 0)).aims refl
+    refl refl
     (c.take_in.ensures.runs runs (c.submit.ensures.runs runs
     (subst (λ (z : ActorView). ReadsForRuns c.args.scope.now z.known c.args.self.now runs)
     (sym c.in_default.ensures.none.0) f))))
@@ -73,7 +74,7 @@ returns-in-Some-clause-context_advanced g c =
     (refl, refl)
     (advanced-handed-out c.args.scope.now g.W.World.told g.W.World.relations x.actor.now.known
     c.hand_out.new.actor.known c.args.self.now c.in-Some.token _ _ _ _
-    (c.in-Some.ensures.handed _ _)) refl
+    (c.in-Some.ensures.handle_handed_out _ _)) refl
 
 pub returns-clause-context_advanced : goal.returns-clause-context_advanced
 returns-clause-context_advanced g c =
@@ -84,7 +85,7 @@ returns-clause-context_advanced g c =
     c.hand_out-2.ensures.same (refl, refl)
     (advanced-handed-out c.args.scope.now g.W.World.told g.W.World.relations y.actor.now.known
     c.hand_out-2.new.actor.known c.take_in.new.self c.in-Some-hand_out.token _ _ _ _
-    (c.in-Some-hand_out.ensures.handed _ _)) refl)
+    (c.in-Some-hand_out.ensures.handle_handed_out _ _)) refl)
     (context_advanced_then c.take_in.ensures.context_advanced
     (context_advanced_then c.submit.ensures.context_advanced
     (context_advanced_by x c.hand_out.new.actor x.method.now x.runner.now c.hand_out.ensures.same

@@ -3,7 +3,7 @@ use Rattle.aio_word.specs.declared.WaitRef.{WaitRef}
 use Rattle.aio_callback.specs.ReadIoView.{ReadIoView}
 use Rattle.circular_buffer.specs.Buffer.{Buffer, buffer}
 use Rattle.read_stream.specs.declared.reads.Reads.{Reads}
-use Rattle.read_stream.specs.StreamIos.{Issued, record_count, ios_allowed}
+use Rattle.read_stream.specs.StreamIos.{Issued, record_count, ios_started}
 use Rattle.read_stream.proofs.ContextAdvancedLaws.{valid_context_then, context_advanced_then}
 use Rattle.read_stream.proofs.QueueMovesKeepIssued.{more-free}
 use Rattle.read_stream.proofs.SubmitKeepsIssued.{is-none}
@@ -32,10 +32,10 @@ loop-io-preserved g c =
     let more = more-free c.args.scope.now g.W.World.told g.W.World.relations
     c.oldest_record.new.context.actor.now.known s io (buffer (io ∷ s.free.items) s.free.capacity)
     refl
-    (omega arith) some.0.aimed.room c.in-Some.ensures.issued in
+    (omega arith) some.0.is_stream_record.room c.in-Some.ensures.issued in
     let count = more.1 in
-    let made = rest.2 in
-    let was = inv.made in
+    let same = rest.2 in
+    let was = inv.started in
     record {
       handed = valid_context_then inv.handed c.in-Some.ensures.context_advanced;
       context_advanced = context_advanced_then c.in-Some.ensures.context_advanced
@@ -43,7 +43,7 @@ loop-io-preserved g c =
       issued = subst (λ (z : Reads W). Issued c.args.scope.now g.W.World.told g.W.World.relations
           c.oldest_record.new.context.actor.now.known z) (sym is) more.0;
       records = ap (λ (z : Reads W). record_count z) is ∙ (omega arith);
-      made = ap (λ (z : Reads W). ios_allowed z) is ∙ (made ∙ was);
+      started = ap (λ (z : Reads W). ios_started z) is ∙ (same ∙ was);
       batch = ap (λ (z : Reads W). z.batch) is ∙ (rest.1 ∙ inv.batch);
     }
 
@@ -76,7 +76,7 @@ returns-clause-ready g c =
     record {
       has_room = issued.room;
       free = issued.free;
-      all = omega arith;
+      free_count = omega arith;
       batch = batch;
       in_flight = in_flight;
       ended = is-none s.ended.items (omega arith);

@@ -1,6 +1,6 @@
 use Rattle.std.proofs.Common.{◌≡◌, ◌+◌, length, []}
 use Rattle.read_stream.specs.IoContexts.{IsValidContext, ContextAdvanced}
-use Rattle.read_stream.specs.StreamIos.{Issued, record_count, ios_allowed}
+use Rattle.read_stream.specs.StreamIos.{Issued, record_count, ios_started}
 use Rattle.read_stream.proofs.reads.Reads.finish.Given as goal
 
 abbrev pub invariant-loop-io : goal.invariant-loop-io
@@ -11,7 +11,7 @@ invariant-loop-io g l = record {
       g.E.Execute.faults g.M.Method.stands_on l.fn.context l.context;
   issued : Issued l.scope g.W.World.told g.W.World.relations l.context.actor.now.known l.self;
   records : record_count l.self ≡ l.scope.total;
-  made : ios_allowed l.self ≡ ios_allowed l.fn.self;
+  started : ios_started l.self ≡ ios_started l.fn.self;
   batch : l.self.batch ≡ [];
 }
 

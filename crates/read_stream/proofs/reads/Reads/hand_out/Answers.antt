@@ -1,8 +1,8 @@
 use Rattle.read_stream.proofs.StageKeepsIssued.{handed-out-now}
 use Rattle.read_stream.proofs.reads.Reads.hand_out.Goals as goal
 
-pub returns-in-Ok-clause-handed : goal.returns-in-Ok-clause-handed
-returns-in-Ok-clause-handed g c = λ reads faults.
+pub returns-in-Ok-clause-handle_handed_out : goal.returns-in-Ok-clause-handle_handed_out
+returns-in-Ok-clause-handle_handed_out g c = λ reads faults.
     handed-out-now c.args.scope.now g.W.World.told g.W.World.relations c.args.actor.now.known
     c.acquire.new.actor.known c.args.self.now c.in-Ok.token reads faults
     c.has_seen_its_marks.ensures

@@ -54,6 +54,6 @@ returns-in-None-clause-runs g c = λ run runs f.
     let all = c.settle_oldest.ensures.all in
     reads-settled c.args.scope.now c.args.context.now.actor.now.known
     c.settle_oldest.new.context.actor.now.known
-    s c.settle_oldest.new.self c.settle_oldest.result run runs none c.requires.staged
-    (ap (λ (z : Buffer ReadIoView). z.items) (all.2 ∙ e) ∙ none) (all.1 ∙ c.requires.staged)
+    s c.settle_oldest.new.self c.settle_oldest.result run runs none c.requires.batch_empty
+    (ap (λ (z : Buffer ReadIoView). z.items) (all.2 ∙ e) ∙ none) (all.1 ∙ c.requires.batch_empty)
     c.settle_oldest.ensures.run c.settle_oldest.ensures.none f)

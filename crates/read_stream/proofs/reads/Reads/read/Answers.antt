@@ -9,8 +9,8 @@ use Rattle.read_stream.proofs.ReadsMatchRuns.{reads-at-once}
 use Rattle.read_stream.proofs.SubmitKeepsIssued.{all-submitted, lent-at-once, only-one, for-at-once}
 use Rattle.read_stream.proofs.reads.Reads.read.Goals as goal
 
-pub settle-requires-clause-lent : goal.settle-requires-clause-lent
-settle-requires-clause-lent g c =
+pub settle-requires-clause-held_by_caller : goal.settle-requires-clause-held_by_caller
+settle-requires-clause-held_by_caller g c =
     let token = c.stage-token.ensures.token in
     let all = c.stage-token.ensures.all.0 in
     let before = c.submit.ensures.all.0 in
@@ -21,12 +21,12 @@ settle-requires-clause-lent g c =
     c.put.ensures token.0 token.1 token.2 c.stage-token.ensures.apart (omega arith)
     c.stage-token.ensures.issued c.in-Some.ensures.next c.in-Some.ensures.tokens
 
-pub settle-requires-clause-submitted : goal.settle-requires-clause-submitted
-settle-requires-clause-submitted g c =
+pub settle-requires-clause-all_submitted : goal.settle-requires-clause-all_submitted
+settle-requires-clause-all_submitted g c =
     let few = c.stage-token.ensures.batch in
     let none : length c.submit.new.self.batch ≡ 0 =
     ap (λ (z : List (WaitRef × ReadIoView)). length z) c.submit.ensures.none in
-    let held = settle-requires-clause-lent g c in
+    let held = settle-requires-clause-held_by_caller g c in
     all-submitted c.args.scope.now (c.in-Some.token ∷ []) g.W.World.told g.W.World.relations
     c.submit_next.new.actor.known _ held.issued
     (only-one c.args.scope.now _ _ c.stage-token.new.self c.put.new.self c.stage-token.result

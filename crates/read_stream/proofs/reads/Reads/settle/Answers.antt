@@ -35,7 +35,7 @@ returns-clause-context_advanced g c =
     context_advanced_by c.args.context.now c.reclaim-io.new.actor c.args.context.now.method.now
     c.wait_own-local.new.runner
     (b.same.0 ∙ a.same.0, b.same.1 ∙ a.same.1, b.same.2 ∙ a.same.2) a.told
-    (advanced-settling p m q t l.1.label _ _ _ _ b.event.0 a.taken
+    (advanced-settling p m q t l.1.label _ _ _ _ b.event.0 a.result_taken
     (reclaims t l.0 b.event.0 m q a.token.0 b.event.1)) refl
 
 pub returns-clause-issued : goal.returns-clause-issued
@@ -46,12 +46,13 @@ returns-clause-issued g c =
     let q : Known = c.reclaim-io.new.actor.known in
     let t : WaitRef = c.args.token in
     settled-issued p m q t l.1.label _ _ _ _ c.reclaim-io.ensures.event.0
-    c.wait_own-local.ensures.taken
+    c.wait_own-local.ensures.result_taken
     (reclaims t l.0 c.reclaim-io.ensures.event.0 m q c.wait_own-local.ensures.token.0
     c.reclaim-io.ensures.event.1)
-    c.args.scope.now g.W.World.told g.W.World.relations c.args.self.now c.complete_local.new.counts
-    c.has_seen_its_marks.ensures c.requires.lent.stream_ios c.requires.lent.apart
-    c.requires.lent.issued
+    c.args.scope.now g.W.World.told g.W.World.relations c.args.self.now
+    c.has_seen_its_marks.ensures c.requires.held_by_caller.stream_ios
+    c.requires.held_by_caller.apart
+    c.requires.held_by_caller.issued
 
 pub returns-clause-record : goal.returns-clause-record
 returns-clause-record g c =
@@ -72,14 +73,15 @@ returns-clause-record g c =
     (subst (λ (z : ReadIoView). ReadFits g.W.World.told g.W.World.relations z) (sym lent)
     c.wait_own-local.ensures.record.0)) in
     settled-reading p m q t x.label _ _ _ _ c.reclaim-io.ensures.event.0
-    c.wait_own-local.ensures.taken
+    c.wait_own-local.ensures.result_taken
     (reclaims t l.0 c.reclaim-io.ensures.event.0 m q c.wait_own-local.ensures.token.0
     c.reclaim-io.ensures.event.1)
     c.args.scope.now g.W.World.told g.W.World.relations c.args.self.now x y is refl
-    c.requires.lent.stream_ios c.requires.lent.issued fits c.wait_own-local.ensures.record.1
+    c.requires.held_by_caller.stream_ios c.requires.held_by_caller.issued fits
+    c.wait_own-local.ensures.record.1
     (λ one. subst (λ (z : WaitRef). HasWholeLife z x.label.ended m) c.wait_own-local.ensures.token.0
-    (c.wait_own-local.ensures.alone
-    (subst (λ (z : Config). actor_count z ≡ 1) c.requires.handed.scope.1 one)))
+    (c.wait_own-local.ensures.sole_actor
+    (subst (λ (z : Config). actor_count z ≡ 1) c.requires.valid_context.scope.1 one)))
 
 pub returns-clause-aim : goal.returns-clause-aim
 returns-clause-aim g c = λ first count for_it.
@@ -93,7 +95,7 @@ returns-clause-aim g c = λ first count for_it.
     let is : y ≡ after_local x = c.reclaim-io.ensures.record
     ∙ (c.complete_local.ensures.value ∙ ap after_local c.record_mut.ensures.value) in
     settled-for p m q t x.label _ _ _ _ c.reclaim-io.ensures.event.0
-    c.wait_own-local.ensures.taken
+    c.wait_own-local.ensures.result_taken
     (reclaims t l.0 c.reclaim-io.ensures.event.0 m q c.wait_own-local.ensures.token.0
     c.reclaim-io.ensures.event.1)
     c.args.scope.now g.W.World.told g.W.World.relations x y first count is
@@ -107,9 +109,10 @@ returns-clause-idle g c =
     let q : Known = c.reclaim-io.new.actor.known in
     let t : WaitRef = c.args.token in
     let config : c.reclaim-io.new.actor.known.config ≡ c.args.context.now.table.now.config =
-    c.reclaim-io.ensures.same.1 ∙ (c.wait_own-local.ensures.same.1 ∙ c.requires.handed.table.1) in
+    c.reclaim-io.ensures.same.1 ∙ (c.wait_own-local.ensures.same.1
+    ∙ c.requires.valid_context.table.1) in
     idle-now p m q t l.1.label _ _ _ _ c.reclaim-io.ensures.event.0
-    c.wait_own-local.ensures.taken
+    c.wait_own-local.ensures.result_taken
     (reclaims t l.0 c.reclaim-io.ensures.event.0 m q c.wait_own-local.ensures.token.0
     c.reclaim-io.ensures.event.1)
     c.args.context.now.table.now.config

@@ -11,8 +11,8 @@ use Rattle.read_stream.proofs.QueueMovesKeepIssued.{same-queue}
 use Rattle.read_stream.proofs.SubmitKeepsIssued.{all-submitted}
 use Rattle.read_stream.proofs.reads.Reads.settle_oldest.Goals as goal
 
-pub settle-requires-clause-lent : goal.settle-requires-clause-lent
-settle-requires-clause-lent g c =
+pub settle-requires-clause-held_by_caller : goal.settle-requires-clause-held_by_caller
+settle-requires-clause-held_by_caller g c =
     let xs : List WaitRef = c.args.self.now.in_flight.items in
     (less-in-flight c.args.scope.now g.W.World.told g.W.World.relations
     c.args.context.now.actor.now.known c.args.self.now c.in-Some.token (drop 1 xs)
@@ -20,10 +20,10 @@ settle-requires-clause-lent g c =
     (first-of xs c.in-Some.token (sym c.pop_front.ensures.value ∙ c.in-Some.is))
     c.pop_front.ensures.items c.requires.issued).0
 
-pub settle-requires-clause-submitted : goal.settle-requires-clause-submitted
-settle-requires-clause-submitted g c =
+pub settle-requires-clause-all_submitted : goal.settle-requires-clause-all_submitted
+settle-requires-clause-all_submitted g c =
     all-submitted c.args.scope.now [] g.W.World.told g.W.World.relations
-    c.args.context.now.actor.now.known c.args.self.now c.requires.issued c.requires.staged
+    c.args.context.now.actor.now.known c.args.self.now c.requires.issued c.requires.batch_empty
     (λ t i. absurd i)
 
 pub returns-in-Some-clause-run : goal.returns-in-Some-clause-run

@@ -6,7 +6,7 @@ use Rattle.aio_word.specs.Tokens.{IsDefined}
 use Rattle.aio_handle.specs.LifeWords.{defined_word, staged_word}
 use Rattle.aio_handle.specs.CallEvents.{EventMade}
 use Rattle.aio_callback.specs.ReadIoView.{ReadIoView, record_aim}
-use Rattle.read_stream.specs.StreamIos.{IssuedExcept, IsNewIncarnation, ios_allowed}
+use Rattle.read_stream.specs.StreamIos.{IssuedExcept, IsNewIncarnation, ios_started}
 use Rattle.read_stream.proofs.ReadsMatchRuns.{reads-later}
 use Rattle.read_stream.proofs.StageKeepsIssued.{advanced-staged, advanced-defined, issued-staged}
 use Rattle.read_stream.proofs.StageKeepsIssued.{staged-apart}
@@ -42,7 +42,7 @@ returns-clause-context_advanced g c =
       told = a.told;
       actor_advanced = advanced-staged c.args.scope.now g.W.World.told g.W.World.relations
           c.args.context.now.actor.now.known q q1 q2 c.acquire-token.new.self t _ _ _ _
-          c.acquire-token.ensures.handed c.define-token.ensures.event
+          c.acquire-token.ensures.handle_handed_out c.define-token.ensures.event
           (defines t d.0 q1 e c.define-token.ensures.token.2)
           (stages t d.0 q1 q2 e c.stage.ensures.event);
       stands_on = a.stands_on;
@@ -59,14 +59,14 @@ returns-clause-issued g c =
     let same : c.stage.result.0 ≡ t =
     ap (λ (z : WaitRef × ReadIoView). z.0) c.stage.ensures.token.0 ∙ e in
     let all = c.acquire-token.ensures.all.1 in
-    let most = c.requires.issued.most in
-    let io_budget = c.requires.io_budget in
-    let few : ios_allowed c.acquire-token.new.self + 1 ≤ c.args.scope.now.most = omega arith in
+    let most = c.requires.issued.within_most in
+    let allowed = c.requires.few_ios in
+    let few : ios_started c.acquire-token.new.self + 1 ≤ c.args.scope.now.most = omega arith in
     subst (λ (z : WaitRef). IssuedExcept (z ∷ []) c.args.scope.now g.W.World.told
     g.W.World.relations q2 c.acquire-token.new.self) (sym same)
     (issued-staged c.args.scope.now g.W.World.told g.W.World.relations
     c.args.context.now.actor.now.known q q1 q2 c.acquire-token.new.self t _ _ _ _
-    c.acquire-token.ensures.handed c.define-token.ensures.event
+    c.acquire-token.ensures.handle_handed_out c.define-token.ensures.event
     (defines t d.0 q1 e c.define-token.ensures.token.2)
     (stages t d.0 q1 q2 e c.stage.ensures.event) few)
 
@@ -85,7 +85,7 @@ returns-clause-token g c =
       c.stage.ensures.token.1,
       a.0,
       subst (λ (z : WaitRef). IsNewIncarnation c.args.scope.now z) (sym same)
-          c.acquire-token.ensures.handed.new,
+          c.acquire-token.ensures.handle_handed_out.is_new,
     )
 
 pub returns-clause-run : goal.returns-clause-run
@@ -109,7 +109,7 @@ returns-clause-apart g c =
     ap (λ (z : WaitRef × ReadIoView). z.0) c.stage.ensures.token.0 ∙ e in
     λ u i x. staged-apart c.args.scope.now g.W.World.told g.W.World.relations
     c.args.context.now.actor.now.known q q1 q2 c.acquire-token.new.self t _ _ _ _
-    c.acquire-token.ensures.handed c.define-token.ensures.event
+    c.acquire-token.ensures.handle_handed_out c.define-token.ensures.event
     (defines t d.0 q1 e c.define-token.ensures.token.2)
     (stages t d.0 q1 q2 e c.stage.ensures.event) u i (x ∙ same)
 
@@ -124,8 +124,8 @@ returns-clause-runs g c = λ runs f.
     let q2 : Known = c.stage.new.actor.known in
     reads-later c.args.scope.now q q2 c.acquire-token.new.self c.acquire-token.new.self runs
     (advanced-defined c.args.scope.now g.W.World.told g.W.World.relations p q q1 q2
-    c.acquire-token.new.self t _ _ _ _ c.acquire-token.ensures.handed c.define-token.ensures.event
+    c.acquire-token.new.self t _ _ _ _ c.acquire-token.ensures.handle_handed_out
+    c.define-token.ensures.event
     (defines t d.0 q1 e c.define-token.ensures.token.2)
     (stages t d.0 q1 q2 e c.stage.ensures.event)).aims refl refl refl
-    (c.acquire-token.ensures.runs runs
-    (reads-later c.args.scope.now p p c.args.self.now _ runs (λ x i. i) refl refl refl f)))
+    (c.acquire-token.ensures.runs runs f))

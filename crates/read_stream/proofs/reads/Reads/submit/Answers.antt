@@ -18,13 +18,12 @@ use Rattle.read_stream.proofs.reads.Reads.submit.Goals as goal
 
 pub loop-token-init : goal.loop-token-init
 loop-token-init g c = record {
-  handed = c.requires.handed;
+  handed = c.requires.valid_context;
   context_advanced = context_advanced_refl c.args.context.now;
   issued = c.requires.issued;
   records = refl;
-  made = refl;
+  started = refl;
   free = refl;
-  io_budget = refl;
   runs = λ runs f. f;
 }
 
@@ -54,20 +53,19 @@ loop-token-preserved g c =
     c.submit_next.new.runner c.in-Some.ensures.same c.in-Some.ensures.told actor_advanced
     c.in-Some.ensures.stands_on) inv.context_advanced in
     record {
-      handed = valid_context_then c.requires.handed context_advanced;
+      handed = valid_context_then c.requires.valid_context context_advanced;
       context_advanced = context_advanced;
       issued = subst (λ (z : Buffer WaitRef). Issued c.args.scope.now g.W.World.told
           g.W.World.relations q (record s { batch = after; in_flight = z })) (sym items)
           (issued-submitted c.args.scope.now g.W.World.told g.W.World.relations p q s after t
           _ _ _ _ n c.in-Some.ensures.tokens inv.issued);
       records = (let k = inv.records in omega arith);
-      made = (let k = inv.made in omega arith);
+      started = (let k = inv.started in omega arith);
       free = inv.free;
-      io_budget = inv.io_budget;
       runs = λ runs f. subst (λ (z : Buffer WaitRef). ReadsForRuns c.args.scope.now q
           (record s { batch = after; in_flight = z }) runs) (sym items)
           (reads-submitted c.args.scope.now p q s after t _ _ _ _ runs n actor_advanced
-          (λ x j. (inv.issued.staged x j).0) (inv.runs runs f));
+          (λ x j. (inv.issued.staged_ios x j).0) (inv.runs runs f));
     }
 
 pub returns-clause-issued : goal.returns-clause-issued

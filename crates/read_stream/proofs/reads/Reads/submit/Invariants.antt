@@ -1,7 +1,7 @@
 use Rattle.std.proofs.Common.{◌≡◌, length, List}
 use Rattle.read_plan.specs.declared.runs.Run.{Run}
 use Rattle.read_stream.specs.IoContexts.{IsValidContext, ContextAdvanced}
-use Rattle.read_stream.specs.StreamIos.{Issued, ReadsForRuns, record_count, ios_allowed}
+use Rattle.read_stream.specs.StreamIos.{Issued, ReadsForRuns, record_count, ios_started}
 use Rattle.read_stream.proofs.reads.Reads.submit.Given as goal
 
 abbrev pub invariant-loop-token : goal.invariant-loop-token
@@ -12,9 +12,8 @@ invariant-loop-token g l = record {
       g.E.Execute.faults g.M.Method.stands_on l.initial.context l.context;
   issued : Issued l.scope g.W.World.told g.W.World.relations l.context.actor.now.known l.self;
   records : record_count l.self ≡ record_count l.initial.self;
-  made : ios_allowed l.self ≡ ios_allowed l.initial.self;
+  started : ios_started l.self ≡ ios_started l.initial.self;
   free : l.self.free ≡ l.initial.self.free;
-  io_budget : l.self.io_budget ≡ l.initial.self.io_budget;
   runs : (runs : List Run) → ReadsForRuns l.scope l.initial.context.actor.now.known l.initial.self
       runs → ReadsForRuns l.scope l.context.actor.now.known l.self runs;
 }

@@ -12,13 +12,13 @@ pub push-requires : goal.push-requires
 push-requires g c =
     let a = c.in-Some.ensures.some.1 in
     let b = c.in-Some.ensures.issued.room.ended in
-    let d = c.requires.issued.room.few in
+    let d = c.requires.issued.room.count_within in
     omega arith
 
 pub returns-in-Some-clause-issued : goal.returns-in-Some-clause-issued
 returns-in-Some-clause-issued g c =
     let a = c.in-Some.ensures.some.1 in
-    let d = c.requires.issued.room.few in
+    let d = c.requires.issued.room.count_within in
     (more-ended c.args.scope.now g.W.World.told g.W.World.relations
     c.settle_oldest.new.context.actor.now.known
     c.settle_oldest.new.self c.in-Some.io c.push.new.queue c.push.ensures (omega arith)
@@ -37,5 +37,6 @@ returns-in-None-clause-idle g c =
     subst (λ (z : ActorView). HasIdleHandle c.args.context.now.table.now.config z.known)
     (sym c.in-None.ensures.same_state.1)
     (idle-at-rest c.args.scope.now g.W.World.told g.W.World.relations _
-    c.args.context.now.actor.now.known c.args.self.now c.requires.handed.scope.1 c.requires.issued
-    c.requires.handed.backend c.requires.staged c.in-None.ensures.none)
+    c.args.context.now.actor.now.known c.args.self.now c.requires.valid_context.scope.1
+    c.requires.issued
+    c.requires.valid_context.backend c.requires.batch_empty c.in-None.ensures.none)

@@ -14,8 +14,8 @@ use Rattle.read_stream.proofs.ContextAdvancedLaws.{context_advanced_then}
 use Rattle.read_stream.proofs.StreamInvariantLaws.{same_stream_then}
 use Rattle.read_stream.proofs.stream.ReadStream.advance.Goals as goal
 
-pub serve-requires-clause-giving : goal.serve-requires-clause-giving
-serve-requires-clause-giving g c =
+pub serve-requires-clause-has_more_blocks : goal.serve-requires-clause-has_more_blocks
+serve-requires-clause-has_more_blocks g c =
     let s : ReadStream g.row.W.Denot g.row.S.Denot g.row.P.Denot = c.release_page.new.self in
     let n : ReadStream g.row.W.Denot g.row.S.Denot g.row.P.Denot = c.start_last.new.self in
     let a = c.look_ahead.ensures.consumer_unchanged in
@@ -24,7 +24,7 @@ serve-requires-clause-giving g c =
     subst (λ (z : Option ReadIoView). HasMoreBlocks z n.step)
     (sym (d.current ∙ (b.current ∙ a.current)))
     (subst (λ (z : Step g.row.P.Denot). HasMoreBlocks s.current z)
-    (sym (d.step ∙ (b.step ∙ a.step))) c.release_page.ensures.giving)
+    (sym (d.step ∙ (b.step ∙ a.step))) c.release_page.ensures.has_more_blocks)
 
 pub returns-clause-context_advanced : goal.returns-clause-context_advanced
 returns-clause-context_advanced g c = context_advanced_then c.serve.ensures.context_advanced
@@ -39,10 +39,10 @@ returns-clause-answer g c bytes =
     let b : ReadStream g.row.W.Denot g.row.S.Denot g.row.P.Denot = c.submit.new.self in
     let t : ReadStream g.row.W.Denot g.row.S.Denot g.row.P.Denot = c.start_last.new.self in
     let n : ReadStream g.row.W.Denot g.row.S.Denot g.row.P.Denot = c.serve.new.self in
-    let keeps = same_stream_then s l t c.release_page.ensures.look_ahead_unchanged.keeps
-    (same_stream_then l m t c.look_ahead.ensures.consumer_unchanged.keeps
-    (same_stream_then m b t c.submit.ensures.consumer_unchanged.keeps
-    c.start_last.ensures.consumer_unchanged.keeps)) in
+    let keeps = same_stream_then s l t c.release_page.ensures.look_ahead_unchanged.same_stream
+    (same_stream_then l m t c.look_ahead.ensures.consumer_unchanged.same_stream
+    (same_stream_then m b t c.submit.ensures.consumer_unchanged.same_stream
+    c.start_last.ensures.consumer_unchanged.same_stream)) in
     let given = c.start_last.ensures.consumer_unchanged.given
     ∙ (c.submit.ensures.consumer_unchanged.given
     ∙ (c.look_ahead.ensures.consumer_unchanged.given
@@ -60,16 +60,17 @@ returns-clause-follows g c =
     let b : ReadStream g.row.W.Denot g.row.S.Denot g.row.P.Denot = c.submit.new.self in
     let t : ReadStream g.row.W.Denot g.row.S.Denot g.row.P.Denot = c.start_last.new.self in
     let n : ReadStream g.row.W.Denot g.row.S.Denot g.row.P.Denot = c.serve.new.self in
-    let keeps = same_stream_then s l n c.release_page.ensures.look_ahead_unchanged.keeps
-    (same_stream_then l m n c.look_ahead.ensures.consumer_unchanged.keeps
-    (same_stream_then m b n c.submit.ensures.consumer_unchanged.keeps
-    (same_stream_then b t n c.start_last.ensures.consumer_unchanged.keeps c.serve.ensures.keeps)))
+    let keeps = same_stream_then s l n c.release_page.ensures.look_ahead_unchanged.same_stream
+    (same_stream_then l m n c.look_ahead.ensures.consumer_unchanged.same_stream
+    (same_stream_then m b n c.submit.ensures.consumer_unchanged.same_stream
+    (same_stream_then b t n c.start_last.ensures.consumer_unchanged.same_stream
+    c.serve.ensures.same_stream)))
     in
     let given = c.start_last.ensures.consumer_unchanged.given
     ∙ (c.submit.ensures.consumer_unchanged.given
     ∙ (c.look_ahead.ensures.consumer_unchanged.given
     ∙ c.release_page.ensures.look_ahead_unchanged.given)) in
-    let more = c.serve.ensures.given in
+    let more = c.serve.ensures.pages_counted in
     let is : c.of.result.value ≡ c.serve.new.context.actor.now = c.of.ensures in
     let was : n.scope.was.value ≡ s.scope.was.value =
     ap (λ (z : Scope g.row.W.Denot). z.was.value) keeps.scope in
@@ -101,7 +102,7 @@ returns-clause-follows g c =
       relation = ap (λ (z : Scope g.row.W.Denot). z.relation) keeps.scope;
       zero = ap (λ (z : Scope g.row.W.Denot). z.zero) keeps.scope;
       given = omega arith;
-      found = refl;
+      answer_is = refl;
       is_open = record {
         same = (
           ap (λ (z : ActorView). z.table) is

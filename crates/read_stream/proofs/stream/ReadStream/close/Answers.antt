@@ -2,8 +2,8 @@ use Rattle.std.proofs.Common.{arith}
 use Rattle.read_stream.proofs.ReadyIsAtRest.{at-rest}
 use Rattle.read_stream.proofs.stream.ReadStream.close.Goals as goal
 
-pub returns-clause-rest : goal.returns-clause-rest
-returns-clause-rest g c =
+pub returns-clause-no_owner_tokens : goal.returns-clause-no_owner_tokens
+returns-clause-no_owner_tokens g c =
     let rest = at-rest c.args.self.scope g.W.World.told g.W.World.relations
     c.end-taken_in.new.context.actor.now.known c.end-taken_in.new.self.reads _ _
     c.end-taken_in.ensures.issued c.end-taken_in.ensures.free.0.ready in
@@ -12,7 +12,7 @@ returns-clause-rest g c =
       λ t. (let over = rest.1 t in grind (arith, over)),
     )
 
-pub returns-clause-lived : goal.returns-clause-lived
-returns-clause-lived g c = λ h.
-    (let l = c.end-taken_in.ensures.issued.lived h in
+pub returns-clause-lives_bound : goal.returns-clause-lives_bound
+returns-clause-lives_bound g c = λ h.
+    (let l = c.end-taken_in.ensures.issued.lives_bound h in
     let n = c.end-taken_in.ensures.count.0 in grind (arith, l, n))

@@ -6,7 +6,7 @@ use Rattle.read_stream.specs.declared.stream.ReadStream.{ReadStream}
 use Rattle.read_stream.specs.IoContexts.{IsValidContext}
 use Rattle.read_stream.proofs.ContextAdvancedLaws.{valid_context_then, context_advanced_refl}
 use Rattle.read_stream.proofs.ContextAdvancedLaws.{context_advanced_then}
-use Rattle.read_stream.proofs.IoBudget.{all_idle}
+use Rattle.read_stream.proofs.FreeRecords.{all_idle}
 use Rattle.read_stream.proofs.StreamInvariantLaws.{consumer_unchanged_refl, consumer_unchanged_then}
 use Rattle.read_stream.proofs.stream.ReadStream.look_ahead.Goals as goal
 
@@ -24,7 +24,7 @@ is-true false e = absurd (cc)
 
 pub loop-self-init : goal.loop-self-init
 loop-self-init g c = record {
-  handed = c.requires.handed;
+  handed = c.requires.valid_context;
   context_advanced = context_advanced_refl c.args.context.now;
   underway = c.requires.underway;
   consumer_unchanged = consumer_unchanged_refl c.args.self.now;
@@ -36,7 +36,7 @@ loop-self-smaller g c =
     let n : ReadStream g.row.W.Denot g.row.S.Denot g.row.P.Denot = c.take_next.new.self in
     let few = c.take_next.ensures.few in
     let less = c.take_next.ensures.no_less in
-    let was = not-false s.over (c.wants_more.ensures.goes_on c.loop-self-test.true) in
+    let was = not-false s.over (c.wants_more.ensures.not_over c.loop-self-test.true) in
     let most = at-most n.over in
     ⊎_elim
     (λ o. let z = is-true n.over o in omega arith)
@@ -48,7 +48,7 @@ returns-clause-ended g c = λ none no_record.
     let p : Known = c.loop-self.context.actor.now.known in
     let u = c.loop-self.invariant.underway in
     let not = c.loop-self-test.false in
-    u.running.over (c.wants_more.ensures.idle (λ (t : c.wants_more.result ≡ true). cc)
+    u.running.none_left_if_over (c.wants_more.ensures.idle (λ (t : c.wants_more.result ≡ true). cc)
     (u.running.ahead ∙ ap (λ (z : List (QueuedBlock g.row.P.Denot)). length z) none)
     (all_idle g.S.BlockSource.left g.W.World.told g.W.World.relations g.W.World.handles p p s s u
     none no_record))
@@ -60,7 +60,7 @@ loop-self-preserved g c =
     let handed = valid_context_then inv.handed c.take_next.ensures.context_advanced in
     record {
       handed = subst (λ z. IsValidContext g.E.Execute.told g.E.Execute.relations g.W.World.told
-          g.W.World.relations z c.take_next.new.context) (sym consumer_unchanged.keeps.scope)
+          g.W.World.relations z c.take_next.new.context) (sym consumer_unchanged.same_stream.scope)
           handed;
       context_advanced = context_advanced_then c.take_next.ensures.context_advanced
           inv.context_advanced;

@@ -1,7 +1,7 @@
 use Rattle.std.proofs.Common.{ℕ, sym, arith, subst}
 use Rattle.read_stream.specs.declared.stream.ReadStream.{ReadStream}
-use Rattle.read_stream.specs.WantedBlocks.{IsWant, blocks_of_want}
-use Rattle.read_stream.proofs.IoBudget.{may_start}
+use Rattle.read_stream.specs.WantedBlocks.{IsValidWant, blocks_of_want}
+use Rattle.read_stream.proofs.FreeRecords.{may_start}
 use Rattle.read_stream.proofs.PushWantKeepsUnderway.{underway_pushed}
 use Rattle.read_stream.proofs.stream.ReadStream.look_for.Goals as goal
 
@@ -25,6 +25,6 @@ returns-clause-underway g c =
     c.start_pending.new.context.actor.now.known c.start_pending.new.context.actor.now.known n
     c.push_want.new.self c.args.want (c.start_pending.ensures.underway (blocks_of_want c.args.want)
     c.requires.underway) c.start_pending.ensures.none c.requires.want.1
-    (subst (λ (z : ℕ). IsWant z g.W.World.handles c.args.want)
+    (subst (λ (z : ℕ). IsValidWant z g.W.World.handles c.args.want)
     (sym c.start_pending.ensures.consumer_unchanged.settings.0) c.requires.want.0)
     c.push_want.ensures

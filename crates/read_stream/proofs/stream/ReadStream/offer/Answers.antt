@@ -8,13 +8,13 @@ use Rattle.read_stream.specs.declared.stream.ReadStream.{ReadStream}
 use Rattle.read_stream.specs.WantedBlocks.{pending_blocks}
 use Rattle.read_stream.specs.PagesAtHand.{record_blocks_left}
 use Rattle.read_stream.proofs.PlanChangeKeepsUnderway.{same_plan, underway_plan}
-use Rattle.read_stream.proofs.IoBudget.{may_start}
+use Rattle.read_stream.proofs.FreeRecords.{may_start}
 use Rattle.read_stream.proofs.StartKeepsUnderway.{underway_started}
 use Rattle.read_stream.proofs.WantedBlocks.{run_blocks_out, none_out, offer_keeps_blocks}
 use Rattle.read_stream.proofs.stream.ReadStream.offer.Goals as goal
 
-pub start-requires-clause-io_budget : goal.start-requires-clause-io_budget
-start-requires-clause-io_budget g c =
+pub start-requires-clause-few_ios : goal.start-requires-clause-few_ios
+start-requires-clause-few_ios g c =
     (may_start g.S.BlockSource.left g.W.World.told g.W.World.relations g.W.World.handles
     c.args.context.now.actor.now.known c.args.context.now.actor.now.known c.args.self.now
     c.args.self.now
@@ -41,7 +41,7 @@ returns-in-Flush-clause-underway g c =
     c.offer.result c.offer.ensures.answer
     ∙ ap (λ (z : Offer). run_blocks_out z ++ (pending_blocks pl.pending ++ [])) c.in-Flush.is)
     (subst (λ (z : ℕ). IsRun z run) c.requires.underway.running.combine c.in-Flush.ensures.flushed)
-    c.start.ensures.starts c.requires.free c.start.ensures.context_advanced.actor_advanced
+    c.start.ensures.starts_run c.requires.free c.start.ensures.context_advanced.actor_advanced
     c.start.ensures.issued
     c.start.ensures.few c.start.ensures.runs
 

@@ -1,8 +1,8 @@
 use Rattle.std.proofs.Common.{◌≡◌, ◌<◌, ◌+◌, ℕ, length, [], ◌++◌, List, map, refl, sym}
 use Rattle.std.proofs.Common.{ap, ◌∙◌, arith, subst}
 use Rattle.aio_word.specs.declared.Known.{Known}
-use Rattle.aio_handle.specs.Closing.{HasNoOwnerTokens}
-use Rattle.aio_handle.specs.Free.{IsRoom}
+use Rattle.aio_handle.specs.EndStates.{HasNoOwnerTokens}
+use Rattle.aio_handle.specs.FreeHandles.{IsRoom}
 use Rattle.aio_handle.specs.ContractViews.{ActorView}
 use Rattle.aio_callback.specs.ReadIoView.{ReadIoView}
 use Rattle.read_plan.specs.Plans.{PlanView}
@@ -13,7 +13,7 @@ use Rattle.read_stream.specs.declared.scope.Scope.{Scope}
 use Rattle.read_stream.specs.declared.queue.QueuedBlock.{QueuedBlock}
 use Rattle.read_stream.specs.StreamIos.{ReadsForRuns, Issued}
 use Rattle.read_stream.specs.declared.queue.Want.{Want}
-use Rattle.read_stream.specs.WantedBlocks.{IsWant, source_item, block_number, wanted_blocks}
+use Rattle.read_stream.specs.WantedBlocks.{IsValidWant, source_item, block_number, wanted_blocks}
 use Rattle.read_stream.specs.WantedBlocks.{pending_blocks, wanted_runs}
 use Rattle.read_stream.proofs.ReadsMatchRuns.{reads-none}
 use Rattle.read_stream.proofs.PushedList.{each-none}
@@ -40,7 +40,7 @@ returns-clause-is_open g c =
     let capacity : e.queue.capacity ≡ d.queue.capacity =
     ap (λ (z : Desk W P). z.queue.capacity) is in
     let free : length e.reads.free.items ≡ d.ios + 1 =
-    ap (λ (z : Reads W). length z.free.items) reads ∙ c.requires.desk.ready.all in
+    ap (λ (z : Reads W). length z.free.items) reads ∙ c.requires.desk.ready.free_count in
     let b : length e.reads.batch ≡ 0 =
     ap (λ (z : Reads W). length z.batch) reads
     ∙ ap (λ (z : List _). length z) c.requires.desk.ready.batch in
@@ -51,7 +51,6 @@ returns-clause-is_open g c =
     ap (λ (z : Reads W). length z.ended.items) reads
     ∙ ap (λ (z : List ReadIoView). length z) c.requires.desk.ready.ended in
     let taken : e.reads.taken_in ≡ 0 = ap (λ (z : Reads W). z.taken_in) reads in
-    let io_budget : e.reads.io_budget ≡ 0 = ap (λ (z : Reads W). z.io_budget) reads in
     let a : ActorView = c.args.actor.now in
     let was : ActorView = c.of.result.value in
     let now : ActorView = c.of-2.result.value in
@@ -69,7 +68,7 @@ returns-clause-is_open g c =
     } in
     let rest : HasNoOwnerTokens was.known = subst (λ (z : ActorView). HasNoOwnerTokens z.known)
     (sym is-was)
-    c.requires.rest in
+    c.requires.no_owner_tokens in
     let issued : Issued scope g.W.World.told g.W.World.relations was.known (reset_reads d.reads) =
     new-stream-issued scope g.W.World.told g.W.World.relations d.reads c.requires.desk.ready rest
     small (subst (λ (z : ActorView). IsRoom z.known.config z.known c.room.result) (sym is-was)
@@ -102,54 +101,53 @@ returns-clause-is_open g c =
       backend = subst (λ (z : ActorView). z.known.number < z.known.config.backends) (sym is-now)
           c.requires.backend;
       between = record {
-        steady = record {
-          place = c.requires.relation;
+        invariant = record {
+          relation_in_range = c.requires.relation;
           settings = rw (combine, ios, limit, segment) c.requires.desk.settings;
           scope = (sym combine, ap (λ (z : ℕ). z + 1) (sym ios));
           zero = sym zeroes;
           queue = let l = c.requires.desk.most_blocks in omega arith;
           wants = let l = c.requires.desk.most_wants in omega arith;
-          short = omega arith;
+          list_within_most = omega arith;
           issued = subst (λ (z : Known). Issued scope g.W.World.told g.W.World.relations z e.reads)
               (ap (λ (z : ActorView). z.known) (is-was ∙ sym is-now))
               (subst (λ (z : Reads W). Issued scope g.W.World.told g.W.World.relations was.known z)
               (sym reads) issued);
-          staged = omega arith;
+          batch_within = omega arith;
           current = tt;
-          all = omega arith;
+          record_total = omega arith;
         };
-        made = omega arith;
+        few_ios = omega arith;
         running = record {
-          few = omega arith;
+          given_within = omega arith;
           readable = none-given (reader_of d.zero g.W.World.told) _;
           blocks = ap
               (λ (z : List (QueuedBlock P)). map source_item z
               ++ g.S.BlockSource.left c.args.source) items
               ∙ sym (ap (λ z. g.S.BlockSource.left z) src);
-          over = λ x. absurd (cc);
-          front = ap (λ (z : List (QueuedBlock P)). map block_number z) items
+          none_left_if_over = λ x. absurd (cc);
+          queue_order = ap (λ (z : List (QueuedBlock P)). map block_number z) items
               ∙ sym (ap (λ (z : List Want). wanted_blocks z
               ++ (pending_blocks c.new-plan.result.pending ++ [])) wants
               ∙ ap (λ (z : List ℕ). z ++ []) pending);
-          wants = each-none (λ (x : Want). IsWant e.combine g.W.World.handles x) e.wants.items
+          wants = each-none (λ (x : Want). IsValidWant e.combine g.W.World.handles x) e.wants.items
               wants;
           runs = subst (λ (z : List Want). ReadsForRuns scope now.known e.reads (wanted_runs z))
               (sym wants) (reads-none scope now.known e.reads
               (ap (λ (z : Reads W). z.ended.items) reads ∙ c.requires.desk.ready.ended)
               (ap (λ (z : Reads W). z.in_flight.items) reads ∙ c.requires.desk.ready.in_flight)
               (ap (λ (z : Reads W). z.batch) reads ∙ c.requires.desk.ready.batch));
-          io_budget = omega arith;
+          few_ios = omega arith;
           ahead = ap (λ (z : PlanView). z.blocks_ahead) plan ∙ sym none;
-          within = omega arith;
+          queue_within_limit = omega arith;
           in_use = (let z = ap (λ (z : PlanView). z.ios_in_progress) plan in omega arith);
-          spare = omega arith;
+          spare_record = omega arith;
           combine = ap (λ (z : PlanView). z.combine) plan ∙ sym combine;
           max_ios = ap (λ (z : PlanView). z.max_ios) plan ∙ sym ios;
           limit = ap (λ (z : PlanView). z.limit) plan ∙ sym limit;
-          most = omega arith;
         };
-        lent = (refl, refl);
-        stopped = tt;
-        kept = tt;
+        lends_page = (refl, refl);
+        stop_answer = tt;
+        unread_record = tt;
       };
     }

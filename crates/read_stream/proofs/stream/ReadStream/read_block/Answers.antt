@@ -15,8 +15,8 @@ use Rattle.read_stream.proofs.SameQueueKeepsUnderway.{same_queue_popped, with_re
 use Rattle.read_stream.proofs.RecordReachesBlock.{reaches_read}
 use Rattle.read_stream.proofs.stream.ReadStream.read_block.Goals as goal
 
-pub read_run-requires-clause-io_budget : goal.read_run-requires-clause-io_budget
-read_run-requires-clause-io_budget g c =
+pub read_run-requires-clause-few_ios : goal.read_run-requires-clause-few_ios
+read_run-requires-clause-few_ios g c =
     may_read g.S.BlockSource.left g.W.World.told g.W.World.relations g.W.World.handles
     c.args.context.now.actor.now.known c.args.self.now (c.args.block ∷ []) c.requires.underway
     (omega arith)
@@ -35,10 +35,10 @@ returns-clause-reaches g c =
     c.args.context.now.actor.now.known
     reads c.in-Some.io (drop 1 reads.free.items) queue
     (first-of reads.free.items c.in-Some.io (sym c.pop_front.ensures.value ∙ c.in-Some.is))
-    c.pop_front.ensures.items c.requires.underway.steady.issued in
+    c.pop_front.ensures.items c.requires.underway.invariant.issued in
     let records = less.2 in
     let free = less.3 in
-    let all = c.requires.underway.steady.all in
+    let all = c.requires.underway.invariant.record_total in
     let in_use = c.requires.underway.running.in_use in
     let none : count_some s.current ≡ 0 =
     ap (λ (z : Option ReadIoView). count_some z) c.requires.none.0 in

@@ -13,13 +13,13 @@ use Rattle.read_stream.proofs.BlockAtHand.{behind_first}
 use Rattle.read_stream.proofs.RecordReachesBlock.{reaches_read}
 use Rattle.read_stream.proofs.stream.ReadStream.read_rest.Goals as goal
 
-pub read_run-requires-clause-io_budget : goal.read_run-requires-clause-io_budget
-read_run-requires-clause-io_budget g c =
+pub read_run-requires-clause-few_ios : goal.read_run-requires-clause-few_ios
+read_run-requires-clause-few_ios g c =
     let s : ReadStream g.row.W.Denot g.row.S.Denot g.row.P.Denot = c.args.self.now in
     let io : ReadIoView = c.in-Some.io in
     let is : s.current ≡ Some io = sym c.take.ensures.value ∙ c.in-Some.is in
     let (no_pin, has, behind, spent) = behind_first g.W.World.told s.scope.relation c.args.block
-    s.pin s.current io c.requires.reaches.at_hand is c.requires.behind in
+    s.pin s.current io c.requires.reaches.at_hand is c.requires.block_behind_first in
     let many : length (blocks_at_hand s.current c.args.block) ≡ io.first + io.count - c.args.block =
     ap (λ (z : Option ReadIoView). length (blocks_at_hand z c.args.block)) is
     ∙ length-range_with_len c.args.block (io.first + io.count - c.args.block) in
@@ -36,7 +36,7 @@ returns-clause-reaches g c =
     let io : ReadIoView = c.in-Some.io in
     let is : s.current ≡ Some io = sym c.take.ensures.value ∙ c.in-Some.is in
     let (no_pin, has, behind, spent) = behind_first g.W.World.told s.scope.relation c.args.block
-    s.pin s.current io c.requires.reaches.at_hand is c.requires.behind in
+    s.pin s.current io c.requires.reaches.at_hand is c.requires.block_behind_first in
     let counts = c.count.ensures.value in
     let starts = c.first.ensures in
     let run : Run = record {
@@ -46,7 +46,7 @@ returns-clause-reaches g c =
     let many : run.count ≡ io.first + io.count - c.args.block = omega arith in
     let m : ReadStream g.row.W.Denot g.row.S.Denot g.row.P.Denot =
     record s { current = c.take.new.self } in
-    let all = c.requires.reaches.underway.steady.all in
+    let all = c.requires.reaches.underway.invariant.record_total in
     let one : count_some s.current ≡ 1 = ap (λ (z : Option ReadIoView). count_some z) is in
     reaches_read g.S.BlockSource.left g.W.World.told g.W.World.relations g.W.World.handles
     c.args.context.now.actor.now.known c.read_run.new.context.actor.now.known s m

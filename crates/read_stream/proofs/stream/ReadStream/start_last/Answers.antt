@@ -1,5 +1,5 @@
 use Rattle.std.proofs.Common.{[]}
-use Rattle.read_stream.proofs.IoBudget.{all_free}
+use Rattle.read_stream.proofs.FreeRecords.{all_free}
 use Rattle.read_stream.proofs.stream.ReadStream.start_last.Goals as goal
 
 pub start_pending-requires-clause-underway : goal.start_pending-requires-clause-underway

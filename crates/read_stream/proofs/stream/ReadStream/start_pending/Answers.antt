@@ -6,12 +6,12 @@ use Rattle.read_plan.specs.declared.runs.Run.{Run}
 use Rattle.read_stream.specs.declared.stream.ReadStream.{ReadStream}
 use Rattle.read_stream.specs.WantedBlocks.{pending_blocks}
 use Rattle.read_stream.proofs.PlanChangeKeepsUnderway.{same_plan}
-use Rattle.read_stream.proofs.IoBudget.{may_start, some_pending}
+use Rattle.read_stream.proofs.FreeRecords.{may_start, some_pending}
 use Rattle.read_stream.proofs.StartKeepsUnderway.{underway_started}
 use Rattle.read_stream.proofs.stream.ReadStream.start_pending.Goals as goal
 
-pub start-requires-clause-io_budget : goal.start-requires-clause-io_budget
-start-requires-clause-io_budget g c =
+pub start-requires-clause-few_ios : goal.start-requires-clause-few_ios
+start-requires-clause-few_ios g c =
     let s : ReadStream g.row.W.Denot g.row.S.Denot g.row.P.Denot = c.args.self.now in
     let some = some_pending s.plan.combine s.plan.pending c.in-Some.run'
     (sym c.take_pending.ensures.run ∙ c.in-Some.is) c.in-Some.ensures.each in
@@ -42,6 +42,6 @@ returns-in-Some-clause-underway g c = λ behind u.
     (sym c.take_pending.ensures.run ∙ c.in-Some.is)
     ∙ sym (ap (λ (z : PlanView). run_blocks run ++ (pending_blocks z.pending ++ behind)) is))
     (subst (λ (z : ℕ). IsRun z run) u.running.combine c.in-Some.ensures.each)
-    c.start.ensures.starts c.requires.free c.start.ensures.context_advanced.actor_advanced
+    c.start.ensures.starts_run c.requires.free c.start.ensures.context_advanced.actor_advanced
     c.start.ensures.issued
     c.start.ensures.few c.start.ensures.runs

@@ -34,13 +34,13 @@ returns-clause-reaches g c =
     s.desk.now.reads (wanted_runs z)) first c.requires.underway.running.runs) in
     let far = same_far m.plan c.waited.new.self _ c.waited.ensures in
     let none : length c.oldest_record.new.self.batch ≡ 0 =
-    ap (λ (z : List _). length z) (all.1 ∙ c.requires.staged) in
+    ap (λ (z : List _). length z) (all.1 ∙ c.requires.batch_empty) in
     reaches_run g.S.BlockSource.left g.W.World.told g.W.World.relations g.W.World.handles
     c.args.context.now.actor.now.known c.oldest_record.new.context.actor.now.known s m
     c.oldest_record.new.self
     c.waited.new.self c.in-Some.io c.args.run ws c.args.block c.requires.none.0 c.requires.none.1
-    first c.requires.front c.requires.underway c.oldest_record.ensures.issued
+    first c.requires.front_block c.requires.underway c.oldest_record.ensures.issued
     c.in-Some.ensures.some.0
     (subst (λ (z : Option ReadIoView). IsRecordForRun c.args.run z) c.in-Some.is one.0)
     (omega arith)
-    c.in-Some.ensures.some.1 all.2 all.0 all.3 one.1 c.pop_want.ensures far.0 far.1
+    c.in-Some.ensures.some.1 all.2 all.0 one.1 c.pop_want.ensures far.0 far.1

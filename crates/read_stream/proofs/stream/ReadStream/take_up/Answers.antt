@@ -21,7 +21,7 @@ look-requires-clause-underway g c =
     ∙ (c.in-Some-Look.is ∙ ap (λ (z : Want). Some z) c.in-Some-Look.field-0-is)) in
     let same = front_want g.S.BlockSource.left g.W.World.told g.W.World.relations
     g.W.World.handles c.args.context.now.actor.now.known s w ws b c.args.block first refl
-    c.requires.front c.requires.underway in
+    c.requires.front_block c.requires.underway in
     subst (λ (z : ℕ). UnderwayWith g.S.BlockSource.left g.W.World.told g.W.World.relations
     g.W.World.handles (z ∷ []) [] 0 c.args.context.now.actor.now.known n) same
     (underway_popped g.S.BlockSource.left g.W.World.told g.W.World.relations g.W.World.handles
@@ -39,7 +39,7 @@ join-requires-clause-underway g c =
     ∙ (c.in-Some-Join.is ∙ ap (λ (z : Want). Some z) c.in-Some-Join.field-0-is)) in
     let same = front_want g.S.BlockSource.left g.W.World.told g.W.World.relations
     g.W.World.handles c.args.context.now.actor.now.known s w ws b c.args.block first refl
-    c.requires.front c.requires.underway in
+    c.requires.front_block c.requires.underway in
     subst (λ (z : ℕ). UnderwayWith g.S.BlockSource.left g.W.World.told g.W.World.relations
     g.W.World.handles (z ∷ []) [] 0 c.args.context.now.actor.now.known n) same
     (underway_popped g.S.BlockSource.left g.W.World.told g.W.World.relations g.W.World.handles
@@ -61,4 +61,4 @@ unreachable-requires g c =
     let none = nothing-of s.desk.now.wants.items (sym c.next_want.ensures ∙ c.in-None.is) in
     no_front g.S.BlockSource.left g.W.World.told g.W.World.relations g.W.World.handles
     c.args.context.now.actor.now.known s c.args.block none (c.requires.last none c.requires.none.0)
-    c.requires.front c.requires.underway
+    c.requires.front_block c.requires.underway

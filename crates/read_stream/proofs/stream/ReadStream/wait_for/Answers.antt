@@ -35,5 +35,5 @@ returns-clause-underway g c = λ hand v.
     (underway_reads g.S.BlockSource.left g.W.World.told g.W.World.relations g.W.World.handles p q n
     _ _ _ _ actor_advanced reads hand [] 0
     (issued-taking-up n.scope [] g.W.World.told g.W.World.relations p q reads _ _ _ _
-    c.wait.ensures.marks v.steady.issued) v.steady.staged refl refl refl refl
+    c.wait.ensures.marks v.invariant.issued) v.invariant.batch_within refl refl refl
     (λ runs a. reads-later n.scope p q reads reads runs actor_advanced.aims refl refl refl a) v)

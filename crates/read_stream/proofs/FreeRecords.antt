@@ -1,4 +1,4 @@
--- Which records are free, and how many I/Os may be made.
+-- Which records are free, and how many I/Os a stream has started.
 use Rattle.std.proofs.Common.{◌≡◌, ℕ, ◌+◌, ◌<◌, ◌≤◌, List, [], ◌∷◌, ◌++◌, length, map, refl, ap}
 use Rattle.std.proofs.Common.{arith, length-append}
 use Rattle.std.specs.Prelude.{Option, Some, None}
@@ -16,10 +16,12 @@ use Rattle.read_stream.specs.declared.reads.Reads.{Reads}
 use Rattle.read_stream.specs.declared.scope.Scope.{Scope}
 use Rattle.read_stream.specs.declared.stream.ReadStream.{ReadStream}
 use Rattle.read_stream.specs.StreamIos.{ReadsForRuns, InFlightForRuns, record_count, run_of}
+use Rattle.read_stream.specs.StreamIos.{ios_started}
 use Rattle.read_stream.specs.WantedBlocks.{block_number, wanted_runs, pending_blocks}
 use Rattle.read_stream.specs.PagesAtHand.{count_some, record_blocks_left}
 use Rattle.read_stream.specs.StreamState.{Underway, UnderwayWith}
 use Rattle.read_stream.proofs.WantedBlocks.{few_in_queue}
+use Rattle.read_stream.proofs.QueueFront.{queue_within_list}
 
 -- nothing is in flight for no run
 in-flight-long : {W : Type 0} (c : Scope W) (p : Known) (ts : List WaitRef) (runs : List Run)
@@ -68,21 +70,23 @@ module _ {W S P : Type 0} (left : S → List (ℕ × P)) (told : Option Told)
   few_blocks behind u =
       let few = few_in_queue s.desk.now.combine handles s.desk.now.wants.items
       (map block_number s.desk.now.queue.items) rest (pending_blocks s.plan.pending) behind
-      u.running.wants u.running.front in
+      u.running.wants u.running.queue_order in
       let n = length-map s.desk.now.queue.items block_number in
       (omega arith, omega arith)
 
-  -- one more I/O may be made for a block that is pending or behind
+  -- one more I/O may be started for a block that is pending or behind
   pub may_start : (behind : List ℕ)
       → UnderwayWith left told relations handles rest behind 0 p s
       → 1 ≤ length (pending_blocks s.plan.pending) + length behind
-      → (0 < s.desk.now.reads.io_budget)
+      → (ios_started s.desk.now.reads < s.scope.most)
       × (length s.desk.now.wants.items < s.desk.now.wants.capacity)
   may_start behind u one =
       let few = few_blocks behind u in
-      let c = u.running.io_budget in
-      let w = u.running.within in
-      let r = u.steady.wants in
+      let c = u.running.few_ios in
+      let w = u.running.queue_within_limit in
+      let r = u.invariant.wants in
+      let all = queue_within_list left told relations handles rest behind 0 p s u.running in
+      let short = u.invariant.list_within_most in
       (omega arith, omega arith)
 
   -- where the queue is empty no I/O is in progress
@@ -97,7 +101,7 @@ module _ {W S P : Type 0} (left : S → List (ℕ × P)) (told : Option Told)
       (omega arith) in
       let some : count_some s.current ≡ 0 =
       ap (λ (z : Option ReadIoView). count_some z) no_record in
-      let all = u.steady.all in
+      let all = u.invariant.record_total in
       let in_use = u.running.in_use in omega arith
 
 module _ {W S P : Type 0} (left : S → List (ℕ × P)) (told : Option Told)
@@ -113,6 +117,6 @@ module _ {W S P : Type 0} (left : S → List (ℕ × P)) (told : Option Told)
       zero in
       let some : count_some s.current ≡ 0 =
       ap (λ (z : Option ReadIoView). count_some z) no_record in
-      let all = u.steady.all in
-      let total = u.steady.scope.1 in
-      let ios = u.steady.settings.ios_in in omega arith
+      let all = u.invariant.record_total in
+      let total = u.invariant.scope.1 in
+      let ios = u.invariant.settings.ios_in in omega arith
