@@ -23,9 +23,6 @@ range_of r first count k e here =
     ap (λ (x : Request). x.relation)
     (mapped (block_entry r) (range_with_len first count) k e here).1
 
-none_of : (r : ℕ) → AreOf r []
-none_of r k e here = absurd (cc)
-
 first_of : (r : ℕ) (e : Request) (es : List Request) → AreOf r (e ∷ es) → e.relation ≡ r
 first_of r e es all = all 0 e refl
 

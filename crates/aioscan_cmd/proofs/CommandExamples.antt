@@ -3,7 +3,7 @@ use Rattle.std.proofs.Common.{◌≡◌, ℕ, List, [], ◌∷◌, refl, false}
 use Rattle.std.specs.Prelude.{Option, Some, None}
 use Rattle.scan_rounds.specs.declared.settings.MethodKind.TheVariants as method
 use Rattle.scan_rounds.specs.declared.settings.ScanSettings.{ScanSettings}
-use Rattle.aioscan_cmd.specs.Command.{Command, relations_of, relation_number}
+use Rattle.aioscan_cmd.specs.Command.{Command, command_relations, relation_number}
 use Rattle.vis_map.specs.declared.map.Skip.TheVariants as skip
 use Rattle.aioscan_cmd.specs.RequestList.{request, all_file_requests}
 
@@ -43,12 +43,12 @@ command_with first last names =
     }
 
 -- a name that comes again is no new relation
-g_is_the_second : (relations_of (command_with None None (f ∷ g ∷ f ∷ [])) ≡ f ∷ g ∷ [])
+g_is_the_second : (command_relations (command_with None None (f ∷ g ∷ f ∷ [])) ≡ f ∷ g ∷ [])
     × (relation_number g (f ∷ g ∷ []) ≡ 1)
 g_is_the_second = (refl, refl)
 
 -- the map of a file is the relation behind it
-map_is_the_second : relations_of
+map_is_the_second : command_relations
     (record (command_with None None (f ∷ [])) {
       map = Some (record { name = g; skip = skip.Visible });
     })

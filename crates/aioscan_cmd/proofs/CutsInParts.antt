@@ -50,7 +50,7 @@ module _ (text_of : TextOf) where
         whole_is = whole_is;
         some = λ none. some (sym next_is ∙ none);
         begun = begun;
-        grew = SinkGrew-same b a _ _
+        output_grew = SinkGrew-same b a _ _
             (ap (λ (l : List ℕ). l ++ take begun next) (sym first_is)
             ∙ ap (λ (l : List ℕ). texts (take whole pages) ++ take begun l) (sym next_is)) grew;
       }
@@ -90,7 +90,7 @@ module _ (text_of : TextOf) where
         cut_by (xs ++ ys) pages b a whole cut.n cut.begun (texts (take whole pages))
         (texts (pages_of_part xs cut.n pages)) (omega (arith, length-append xs ys))
         (cut.whole_is ∙ ap (λ (l : List Part). length (blocks_of_parts l)) (sym same_begin))
-        refl (ap texts same_pages) cut.some cut.grew
+        refl (ap texts same_pages) cut.some cut.output_grew
 
   -- parts that were written before
   module _ (xs ys : List Part) (ps qs : List Page) (b m a : Option (List ℕ)) (k : ℕ)
@@ -145,7 +145,7 @@ module _ (text_of : TextOf) where
           (SinkGrew-same b a _ _
           (sym (append_assoc (texts ps) (texts (take k qs)) (take cut.begun next)))
           (SinkGrew-append b m a (texts ps) (texts (take k qs) ++ take cut.begun next) grew
-          cut.grew))
+          cut.output_grew))
 
   -- of more pages the first are the same
   module _ (parts : List Part) (ps rest : List Page) (b a : Option (List ℕ)) (whole : ℕ)
@@ -181,7 +181,7 @@ module _ (text_of : TextOf) where
           (ap texts longer.1 ∙ listing-append text_of (pages_of_part parts cut.n ps) longer.0)
           (λ none. cut.some (no_front short more none))
           (SinkGrew-same b a _ _ (ap (λ (l : List ℕ). texts (take whole ps) ++ l) begun.1)
-          cut.grew)
+          cut.output_grew)
 
 -- another text of the same pages, where it is the same of each part of them
 pub cut_in_text : (text_of other : TextOf) (parts : List Part) (pages : List Page)
@@ -193,7 +193,7 @@ cut_in_text text_of other parts pages b a whole same cut =
     let size = length (get_or parts n []) in
     cut_by other parts pages b a whole n cut.begun (listing text_of (take whole pages))
     (listing text_of (pages_of_part parts n pages)) cut.inside cut.whole_is (sym (same 0 whole))
-    (sym (same (length (blocks_of_parts (take n parts))) size)) cut.some cut.grew
+    (sym (same (length (blocks_of_parts (take n parts))) size)) cut.some cut.output_grew
 
 -- each way to stop
 module _ (text_of other : TextOf) (xs ys : List Part) (ps qs : List Page)

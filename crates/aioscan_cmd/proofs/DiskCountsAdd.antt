@@ -1,25 +1,13 @@
 -- Sums over disks: those that are taken back one after the other, and those behind the backends'.
 use Rattle.std.proofs.Common.{◌≡◌, ℕ, ◌+◌, ◌<◌, List, [], ◌∷◌, ◌++◌, take, drop, sum_by}
-use Rattle.std.proofs.Common.{refl, ap, ◌∙◌, subst, arith, inl, inr}
+use Rattle.std.proofs.Common.{ap, ◌∙◌, subst, arith, inl, inr}
 use Rattle.std.proofs.lemmas.Bool.{cases_lt}
 use Rattle.std.proofs.lemmas.List.{take-append-drop}
-use Rattle.std.proofs.lemmas.List.Sums.{sum_by-append, sum_by-cons}
-use Rattle.aio_disk.specs.Counts.{RisesBy, raised_by}
+use Rattle.std.proofs.lemmas.List.Sums.{sum_by-append}
+use Rattle.aio_disk.specs.Counts.{RisesIfPositive, count_plus}
 
-pub none_yet : (before : ℕ) → RisesBy 0 before before
-none_yet before = record {
-  later = omega arith;
-  risen = λ some. absurd (omega (arith, some));
-  unchanged = λ none. refl;
-}
-
--- the sum with one more
-pub sum_more : {X : Type 0} (f : X → ℕ) (xs : List X) (x : X)
-    → sum_by f (xs ++ x ∷ []) ≡ sum_by f xs + f x
-sum_more f xs x = omega (arith, sum_by-append f xs (x ∷ []), sum_by-cons f x [])
-
-pub rises_more : (sum one sum' before middle now : ℕ) → sum' ≡ sum + one → RisesBy sum before middle
-    → RisesBy one middle now → RisesBy sum' before now
+pub rises_more : (sum one sum' before middle now : ℕ) → sum' ≡ sum + one → RisesIfPositive sum before middle
+    → RisesIfPositive one middle now → RisesIfPositive sum' before now
 rises_more sum one sum' before middle now is first second =
     let early = first.later in
     let late = second.later in record {
@@ -35,7 +23,7 @@ rises_more sum one sum' before middle now is first second =
     }
 
 pub raised_more : (sum one sum' before middle now : ℕ) → sum' ≡ sum + one
-    → middle ≡ raised_by sum before → now ≡ raised_by one middle → now ≡ raised_by sum' before
+    → middle ≡ count_plus sum before → now ≡ count_plus one middle → now ≡ count_plus sum' before
 raised_more sum one sum' before middle now is first second = omega (arith, first, second)
 
 -- where all have counted nothing, those behind the first n have not

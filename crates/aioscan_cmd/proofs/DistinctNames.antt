@@ -13,7 +13,7 @@ use Rattle.std.specs.Str.{bytes_eq}
 use Rattle.std.proofs.lemmas.Slice.Eq.{bytes_eq-Decides}
 use Rattle.std.proofs.lemmas.List.Elements.{filter-append}
 use Rattle.std.proofs.lemmas.List.Folds.{list_any-append, list_any_at}
-use Rattle.aioscan_cmd.specs.Command.{MapOption, distinct, relations_with}
+use Rattle.aioscan_cmd.specs.Command.{MapOption, without_duplicates, relations_with}
 
 -- whether a name is among others
 abbrev pub known : List ℕ → List (List ℕ) → Bool
@@ -52,10 +52,11 @@ known_first true x y names is = refl
 known_first false x y names is = known_others x y names is
 
 -- the distinct names have the same names
-pub known-distinct : (x : List ℕ) (names : List (List ℕ)) → known x (distinct names) ≡ known x names
+pub known-distinct : (x : List ℕ) (names : List (List ℕ)) → known x (without_duplicates names)
+    ≡ known x names
 known-distinct x [] = refl
 known-distinct x (y ∷ names) =
-    known_first (bytes_eq y x) x y (distinct names) refl
+    known_first (bytes_eq y x) x y (without_duplicates names) refl
     ∙ ap (λ (b : Bool). bytes_eq y x || b) (known-distinct x names)
 
 -- one more name
@@ -104,21 +105,21 @@ more_by false false x y ds is in_it =
     ∙ sym (rw absent refl)
 
 pub distinct-more : (names : List (List ℕ)) (x : List ℕ)
-    → distinct (names ++ x ∷ []) ≡ with_name (distinct names) x
+    → without_duplicates (names ++ x ∷ []) ≡ with_name (without_duplicates names) x
 distinct-more [] x = refl
 distinct-more (y ∷ names) x =
-    let ds = distinct names in
+    let ds = without_duplicates names in
     ap (λ (l : List (List ℕ)). y ∷ filter (is_not y) l) (distinct-more names x)
     ∙ more_by (bytes_eq y x) (known x ds) x y ds refl (known_others x y ds)
 
 -- there are no more of them
-pub distinct-length : (names : List (List ℕ)) → length (distinct names) ≤ length names
+pub distinct-length : (names : List (List ℕ)) → length (without_duplicates names) ≤ length names
 distinct-length [] = omega arith
 distinct-length (y ∷ names) =
     omega (
       arith,
-      length-filter (is_not y) (distinct names),
-      count_by-le-length (is_not y) (distinct names),
+      length-filter (is_not y) (without_duplicates names),
+      count_by-le-length (is_not y) (without_duplicates names),
       distinct-length names,
     )
 
@@ -138,7 +139,7 @@ known_relation : (x : List ℕ) (names : List (List ℕ)) (map : Option MapOptio
     → known x names ≡ true → known x (relations_with names map) ≡ true
 known_relation x names None there = known-distinct x names ∙ there
 known_relation x names (Some map) there =
-    list_any-append (λ other. bytes_eq other x) (distinct names) (map.name ∷ [])
+    list_any-append (λ other. bytes_eq other x) (without_duplicates names) (map.name ∷ [])
     ∙ ap (λ (b : Bool). b || known x (map.name ∷ [])) (known-distinct x names ∙ there)
 
 -- and has its place there
@@ -162,7 +163,7 @@ module _ {X : Type 0} (text : X → List ℕ) where
   -- a name that is there is not added, and one that is not there is
   pub add_known : (xs : List X) (name : List ℕ)
       → list_any (λ x. bytes_eq (text x) name) xs ≡ true → (names : List (List ℕ))
-      → map text xs ≡ distinct names → map text xs ≡ distinct (names ++ name ∷ [])
+      → map text xs ≡ without_duplicates names → map text xs ≡ without_duplicates (names ++ name ∷ [])
   add_known xs name there names same =
       let known_it : known name (map text xs) ≡ true = known-map name xs ∙ there in
       let P : List (List ℕ) → Type 0 = λ l. l ≡ with_name l name in
@@ -170,7 +171,8 @@ module _ {X : Type 0} (text : X → List ℕ) where
 
   pub add_new : (xs : List X) (x : X) (name : List ℕ)
       → list_any (λ y. bytes_eq (text y) name) xs ≡ false → text x ≡ name → (names : List (List ℕ))
-      → map text xs ≡ distinct names → map text (xs ++ x ∷ []) ≡ distinct (names ++ name ∷ [])
+      → map text xs ≡ without_duplicates names → map text (xs ++ x ∷ []) ≡ without_duplicates (names ++ name
+      ∷ [])
   add_new xs x name none is names same =
       let new : known name (map text xs) ≡ false = known-map name xs ∙ none in
       let P : List (List ℕ) → Type 0 = λ l. l ++ name ∷ [] ≡ with_name l name in

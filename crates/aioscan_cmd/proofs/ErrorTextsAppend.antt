@@ -2,7 +2,8 @@
 use Rattle.std.proofs.Common.{◌≡◌, ◌≢◌, ◌≤◌, ℕ, List, [], ◌∷◌, ◌++◌, refl, sym, ◌∙◌, subst, arith}
 use Rattle.std.proofs.Common.{append_assoc, append-nil, Bool, true, false}
 use Rattle.std.specs.Prelude.{Option, not}
-use Rattle.aioscan_cmd.specs.ErrorLine.{ErrorStream, IsToldOnErr, Tells, Warns, error_stream}
+use Rattle.aioscan_cmd.specs.ErrorLine.{ErrorStream, IsToldOnErr, AppendsErrorText, AppendsWarnings}
+use Rattle.aioscan_cmd.specs.ErrorLine.{error_stream}
 use Rattle.aioscan_cmd.specs.declared.report.Line.{Line}
 use Rattle.aioscan_cmd.specs.declared.report.Line.TheVariants.{Whole}
 use Rattle.aioscan_cmd.proofs.SinkTextsAppend.{SinkGrew-append, SinkGrew-nothing}
@@ -53,9 +54,10 @@ shown false e = absurd (cc)
 -- a text that was written behind what was told whole
 pub tells_written : (text : List ℕ) (line before : Line) (m a : Option (List ℕ)) (fm fa : ℕ)
     → before ≡ Whole → fm ≤ fa → IsToldOnErr text line m a fm fa
-    → Tells text (error_stream before m fm) (error_stream line a fa)
+    → AppendsErrorText text (error_stream before m fm) (error_stream line a fa)
 tells_written text line before m a fm fa whole later told =
-    let P : Line → Type 0 = λ l. Tells text (error_stream l m fm) (error_stream line a fa) in
+    let P : Line → Type 0 = λ l. AppendsErrorText text (error_stream l m fm) (error_stream line a
+    fa) in
     subst P (sym whole) (record {
       later = later;
       more = λ so_far begun faults earlier first.
@@ -64,7 +66,7 @@ tells_written text line before m a fm fa whole later told =
 
 -- and one that was not, since what was told before was cut off
 pub tells_cut : (text : List ℕ) (line : Line) (m : Option (List ℕ)) (fm : ℕ) → line ≢ Whole
-    → Tells text (error_stream line m fm) (error_stream line m fm)
+    → AppendsErrorText text (error_stream line m fm) (error_stream line m fm)
 tells_cut text line m fm cut = record {
   later = omega arith;
   more = λ so_far begun faults earlier first.
@@ -72,7 +74,7 @@ tells_cut text line m fm cut = record {
 }
 
 -- nothing was told
-tells_nothing : (s : ErrorStream) → Tells [] s s
+tells_nothing : (s : ErrorStream) → AppendsErrorText [] s s
 tells_nothing s = record {
   later = omega arith;
   more = λ so_far begun faults earlier first.
@@ -81,14 +83,15 @@ tells_nothing s = record {
       subst P (sym (append-nil so_far)) first);
 }
 
-pub tells_same : (text same : List ℕ) (s t : ErrorStream) → text ≡ same → Tells text s t
-    → Tells same s t
+pub tells_same : (text same : List ℕ) (s t : ErrorStream) → text ≡ same → AppendsErrorText text s t
+    → AppendsErrorText same s t
 tells_same text same s t is told =
-    let P : List ℕ → Type 0 = λ l. Tells l s t in subst P is told
+    let P : List ℕ → Type 0 = λ l. AppendsErrorText l s t in subst P is told
 
 -- one text and then another
-pub tells_then : (text more : List ℕ) (s t u : ErrorStream) → Tells text s t → Tells more t u
-    → Tells (text ++ more) s u
+pub tells_then : (text more : List ℕ) (s t u : ErrorStream) → AppendsErrorText text s t
+    → AppendsErrorText more t u
+    → AppendsErrorText (text ++ more) s u
 tells_then text more s t u first second =
     let late = first.later in
     let later = second.later in record {
@@ -112,35 +115,37 @@ untold b fb = record {
 
 -- all that a run told
 pub told_in_all : (text : List ℕ) (line : Line) (b a : Option (List ℕ)) (fb fa : ℕ)
-    → Tells text (error_stream Whole b fb) (error_stream line a fa)
+    → AppendsErrorText text (error_stream Whole b fb) (error_stream line a fa)
     → IsToldOnErr text line b a fb fa
 told_in_all text line b a fb fa told = told.more [] b fb (omega arith) (untold b fb)
 
 -- warnings and then others
 pub warns_then : (P Q R : List ℕ → Type 0) (s t u : ErrorStream)
-    → ((v w : List ℕ) → P v → Q w → R (v ++ w)) → Warns P s t → Warns Q t u → Warns R s u
+    → ((v w : List ℕ) → P v → Q w → R (v ++ w)) → AppendsWarnings P s t → AppendsWarnings Q t u
+    → AppendsWarnings R s u
 warns_then P Q R s t u both first second = record {
   warnings = first.warnings ++ second.warnings;
   tells = tells_then first.warnings second.warnings s t u first.tells second.tells;
-  are = both first.warnings second.warnings first.are second.are;
+  warnings_hold = both first.warnings second.warnings first.warnings_hold second.warnings_hold;
 }
 
 -- more is known of the same warnings
 pub warns_also : (P Q : List ℕ → Type 0) (s t : ErrorStream) → ((w : List ℕ) → P w → Q w)
-    → Warns P s t → Warns Q s t
+    → AppendsWarnings P s t → AppendsWarnings Q s t
 warns_also P Q s t also first = record {
   warnings = first.warnings;
   tells = first.tells;
-  are = also first.warnings first.are;
+  warnings_hold = also first.warnings first.warnings_hold;
 }
 
 -- nothing to warn of
 pub warns_none : (P : List ℕ → Type 0) (line now_line : Line) (b : Option (List ℕ)) (fb : ℕ)
-    → now_line ≡ line → P [] → Warns P (error_stream line b fb) (error_stream now_line b fb)
+    → now_line ≡ line → P [] → AppendsWarnings P (error_stream line b fb) (error_stream now_line b
+    fb)
 warns_none P line now_line b fb same are =
-    let Q : Line → Type 0 = λ l. Warns P (error_stream line b fb) (error_stream l b fb) in
+    let Q : Line → Type 0 = λ l. AppendsWarnings P (error_stream line b fb) (error_stream l b fb) in
     subst Q (sym same) (record {
       warnings = [];
       tells = tells_nothing (error_stream line b fb);
-      are = are;
+      warnings_hold = are;
     })

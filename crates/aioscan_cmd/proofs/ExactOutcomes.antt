@@ -3,12 +3,12 @@ use Rattle.std.proofs.Common.{◌≡◌, ◌≢◌, ℕ, ◌<◌, List, refl, sy
 use Rattle.std.specs.Prelude.{Option}
 use Rattle.std.proofs.lemmas.Bool.{cases_lt}
 use Rattle.aio_disk.specs.Counts.{ShelfCounts}
-use Rattle.aioscan_cmd.specs.Run.{SynchronousRun, Writes, EarlierFit, FitsInOrder}
-use Rattle.aioscan_cmd.specs.Causes.{HasCauses, IsExact, IsComplete}
+use Rattle.aioscan_cmd.specs.Run.{SynchronousRun, RunWrites, EarlierFit, FitsInOrder}
+use Rattle.aioscan_cmd.specs.Causes.{HasCauses, NamesFirstTooLong, IsComplete}
 use Rattle.aioscan_cmd.specs.declared.report.Outcome.{Outcome}
-use Rattle.aioscan_cmd.specs.declared.report.Outcome.TheVariants.{Done, Invalid, Usage, CannotOpen}
+use Rattle.aioscan_cmd.specs.declared.report.Outcome.TheVariants.{Usage, CannotOpen}
 use Rattle.aioscan_cmd.specs.declared.report.Outcome.TheVariants.{NoLength, Unread, CannotWrite}
-use Rattle.aioscan_cmd.specs.declared.report.Outcome.TheVariants.{NoMemory, Missing, TooLong}
+use Rattle.aioscan_cmd.specs.declared.report.Outcome.TheVariants.{NoMemory, TooLong}
 
 -- the first relation that is too long is one alone
 first_too_long : (limit : ℕ) (blocks : ℕ → ℕ) (q r : ℕ) → limit < blocks q
@@ -22,17 +22,7 @@ first_too_long limit blocks q r long_q fit_q long_r fit_r = elim (cases_lt q r) 
 ]
 
 pub exact : (run : SynchronousRun) (o : Outcome) → FitsInOrder run.limit run.lengths run.relations o
-    → IsExact run o
-exact run Done fits r below long fit usage opens lengths memory =
-    absurd (let within = fits r below in omega arith)
-exact run (Invalid q k) fits r below long fit usage opens lengths memory =
-    absurd (let within = fits r below in omega arith)
-exact run (Missing q k) fits r below long fit usage opens lengths memory =
-    absurd (let within = fits r below in omega arith)
-exact run (Unread q k) fits r below long fit usage opens lengths memory =
-    absurd (let within = fits r below in omega arith)
-exact run CannotWrite fits r below long fit usage opens lengths memory =
-    absurd (let within = fits r below in omega arith)
+    → NamesFirstTooLong run o
 exact run NoMemory fits r below long fit usage opens lengths memory = absurd (memory refl)
 exact run Usage fits r below long fit usage opens lengths memory = absurd (usage refl)
 exact run CannotOpen fits r below long fit usage opens lengths memory = absurd (opens refl)
@@ -40,19 +30,13 @@ exact run (NoLength q) fits r below long fit usage opens lengths memory =
     absurd (lengths q refl)
 exact run (TooLong q) fits r below long fit usage opens lengths memory =
     ap TooLong (first_too_long run.limit run.lengths q r fits.1 fits.2 long fit)
+exact run _ fits r below long fit usage opens lengths memory =
+    absurd (let within = fits r below in omega arith)
 
 pub complete : (run : SynchronousRun) (before now : ShelfCounts) (wb wn : ℕ)
     (b a : Option (List ℕ)) (o : Outcome) → o ≢ Usage → HasCauses before now wb wn o
-    → FitsInOrder run.limit run.lengths run.relations o → Writes run b a o
+    → FitsInOrder run.limit run.lengths run.relations o → RunWrites run b a o
     → IsComplete run before now wb wn o
-complete run before now wb wn b a Done words causes fits writes opens lengths reads failed fit =
-    inl (sym writes.0)
-complete run before now wb wn b a (Invalid r k) words causes fits writes opens lengths reads failed
-    fit =
-    inl (sym writes.0)
-complete run before now wb wn b a (Missing r k) words causes fits writes opens lengths reads failed
-    fit =
-    inl (sym writes.0)
 complete run before now wb wn b a NoMemory words causes fits writes opens lengths reads failed fit =
     inr refl
 complete run before now wb wn b a (Unread r k) words causes fits writes opens lengths reads failed
@@ -72,3 +56,5 @@ complete run before now wb wn b a (NoLength r) words causes fits writes opens le
 complete run before now wb wn b a (TooLong r) words causes fits writes opens lengths reads failed
     fit =
     absurd (let within = fit r fits.0 in let long = fits.1 in omega arith)
+complete run before now wb wn b a _ words causes fits writes opens lengths reads failed fit =
+    inl (sym writes.0)

@@ -7,7 +7,8 @@ use Rattle.std.specs.List.{filter, flat_map}
 use Rattle.std.specs.Str.{bytes_eq}
 use Rattle.vis_map.specs.MapRequest.{map_request}
 use Rattle.std.proofs.lemmas.List.Concat.{flat_map-cons}
-use Rattle.aioscan_cmd.specs.Command.{Command, MapOption, distinct, relations_of, relations_with}
+use Rattle.aioscan_cmd.specs.Command.{Command, MapOption, without_duplicates, command_relations}
+use Rattle.aioscan_cmd.specs.Command.{relations_with}
 use Rattle.aioscan_cmd.specs.Command.{relation_number}
 use Rattle.aioscan_cmd.specs.Command.{first_block, asked_count}
 use Rattle.aioscan_cmd.proofs.DistinctNames.{place_of_name}
@@ -20,10 +21,10 @@ use Rattle.aioscan_cmd.specs.RequestList.{with_map, with_map_part}
 -- the number of a relation that the words name is one of those that there are
 pub relation_number-below : (command : Command) (k : ℕ) (name : List ℕ) → k < length command.files
     → get_or command.files k [] ≡ name
-    → relation_number name (relations_of command) < length (relations_of command)
+    → relation_number name (command_relations command) < length (command_relations command)
 relation_number-below command k name below here =
     let P : List ℕ → Type 0 =
-    λ n. relation_number n (relations_of command) < length (relations_of command) in
+    λ n. relation_number n (command_relations command) < length (command_relations command) in
     subst P here (place_of_name command.files command.map k below)
 
 flat_map-same : {X A : Type 0} (F G : X → List A) (d : X) (xs : List X)
@@ -37,14 +38,14 @@ flat_map-same F G d (x ∷ xs) same =
 
 -- the request list depends on the lengths of the relations alone that there are
 pub all_file_requests-same : (f g : ℕ → ℕ) (command : Command)
-    → ((r : ℕ) → r < length (relations_of command) → f r ≡ g r)
+    → ((r : ℕ) → r < length (command_relations command) → f r ≡ g r)
     → all_file_requests f command ≡ all_file_requests g command
 unfolding all_file_requests
 all_file_requests-same f g command same =
     flat_map-same (one_file_requests f command) (one_file_requests g command) [] command.files
     (λ k below.
     (let name = get_or command.files k [] in
-    let r = relation_number name (relations_of command) in
+    let r = relation_number name (command_relations command) in
     let length_is : f r ≡ g r = same r (relation_number-below command k name below refl) in
     ap (λ (n : ℕ). block_range r (first_block command) (asked_count command n)) length_is))
 
@@ -59,12 +60,12 @@ with_map-same : (f g : ℕ → ℕ) (map_page : ℕ → List ℕ) (files : List 
 with_map-same f g map_page files None requests none same = refl
 with_map-same f g map_page [] (Some m) requests none same = rw (none refl) refl
 with_map-same f g map_page (file ∷ files) (Some m) requests none same =
-    let others = filter (λ other. not (bytes_eq other file)) (distinct files) in
+    let others = filter (λ other. not (bytes_eq other file)) (without_duplicates files) in
     ap (λ (n : ℕ). map_request tt n map_page m.skip requests)
     (same 1 (omega (arith, length-append others (m.name ∷ []))))
 
 pub request_list-same : (f g : ℕ → ℕ) (map_page : ℕ → List ℕ) (command : Command)
-    → ((r : ℕ) → r < length (relations_of command) → f r ≡ g r)
+    → ((r : ℕ) → r < length (command_relations command) → f r ≡ g r)
     → request_list f map_page command ≡ request_list g map_page command
 request_list-same f g map_page command same =
     ap (with_map command.map f map_page) (all_file_requests-same f g command same)
@@ -73,14 +74,14 @@ request_list-same f g map_page command same =
 
 -- the same of its parts
 all_file_parts-same : (f g : ℕ → ℕ) (command : Command)
-    → ((r : ℕ) → r < length (relations_of command) → f r ≡ g r)
+    → ((r : ℕ) → r < length (command_relations command) → f r ≡ g r)
     → all_file_parts f command ≡ all_file_parts g command
 unfolding all_file_parts
 all_file_parts-same f g command same =
     flat_map-same (one_file_parts f command) (one_file_parts g command) [] command.files
     (λ k below.
     (let name = get_or command.files k [] in
-    let r = relation_number name (relations_of command) in
+    let r = relation_number name (command_relations command) in
     let length_is : f r ≡ g r = same r (relation_number-below command k name below refl) in
     ap (λ (n : ℕ). range_parts r (first_block command) (asked_count command n)) length_is))
 
@@ -92,12 +93,12 @@ with_map_part-same : (f g : ℕ → ℕ) (map_page : ℕ → List ℕ) (files : 
 with_map_part-same f g map_page files None requests parts none same = refl
 with_map_part-same f g map_page [] (Some m) requests parts none same = rw (none refl) refl
 with_map_part-same f g map_page (file ∷ files) (Some m) requests parts none same =
-    let others = filter (λ other. not (bytes_eq other file)) (distinct files) in
+    let others = filter (λ other. not (bytes_eq other file)) (without_duplicates files) in
     ap (λ (n : ℕ). with_map_part (Some m) (λ _. n) map_page requests parts)
     (same 1 (omega (arith, length-append others (m.name ∷ []))))
 
 pub request_parts-same : (f g : ℕ → ℕ) (map_page : ℕ → List ℕ) (command : Command)
-    → ((r : ℕ) → r < length (relations_of command) → f r ≡ g r)
+    → ((r : ℕ) → r < length (command_relations command) → f r ≡ g r)
     → request_parts f map_page command ≡ request_parts g map_page command
 request_parts-same f g map_page command same =
     ap (λ (l : List Request). with_map_part command.map f map_page l (all_file_parts f command))

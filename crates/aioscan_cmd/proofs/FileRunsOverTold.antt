@@ -9,17 +9,17 @@ use Rattle.page_check.specs.SynchronousAnswer.{Invalid as EndsInvalid, found_at,
 use Rattle.page_check.specs.SynchronousAnswer.{readable_pages, first_stop, found_ending}
 use Rattle.page_check.specs.SynchronousAnswer.{stop_ending}
 use Rattle.heap_scan.specs.Listing.{listing}
-use Rattle.aioscan_cmd.specs.Command.{Command, length_limit, relations_of}
+use Rattle.aioscan_cmd.specs.Command.{Command, length_limit, command_relations}
 use Rattle.aioscan_cmd.specs.RequestList.{Request, Part, blocks_of_parts, request}
 use Rattle.aioscan_cmd.specs.RequestList.{request_list, request_parts}
 use Rattle.aioscan_cmd.specs.Output.{ObservedState, ListFormat}
 use Rattle.aioscan_cmd.specs.Output.{command_format}
 use Rattle.aioscan_cmd.specs.Run.{SynchronousRun, file_run, IsFileRun, IsWarned}
-use Rattle.aioscan_cmd.specs.Run.{Writes, outcome_of_found, outcome_of_stop}
+use Rattle.aioscan_cmd.specs.Run.{RunWrites, outcome_of_found, outcome_of_stop}
 use Rattle.aioscan_cmd.specs.declared.report.Outcome.{Outcome}
-use Rattle.aioscan_cmd.specs.declared.report.Outcome.TheVariants.{Done, Invalid, Usage, CannotOpen}
-use Rattle.aioscan_cmd.specs.declared.report.Outcome.TheVariants.{NoLength, Unread, CannotWrite}
-use Rattle.aioscan_cmd.specs.declared.report.Outcome.TheVariants.{NoMemory, Missing, TooLong}
+use Rattle.aioscan_cmd.specs.declared.report.Outcome.TheVariants.{Done, Invalid}
+use Rattle.aioscan_cmd.specs.declared.report.Outcome.TheVariants.{Unread, CannotWrite}
+use Rattle.aioscan_cmd.specs.declared.report.Outcome.TheVariants.{NoMemory, Missing}
 use Rattle.aioscan_cmd.proofs.SinkTextsAppend.{SinkGrew-same}
 use Rattle.aioscan_cmd.proofs.PartsOfRequests.{request_blocks}
 use Rattle.aioscan_cmd.proofs.RunsOverTold.{cut_at, stop_here, text_all, text_begins}
@@ -73,7 +73,7 @@ module _ (t : Told) (n : ℕ) (c : Command) (b a : ObservedState) where
   -- the run, where these are the blocks that are asked for
   abbrev run_over : List Request → SynchronousRun
   run_over requests = record {
-    relations = length (relations_of c);
+    relations = length (command_relations c);
     lengths = relation_block_count t;
     limit = length_limit t.segment;
     requests = requests;
@@ -91,54 +91,51 @@ module _ (t : Told) (n : ℕ) (c : Command) (b a : ObservedState) where
   blocks_are = request_blocks (relation_block_count t) map_page c
 
   by_parts : (o : Outcome) (w : List ℕ) → IsFileRun (Some t) n c b a o w
-      → Writes run b.written a.written o
+      → RunWrites run b.written a.written o
   by_parts Done w ran =
-      let lists = ran.lists refl in
+      let lists = ran.is_output refl in
       let end = lists.answer.answers.endings.0 in (
         done_at found (first_stop found blocks) end.1,
         SinkGrew-same b.written a.written _ _ (text_all m t parts_of_run b a Done w lists end.0)
-            lists.grew,
+            lists.output_grew,
       )
   by_parts (Invalid r k) w ran =
-      let lists = ran.lists refl in
+      let lists = ran.is_output refl in
       let end = lists.answer.answers.endings.0 in
       let stop = stop_here m t parts_of_run b a (Invalid r k) w lists (request r k)
-      (lists.here (request r k) refl) end.0 in (
+      (lists.named_block_is (request r k) refl) end.0 in (
         ap (outcome_of_stop found) stop
             ∙ invalid_by (found r k) r k (sym (ap (stop_ending found) stop) ∙ end.1),
         SinkGrew-same b.written a.written _ _
-            (text_all m t parts_of_run b a (Invalid r k) w lists end.0) lists.grew,
+            (text_all m t parts_of_run b a (Invalid r k) w lists end.0) lists.output_grew,
       )
   by_parts (Missing r k) w ran =
-      let lists = ran.lists refl in
+      let lists = ran.is_output refl in
       let end = lists.answer.answers.endings.0 in
       let stop = stop_here m t parts_of_run b a (Missing r k) w lists (request r k)
-      (lists.here (request r k) refl) end.0 in (
+      (lists.named_block_is (request r k) refl) end.0 in (
         ap (outcome_of_stop found) stop
             ∙ missing_by (found r k) r k (sym (ap (stop_ending found) stop) ∙ end.1),
         SinkGrew-same b.written a.written _ _
-            (text_all m t parts_of_run b a (Missing r k) w lists end.0) lists.grew,
+            (text_all m t parts_of_run b a (Missing r k) w lists end.0) lists.output_grew,
       )
   by_parts (Unread r k) w ran =
-      let lists = ran.lists refl in
-      cut_at m t parts_of_run b a (Unread r k) w lists r k (lists.here (request r k) refl)
-      lists.grew
+      let lists = ran.is_output refl in
+      cut_at m t parts_of_run b a (Unread r k) w lists r k (lists.named_block_is (request r k) refl)
+      lists.output_grew
       run refl refl refl
   by_parts CannotWrite w ran =
-      let lists = ran.lists refl in
-      text_begins m t parts_of_run b a CannotWrite w lists lists.grew
+      let lists = ran.is_output refl in
+      text_begins m t parts_of_run b a CannotWrite w lists lists.output_grew
   by_parts NoMemory w ran =
-      let lists = ran.lists refl in
-      text_begins m t parts_of_run b a NoMemory w lists lists.grew
-  by_parts Usage w ran = untouched_same b a (ran.untouched refl).0
-  by_parts CannotOpen w ran = untouched_same b a (ran.untouched refl).0
-  by_parts (NoLength r) w ran = untouched_same b a (ran.untouched refl).0
-  by_parts (TooLong r) w ran = untouched_same b a (ran.untouched refl).0
+      let lists = ran.is_output refl in
+      text_begins m t parts_of_run b a NoMemory w lists lists.output_grew
+  by_parts _ w ran = untouched_same b a (ran.output_same refl).0
 
   pub writes : (o : Outcome) (w : List ℕ) → IsFileRun (Some t) n c b a o w
-      → Writes (file_run t c) b.written a.written o
+      → RunWrites (file_run t c) b.written a.written o
   writes o w ran =
-      let P : List Request → Type 0 = λ l. Writes (run_over l) b.written a.written o in
+      let P : List Request → Type 0 = λ l. RunWrites (run_over l) b.written a.written o in
       subst P blocks_are (by_parts o w ran)
 
   -- and what it has warned of
@@ -146,34 +143,31 @@ module _ (t : Told) (n : ℕ) (c : Command) (b a : ObservedState) where
       → IsWarned run b.written a.written o w
   unfolding cut_at
   warned_by_parts Done w ran =
-      let lists = ran.lists refl in
+      let lists = ran.is_output refl in
       warned_all m t parts_of_run b a Done w lists (lists.all refl)
       lists.answer.answers.endings.0.0
   warned_by_parts (Invalid r k) w ran =
-      let lists = ran.lists refl in
+      let lists = ran.is_output refl in
       warned_all m t parts_of_run b a (Invalid r k) w lists (lists.all refl)
       lists.answer.answers.endings.0.0
   warned_by_parts (Missing r k) w ran =
-      let lists = ran.lists refl in
+      let lists = ran.is_output refl in
       warned_all m t parts_of_run b a (Missing r k) w lists (lists.all refl)
       lists.answer.answers.endings.0.0
   warned_by_parts (Unread r k) w ran =
-      let lists = ran.lists refl in (
-        cut_at m t parts_of_run b a (Unread r k) w lists r k (lists.here (request r k) refl)
-            lists.grew run refl refl refl,
+      let lists = ran.is_output refl in (
+        cut_at m t parts_of_run b a (Unread r k) w lists r k (lists.named_block_is (request r k) refl)
+            lists.output_grew run refl refl refl,
         warned_first m t parts_of_run b a (Unread r k) w lists (lists.all refl),
       )
   warned_by_parts CannotWrite w ran =
-      warned_up_to m t parts_of_run b a CannotWrite w (ran.lists refl) run refl refl refl
+      warned_up_to m t parts_of_run b a CannotWrite w (ran.is_output refl) run refl refl refl
   warned_by_parts NoMemory w ran =
-      warned_up_to m t parts_of_run b a NoMemory w (ran.lists refl) run refl refl refl
-  warned_by_parts Usage w ran = (ran.untouched refl).1
-  warned_by_parts CannotOpen w ran = (ran.untouched refl).1
-  warned_by_parts (NoLength r) w ran = (ran.untouched refl).1
-  warned_by_parts (TooLong r) w ran = (ran.untouched refl).1
+      warned_up_to m t parts_of_run b a NoMemory w (ran.is_output refl) run refl refl refl
+  warned_by_parts _ w ran = (ran.output_same refl).1
 
-  pub warned : (o : Outcome) (w : List ℕ) → IsFileRun (Some t) n c b a o w
+  pub is_warned : (o : Outcome) (w : List ℕ) → IsFileRun (Some t) n c b a o w
       → IsWarned (file_run t c) b.written a.written o w
-  warned o w ran =
+  is_warned o w ran =
       let P : List Request → Type 0 = λ l. IsWarned (run_over l) b.written a.written o w in
       subst P blocks_are (warned_by_parts o w ran)

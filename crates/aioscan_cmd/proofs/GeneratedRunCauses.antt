@@ -58,13 +58,13 @@ pub generated_causes : (s : ShelfCounts) (wb wn : ℕ) (o : Outcome) → IsGener
     → HasCauses s s wb wn o
 generated_causes s wb wn o ends written =
     let apart = generated_apart o ends in record {
-      later = record {
+      counts_not_reduced = record {
         open_faults = omega arith;
         length_faults = omega arith;
         faults = omega arith;
         reads = omega arith;
       };
-      later_writes = written.later;
+      write_faults_not_reduced = written.later;
       cannot_open = λ is. absurd (apart.cannot_open is);
       no_length = λ r is. absurd (apart.no_length r is);
       unread = λ r b is. absurd (apart.unread r b is);

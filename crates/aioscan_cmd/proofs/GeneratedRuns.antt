@@ -9,7 +9,7 @@ use Rattle.aioscan_cmd.specs.GeneratedPages.{generated_told, summary_line}
 use Rattle.aioscan_cmd.specs.Output.{OutputGrew, observed_state}
 use Rattle.aioscan_cmd.specs.RequestList.{block_range}
 use Rattle.aioscan_cmd.specs.Run.{EarlierFit, IsGeneratedOutcome, FitsInOrder, IsWarned}
-use Rattle.aioscan_cmd.specs.Run.{IsGeneratedRun, Writes}
+use Rattle.aioscan_cmd.specs.Run.{IsGeneratedRun, RunWrites}
 use Rattle.aioscan_cmd.specs.Run.{generated_run}
 use Rattle.aioscan_cmd.specs.declared.report.Outcome.{Outcome}
 use Rattle.aioscan_cmd.specs.declared.report.Outcome.TheVariants.{NoMemory}
@@ -49,10 +49,10 @@ module _ (z : Bool) (n : ℕ) (few : n ≤ 4096) where
 
   -- the line of the sums was written, or a begin of it
   generated_writes : (b a : Option (List ℕ)) (o : Outcome) → IsGeneratedOutcome o
-      → OutputGrew o b a text → Writes (generated_run z n) b a o
+      → OutputGrew o b a text → RunWrites (generated_run z n) b a o
   generated_writes b a o ends grew =
       let P : Outcome → Type 0 = λ x. OutputGrew x b a text in
-      let Q : Outcome → Type 0 = λ x. Writes (generated_run z n) b a x in elim ends [
+      let Q : Outcome → Type 0 = λ x. RunWrites (generated_run z n) b a x in elim ends [
         | inl done ↦ subst Q (sym done) (generated_outcome_done z n few, subst P done grew)
         | inr other ↦ elim other [
           | inl cut ↦ subst Q (sym cut) (subst P cut grew)
@@ -81,8 +81,8 @@ module _ (z : Bool) (n : ℕ) (few : n ≤ 4096) where
     in_order = generated_in_order o ends;
     writes = generated_writes b a o ends grew;
     reads = refl;
-    quiet = none;
-    warned = generated_warned b a o w ends none;
+    no_warnings = none;
+    warnings_are = generated_warned b a o w ends none;
   }
 
 -- there was no memory
@@ -97,6 +97,6 @@ ran_generated_without_memory z n s k o w is none =
       in_order = tt;
       writes = SinkGrewByPrefix-nothing s s _ refl;
       reads = refl;
-      quiet = none;
-      warned = none;
+      no_warnings = none;
+      warnings_are = none;
     })

@@ -10,8 +10,9 @@ use Rattle.heap_scan.specs.Warnings.{warnings_of}
 use Rattle.heap_scan.specs.declared.sums.PageSums.{PageSums}
 use Rattle.aio_disk.specs.Counts.{CountRose, ShelfCounts}
 use Rattle.aio_disk.specs.Shelf.{are_there, shelf_told}
-use Rattle.aioscan_cmd.specs.Command.{Command, AsksForGeneratedPages, distinct, options_of_settings}
-use Rattle.aioscan_cmd.specs.Command.{MapOption, relations_of}
+use Rattle.aioscan_cmd.specs.Command.{Command, AsksForGeneratedPages, without_duplicates}
+use Rattle.aioscan_cmd.specs.Command.{options_of_settings}
+use Rattle.aioscan_cmd.specs.Command.{MapOption, command_relations}
 use Rattle.aioscan_cmd.specs.Command.{relations_with}
 use Rattle.aioscan_cmd.specs.GeneratedPages.{generated_file_name, generated_shelf_files}
 use Rattle.aioscan_cmd.specs.GeneratedPages.{generated_told}
@@ -28,7 +29,7 @@ use Rattle.aioscan_cmd.proofs.GeneratedPageReads.{generated_outcome_done, all_qu
 use Rattle.aioscan_cmd.proofs.GeneratedPageReads.{generated_sums}
 use Rattle.aioscan_cmd.proofs.GeneratedRuns.{generated_fits}
 use Rattle.aioscan_cmd.proofs.ExactOutcomes.{complete}
-use Rattle.aioscan_cmd.proofs.FileRunsOverTold.{writes, warned}
+use Rattle.aioscan_cmd.proofs.FileRunsOverTold.{writes, is_warned}
 
 -- where no open failed, their count does not matter
 abbrev but_opens : ShelfCounts → ShelfCounts
@@ -38,13 +39,13 @@ causes_but_opens : (before now : ShelfCounts) (wb wn : ℕ) (o : Outcome)
     → HasCauses before now wb wn o → o ≢ CannotOpen
     → HasCauses (but_opens before) (but_opens now) wb wn o
 causes_but_opens before now wb wn o causes sure = record {
-  later = record {
+  counts_not_reduced = record {
     open_faults = omega arith;
-    length_faults = causes.later.length_faults;
-    faults = causes.later.faults;
-    reads = causes.later.reads;
+    length_faults = causes.counts_not_reduced.length_faults;
+    faults = causes.counts_not_reduced.faults;
+    reads = causes.counts_not_reduced.reads;
   };
-  later_writes = causes.later_writes;
+  write_faults_not_reduced = causes.write_faults_not_reduced;
   cannot_open = λ is. absurd (sure is);
   no_length = causes.no_length;
   unread = causes.unread;
@@ -52,18 +53,18 @@ causes_but_opens before now wb wn o causes sure = record {
 }
 
 module _ (n : ℕ) (c : Command) (is : AsksForGeneratedPages n c) where
-  generated_relations : relations_of c ≡ distinct (generated_file_name ∷ [])
+  generated_relations : command_relations c ≡ without_duplicates (generated_file_name ∷ [])
   generated_relations =
-      ap (λ (map : Option MapOption). relations_with c.files map) is.4 ∙ ap distinct is.0
+      ap (λ (map : Option MapOption). relations_with c.files map) is.4 ∙ ap without_duplicates is.0
 
   -- the shelf of generated pages tells them
-  pub generated_contents : shelf_told (Some (generated_shelf_files n)) (relations_of c)
+  pub generated_contents : shelf_told (Some (generated_shelf_files n)) (command_relations c)
       ≡ Some (generated_told n)
   generated_contents =
       ap (λ (names : List (List ℕ)). shelf_told (Some (generated_shelf_files n))
       names) generated_relations
 
-  pub one_relation : length (relations_of c) ≡ 1
+  pub one_relation : length (command_relations c) ≡ 1
   one_relation = ap (λ (names : List (List ℕ)). length names) generated_relations
 
   pub generated_requests : all_file_requests (relation_block_count (generated_told n)) c
@@ -82,7 +83,7 @@ module _ (n : ℕ) (c : Command) (is : AsksForGeneratedPages n c) where
       ∙ generated_requests
 
   -- and has their file
-  pub generated_there : are_there (generated_shelf_files n).named (relations_of c) ≡ true
+  pub generated_there : are_there (generated_shelf_files n).named (command_relations c) ≡ true
   generated_there =
       ap (λ (names : List (List ℕ)). are_there (generated_shelf_files n).named
       names) generated_relations
@@ -91,7 +92,7 @@ module _ (n : ℕ) (c : Command) (is : AsksForGeneratedPages n c) where
   module _ (told : Option Told) (relations : ℕ) (b a : ObservedState) (o : Outcome) (w : List ℕ)
       (told_is : told ≡ Some (generated_told n)) (one : relations ≡ 1)
       (ran : IsFileRun told relations c b a o w) where
-    ran_here : IsFileRun (Some (generated_told n)) (length (relations_of c)) c b a o w
+    ran_here : IsFileRun (Some (generated_told n)) (length (command_relations c)) c b a o w
     ran_here =
         let P : Option Told → Type 0 = λ t. IsFileRun t relations c b a o w in
         let Q : ℕ → Type 0 = λ r. IsFileRun (Some (generated_told n)) r c b a o w in
@@ -121,14 +122,14 @@ module _ (n : ℕ) (c : Command) (is : AsksForGeneratedPages n c) where
     none_to_warn ends =
         let found = zeroing c.settings.zero (found_at (generated_told n)) in
         let run = file_run (generated_told n) c in
-        let said = warned (generated_told n) _ c b a o w ran_here in
+        let said = is_warned (generated_told n) _ c b a o w ran_here in
         let Q : Outcome → Type 0 = λ x. IsWarned run b.written a.written x w in elim ends [
           | inl done ↦ subst Q done said
               ∙ ap (λ (l : List Request). warnings_of (readable_pages found l))
               (generated_list (λ block. found_page (found 1 block)))
               ∙ all_quiet c.settings.zero n is.3
           | inr memory ↦ let cut = subst Q memory said in
-              cut.are
+              cut.warnings_are
               ∙ ap (λ (l : List Request). warnings_of (take cut.k (readable_pages found l)))
               (generated_list (λ block. found_page (found 1 block)))
               ∙ none_warned c.settings.zero n is.3 cut.k

@@ -1,11 +1,11 @@
 -- Sums that are added up over jobs and rounds.
 use Rattle.std.proofs.Common.{◌≡◌, ℕ, suc, ◌+◌, ◌<◌, ◌≤◌, List, [], ◌∷◌, ◌++◌, length}
-use Rattle.std.proofs.Common.{refl, sym, ap, ◌∙◌, subst, arith, sum_by, take, get_or}
+use Rattle.std.proofs.Common.{refl, sym, ap, ◌∙◌, subst, arith, take, get_or}
 use Rattle.std.specs.Prelude.{Option, Some, ⊤}
 use Rattle.std.proofs.lemmas.List.{take_more, take_all}
 use Rattle.std.proofs.lemmas.List.Elements.{All-push}
 use Rattle.std.proofs.lemmas.List.Concat.{flat_map-cons}
-use Rattle.std.proofs.lemmas.List.Sums.{sum_by-cons, sum_by_push}
+use Rattle.std.proofs.lemmas.List.Sums.{sum_by-cons}
 use Rattle.page_check.specs.Told.{Told}
 use Rattle.page_check.specs.SynchronousAnswer.{End, Reader, reader_of}
 use Rattle.heap_scan.specs.Job.{IsJobAnswer}
@@ -16,7 +16,7 @@ use Rattle.heap_scan.proofs.Jobs.{job_append}
 use Rattle.heap_tuple.specs.Listing.{text_with}
 use Rattle.scan_rounds.specs.ListOptions.{ListOptions}
 use Rattle.scan_rounds.specs.BlockFilter.{BlockFilter}
-use Rattle.scan_rounds.specs.Jobs.{IsListed, AreAnswered, entries_of_job, said_end}
+use Rattle.scan_rounds.specs.Jobs.{JobIsListed, AllJobsAnswered, entries_of_job, answered_ending}
 use Rattle.scan_rounds.specs.declared.job.Ending.{Ending as JobEnding}
 use Rattle.scan_rounds.specs.declared.job.Ending.TheVariants as ending
 use Rattle.scan_rounds.specs.declared.job.Job.{Job}
@@ -24,7 +24,6 @@ use Rattle.aioscan_cmd.specs.RequestList.{Request}
 use Rattle.aioscan_cmd.specs.ListerState.{unskipped_job_requests, outcome_of_ending}
 use Rattle.aioscan_cmd.specs.Sums.{saturated_count, saturated_sums, total_of_jobs, AllPagesGiven}
 use Rattle.aioscan_cmd.specs.Sums.{HasSums}
-use Rattle.aioscan_cmd.specs.declared.report.Outcome.{Outcome}
 use Rattle.aioscan_cmd.specs.declared.report.Outcome.TheVariants.{Done}
 use Rattle.aioscan_cmd.proofs.OutputsAppend.{no_answer}
 
@@ -45,13 +44,6 @@ ended_done r (ending.Unread b) is = absurd (cc)
 ended_done r (ending.PastEnd b) is = absurd (cc)
 ended_done r ending.NoMemory is = absurd (cc)
 
-pub gave_one : (job : Job) (o : Outcome) → o ≡ outcome_of_ending job.relation job.ending → o ≡ Done
-    → AllPagesGiven (job ∷ [])
-gave_one job o is done = λ i d below.
-    (let first : i ≡ 0 = omega arith in
-    let P : ℕ → Type 0 = λ k. (get_or (job ∷ []) k d).ending ≡ ending.Pages in
-    subst P (sym first) (ended_done job.relation job.ending (sym is ∙ done)))
-
 pub gave_more : (jobs : List Job) (k : ℕ) (d job : Job) → k < length jobs → job ≡ get_or jobs k d
     → AllPagesGiven (take k jobs) → AllPagesGiven (job ∷ []) → AllPagesGiven (take (k + 1) jobs)
 gave_more jobs k d job inside is before here =
@@ -69,17 +61,6 @@ gave_every jobs k all gave =
 pub zero_sums : (s : PageSums) → (s.pages ≡ 0) × ((s.zero ≡ 0) × (s.items ≡ 0)) → s ≡ no_sums
 zero_sums s is = same_sums s no_sums is.0 is.1.0 is.1.1
 
--- sums over one job more, and over all
-pub saturated_next : (f : Job → ℕ) (jobs : List Job) (k n before now : ℕ) (d job : Job)
-    → k < length jobs → job ≡ get_or jobs k d
-    → before ≡ saturated_count (n + sum_by f (take k jobs)) → now ≡ saturated_count (before + f job)
-    → now ≡ saturated_count (n + sum_by f (take (k + 1) jobs))
-saturated_next f jobs k n before now d job inside is was added =
-    let more : sum_by f (take (k + 1) jobs) ≡ sum_by f (take k jobs) + f (get_or jobs k d) =
-    ap (sum_by f) (take_more jobs k d inside)
-    ∙ sum_by_push f (take k jobs) (get_or jobs k d) in
-    let here : f job ≡ f (get_or jobs k d) = ap f is in omega (arith, more, here, was, added)
-
 module _ (skips : Option BlockFilter) (m : ListOptions) (told : Option Told) where
   abbrev text_of : TextOf
   text_of = text_with m.tuples
@@ -92,14 +73,14 @@ module _ (skips : Option BlockFilter) (m : ListOptions) (told : Option Told) whe
       (text : List ℕ) × ((warnings : List ℕ)
       × IsJobAnswer text_of found (λ _. ⊤) requests text warnings sums (Some End))
 
-  one_more : (j job : Job) (asked jobs : List Job) → IsListed skips m told (λ _. ⊤) j job
+  one_more : (j job : Job) (asked jobs : List Job) → JobIsListed skips m told (λ _. ⊤) j job
       → job.ending ≡ ending.Pages → Answer (unskipped_job_requests skips asked) (total_of_jobs jobs)
       → Answer (unskipped_job_requests skips (j ∷ asked)) (total_of_jobs (job ∷ jobs))
   unfolding job_append
   one_more j job asked jobs listed is rest =
       let P : JobEnding → Type 0 =
       λ e. IsJobAnswer text_of found (λ _. ⊤) (entries_of_job skips j)
-      job.text.items job.warnings.items job.tally (said_end e) in
+      job.text.items job.warnings.items job.tally (answered_ending e) in
       let Q : List Request → Type 0 = λ l. Answer l (total_of_jobs (job ∷ jobs)) in
       let R : PageSums → Type 0 = λ s. Answer (entries_of_job skips j
       ++ unskipped_job_requests skips asked) s in
@@ -121,14 +102,14 @@ module _ (skips : Option BlockFilter) (m : ListOptions) (told : Option Told) whe
 
   -- jobs that gave all their pages have the sums of these
   pub answered_all : (asked jobs : List Job)
-      → AreAnswered skips m told asked jobs → AllPagesGiven jobs
+      → AllJobsAnswered skips m told asked jobs → AllPagesGiven jobs
       → Answer (unskipped_job_requests skips asked) (total_of_jobs jobs)
   answered_all [] [] all gave = ([], ([], no_answer text_of found))
   answered_all [] (job ∷ jobs) all gave = absurd (omega (arith, all.as_many))
   answered_all (j ∷ asked) [] all gave = absurd (omega (arith, all.as_many))
   answered_all (j ∷ asked) (job ∷ jobs) all gave =
       let many = all.as_many in
-      let rest : AreAnswered skips m told asked jobs = record {
+      let rest : AllJobsAnswered skips m told asked jobs = record {
         as_many = omega arith;
         each = λ i d below. all.each (suc i) d (omega arith);
       } in
@@ -151,7 +132,7 @@ module _ (skips : Option BlockFilter) (m : ListOptions) (told : Option Told) whe
 
   -- and those of a round
   pub round_summed : (before : List Request) (asked jobs : List Job) (was now : PageSums)
-      → HasSums m told before was → AreAnswered skips m told asked jobs → AllPagesGiven jobs
+      → HasSums m told before was → AllJobsAnswered skips m told asked jobs → AllPagesGiven jobs
       → now ≡ saturated_sums (sums_joined was (total_of_jobs jobs))
       → HasSums m told (before ++ unskipped_job_requests skips asked) now
   unfolding job_append

@@ -17,13 +17,13 @@ use Rattle.heap_scan.specs.Job.{IsJobAnswer, endings_of}
 use Rattle.heap_scan.specs.Listing.{listing}
 use Rattle.heap_scan.specs.Warnings.{warnings_of}
 use Rattle.heap_scan.specs.declared.sums.PageSums.{PageSums}
-use Rattle.scan_rounds.specs.Jobs.{entries_of_job, said_end, unread_among, is_unread}
+use Rattle.scan_rounds.specs.Jobs.{entries_of_job, answered_ending, unread_job_count, is_unread}
 use Rattle.scan_rounds.specs.declared.job.Ending.{Ending as JobEnding}
 use Rattle.scan_rounds.specs.declared.job.Ending.TheVariants as ending
 use Rattle.scan_rounds.specs.declared.job.Job.{Job}
 use Rattle.aio_disk.specs.Sink.{SinkGrew, SinkGrewByPrefix}
 use Rattle.aioscan_cmd.specs.RequestList.{Page, Request, blocks_of_parts, request}
-use Rattle.aioscan_cmd.specs.Outcomes.{ending_of, is_refused, named_block, is_output_cut_off}
+use Rattle.aioscan_cmd.specs.Outcomes.{outcome_ending, is_refused, named_block, is_output_cut_off}
 use Rattle.aioscan_cmd.specs.Output.{OutputGrew, IsOutput, WriteFaultsCounted, ListFormat}
 use Rattle.aioscan_cmd.specs.Output.{format_of_options}
 use Rattle.aioscan_cmd.specs.ListerState.{unread_count, outcome_of_ending, JobTextWritten}
@@ -123,7 +123,7 @@ module _ (r : ℕ) (blocks : List Request) (all_of : AreOf r blocks) where
         sums end (sym alone) answer
 
     -- the job's text was written whole, and its warnings behind it
-    listed_whole : (o : Outcome) → is_refused o ≡ false → (answer : Answer (ending_of o))
+    listed_whole : (o : Outcome) → is_refused o ≡ false → (answer : Answer (outcome_ending o))
         → ((e : Request) → named_block o ≡ Some e
         → slice_get blocks (length answer.pages) ≡ Some e)
         → OutputGrew o b a text → SinkGrew b a text → (m.zero ≡ false → warnings ≡ [])
@@ -132,25 +132,25 @@ module _ (r : ℕ) (blocks : List Request) (all_of : AreOf r blocks) where
     listed_whole o begun answer here grew all quiet memory =
         let n = length answer.pages in
         let every = take_all n answer.pages (omega arith) in record {
-          begun = begun;
+          not_refused = begun;
           text = text;
           all_warnings = warnings;
           sums = sums;
-          answer = as_part (ending_of o) answer;
-          here = λ e is. (ap (λ (l : List Request). slice_get l n) alone ∙ here e is);
-          grew = grew;
+          answer = as_part (outcome_ending o) answer;
+          named_block_is = λ e is. (ap (λ (l : List Request). slice_get l n) alone ∙ here e is);
+          output_grew = grew;
           whole = n;
-          among = omega arith;
+          pages_within = omega arith;
           all = λ _. refl;
-          stopped = λ is. inr (
+          stopped_behind = λ is. inr (
             memory is,
             SinkGrew-same b a text _ (answer.text_is ∙ ap texts (sym every)) all,
           );
-          warned = answer.warnings_are ∙ ap warnings_of (sym every);
-          quiet = quiet;
+          warnings_are = answer.warnings_are ∙ ap warnings_of (sym every);
+          no_warnings = quiet;
         }
 
-    pub text_listed : (end : JobEnding) → Answer (said_end end) → SinkGrew b a text
+    pub text_listed : (end : JobEnding) → Answer (answered_ending end) → SinkGrew b a text
         → (m.zero ≡ false → warnings ≡ [])
         → IsOutput m told (blocks ∷ []) b a (outcome_of_ending r end) warnings
     text_listed ending.Pages answer grew quiet =
@@ -188,26 +188,27 @@ module _ (r : ℕ) (blocks : List Request) (all_of : AreOf r blocks) where
         }
 
     unwritten : (o : Outcome) (end : JobEnding) → is_refused o ≡ false → is_output_cut_off o ≡ true
-        → named_block o ≡ None → ending_of o ≡ None → Answer (said_end end) → OutputGrew o b a text
+        → named_block o ≡ None → outcome_ending o ≡ None → Answer (answered_ending end)
+        → OutputGrew o b a text
         → text ≢ [] → SinkGrewByPrefix b a text → IsOutput m told (blocks ∷ []) b a o []
     unwritten o end begun cut stops ends answer grew some first =
         let few = pages_few (reader_of m.zero told) blocks answer.pages answer.answers.first in
         record {
-          begun = begun;
+          not_refused = begun;
           text = text;
           all_warnings = warnings;
           sums = sums;
-          answer = as_part (ending_of o)
-              (without_end (ending_of o) ends (said_end end) answer);
-          here = λ e is. absurd (cc);
-          grew = grew;
+          answer = as_part (outcome_ending o)
+              (without_end (outcome_ending o) ends (answered_ending end) answer);
+          named_block_is = λ e is. absurd (cc);
+          output_grew = grew;
           whole = 0;
-          among = omega arith;
+          pages_within = omega arith;
           all = λ is. absurd (cc);
-          stopped = λ is. inl (cut_alone m.text_of blocks answer.pages b a text few answer.text_is
+          stopped_behind = λ is. inl (cut_alone m.text_of blocks answer.pages b a text few answer.text_is
               some (no_listing m.text_of) first);
-          warned = sym no_warnings;
-          quiet = λ _. refl;
+          warnings_are = sym no_warnings;
+          no_warnings = λ _. refl;
         }
 
 module _ (job : Job) (b a : Option (List ℕ)) where
@@ -222,7 +223,7 @@ module _ (job : Job) (b a : Option (List ℕ)) where
       subst Q (sym is) (subst R (sym listed.same.0)
       (text_listed asked.relation blocks (job_entries_of_relation skips asked)
       (format_of_options m) told job.text.items w
-      job.tally b a job.ending listed.answer grew listed.quiet)))
+      job.tally b a job.ending listed.answer grew listed.no_warnings)))
 
   pub job_unwritten : job.text.items ≢ [] → SinkGrewByPrefix b a job.text.items
       → JobTextWritten job b a CannotWrite []
@@ -250,10 +251,10 @@ ended_unread r ending.NoMemory = refl
 
 -- a job that ended in Unread is one
 pub one_unread : (job : Job) (o : Outcome) → o ≡ outcome_of_ending job.relation job.ending
-    → unread_count o ≤ unread_among (job ∷ [])
+    → unread_count o ≤ unread_job_count (job ∷ [])
 one_unread job o is =
     let counted = sum_by-cons (λ (j : Job). cond (is_unread j.ending) 1 0) job [] in
-    let P : ℕ → Type 0 = λ n. n ≤ unread_among (job ∷ []) in
+    let P : ℕ → Type 0 = λ n. n ≤ unread_job_count (job ∷ []) in
     subst P (sym (ap unread_count is))
     (omega (arith, counted, ended_unread job.relation job.ending))
 

@@ -7,7 +7,8 @@ use Rattle.std.proofs.lemmas.List.Concat.{flat_map-cons}
 use Rattle.std.proofs.lemmas.List.Sums.{sum_by-cons, get_or-le-sum_by}
 use Rattle.page_check.specs.Told.{Told}
 use Rattle.scan_rounds.specs.ListOptions.{ListOptions}
-use Rattle.scan_rounds.specs.Jobs.{IsListed, AreAnswered, entries_of_job, unread_among, is_unread}
+use Rattle.scan_rounds.specs.Jobs.{JobIsListed, AllJobsAnswered, entries_of_job, unread_job_count}
+use Rattle.scan_rounds.specs.Jobs.{is_unread}
 use Rattle.scan_rounds.specs.Jobs.{count_unskipped}
 use Rattle.scan_rounds.specs.BlockFilter.{BlockFilter}
 use Rattle.scan_rounds.specs.declared.job.Job.{Job}
@@ -20,10 +21,10 @@ use Rattle.aioscan_cmd.specs.declared.report.Outcome.TheVariants.{Done}
 use Rattle.aioscan_cmd.proofs.OutputsAppend.{lists_append, lists_more, lists_same, lists_none}
 
 pub among_all : (jobs : List Job) (i n : ℕ) (d job : Job) → i < length jobs → job ≡ get_or jobs i d
-    → n ≤ unread_among (job ∷ []) → n ≤ unread_among jobs
+    → n ≤ unread_job_count (job ∷ []) → n ≤ unread_job_count jobs
 among_all jobs i n d job inside is few =
     let f : Job → ℕ = λ j. cond (is_unread j.ending) 1 0 in
-    let P : Job → Type 0 = λ j. n ≤ unread_among (j ∷ []) in
+    let P : Job → Type 0 = λ j. n ≤ unread_job_count (j ∷ []) in
     let here = subst P is few in
     omega (
       arith,
@@ -53,7 +54,7 @@ parts_one_more skips jobs job = map-append (entries_of_job skips) jobs (job ∷ 
 abbrev pub FirstListed : List Job → ℕ → Option (List ℕ) → Option (List ℕ) → List ℕ → Type 0
 FirstListed jobs k b a w =
     (skips : Option BlockFilter) (m : ListOptions) (told : Option Told) (asked : List Job)
-    → AreAnswered skips m told asked jobs
+    → AllJobsAnswered skips m told asked jobs
     → IsOutput (format_of_options m) told (unskipped_job_parts skips (take k asked)) b a Done w
 
 module _ (jobs : List Job) (k : ℕ) (job : Job) (b between a : Option (List ℕ))
@@ -62,14 +63,14 @@ module _ (jobs : List Job) (k : ℕ) (job : Job) (b between a : Option (List ℕ
   pub next_listed : (o : Outcome) (v w : List ℕ) → FirstListed jobs k b between v
       → JobTextWritten job between a o w
       → (skips : Option BlockFilter) (m : ListOptions) (told : Option Told) (asked : List Job)
-      → AreAnswered skips m told asked jobs
+      → AllJobsAnswered skips m told asked jobs
       → IsOutput (format_of_options m) told
       (unskipped_job_parts skips (take (k + 1) asked)) b a o (v ++ w)
   next_listed o v w before here skips m told asked all =
       let below : k < length asked = omega (arith, all.as_many) in
       let one = all.each k job below in
       let this = get_or asked k job in
-      let P : Job → Type 0 = λ j. IsListed skips m told (λ _. ⊤) this j in
+      let P : Job → Type 0 = λ j. JobIsListed skips m told (λ _. ⊤) this j in
       let more : unskipped_job_parts skips (take (k + 1) asked)
       ≡ unskipped_job_parts skips (take k asked) ++ entries_of_job skips this ∷ [] =
       ap (unskipped_job_parts skips) (take_more asked k job below)

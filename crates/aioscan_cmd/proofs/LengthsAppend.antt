@@ -5,7 +5,7 @@ use Rattle.std.specs.Prelude.{Option, Some, None, IfSome}
 use Rattle.page_check.specs.Told.{Told, relation_block_count}
 use Rattle.aioscan_cmd.specs.Command.{number_limit}
 use Rattle.aioscan_cmd.specs.Run.{limit_known}
-use Rattle.aioscan_cmd.specs.Lengths.{HasLengths, AreLengths}
+use Rattle.aioscan_cmd.specs.Lengths.{HasAllLengths, AreToldLengths}
 
 fit_more : (limit : ℕ) (lengths : List ℕ) (n : ℕ) → ((r : ℕ) → get_or lengths r 0 ≤ limit)
     → n ≤ limit
@@ -28,8 +28,8 @@ are_more blocks (x ∷ lengths) n are last (suc r) below =
     (omega arith)
 
 are_told : (told : Option Told) (lengths : List ℕ) (r n : ℕ) → length lengths ≡ r
-    → AreLengths told lengths → IfSome told (λ t. n ≡ relation_block_count t r)
-    → AreLengths told (lengths ++ n ∷ [])
+    → AreToldLengths told lengths → IfSome told (λ t. n ≡ relation_block_count t r)
+    → AreToldLengths told (lengths ++ n ∷ [])
 are_told None lengths r n all are last = tt
 are_told (Some t) lengths r n all are last =
     are_more (relation_block_count t) lengths n are (last ∙ ap (relation_block_count t) (sym all))
@@ -42,28 +42,28 @@ limit_is (Some t) segment same = ap (λ (n : ℕ). 16 * n) same
 
 pub no_lengths : (told : Option Told) (segment : ℕ) (lengths : List ℕ)
     → limit_known told segment ≤ number_limit → lengths ≡ []
-    → HasLengths told segment 0 lengths
+    → HasAllLengths told segment 0 lengths
 no_lengths None segment lengths small none = rw none (record {
   all = refl;
   fit = λ r. omega arith;
   in_range = small;
-  are = tt;
+  told_lengths = tt;
 })
 no_lengths (Some t) segment lengths small none = rw none (record {
   all = refl;
   fit = λ r. omega arith;
   in_range = small;
-  are = λ r below. absurd (omega arith);
+  told_lengths = λ r below. absurd (omega arith);
 })
 
 pub HasLengths-more : (told now : Option Told) (segment : ℕ) (lengths more : List ℕ) (r n : ℕ)
-    → now ≡ told → HasLengths told segment r lengths
+    → now ≡ told → HasAllLengths told segment r lengths
     → IfSome now (λ t. n ≡ relation_block_count t r) → n ≤ limit_known told segment
     → more ≡ lengths ++ n ∷ []
-    → HasLengths told segment (r + 1) more
+    → HasAllLengths told segment (r + 1) more
 HasLengths-more told now segment lengths more r n same taken last small is = rw is (record {
   all = omega (arith, length-append lengths (n ∷ []), taken.all);
   fit = fit_more (limit_known told segment) lengths n taken.fit small;
   in_range = taken.in_range;
-  are = are_told told lengths r n taken.all taken.are (rw (← same) last);
+  told_lengths = are_told told lengths r n taken.all taken.told_lengths (rw (← same) last);
 })

@@ -1,8 +1,7 @@
 pub mod GrammarRulesAppend
 pub mod GeneratedBytesAppend
 pub mod GeneratedPagesValid
-pub mod Digits
-pub mod FileWords
+pub mod WordValues
 pub mod MapWords
 pub mod ParseClauses
 pub mod DistinctNames
@@ -18,7 +17,6 @@ mod UnskippedBlocksAppend
 mod MapPageCount
 mod MapPagesThenBlocks
 mod MapCommandOutput
-pub mod WriteFaultsCompose
 pub mod FileRequestsAppend
 mod RefusedRuns
 mod ListedRuns

@@ -3,64 +3,60 @@ use Rattle.std.proofs.Common.{◌≡◌, ℕ, ◌+◌, ◌<◌, ◌≤◌, List,
 use Rattle.std.proofs.Common.{true, false}
 use Rattle.std.specs.Prelude.{Option, Some, None, slice_index}
 use Rattle.page_check.specs.Told.{Told, relation_block_count}
-use Rattle.aio_disk.specs.Counts.{raised_by}
+use Rattle.aio_disk.specs.Counts.{count_plus}
 use Rattle.aio_handle.specs.Execution.{last_count}
-use Rattle.aioscan_cmd.specs.Command.{Command, relations_of}
+use Rattle.aioscan_cmd.specs.Command.{Command, command_relations}
 use Rattle.aioscan_cmd.specs.RequestList.{request_list, request_parts}
 use Rattle.aioscan_cmd.specs.Outcomes.{is_refused}
-use Rattle.aioscan_cmd.specs.Lengths.{HasLengths}
+use Rattle.aioscan_cmd.specs.Lengths.{HasAllLengths}
 use Rattle.aioscan_cmd.specs.Output.{ObservedState, observed_state, IsOutput, map_pages_known}
 use Rattle.aioscan_cmd.specs.Output.{command_format}
 use Rattle.aioscan_cmd.specs.Run.{IsFileRun, EarlierFit, FitsInOrder, lengths_known, limit_known}
 use Rattle.aioscan_cmd.specs.declared.report.Outcome.{Outcome}
-use Rattle.aioscan_cmd.specs.declared.report.Outcome.TheVariants.{Done, Invalid, Usage, CannotOpen}
-use Rattle.aioscan_cmd.specs.declared.report.Outcome.TheVariants.{NoLength, Unread, CannotWrite}
-use Rattle.aioscan_cmd.specs.declared.report.Outcome.TheVariants.{NoMemory, Missing, TooLong}
+use Rattle.aioscan_cmd.specs.declared.report.Outcome.TheVariants.{Usage, CannotOpen}
+use Rattle.aioscan_cmd.specs.declared.report.Outcome.TheVariants.{NoLength}
+use Rattle.aioscan_cmd.specs.declared.report.Outcome.TheVariants.{NoMemory, TooLong}
 use Rattle.aioscan_cmd.proofs.OutputsAppend.{lists_same}
 use Rattle.aioscan_cmd.proofs.FileRequestsAppend.{request_list-same, request_parts-same}
 
 -- the lengths fit
 lengths_fit : (told : Option Told) (segment relations : ℕ) (lengths : List ℕ)
-    → HasLengths told segment relations lengths
+    → HasAllLengths told segment relations lengths
     → EarlierFit (limit_known told segment) (lengths_known told (slice_index lengths)) relations
 lengths_fit None segment relations lengths has = λ q below. has.fit q
 lengths_fit (Some t) segment relations lengths has = λ q below.
-    (let is : get_or lengths q 0 ≡ relation_block_count t q = has.are q (omega (arith, has.all)) in
+    (let is : get_or lengths q 0 ≡ relation_block_count t q = has.told_lengths q (omega (arith, has.all)) in
     omega (arith, has.fit q))
 
 fits_where_listed : (limit : ℕ) (lengths : ℕ → ℕ) (relations : ℕ) (o : Outcome)
     → is_refused o ≡ false → EarlierFit limit lengths relations
     → FitsInOrder limit lengths relations o
-fits_where_listed limit lengths relations Done is fit = fit
-fits_where_listed limit lengths relations (Invalid r b) is fit = fit
-fits_where_listed limit lengths relations (Missing r b) is fit = fit
-fits_where_listed limit lengths relations (Unread r b) is fit = fit
-fits_where_listed limit lengths relations CannotWrite is fit = fit
 fits_where_listed limit lengths relations NoMemory is fit = tt
 fits_where_listed limit lengths relations Usage is fit = tt
 fits_where_listed limit lengths relations CannotOpen is fit = tt
 fits_where_listed limit lengths relations (NoLength r) is fit = absurd (cc)
 fits_where_listed limit lengths relations (TooLong r) is fit = absurd (cc)
+fits_where_listed limit lengths relations _ is fit = fit
 
 same_requests : (told : Option Told) (segment relations : ℕ) (command : Command)
-    (lengths : List ℕ) (map_page : ℕ → List ℕ) → relations ≡ length (relations_of command)
-    → HasLengths told segment relations lengths
+    (lengths : List ℕ) (map_page : ℕ → List ℕ) → relations ≡ length (command_relations command)
+    → HasAllLengths told segment relations lengths
     → request_list (slice_index lengths) map_page command
     ≡ request_list (lengths_known told (slice_index lengths)) map_page command
 same_requests None segment relations command lengths map_page all has = refl
 same_requests (Some t) segment relations command lengths map_page all has =
     request_list-same (slice_index lengths) (relation_block_count t) map_page command
-    (λ r below. has.are r (omega (arith, has.all)))
+    (λ r below. has.told_lengths r (omega (arith, has.all)))
 
 same_parts : (told : Option Told) (segment relations : ℕ) (command : Command)
-    (lengths : List ℕ) (map_page : ℕ → List ℕ) → relations ≡ length (relations_of command)
-    → HasLengths told segment relations lengths
+    (lengths : List ℕ) (map_page : ℕ → List ℕ) → relations ≡ length (command_relations command)
+    → HasAllLengths told segment relations lengths
     → request_parts (slice_index lengths) map_page command
     ≡ request_parts (lengths_known told (slice_index lengths)) map_page command
 same_parts None segment relations command lengths map_page all has = refl
 same_parts (Some t) segment relations command lengths map_page all has =
     request_parts-same (slice_index lengths) (relation_block_count t) map_page command
-    (λ r below. has.are r (omega (arith, has.all)))
+    (λ r below. has.told_lengths r (omega (arith, has.all)))
 
 refused_not : (o : Outcome) → is_refused o ≡ false → is_refused o ≡ true → ⊥
 refused_not o not is = absurd (cc)
@@ -68,8 +64,8 @@ refused_not o not is = absurd (cc)
 -- blocks were listed, all of them or up to a stop
 pub ran_listed : (told now : Option Told) (segment relations : ℕ) (command : Command)
     (lengths : List ℕ) (given : ℕ → List ℕ) (output after : Option (List ℕ)) (read : ℕ)
-    (o : Outcome) (w : List ℕ) → now ≡ told → relations ≡ length (relations_of command)
-    → HasLengths told segment relations lengths
+    (o : Outcome) (w : List ℕ) → now ≡ told → relations ≡ length (command_relations command)
+    → HasAllLengths told segment relations lengths
     → IsOutput (command_format command) now (request_parts (slice_index lengths)
     (map_pages_known now command.settings.zero given) command) output after o w
     → (read < last_count → read ≤ length (request_list (slice_index lengths)
@@ -89,20 +85,20 @@ ran_listed told now segment relations command lengths given output after read o 
       answered = slice_index lengths;
       map_page = given;
       segment = segment;
-      in_order = fits_where_listed _ _ relations o lists.begun
+      in_order = fits_where_listed _ _ relations o lists.not_refused
           (lengths_fit told segment relations lengths has);
-      lists = λ is. lists_same (command_format command) told _ _ output after o w parts
+      is_output = λ is. lists_same (command_format command) told _ _ output after o w parts
           (subst L same lists);
       few_reads = λ below. omega (arith, fewer below, ap length requests);
-      untouched = λ is. absurd (refused_not o lists.begun is);
+      output_same = λ is. absurd (refused_not o lists.not_refused is);
     }
 
-shelf_few : (read reads now most : ℕ) → now ≡ raised_by read reads
+shelf_few : (read reads now most : ℕ) → now ≡ count_plus read reads
     → (read < last_count → read ≤ 0 + most) → now < last_count → now ≤ reads + most
 shelf_few read reads now most back few below = omega (arith, back, few)
 
 shelf_untouched : (output after : Option (List ℕ)) (read reads now : ℕ)
-    → now ≡ raised_by read reads → observed_state after read ≡ observed_state output 0
+    → now ≡ count_plus read reads → observed_state after read ≡ observed_state output 0
     → observed_state after now ≡ observed_state output reads
 shelf_untouched output after read reads now back same =
     let none : read ≡ 0 = ap (λ (s : ObservedState). s.reads) same in
@@ -113,7 +109,7 @@ shelf_untouched output after read reads now back same =
 -- a disk that was not read before is taken back
 pub ran_on_shelf : (told now : Option Told) (relations count : ℕ) (command : Command)
     (output after : Option (List ℕ)) (read reads total : ℕ) (o : Outcome) (w : List ℕ)
-    → now ≡ told → count ≡ relations → total ≡ raised_by read reads
+    → now ≡ told → count ≡ relations → total ≡ count_plus read reads
     → IsFileRun now count command (observed_state output 0) (observed_state after read) o w
     → IsFileRun told relations command (observed_state output reads)
     (observed_state after total) o w
@@ -123,9 +119,9 @@ ran_on_shelf told now relations count command output after read reads total o w 
       map_page = run.map_page;
       segment = run.segment;
       in_order = run.in_order;
-      lists = run.lists;
+      is_output = run.is_output;
       few_reads = shelf_few read reads total _ back run.few_reads;
-      untouched = λ is. (let kept = run.untouched is in
+      output_same = λ is. (let kept = run.output_same is in
           (shelf_untouched output after read reads total back kept.0, kept.1));
     })
 

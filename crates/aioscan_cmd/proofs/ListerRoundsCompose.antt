@@ -3,31 +3,29 @@ use Rattle.std.proofs.Common.{◌≡◌, ◌≢◌, ℕ, List, [], ◌++◌, ref
 use Rattle.std.proofs.Common.{append_assoc, append-nil, inl, inr, ◌⊎◌, ⊎_elim}
 use Rattle.std.specs.Prelude.{Option}
 use Rattle.page_check.specs.Told.{Told}
+use Rattle.aio_disk.specs.declared.sink.Sink.{Ghosts as SinkGhosts}
 use Rattle.scan_rounds.specs.ListOptions.{ListOptions}
-use Rattle.scan_rounds.specs.Jobs.{AreAnswered}
+use Rattle.scan_rounds.specs.Jobs.{AllJobsAnswered}
 use Rattle.scan_rounds.specs.BlockFilter.{BlockFilter}
 use Rattle.scan_rounds.specs.declared.job.Job.{Job}
 use Rattle.aioscan_cmd.specs.RequestList.{Request, Part, blocks_of_parts}
 use Rattle.aioscan_cmd.specs.Output.{IsOutput, WriteFaultsCounted, ListFormat, format_of_options}
-use Rattle.aioscan_cmd.specs.ListerState.{unskipped_job_requests, AllJobTextsWritten, IsOver}
+use Rattle.aioscan_cmd.specs.ListerState.{unskipped_job_requests, AllJobTextsWritten, ListerIsOver}
 use Rattle.aioscan_cmd.specs.ListerState.{unskipped_job_parts, unskipped_parts}
-use Rattle.aioscan_cmd.specs.ListerState.{CutsOffJobs, HasListed, PreservesListing}
+use Rattle.aioscan_cmd.specs.ListerState.{CutsOffJobs, ListerListedParts, PreservesListing}
 use Rattle.aioscan_cmd.specs.ListerState.{lister_error_stream, lister_options, lister_filter}
-use Rattle.aioscan_cmd.specs.ErrorLine.{ErrorStream, Warns, error_stream}
+use Rattle.aioscan_cmd.specs.ErrorLine.{ErrorStream, AppendsWarnings, error_stream}
 use Rattle.aioscan_cmd.specs.declared.report.Line.{Line}
 use Rattle.aioscan_cmd.specs.declared.lister.Lister.{Lister}
 use Rattle.aioscan_cmd.specs.declared.report.Outcome.{Outcome}
-use Rattle.aioscan_cmd.specs.declared.report.Outcome.TheVariants.{Done, Invalid, Usage, CannotOpen}
-use Rattle.aioscan_cmd.specs.declared.report.Outcome.TheVariants.{NoLength, Unread, CannotWrite}
-use Rattle.aioscan_cmd.specs.declared.report.Outcome.TheVariants.{NoMemory, Missing, TooLong}
+use Rattle.aioscan_cmd.specs.declared.report.Outcome.TheVariants.{Done}
 use Rattle.heap_scan.specs.Sums.{sums_joined, no_sums}
 use Rattle.heap_scan.specs.declared.sums.PageSums.{PageSums}
 use Rattle.aioscan_cmd.specs.Sums.{AllPagesGiven, HasSums, saturated_sums, total_of_jobs}
 use Rattle.aioscan_cmd.proofs.JobSumsAdd.{none_summed, round_summed}
-use Rattle.aioscan_cmd.proofs.WriteFaultsCompose.{written_then}
 use Rattle.aioscan_cmd.proofs.PartsOfRequests.{blocks-append}
 use Rattle.aioscan_cmd.proofs.UnskippedBlocksAppend.{job_blocks, unskipped_after_cut}
-use Rattle.aioscan_cmd.proofs.OutputsAppend.{lists_none, lists_append, lists_more}
+use Rattle.aioscan_cmd.proofs.OutputsAppend.{lists_none, lists_append, lists_more, written_then}
 use Rattle.aioscan_cmd.proofs.ErrorTextsAppend.{warns_also, warns_none, warns_then}
 
 no_blocks_listed : (m : ListFormat) (told : Option Told) (s : Option (List ℕ)) (o : Outcome)
@@ -38,15 +36,7 @@ no_blocks_listed m told s o done =
 
 is_done : (o : Outcome) → (o ≡ Done) ⊎ (o ≢ Done)
 is_done Done = inl refl
-is_done (Invalid r b) = inr (λ e. cc)
-is_done (Missing r b) = inr (λ e. cc)
-is_done (Unread r b) = inr (λ e. cc)
-is_done CannotWrite = inr (λ e. cc)
-is_done NoMemory = inr (λ e. cc)
-is_done Usage = inr (λ e. cc)
-is_done CannotOpen = inr (λ e. cc)
-is_done (NoLength r) = inr (λ e. cc)
-is_done (TooLong r) = inr (λ e. cc)
+is_done _ = inr (λ e. cc)
 
 -- the blocks of some parts and of those of jobs
 joined_blocks : (skips : Option BlockFilter) (parts : List Part) (jobs : List Job)
@@ -62,38 +52,39 @@ nothing_written faults o done = record {
   cannot_write = λ is. absurd (cc);
 }
 
-module _ {W O E : Type 0} (told : Option Told) (written : O → Option (List ℕ)) (faults : O → ℕ)
-    (err_written : E → Option (List ℕ)) (err_faults : E → ℕ) where
+module _ {W O E : Type 0} (told : Option Told) (out : SinkGhosts O) (err : SinkGhosts E) where
   abbrev Goes : Lister W O E → Lister W O E → Type 0
-  Goes s t = PreservesListing told written faults err_written err_faults s t
+  Goes s t = PreservesListing told out err s t
 
   abbrev Listed : Option BlockFilter → ListOptions → List Part → Option (List ℕ) → ℕ
       → ErrorStream → Lister W O E → Type 0
   Listed skips m all before faults_before errors l =
-      HasListed told written faults err_written err_faults skips m all before faults_before errors l
+      ListerListedParts told out err skips m all before faults_before errors l
 
   abbrev errors : Lister W O E → ErrorStream
-  errors l = lister_error_stream told written faults err_written err_faults l
+  errors l = lister_error_stream told out err l
 
   -- jobs that were put leave the error stream as it was
   same_errors : (was : Lister W O E) (asked : List Job) (old : Lister W O E)
       → CutsOffJobs was asked old → errors was ≡ errors old
   same_errors was asked old gives_jobs =
-      ap (λ (l : Line). error_stream l (err_written was.err.now) (err_faults was.err.now))
+      ap (λ (l : Line). error_stream l (err.written was.err.now) (err.faults was.err.now))
       (sym gives_jobs.line)
-      ∙ ap (λ (e : E). error_stream old.line (err_written e) (err_faults e)) (sym gives_jobs.err)
+      ∙ ap (λ (e : E). error_stream old.line (err.written e) (err.faults e)) (sym gives_jobs.err)
 
   -- the jobs that were put have been written
   pub round_written : (was old new : Lister W O E) (asked jobs : List Job)
       → CutsOffJobs was asked old
-      → AreAnswered (lister_filter old) (lister_options old) told asked jobs → old.outcome ≡ Done
+      → AllJobsAnswered (lister_filter old) (lister_options old) told asked jobs → old.outcome
+      ≡ Done
       → new.blocks ≡ old.blocks → lister_options new ≡ lister_options old
       → lister_filter new ≡ lister_filter old
       → new.out.ghost_name ≡ old.out.ghost_name
       → new.err.ghost_name ≡ old.err.ghost_name
-      → Warns (AllJobTextsWritten jobs (written old.out.now) (written new.out.now) new.outcome)
+      → AppendsWarnings (AllJobTextsWritten jobs (out.written old.out.now) (out.written new.out.now)
+      new.outcome)
       (errors old) (errors new)
-      → WriteFaultsCounted (faults old.out.now) (faults new.out.now) new.outcome
+      → WriteFaultsCounted (out.faults old.out.now) (out.faults new.out.now) new.outcome
       → (new.outcome ≡ Done → AllPagesGiven jobs)
       → new.sums ≡ saturated_sums (sums_joined old.sums (total_of_jobs jobs)) → Goes was new
   round_written was old new asked jobs gives_jobs answered done same options_are_same filter_is_same
@@ -106,20 +97,20 @@ module _ {W O E : Type 0} (told : Option Told) (written : O → Option (List ℕ
             let options_are : lister_options old ≡ m = gives_jobs.options_same
             ∙ so_far.options_are in
             let filter_is : lister_filter old ≡ skips = gives_jobs.filter_same ∙ so_far.filter_is in
-            let A : ListOptions → Type 0 = λ x. AreAnswered skips x told asked jobs in
-            let B : Option BlockFilter → Type 0 = λ x. AreAnswered x (lister_options old)
+            let A : ListOptions → Type 0 = λ x. AllJobsAnswered skips x told asked jobs in
+            let B : Option BlockFilter → Type 0 = λ x. AllJobsAnswered x (lister_options old)
             told asked jobs in
             let here = subst A options_are (subst B filter_is answered) in
             let P : Outcome → Type 0 =
-            λ x. Warns (IsOutput (format_of_options m) told so_far.asked before
-            (written was.out.now) x) errors_before (errors was) in
+            λ x. AppendsWarnings (IsOutput (format_of_options m) told so_far.asked before
+            (out.written was.out.now) x) errors_before (errors was) in
             let Q : O → Type 0 =
-            λ o. Warns (IsOutput (format_of_options m) told so_far.asked before
-            (written o) Done) errors_before (errors was) in
+            λ o. AppendsWarnings (IsOutput (format_of_options m) told so_far.asked before
+            (out.written o) Done) errors_before (errors was) in
             let T : ErrorStream → Type 0 =
-            λ e. Warns (IsOutput (format_of_options m) told so_far.asked before
-            (written old.out.now) Done) errors_before e in
-            let V : O → Type 0 = λ o. WriteFaultsCounted faults_before (faults o) was.outcome in
+            λ e. AppendsWarnings (IsOutput (format_of_options m) told so_far.asked before
+            (out.written old.out.now) Done) errors_before e in
+            let V : O → Type 0 = λ o. WriteFaultsCounted faults_before (out.faults o) was.outcome in
             let first = subst T (same_errors was asked old gives_jobs)
             (subst Q (sym gives_jobs.out) (subst P was_done so_far.lists)) in
             let was_written = subst V (sym gives_jobs.out) so_far.writes in record {
@@ -136,7 +127,7 @@ module _ {W O E : Type 0} (told : Option Told) (written : O → Option (List ℕ
               lists = warns_then _ _ _ _ _ _
                   (λ v w before_it now_it. lists_append (format_of_options m) told so_far.asked
                   (unskipped_job_parts skips asked) before
-                  (written old.out.now) (written new.out.now)
+                  (out.written old.out.now) (out.written new.out.now)
                   new.outcome v w before_it (now_it skips m told asked here)) first lists;
               sums = λ all_given.
                   (let S : PageSums → Type 0 = λ s. HasSums m told
@@ -151,46 +142,14 @@ module _ {W O E : Type 0} (told : Option Told) (written : O → Option (List ℕ
             }),
       )
 
-  -- nothing more is written once the run has ended
-  pub round_passed : (was old : Lister W O E) (asked : List Job) → CutsOffJobs was asked old
-      → old.outcome ≢ Done → Goes was old
-  round_passed was old asked gives_jobs over = (
-    gives_jobs.loans.0,
-    gives_jobs.loans.1,
-    λ skips m all before faults_before errors_before so_far.
-        (let P : Outcome → Type 0 =
-        λ x. Warns (IsOutput (format_of_options m) told so_far.asked before (written was.out.now) x)
-        errors_before (errors was) in
-        let Q : O → Type 0 =
-        λ o. Warns (IsOutput (format_of_options m) told so_far.asked before (written o)
-        old.outcome) errors_before (errors was) in
-        let T : ErrorStream → Type 0 =
-        λ e. Warns (IsOutput (format_of_options m) told so_far.asked before
-        (written old.out.now) old.outcome) errors_before e in
-        let U : Outcome → Type 0 = λ x. WriteFaultsCounted faults_before (faults was.out.now) x in
-        let V : O → Type 0 = λ o. WriteFaultsCounted faults_before
-        (faults o) old.outcome in record {
-          asked = so_far.asked;
-          rest = so_far.rest;
-          cut = so_far.cut;
-          left = λ done. absurd (over done);
-          options_are = gives_jobs.options_same ∙ so_far.options_are;
-          filter_is = gives_jobs.filter_same ∙ so_far.filter_is;
-          lists = subst T (same_errors was asked old gives_jobs)
-              (subst Q (sym gives_jobs.out) (subst P (sym gives_jobs.outcome) so_far.lists));
-          sums = λ done. absurd (over done);
-          writes = subst V (sym gives_jobs.out) (subst U (sym gives_jobs.outcome) so_far.writes);
-        }),
-  )
-
   -- from the first round to the last
   ended : (all : List Part) (s t : Lister W O E) → s.outcome ≡ Done
       → unskipped_parts (lister_filter s) s.blocks ≡ all → s.sums ≡ no_sums → Goes s t
-      → Listed (lister_filter s) (lister_options s) all (written s.out.now)
-      (faults s.out.now) (errors s) t
+      → Listed (lister_filter s) (lister_options s) all (out.written s.out.now)
+      (out.faults s.out.now) (errors s) t
   ended all s t done same none goes =
-      goes.2 (lister_filter s) (lister_options s) all (written s.out.now)
-      (faults s.out.now) (errors s) (record {
+      goes.2 (lister_filter s) (lister_options s) all (out.written s.out.now)
+      (out.faults s.out.now) (errors s) (record {
         asked = [];
         rest = all;
         cut = refl;
@@ -199,20 +158,21 @@ module _ {W O E : Type 0} (told : Option Told) (written : O → Option (List ℕ
         filter_is = refl;
         lists = warns_none _ s.line s.line _ _ refl
             (no_blocks_listed (format_of_options (lister_options s)) told
-            (written s.out.now) s.outcome done);
+            (out.written s.out.now) s.outcome done);
         sums = λ _. none_summed (lister_filter s) (lister_options s) told s.sums none;
-        writes = nothing_written (faults s.out.now) s.outcome done;
+        writes = nothing_written (out.faults s.out.now) s.outcome done;
       })
 
   pub all_listed : (all : List Part) (s t : Lister W O E) → s.outcome ≡ Done
-      → unskipped_parts (lister_filter s) s.blocks ≡ all → s.sums ≡ no_sums → Goes s t → IsOver t
-      → Warns (IsOutput (format_of_options (lister_options s)) told all
-      (written s.out.now) (written t.out.now) t.outcome) (errors s) (errors t)
+      → unskipped_parts (lister_filter s) s.blocks ≡ all → s.sums ≡ no_sums → Goes s t
+      → ListerIsOver t
+      → AppendsWarnings (IsOutput (format_of_options (lister_options s)) told all
+      (out.written s.out.now) (out.written t.out.now) t.outcome) (errors s) (errors t)
   all_listed all s t done same no_sum goes over =
       let at = ended all s t done same no_sum goes in
       let P : List Part → Type 0 =
-      λ l. Warns (IsOutput (format_of_options (lister_options s)) told l
-      (written s.out.now) (written t.out.now) t.outcome) (errors s) (errors t) in
+      λ l. AppendsWarnings (IsOutput (format_of_options (lister_options s)) told l
+      (out.written s.out.now) (out.written t.out.now) t.outcome) (errors s) (errors t) in
       let more : t.outcome ≢ Done → P all =
       λ stops. subst P (sym at.cut)
       (warns_also _ _ _ _ (λ w listed. lists_more (format_of_options (lister_options s))
@@ -228,11 +188,12 @@ module _ {W O E : Type 0} (told : Option Told) (written : O → Option (List ℕ
 
   pub all_written : (all : List Part) (s t : Lister W O E) → s.outcome ≡ Done
       → unskipped_parts (lister_filter s) s.blocks ≡ all → s.sums ≡ no_sums → Goes s t
-      → WriteFaultsCounted (faults s.out.now) (faults t.out.now) t.outcome
+      → WriteFaultsCounted (out.faults s.out.now) (out.faults t.out.now) t.outcome
   all_written all s t done same none goes = (ended all s t done same none goes).writes
 
   pub all_summed : (all : List Part) (s t : Lister W O E) → s.outcome ≡ Done
-      → unskipped_parts (lister_filter s) s.blocks ≡ all → s.sums ≡ no_sums → Goes s t → IsOver t
+      → unskipped_parts (lister_filter s) s.blocks ≡ all → s.sums ≡ no_sums → Goes s t
+      → ListerIsOver t
       → t.outcome ≡ Done → HasSums (lister_options s) told (blocks_of_parts all) t.sums
   all_summed all s t done same no_sum goes over is =
       let at = ended all s t done same no_sum goes in

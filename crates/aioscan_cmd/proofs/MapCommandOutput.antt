@@ -8,11 +8,11 @@ use Rattle.page_check.specs.Told.{Told}
 use Rattle.vis_map.specs.Bits.{Map}
 use Rattle.vis_map.specs.MapRequest.{unmarked_entries}
 use Rattle.vis_map.specs.declared.map.Skip.{Skip}
-use Rattle.scan_rounds.specs.Jobs.{said_end, unread_in}
+use Rattle.scan_rounds.specs.Jobs.{answered_ending, unread_ending_count}
 use Rattle.scan_rounds.specs.ListOptions.{ListOptions}
-use Rattle.scan_rounds.specs.Rounds.{IsMapRead}
+use Rattle.scan_rounds.specs.Rounds.{MapPagesConsumed}
 use Rattle.scan_rounds.specs.BlockFilter.{BlockFilter, unskipped_entries}
-use Rattle.scan_rounds.specs.ConsumedPages.{HasPages, PagesConsumed}
+use Rattle.scan_rounds.specs.ConsumedPages.{MapHasPages, PagesConsumed}
 use Rattle.scan_rounds.proofs.ReadMaps.{map_taken}
 use Rattle.scan_rounds.specs.declared.backend.Backend.{Backend}
 use Rattle.scan_rounds.specs.declared.job.Ending.{Ending as JobEnding}
@@ -38,9 +38,9 @@ use Rattle.aioscan_cmd.proofs.UnskippedBlocksAppend.{resolved_unskipped, unskipp
 module _ {W D : Type 0} (m m' : ListOptions) (told : Option Told) (bs cs : List (Backend W D))
     (k k' : ℕ) (found : Map) (warnings : List ℕ) (end : JobEnding) (some : 1 ≤ length bs)
     (options : m' ≡ m) (count : k' ≡ k)
-    (read : IsMapRead m' told bs cs 1 k' found warnings end) where
-  taken : PagesConsumed (HasPages found warnings) m.zero told (λ _. ⊤) (block_range 1 0 k)
-      (said_end end)
+    (read : MapPagesConsumed m' told bs cs 1 k' found warnings end) where
+  taken : PagesConsumed (MapHasPages found warnings) m.zero told (λ _. ⊤) (block_range 1 0 k)
+      (answered_ending end)
   taken = map_taken m m' told bs cs 1 k k' found warnings end some options count read
 
   pub map_part : (by : MapOption) (s : Option (List ℕ))
@@ -53,11 +53,11 @@ module _ {W D : Type 0} (m m' : ListOptions) (told : Option Told) (bs cs : List 
       (range_with_len 0 k)
   map_added all =
       added_known m.zero told (λ _. ⊤) k found warnings
-      (subst (λ (e : JobEnding). PagesConsumed (HasPages found warnings) m.zero told (λ _. ⊤)
-      (block_range 1 0 k) (said_end e)) all taken)
+      (subst (λ (e : JobEnding). PagesConsumed (MapHasPages found warnings) m.zero told (λ _. ⊤)
+      (block_range 1 0 k) (answered_ending e)) all taken)
 
 pub unread_out : (r : ℕ) (end : JobEnding) (o : Outcome) (q b : ℕ) → o ≡ outcome_of_ending r end
-    → o ≡ Unread q b → unread_in end ≡ 1
+    → o ≡ Unread q b → unread_ending_count end ≡ 1
 unread_out r (ending.Unread n) o q b is out = refl
 unread_out r ending.Pages o q b is out = absurd (cc)
 unread_out r (ending.Invalid n) o q b is out = absurd (cc)

@@ -7,7 +7,7 @@ use Rattle.std.specs.Str.{bytes_eq}
 use Rattle.std.proofs.lemmas.Slice.Eq.{bytes_eq-Decides}
 use Rattle.vis_map.specs.MapRequest.{greatest_of}
 use Rattle.aioscan_cmd.specs.Command.{Command, MapOption, asked_count, first_block}
-use Rattle.aioscan_cmd.specs.Command.{relation_number, relations_of, relations_with}
+use Rattle.aioscan_cmd.specs.Command.{relation_number, command_relations, relations_with}
 use Rattle.aioscan_cmd.specs.RemainingRequests.{IsResolved, greatest_requested_block}
 use Rattle.aioscan_cmd.specs.RemainingRequests.{resolved_requests}
 use Rattle.aioscan_cmd.specs.RequestList.{Request, block_range, all_file_requests}
@@ -42,7 +42,7 @@ first_number file names =
 
 abbrev one_range : ResolvedCommand → List ℕ → List Request
 one_range a file =
-    let r = relation_number file (relations_of a.command.now) in
+    let r = relation_number file (command_relations a.command.now) in
     block_range r (first_block a.command.now)
     (asked_count a.command.now (slice_index a.lengths.now r))
 
@@ -62,19 +62,19 @@ module _ (a : ResolvedCommand) (file : List ℕ) (is : (a.command.now).files ≡
   pub requests_are : resolved_requests a ≡ one_range a file
   requests_are = one_file (slice_index a.lengths.now) a.command.now file is
 
-  pub number_is : relation_number file (relations_of a.command.now) ≡ 0
+  pub number_is : relation_number file (command_relations a.command.now) ≡ 0
   number_is = zero_is (a.command.now).files file (a.command.now).map is
 
   pub all_of_zero : AreOf 0 (resolved_requests a)
   all_of_zero =
-      let r = relation_number file (relations_of a.command.now) in
+      let r = relation_number file (command_relations a.command.now) in
       let Q : ℕ → Type 0 = λ n. AreOf n (one_range a file) in
       let P : List Request → Type 0 = λ l. AreOf 0 l in
       subst P (sym requests_are) (subst Q number_is (range_of r _ _))
 
   pub none_asked : (count : ℕ)
       → count ≡ asked_count a.command.now
-      (slice_index a.lengths.now (relation_number file (relations_of a.command.now)))
+      (slice_index a.lengths.now (relation_number file (command_relations a.command.now)))
       → count ≡ 0 → greatest_requested_block a ≡ None
   none_asked count same none =
       ap (λ (l : List Request). greatest_of (map (λ (e : Request). e.block) l)) requests_are
@@ -82,11 +82,11 @@ module _ (a : ResolvedCommand) (file : List ℕ) (is : (a.command.now).files ≡
 
   pub some_asked : (count : ℕ)
       → count ≡ asked_count a.command.now
-      (slice_index a.lengths.now (relation_number file (relations_of a.command.now)))
+      (slice_index a.lengths.now (relation_number file (command_relations a.command.now)))
       → 1 ≤ count → greatest_requested_block a ≡ Some (first_block a.command.now + (count - 1))
   some_asked zero same some = absurd (omega arith)
   some_asked (suc n) same some =
-      let r = relation_number file (relations_of a.command.now) in
+      let r = relation_number file (command_relations a.command.now) in
       ap (λ (l : List Request). greatest_of (map (λ (e : Request). e.block) l)) requests_are
       ∙ rw (← same) (greatest_in_range r (first_block a.command.now) n
       ∙ ap {B = Option ℕ} (λ (x : ℕ). Some (first_block a.command.now + x))

@@ -16,10 +16,10 @@ use Rattle.heap_scan.specs.Sums.{sums_of}
 use Rattle.heap_tuple.specs.Listing.{text_with}
 use Rattle.vis_map.specs.Bits.{Map}
 use Rattle.vis_map.specs.MapRequest.{greatest_of, unmarked_entries, needed_pages}
-use Rattle.scan_rounds.specs.Jobs.{said_end}
+use Rattle.scan_rounds.specs.Jobs.{answered_ending}
 use Rattle.scan_rounds.specs.ListOptions.{ListOptions}
 use Rattle.scan_rounds.specs.BlockFilter.{unskipped_entries}
-use Rattle.scan_rounds.specs.ConsumedPages.{HasPages, PagesConsumed}
+use Rattle.scan_rounds.specs.ConsumedPages.{MapHasPages, PagesConsumed}
 use Rattle.scan_rounds.specs.declared.job.Ending.{Ending as JobEnding}
 use Rattle.scan_rounds.proofs.Blocks.{answer_wider}
 use Rattle.scan_rounds.proofs.JobListed.{none_warned}
@@ -44,7 +44,8 @@ module _ (m : ListOptions) (told : Option Told) (s : Option (List ℕ)) where
   -- the pages of the map were read, up to this ending, and have no text
   pub map_listed : (by : MapOption) (may : Request → Type 0) (k : ℕ) (found : Map)
       (warnings : List ℕ) (end : JobEnding)
-      → PagesConsumed (HasPages found warnings) m.zero told may (block_range 1 0 k) (said_end end)
+      → PagesConsumed (MapHasPages found warnings) m.zero told may (block_range 1 0 k)
+      (answered_ending end)
       → IsOutput (format_with_map m (Some by)) told (block_range 1 0 k ∷ []) s s
       (outcome_of_ending 1 end) warnings
   map_listed by may k found warnings end given =
@@ -54,7 +55,7 @@ module _ (m : ListOptions) (told : Option Told) (s : Option (List ℕ)) where
       let pages_of_map = pages_are_of 1 found_by blocks given.pages (range_of 1 0 k)
       given.answers.first in
       let answer : IsJobAnswer text_of found_by (λ _. ⊤) blocks [] warnings
-      (sums_of given.pages) (said_end end) = record {
+      (sums_of given.pages) (answered_ending end) = record {
         pages = given.pages;
         text_is = sym (map_listing by (text_with m.tuples) given.pages pages_of_map);
         warnings_are = given.held.warnings_are;
@@ -81,7 +82,7 @@ module _ (m : ListOptions) (told : Option Told) (by : Option MapOption) (xs : Li
 
   pub rounds_listed : IsOutput (format_with_map m by) told xs b a o w
   rounds_listed = record {
-    begun = lists.begun;
+    not_refused = lists.not_refused;
     text = lists.text;
     all_warnings = lists.all_warnings;
     sums = lists.sums;
@@ -95,19 +96,19 @@ module _ (m : ListOptions) (told : Option Told) (by : Option MapOption) (xs : Li
       sums_are = lists.answer.sums_are;
       answers = lists.answer.answers;
     };
-    here = lists.here;
-    grew = lists.grew;
+    named_block_is = lists.named_block_is;
+    output_grew = lists.output_grew;
     whole = lists.whole;
-    among = lists.among;
+    pages_within = lists.pages_within;
     all = lists.all;
-    stopped = λ is.
+    stopped_behind = λ is.
         (let text_of = text_with m.tuples in
         let other = without_map_pages by text_of in
         stopped_by text_of other xs xs pages pages b b a a o lists.whole lists.whole
         (cut_in_text text_of other xs pages b a lists.whole of_zero)
-        (λ grew. SinkGrew-same b a _ _ (of_zero 0 lists.whole) grew) (lists.stopped is));
-    warned = lists.warned;
-    quiet = lists.quiet;
+        (λ grew. SinkGrew-same b a _ _ (of_zero 0 lists.whole) grew) (lists.stopped_behind is));
+    warnings_are = lists.warnings_are;
+    no_warnings = lists.no_warnings;
   }
 
 -- the elements of a list, by their places
@@ -143,7 +144,7 @@ range_count r first n =
 -- given
 pub added_known : (on : Bool) (told : Option Told) (may : Request → Type 0) (k : ℕ) (found : Map)
     (warnings : List ℕ)
-    → PagesConsumed (HasPages found warnings) on told may (block_range 1 0 k) (Some End)
+    → PagesConsumed (MapHasPages found warnings) on told may (block_range 1 0 k) (Some End)
     → found.added
     ≡ map (map_pages_known told on (λ b. slice_index_or found.added b [])) (range_with_len 0 k)
 added_known on None may k found warnings given =

@@ -7,7 +7,7 @@ use Rattle.vis_map.specs.declared.map.Skip.{Skip}
 use Rattle.aioscan_cmd.specs.Command.{IsMapOf, MapOption}
 use Rattle.aioscan_cmd.specs.Words.{Source, source_files, is_map_of, is_name, parsed_map, named_map}
 use Rattle.aioscan_cmd.specs.Words.{parsed_map_option}
-use Rattle.aioscan_cmd.specs.Words.{skip_of, source_of}
+use Rattle.aioscan_cmd.specs.Words.{skip_of, files_or_generated}
 
 -- a command that has a map has one file, whose name is another
 record IsOfOne (words : Option (List Text)) (map : MapOption) : Type 0 where
@@ -54,7 +54,7 @@ one_file (Some name) skip (Some (file ∷ other ∷ files)) map is = absurd (cc)
 -- no pages are generated where there are FILE words
 none_generated : (from to : Option ℕ) (tuples : Bool) (generated : Option ℕ)
     (words : List Text) (s : Source)
-    → source_of from to tuples generated (Some words) ≡ Some s → generated ≡ None
+    → files_or_generated from to tuples generated (Some words) ≡ Some s → generated ≡ None
 none_generated from to tuples None words s is = refl
 none_generated (Some from) to tuples (Some n) words s is = absurd (cc)
 none_generated None (Some to) tuples (Some n) words s is = absurd (cc)
@@ -63,13 +63,14 @@ none_generated None None false (Some n) words s is = absurd (cc)
 
 of_files : (rows : List Row) (from to : Option ℕ) (tuples : Bool)
     (generated : Option ℕ) (s : Source)
-    (map : Option MapOption) → source_of from to tuples generated
+    (map : Option MapOption) → files_or_generated from to tuples generated
     (all_of (codes "FILE") rows) ≡ Some s
     → IfSome map (IsOfOne (all_of (codes "FILE") rows))
     → IfSome map (IsMapOf generated (source_files generated rows))
 of_files rows from to tuples generated s None source of = tt
 of_files rows from to tuples generated s (Some map) source of =
-    let P : Option (List Text) → Type 0 = λ w. source_of from to tuples generated w ≡ Some s in
+    let P : Option (List Text) → Type 0 = λ w. files_or_generated from to tuples generated w
+    ≡ Some s in
     let none = none_generated from to tuples generated _ s (subst P of.one source) in
     let Q : Option ℕ → Type 0 = λ m. source_files m rows ≡ of.file ∷ [] in
     let here : Q None = rw (of.one) refl in
@@ -83,7 +84,7 @@ of_files rows from to tuples generated s (Some map) source of =
 -- words that are taken, and what they say of a map
 pub map_of_words : (rows : List Row) (from to : Option ℕ) (tuples : Bool) (generated : Option ℕ)
     (s : Source) (right : Bool) (map : Option MapOption)
-    → source_of from to tuples generated (all_of (codes "FILE") rows)
+    → files_or_generated from to tuples generated (all_of (codes "FILE") rows)
     ≡ (if right then Some s else None)
     → right ≡ true → parsed_map rows ≡ Some map
     → IfSome map (IsMapOf generated (source_files generated rows))

@@ -1,5 +1,5 @@
 -- Parts that were listed one after the other.
-use Rattle.std.proofs.Common.{◌≡◌, ◌≢◌, ◌+◌, ℕ, List, [], ◌++◌, length, take, refl, sym, ap}
+use Rattle.std.proofs.Common.{◌≡◌, ◌≢◌, ◌≤◌, ◌+◌, ℕ, List, [], ◌++◌, length, take, refl, sym, ap}
 use Rattle.std.proofs.Common.{◌∙◌, subst, arith, length-append, inr}
 use Rattle.std.specs.Prelude.{Option, Some, None, slice_get, ⊤}
 use Rattle.std.proofs.Math.Seq.{take-append-add}
@@ -17,14 +17,15 @@ use Rattle.heap_scan.specs.declared.sums.PageSums.{PageSums}
 use Rattle.heap_scan.specs.Warnings.{warnings_of}
 use Rattle.heap_scan.proofs.Jobs.{job_append, job_more, warnings-append, IsEarly}
 use Rattle.heap_scan.proofs.SumsOverPages.{sums_of-none}
+use Rattle.aio_disk.specs.Counts.{CountRose}
 use Rattle.aio_disk.specs.Sink.{SinkGrew}
 use Rattle.aioscan_cmd.specs.RequestList.{Request, Page, Part, blocks_of_parts}
-use Rattle.aioscan_cmd.specs.Outcomes.{ending_of}
-use Rattle.aioscan_cmd.specs.Output.{OutputGrew, IsOutput, ListFormat}
+use Rattle.aioscan_cmd.specs.Outcomes.{outcome_ending}
+use Rattle.aioscan_cmd.specs.Output.{IsOutput, ListFormat, OutputGrew, WriteFaultsCounted}
 use Rattle.aioscan_cmd.specs.declared.report.Outcome.{Outcome}
-use Rattle.aioscan_cmd.specs.declared.report.Outcome.TheVariants.{Done, Invalid, Usage, CannotOpen}
-use Rattle.aioscan_cmd.specs.declared.report.Outcome.TheVariants.{NoLength, Unread, CannotWrite}
-use Rattle.aioscan_cmd.specs.declared.report.Outcome.TheVariants.{NoMemory, Missing, TooLong}
+use Rattle.aioscan_cmd.specs.declared.report.Outcome.TheVariants.{Done, Invalid}
+use Rattle.aioscan_cmd.specs.declared.report.Outcome.TheVariants.{Unread, CannotWrite}
+use Rattle.aioscan_cmd.specs.declared.report.Outcome.TheVariants.{NoMemory, Missing}
 use Rattle.aioscan_cmd.proofs.CutsInParts.{cut_behind, cut_more, stopped_by, whole_behind}
 use Rattle.aioscan_cmd.proofs.PartsOfRequests.{blocks-append}
 use Rattle.aioscan_cmd.proofs.SinkTextsAppend.{SinkGrew-nothing, SinkGrew-append, SinkGrew-same}
@@ -63,19 +64,19 @@ pub lists_none : (m : ListFormat) (told : Option Told) (s : Option (List ℕ))
     → IsOutput m told [] s s Done []
 unfolding no_answer
 lists_none m told s = record {
-  begun = refl;
+  not_refused = refl;
   text = [];
   all_warnings = [];
   sums = no_sums;
   answer = no_answer m.text_of (reader_of m.zero told);
-  here = λ e is. absurd (cc);
-  grew = SinkGrew-nothing s;
+  named_block_is = λ e is. absurd (cc);
+  output_grew = SinkGrew-nothing s;
   whole = 0;
-  among = omega arith;
+  pages_within = omega arith;
   all = λ _. refl;
-  stopped = λ is. absurd (cc);
-  warned = sym no_warnings;
-  quiet = λ _. refl;
+  stopped_behind = λ is. absurd (cc);
+  warnings_are = sym no_warnings;
+  no_warnings = λ _. refl;
 }
 
 OutputGrew-append : (o : Outcome) (b m a : Option (List ℕ)) (xs ys : List ℕ) → SinkGrew b m xs
@@ -84,14 +85,7 @@ OutputGrew-append CannotWrite b m a xs ys first second = SinkGrewByPrefix-append
     second
 OutputGrew-append NoMemory b m a xs ys first second =
     SinkGrewByPrefix-append b m a xs ys first second
-OutputGrew-append Done b m a xs ys first second = SinkGrew-append b m a xs ys first second
-OutputGrew-append (Invalid r c) b m a xs ys first second = SinkGrew-append b m a xs ys first second
-OutputGrew-append (Missing r c) b m a xs ys first second = SinkGrew-append b m a xs ys first second
-OutputGrew-append (Unread r c) b m a xs ys first second = SinkGrew-append b m a xs ys first second
-OutputGrew-append Usage b m a xs ys first second = SinkGrew-append b m a xs ys first second
-OutputGrew-append CannotOpen b m a xs ys first second = SinkGrew-append b m a xs ys first second
-OutputGrew-append (NoLength r) b m a xs ys first second = SinkGrew-append b m a xs ys first second
-OutputGrew-append (TooLong r) b m a xs ys first second = SinkGrew-append b m a xs ys first second
+OutputGrew-append _ b m a xs ys first second = SinkGrew-append b m a xs ys first second
 
 -- the same answer, where the blocks are known by another list
 abbrev pub with_blocks : (m : ListFormat) (told : Option Told) (xs ys : List Request)
@@ -113,7 +107,7 @@ module _ (m : ListFormat) (told : Option Told) (parts : List Part) (b a : Option
     (o : Outcome) (w : List ℕ) (lists : IsOutput m told parts b a o w) where
   pub all_warned : lists.whole ≡ length lists.answer.pages → w ≡ warnings_of lists.answer.pages
   all_warned all =
-      lists.warned ∙ ap (λ (k : ℕ). warnings_of (take k lists.answer.pages)) all
+      lists.warnings_are ∙ ap (λ (k : ℕ). warnings_of (take k lists.answer.pages)) all
       ∙ ap warnings_of (take_all (length lists.answer.pages) lists.answer.pages (omega arith))
 
 -- some parts to their end, and then some more
@@ -134,37 +128,37 @@ lists_append m told xs ys b between a o v w front back =
     let vs = blocks_of_parts ys in
     let both = blocks-append xs ys in
     let all : n ≡ length us = length_whole found us ps front.answer.answers.endings.0 in
-    let among = back.among in
-    let grew = SinkGrew-same b between _ _ front.answer.text_is front.grew in
+    let among = back.pages_within in
+    let grew = SinkGrew-same b between _ _ front.answer.text_is front.output_grew in
     let joined = job_append text_of found (λ _. ⊤) us vs front.text back.text front.all_warnings
-    back.all_warnings front.sums back.sums (ending_of o) front.answer back.answer in
+    back.all_warnings front.sums back.sums (outcome_ending o) front.answer back.answer in
     let taken : take (n + back.whole) (ps ++ qs) ≡ ps ++ take back.whole qs =
     take-append-add ps qs back.whole in record {
-      begun = back.begun;
+      not_refused = back.not_refused;
       text = front.text ++ back.text;
       all_warnings = front.all_warnings ++ back.all_warnings;
       sums = sums_joined front.sums back.sums;
       answer = with_blocks m told (us ++ vs) (blocks_of_parts (xs ++ ys)) _ _ _ _ (sym both)
           joined;
-      here = λ e is. (
+      named_block_is = λ e is. (
           ap (λ (l : List Request). slice_get l (length (ps ++ qs))) both
           ∙ ap (slice_get (us ++ vs)) (size ∙ ap (λ (i : ℕ). i + length qs) all)
-          ∙ slice_get_back us vs (length qs) ∙ back.here e is);
-      grew =
-          OutputGrew-append o b between a front.text back.text front.grew back.grew;
+          ∙ slice_get_back us vs (length qs) ∙ back.named_block_is e is);
+      output_grew =
+          OutputGrew-append o b between a front.text back.text front.output_grew back.output_grew;
       whole = n + back.whole;
-      among = omega (arith, size);
+      pages_within = omega (arith, size);
       all = λ is. (let every = back.all is in omega (arith, size));
-      stopped = λ is. stopped_by text_of text_of ys (xs ++ ys) qs (ps ++ qs) between b a a o
+      stopped_behind = λ is. stopped_by text_of text_of ys (xs ++ ys) qs (ps ++ qs) between b a a o
           back.whole (n + back.whole) (cut_behind text_of xs ys ps qs b between a back.whole all
           grew)
-          (whole_behind text_of xs ys ps qs b between a back.whole all grew) (back.stopped is);
-      warned =
+          (whole_behind text_of xs ys ps qs b between a back.whole all grew) (back.stopped_behind is);
+      warnings_are =
           ap (λ (l : List ℕ). l ++ w) (all_warned m told xs b between Done v front (front.all refl))
-          ∙ ap (λ (l : List ℕ). warnings_of ps ++ l) back.warned
+          ∙ ap (λ (l : List ℕ). warnings_of ps ++ l) back.warnings_are
           ∙ sym (warnings-append ps (take back.whole qs)) ∙ ap warnings_of (sym taken);
-      quiet = λ off. (
-          ap (λ (l : List ℕ). l ++ w) (front.quiet off) ∙ back.quiet off);
+      no_warnings = λ off. (
+          ap (λ (l : List ℕ). l ++ w) (front.no_warnings off) ∙ back.no_warnings off);
     }
 
 none_early : IsEarly None
@@ -173,17 +167,12 @@ none_early = λ k d below. absurd (omega arith)
 one_early : (end : Ending) → end ≢ End → IsEarly (Some end)
 one_early end early = λ k d below. (let first : k ≡ 0 = omega arith in rw first early)
 
-early : (o : Outcome) → o ≢ Done → IsEarly (ending_of o)
+early : (o : Outcome) → o ≢ Done → IsEarly (outcome_ending o)
 early Done stops = absurd (stops refl)
 early (Invalid r b) stops = one_early _ (λ e. cc)
 early (Missing r b) stops = one_early _ (λ e. cc)
 early (Unread r b) stops = one_early _ (λ e. cc)
-early CannotWrite stops = none_early
-early NoMemory stops = none_early
-early Usage stops = none_early
-early CannotOpen stops = none_early
-early (NoLength r) stops = none_early
-early (TooLong r) stops = none_early
+early _ stops = none_early
 
 -- listing stopped, whatever is asked for behind
 pub lists_more : (m : ListFormat) (told : Option Told) (xs ys : List Part)
@@ -195,25 +184,25 @@ lists_more m told xs ys b a o w stops front =
     let vs = blocks_of_parts ys in
     let both = blocks-append xs ys in
     let longer = job_more m.text_of (reader_of m.zero told) (λ _. ⊤) us vs front.text
-    front.all_warnings front.sums (ending_of o) (early o stops) front.answer in
+    front.all_warnings front.sums (outcome_ending o) (early o stops) front.answer in
     let pages = front.answer.pages in record {
-      begun = front.begun;
+      not_refused = front.not_refused;
       text = front.text;
       all_warnings = front.all_warnings;
       sums = front.sums;
       answer = with_blocks m told (us ++ vs) (blocks_of_parts (xs ++ ys)) _ _ _ _ (sym both)
           longer;
-      here = λ e is. (ap (λ (l : List Request). slice_get l (length pages)) both
-          ∙ slice_get_front us vs (length pages) e (front.here e is));
-      grew = front.grew;
+      named_block_is = λ e is. (ap (λ (l : List Request). slice_get l (length pages)) both
+          ∙ slice_get_front us vs (length pages) e (front.named_block_is e is));
+      output_grew = front.output_grew;
       whole = front.whole;
-      among = front.among;
+      pages_within = front.pages_within;
       all = front.all;
-      stopped = λ is. stopped_by m.text_of m.text_of xs (xs ++ ys) pages pages b b a a o front.whole
+      stopped_behind = λ is. stopped_by m.text_of m.text_of xs (xs ++ ys) pages pages b b a a o front.whole
           front.whole (cut_more m.text_of xs ys pages b a front.whole) (λ grew. grew)
-          (front.stopped is);
-      warned = front.warned;
-      quiet = front.quiet;
+          (front.stopped_behind is);
+      warnings_are = front.warnings_are;
+      no_warnings = front.no_warnings;
     }
 
 pub lists_same : (m : ListFormat) (told : Option Told) (xs ys : List Part)
@@ -226,7 +215,7 @@ lists_same m told xs ys b a o w same lists =
 pub lists_nothing : (m : ListFormat) (told : Option Told) (xs : List Part) (s : Option (List ℕ))
     → IsOutput m told xs s s NoMemory []
 lists_nothing m told xs s = record {
-  begun = refl;
+  not_refused = refl;
   text = [];
   all_warnings = [];
   sums = no_sums;
@@ -237,12 +226,23 @@ lists_nothing m told xs s = record {
     sums_are = sym no_pages_sums;
     answers = answered_none (reader_of m.zero told) (λ _. ⊤) (blocks_of_parts xs);
   };
-  here = λ e is. absurd (cc);
-  grew = SinkGrewByPrefix-nothing s s [] refl;
+  named_block_is = λ e is. absurd (cc);
+  output_grew = SinkGrewByPrefix-nothing s s [] refl;
   whole = 0;
-  among = omega arith;
+  pages_within = omega arith;
   all = λ is. absurd (cc);
-  stopped = λ is. inr (refl, listed_none m.text_of s);
-  warned = sym no_warnings;
-  quiet = λ _. refl;
+  stopped_behind = λ is. inr (refl, listed_none m.text_of s);
+  warnings_are = sym no_warnings;
+  no_warnings = λ _. refl;
+}
+
+-- faults of writes that come one after the other
+rose_later : (before middle now : ℕ) → before ≤ middle → CountRose middle now → CountRose before now
+rose_later before middle now first second = omega arith
+
+pub written_then : (before middle now : ℕ) (o : Outcome) → before ≤ middle
+    → WriteFaultsCounted middle now o → WriteFaultsCounted before now o
+written_then before middle now o first second = record {
+  later = omega (arith, second.later);
+  cannot_write = λ is. rose_later before middle now first (second.cannot_write is);
 }

@@ -11,7 +11,7 @@ use Rattle.heap_scan.specs.Job.{block_entry}
 use Rattle.vis_map.specs.Bits.{is_marked}
 use Rattle.vis_map.specs.MapRequest.{greatest_of, needed_pages, unmarked_entries}
 use Rattle.vis_map.specs.declared.map.Skip.{Skip}
-use Rattle.aioscan_cmd.specs.Command.{Command, MapOption, relation_number, relations_of}
+use Rattle.aioscan_cmd.specs.Command.{Command, MapOption, relation_number, command_relations}
 use Rattle.aioscan_cmd.specs.Command.{first_block, asked_count}
 use Rattle.aioscan_cmd.specs.RequestList.{Request, Part, block_range, blocks_of_parts, range_parts}
 use Rattle.aioscan_cmd.specs.RequestList.{all_file_parts, all_file_requests, one_file_parts}
@@ -132,7 +132,7 @@ blocks_of_names : (lengths : ℕ → ℕ) (command : Command) (names : List (Lis
     ≡ flat_map (one_file_requests lengths command) names
 blocks_of_names lengths command [] = refl
 blocks_of_names lengths command (name ∷ names) =
-    let r = relation_number name (relations_of command) in
+    let r = relation_number name (command_relations command) in
     let parts = one_file_parts lengths command name in
     blocks-append parts (flat_map (one_file_parts lengths command) names)
     ∙ ap (λ (l : List Request). l

@@ -5,15 +5,15 @@ use Rattle.std.specs.Prelude.{Option, Some, None, IfSome, nat_lt, cond}
 use Rattle.std.proofs.lemmas.Bool.Decides.{nat_tests}
 use Rattle.page_check.specs.Told.{Told, relation_block_count}
 use Rattle.aio_disk.specs.Shelf.{Files, shelf_told}
-use Rattle.aioscan_cmd.specs.Command.{Command, relations_of}
-use Rattle.aioscan_cmd.specs.Lengths.{HasNoLengths}
+use Rattle.aioscan_cmd.specs.Command.{Command, command_relations}
+use Rattle.aioscan_cmd.specs.Lengths.{LengthsFailed}
 use Rattle.aioscan_cmd.specs.Output.{ObservedState, observed_state, command_format}
 use Rattle.aioscan_cmd.specs.Run.{IsFileRun, IsSourceRun, IsCommandRun, EarlierFit, lengths_known}
 use Rattle.aioscan_cmd.specs.Run.{limit_known}
 use Rattle.aioscan_cmd.specs.declared.report.Outcome.{Outcome}
-use Rattle.aioscan_cmd.specs.declared.report.Outcome.TheVariants.{Done, Invalid, Usage, CannotOpen}
-use Rattle.aioscan_cmd.specs.declared.report.Outcome.TheVariants.{NoLength, Unread, CannotWrite}
-use Rattle.aioscan_cmd.specs.declared.report.Outcome.TheVariants.{NoMemory, Missing, TooLong}
+use Rattle.aioscan_cmd.specs.declared.report.Outcome.TheVariants.{CannotOpen}
+use Rattle.aioscan_cmd.specs.declared.report.Outcome.TheVariants.{NoLength}
+use Rattle.aioscan_cmd.specs.declared.report.Outcome.TheVariants.{NoMemory, TooLong}
 use Rattle.aioscan_cmd.proofs.OutputsAppend.{lists_nothing}
 use Rattle.aioscan_cmd.proofs.SinkTextsAppend.{SinkGrewByPrefix-nothing}
 
@@ -47,9 +47,9 @@ ran_out_of_memory told relations command s = record {
   map_page = λ _. [];
   segment = 0;
   in_order = tt;
-  lists = λ is. lists_nothing (command_format command) told _ s.written;
+  is_output = λ is. lists_nothing (command_format command) told _ s.written;
   few_reads = λ _. omega arith;
-  untouched = λ is. (refl, refl);
+  output_same = λ is. (refl, refl);
 }
 
 -- no disk was opened
@@ -60,23 +60,23 @@ ran_without_disk told relations command s = record {
   map_page = λ _. [];
   segment = 0;
   in_order = tt;
-  lists = λ is. absurd (cc);
+  is_output = λ is. absurd (cc);
   few_reads = λ _. omega arith;
-  untouched = λ is. (refl, refl);
+  output_same = λ is. (refl, refl);
 }
 
 -- the lengths could not be had
 pub ran_into_refusal : (told : Option Told) (relations : ℕ) (command : Command) (s : ObservedState)
-    (segment : ℕ) (o : Outcome) → HasNoLengths told segment relations o
+    (segment : ℕ) (o : Outcome) → LengthsFailed told segment relations o
     → IsFileRun told relations command s s o []
 ran_into_refusal told relations command s segment (NoLength r) has = record {
   answered = long_at (limit_known told segment) r;
   map_page = λ _. [];
   segment = segment;
   in_order = (has.0, earlier_known told (limit_known told segment) r has.1);
-  lists = λ is. absurd (cc);
+  is_output = λ is. absurd (cc);
   few_reads = λ _. omega arith;
-  untouched = λ is. (refl, refl);
+  output_same = λ is. (refl, refl);
 }
 ran_into_refusal told relations command s segment (TooLong r) has = record {
   answered = long_at (limit_known told segment) r;
@@ -87,19 +87,13 @@ ran_into_refusal told relations command s segment (TooLong r) has = record {
     long_known told (limit_known told segment) r has.2,
     earlier_known told (limit_known told segment) r has.1,
   );
-  lists = λ is. absurd (cc);
+  is_output = λ is. absurd (cc);
   few_reads = λ _. omega arith;
-  untouched = λ is. (refl, refl);
+  output_same = λ is. (refl, refl);
 }
 ran_into_refusal told relations command s segment NoMemory has =
     ran_out_of_memory told relations command s
-ran_into_refusal told relations command s segment Done has = absurd has
-ran_into_refusal told relations command s segment (Invalid r b) has = absurd has
-ran_into_refusal told relations command s segment (Missing r b) has = absurd has
-ran_into_refusal told relations command s segment (Unread r b) has = absurd has
-ran_into_refusal told relations command s segment Usage has = absurd has
-ran_into_refusal told relations command s segment CannotOpen has = absurd has
-ran_into_refusal told relations command s segment CannotWrite has = absurd has
+ran_into_refusal told relations command s segment _ has = absurd has
 
 -- a run that read nothing, where the count of reads stayed
 pub ran_still : (told : Option Told) (relations : ℕ) (command : Command)
@@ -128,7 +122,7 @@ ran_without_memory told relations command output reads now o is same =
 -- nothing was read, since the lengths could not be had
 pub ran_refused : (told : Option Told) (relations : ℕ) (command : Command)
     (output : Option (List ℕ)) (reads now segment : ℕ) (o refusal : Outcome) → o ≡ refusal
-    → now ≡ reads → HasNoLengths told segment relations refusal
+    → now ≡ reads → LengthsFailed told segment relations refusal
     → IsFileRun told relations command (observed_state output reads)
     (observed_state output now) o []
 ran_refused told relations command output reads now segment o refusal is same has =
@@ -158,14 +152,14 @@ ran_unopened told relations command output after reads now o w is none kept same
 unread_by : (files : Option Files) (c : Command) (generated : Option ℕ) (s : ObservedState)
     → IsSourceRun files c generated s s NoMemory []
 unread_by files c None s =
-    ran_out_of_memory (shelf_told files (relations_of c)) (length (relations_of c)) c s
+    ran_out_of_memory (shelf_told files (command_relations c)) (length (command_relations c)) c s
 unread_by files c (Some n) s = record {
   ends = inr (inr refl);
   in_order = tt;
   writes = SinkGrewByPrefix-nothing s.written s.written _ refl;
   reads = refl;
-  quiet = refl;
-  warned = refl;
+  no_warnings = refl;
+  warnings_are = refl;
 }
 
 -- words that may be a command could not be read for want of memory

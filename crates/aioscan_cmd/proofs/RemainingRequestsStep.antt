@@ -9,7 +9,7 @@ use Rattle.std.proofs.lemmas.List.{drop_more, drop_all, length-map, get_or-map}
 use Rattle.std.proofs.lemmas.List.Concat.{flat_map-cons}
 use Rattle.heap_scan.specs.Job.{block_entry}
 use Rattle.aioscan_cmd.specs.Command.{Command, IsBelowIfGiven, number_limit, number_limit}
-use Rattle.aioscan_cmd.specs.Command.{relations_of}
+use Rattle.aioscan_cmd.specs.Command.{command_relations}
 use Rattle.aioscan_cmd.specs.Command.{relation_number, first_block, asked_count}
 use Rattle.aioscan_cmd.specs.RequestList.{Part, block_range, all_file_requests, all_file_parts}
 use Rattle.aioscan_cmd.specs.RequestList.{blocks_of_parts, one_file_requests, range_parts}
@@ -28,7 +28,7 @@ block_range_length r first count = length-map-range_with_len (block_entry r) fir
 module _ (a : ResolvedCommand) where
   whole_here : (name : List ℕ) → remaining_of_file a name 0 ≡ resolved_file_parts a name
   whole_here name =
-      let r = relation_number name (relations_of a.command.now) in
+      let r = relation_number name (command_relations a.command.now) in
       let f = first_block a.command.now in
       let n = asked_count a.command.now (slice_index a.lengths.now r) in
       let start : f + 0 ≡ f = omega arith in
@@ -101,7 +101,7 @@ few_in : (a : ResolvedCommand) → IsResolved a → IsBelowIfGiven (a.command.no
     ≤ number_limit * length names
 few_in a is below [] = omega arith
 few_in a is below (name ∷ names) =
-    let r = relation_number name (relations_of a.command.now) in
+    let r = relation_number name (command_relations a.command.now) in
     let n = asked_count a.command.now (slice_index a.lengths.now r) in
     let f = one_file_requests (slice_index a.lengths.now) a.command.now in
     let here : n ≤ number_limit =
@@ -127,7 +127,7 @@ pub relation_at : (a : ResolvedCommand) (file number : ℕ)
     → IsResolved a → file < length (a.command.now).files
     → map (λ f. f.now) files ≡ (a.command.now).files
     → number ≡ relation_number (get_or files file d).now a.relations.now
-    → (number ≡ relation_number (file_name_of_place a file) (relations_of a.command.now))
+    → (number ≡ relation_number (file_name_of_place a file) (command_relations a.command.now))
     × (number < length a.relations.now)
 relation_at a file number files d is inside same found =
     let within : file < length files = omega (
@@ -139,25 +139,25 @@ relation_at a file number files d is inside same found =
     ap (λ (l : List (List ℕ)). get_or l file []) (sym same)
     ∙ get_or-map (λ (f : Bor (List ℕ)). f.now) files file d [] within in
     let number_is : number ≡ relation_number (file_name_of_place a file)
-    (relations_of a.command.now) =
+    (command_relations a.command.now) =
     found ∙ ap (λ (n : List ℕ). relation_number n a.relations.now) (sym name)
     ∙ ap (λ (l : List (List ℕ)). relation_number (file_name_of_place a file) l) is.relations_are in
     let below = relation_number-below a.command.now file (file_name_of_place a file) inside refl in
     (number_is, omega (arith, ap length is.relations_are))
 
 pub none_here : (a : ResolvedCommand) (file done number count : ℕ)
-    → number ≡ relation_number (file_name_of_place a file) (relations_of a.command.now)
+    → number ≡ relation_number (file_name_of_place a file) (command_relations a.command.now)
     → count ≡ asked_count a.command.now (slice_index a.lengths.now number) → count ≤ done
     → remaining_of_file a (file_name_of_place a file) done ≡ []
 none_here a file done number count number_is count_is all =
-    let r = relation_number (file_name_of_place a file) (relations_of a.command.now) in
+    let r = relation_number (file_name_of_place a file) (command_relations a.command.now) in
     let n : count ≡ asked_count a.command.now (slice_index a.lengths.now r) =
     count_is ∙ ap (λ (x : ℕ). asked_count a.command.now (slice_index a.lengths.now x)) number_is in
     no_parts r (first_block a.command.now + done)
     (asked_count a.command.now (slice_index a.lengths.now r) - done) (omega (arith, n))
 
 pub cut_here : (a : ResolvedCommand) (file done number first count next : ℕ)
-    → number ≡ relation_number (file_name_of_place a file) (relations_of a.command.now)
+    → number ≡ relation_number (file_name_of_place a file) (command_relations a.command.now)
     → first ≡ first_block a.command.now
     → count ≡ asked_count a.command.now (slice_index a.lengths.now number) → done < count
     → next ≡ min 64 (count - done)
@@ -165,7 +165,7 @@ pub cut_here : (a : ResolvedCommand) (file done number first count next : ℕ)
     ≡ block_range number (first + done) next ∷ remaining_of_file a
     (file_name_of_place a file) (done + next)
 cut_here a file done number first count next number_is first_is count_is some size =
-    let r = relation_number (file_name_of_place a file) (relations_of a.command.now) in
+    let r = relation_number (file_name_of_place a file) (command_relations a.command.now) in
     let f = first_block a.command.now in
     let m = asked_count a.command.now (slice_index a.lengths.now r) in
     let n : count ≡ m =

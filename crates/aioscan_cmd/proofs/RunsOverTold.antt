@@ -93,9 +93,9 @@ module _ (m : ListFormat) (t : Told) (parts : List Part) (b a : ObservedState) (
       let T : TextOf → Type 0 = λ text_of. SinkGrew b.written a.written
       (listing text_of (take (length lists.answer.pages) run.pages)) in record {
         k = length lists.answer.pages;
-        here = subst P (sym requests_are) here;
-        among = subst Q (sym pages_are) among;
-        grew = subst T (sym text_is)
+        named_block_is = subst P (sym requests_are) here;
+        pages_within = subst Q (sym pages_are) among;
+        output_grew = subst T (sym text_is)
             (subst R (sym pages_are) (SinkGrew-same b.written a.written _ _ text_first grew));
       }
 
@@ -117,7 +117,7 @@ module _ (m : ListFormat) (t : Told) (parts : List Part) (b a : ObservedState) (
   whole_pages : take lists.whole lists.answer.pages ≡ take lists.whole all_pages
   whole_pages =
       sym (ap (take lists.whole) lists.answer.answers.first.1
-      ∙ take-append-le lists.whole lists.answer.pages lists.answer.answers.first.0 lists.among)
+      ∙ take-append-le lists.whole lists.answer.pages lists.answer.answers.first.0 lists.pages_within)
 
   -- the output stopped behind them
   stopped_among : is_output_cut_off o ≡ true
@@ -130,23 +130,23 @@ module _ (m : ListFormat) (t : Told) (parts : List Part) (b a : ObservedState) (
       subst P (sym lists.answer.answers.first.1)
       (stopped_by m.text_of m.text_of parts parts pages (pages ++ rest) b.written b.written
       a.written a.written o lists.whole lists.whole
-      (cut_of_more m.text_of parts pages rest b.written a.written lists.whole lists.among)
-      (whole_of_more m.text_of parts pages rest b.written a.written lists.whole lists.among)
-      (lists.stopped is))
+      (cut_of_more m.text_of parts pages rest b.written a.written lists.whole lists.pages_within)
+      (whole_of_more m.text_of parts pages rest b.written a.written lists.whole lists.pages_within)
+      (lists.stopped_behind is))
 
   pub warned_up_to : (run : SynchronousRun) → run.pages ≡ all_pages → run.text_of ≡ m.text_of
       → is_output_cut_off o ≡ true → IsWarnedUpTo run parts b.written a.written o w
   warned_up_to run pages_are text_is is =
       let few = among in
-      let within = lists.among in
+      let within = lists.pages_within in
       let Q : List Page → Type 0 = λ l. lists.whole ≤ length l in
       let R : List Page → Type 0 = λ l. StoppedBehind m.text_of parts l b.written a.written o
       lists.whole in
       let T : TextOf → Type 0 = λ text_of. StoppedBehind text_of parts run.pages b.written
       a.written o lists.whole in record {
         k = lists.whole;
-        among = subst Q (sym pages_are) (omega arith);
-        stopped = subst T (sym text_is) (subst R (sym pages_are) (stopped_among is));
-        are = lists.warned ∙ ap warnings_of
+        pages_within = subst Q (sym pages_are) (omega arith);
+        stopped_behind = subst T (sym text_is) (subst R (sym pages_are) (stopped_among is));
+        warnings_are = lists.warnings_are ∙ ap warnings_of
             (whole_pages ∙ ap (take lists.whole) (sym pages_are));
       }

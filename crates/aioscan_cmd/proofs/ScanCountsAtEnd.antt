@@ -4,46 +4,38 @@ use Rattle.std.proofs.Common.{sym, ap, ◌∙◌, subst, arith, inl, inr, ⊎_el
 use Rattle.std.specs.Prelude.{Option, Some, None, IfSome}
 use Rattle.std.specs.List.{All}
 use Rattle.std.proofs.lemmas.Bool.{cases_lt}
-use Rattle.std.proofs.lemmas.List.Elements.{All-weaker, All-head, All-tail}
-use Rattle.std.proofs.lemmas.List.Sums.{get_or-le-sum_by, sum_by-cons}
+use Rattle.std.proofs.lemmas.List.Elements.{All-weaker}
+use Rattle.std.proofs.lemmas.List.Sums.{get_or-le-sum_by}
 use Rattle.page_check.specs.Told.{Told}
-use Rattle.aio_disk.specs.Counts.{RisesBy, CountRose, ShelfCounts, raised_by}
+use Rattle.aio_disk.specs.Counts.{RisesIfPositive, CountRose, ShelfCounts, count_plus}
 use Rattle.aio_handle.specs.Execution.{last_count}
 use Rattle.scan_rounds.specs.OpenedScan.{workers_of_method, workers_of_settings}
 use Rattle.scan_rounds.specs.declared.settings.MethodKind.{MethodKind}
 use Rattle.scan_rounds.specs.declared.settings.MethodKind.TheVariants as method
 use Rattle.scan_rounds.specs.declared.settings.ScanSettings.{ScanSettings}
-use Rattle.aioscan_cmd.specs.Command.{Command, relations_of}
+use Rattle.aioscan_cmd.specs.Command.{Command, command_relations}
 use Rattle.aioscan_cmd.specs.RemainingRequests.{resolved_request_list, resolved_request_parts}
 use Rattle.aioscan_cmd.specs.RequestList.{Part}
+use Rattle.aio_disk.specs.declared.disk.Disk.{Ghosts as DiskGhosts}
+use Rattle.scan_rounds.proofs.Sums.{sum-none}
 use Rattle.aioscan_cmd.specs.Disks.{IsUnreadDisk}
-use Rattle.aioscan_cmd.specs.Lengths.{HasLengths}
+use Rattle.aioscan_cmd.specs.Lengths.{HasAllLengths}
 use Rattle.aioscan_cmd.specs.Outcomes.{is_refused}
 use Rattle.aioscan_cmd.specs.Output.{IsOutput, WriteFaultsCounted, ListFormat, observed_state}
 use Rattle.aioscan_cmd.specs.Output.{command_format}
 use Rattle.aioscan_cmd.specs.Run.{IsFileRun}
-use Rattle.aioscan_cmd.specs.Causes.{HasScanned, HasCauses, CallsInOrder}
+use Rattle.aioscan_cmd.specs.Causes.{ScanHasOutcome, HasCauses, CallsInOrder}
 use Rattle.aioscan_cmd.specs.Totals.{AreRunNumbers, NumbersAreReads, AreScanNumbers}
 use Rattle.aioscan_cmd.specs.declared.cutter.ResolvedCommand.{ResolvedCommand}
 use Rattle.aioscan_cmd.specs.declared.report.Numbers.{Numbers}
 use Rattle.aioscan_cmd.specs.declared.report.Outcome.{Outcome}
-use Rattle.aioscan_cmd.specs.declared.report.Outcome.TheVariants.{Done, Invalid, Usage, CannotOpen}
-use Rattle.aioscan_cmd.specs.declared.report.Outcome.TheVariants.{NoLength, Unread, CannotWrite}
-use Rattle.aioscan_cmd.specs.declared.report.Outcome.TheVariants.{NoMemory, Missing, TooLong}
+use Rattle.aioscan_cmd.specs.declared.report.Outcome.TheVariants.{Usage, CannotOpen}
+use Rattle.aioscan_cmd.specs.declared.report.Outcome.TheVariants.{Unread}
+use Rattle.aioscan_cmd.specs.declared.report.Outcome.TheVariants.{NoMemory}
 use Rattle.aioscan_cmd.proofs.ListedRuns.{ran_listed, ran_on_shelf}
 use Rattle.aioscan_cmd.proofs.RefusedRuns.{ran_unopened}
 use Rattle.aioscan_cmd.proofs.DiskCountsAdd.{none_behind}
 use Rattle.aioscan_cmd.proofs.OutputsAppend.{lists_nothing}
-
-none_in : {D : Type 0} (f : D → ℕ) (ds : List D) → All (λ d. f d ≡ 0) ds → sum_by f ds ≡ 0
-none_in f [] all = refl
-none_in f (d ∷ ds) all =
-    omega (
-      arith,
-      sum_by-cons f d ds,
-      All-head (λ x. f x ≡ 0) d ds all,
-      none_in f ds (All-tail (λ x. f x ≡ 0) d ds all),
-    )
 
 -- each is at most the sum
 each_below : {D : Type 0} (f : D → ℕ) (most : ℕ) (ds : List D) → sum_by f ds < most
@@ -51,31 +43,17 @@ each_below : {D : Type 0} (f : D → ℕ) (most : ℕ) (ds : List D) → sum_by 
 each_below f most ds below = λ k d inside.
     (let one = get_or-le-sum_by f ds k d inside in omega arith)
 
-module _ {D : Type 0} (tells : D → Option Told) (has cuts faults reads : D → ℕ)
-    (told : Option Told) (relations segment : ℕ) (ds : List D)
-    (all : All (IsUnreadDisk tells has cuts faults reads told relations segment) ds) where
-  pub no_reads : sum_by reads ds ≡ 0
+module _ {D : Type 0} (m : DiskGhosts D) (told : Option Told) (relations segment : ℕ) (ds : List D)
+    (all : All (IsUnreadDisk m told relations segment) ds) where
+  pub no_reads : sum_by m.reads ds ≡ 0
   no_reads =
-      none_in reads ds
-      (All-weaker (IsUnreadDisk tells has cuts faults reads told relations
-      segment) (λ d. reads d ≡ 0) (λ d is. is.no_reads) ds all)
+      sum-none m.reads ds (All-weaker (IsUnreadDisk m told relations segment) (λ d. m.reads d ≡ 0)
+      (λ d is. is.no_reads) ds all)
 
-  pub no_faults : sum_by faults ds ≡ 0
+  pub no_faults : sum_by m.faults ds ≡ 0
   no_faults =
-      none_in faults ds
-      (All-weaker (IsUnreadDisk tells has cuts faults reads told relations
-      segment) (λ d. faults d ≡ 0) (λ d is. is.no_faults) ds all)
-
-  pub all_cut : All (λ d. cuts d ≡ segment) ds
-  all_cut =
-      All-weaker (IsUnreadDisk tells has cuts faults reads told relations segment)
-      (λ d. cuts d ≡ segment) (λ d is. is.segment_is) ds all
-
-  pub all_tell : All (λ d. (tells d ≡ told) × (has d ≡ relations)) ds
-  all_tell =
-      All-weaker (IsUnreadDisk tells has cuts faults reads told relations segment)
-      (λ d. (tells d ≡ told) × (has d ≡ relations))
-      (λ d is. (is.told_is, is.relations_are)) ds all
+      sum-none m.faults ds (All-weaker (IsUnreadDisk m told relations segment) (λ d. m.faults d ≡ 0)
+      (λ d is. is.no_faults) ds all)
 
 -- a job that ended in Unread has left a fault
 pub some_fault : {D : Type 0} (f : D → ℕ) (ds : List D) (opened unread : ℕ)
@@ -105,113 +83,106 @@ refused_not o not is = absurd (cc)
 
 is_refusal : (o : Outcome) → (o ≡ CannotOpen) ⊎ (o ≢ CannotOpen)
 is_refusal CannotOpen = inl refl
-is_refusal Done = inr (λ e. cc)
-is_refusal (Invalid r b) = inr (λ e. cc)
-is_refusal (Missing r b) = inr (λ e. cc)
-is_refusal (Unread r b) = inr (λ e. cc)
-is_refusal CannotWrite = inr (λ e. cc)
-is_refusal NoMemory = inr (λ e. cc)
-is_refusal Usage = inr (λ e. cc)
-is_refusal (NoLength r) = inr (λ e. cc)
-is_refusal (TooLong r) = inr (λ e. cc)
+is_refusal _ = inr (λ e. cc)
 
 module _ (asked : ResolvedCommand) (given : ℕ → List ℕ) (told : Option Told)
     (written now_written : Option (List ℕ)) (before opened : ShelfCounts) (faults reads : ℕ)
     (o : Outcome) (w : List ℕ)
-    (scanned : HasScanned asked given told written now_written before opened faults reads o w) where
-  -- a disk could not be opened is the one refusal
-  only_refusal : is_refused o ≡ true → o ≡ CannotOpen
-  only_refusal is = ⊎_elim (λ e. e)
-      (λ not. absurd (refused_not o (scanned.lists not).begun is)) (is_refusal o)
+    (scanned : ScanHasOutcome asked given told written now_written before opened faults reads o w)
+  where
+    -- a disk could not be opened is the one refusal
+    only_refusal : is_refused o ≡ true → o ≡ CannotOpen
+    only_refusal is = ⊎_elim (λ e. e)
+        (λ not. absurd (refused_not o (scanned.lists not).not_refused is)) (is_refusal o)
 
-  module _ (now : ShelfCounts) (opens : now.open_faults ≡ opened.open_faults) (lengths : ℕ)
-      (length_rise : RisesBy lengths opened.length_faults now.length_faults)
-      (fault_rise : RisesBy faults opened.faults now.faults)
-      (read_rise : now.reads ≡ raised_by reads opened.reads) where
-    pub reads_raised : now.reads ≡ raised_by reads before.reads
-    reads_raised = read_rise ∙ ap (raised_by reads) scanned.others.2
+    module _ (now : ShelfCounts) (opens : now.open_faults ≡ opened.open_faults) (lengths : ℕ)
+        (length_rise : RisesIfPositive lengths opened.length_faults now.length_faults)
+        (fault_rise : RisesIfPositive faults opened.faults now.faults)
+        (read_rise : now.reads ≡ count_plus reads opened.reads) where
+      pub reads_raised : now.reads ≡ count_plus reads before.reads
+      reads_raised = read_rise ∙ ap (count_plus reads) scanned.others.2
 
-    pub ended_in_order : CallsInOrder before now o
-    ended_in_order = record {
-      usage = λ is. absurd (
-          let P : Outcome → Type 0 = λ x. is_refused x ≡ true in
-          let refusal = only_refusal (subst P (sym is) refl) in cc);
-      refused = λ is.
-          (let none = scanned.cannot_open (only_refusal is) in (
-            fault_rise.unchanged none.2 ∙ scanned.others.1,
-            omega (arith, reads_raised, none.3),
-          ));
-    }
-
-    pub ended_by_causes : (fb fn : ℕ) → WriteFaultsCounted fb fn o → HasCauses before now fb fn o
-    ended_by_causes fb fn writes =
-        let later = length_rise.later in
-        let late = fault_rise.later in record {
-          later = record {
-            open_faults = omega (arith, opens, scanned.opens);
-            length_faults = omega (arith, scanned.others.0);
-            faults = omega (arith, scanned.others.1);
-            reads = omega (arith, reads_raised);
-          };
-          later_writes = writes.later;
-          cannot_open = λ is.
-              (let rose = (scanned.cannot_open is).0 in omega (arith, opens));
-          no_length = λ r is. absurd (
-              let P : Outcome → Type 0 = λ x. is_refused x ≡ true in
-              let refusal = only_refusal (subst P (sym is) refl) in cc);
-          unread = λ r b is.
-              (let rose = fault_rise.risen (scanned.unread r b is) in
-              omega (arith, scanned.others.1));
-          cannot_write = writes.cannot_write;
-        }
-
-    pub ended_not_usage : o ≢ Usage
-    ended_not_usage = λ is.
-        (let P : Outcome → Type 0 = λ x. is_refused x ≡ true in
-        let refusal = only_refusal (subst P (sym is) refl) in cc)
-
-    module _ {D : Type 0} (each_reads : D → ℕ) (ds : List D) (n : Numbers)
-        (counted : AreScanNumbers asked told given each_reads ds n)
-        (sum_is : reads ≡ sum_by each_reads ds) where
-      below_last : reads < last_count → n.incarnations ≡ reads
-      below_last below =
-          counted.reads_are (each_below each_reads last_count ds (omega (arith, sum_is)))
-          ∙ sym sum_is
-
-      pub ended_counted : AreRunNumbers None (Some asked.command.now) before now o n
-      ended_counted = record {
-        sum = counted.sum;
-        reads = λ below.
-            (let same = below_last (omega (arith, reads_raised)) in
-            omega (arith, reads_raised, same));
-        no_workers = counted.no_workers;
-        none = λ is.
-            (let none = scanned.cannot_open (only_refusal is) in
-            let same = below_last (omega (arith, none.3)) in (
-              omega (arith, same, none.3),
-              omega (arith, same, none.3, counted.sum),
-              omega (arith, same, none.3, counted.sum),
+      pub ended_in_order : CallsInOrder before now o
+      ended_in_order = record {
+        usage = λ is. absurd (
+            let P : Outcome → Type 0 = λ x. is_refused x ≡ true in
+            let refusal = only_refusal (subst P (sym is) refl) in cc);
+        refused = λ is.
+            (let none = scanned.cannot_open (only_refusal is) in (
+              fault_rise.unchanged none.2 ∙ scanned.others.1,
+              omega (arith, reads_raised, none.3),
             ));
       }
 
-      few_read : reads < last_count → reads ≤ length (resolved_request_list asked told given)
-      few_read below = omega (arith, below_last below, counted.few)
+      pub ended_by_causes : (fb fn : ℕ) → WriteFaultsCounted fb fn o → HasCauses before now fb fn o
+      ended_by_causes fb fn writes =
+          let later = length_rise.later in
+          let late = fault_rise.later in record {
+            counts_not_reduced = record {
+              open_faults = omega (arith, opens, scanned.opens);
+              length_faults = omega (arith, scanned.others.0);
+              faults = omega (arith, scanned.others.1);
+              reads = omega (arith, reads_raised);
+            };
+            write_faults_not_reduced = writes.later;
+            cannot_open = λ is.
+                (let rose = (scanned.cannot_open is).0 in omega (arith, opens));
+            no_length = λ r is. absurd (
+                let P : Outcome → Type 0 = λ x. is_refused x ≡ true in
+                let refusal = only_refusal (subst P (sym is) refl) in cc);
+            unread = λ r b is.
+                (let rose = fault_rise.risen (scanned.unread r b is) in
+                omega (arith, scanned.others.1));
+            cannot_write = writes.cannot_write;
+          }
 
-      pub ended_ran : (disk_told : Option Told) (relations : ℕ) → told ≡ disk_told
-          → relations ≡ length (relations_of asked.command.now)
-          → HasLengths disk_told asked.segment relations asked.lengths.now
-          → IsFileRun disk_told relations asked.command.now (observed_state written before.reads)
-          (observed_state now_written now.reads) o w
-      ended_ran disk_told relations same all has =
-          ⊎_elim
-          (λ is. (let none = scanned.cannot_open is in
-          ran_unopened disk_told relations asked.command.now written now_written before.reads
-          now.reads o w is none.4 none.1 (omega (arith, reads_raised, none.3))))
-          (λ not. ran_on_shelf disk_told disk_told relations relations asked.command.now written
-          now_written reads before.reads now.reads o w refl refl reads_raised
-          (ran_listed disk_told told asked.segment relations asked.command.now asked.lengths.now
-          given written now_written reads o w same all has (scanned.lists not) few_read))
-          (is_refusal o)
+      pub ended_not_usage : o ≢ Usage
+      ended_not_usage = λ is.
+          (let P : Outcome → Type 0 = λ x. is_refused x ≡ true in
+          let refusal = only_refusal (subst P (sym is) refl) in cc)
+
+      module _ {D : Type 0} (each_reads : D → ℕ) (ds : List D) (n : Numbers)
+          (counted : AreScanNumbers asked told given each_reads ds n)
+          (sum_is : reads ≡ sum_by each_reads ds) where
+        below_last : reads < last_count → n.incarnations ≡ reads
+        below_last below =
+            counted.reads_are (each_below each_reads last_count ds (omega (arith, sum_is)))
+            ∙ sym sum_is
+
+        pub ended_counted : AreRunNumbers None (Some asked.command.now) before now o n
+        ended_counted = record {
+          sum = counted.sum;
+          reads = λ below.
+              (let same = below_last (omega (arith, reads_raised)) in
+              omega (arith, reads_raised, same));
+          no_workers = counted.no_workers;
+          none = λ is.
+              (let none = scanned.cannot_open (only_refusal is) in
+              let same = below_last (omega (arith, none.3)) in (
+                omega (arith, same, none.3),
+                omega (arith, same, none.3, counted.sum),
+                omega (arith, same, none.3, counted.sum),
+              ));
+        }
+
+        few_read : reads < last_count → reads ≤ length (resolved_request_list asked told given)
+        few_read below = omega (arith, below_last below, counted.few)
+
+        pub ended_ran : (disk_told : Option Told) (relations : ℕ) → told ≡ disk_told
+            → relations ≡ length (command_relations asked.command.now)
+            → HasAllLengths disk_told asked.segment relations asked.lengths.now
+            → IsFileRun disk_told relations asked.command.now (observed_state written before.reads)
+            (observed_state now_written now.reads) o w
+        ended_ran disk_told relations same all has =
+            ⊎_elim
+            (λ is. (let none = scanned.cannot_open is in
+            ran_unopened disk_told relations asked.command.now written now_written before.reads
+            now.reads o w is none.4 none.1 (omega (arith, reads_raised, none.3))))
+            (λ not. ran_on_shelf disk_told disk_told relations relations asked.command.now written
+            now_written reads before.reads now.reads o w refl refl reads_raised
+            (ran_listed disk_told told asked.segment relations asked.command.now asked.lengths.now
+            given written now_written reads o w same all has (scanned.lists not) few_read))
+            (is_refusal o)
 
 -- the numbers of a scan that was finished
 no_workers_by : (kind : MethodKind) (workers : ℕ) → kind ≢ method.Worker
@@ -239,7 +210,7 @@ pub scanned_nothing : (asked : ResolvedCommand) (given : ℕ → List ℕ) (told
     → before.open_faults ≤ now.open_faults
     → (now.length_faults ≡ before.length_faults) × (now.faults ≡ before.faults)
     × (now.reads ≡ before.reads)
-    → HasScanned asked given told s s before now faults reads o []
+    → ScanHasOutcome asked given told s s before now faults reads o []
 scanned_nothing asked given told s before now faults reads o is opens others = record {
   opens = opens;
   others = others;
@@ -257,7 +228,7 @@ pub scan_refused : (asked : ResolvedCommand) (given : ℕ
     → (now.length_faults ≡ before.length_faults) × (now.faults ≡ before.faults)
     × (now.reads ≡ before.reads)
     → CountRose before.open_faults now.open_faults → faults ≡ 0 → reads ≡ 0
-    → HasScanned asked given told s s before now faults reads o []
+    → ScanHasOutcome asked given told s s before now faults reads o []
 scan_refused asked given told s before now faults reads o is opens others rose no_faults no_reads =
     record {
       opens = opens;

@@ -11,9 +11,6 @@ SinkGrew-nothing None = refl
 SinkGrew-nothing (Some bytes) =
     ap {B = Option (List ℕ)} (λ (b : List ℕ). Some b) (sym (append-nil bytes))
 
-pub SinkGrew-stays : (before after : Option (List ℕ)) → after ≡ before → SinkGrew before after []
-SinkGrew-stays before after same = rw same (SinkGrew-nothing before)
-
 pub SinkGrew-same : (before after : Option (List ℕ)) (text more : List ℕ) → text ≡ more
     → SinkGrew before after text → SinkGrew before after more
 SinkGrew-same before after text more e g = let P : List ℕ
@@ -80,9 +77,3 @@ SinkGrewByPrefix-whole (Some b) a text grew = (
   grew ∙ ap {B = Option (List ℕ)} (λ (l : List ℕ). Some (b ++ l))
       (sym (take_all (length text) text (omega arith))),
 )
-
--- a begin of a text is a text
-pub SinkGrewByPrefix-some : (b a : Option (List ℕ)) (text : List ℕ) → SinkGrewByPrefix b a text
-    → (more : List ℕ) × SinkGrew b a more
-SinkGrewByPrefix-some None a text grew = ([], grew)
-SinkGrewByPrefix-some (Some b) a text grew = (take grew.0 text, grew.1)

@@ -3,10 +3,10 @@ use Rattle.std.proofs.Common.{◌≡◌, ℕ, List, length, arith, subst, sym, �
 use Rattle.std.specs.Prelude.{Option, Some, None, slice_index}
 use Rattle.page_check.specs.Told.{Told, relation_block_count}
 use Rattle.heap_scan.specs.declared.sums.PageSums.{PageSums}
-use Rattle.aioscan_cmd.specs.Command.{Command, options_of_settings, relations_of}
+use Rattle.aioscan_cmd.specs.Command.{Command, options_of_settings, command_relations}
 use Rattle.aioscan_cmd.specs.RequestList.{Request, all_file_requests}
 use Rattle.aioscan_cmd.specs.Sums.{HasSums, HasSumsTold}
-use Rattle.aioscan_cmd.specs.Lengths.{HasLengths, HasNoLengths}
+use Rattle.aioscan_cmd.specs.Lengths.{HasAllLengths, LengthsFailed}
 use Rattle.aioscan_cmd.specs.declared.report.Outcome.{Outcome}
 use Rattle.aioscan_cmd.specs.declared.report.Outcome.TheVariants.{Done}
 use Rattle.aioscan_cmd.proofs.FileRequestsAppend.{all_file_requests-same}
@@ -18,13 +18,13 @@ no_sums_told None command o sums not = tt
 no_sums_told (Some t) command o sums not = λ done none. absurd (not done)
 
 refusal_not_done : (told : Option Told) (segment relations : ℕ) (o : Outcome)
-    → HasNoLengths told segment relations o → o ≡ Done → ⊥
+    → LengthsFailed told segment relations o → o ≡ Done → ⊥
 refusal_not_done told segment relations o has done =
-    let P : Outcome → Type 0 = λ x. HasNoLengths told segment relations x in subst P done has
+    let P : Outcome → Type 0 = λ x. LengthsFailed told segment relations x in subst P done has
 
 pub refused_sums : (told : Option Told) (command : Command) (o refusal : Outcome)
     (sums : PageSums) (segment relations : ℕ) → o ≡ refusal
-    → HasNoLengths told segment relations refusal → HasSumsTold told command o sums
+    → LengthsFailed told segment relations refusal → HasSumsTold told command o sums
 refused_sums told command o refusal sums segment relations is has =
     no_sums_told told command o sums
     (λ done. refusal_not_done told segment relations refusal has (sym is ∙ done))
@@ -32,14 +32,14 @@ refused_sums told command o refusal sums segment relations is has =
 -- the sums of the blocks that were listed, by the lengths that are told
 pub listed_sums : (told now : Option Told) (segment relations : ℕ) (command : Command)
     (lengths : List ℕ) (o : Outcome) (sums : PageSums) → now ≡ told
-    → relations ≡ length (relations_of command) → HasLengths told segment relations lengths
+    → relations ≡ length (command_relations command) → HasAllLengths told segment relations lengths
     → (o ≡ Done → command.map ≡ None → HasSums (options_of_settings command.settings) now
     (all_file_requests (slice_index lengths) command) sums)
     → HasSumsTold told command o sums
 listed_sums None now segment relations command lengths o sums same all has listed = tt
 listed_sums (Some t) now segment relations command lengths o sums same all has listed = λ done none.
     (let requests = all_file_requests-same (slice_index lengths) (relation_block_count t) command
-    (λ r below. has.are r (omega (arith, has.all))) in
+    (λ r below. has.told_lengths r (omega (arith, has.all))) in
     let P : Option Told → Type 0 =
     λ n. HasSums (options_of_settings command.settings) n
     (all_file_requests (slice_index lengths) command) sums in

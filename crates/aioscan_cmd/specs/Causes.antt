@@ -22,8 +22,8 @@ pub record CountsNotReduced (before now : ShelfCounts) : Type 0 where
 -- each fault of the outside is named only where its own count rose
 pub record HasCauses (before now : ShelfCounts) (write_faults_before write_faults_now : ℕ)
     (outcome : Outcome) : Type 0 where
-  pub later : CountsNotReduced before now
-  pub later_writes : write_faults_before ≤ write_faults_now
+  pub counts_not_reduced : CountsNotReduced before now
+  pub write_faults_not_reduced : write_faults_before ≤ write_faults_now
   pub cannot_open : outcome ≡ CannotOpen → CountRose before.open_faults now.open_faults
   pub no_length : (r : ℕ) → outcome ≡ NoLength r → CountRose before.length_faults now.length_faults
   pub unread : (r b : ℕ) → outcome ≡ Unread r b → CountRose before.faults now.faults
@@ -31,7 +31,7 @@ pub record HasCauses (before now : ShelfCounts) (write_faults_before write_fault
 
 -- how a scan ended whose map has given these pages, and whose disks have counted so many faults and
 -- reads: a disk that could not be opened is the only refusal
-pub record HasScanned (asked : ResolvedCommand) (given : ℕ → List ℕ) (told : Option Told)
+pub record ScanHasOutcome (asked : ResolvedCommand) (given : ℕ → List ℕ) (told : Option Told)
     (written now_written : Option (List ℕ)) (before now : ShelfCounts) (faults reads : ℕ)
     (outcome : Outcome) (warnings : List ℕ) : Type 0 where
   pub opens : before.open_faults ≤ now.open_faults
@@ -51,8 +51,8 @@ pub record CallsInOrder (before now : ShelfCounts) (outcome : Outcome) : Type 0 
       → (now.faults ≡ before.faults) × (now.reads ≡ before.reads)
 
 -- the first relation that is too long is named, unless one of these came first
-abbrev pub IsExact : SynchronousRun → Outcome → Type 0
-IsExact run outcome =
+abbrev pub NamesFirstTooLong : SynchronousRun → Outcome → Type 0
+NamesFirstTooLong run outcome =
     (r : ℕ) → r < run.relations → run.limit < run.lengths r → EarlierFit run.limit run.lengths r
     → outcome ≢ Usage → outcome ≢ CannotOpen → ((q : ℕ) → outcome ≢ NoLength q)
     → outcome ≢ NoMemory → outcome ≡ TooLong r
@@ -68,5 +68,5 @@ IsComplete run before now write_faults_before write_faults_now outcome =
     → (outcome ≡ run.outcome) ⊎ (outcome ≡ NoMemory)
 
 -- a disk was opened: the outcome is none of those that come before
-abbrev pub IsOpened : Outcome → Type 0
-IsOpened outcome = (outcome ≢ Usage) × (outcome ≢ CannotOpen) × (outcome ≢ NoMemory)
+abbrev pub DisksWereOpened : Outcome → Type 0
+DisksWereOpened outcome = (outcome ≢ Usage) × (outcome ≢ CannotOpen) × (outcome ≢ NoMemory)

@@ -67,18 +67,19 @@ abbrev pub IsBelowIfGiven : Option ℕ → ℕ → Type 0
 IsBelowIfGiven given limit = IfSome given (λ n. n < limit)
 
 -- the distinct ones of some names, each where it stands first
-abbrev pub distinct : List (List ℕ) → List (List ℕ)
-distinct [] = []
-distinct (name ∷ names) = name ∷ filter (λ other. not (bytes_eq other name)) (distinct names)
+abbrev pub without_duplicates : List (List ℕ) → List (List ℕ)
+without_duplicates [] = []
+without_duplicates (name ∷ names) =
+    name ∷ filter (λ other. not (bytes_eq other name)) (without_duplicates names)
 
 -- the distinct names of the files, and behind them that of the map, where it is given
 abbrev pub relations_with : List (List ℕ) → Option MapOption → List (List ℕ)
-relations_with files None = distinct files
-relations_with files (Some map) = distinct files ++ map.name ∷ []
+relations_with files None = without_duplicates files
+relations_with files (Some map) = without_duplicates files ++ map.name ∷ []
 
 -- the relations
-abbrev pub relations_of : Command → List (List ℕ)
-relations_of command = relations_with command.files command.map
+abbrev pub command_relations : Command → List (List ℕ)
+command_relations command = relations_with command.files command.map
 
 -- the number of a relation: its place among them
 abbrev pub relation_number : List ℕ → List (List ℕ) → ℕ

@@ -6,16 +6,16 @@ use Rattle.aio_disk.specs.Shelf.{Files}
 use Rattle.aio_disk.specs.Sink.{SinkGrew, SinkGrewByPrefix}
 use Rattle.aio_trace.specs.TotalsText.{numbers_line as totals_text}
 use Rattle.aioscan_cmd.specs.Command.{Command}
-use Rattle.aioscan_cmd.specs.Outcomes.{line_of, has_totals}
+use Rattle.aioscan_cmd.specs.Outcomes.{outcome_line, has_totals}
 use Rattle.aioscan_cmd.specs.Output.{ObservedState}
 use Rattle.aioscan_cmd.specs.Run.{IsWarned, HoldsForRun, IsCommandRun}
 use Rattle.aioscan_cmd.specs.declared.report.Line.{Line}
 use Rattle.aioscan_cmd.specs.declared.report.Line.TheVariants.{Whole, Cut, NoMemory as NoRoom}
 use Rattle.aioscan_cmd.specs.declared.report.Numbers.{Numbers}
 use Rattle.aioscan_cmd.specs.declared.report.Outcome.{Outcome}
-use Rattle.aioscan_cmd.specs.declared.report.Outcome.TheVariants.{Done, Invalid, Usage, CannotOpen}
-use Rattle.aioscan_cmd.specs.declared.report.Outcome.TheVariants.{NoLength, Unread, CannotWrite}
-use Rattle.aioscan_cmd.specs.declared.report.Outcome.TheVariants.{NoMemory, Missing, TooLong}
+use Rattle.aioscan_cmd.specs.declared.report.Outcome.TheVariants.{Invalid}
+use Rattle.aioscan_cmd.specs.declared.report.Outcome.TheVariants.{NoLength, Unread}
+use Rattle.aioscan_cmd.specs.declared.report.Outcome.TheVariants.{Missing, TooLong}
 
 -- the words are a command with `--stats`
 abbrev pub has_stats : Option Command → Bool
@@ -33,9 +33,9 @@ totals_line true n = totals_text n.incarnations n.by_workers n.by_backends
 
 -- what a run with this outcome and these numbers has to say at its end: the line of the outcome,
 -- then that of the totals
-abbrev pub lines_of : Option Command → Outcome → Numbers → List ℕ
-lines_of command outcome numbers =
-    line_of outcome ++ totals_line (shows_totals command outcome) numbers
+abbrev pub end_lines : Option Command → Outcome → Numbers → List ℕ
+end_lines command outcome numbers =
+    outcome_line outcome ++ totals_line (shows_totals command outcome) numbers
 
 -- the text stands there whole, or a begin of it; where there is no text to write, nothing was
 -- written
@@ -58,7 +58,7 @@ error_stream line written faults =
     record { line = line; written = written; faults = faults }
 
 -- this text was told behind whatever was told before; nothing of it where that was cut off
-pub record Tells (text : List ℕ) (before now : ErrorStream) : Type 0 where
+pub record AppendsErrorText (text : List ℕ) (before now : ErrorStream) : Type 0 where
   pub later : before.faults ≤ now.faults
   pub more : (so_far : List ℕ) (begun : Option (List ℕ)) (faults : ℕ)
       → faults ≤ before.faults
@@ -66,21 +66,22 @@ pub record Tells (text : List ℕ) (before now : ErrorStream) : Type 0 where
       → IsToldOnErr (so_far ++ text) now.line begun now.written faults now.faults
 
 -- warnings of which this holds were told
-pub record Warns (Are : List ℕ → Type 0) (before now : ErrorStream) : Type 0 where
+pub record AppendsWarnings (Are : List ℕ → Type 0) (before now : ErrorStream) : Type 0 where
   pub warnings : List ℕ
-  pub tells : Tells warnings before now
-  pub are : Are warnings
+  pub tells : AppendsErrorText warnings before now
+  pub warnings_hold : Are warnings
 
 -- what is on the error stream at the end: the warnings of the pages that were listed, and then the
 -- lines of the end
-pub record IsToldBy (files : Option Files) (command : Option Command) (before now : ObservedState)
+pub record IsErrorOutput (files : Option Files) (command : Option Command) (before now
+    : ObservedState)
     (outcome : Outcome) (numbers : Numbers) (line : Line) (err_before err_after : Option (List ℕ))
     (faults_before faults_now : ℕ) : Type 0 where
   pub warnings : List ℕ
-  pub told : IsToldOnErr (warnings ++ lines_of command outcome numbers) line err_before err_after
+  pub told : IsToldOnErr (warnings ++ end_lines command outcome numbers) line err_before err_after
       faults_before faults_now
   pub ran : IsCommandRun files command before now outcome warnings
-  pub warned : HoldsForRun files command
+  pub warnings_are : HoldsForRun files command
       (λ run. IsWarned run before.written now.written outcome warnings)
 
 -- the line of this outcome has numbers
@@ -90,8 +91,4 @@ HasNumbers (NoLength r) = Unit {0}
 HasNumbers (Unread r b) = Unit {0}
 HasNumbers (Missing r b) = Unit {0}
 HasNumbers (TooLong r) = Unit {0}
-HasNumbers Done = ⊥
-HasNumbers Usage = ⊥
-HasNumbers CannotOpen = ⊥
-HasNumbers CannotWrite = ⊥
-HasNumbers NoMemory = ⊥
+HasNumbers _ = ⊥

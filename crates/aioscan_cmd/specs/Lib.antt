@@ -13,5 +13,4 @@ pub mod RemainingRequests
 pub mod Sums
 pub mod ListerState
 pub mod Disks
-pub mod NewScan
 pub mod Totals

@@ -1,23 +1,23 @@
 -- What the rounds of a run have listed.
-use Rattle.std.specs.Prelude.{◌≡◌, ◌≢◌, ◌⊎◌, ℕ, ◌++◌, List, [], ◌∷◌, map, Option, None, Some, ⊤}
+use Rattle.std.specs.Prelude.{◌≡◌, ◌≢◌, ◌⊎◌, ℕ, ◌++◌, List, [], ◌∷◌, map, Option, None, ⊤}
 use Rattle.std.specs.List.{flat_map}
 use Rattle.page_check.specs.Told.{Told}
+use Rattle.aio_disk.specs.declared.sink.Sink.{Ghosts as SinkGhosts}
 use Rattle.scan_rounds.specs.ListOptions.{ListOptions, list_options}
-use Rattle.scan_rounds.specs.Jobs.{IsListed, AreAnswered, entries_of_job}
-use Rattle.scan_rounds.specs.BlockFilter.{BlockFilter, unskipped_entries, map_filter}
+use Rattle.scan_rounds.specs.Jobs.{JobIsListed, AllJobsAnswered, entries_of_job}
+use Rattle.scan_rounds.specs.BlockFilter.{BlockFilter, unskipped_entries, filter_of_skipping}
 use Rattle.scan_rounds.specs.declared.job.Ending.{Ending as JobEnding}
 use Rattle.scan_rounds.specs.declared.job.Ending.TheVariants as ending
 use Rattle.scan_rounds.specs.declared.job.Job.{Job}
 use Rattle.aioscan_cmd.specs.RequestList.{Request, Part, blocks_of_parts}
 use Rattle.aioscan_cmd.specs.Output.{IsOutput, WriteFaultsCounted, format_of_options}
-use Rattle.aioscan_cmd.specs.ErrorLine.{ErrorStream, Warns, error_stream}
+use Rattle.aioscan_cmd.specs.ErrorLine.{ErrorStream, AppendsWarnings, error_stream}
 use Rattle.aioscan_cmd.specs.Sums.{HasSums}
-use Rattle.aioscan_cmd.specs.declared.lister.MapFilter.{MapFilter}
 use Rattle.aioscan_cmd.specs.declared.lister.Lister.{Lister}
 use Rattle.aioscan_cmd.specs.declared.report.Outcome.{Outcome}
-use Rattle.aioscan_cmd.specs.declared.report.Outcome.TheVariants.{Done, Invalid, Usage, CannotOpen}
-use Rattle.aioscan_cmd.specs.declared.report.Outcome.TheVariants.{NoLength, Unread, CannotWrite}
-use Rattle.aioscan_cmd.specs.declared.report.Outcome.TheVariants.{NoMemory, Missing, TooLong}
+use Rattle.aioscan_cmd.specs.declared.report.Outcome.TheVariants.{Done, Invalid}
+use Rattle.aioscan_cmd.specs.declared.report.Outcome.TheVariants.{Unread}
+use Rattle.aioscan_cmd.specs.declared.report.Outcome.TheVariants.{NoMemory, Missing}
 
 -- the blocks that jobs ask for, except those that are left out
 abbrev pub unskipped_job_requests : Option BlockFilter → List Job → List Request
@@ -42,21 +42,13 @@ outcome_of_ending r ending.NoMemory = NoMemory
 -- 1 where the outcome names a block that was not read
 abbrev pub unread_count : Outcome → ℕ
 unread_count (Unread r b) = 1
-unread_count Done = 0
-unread_count (Invalid r b) = 0
-unread_count (Missing r b) = 0
-unread_count Usage = 0
-unread_count CannotOpen = 0
-unread_count (NoLength r) = 0
-unread_count CannotWrite = 0
-unread_count NoMemory = 0
-unread_count (TooLong r) = 0
+unread_count _ = 0
 
 -- the text of a job was written: the blocks that it was asked for were listed, with these warnings
 abbrev pub JobTextWritten : Job → Option (List ℕ) → Option (List ℕ) → Outcome → List ℕ → Type 0
 JobTextWritten job before now outcome warnings =
     (skips : Option BlockFilter) (m : ListOptions) (told : Option Told) (asked : Job)
-    → IsListed skips m told (λ _. ⊤) asked job
+    → JobIsListed skips m told (λ _. ⊤) asked job
     → IsOutput (format_of_options m) told (entries_of_job skips asked ∷ [])
     before now outcome warnings
 
@@ -65,19 +57,14 @@ abbrev pub AllJobTextsWritten : List Job → Option (List ℕ) → Option (List 
     → Outcome → List ℕ → Type 0
 AllJobTextsWritten jobs before now outcome warnings =
     (skips : Option BlockFilter) (m : ListOptions) (told : Option Told) (asked : List Job)
-    → AreAnswered skips m told asked jobs
+    → AllJobsAnswered skips m told asked jobs
     → IsOutput (format_of_options m) told (unskipped_job_parts skips asked)
     before now outcome warnings
 
--- the blocks that are left out, where there is a map
-abbrev pub filter_of_map : Option MapFilter → Option BlockFilter
-filter_of_map None = None
-filter_of_map (Some by) = map_filter by.map.now by.skip
-
 module _ {W O E : Type 0} where
   -- something has ended the run, or no block is left
-  abbrev pub IsOver : Lister W O E → Type 0
-  IsOver l = (l.outcome ≢ Done) ⊎ (l.blocks ≡ [])
+  abbrev pub ListerIsOver : Lister W O E → Type 0
+  ListerIsOver l = (l.outcome ≢ Done) ⊎ (l.blocks ≡ [])
 
   -- the options by which it lists pages
   abbrev pub lister_options : Lister W O E → ListOptions
@@ -85,7 +72,7 @@ module _ {W O E : Type 0} where
 
   -- the blocks that it leaves out
   abbrev pub lister_filter : Lister W O E → Option BlockFilter
-  lister_filter l = filter_of_map l.by_map
+  lister_filter l = filter_of_skipping l.by_map
 
   -- these jobs were cut off, where nothing has ended the run; nothing was written
   pub record CutsOffJobs (s : Lister W O E) (asked : List Job) (t : Lister W O E) : Type 0 where
@@ -99,13 +86,12 @@ module _ {W O E : Type 0} where
     pub sums : t.sums ≡ s.sums
     pub cut : s.blocks ≡ unskipped_job_parts None asked ++ t.blocks
 
-  module _ (told : Option Told) (written : O → Option (List ℕ)) (faults : O → ℕ)
-      (err_written : E → Option (List ℕ)) (err_faults : E → ℕ) where
+  module _ (told : Option Told) (o : SinkGhosts O) (e : SinkGhosts E) where
     abbrev pub lister_error_stream : Lister W O E → ErrorStream
-    lister_error_stream l = error_stream l.line (err_written l.err.now) (err_faults l.err.now)
+    lister_error_stream l = error_stream l.line (e.written l.err.now) (e.faults l.err.now)
 
     -- of these parts the first were listed: all that are not left, where nothing has ended the run
-    pub record HasListed (skips : Option BlockFilter) (m : ListOptions) (all : List Part)
+    pub record ListerListedParts (skips : Option BlockFilter) (m : ListOptions) (all : List Part)
         (before : Option (List ℕ)) (faults_before : ℕ) (errors : ErrorStream)
         (l : Lister W O E) : Type 0 where
       pub asked : List Part
@@ -114,10 +100,10 @@ module _ {W O E : Type 0} where
       pub left : l.outcome ≡ Done → rest ≡ unskipped_parts skips l.blocks
       pub options_are : lister_options l ≡ m
       pub filter_is : lister_filter l ≡ skips
-      pub lists : Warns (IsOutput (format_of_options m) told asked before
-          (written l.out.now) l.outcome) errors (lister_error_stream l)
+      pub lists : AppendsWarnings (IsOutput (format_of_options m) told asked before
+          (o.written l.out.now) l.outcome) errors (lister_error_stream l)
       pub sums : l.outcome ≡ Done → HasSums m told (blocks_of_parts asked) l.sums
-      pub writes : WriteFaultsCounted faults_before (faults l.out.now) l.outcome
+      pub writes : WriteFaultsCounted faults_before (o.faults l.out.now) l.outcome
 
     -- some rounds have led from one state to the other: whatever was listed by the first, with
     -- what they have listed it has been by the second
@@ -126,5 +112,5 @@ module _ {W O E : Type 0} where
         (t.out.ghost_name ≡ s.out.ghost_name) × (t.err.ghost_name ≡ s.err.ghost_name)
         × ((skips : Option BlockFilter) (m : ListOptions) (all : List Part)
         (before : Option (List ℕ)) (faults_before : ℕ) (errors : ErrorStream)
-        → HasListed skips m all before faults_before errors s
-        → HasListed skips m all before faults_before errors t)
+        → ListerListedParts skips m all before faults_before errors s
+        → ListerListedParts skips m all before faults_before errors t)

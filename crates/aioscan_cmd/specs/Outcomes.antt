@@ -23,20 +23,20 @@ status_of (Missing r b) = 6
 status_of (TooLong r) = 7
 
 -- the line on the error stream; none where all was listed
-abbrev pub line_of : Outcome → List ℕ
-line_of Done = []
-line_of (Invalid r b) =
+abbrev pub outcome_line : Outcome → List ℕ
+outcome_line Done = []
+outcome_line (Invalid r b) =
     concat (codes "invalid page " ∷ decimal r ∷ codes " " ∷ decimal b ∷ codes "\n" ∷ [])
-line_of Usage = codes "usage: aioscan [options] FILE...\n"
-line_of CannotOpen = codes "cannot open\n"
-line_of (NoLength r) = concat (codes "no length " ∷ decimal r ∷ codes "\n" ∷ [])
-line_of (Unread r b) =
+outcome_line Usage = codes "usage: aioscan [options] FILE...\n"
+outcome_line CannotOpen = codes "cannot open\n"
+outcome_line (NoLength r) = concat (codes "no length " ∷ decimal r ∷ codes "\n" ∷ [])
+outcome_line (Unread r b) =
     concat (codes "unread page " ∷ decimal r ∷ codes " " ∷ decimal b ∷ codes "\n" ∷ [])
-line_of CannotWrite = codes "cannot write\n"
-line_of NoMemory = codes "out of memory\n"
-line_of (Missing r b) =
+outcome_line CannotWrite = codes "cannot write\n"
+outcome_line NoMemory = codes "out of memory\n"
+outcome_line (Missing r b) =
     concat (codes "no page " ∷ decimal r ∷ codes " " ∷ decimal b ∷ codes "\n" ∷ [])
-line_of (TooLong r) = concat (codes "relation " ∷ decimal r ∷ codes " is too long\n" ∷ [])
+outcome_line (TooLong r) = concat (codes "relation " ∷ decimal r ∷ codes " is too long\n" ∷ [])
 
 -- the run was refused before any block was read
 abbrev pub is_refused : Outcome → Bool
@@ -44,25 +44,13 @@ is_refused Usage = true
 is_refused CannotOpen = true
 is_refused (NoLength r) = true
 is_refused (TooLong r) = true
-is_refused Done = false
-is_refused (Invalid r b) = false
-is_refused (Missing r b) = false
-is_refused (Unread r b) = false
-is_refused CannotWrite = false
-is_refused NoMemory = false
+is_refused _ = false
 
 -- a text may not have been written whole
 abbrev pub is_output_cut_off : Outcome → Bool
 is_output_cut_off CannotWrite = true
 is_output_cut_off NoMemory = true
-is_output_cut_off Done = false
-is_output_cut_off (Invalid r b) = false
-is_output_cut_off (Missing r b) = false
-is_output_cut_off (Unread r b) = false
-is_output_cut_off Usage = false
-is_output_cut_off CannotOpen = false
-is_output_cut_off (NoLength r) = false
-is_output_cut_off (TooLong r) = false
+is_output_cut_off _ = false
 
 -- the run was not refused and found memory: with `--stats` its totals are told
 abbrev pub has_totals : Outcome → Bool
@@ -71,34 +59,19 @@ has_totals (Invalid r b) = true
 has_totals (Unread r b) = true
 has_totals CannotWrite = true
 has_totals (Missing r b) = true
-has_totals Usage = false
-has_totals CannotOpen = false
-has_totals (NoLength r) = false
-has_totals NoMemory = false
-has_totals (TooLong r) = false
+has_totals _ = false
 
 -- the block that an outcome names
 abbrev pub named_block : Outcome → Option Request
 named_block (Invalid r b) = Some (request r b)
 named_block (Missing r b) = Some (request r b)
 named_block (Unread r b) = Some (request r b)
-named_block Done = None
-named_block Usage = None
-named_block CannotOpen = None
-named_block (NoLength r) = None
-named_block CannotWrite = None
-named_block NoMemory = None
-named_block (TooLong r) = None
+named_block _ = None
 
 -- how the request list was answered by then
-abbrev pub ending_of : Outcome → Option Ending
-ending_of Done = Some End
-ending_of (Invalid r b) = Some (EndsInvalid b)
-ending_of (Missing r b) = Some (PastEnd b)
-ending_of (Unread r b) = Some (EndsUnread b)
-ending_of Usage = None
-ending_of CannotOpen = None
-ending_of (NoLength r) = None
-ending_of CannotWrite = None
-ending_of NoMemory = None
-ending_of (TooLong r) = None
+abbrev pub outcome_ending : Outcome → Option Ending
+outcome_ending Done = Some End
+outcome_ending (Invalid r b) = Some (EndsInvalid b)
+outcome_ending (Missing r b) = Some (PastEnd b)
+outcome_ending (Unread r b) = Some (EndsUnread b)
+outcome_ending _ = None

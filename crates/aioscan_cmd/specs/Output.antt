@@ -15,11 +15,10 @@ use Rattle.aio_disk.specs.Sink.{SinkGrew, SinkGrewByPrefix}
 use Rattle.aioscan_cmd.specs.Command.{Command}
 use Rattle.aioscan_cmd.specs.RequestList.{Request, Part, Page, blocks_of_parts}
 use Rattle.aioscan_cmd.specs.RequestList.{without_map_pages}
-use Rattle.aioscan_cmd.specs.Outcomes.{is_refused, is_output_cut_off, named_block, ending_of}
+use Rattle.aioscan_cmd.specs.Outcomes.{is_refused, is_output_cut_off, named_block, outcome_ending}
 use Rattle.aioscan_cmd.specs.declared.report.Outcome.{Outcome}
-use Rattle.aioscan_cmd.specs.declared.report.Outcome.TheVariants.{Done, Invalid, Usage, CannotOpen}
-use Rattle.aioscan_cmd.specs.declared.report.Outcome.TheVariants.{NoLength, Unread, CannotWrite}
-use Rattle.aioscan_cmd.specs.declared.report.Outcome.TheVariants.{NoMemory, Missing, TooLong}
+use Rattle.aioscan_cmd.specs.declared.report.Outcome.TheVariants.{CannotWrite}
+use Rattle.aioscan_cmd.specs.declared.report.Outcome.TheVariants.{NoMemory}
 
 -- the format of a listing: whether damaged pages are given as zeros, and what text a page has
 pub record ListFormat : Type 0 where
@@ -48,14 +47,7 @@ observed_state output count = record { written = output; reads = count }
 abbrev pub OutputGrew : Outcome → Option (List ℕ) → Option (List ℕ) → List ℕ → Type 0
 OutputGrew CannotWrite before after text = SinkGrewByPrefix before after text
 OutputGrew NoMemory before after text = SinkGrewByPrefix before after text
-OutputGrew Done before after text = SinkGrew before after text
-OutputGrew (Invalid r b) before after text = SinkGrew before after text
-OutputGrew (Missing r b) before after text = SinkGrew before after text
-OutputGrew (Unread r b) before after text = SinkGrew before after text
-OutputGrew Usage before after text = SinkGrew before after text
-OutputGrew CannotOpen before after text = SinkGrew before after text
-OutputGrew (NoLength r) before after text = SinkGrew before after text
-OutputGrew (TooLong r) before after text = SinkGrew before after text
+OutputGrew _ before after text = SinkGrew before after text
 
 -- of these pages those of the part behind the first so many
 abbrev pub pages_of_part : List Part → ℕ → List Page → List Page
@@ -72,7 +64,7 @@ pub record IsCutInPart (text_of : TextOf) (parts : List Part) (pages : List Page
   pub whole_is : whole ≡ length (blocks_of_parts (take n parts))
   pub some : listing text_of (pages_of_part parts n pages) ≢ []
   pub begun : ℕ
-  pub grew : SinkGrew before now
+  pub output_grew : SinkGrew before now
       (listing text_of (take whole pages)
       ++ take begun (listing text_of (pages_of_part parts n pages)))
 
@@ -88,24 +80,24 @@ StoppedBehind text_of parts pages before now outcome whole =
 -- are the warnings of those whose text was written whole
 pub record IsOutput (m : ListFormat) (told : Option Told) (parts : List Part)
     (before now : Option (List ℕ)) (outcome : Outcome) (warnings : List ℕ) : Type 0 where
-  pub begun : is_refused outcome ≡ false
+  pub not_refused : is_refused outcome ≡ false
   pub text : List ℕ
   pub all_warnings : List ℕ
   pub sums : PageSums
   pub answer : IsJobAnswer m.text_of (reader_of m.zero told) (λ _. ⊤) (blocks_of_parts parts) text
-      all_warnings sums (ending_of outcome)
-  pub here : (e : Request) → named_block outcome ≡ Some e
+      all_warnings sums (outcome_ending outcome)
+  pub named_block_is : (e : Request) → named_block outcome ≡ Some e
       → slice_get (blocks_of_parts parts) (length answer.pages) ≡ Some e
-  pub grew : OutputGrew outcome before now text
+  pub output_grew : OutputGrew outcome before now text
   -- the text of so many pages was written whole: of all, unless a write failed or there was no
   -- memory
   pub whole : ℕ
-  pub among : whole ≤ length answer.pages
+  pub pages_within : whole ≤ length answer.pages
   pub all : is_output_cut_off outcome ≡ false → whole ≡ length answer.pages
-  pub stopped : is_output_cut_off outcome ≡ true
+  pub stopped_behind : is_output_cut_off outcome ≡ true
       → StoppedBehind m.text_of parts answer.pages before now outcome whole
-  pub warned : warnings ≡ warnings_of (take whole answer.pages)
-  pub quiet : m.zero ≡ false → warnings ≡ []
+  pub warnings_are : warnings ≡ warnings_of (take whole answer.pages)
+  pub no_warnings : m.zero ≡ false → warnings ≡ []
 
 -- what a run's writes have counted: no fault was forgotten, and one is named only where it rose
 pub record WriteFaultsCounted (faults_before faults_now : ℕ) (outcome : Outcome) : Type 0 where

@@ -6,7 +6,7 @@ use Rattle.vis_map.specs.declared.map.Skip.{Skip}
 use Rattle.std.specs.List.{flat_map}
 use Rattle.page_check.specs.Told.{Told}
 use Rattle.scan_rounds.specs.declared.settings.ScanSettings.{ScanSettings}
-use Rattle.aioscan_cmd.specs.Command.{IsMapOf, MapOption, number_limit, relations_of}
+use Rattle.aioscan_cmd.specs.Command.{IsMapOf, MapOption, number_limit, command_relations}
 use Rattle.aioscan_cmd.specs.Command.{relation_number, first_block, asked_count}
 use Rattle.aioscan_cmd.specs.RequestList.{Request, Part, request_list, request_parts}
 use Rattle.aioscan_cmd.specs.RequestList.{all_file_requests, all_file_parts, one_file_parts}
@@ -21,7 +21,7 @@ resolved_settings a = record ((a.command.now).settings) { segment = a.segment }
 
 -- the relations are those of the command, each with a length that fits
 pub record IsResolved (a : ResolvedCommand) : Type 0 where
-  pub relations_are : a.relations.now ≡ relations_of a.command.now
+  pub relations_are : a.relations.now ≡ command_relations a.command.now
   pub lengths_are : length a.lengths.now ≡ length a.relations.now
   pub fit : (r : ℕ) → slice_index a.lengths.now r ≤ number_limit
   pub segment_is : 1 ≤ a.segment
@@ -51,7 +51,7 @@ resolved_request_parts a told given =
     (map_pages_known told (a.command.now).settings.zero given) a.command.now
 
 -- the command has a map, which leaves out these blocks
-pub record HasMap (a : ResolvedCommand) (skip : Skip) : Type 0 where
+pub record AsksForMap (a : ResolvedCommand) (skip : Skip) : Type 0 where
   pub map : MapOption
   pub given : (a.command.now).map ≡ Some map
   pub skip_is : map.skip ≡ skip
@@ -72,7 +72,7 @@ resolved_file_parts a name = one_file_parts (slice_index a.lengths.now) a.comman
 -- those of its blocks but for the first so many
 abbrev pub remaining_of_file : ResolvedCommand → List ℕ → ℕ → List Part
 remaining_of_file a name done =
-    let r = relation_number name (relations_of a.command.now) in
+    let r = relation_number name (command_relations a.command.now) in
     range_parts r (first_block a.command.now + done)
     (asked_count a.command.now (slice_index a.lengths.now r) - done)
 

@@ -6,7 +6,7 @@ use Rattle.page_check.specs.SynchronousAnswer.{Entry, Given}
 use Rattle.heap_scan.specs.Job.{block_entry, job_entries}
 use Rattle.heap_scan.specs.Listing.{TextOf}
 use Rattle.vis_map.specs.MapRequest.{greatest_of, map_request, needed_pages, unmarked_entries}
-use Rattle.aioscan_cmd.specs.Command.{Command, MapOption, relations_of, relation_number}
+use Rattle.aioscan_cmd.specs.Command.{Command, MapOption, command_relations, relation_number}
 use Rattle.aioscan_cmd.specs.Command.{first_block, asked_count}
 
 -- a block of a relation
@@ -27,7 +27,7 @@ block_range r first count = job_entries r first count
 -- the blocks that one FILE word adds
 abbrev pub one_file_requests : (ℕ → ℕ) → Command → List ℕ → List Request
 one_file_requests lengths command name =
-    let r = relation_number name (relations_of command) in
+    let r = relation_number name (command_relations command) in
     block_range r (first_block command) (asked_count command (lengths r))
 
 -- those of all FILE words, by the length of each relation
@@ -63,7 +63,7 @@ range_parts r first count =
 -- the parts of the blocks that one FILE word adds
 abbrev pub one_file_parts : (ℕ → ℕ) → Command → List ℕ → List Part
 one_file_parts lengths command name =
-    let r = relation_number name (relations_of command) in
+    let r = relation_number name (command_relations command) in
     range_parts r (first_block command) (asked_count command (lengths r))
 
 -- those of all FILE words

@@ -12,7 +12,7 @@ use Rattle.heap_tuple.specs.Listing.{text_with}
 use Rattle.aio_disk.specs.Shelf.{AllThereIfTold, Files, shelf_told}
 use Rattle.aio_disk.specs.Sink.{SinkGrew, SinkGrewByPrefix}
 use Rattle.aio_handle.specs.Execution.{last_count}
-use Rattle.aioscan_cmd.specs.Command.{Command, length_limit, relations_of}
+use Rattle.aioscan_cmd.specs.Command.{Command, length_limit, command_relations}
 use Rattle.aioscan_cmd.specs.GeneratedPages.{generated_told, summary_line}
 use Rattle.aioscan_cmd.specs.RequestList.{Request, Page, block_range, without_map_pages, request}
 use Rattle.aioscan_cmd.specs.RequestList.{Part, request_list, request_parts}
@@ -57,7 +57,7 @@ file_run told command =
     let requests = request_list (relation_block_count told) map_page command in
     let pages = readable_pages found requests in
     let text_of = without_map_pages command.map (text_with command.settings.tuples) in record {
-      relations = length (relations_of command);
+      relations = length (command_relations command);
       lengths = relation_block_count told;
       limit = length_limit told.segment;
       requests = requests;
@@ -89,7 +89,7 @@ generated_run zero n =
 -- whether or not
 abbrev pub HoldsForSource : Option Files → Command → Option ℕ → (SynchronousRun → Type 0) → Type 0
 HoldsForSource files c None P =
-    IfSome (shelf_told files (relations_of c)) (λ told. P (file_run told c))
+    IfSome (shelf_told files (command_relations c)) (λ told. P (file_run told c))
 HoldsForSource files c (Some n) P = P (generated_run c.settings.zero n)
 
 -- where the words are a command
@@ -98,7 +98,7 @@ HoldsForRun files command P = IfSome command (λ c. HoldsForSource files c c.gen
 
 -- each file of a command is there, where that is told; generated pages are no files
 abbrev pub SourceFilesExist : Option Files → Command → Option ℕ → Type 0
-SourceFilesExist files c None = AllThereIfTold files (relations_of c)
+SourceFilesExist files c None = AllThereIfTold files (command_relations c)
 SourceFilesExist files c (Some n) = Unit {0}
 
 abbrev pub CommandFilesExist : Option Files → Option Command → Type 0
@@ -107,33 +107,30 @@ CommandFilesExist files command = IfSome command (λ c. SourceFilesExist files c
 -- a block could not be read, and the pages before it were listed
 pub record IsCutAt (run : SynchronousRun) (before after : Option (List ℕ)) (r b : ℕ) : Type 0 where
   pub k : ℕ
-  pub here : slice_get run.requests k ≡ Some (request r b)
-  pub among : k ≤ length run.pages
-  pub grew : SinkGrew before after (listing run.text_of (take k run.pages))
+  pub named_block_is : slice_get run.requests k ≡ Some (request r b)
+  pub pages_within : k ≤ length run.pages
+  pub output_grew : SinkGrew before after (listing run.text_of (take k run.pages))
 
 -- what a run with this outcome has written
-abbrev pub Writes : SynchronousRun → Option (List ℕ) → Option (List ℕ) → Outcome → Type 0
-Writes run before after Done = (run.outcome ≡ Done) × SinkGrew before after run.text
-Writes run before after (Invalid r b) =
+abbrev pub RunWrites : SynchronousRun → Option (List ℕ) → Option (List ℕ) → Outcome → Type 0
+RunWrites run before after Done = (run.outcome ≡ Done) × SinkGrew before after run.text
+RunWrites run before after (Invalid r b) =
     (run.outcome ≡ Invalid r b) × SinkGrew before after run.text
-Writes run before after (Missing r b) =
+RunWrites run before after (Missing r b) =
     (run.outcome ≡ Missing r b) × SinkGrew before after run.text
-Writes run before after (Unread r b) = IsCutAt run before after r b
-Writes run before after CannotWrite = SinkGrewByPrefix before after run.text
-Writes run before after NoMemory = SinkGrewByPrefix before after run.text
-Writes run before after Usage = after ≡ before
-Writes run before after CannotOpen = after ≡ before
-Writes run before after (NoLength r) = after ≡ before
-Writes run before after (TooLong r) = after ≡ before
+RunWrites run before after (Unread r b) = IsCutAt run before after r b
+RunWrites run before after CannotWrite = SinkGrewByPrefix before after run.text
+RunWrites run before after NoMemory = SinkGrewByPrefix before after run.text
+RunWrites run before after _ = after ≡ before
 
 -- the text of the first k pages was written whole, where the output stopped, and these are their
 -- warnings
 pub record IsWarnedUpTo (run : SynchronousRun) (parts : List Part) (before after : Option (List ℕ))
     (outcome : Outcome) (warnings : List ℕ) : Type 0 where
   pub k : ℕ
-  pub among : k ≤ length run.pages
-  pub stopped : StoppedBehind run.text_of parts run.pages before after outcome k
-  pub are : warnings ≡ warnings_of (take k run.pages)
+  pub pages_within : k ≤ length run.pages
+  pub stopped_behind : StoppedBehind run.text_of parts run.pages before after outcome k
+  pub warnings_are : warnings ≡ warnings_of (take k run.pages)
 
 -- where no page is listed, nothing is warned of
 abbrev pub IsWarnedWhereCut : SynchronousRun → Option (List Part) → Option (List ℕ)
@@ -154,10 +151,7 @@ IsWarned run before after CannotWrite warnings =
     IsWarnedWhereCut run run.parts before after CannotWrite warnings
 IsWarned run before after NoMemory warnings =
     IsWarnedWhereCut run run.parts before after NoMemory warnings
-IsWarned run before after Usage warnings = warnings ≡ []
-IsWarned run before after CannotOpen warnings = warnings ≡ []
-IsWarned run before after (NoLength r) warnings = warnings ≡ []
-IsWarned run before after (TooLong r) warnings = warnings ≡ []
+IsWarned run before after _ warnings = warnings ≡ []
 
 -- the relations before this one are not too long
 abbrev pub EarlierFit : ℕ → (ℕ → ℕ) → ℕ → Type 0
@@ -169,14 +163,10 @@ abbrev pub FitsInOrder : ℕ → (ℕ → ℕ) → ℕ → Outcome → Type 0
 FitsInOrder limit lengths relations (TooLong r) =
     (r < relations) × (limit < lengths r) × EarlierFit limit lengths r
 FitsInOrder limit lengths relations (NoLength r) = (r < relations) × EarlierFit limit lengths r
-FitsInOrder limit lengths relations Done = EarlierFit limit lengths relations
-FitsInOrder limit lengths relations (Invalid r b) = EarlierFit limit lengths relations
-FitsInOrder limit lengths relations (Missing r b) = EarlierFit limit lengths relations
-FitsInOrder limit lengths relations (Unread r b) = EarlierFit limit lengths relations
-FitsInOrder limit lengths relations CannotWrite = EarlierFit limit lengths relations
 FitsInOrder limit lengths relations NoMemory = Unit {0}
 FitsInOrder limit lengths relations Usage = Unit {0}
 FitsInOrder limit lengths relations CannotOpen = Unit {0}
+FitsInOrder limit lengths relations _ = EarlierFit limit lengths relations
 
 -- the lengths that are told, or else those that were answered
 abbrev pub lengths_known : Option Told → (ℕ → ℕ) → ℕ → ℕ
@@ -196,7 +186,7 @@ pub record IsFileRun (told : Option Told) (relations : ℕ) (command : Command)
   pub segment : ℕ
   pub in_order : FitsInOrder (limit_known told segment) (lengths_known told answered) relations
       outcome
-  pub lists : is_refused outcome ≡ false
+  pub is_output : is_refused outcome ≡ false
       → IsOutput (command_format command) told
       (request_parts (lengths_known told answered)
       (map_pages_known told command.settings.zero map_page) command) before.written now.written
@@ -205,7 +195,7 @@ pub record IsFileRun (told : Option Told) (relations : ℕ) (command : Command)
   pub few_reads : now.reads < last_count
       → now.reads ≤ before.reads + length (request_list (lengths_known told answered)
       (map_pages_known told command.settings.zero map_page) command)
-  pub untouched : is_refused outcome ≡ true → (now ≡ before) × (warnings ≡ [])
+  pub output_same : is_refused outcome ≡ true → (now ≡ before) × (warnings ≡ [])
 
 -- how a run over generated pages may end
 abbrev pub IsGeneratedOutcome : Outcome → Type 0
@@ -219,15 +209,15 @@ pub record IsGeneratedRun (zero : Bool) (n : ℕ) (before now : ObservedState) (
   pub in_order : FitsInOrder (length_limit (generated_told n).segment)
       (relation_block_count (generated_told n)) 1
       outcome
-  pub writes : Writes (generated_run zero n) before.written now.written outcome
+  pub writes : RunWrites (generated_run zero n) before.written now.written outcome
   pub reads : now.reads ≡ before.reads
-  pub quiet : warnings ≡ []
-  pub warned : IsWarned (generated_run zero n) before.written now.written outcome warnings
+  pub no_warnings : warnings ≡ []
+  pub warnings_are : IsWarned (generated_run zero n) before.written now.written outcome warnings
 
 abbrev pub IsSourceRun : Option Files → Command → Option ℕ → ObservedState → ObservedState
     → Outcome → List ℕ → Type 0
 IsSourceRun files c None before now outcome warnings =
-    IsFileRun (shelf_told files (relations_of c)) (length (relations_of c)) c
+    IsFileRun (shelf_told files (command_relations c)) (length (command_relations c)) c
     before now outcome warnings
 IsSourceRun files c (Some n) before now outcome warnings =
     IsGeneratedRun c.settings.zero n before now outcome warnings

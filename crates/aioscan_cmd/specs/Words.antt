@@ -116,26 +116,27 @@ pub record Source : Type 0 where
   pub files : List Text
   pub generated : Option ℕ
 
-abbrev pub source_of_names : Option ℕ → Option ℕ → Option (List Text) → Option Source
-source_of_names from to None = None
-source_of_names from to (Some files) =
+abbrev pub source_of_files : Option ℕ → Option ℕ → Option (List Text) → Option Source
+source_of_files from to None = None
+source_of_files from to (Some files) =
     Some (record { from = from; to = to; files = files; generated = None })
 
 -- either FILE words or `--make`, and `--make` with none of `--from`, `--to` and `--tuples`
-abbrev pub source_of : Option ℕ → Option ℕ → Bool → Option ℕ → Option (List Text) → Option Source
-source_of from to tuples None words = source_of_names from to (valid_file_names words)
-source_of None None false (Some n) None =
+abbrev pub files_or_generated : Option ℕ → Option ℕ → Bool → Option ℕ → Option (List Text)
+    → Option Source
+files_or_generated from to tuples None words = source_of_files from to (valid_file_names words)
+files_or_generated None None false (Some n) None =
     Some (record { from = None; to = None; files = generated_file_name ∷ []; generated = Some n })
-source_of (Some from) to tuples (Some n) words = None
-source_of None (Some to) tuples (Some n) words = None
-source_of None None true (Some n) words = None
-source_of None None false (Some n) (Some words) = None
+files_or_generated (Some from) to tuples (Some n) words = None
+files_or_generated None (Some to) tuples (Some n) words = None
+files_or_generated None None true (Some n) words = None
+files_or_generated None None false (Some n) (Some words) = None
 
-abbrev pub source_with : Option (Option ℕ) → Option (Option ℕ) → Bool → Option (Option ℕ)
+abbrev pub parsed_source : Option (Option ℕ) → Option (Option ℕ) → Bool → Option (Option ℕ)
     → Option (List Text) → Option Source
-source_with (Some from) (Some to) tuples (Some generated) words =
-    source_of from to tuples generated words
-source_with _ _ _ _ _ = None
+parsed_source (Some from) (Some to) tuples (Some generated) words =
+    files_or_generated from to tuples generated words
+parsed_source _ _ _ _ _ = None
 
 -- the option that the code keeps, as contracts see it
 abbrev pub map_option_view : MapOfWords → MapOption
@@ -197,7 +198,7 @@ module _ (rows : List Row) where
 
   abbrev pub parsed_command : Option Command
   parsed_command = command_with
-      (source_with
+      (parsed_source
       (number_if_given 0 2097151 (text_of (codes "from")))
       (number_if_given 0 2097151 (text_of (codes "to")))
       (is_set (text_of (codes "tuples")))

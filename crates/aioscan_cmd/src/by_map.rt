@@ -3,22 +3,23 @@ ghost use Rattle.std.specs.Prelude.{◌≡◌, ◌<◌, ◌≤◌, ◌+◌, ◌^
 ghost use Rattle.scan_rounds.specs.Rounds.{results_taken_count};
 ghost use Rattle.scan_rounds.specs.Scans.{IsScan, IsSameScan, scan_options};
 ghost use Rattle.aioscan_cmd.specs.Command.{options_of_settings};
-ghost use Rattle.aioscan_cmd.specs.RemainingRequests.{HasMap, IsResolved, resolved_request_list};
+ghost use Rattle.aioscan_cmd.specs.RemainingRequests.{AsksForMap, IsResolved};
+ghost use Rattle.aioscan_cmd.specs.RemainingRequests.{resolved_request_list};
 ghost use Rattle.aioscan_cmd.specs.RemainingRequests.{resolved_request_parts, resolved_requests};
 ghost use Rattle.aioscan_cmd.specs.RemainingRequests.{resolved_settings};
-ghost use Rattle.aioscan_cmd.specs.ErrorLine.{Warns, error_stream};
+ghost use Rattle.aioscan_cmd.specs.ErrorLine.{AppendsWarnings, error_stream};
 ghost use Rattle.aioscan_cmd.specs.Output.{IsOutput, WriteFaultsCounted, command_format};
 ghost use Rattle.aioscan_cmd.specs.Sums.{HasSums};
 
 use crate::cutter::ResolvedCommand;
 use crate::error_line::write_warnings;
 use crate::in_rounds::list_rounds;
-use crate::lister::{MapFilter, outcome_of};
+use crate::lister::outcome_of;
 use crate::{Line, Outcome};
 use aio_disk::{Disk, Sink};
 use heap_scan::PageSums;
 use page_check::World;
-use scan_rounds::Scan;
+use scan_rounds::{MapFilter, Scan};
 use std::alloc::Global;
 use std::sync::Wait;
 use std::thread::Threads;
@@ -40,13 +41,13 @@ fn list_by_map<W: World + Send + Sync, D: Disk, O: Sink, E: Sink, R: Threads + W
     requires scan { IsScan D.Disk W.told W.relations scan.old }
     requires room { 2 ^ 37 + 65 ≤ scan.old.room }
     requires asked { IsResolved asked }
-    requires map { HasMap asked skip }
+    requires map { AsksForMap asked skip }
     requires options { scan_options scan.old ≡ options_of_settings (resolved_settings asked) }
     requires world { W.relations ≡ length asked.relations.now }
     ensures scan { IsScan D.Disk W.told W.relations scan.new }
     ensures same { IsSameScan scan.old scan.new }
     ensures listed { (given : ℕ → List ℕ)
-        × Warns (IsOutput (command_format asked.entry.command.now) W.told
+        × AppendsWarnings (IsOutput (command_format asked.entry.command.now) W.told
         (resolved_request_parts asked.entry W.told given) (O.written out.old) (O.written out.new)
         result.0)
         (error_stream Line.Whole (E.written err.old) (E.faults err.old))
@@ -96,7 +97,7 @@ pub(crate) fn list_asked<
     ensures scan { IsScan D.Disk W.told W.relations scan.new }
     ensures same { IsSameScan scan.old scan.new }
     ensures listed { (given : ℕ → List ℕ)
-        × Warns (IsOutput (command_format asked.entry.command.now) W.told
+        × AppendsWarnings (IsOutput (command_format asked.entry.command.now) W.told
         (resolved_request_parts asked.entry W.told given) (O.written out.old) (O.written out.new)
         result.0)
         (error_stream Line.Whole (E.written err.old) (E.faults err.old))

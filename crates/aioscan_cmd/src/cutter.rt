@@ -2,11 +2,11 @@
 ghost use Rattle.std.specs.Prelude.{◌≡◌, ◌≤◌, ◌<◌, ◌+◌, ◌∷◌, ◌^◌, [], length};
 ghost use Rattle.std.specs.Prelude.{IfSome, IfNone};
 ghost use Rattle.aioscan_cmd.specs.Command.{number_limit};
-ghost use Rattle.scan_rounds.specs.OpenedScan.{AreSettings};
+ghost use Rattle.scan_rounds.specs.OpenedScan.{AreValidScanSettings};
 ghost use Rattle.aioscan_cmd.specs.RequestList.{block_range, blocks_of_parts};
 ghost use Rattle.aioscan_cmd.specs.RemainingRequests.{IsResolved, IsJobRange, remaining_parts};
 ghost use Rattle.aioscan_cmd.specs.RemainingRequests.{remaining_of_file, file_name_of_place};
-ghost use Rattle.aioscan_cmd.specs.RemainingRequests.{HasMap, greatest_requested_block};
+ghost use Rattle.aioscan_cmd.specs.RemainingRequests.{AsksForMap, greatest_requested_block};
 ghost use Rattle.aioscan_cmd.specs.RemainingRequests.{map_page_count, resolved_parts};
 ghost use Rattle.aioscan_cmd.specs.RemainingRequests.{resolved_settings};
 ghost use Rattle.vis_map.specs.declared.map.Skip.{Skip};
@@ -35,7 +35,7 @@ impl ResolvedCommand<'_, '_> {
     pub(crate) fn settings(&self) -> ScanSettings
         requires { 1 ≤ self.now.segment }
         ensures settings { result ≡ resolved_settings self.now }
-        ensures within { AreSettings result }
+        ensures within { AreValidScanSettings result }
     {
         ScanSettings {
             segment: self.segment,
@@ -46,7 +46,7 @@ impl ResolvedCommand<'_, '_> {
     // The greatest block that the one file of a map asks for.
     fn greatest(&self) -> Option<u32>
         requires asked { IsResolved self.now }
-        requires map { (skip : Skip) × HasMap self.now skip }
+        requires map { (skip : Skip) × AsksForMap self.now skip }
         ensures block { result ≡ greatest_requested_block self.now }
         ensures below { IfSome result (λ block. block < number_limit) }
     {
@@ -62,7 +62,7 @@ impl ResolvedCommand<'_, '_> {
     /// How many pages of the map are read: those that have bits of blocks that are asked for.
     pub(crate) fn map_pages(&self) -> u32
         requires asked { IsResolved self.now }
-        requires map { (skip : Skip) × HasMap self.now skip }
+        requires map { (skip : Skip) × AsksForMap self.now skip }
         ensures pages { result ≡ map_page_count self.now }
         ensures few { result ≤ 65 }
     {
@@ -161,7 +161,7 @@ impl<'a, 'w, W: World> Model for Cutter<'a, 'w, W> {
 
 impl<'a, 'w, W: World> Cutter<'a, 'w, W> {
     /// All blocks that are asked for.
-    pub(crate) fn of(asked: ResolvedCommand<'a, 'w>) -> Cutter<'a, 'w, W>
+    pub(crate) fn new(asked: ResolvedCommand<'a, 'w>) -> Cutter<'a, 'w, W>
         requires asked { IsResolved asked }
         requires world { W.relations ≡ length asked.relations.now }
         ensures all { result ≡ resolved_parts asked.entry }

@@ -2,7 +2,7 @@
 ghost use Rattle.std.specs.Prelude.{◌≡◌, ◌≤◌, ◌<◌, length, map, string_bytes, sum_by, OnOk};
 ghost use Rattle.std.specs.Prelude.{IsErrOf, true, vec_capacity, vec_len};
 ghost use Rattle.std.specs.List.{All};
-ghost use Rattle.aio_disk.specs.Counts.{RisesBy, CountRose, raised_by};
+ghost use Rattle.aio_disk.specs.Counts.{RisesIfPositive, CountRose, count_plus};
 ghost use Rattle.aio_disk.specs.Shelf.{shelf_told};
 ghost use Rattle.aio_disk.specs.declared.fault.OpenFault.TheVariants.{Device};
 ghost use Rattle.aioscan_cmd.specs.Disks.{IsUnreadDisk};
@@ -18,13 +18,11 @@ pub(crate) fn open_others<S: Shelf>(
     count: usize,
 ) -> Result<(), OpenFault>
     requires room { (vec_len disks.old ≤ count) × (count ≤ vec_capacity disks.old) }
-    requires unread { All (IsUnreadDisk S.Disk.told S.Disk.relations S.Disk.segment S.Disk.faults
-        S.Disk.reads (shelf_told (S.told shelf.old) (map string_bytes names.now)) (length names.now)
-        (S.segment shelf.old)) disks.old.items }
+    requires unread { All (IsUnreadDisk S.Disk.Disk (shelf_told (S.told shelf.old)
+        (map string_bytes names.now)) (length names.now) (S.segment shelf.old)) disks.old.items }
     ensures all { OnOk result (length disks.new.items ≡ count) }
-    ensures unread { All (IsUnreadDisk S.Disk.told S.Disk.relations S.Disk.segment S.Disk.faults
-        S.Disk.reads (shelf_told (S.told shelf.old) (map string_bytes names.now)) (length names.now)
-        (S.segment shelf.old)) disks.new.items }
+    ensures unread { All (IsUnreadDisk S.Disk.Disk (shelf_told (S.told shelf.old)
+        (map string_bytes names.now)) (length names.now) (S.segment shelf.old)) disks.new.items }
     ensures later { (S.counts shelf.old).open_faults ≤ (S.counts shelf.new).open_faults }
     ensures device { IsErrOf result Device
         → CountRose (S.counts shelf.old).open_faults (S.counts shelf.new).open_faults }
@@ -47,12 +45,12 @@ pub(crate) fn open_others<S: Shelf>(
 pub(crate) fn take_all_back<S: Shelf>(shelf: &mut S, disks: Vec<S::Disk>)
     ensures told { S.told shelf.new ≡ S.told shelf.old }
     ensures open_faults { (S.counts shelf.new).open_faults ≡ (S.counts shelf.old).open_faults }
-    ensures length_faults { RisesBy (sum_by S.Disk.length_faults disks.items)
+    ensures length_faults { RisesIfPositive (sum_by S.Disk.length_faults disks.items)
         (S.counts shelf.old).length_faults (S.counts shelf.new).length_faults }
-    ensures faults { RisesBy (sum_by S.Disk.faults disks.items)
+    ensures faults { RisesIfPositive (sum_by S.Disk.faults disks.items)
         (S.counts shelf.old).faults (S.counts shelf.new).faults }
     ensures reads { (S.counts shelf.new).reads
-        ≡ raised_by (sum_by S.Disk.reads disks.items) (S.counts shelf.old).reads }
+        ≡ count_plus (sum_by S.Disk.reads disks.items) (S.counts shelf.old).reads }
 {
     for disk in disks {
         shelf.take_back(disk);

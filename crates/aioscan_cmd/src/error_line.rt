@@ -1,7 +1,8 @@
 //! What is told on the error stream.
 ghost use Rattle.std.specs.Prelude.{◌≡◌, ◌≤◌, ◌++◌, IfOk, IfSome, IsNone, string_bytes, true};
-ghost use Rattle.aioscan_cmd.specs.Outcomes.{line_of};
-ghost use Rattle.aioscan_cmd.specs.ErrorLine.{IsToldOnErr, HasNumbers, Tells, error_stream};
+ghost use Rattle.aioscan_cmd.specs.Outcomes.{outcome_line};
+ghost use Rattle.aioscan_cmd.specs.ErrorLine.{IsToldOnErr, HasNumbers, AppendsErrorText};
+ghost use Rattle.aioscan_cmd.specs.ErrorLine.{error_stream};
 ghost use Rattle.aioscan_cmd.specs.ErrorLine.{totals_line};
 
 use crate::report::{Numbers, ReportedEnd};
@@ -12,7 +13,7 @@ use std::alloc::{AllocError, Global};
 
 // The line of an outcome that has no numbers, which takes no memory; none for one that has.
 fn fixed_line(outcome: Outcome) -> Option<&'static str>
-    ensures text { IfSome result (λ text. text.now ≡ line_of outcome) }
+    ensures text { IfSome result (λ text. text.now ≡ outcome_line outcome) }
     ensures numbers { IsNone result → HasNumbers outcome }
 {
     match outcome {
@@ -32,7 +33,7 @@ fn fixed_line(outcome: Outcome) -> Option<&'static str>
 // The line of an outcome that has numbers.
 fn numbered_line(alloc: Global, outcome: Outcome) -> Result<String, AllocError>
     requires { HasNumbers outcome }
-    ensures { IfOk result (λ text. string_bytes text ≡ line_of outcome) }
+    ensures { IfOk result (λ text. string_bytes text ≡ outcome_line outcome) }
 {
     match outcome {
         Outcome::Invalid(relation, block) => format!(in alloc; "invalid page {relation} {block}\n"),
@@ -62,7 +63,7 @@ fn write_text<E: Sink>(text: &[u8], err: &mut E) -> Line
 
 // Writes the line of an outcome by one write, or nothing where there is none.
 fn write_line<E: Sink>(alloc: Global, outcome: Outcome, err: &mut E) -> Line
-    ensures told { IsToldOnErr (line_of outcome) result (E.written err.old) (E.written err.new)
+    ensures told { IsToldOnErr (outcome_line outcome) result (E.written err.old) (E.written err.new)
         (E.faults err.old) (E.faults err.new) }
     ensures later { E.faults err.old ≤ E.faults err.new }
 {
@@ -96,7 +97,7 @@ fn write_totals<E: Sink>(alloc: Global, numbers: Numbers, err: &mut E) -> Line
 // first off ends writing.
 fn write_lines<E: Sink>(alloc: Global, ended: ReportedEnd, err: &mut E) -> Line
     ensures told { IsToldOnErr
-        (line_of ended.end.outcome ++ totals_line ended.shows_totals ended.end.numbers) result
+        (outcome_line ended.end.outcome ++ totals_line ended.shows_totals ended.end.numbers) result
         (E.written err.old) (E.written err.new) (E.faults err.old) (E.faults err.new) }
     ensures later { E.faults err.old ≤ E.faults err.new }
 {
@@ -113,7 +114,8 @@ fn write_lines<E: Sink>(alloc: Global, ended: ReportedEnd, err: &mut E) -> Line
 /// Writes warnings behind what was told so far, by one write, where there are any and nothing was
 /// cut off.
 pub(crate) fn write_warnings<E: Sink>(line: Line, warnings: &[u8], err: &mut E) -> Line
-    ensures { Tells warnings.now (error_stream line (E.written err.old) (E.faults err.old))
+    ensures { AppendsErrorText warnings.now (error_stream line (E.written err.old)
+        (E.faults err.old))
         (error_stream result (E.written err.new) (E.faults err.new)) }
 {
     match line {
@@ -124,8 +126,8 @@ pub(crate) fn write_warnings<E: Sink>(line: Line, warnings: &[u8], err: &mut E) 
 
 /// Writes the lines of a run's end behind what was told so far, where nothing was cut off.
 pub(crate) fn write_end<E: Sink>(alloc: Global, ended: ReportedEnd, err: &mut E) -> Line
-    ensures { Tells
-        (line_of ended.end.outcome ++ totals_line ended.shows_totals ended.end.numbers)
+    ensures { AppendsErrorText
+        (outcome_line ended.end.outcome ++ totals_line ended.shows_totals ended.end.numbers)
         (error_stream ended.end.line (E.written err.old) (E.faults err.old))
         (error_stream result (E.written err.new) (E.faults err.new)) }
 {

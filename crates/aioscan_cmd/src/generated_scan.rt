@@ -5,7 +5,7 @@ ghost use Rattle.aioscan_cmd.specs.Command.{AsksForGeneratedPages};
 ghost use Rattle.aioscan_cmd.specs.GeneratedPages.{generated_shelf_files, summary_line};
 ghost use Rattle.aioscan_cmd.specs.Output.{OutputGrew, WriteFaultsCounted, observed_state};
 ghost use Rattle.aioscan_cmd.specs.Run.{IsGeneratedOutcome, IsGeneratedRun};
-ghost use Rattle.aioscan_cmd.specs.ErrorLine.{Warns, error_stream};
+ghost use Rattle.aioscan_cmd.specs.ErrorLine.{AppendsWarnings, error_stream};
 ghost use Rattle.aioscan_cmd.specs.Totals.{AreRunNumbers};
 
 use crate::generated::make_file;
@@ -55,7 +55,7 @@ fn summary(alloc: Global, sums: PageSums) -> Result<String, AllocError>
 
 // Writes the line of these sums by one write.
 fn write_summary<O: Sink>(alloc: Global, sums: PageSums, out: &mut O) -> Outcome
-    ensures grew { OutputGrew result (O.written out.old) (O.written out.new) (summary_line sums) }
+    ensures output_grew { OutputGrew result (O.written out.old) (O.written out.new) (summary_line sums) }
     ensures writes { WriteFaultsCounted (O.faults out.old) (O.faults out.new) result }
     ensures ends { IsGeneratedOutcome result }
 {
@@ -79,7 +79,8 @@ pub(crate) fn list_generated<O: Sink, E: Sink, R: Threads + Wait + Sync>(
     err: &mut E,
 ) -> RunEnd
     requires generated { AsksForGeneratedPages pages command.now }
-    ensures ran { Warns (λ warnings. (k : ℕ) → IsGeneratedRun command.now.settings.zero pages
+    ensures ran { AppendsWarnings (λ warnings. (k : ℕ) → IsGeneratedRun command.now.settings.zero
+        pages
         (observed_state (O.written out.old) k) (observed_state (O.written out.new) k)
         result.outcome warnings) (error_stream Line.Whole (E.written err.old) (E.faults err.old))
         (error_stream result.line (E.written err.new) (E.faults err.new)) }

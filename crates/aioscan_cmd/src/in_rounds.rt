@@ -1,24 +1,23 @@
 //! Lists by rounds what the FILE words ask for.
 ghost use Rattle.std.specs.Prelude.{◌≡◌, ◌<◌, ◌≤◌, ◌+◌, ◌^◌, ℕ, length};
-ghost use Rattle.scan_rounds.specs.Calls.{HasFollowed, MayFollow};
 ghost use Rattle.scan_rounds.specs.Rounds.{results_taken_count};
 ghost use Rattle.scan_rounds.specs.Scans.{IsScan, IsSameScan, scan_options};
-ghost use Rattle.scan_rounds.specs.BlockFilter.{unskipped_entries};
+ghost use Rattle.scan_rounds.specs.BlockFilter.{filter_of_skipping, unskipped_entries};
 ghost use Rattle.aioscan_cmd.specs.Command.{options_of_settings};
 ghost use Rattle.aioscan_cmd.specs.RemainingRequests.{IsResolved, resolved_parts};
 ghost use Rattle.aioscan_cmd.specs.RemainingRequests.{resolved_requests, resolved_settings};
-ghost use Rattle.aioscan_cmd.specs.ErrorLine.{Warns, error_stream};
-ghost use Rattle.aioscan_cmd.specs.ListerState.{filter_of_map, unskipped_parts};
+ghost use Rattle.aioscan_cmd.specs.ErrorLine.{AppendsWarnings, error_stream};
+ghost use Rattle.aioscan_cmd.specs.ListerState.{unskipped_parts};
 ghost use Rattle.aioscan_cmd.specs.Output.{IsOutput, WriteFaultsCounted, format_of_options};
 ghost use Rattle.aioscan_cmd.specs.Sums.{HasSums};
 
 use crate::cutter::{Cutter, ResolvedCommand};
-use crate::lister::{Lister, MapFilter};
+use crate::lister::Lister;
 use crate::{Line, Outcome};
 use aio_disk::{Disk, Sink};
 use heap_scan::PageSums;
 use page_check::World;
-use scan_rounds::{JobSource, Scan};
+use scan_rounds::{MapFilter, Scan};
 use std::sync::Wait;
 use std::thread::Threads;
 
@@ -27,24 +26,6 @@ fn end_borrow<O: Sink>(out: &mut O)
     ensures { out.new ≡ out.old }
 {
     let _ = out;
-}
-
-// All rounds of a job source, without the blocks that the map marks, where there is one.
-fn run_jobs<W: World + Send + Sync, D: Disk, R: Threads + Wait + Sync, A: JobSource<W>>(
-    rt: &R,
-    scan: &mut Scan<W, D>,
-    by_map: Option<MapFilter<'_>>,
-    job_source: A,
-) -> A
-    requires may { MayFollow D.Disk W.told W.relations A.blocks_left A.options A.block_filter
-        (filter_of_map by_map) scan.old job_source }
-    ensures followed { HasFollowed D.Disk W.told W.relations A.blocks_left A.unskipped_left A.unread
-        A.options A.block_filter A.follows A.is_over scan.old scan.new job_source result }
-{
-    match by_map {
-        None => scan.run(rt, job_source),
-        Some(MapFilter { map, skip }) => scan.run_filtered(rt, job_source, map, skip),
-    }
 }
 
 /// Lists by rounds what the FILE words ask for, without what the map leaves out.
@@ -70,22 +51,24 @@ pub(crate) fn list_rounds<
     requires world { W.relations ≡ length asked.relations.now }
     ensures scan { IsScan D.Disk W.told W.relations scan.new }
     ensures same { IsSameScan scan.old scan.new }
-    ensures lists { Warns (IsOutput
+    ensures lists { AppendsWarnings (IsOutput
         (format_of_options (options_of_settings (resolved_settings asked.entry))) W.told
-        (unskipped_parts (filter_of_map by_map.entry) (resolved_parts asked.entry))
+        (unskipped_parts (filter_of_skipping by_map.entry) (resolved_parts asked.entry))
         (O.written out.old) (O.written out.new) result.0)
         (error_stream line (E.written err.old) (E.faults err.old))
         (error_stream result.1 (E.written err.new) (E.faults err.new)) }
     ensures writes { WriteFaultsCounted (O.faults out.old) (O.faults out.new) result.0 }
     ensures sums { result.0 ≡ Outcome.Done
         → HasSums (options_of_settings (resolved_settings asked.entry)) W.told
-        (unskipped_entries (filter_of_map by_map.entry) (resolved_requests asked.entry)) result.2 }
-    ensures taken { results_taken_count scan.new.backends.items
+        (unskipped_entries (filter_of_skipping by_map.entry) (resolved_requests asked.entry))
+        result.2 }
+    ensures results_bound { results_taken_count scan.new.backends.items
         ≤ results_taken_count scan.old.backends.items
-        + length (unskipped_entries (filter_of_map by_map.entry) (resolved_requests asked.entry)) }
+        + length (unskipped_entries (filter_of_skipping by_map.entry) (resolved_requests
+        asked.entry)) }
     ensures unread { (r b : ℕ) → result.0 ≡ Outcome.Unread r b → 0 < scan.new.unread }
 {
-    let blocks = Cutter::<W>::of(asked);
+    let blocks = Cutter::<W>::new(asked);
     let settings = asked.command.settings();
     let lister = Lister {
         blocks,
@@ -98,7 +81,7 @@ pub(crate) fn list_rounds<
         outcome: Outcome::Done,
         sums: PageSums::default(),
     };
-    let lister = run_jobs(rt, scan, by_map, lister);
+    let lister = scan.run(rt, by_map, lister);
     let Lister {
         out,
         err,

@@ -1,7 +1,7 @@
 //! The lengths of the relations, taken before any block is read.
 ghost use Rattle.std.specs.Prelude.{◌≡◌, ◌<◌, ◌≤◌, ℕ, IsErrOf, MatchResult};
 ghost use Rattle.aio_disk.specs.Counts.{CountRose};
-ghost use Rattle.aioscan_cmd.specs.Lengths.{HasLengths, HasNoLengths};
+ghost use Rattle.aioscan_cmd.specs.Lengths.{HasAllLengths, LengthsFailed};
 
 use crate::Outcome;
 use aio_disk::Disk;
@@ -18,8 +18,8 @@ pub(crate) fn take_lengths<D: Disk>(
 ) -> Result<Vec<u32>, Outcome>
     requires { relations ≡ D.relations disk.old }
     ensures lengths { MatchResult result
-        (λ lengths. HasLengths (D.told disk.old) (D.segment disk.old) relations lengths.items)
-        (λ outcome. HasNoLengths (D.told disk.old) (D.segment disk.old) relations outcome) }
+        (λ lengths. HasAllLengths (D.told disk.old) (D.segment disk.old) relations lengths.items)
+        (λ outcome. LengthsFailed (D.told disk.old) (D.segment disk.old) relations outcome) }
     ensures later { D.length_faults disk.old ≤ D.length_faults disk.new }
     ensures no_length { (r : ℕ) → IsErrOf result (Outcome.NoLength r)
         → CountRose (D.length_faults disk.old) (D.length_faults disk.new) }

@@ -19,7 +19,6 @@ mod generated_scan;
 mod in_rounds;
 mod lengths;
 mod lister;
-mod opening;
 pub mod program;
 mod relation_files;
 mod relations;

@@ -2,12 +2,12 @@
 ghost use Rattle.std.specs.Prelude.{◌≡◌, ◌≢◌, ◌≤◌, ◌++◌, ◌∷◌, [], length, take, false, None};
 ghost use Rattle.std.specs.Prelude.{IsErrOf, OnErr};
 ghost use Rattle.std.specs.List.{All};
-ghost use Rattle.scan_rounds.specs.Jobs.{IsFresh, unread_among};
+ghost use Rattle.scan_rounds.specs.Jobs.{IsNewJob, unread_job_count};
 ghost use Rattle.aioscan_cmd.specs.Output.{WriteFaultsCounted};
 ghost use Rattle.aioscan_cmd.specs.ListerState.{unskipped_job_parts, unread_count};
 ghost use Rattle.aioscan_cmd.specs.ListerState.{outcome_of_ending};
 ghost use Rattle.aioscan_cmd.specs.ListerState.{JobTextWritten, AllJobTextsWritten};
-ghost use Rattle.aioscan_cmd.specs.ErrorLine.{Tells, Warns, error_stream};
+ghost use Rattle.aioscan_cmd.specs.ErrorLine.{AppendsErrorText, AppendsWarnings, error_stream};
 ghost use Rattle.aio_disk.specs.Counts.{CountRose};
 ghost use Rattle.aio_disk.specs.Sink.{SinkTakes};
 ghost use Rattle.aio_disk.specs.declared.fault.WriteFault.TheVariants.{Device};
@@ -20,15 +20,7 @@ use crate::{Line, Outcome};
 use aio_disk::{Sink, WriteFault};
 use heap_scan::PageSums;
 use page_check::World;
-use scan_rounds::{Ending, Job, JobSource};
-use vis_map::{Skip, VisMap};
-
-/// A map in memory, and which of the blocks that it marks are left out.
-#[derive(Clone, Copy)]
-pub(crate) struct MapFilter<'m> {
-    pub(crate) map: &'m VisMap,
-    pub(crate) skip: Skip,
-}
+use scan_rounds::{Ending, Job, JobSource, MapFilter};
 
 /// What a run has still to list, and where to.
 #[derive(Drop)]
@@ -53,7 +45,7 @@ pub(crate) struct Lister<'a, 'e, 'm, 'w, W: World, O: Sink, E: Sink> {
 // Puts the next blocks into jobs: so many.
 fn fill<W: World>(blocks: &mut Cutter<'_, '_, W>, jobs: &mut [Job]) -> usize
     ensures few { (result ≤ length jobs.new) × (length jobs.new ≡ length jobs.old) }
-    ensures fresh { All (IsFresh W.relations) (take result jobs.new) }
+    ensures fresh { All (IsNewJob W.relations) (take result jobs.new) }
     ensures cut { blocks.old ≡ unskipped_job_parts None (take result jobs.new) ++ blocks.new }
     ensures none { 1 ≤ length jobs.old → result ≡ 0 → blocks.new ≡ [] }
 {
@@ -95,7 +87,7 @@ fn write_text<O: Sink>(text: &[u8], out: &mut O) -> Result<(), WriteFault>
 // Writes the warnings of a job whose text was written whole, whatever ended the job.
 fn end_job<E: Sink>(job: &Job, line: Line, err: &mut E) -> (Outcome, Line)
     ensures ended { result.0 ≡ outcome_of_ending job.now.relation job.now.ending }
-    ensures told { Tells job.now.warnings.items
+    ensures told { AppendsErrorText job.now.warnings.items
         (error_stream line (E.written err.old) (E.faults err.old))
         (error_stream result.1 (E.written err.new) (E.faults err.new)) }
 {
@@ -107,12 +99,13 @@ fn end_job<E: Sink>(job: &Job, line: Line, err: &mut E) -> (Outcome, Line)
 
 // Writes a job's text, and its warnings where that was written whole.
 fn write_job<O: Sink, E: Sink>(job: &Job, out: &mut O, line: Line, err: &mut E) -> (Outcome, Line)
-    ensures lists { Warns (JobTextWritten job.now (O.written out.old) (O.written out.new) result.0)
+    ensures lists { AppendsWarnings (JobTextWritten job.now (O.written out.old) (O.written out.new)
+        result.0)
         (error_stream line (E.written err.old) (E.faults err.old))
         (error_stream result.1 (E.written err.new) (E.faults err.new)) }
     ensures writes { WriteFaultsCounted (O.faults out.old) (O.faults out.new) result.0 }
-    ensures unread { unread_count result.0 ≤ unread_among (job.now ∷ []) }
-    ensures gave { result.0 ≡ Outcome.Done → AllPagesGiven (job.now ∷ []) }
+    ensures unread { unread_count result.0 ≤ unread_job_count (job.now ∷ []) }
+    ensures all_pages_given { result.0 ≡ Outcome.Done → AllPagesGiven (job.now ∷ []) }
 {
     match write_text(job.text.as_slice(), out) {
         Ok(()) => end_job(job, line, err),
@@ -128,12 +121,12 @@ fn write_jobs<O: Sink, E: Sink>(
     mut line: Line,
     err: &mut E,
 ) -> (Outcome, Line)
-    ensures lists { Warns (AllJobTextsWritten jobs.now (O.written out.old)
+    ensures lists { AppendsWarnings (AllJobTextsWritten jobs.now (O.written out.old)
         (O.written out.new) result.0) (error_stream line (E.written err.old) (E.faults err.old))
         (error_stream result.1 (E.written err.new) (E.faults err.new)) }
     ensures writes { WriteFaultsCounted (O.faults out.old) (O.faults out.new) result.0 }
-    ensures unread { unread_count result.0 ≤ unread_among jobs.now }
-    ensures gave { result.0 ≡ Outcome.Done → AllPagesGiven jobs.now }
+    ensures unread { unread_count result.0 ≤ unread_job_count jobs.now }
+    ensures all_pages_given { result.0 ≡ Outcome.Done → AllPagesGiven jobs.now }
 {
     for job in jobs {
         let (outcome, reached) = write_job(job, out, line, err);
@@ -163,23 +156,13 @@ fn add_up(jobs: &[Job], sums: PageSums) -> PageSums
     PageSums { pages, zero, items }
 }
 
-// Whether there may be another round.
-fn goes_on(outcome: Outcome) -> bool
-    ensures { result ≡ false → outcome ≢ Outcome.Done }
-{
-    match outcome {
-        Outcome::Done => true,
-        _ => false,
-    }
-}
-
 impl<'a, 'e, 'm, 'w, W: World, O: Sink, E: Sink> JobSource<W> for Lister<'a, 'e, 'm, 'w, W, O, E> {
     ghost use Rattle.std.specs.Prelude.{length};
     ghost use Rattle.std.proofs.Common.{refl, ◌∙◌};
     ghost use Rattle.scan_rounds.specs.BlockFilter.{unskipped_entries};
     ghost use Rattle.aioscan_cmd.specs.RequestList.{blocks_of_parts};
     ghost use Rattle.aioscan_cmd.specs.ListerState.{unread_count, lister_options, lister_filter};
-    ghost use Rattle.aioscan_cmd.specs.ListerState.{IsOver, CutsOffJobs, PreservesListing};
+    ghost use Rattle.aioscan_cmd.specs.ListerState.{ListerIsOver, CutsOffJobs, PreservesListing};
 
     ghost blocks_left = { λ l. length (blocks_of_parts l.blocks) };
 
@@ -192,11 +175,11 @@ impl<'a, 'e, 'm, 'w, W: World, O: Sink, E: Sink> JobSource<W> for Lister<'a, 'e,
 
     ghost gives_jobs = { CutsOffJobs };
 
-    ghost follows = { PreservesListing W.told O.written O.faults E.written E.faults };
+    ghost follows = { PreservesListing W.told O.Sink E.Sink };
 
     ghost options = { lister_options };
 
-    ghost is_over = { IsOver };
+    ghost is_over = { ListerIsOver };
 
     fn next_jobs(&mut self, jobs: &mut [Job]) -> usize {
         match self.outcome {
@@ -212,7 +195,7 @@ impl<'a, 'e, 'm, 'w, W: World, O: Sink, E: Sink> JobSource<W> for Lister<'a, 'e,
                 self.outcome = outcome;
                 self.line = line;
                 self.sums = add_up(jobs, self.sums);
-                goes_on(self.outcome)
+                self.outcome.is_done()
             }
             _ => false,
         }

@@ -1,11 +1,11 @@
 //! Scans relation files.
 ghost use Rattle.std.specs.Prelude.{◌≡◌, ◌≢◌, length, None, Some, true};
 ghost use Rattle.aio_disk.specs.Shelf.{AllThereIfTold, shelf_told};
-ghost use Rattle.aioscan_cmd.specs.Command.{relations_of};
+ghost use Rattle.aioscan_cmd.specs.Command.{command_relations};
 ghost use Rattle.aioscan_cmd.specs.Output.{observed_state};
 ghost use Rattle.aioscan_cmd.specs.Run.{IsFileRun};
-ghost use Rattle.aioscan_cmd.specs.Causes.{HasCauses, CallsInOrder, IsOpened};
-ghost use Rattle.aioscan_cmd.specs.ErrorLine.{Warns, error_stream};
+ghost use Rattle.aioscan_cmd.specs.Causes.{HasCauses, CallsInOrder, DisksWereOpened};
+ghost use Rattle.aioscan_cmd.specs.ErrorLine.{AppendsWarnings, error_stream};
 ghost use Rattle.aioscan_cmd.specs.Sums.{HasSumsTold};
 ghost use Rattle.aioscan_cmd.specs.Totals.{AreRunNumbers};
 
@@ -28,8 +28,9 @@ pub(crate) fn list_files<S: Shelf, O: Sink, E: Sink, R: Threads + Wait + Sync>(
     out: &mut O,
     err: &mut E,
 ) -> RunEnd
-    ensures ran { Warns (IsFileRun (shelf_told (S.told shelf.old) (relations_of command.now))
-        (length (relations_of command.now)) command.now
+    ensures ran { AppendsWarnings (IsFileRun (shelf_told (S.told shelf.old) (command_relations
+        command.now))
+        (length (command_relations command.now)) command.now
         (observed_state (O.written out.old) (S.counts shelf.old).reads)
         (observed_state (O.written out.new) (S.counts shelf.new).reads) result.outcome)
         (error_stream Line.Whole (E.written err.old) (E.faults err.old))
@@ -39,17 +40,17 @@ pub(crate) fn list_files<S: Shelf, O: Sink, E: Sink, R: Threads + Wait + Sync>(
     ensures order { CallsInOrder (S.counts shelf.old) (S.counts shelf.new) result.outcome }
     ensures counted { AreRunNumbers None (Some command.now)
         (S.counts shelf.old) (S.counts shelf.new) result.outcome result.numbers }
-    ensures sums { HasSumsTold (shelf_told (S.told shelf.old) (relations_of command.now))
+    ensures sums { HasSumsTold (shelf_told (S.told shelf.old) (command_relations command.now))
         command.now
         result.outcome result.sums }
-    ensures sure { S.surely_opens shelf.old (relations_of command.now) ≡ true
+    ensures sure { S.surely_opens shelf.old (command_relations command.now) ≡ true
         → result.outcome ≢ Outcome.CannotOpen }
     ensures told { S.told shelf.new ≡ S.told shelf.old }
-    ensures opened { IsOpened result.outcome
-        → AllThereIfTold (S.told shelf.old) (relations_of command.now) }
+    ensures opened { DisksWereOpened result.outcome
+        → AllThereIfTold (S.told shelf.old) (command_relations command.now) }
     ensures words { result.outcome ≢ Outcome.Usage }
 {
-    let Ok(relations) = Relations::of(alloc, command) else {
+    let Ok(relations) = Relations::new(alloc, command) else {
         return RunEnd::without_reads(Outcome::NoMemory);
     };
     match shelf.open(relations.names()) {

@@ -3,7 +3,7 @@ ghost use Rattle.std.specs.Prelude.{◌≡◌, ◌<◌, ◌≤◌, ◌++◌, ◌
 ghost use Rattle.std.specs.Prelude.{string_bytes};
 ghost use Rattle.std.specs.List.{list_any, position};
 ghost use Rattle.std.specs.Str.{bytes_eq};
-ghost use Rattle.aioscan_cmd.specs.Command.{distinct, relations_of, relation_number};
+ghost use Rattle.aioscan_cmd.specs.Command.{without_duplicates, command_relations, relation_number};
 
 use crate::words::Command;
 use std::alloc::{AllocError, Global};
@@ -18,8 +18,8 @@ fn is_named(names: &[String], name: &str) -> bool
 // Adds a name, where it is new.
 fn add_name(alloc: Global, names: &mut Vec<String>, name: &str) -> Result<(), AllocError>
     ensures { OnOk result ((earlier : List (List ℕ))
-        → map string_bytes names.old.items ≡ distinct earlier
-        → map string_bytes names.new.items ≡ distinct (earlier ++ name.now ∷ [])) }
+        → map string_bytes names.old.items ≡ without_duplicates earlier
+        → map string_bytes names.new.items ≡ without_duplicates (earlier ++ name.now ∷ [])) }
 {
     if is_named(names.as_slice(), name) {
         return Ok(());
@@ -31,7 +31,8 @@ fn add_name(alloc: Global, names: &mut Vec<String>, name: &str) -> Result<(), Al
 // The distinct names, in the order of their first appearance.
 fn distinct_names(alloc: Global, files: &[&str]) -> Result<Vec<String>, AllocError>
     ensures names { IfOk result
-        (λ names. map string_bytes names.items ≡ distinct (map (λ file. file.now) files.now)) }
+        (λ names. map string_bytes names.items ≡ without_duplicates (map (λ file. file.now)
+        files.now)) }
     ensures few { IfOk result (λ names. length names.items ≤ length files.now) }
 {
     let mut names: Vec<String> = Vec::new(alloc);
@@ -60,8 +61,8 @@ impl Model for Relations {
 
 impl Relations {
     /// Takes memory for the names.
-    pub(crate) fn of(alloc: Global, command: &Command<'_>) -> Result<Relations, AllocError>
-        ensures { IfOk result (λ relations. relations ≡ relations_of command.now) }
+    pub(crate) fn new(alloc: Global, command: &Command<'_>) -> Result<Relations, AllocError>
+        ensures { IfOk result (λ relations. relations ≡ command_relations command.now) }
     {
         let mut names = distinct_names(alloc, command.files())?;
         if let Some(map) = command.map() {

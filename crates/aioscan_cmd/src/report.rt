@@ -26,7 +26,7 @@ pub enum Outcome {
     NoMemory,
     /// Relation R has no block B: status 6.
     Missing(u32, u32),
-    /// Relation R has more than 131072 blocks: status 7.
+    /// Relation R has more blocks than 16 segments hold: status 7.
     TooLong(u32),
 }
 
@@ -106,7 +106,7 @@ pub(crate) struct ReportedEnd {
 
 impl ReportedEnd {
     /// The end of a run that was asked for its totals, or was not.
-    pub(crate) fn of(end: RunEnd, stats: bool) -> ReportedEnd
+    pub(crate) fn new(end: RunEnd, stats: bool) -> ReportedEnd
         ensures end { result.end ≡ end }
         ensures shows { result.shows_totals ≡ (totals_known end.outcome && stats) }
     {

@@ -4,9 +4,11 @@ ghost use Rattle.std.specs.Prelude.{true, string_bytes};
 ghost use Rattle.aioscan_cmd.specs.Words.{command_of};
 ghost use Rattle.aioscan_cmd.specs.Outcomes.{status_of, is_refused};
 ghost use Rattle.aioscan_cmd.specs.Output.{observed_state};
-ghost use Rattle.aioscan_cmd.specs.Run.{IsCommandRun, HoldsForRun, CommandFilesExist, Writes};
-ghost use Rattle.aioscan_cmd.specs.Causes.{HasCauses, CallsInOrder, IsExact, IsComplete, IsOpened};
-ghost use Rattle.aioscan_cmd.specs.ErrorLine.{IsToldBy, Warns, error_stream, shows_totals};
+ghost use Rattle.aioscan_cmd.specs.Run.{IsCommandRun, HoldsForRun, CommandFilesExist, RunWrites};
+ghost use Rattle.aioscan_cmd.specs.Causes.{HasCauses, CallsInOrder, NamesFirstTooLong, IsComplete};
+ghost use Rattle.aioscan_cmd.specs.Causes.{DisksWereOpened};
+ghost use Rattle.aioscan_cmd.specs.ErrorLine.{IsErrorOutput, AppendsWarnings, error_stream};
+ghost use Rattle.aioscan_cmd.specs.ErrorLine.{shows_totals};
 ghost use Rattle.aioscan_cmd.specs.Totals.{AreRunNumbers, generated_page_count, report_numbers};
 
 use crate::error_line::write_end;
@@ -29,7 +31,7 @@ fn run_command<S: Shelf, O: Sink, E: Sink, R: Threads + Wait + Sync>(
     out: &mut O,
     err: &mut E,
 ) -> RunEnd
-    ensures ran { Warns (IsCommandRun (S.told shelf.old) (Some command.now)
+    ensures ran { AppendsWarnings (IsCommandRun (S.told shelf.old) (Some command.now)
         (observed_state (O.written out.old) (S.counts shelf.old).reads)
         (observed_state (O.written out.new) (S.counts shelf.new).reads) result.outcome)
         (error_stream Line.Whole (E.written err.old) (E.faults err.old))
@@ -40,7 +42,7 @@ fn run_command<S: Shelf, O: Sink, E: Sink, R: Threads + Wait + Sync>(
     ensures counted { AreRunNumbers (generated_page_count (Some command.now)) (Some command.now)
         (S.counts shelf.old) (S.counts shelf.new) result.outcome result.numbers }
     ensures told { S.told shelf.new ≡ S.told shelf.old }
-    ensures opened { IsOpened result.outcome
+    ensures opened { DisksWereOpened result.outcome
         → CommandFilesExist (S.told shelf.old) (Some command.now) }
     ensures words { result.outcome ≢ Outcome.Usage }
 {
@@ -65,7 +67,8 @@ fn run<S: Shelf, O: Sink, E: Sink, R: Threads + Wait + Sync>(
         → (result.end.outcome ≡ Outcome.Usage) ⊎ (result.end.outcome ≡ Outcome.NoMemory) }
     ensures unread { command_of (map string_bytes words.now) ≡ None
         → (O.written out.new ≡ O.written out.old) × (S.counts shelf.new ≡ S.counts shelf.old) }
-    ensures ran { Warns (IsCommandRun (S.told shelf.old) (command_of (map string_bytes words.now))
+    ensures ran { AppendsWarnings (IsCommandRun (S.told shelf.old) (command_of (map string_bytes
+        words.now))
         (observed_state (O.written out.old) (S.counts shelf.old).reads)
         (observed_state (O.written out.new) (S.counts shelf.new).reads) result.end.outcome)
         (error_stream Line.Whole (E.written err.old) (E.faults err.old))
@@ -77,7 +80,7 @@ fn run<S: Shelf, O: Sink, E: Sink, R: Threads + Wait + Sync>(
         (command_of (map string_bytes words.now)) (S.counts shelf.old)
         (S.counts shelf.new) result.end.outcome result.end.numbers }
     ensures told { S.told shelf.new ≡ S.told shelf.old }
-    ensures opened { IsOpened result.end.outcome
+    ensures opened { DisksWereOpened result.end.outcome
         → CommandFilesExist (S.told shelf.old) (command_of (map string_bytes words.now)) }
     ensures shows { result.shows_totals
         ≡ shows_totals (command_of (map string_bytes words.now)) result.end.outcome }
@@ -85,10 +88,10 @@ fn run<S: Shelf, O: Sink, E: Sink, R: Threads + Wait + Sync>(
     match read_command(alloc, words) {
         Ok(command) => {
             let end = run_command(rt, alloc, &command, shelf, out, err);
-            ReportedEnd::of(end, command.stats())
+            ReportedEnd::new(end, command.stats())
         }
-        Err(Refusal::Usage) => ReportedEnd::of(RunEnd::without_reads(Outcome::Usage), false),
-        Err(Refusal::NoMemory) => ReportedEnd::of(RunEnd::without_reads(Outcome::NoMemory), false),
+        Err(Refusal::Usage) => ReportedEnd::new(RunEnd::without_reads(Outcome::Usage), false),
+        Err(Refusal::NoMemory) => ReportedEnd::new(RunEnd::without_reads(Outcome::NoMemory), false),
     }
 }
 
@@ -137,9 +140,9 @@ pub fn aioscan<S: Shelf, O: Sink, E: Sink, R: Threads + Wait + Sync>(
         (observed_state (O.written out.new) (S.counts shelf.new).reads) result.outcome warnings }
     ensures writes { HoldsForRun (S.told shelf.old)
         (command_of (map string_bytes words.now)) (λ run.
-        Writes run (O.written out.old) (O.written out.new) result.outcome) }
-    ensures untouched { is_refused result.outcome ≡ true → O.written out.new ≡ O.written out.old }
-    ensures told_on_err { IsToldBy (S.told shelf.old) (command_of (map string_bytes words.now))
+        RunWrites run (O.written out.old) (O.written out.new) result.outcome) }
+    ensures output_same { is_refused result.outcome ≡ true → O.written out.new ≡ O.written out.old }
+    ensures error_output { IsErrorOutput (S.told shelf.old) (command_of (map string_bytes words.now))
         (observed_state (O.written out.old) (S.counts shelf.old).reads)
         (observed_state (O.written out.new) (S.counts shelf.new).reads)
         result.outcome (report_numbers result)
@@ -150,12 +153,12 @@ pub fn aioscan<S: Shelf, O: Sink, E: Sink, R: Threads + Wait + Sync>(
         (O.faults out.new) result.outcome }
     ensures order { CallsInOrder (S.counts shelf.old) (S.counts shelf.new) result.outcome }
     ensures exact { HoldsForRun (S.told shelf.old) (command_of (map string_bytes words.now)) (λ run.
-        IsExact run result.outcome) }
+        NamesFirstTooLong run result.outcome) }
     ensures complete { HoldsForRun (S.told shelf.old)
         (command_of (map string_bytes words.now)) (λ run.
         IsComplete run (S.counts shelf.old) (S.counts shelf.new) (O.faults out.old)
         (O.faults out.new) result.outcome) }
-    ensures there { IsOpened result.outcome
+    ensures files_exist { DisksWereOpened result.outcome
         → CommandFilesExist (S.told shelf.old) (command_of (map string_bytes words.now)) }
 
     ensures contents { S.told shelf.new ≡ S.told shelf.old }

@@ -3,17 +3,17 @@ ghost use Rattle.std.specs.Prelude.{◌≡◌, ◌≢◌, ◌<◌, ◌≤◌, �
 ghost use Rattle.std.specs.Prelude.{None, Some, true, vec_len, vec_capacity};
 ghost use Rattle.std.specs.List.{All};
 ghost use Rattle.aio_disk.specs.Shelf.{shelf_told};
-ghost use Rattle.scan_rounds.specs.OpenedScan.{AreSettings};
-ghost use Rattle.aioscan_cmd.specs.Command.{options_of_settings, relations_of};
+ghost use Rattle.scan_rounds.specs.OpenedScan.{AreValidScanSettings, required_disks};
+ghost use Rattle.aioscan_cmd.specs.Command.{options_of_settings, command_relations};
 ghost use Rattle.aioscan_cmd.specs.RemainingRequests.{IsResolved, resolved_request_parts};
 ghost use Rattle.aioscan_cmd.specs.RemainingRequests.{resolved_requests, resolved_settings};
-ghost use Rattle.aioscan_cmd.specs.Disks.{IsUnreadDisk, required_disks};
-ghost use Rattle.aioscan_cmd.specs.Lengths.{HasLengths};
+ghost use Rattle.aioscan_cmd.specs.Disks.{IsUnreadDisk};
+ghost use Rattle.aioscan_cmd.specs.Lengths.{HasAllLengths};
 ghost use Rattle.aioscan_cmd.specs.Output.{IsOutput, WriteFaultsCounted, observed_state};
 ghost use Rattle.aioscan_cmd.specs.Output.{command_format};
 ghost use Rattle.aioscan_cmd.specs.Run.{IsFileRun};
-ghost use Rattle.aioscan_cmd.specs.Causes.{HasScanned, HasCauses, CallsInOrder};
-ghost use Rattle.aioscan_cmd.specs.ErrorLine.{Warns, error_stream};
+ghost use Rattle.aioscan_cmd.specs.Causes.{ScanHasOutcome, HasCauses, CallsInOrder};
+ghost use Rattle.aioscan_cmd.specs.ErrorLine.{AppendsWarnings, error_stream};
 ghost use Rattle.aioscan_cmd.specs.Sums.{HasSums, HasSumsTold};
 ghost use Rattle.aioscan_cmd.specs.Totals.{AreRunNumbers, AreScanNumbers};
 
@@ -21,7 +21,6 @@ use crate::by_map::list_asked;
 use crate::cutter::ResolvedCommand;
 use crate::disks::{open_others, take_all_back};
 use crate::lengths::take_lengths;
-use crate::opening::open_scan;
 use crate::relations::Relations;
 use crate::report::{Numbers, RunEnd};
 use crate::words::Command;
@@ -29,7 +28,7 @@ use crate::{Line, Outcome};
 use aio_disk::{Disk, OpenFault, Shelf, Sink};
 use heap_scan::PageSums;
 use page_check::World;
-use scan_rounds::{MethodKind, ScanSettings};
+use scan_rounds::{Scan, ScanSettings};
 use std::alloc::Global;
 use std::marker::Brand;
 use std::sync::Wait;
@@ -47,12 +46,11 @@ fn list_disks<W: World + Send + Sync, D: Disk, O: Sink, E: Sink, R: Threads + Wa
     requires asked { IsResolved asked }
     requires world { W.relations ≡ length asked.relations.now }
     requires disks { length disks.items ≡ required_disks (resolved_settings asked) }
-    requires unread { All (IsUnreadDisk D.told D.relations D.segment D.faults D.reads W.told
-        W.relations asked.segment) disks.items }
+    requires unread { All (IsUnreadDisk D.Disk W.told W.relations asked.segment) disks.items }
     requires handles { (resolved_settings asked).backends * (resolved_settings asked).handles
         ≡ W.handles }
     ensures listed { (given : ℕ → List ℕ)
-        × Warns (IsOutput (command_format asked.entry.command.now) W.told
+        × AppendsWarnings (IsOutput (command_format asked.entry.command.now) W.told
         (resolved_request_parts asked.entry W.told given) (O.written out.old) (O.written out.new)
         result.1.outcome)
         (error_stream Line.Whole (E.written err.old) (E.faults err.old))
@@ -67,7 +65,7 @@ fn list_disks<W: World + Send + Sync, D: Disk, O: Sink, E: Sink, R: Threads + Wa
         (resolved_requests asked.entry) result.1.sums }
 {
     let settings = asked.settings();
-    let mut scan = match open_scan::<W, D>(alloc, &settings, disks) {
+    let mut scan = match Scan::<W, D>::open(alloc, &settings, disks) {
         Ok(scan) => scan,
         Err(disks) => return (disks, RunEnd::without_reads(Outcome::NoMemory)),
     };
@@ -87,19 +85,6 @@ fn list_disks<W: World + Send + Sync, D: Disk, O: Sink, E: Sink, R: Threads + Wa
     (disks, end)
 }
 
-// How many disks a scan with these settings has: one for each backend and for each worker.
-fn disk_count(settings: &ScanSettings) -> usize
-    requires { (settings.now.backends ≤ 16) × (settings.now.workers ≤ 32) }
-    ensures { result ≡ required_disks settings.now }
-{
-    let workers = match settings.method {
-        MethodKind::Sync => 0,
-        MethodKind::Worker => settings.workers,
-        MethodKind::Ring => 0,
-    };
-    settings.backends as usize + workers as usize
-}
-
 // Opens the disks that are not open yet, and lists what is asked for over all. They come back.
 fn open_and_list<W: World + Send + Sync, S: Shelf, O: Sink, E: Sink, R: Threads + Wait + Sync>(
     rt: &R,
@@ -116,11 +101,11 @@ fn open_and_list<W: World + Send + Sync, S: Shelf, O: Sink, E: Sink, R: Threads 
     requires segment { S.segment shelf.old ≡ asked.segment }
     requires handles { (resolved_settings asked).backends * (resolved_settings asked).handles
         ≡ W.handles }
-    requires unread { All (IsUnreadDisk S.Disk.told S.Disk.relations S.Disk.segment S.Disk.faults
-        S.Disk.reads W.told W.relations asked.segment) disks.items }
+    requires unread { All (IsUnreadDisk S.Disk.Disk W.told W.relations asked.segment) disks.items }
     requires room { (vec_len disks ≤ 1) × (required_disks (resolved_settings asked)
         ≤ vec_capacity disks) }
-    ensures scanned { (given : ℕ → List ℕ) × Warns (HasScanned asked.entry given W.told
+    ensures scanned { (given : ℕ → List ℕ) × AppendsWarnings (ScanHasOutcome asked.entry given
+        W.told
         (O.written out.old) (O.written out.new) (S.counts shelf.old) (S.counts shelf.new)
         (sum_by S.Disk.faults result.0.items) (sum_by S.Disk.reads result.0.items)
         result.1.outcome)
@@ -137,7 +122,7 @@ fn open_and_list<W: World + Send + Sync, S: Shelf, O: Sink, E: Sink, R: Threads 
 {
     let settings = asked.settings();
     let names = asked.relations.names();
-    match open_others(shelf, names, &mut disks, disk_count(&settings)) {
+    match open_others(shelf, names, &mut disks, settings.disk_count()) {
         Ok(()) => list_disks::<W, S::Disk, O, E, R>(rt, alloc, asked, disks, out, err),
         Err(OpenFault::Device) => (disks, RunEnd::without_reads(Outcome::CannotOpen)),
         Err(OpenFault::Memory) => (disks, RunEnd::without_reads(Outcome::NoMemory)),
@@ -156,7 +141,8 @@ fn run_scan<W: World + Send + Sync, S: Shelf, O: Sink, E: Sink, R: Threads + Wai
     err: &mut E,
 ) -> RunEnd
     requires asked { IsResolved asked }
-    requires settings { (settings.now ≡ resolved_settings asked) × AreSettings settings.now }
+    requires settings { (settings.now ≡ resolved_settings asked)
+        × AreValidScanSettings settings.now }
     requires segment { (S.Disk.segment first ≡ asked.segment)
         × (S.segment shelf.old ≡ asked.segment) }
     requires told { (S.Disk.told first ≡ W.told)
@@ -165,9 +151,9 @@ fn run_scan<W: World + Send + Sync, S: Shelf, O: Sink, E: Sink, R: Threads + Wai
         × (W.relations ≡ length asked.relations.now) }
     requires handles { settings.now.backends * settings.now.handles ≡ W.handles }
     requires unread { (S.Disk.faults first ≡ 0) × (S.Disk.reads first ≡ 0) }
-    requires lengths { HasLengths (S.Disk.told first) asked.segment (length asked.relations.now)
+    requires lengths { HasAllLengths (S.Disk.told first) asked.segment (length asked.relations.now)
         asked.lengths.now }
-    ensures ran { Warns (IsFileRun (S.Disk.told first) (length asked.entry.relations.now)
+    ensures ran { AppendsWarnings (IsFileRun (S.Disk.told first) (length asked.entry.relations.now)
         asked.entry.command.now (observed_state (O.written out.old) (S.counts shelf.old).reads)
         (observed_state (O.written out.new) (S.counts shelf.new).reads) result.outcome)
         (error_stream Line.Whole (E.written err.old) (E.faults err.old))
@@ -184,7 +170,7 @@ fn run_scan<W: World + Send + Sync, S: Shelf, O: Sink, E: Sink, R: Threads + Wai
     ensures told { S.told shelf.new ≡ S.told shelf.old }
     ensures words { result.outcome ≢ Outcome.Usage }
 {
-    let Ok(mut disks) = Vec::with_capacity(alloc, disk_count(settings)) else {
+    let Ok(mut disks) = Vec::with_capacity(alloc, settings.disk_count()) else {
         shelf.take_back(first);
         return RunEnd::without_reads(Outcome::NoMemory);
     };
@@ -206,13 +192,13 @@ pub(crate) fn scan_disk<S: Shelf, O: Sink, E: Sink, R: Threads + Wait + Sync>(
     out: &mut O,
     err: &mut E,
 ) -> RunEnd
-    requires relations { relations.now ≡ relations_of command.now }
+    requires relations { relations.now ≡ command_relations command.now }
     requires told { S.Disk.told disk ≡ shelf_told (S.told shelf.old) relations.now }
     requires segment { S.Disk.segment disk ≡ S.segment shelf.old }
     requires disk { S.Disk.relations disk ≡ length relations.now }
     requires unread { (S.Disk.length_faults disk ≡ 0) × (S.Disk.faults disk ≡ 0)
         × (S.Disk.reads disk ≡ 0) }
-    ensures ran { Warns (IsFileRun (S.Disk.told disk) (length relations.now) command.now
+    ensures ran { AppendsWarnings (IsFileRun (S.Disk.told disk) (length relations.now) command.now
         (observed_state (O.written out.old) (S.counts shelf.old).reads)
         (observed_state (O.written out.new) (S.counts shelf.new).reads) result.outcome)
         (error_stream Line.Whole (E.written err.old) (E.faults err.old))

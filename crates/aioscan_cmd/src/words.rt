@@ -7,10 +7,11 @@ ghost use Rattle.aioscan_cmd.specs.Command.{number_limit, first_block, asked_cou
 ghost use Rattle.aioscan_cmd.specs.Command.{IsBelowIfGiven};
 ghost use Rattle.aioscan_cmd.specs.Command.{HasNoRange, AsksForGeneratedPages, IsMapOf};
 ghost use Rattle.aioscan_cmd.specs.Command.{generated_page_limit};
-ghost use Rattle.aioscan_cmd.specs.Words.{parsed_command, command_of, source_files, source_of};
+ghost use Rattle.aioscan_cmd.specs.Words.{parsed_command, command_of, source_files};
+ghost use Rattle.aioscan_cmd.specs.Words.{files_or_generated};
 ghost use Rattle.aioscan_cmd.specs.Words.{NamesSource};
 ghost use Rattle.aioscan_cmd.specs.Words.{map_option_view};
-ghost use Rattle.scan_rounds.specs.OpenedScan.{AreSettings};
+ghost use Rattle.scan_rounds.specs.OpenedScan.{AreValidScanSettings};
 
 mod grammar;
 mod map_option;
@@ -60,7 +61,7 @@ impl<'a> Model for Command<'a> {
     ghost use Rattle.aioscan_cmd.specs.Command.{Command, HasNoRange, IsBelowIfGiven, IsMapOf};
     ghost use Rattle.aioscan_cmd.specs.Command.{number_limit};
     ghost use Rattle.aioscan_cmd.specs.Words.{NamesSource, source_files, map_option_view};
-    ghost use Rattle.scan_rounds.specs.OpenedScan.{AreSettings};
+    ghost use Rattle.scan_rounds.specs.OpenedScan.{AreValidScanSettings};
 
     ghost Value = { Command };
 
@@ -77,7 +78,7 @@ impl<'a> Model for Command<'a> {
     ghost invariant = { λ c. IsBelowIfGiven c.from number_limit × IsBelowIfGiven c.to number_limit
         × NamesSource c.generated (rows_of (found_of c.matches))
         × HasNoRange c.generated c.from c.to
-        × AreSettings c.settings
+        × AreValidScanSettings c.settings
         × IfSome (option_map map_option_view c.map) (IsMapOf c.generated
         (source_files c.generated (rows_of (found_of c.matches)))) };
 }
@@ -90,7 +91,7 @@ fn is_source(
     tuples: bool,
     generated: Option<u32>,
 ) -> bool
-    ensures source { source_of from to tuples generated
+    ensures source { files_or_generated from to tuples generated
         (all_of (codes "FILE") (rows_of (found_of matches.now)))
         ≡ (if result then Some (record {
           from = from;
@@ -109,7 +110,7 @@ fn is_source(
 
 impl<'a> Command<'a> {
     // What the values ask for that were found in the words.
-    fn of(matches: ArgMatches<'a>) -> Option<Command<'a>>
+    fn from_matches(matches: ArgMatches<'a>) -> Option<Command<'a>>
         ensures { result ≡ parsed_command (rows_of (found_of matches.entry)) }
     {
         let from = values::number_given(&matches, "from", 0, LAST_BLOCK)?;
@@ -194,7 +195,7 @@ impl<'a> Command<'a> {
     /// How the files are read, but for the segment size, which is that of the disks.
     pub fn settings(&self) -> ScanSettings
         ensures settings { result ≡ (self.now).settings }
-        ensures within { AreSettings result }
+        ensures within { AreValidScanSettings result }
     {
         self.settings
     }
@@ -244,7 +245,7 @@ pub fn read_command<'a>(alloc: Global, words: &'a [String]) -> Result<Command<'a
         (λ e. e ≡ Refusal.Usage → command_of (map string_bytes words.now) ≡ None) }
 {
     let matches = parse(alloc, words)?;
-    match Command::of(matches) {
+    match Command::from_matches(matches) {
         Some(command) => Ok(command),
         None => Err(Refusal::Usage),
     }

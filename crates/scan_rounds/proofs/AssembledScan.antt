@@ -10,8 +10,9 @@ use Rattle.aio_handle.specs.ContractViews.{AreNewActors}
 use Rattle.method_worker.specs.QueueViews.{SeatView, IsSeatOf}
 use Rattle.aio_disk.specs.declared.disk.Disk.{Ghosts as DiskGhosts}
 use Rattle.scan_rounds.specs.ListOptions.{list_options}
-use Rattle.scan_rounds.specs.OpenedScan.{AreSettings, GivesBackends, GivesWorkers, IsDeskFor}
-use Rattle.scan_rounds.specs.OpenedScan.{IsOpened}
+use Rattle.scan_rounds.specs.OpenedScan.{AreValidScanSettings, GivesBackends, GivesWorkers}
+use Rattle.scan_rounds.specs.OpenedScan.{IsDeskFor}
+use Rattle.scan_rounds.specs.OpenedScan.{IsOpenedScan}
 use Rattle.scan_rounds.specs.OpenedScan.{config_of, has_rings, has_seats, rings_of_method}
 use Rattle.scan_rounds.specs.OpenedScan.{rings_of_settings, seats_of_method}
 use Rattle.scan_rounds.specs.OpenedScan.{seats_of_settings, workers_of_settings}
@@ -62,7 +63,7 @@ module _ {W D : Type 0} where
         × (settings.backends + workers_of_settings settings ≤ vec_capacity s.disks)
 
   module _ (settings : ScanSettings) (start : ℕ) (s : Scan W D) (p q r : Parts W D)
-      (ranges : AreSettings settings) (early : start < 2 ^ 58)
+      (ranges : AreValidScanSettings settings) (early : start < 2 ^ 58)
       (made : IsMadeOf settings start s p q r) where
     all_fresh : AreFresh s.shared.table (opened_disks s) (scan_disk_actors s)
     all_fresh =
@@ -147,19 +148,19 @@ module _ {W D : Type 0} where
             backends_are = backends;
             workers_are = workers;
             some = omega (arith, few, range);
-            backends_stand = backends_of_new t (opened_disks s)
+            all_backends = backends_of_new t (opened_disks s)
                 bs ws all_fresh m told relations tell s.shared.queue (omega (arith, backends))
                 (λ k b lt. (all_desks k b lt).free) all_seats.0
                 (λ some k b lt. all_seated k b lt ∙ beside_workers settings.method settings.workers
                 (let runners = ap (λ (c : Config). c.runners) made.config in
                 omega (arith, some, runners))) all_rings;
-            workers_stand = workers_of_new t (opened_disks s) bs ws all_fresh m told relations tell
+            all_workers = workers_of_new t (opened_disks s) bs ws all_fresh m told relations tell
                 s.shared.queue (omega (arith, backends))
                 (front_all (IsSeatOf s.shared.queue) seat_in ws (into_iter_items q.seats)
                 (into_iter_items r.seats) made.workers.seats all_seats.1);
             counters_are = paid_of_new t (opened_disks s) bs ws all_fresh m told relations
                 disks_as_many;
-            all_list_in = λ k b lt. same_options (all_desks k b lt).streams.zero
+            all_have_options = λ k b lt. same_options (all_desks k b lt).streams.zero
                 (made.backends.all_tuples k b lt) ∙ sym made.options_are;
             room = subst P same rooms;
             few_unread = omega (arith, none);
@@ -173,7 +174,7 @@ module _ {W D : Type 0} where
     -- stands as it should at its start
     pub opened_scan : (m : DiskGhosts D) (told : Option Told) (relations : ℕ) (disks : List D)
         → opened_disks s ≡ disks → All (λ d. (m.told d ≡ told) × (m.relations d ≡ relations)) disks
-        → IsOpened m told relations settings start disks s
+        → IsOpenedScan m told relations settings start disks s
     opened_scan m told relations disks same tell =
         let P : D → Type 0 = λ d. (m.told d ≡ told) × (m.relations d ≡ relations) in
         let Q : List D → Type 0 = λ ds. All P ds in record {
@@ -185,7 +186,7 @@ module _ {W D : Type 0} where
             ring = all_ringed k b lt;
           };
           opened = same;
-          taken = none_taken s.shared.table (opened_disks s) s.backends.items s.workers.items
+          no_results = none_taken s.shared.table (opened_disks s) s.backends.items s.workers.items
               all_fresh;
           room = made.room;
           unread = made.unread;

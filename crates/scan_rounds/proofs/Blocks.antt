@@ -4,7 +4,6 @@ use Rattle.std.proofs.Common.{refl, sym, ap, ◌∙◌, subst, arith, ◌≤◌}
 use Rattle.std.specs.Prelude.{Option, Some, None}
 use Rattle.std.specs.List.{filter, range_with_len}
 use Rattle.std.proofs.lemmas.List.{length-map}
-use Rattle.std.proofs.lemmas.List.FromFn.{length-range_with_len}
 use Rattle.page_check.specs.Told.{Told}
 use Rattle.page_check.specs.SynchronousAnswer.{Reader, Ending as SaidEnding, End, reader_of}
 use Rattle.page_check.specs.SynchronousAnswer.{Invalid, PastEnd, Unread}
@@ -34,10 +33,6 @@ mapped r (b ∷ bs) = ap (λ (l : List E). block_entry r b ∷ l) (mapped r bs)
 pub range_entries : (r first count : ℕ)
     → stream_entries r (consecutive_blocks first count) ≡ job_entries r first count
 range_entries r first count = mapped r (range_with_len first count)
-
-pub range_length : (first count : ℕ) → length (consecutive_blocks first count) ≡ count
-range_length first count =
-    length-map (range_with_len first count) block_alone ∙ length-range_with_len first count
 
 -- where there is no map all are left
 all_left : (blocks : Blocks) → filter (λ b. true) blocks ≡ blocks
@@ -82,10 +77,11 @@ may_later was p q reads reads' faults faults' w e (io, f) = (
   record {
     relation_is = f.relation_is;
     first = f.first;
-    failed = f.failed;
-    submitted = w.aims _ f.submitted;
-    taken = since_later was.known p q _ reads reads' faults faults' f.taken w;
-    alone = λ one. since_later was.known p q _ reads reads' faults faults' (f.alone one) w;
+    class_is = f.class_is;
+    was_submitted = w.aims _ f.was_submitted;
+    local_mark = since_later was.known p q _ reads reads' faults faults' f.local_mark w;
+    io_mark_if_alone = λ one. since_later was.known p q _ reads reads' faults faults'
+        (f.io_mark_if_alone one) w;
   },
 )
 

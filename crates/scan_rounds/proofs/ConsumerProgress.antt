@@ -15,7 +15,7 @@ use Rattle.aio_handle.specs.ContractViews.{ActorView}
 use Rattle.read_stream.specs.StreamAnswers.{stream_entries, MayBeUnread, synchronous_answer}
 use Rattle.read_stream.specs.StreamAnswers.{pages_given, IfZeroed}
 use Rattle.read_stream.specs.declared.answer.Next.{Next as StreamNext}
-use Rattle.scan_rounds.specs.Jobs.{said_end, ending_for}
+use Rattle.scan_rounds.specs.Jobs.{answered_ending, job_ending}
 use Rattle.scan_rounds.specs.ConsumedPages.{PagesPredicate, PagesConsumed, StillHolds}
 use Rattle.scan_rounds.specs.ConsumedPages.{AnswerConsumed}
 use Rattle.scan_rounds.specs.declared.job.Ending.{Ending}
@@ -65,7 +65,7 @@ not_zeroed : (on b : Bool) → (b ≡ true → on ≡ true) → on ≡ false →
 not_zeroed on false told off = refl
 not_zeroed on true told off = (let is = told refl in absurd (cc))
 
-end_said : (end : SaidEnding) → said_end (ending_for end) ≡ Some end
+end_said : (end : SaidEnding) → answered_ending (job_ending end) ≡ Some end
 end_said End = refl
 end_said (Invalid b) = refl
 end_said (PastEnd b) = refl
@@ -116,7 +116,7 @@ module _ (was now : PagesPredicate) (on : Bool) (told : Option Told) (may : E �
 
   ended : (end : SaidEnding) → SoFar was on told entries given → StillHolds was now
       → IsNext (reader_of on told) may entries given (Stop end)
-      → PagesConsumed now on told may entries (said_end (ending_for end))
+      → PagesConsumed now on told may entries (answered_ending (job_ending end))
   ended end so_far still is =
       let found = reader_of on told in
       let P : ℕ → Type 0 = λ n. IsNext found may entries n (Stop end) in
@@ -141,19 +141,20 @@ module _ (was now : PagesPredicate) (on : Bool) (told : Option Told) (may : E �
 
   last_of : (said : Said (Unit {0})) (e : Ending) → SoFar was on told entries given
       → IsNext (reader_of on told) may entries given said → AnswerConsumed was now said (Some e)
-      → PagesConsumed now on told may entries (said_end e)
+      → PagesConsumed now on told may entries (answered_ending e)
   last_of (Page g) e so_far is takes =
-      subst (λ (x : Ending). PagesConsumed now on told may entries (said_end x)) (sym takes.0)
+      subst (λ (x : Ending). PagesConsumed now on told may entries (answered_ending x))
+      (sym takes.0)
       (cut so_far takes.1)
   last_of (Stop end) e so_far is takes =
-      let same : ending_for end ≡ e = cc in
-      subst (λ (x : Ending). PagesConsumed now on told may entries (said_end x)) same
+      let same : job_ending end ≡ e = cc in
+      subst (λ (x : Ending). PagesConsumed now on told may entries (answered_ending x)) same
       (ended end so_far takes.1 is)
 
   -- the last answer
   pub taken_end : (e : Ending) → SoFar was on told entries given
       → IsNext (reader_of on told) may entries given next → AnswerConsumed was now next result
-      → result ≡ Some e → PagesConsumed now on told may entries (said_end e)
+      → result ≡ Some e → PagesConsumed now on told may entries (answered_ending e)
   taken_end e so_far is takes some = last_of next e so_far is
       (subst (λ (x : Option Ending). AnswerConsumed was now next x) some takes)
 

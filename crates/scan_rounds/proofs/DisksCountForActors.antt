@@ -11,7 +11,7 @@ use Rattle.aio_handle.specs.Execution.{CountersFollowMarks, last_count}
 use Rattle.aio_handle.specs.ContractViews.{TableView}
 use Rattle.aio_disk.specs.declared.disk.Disk.{Ghosts as DiskGhosts}
 use Rattle.scan_rounds.specs.DiskActors.{IsDiskActor}
-use Rattle.scan_rounds.specs.Scans.{AllDiskCountersFollowMarks, disk_of, lists_of}
+use Rattle.scan_rounds.specs.Scans.{AllDiskCountersFollowMarks, disk_of, known_lists}
 use Rattle.scan_rounds.specs.declared.disk_actor.DiskActor.{DiskActor}
 
 module _ {W D : Type 0} (m : DiskGhosts D) (told : Option Told) (relations : ℕ) where
@@ -95,25 +95,14 @@ module _ {W D : Type 0} (m : DiskGhosts D) (told : Option Told) (relations : ℕ
         sum_by-cons m.faults d ds,
       )
 
-  pub counted-read : (os ds : List D) (hs : List (DiskActor W D)) → CountedBy os ds hs
-      → (i : ℕ) (p : Known) (x : D) → i < length ds → m.reads (get_or ds i x) < last_count
-      → io_mark_count (get_or (lists_of hs) i p).marks + m.reads (get_or os i x)
-      ≡ m.reads (get_or ds i x)
-  counted-read _ _ _ none i p x lt below = absurd (omega arith)
-  counted-read _ _ _ (more o d h os ds hs counters_follow tells q) zero p x lt below =
-      let here = counters_follow.read_each below in omega arith
-  counted-read _ _ _ (more o d h os ds hs counters_follow tells q) (suc i) p x lt below =
-      counted-read os ds hs q i p x (omega arith) below
-
-  pub counted-fault : (os ds : List D) (hs : List (DiskActor W D)) → CountedBy os ds hs
-      → (i : ℕ) (p : Known) (x : D) → i < length ds → m.faults (get_or ds i x) < last_count
-      → failed_mark_count (get_or (lists_of hs) i p).marks + m.faults (get_or os i x)
-      ≤ m.faults (get_or ds i x)
-  counted-fault _ _ _ none i p x lt below = absurd (omega arith)
-  counted-fault _ _ _ (more o d h os ds hs counters_follow tells q) zero p x lt below =
-      let here = counters_follow.fault_each below in omega arith
-  counted-fault _ _ _ (more o d h os ds hs counters_follow tells q) (suc i) p x lt below =
-      counted-fault os ds hs q i p x (omega arith) below
+  pub counted-at : (os ds : List D) (hs : List (DiskActor W D)) → CountedBy os ds hs
+      → (i : ℕ) (p : Known) (x : D) → i < length ds
+      → CountersFollowMarks (m.reads (get_or os i x)) (m.reads (get_or ds i x))
+      (m.faults (get_or os i x)) (m.faults (get_or ds i x)) (get_or (known_lists hs) i p).marks
+  counted-at _ _ _ none i p x lt = absurd (omega arith)
+  counted-at _ _ _ (more o d h os ds hs counters_follow tells q) zero p x lt = counters_follow
+  counted-at _ _ _ (more o d h os ds hs counters_follow tells q) (suc i) p x lt =
+      counted-at os ds hs q i p x (omega arith)
 
   -- those behind the first n
   pub counted-drop : (n : ℕ) (os ds : List D) (hs : List (DiskActor W D)) → CountedBy os ds hs

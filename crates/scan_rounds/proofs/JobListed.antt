@@ -13,10 +13,10 @@ use Rattle.read_stream.specs.declared.desk.Desk.{Desk}
 use Rattle.heap_scan.specs.Warnings.{warnings_of}
 use Rattle.heap_tuple.specs.Listing.{text_with}
 use Rattle.aio_disk.specs.declared.disk.Disk.{Ghosts as DiskGhosts}
-use Rattle.scan_rounds.specs.DiskActors.{HasListed, HasRead, entries_of_blocks}
-use Rattle.scan_rounds.specs.Jobs.{entries_of_job, said_end}
+use Rattle.scan_rounds.specs.DiskActors.{ActorListedJob, ActorReadBlocks, entries_of_blocks}
+use Rattle.scan_rounds.specs.Jobs.{entries_of_job, answered_ending}
 use Rattle.scan_rounds.specs.BlockFilter.{BlockFilter}
-use Rattle.scan_rounds.specs.ConsumedPages.{HasText}
+use Rattle.scan_rounds.specs.ConsumedPages.{JobHasOutput}
 use Rattle.scan_rounds.specs.declared.disk_actor.DiskActor.{DiskActor}
 use Rattle.scan_rounds.specs.declared.job.Ending.{Ending}
 use Rattle.scan_rounds.specs.declared.job.Job.{Job}
@@ -40,14 +40,15 @@ module _ {W D : Type 0} (m : DiskGhosts D) (told : Option Told) (relations : ℕ
   pub by_text : (block_filter : Option BlockFilter) (tuples : Bool) (h k : DiskActor W D)
       (d e : Desk W (Unit {0})) (b : Blocks) (j l : Job) (end : Ending)
       → entries_of_blocks b ≡ entries_of_job block_filter j → b.count ≤ 64 → l.relation ≡ j.relation
-      → (l.first ≡ j.first) × (l.count ≡ j.count) → HasRead m told relations t
-      (HasText (text_with tuples) l) h k d e b end → HasListed m told relations t block_filter
+      → (l.first ≡ j.first) × (l.count ≡ j.count) → ActorReadBlocks m told relations t
+      (JobHasOutput (text_with tuples) l) h k d e b end → ActorListedJob m told relations t
+      block_filter
       tuples h k d e j (ended l end)
   by_text block_filter tuples h k d e b j l end same few relation blocks read = record {
     disk_actor = read.disk_actor;
     advanced = read.advanced;
-    lived = λ n. (let lived = read.lived n in omega arith);
-    taken = (let many = ap length same in let taken = read.taken in omega arith);
+    lives_bound = λ n. (let lived = read.lives_bound n in omega arith);
+    results_bound = (let many = ap length same in let taken = read.results_bound in omega arith);
     desk = read.desk;
     listed = record {
       same = (relation, blocks.0, blocks.1);
@@ -58,10 +59,10 @@ module _ {W D : Type 0} (m : DiskGhosts D) (told : Option Told) (relations : ℕ
         sums_are = read.given.held.sums_are;
         answers = subst (λ (es : List E). IsAnswer (reader_of d.zero told)
             (MayBeUnread h.actor k.actor.known) es
-            (record { pages = read.given.pages; endings = endings_of (said_end end) })) same
+            (record { pages = read.given.pages; endings = endings_of (answered_ending end) })) same
             read.given.answers;
       };
-      quiet = λ off. read.given.held.warnings_are
+      no_warnings = λ off. read.given.held.warnings_are
           ∙ none_warned read.given.pages (read.given.none_zeroed off);
     };
   }

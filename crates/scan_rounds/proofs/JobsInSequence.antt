@@ -19,13 +19,15 @@ use Rattle.method_worker.specs.QueueViews.{QueueView}
 use Rattle.read_stream.specs.StreamAnswers.{MayBeUnread}
 use Rattle.aio_disk.specs.declared.disk.Disk.{Ghosts as DiskGhosts}
 use Rattle.scan_rounds.specs.DiskActors.{IsBackend, ActorHasRoom, backend_options}
-use Rattle.scan_rounds.specs.Jobs.{IsFresh, IsListed, AreAnswered, entries_of_job, is_unread}
-use Rattle.scan_rounds.specs.Jobs.{blocks_among}
+use Rattle.scan_rounds.specs.Jobs.{IsNewJob, JobIsListed, AllJobsAnswered, entries_of_job}
+use Rattle.scan_rounds.specs.Jobs.{is_unread}
+use Rattle.scan_rounds.specs.Jobs.{job_block_count}
 use Rattle.scan_rounds.specs.ListOptions.{ListOptions}
-use Rattle.scan_rounds.specs.Rounds.{AllAdvanced, AllHaveOptions, backend_disk_actor}
+use Rattle.scan_rounds.specs.Rounds.{AllActorsAdvanced, AllHaveOptions, backend_disk_actor}
 use Rattle.scan_rounds.specs.BlockFilter.{BlockFilter}
 use Rattle.scan_rounds.proofs.SharesInParallel.{answers_joined}
-use Rattle.scan_rounds.specs.Turns.{BackendDidJob, MayTurn, HasTurned, ListedAlone}
+use Rattle.scan_rounds.specs.Turns.{BackendDidJob, BackendsMayTakeTurn, BackendsTookTurn}
+use Rattle.scan_rounds.specs.Turns.{ListedAlone}
 use Rattle.scan_rounds.specs.declared.backend.Backend.{Backend}
 use Rattle.scan_rounds.specs.declared.job.Job.{Job}
 use Rattle.scan_rounds.proofs.RoundsCompose.{anyway, goes_at, goes_then, stays_put}
@@ -33,12 +35,12 @@ use Rattle.scan_rounds.proofs.LeastRoom.{fewer, left_after}
 use Rattle.scan_rounds.proofs.UnreadLeavesResult.{results_more, unread_counted}
 
 -- fresh jobs are no more than their blocks
-pub few_jobs : (relations : ℕ) (js : List Job) → All (IsFresh relations) js
-    → length js ≤ blocks_among js
+pub few_jobs : (relations : ℕ) (js : List Job) → All (IsNewJob relations) js
+    → length js ≤ job_block_count js
 few_jobs relations [] fresh = omega arith
 few_jobs relations (j ∷ js) fresh =
     let first = fresh 0 j (omega arith) in
-    let rest = few_jobs relations js (All-tail (IsFresh relations) j js fresh) in
+    let rest = few_jobs relations js (All-tail (IsNewJob relations) j js fresh) in
     let sum = sum_by-cons (λ (k : Job). k.count) j js in
     omega (arith, first.few)
 
@@ -68,7 +70,8 @@ module _ {W D : Type 0} (m : DiskGhosts D) (told : Option Told) (relations : ℕ
     (q : QueueView) where
   -- each has room for fewer, too
   pub may_fewer : (share n : ℕ) (bs : List (Backend W D)) (js : List Job) → n ≤ share
-      → MayTurn m told relations t q share bs js → MayTurn m told relations t q n bs js
+      → BackendsMayTakeTurn m told relations t q share bs js → BackendsMayTakeTurn m told relations
+      t q n bs js
   may_fewer share n bs js le may = record {
     backends = may.backends;
     room = λ i d lt. fewer (64 * n) (64 * share) (slice_index_or bs i d).disk_actor.actor
@@ -78,33 +81,34 @@ module _ {W D : Type 0} (m : DiskGhosts D) (told : Option Told) (relations : ℕ
 
   -- and more lives may be said
   pub turned_more : {block_filter : Option BlockFilter} (n more : ℕ) (bs cs : List (Backend W D))
-      (js ks : List Job) → n ≤ more → HasTurned m told relations t q block_filter n bs cs js ks
-      → HasTurned m told relations t q block_filter more bs cs js ks
+      (js ks : List Job) → n ≤ more → BackendsTookTurn m told relations t q block_filter n bs cs js
+      ks
+      → BackendsTookTurn m told relations t q block_filter more bs cs js ks
   turned_more n more bs cs js ks le is = record {
     as_many = is.as_many;
     jobs_are = is.jobs_are;
     backends = is.backends;
     advanced = is.advanced;
-    lived = λ i d lt h. (let few = is.lived i d lt h in omega arith);
+    lives_bound = λ i d lt h. (let few = is.lives_bound i d lt h in omega arith);
     options_same = is.options_same;
-    taken = is.taken;
+    results_bound = is.results_bound;
     unread = is.unread;
     answered = is.answered;
   }
 
   -- no job
   pub none_done : {block_filter : Option BlockFilter} (b : Backend W D) (js : List Job)
-      → length js ≡ 0 → MayTurn m told relations t q (length js) (b ∷ []) js
-      → HasTurned m told relations t q block_filter (64 * length js) (b ∷ []) (b ∷ []) js js
+      → length js ≡ 0 → BackendsMayTakeTurn m told relations t q (length js) (b ∷ []) js
+      → BackendsTookTurn m told relations t q block_filter (64 * length js) (b ∷ []) (b ∷ []) js js
   none_done b (j ∷ js) none may = absurd (omega arith)
   none_done b [] none may = record {
     as_many = refl;
     jobs_are = refl;
     backends = may.backends;
     advanced = λ i d lt. stays_put m told relations t _ (may.backends i d lt).disk_actor;
-    lived = λ i d lt h. omega arith;
+    lives_bound = λ i d lt h. omega arith;
     options_same = λ i d lt. refl;
-    taken = omega arith;
+    results_bound = omega arith;
     unread = omega arith;
     answered = λ how all. record { as_many = refl; each = λ i j lt. absurd (omega arith) };
   }
@@ -125,7 +129,7 @@ module _ {W D : Type 0} (m : DiskGhosts D) (told : Option Told) (relations : ℕ
     one_alone d js ls unmoved same few = record {
       jobs_are = omega arith;
       each = elim [
-        | zero ↦ λ e k lt. subst (λ (x : Backend W D). IsListed block_filter (backend_options b)
+        | zero ↦ λ e k lt. subst (λ (x : Backend W D). JobIsListed block_filter (backend_options b)
             told (MayBeUnread b.disk_actor.actor x.disk_actor.actor.known) j l)
             (sym (unmoved (omega arith))) did.listed
         | suc i ↦ λ e k lt. absurd (omega arith)
@@ -135,11 +139,11 @@ module _ {W D : Type 0} (m : DiskGhosts D) (told : Option Told) (relations : ℕ
     -- what is left of the backend's room
     pub may_later : (n : ℕ) (js : List Job) → ActorHasRoom (64 * (n + 1)) b.disk_actor.actor
         → b.disk_actor.actor.known.number < b.disk_actor.actor.known.config.backends
-        → All (IsFresh relations) js → MayTurn m told relations t q n (c ∷ []) js
+        → All (IsNewJob relations) js → BackendsMayTakeTurn m told relations t q n (c ∷ []) js
     may_later n js has backend fresh =
         let room = left_after 64 (64 * n) b.disk_actor.actor c.disk_actor.actor did.advanced.same
         backend (fewer (64 + 64 * n) (64 * (n + 1)) b.disk_actor.actor (omega arith) has)
-        did.lived in
+        did.lives_bound in
         record {
           backends = All-cons (IsBackend m told relations t q) c [] did.is
               (All-nil (IsBackend m told relations t q));
@@ -150,8 +154,9 @@ module _ {W D : Type 0} (m : DiskGhosts D) (told : Option Told) (relations : ℕ
 
     -- a job, and then the others
     pub one_then : (n : ℕ) (d : Backend W D) (js ls : List Job)
-        → HasTurned m told relations t q block_filter n (c ∷ []) (d ∷ []) js ls
-        → HasTurned m told relations t q block_filter (n + 64) (b ∷ []) (d ∷ []) (j ∷ js) (l ∷ ls)
+        → BackendsTookTurn m told relations t q block_filter n (c ∷ []) (d ∷ []) js ls
+        → BackendsTookTurn m told relations t q block_filter (n + 64) (b ∷ []) (d ∷ []) (j ∷ js) (l
+        ∷ ls)
     one_then n d js ls is = record {
       as_many = refl;
       jobs_are = omega (arith, is.jobs_are);
@@ -161,8 +166,8 @@ module _ {W D : Type 0} (m : DiskGhosts D) (told : Option Told) (relations : ℕ
             (is.advanced 0 c (omega arith))
         | suc i ↦ λ e lt. absurd (omega arith)
       ];
-      lived = elim [
-        | zero ↦ λ e lt h. (let x = did.lived h in let y = is.lived 0 c (omega arith) h in
+      lives_bound = elim [
+        | zero ↦ λ e lt h. (let x = did.lives_bound h in let y = is.lives_bound 0 c (omega arith) h in
             omega arith)
         | suc i ↦ λ e lt h. absurd (omega arith)
       ];
@@ -170,7 +175,7 @@ module _ {W D : Type 0} (m : DiskGhosts D) (told : Option Told) (relations : ℕ
         | zero ↦ λ e lt. is.options_same 0 c (omega arith) ∙ did.options_same
         | suc i ↦ λ e lt. absurd (omega arith)
       ];
-      taken = (let x = is.taken in let y = did.taken in
+      results_bound = (let x = is.results_bound in let y = did.results_bound in
           let w : Job → ℕ = λ k. length (entries_of_job block_filter k) in
           let z = sum_by-cons w j js in omega arith);
       unread = (let x = is.unread in let y = failed_more (is_unread l.ending) refl in
@@ -184,11 +189,12 @@ module _ {W D : Type 0} (m : DiskGhosts D) (told : Option Told) (relations : ℕ
     }
       where
         one_answered : (how : ListOptions) → backend_options b ≡ how
-            → AreAnswered block_filter how told (j ∷ []) (l ∷ [])
+            → AllJobsAnswered block_filter how told (j ∷ []) (l ∷ [])
         one_answered how same = record {
           as_many = refl;
           each = elim [
-            | zero ↦ λ k lt. subst (λ (n : ListOptions). IsListed block_filter n told (λ _. ⊤) j l)
+            | zero ↦ λ k lt. subst (λ (n : ListOptions). JobIsListed block_filter n told (λ _. ⊤) j
+                l)
                 same (anyway (backend_options b) told _ j l did.listed)
             | suc i ↦ λ k lt. absurd (omega arith)
           ];
@@ -196,8 +202,8 @@ module _ {W D : Type 0} (m : DiskGhosts D) (told : Option Told) (relations : ℕ
 
   -- all actors with their disks, after a turn
   pub all_gone_on : {block_filter : Option BlockFilter} (more : ℕ) (bs cs : List (Backend W D))
-      (js ks : List Job) → HasTurned m told relations t q block_filter more bs cs js ks
-      → AllAdvanced m told relations t (map backend_disk_actor bs) (map backend_disk_actor cs)
+      (js ks : List Job) → BackendsTookTurn m told relations t q block_filter more bs cs js ks
+      → AllActorsAdvanced m told relations t (map backend_disk_actor bs) (map backend_disk_actor cs)
   all_gone_on more bs cs js ks is = record {
     as_many = length-map cs backend_disk_actor ∙ (is.as_many
         ∙ sym (length-map bs backend_disk_actor));
@@ -208,7 +214,7 @@ module _ {W D : Type 0} (m : DiskGhosts D) (told : Option Told) (relations : ℕ
   }
 
   pub all_have_options : {block_filter : Option BlockFilter} (more : ℕ) (bs cs : List (Backend W D))
-      (js ks : List Job) → HasTurned m told relations t q block_filter more bs cs js ks
+      (js ks : List Job) → BackendsTookTurn m told relations t q block_filter more bs cs js ks
       → (how : ListOptions) → AllHaveOptions how bs → AllHaveOptions how cs
   all_have_options more bs cs js ks is how all i d lt =
       let inside : i < length bs = omega (arith, is.as_many) in

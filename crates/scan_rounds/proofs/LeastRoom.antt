@@ -11,7 +11,7 @@ use Rattle.aio_word.specs.declared.Config.{Config}
 use Rattle.aio_word.specs.Events.{handle_count, lives_ended, owner}
 use Rattle.aio_word.specs.Words.{last_generation}
 use Rattle.aio_handle.specs.CallEvents.{generation_of}
-use Rattle.aio_handle.specs.Free.{IsRoom}
+use Rattle.aio_handle.specs.FreeHandles.{IsRoom}
 use Rattle.aio_handle.specs.ContractViews.{ActorView, IsSameActor}
 use Rattle.aio_handle.proofs.LivesCounted.{room-is-one, room-bounded}
 use Rattle.scan_rounds.specs.DiskActors.{ActorHasRoom}
@@ -183,7 +183,7 @@ module _ {W D : Type 0} where
       → AllBackendsHaveRoom least bs → ((n : ℕ) → n < 2 ^ 64 → AllBackendsHaveRoom n bs → n ≤ least)
       → IsLeastRoom bs least
   least_is least (b ∷ bs) some small have greatest = record {
-    have = have;
+    all_have_room = have;
     greatest = λ n all. (let one = all 0 b (omega arith) in
         let bound = room-bounded _ _ one.0 one.1 in
         greatest n (omega (arith, one.2)) all);
@@ -206,6 +206,6 @@ module _ {W D : Type 0} where
       let fewer : AllBackendsHaveRoom (n - most) fs = λ i d lt.
       (let inside : i < length bs = omega (arith, same) in
       let one = falls most _ _ n k (each i d inside) (backend i d inside) (before i d inside)
-      (after.have i d lt) (lived i d inside) in
+      (after.all_have_room i d lt) (lived i d inside) in
       (one.0, one.1, omega (arith, one.2))) in
       let le = after.greatest (n - most) fewer in omega arith

@@ -9,7 +9,7 @@ mod WorkerAtRest
 mod UnreadLeavesResult
 mod LeastRoom
 mod CountRaised
-mod Sums
+pub mod Sums
 pub mod RoundsCompose
 mod QueueClosed
 mod ScanAfterRounds

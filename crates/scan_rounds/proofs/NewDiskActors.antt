@@ -137,7 +137,7 @@ module _ {W D : Type 0} where
     pub rooms_of_new : 1 ≤ length bs → length bs ≤ t.config.backends → 1 ≤ t.config.per_backend
         → t.config.start < 2 ^ 58 → IsLeastRoom bs (2 ^ 58 - 1 - t.config.start)
     rooms_of_new any few some start = record {
-      have = λ k b lt.
+      all_have_room = λ k b lt.
           room_of_new t k _ (backend_actor k b lt) (omega (arith, lt, few)) some start;
       greatest = λ n rooms.
           (let first : 0 < length bs = omega (arith, any) in
@@ -203,7 +203,7 @@ module _ {W D : Type 0} where
               backend = subst P (sym is) (omega (arith, lt, few));
               desk = desks k b lt;
               seat = seats k b lt;
-              seated = λ some. seated some k b lt;
+              has_seat = λ some. seated some k b lt;
               ring = rings k b lt;
             }
 

@@ -13,7 +13,7 @@ use Rattle.heap_scan.proofs.SumsOverPages.{sums_fit, sums_of-none, sums_of-push}
 use Rattle.heap_scan.specs.Sums.{FitSums, no_sums, sums_of, sums_with_page}
 use Rattle.heap_scan.specs.declared.sums.PageSums.{PageSums}
 use Rattle.scan_rounds.specs.JobOutput.{JobOutput, AnswerAppended, job_output}
-use Rattle.scan_rounds.specs.ConsumedPages.{HasText, AnswerConsumed}
+use Rattle.scan_rounds.specs.ConsumedPages.{JobHasOutput, AnswerConsumed}
 use Rattle.scan_rounds.specs.declared.job.Ending.{Ending}
 use Rattle.scan_rounds.specs.declared.job.Ending.TheVariants as ending
 use Rattle.scan_rounds.specs.declared.job.Job.{Job}
@@ -40,7 +40,7 @@ pub unwarned : (g : G) → g.zeroed ≡ false → warning_for g ≡ []
 unwarned g none = rw none refl
 
 pub no_text : (text_of : TextOf) (j : Job) → j.text.items ≡ [] → j.warnings.items ≡ []
-    → j.tally ≡ no_sums → HasText text_of j []
+    → j.tally ≡ no_sums → JobHasOutput text_of j []
 no_text text_of j empty quiet uncounted = record {
   text_is = empty ∙ sym (no_listing text_of);
   warnings_are = quiet ∙ sym no_warnings;
@@ -51,7 +51,7 @@ abbrev output_of : Job → JobOutput
 output_of j = job_output j.text.items j.warnings.items j.tally
 
 same_text : (text_of : TextOf) (j k : Job) → output_of k ≡ output_of j → (pages : List G)
-    → HasText text_of j pages → HasText text_of k pages
+    → JobHasOutput text_of j pages → JobHasOutput text_of k pages
 same_text text_of j k same pages has = record {
   text_is = ap (λ (s : JobOutput). s.text) same ∙ has.text_is;
   warnings_are = ap (λ (s : JobOutput). s.warnings) same ∙ has.warnings_are;
@@ -61,7 +61,7 @@ same_text text_of j k same pages has = record {
 -- what is shown of an answer is what the job takes
 pub shows_taken : (text_of : TextOf) (said : Said (Unit {0})) (j k : Job) (result : Option Ending)
     → AnswerAppended text_of said (output_of j) (output_of k) result
-    → AnswerConsumed (HasText text_of j) (HasText text_of k) said result
+    → AnswerConsumed (JobHasOutput text_of j) (JobHasOutput text_of k) said result
 shows_taken text_of (Page g) j k None shows = λ pages has. record {
   text_is = shows.0
       ∙ ap (λ (l : List ℕ). l ++ text_for text_of g) has.text_is
@@ -79,7 +79,7 @@ shows_taken text_of (Stop end) j k result shows = (shows.0, same_text text_of j 
 
 -- up to 64 pages and their line pointers can be counted
 pub next_fits : (text_of : TextOf) (j : Job) (said : Said (Unit {0})) → IfPage said IsValid
-    → IfPage said (λ _. (pages : List G) × HasText text_of j pages
+    → IfPage said (λ _. (pages : List G) × JobHasOutput text_of j pages
     × All (λ g. IsValid g.page) pages × (length pages < 64))
     → IfPage said (λ page. FitSums (sums_with_page j.tally page))
 next_fits text_of j (Stop end) valid room = tt

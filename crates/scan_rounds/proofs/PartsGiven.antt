@@ -13,7 +13,8 @@ use Rattle.method_worker.specs.QueueViews.{SeatView}
 use Rattle.read_stream.specs.Desks.{IsFreeDesk}
 use Rattle.read_stream.specs.declared.desk.Desk.{Desk}
 use Rattle.read_stream.specs.declared.desk.Settings.{Settings}
-use Rattle.scan_rounds.specs.OpenedScan.{AreStreamsOf, GivesDiskActors, GivesBackends, GivesWorkers}
+use Rattle.scan_rounds.specs.OpenedScan.{AreStreamSettings, GivesDiskActors, GivesBackends}
+use Rattle.scan_rounds.specs.OpenedScan.{GivesWorkers}
 use Rattle.scan_rounds.specs.OpenedScan.{IsDeskFor}
 use Rattle.scan_rounds.specs.Rounds.{backend_disk_actor, worker_disk_actor}
 use Rattle.scan_rounds.specs.Scans.{actor_of, disk_of}
@@ -112,7 +113,7 @@ module _ {A B : Type 0} (f : A → Option B) where
 
 pub desk_for : {W : Type 0} (s : ScanSettings) (r : Settings) (d : Desk W (Unit {0})) → IsFreeDesk d
     → (d.combine ≡ r.combine) × (d.ios ≡ r.ios) × (d.limit ≡ r.limit) × (d.full ≡ r.full)
-    × (d.batched ≡ r.batch) × (d.segment ≡ r.segment) × (d.zero ≡ r.zero) → AreStreamsOf s r
+    × (d.batched ≡ r.batch) × (d.segment ≡ r.segment) × (d.zero ≡ r.zero) → AreStreamSettings s r
     → IsDeskFor s d
 desk_for s r d free same streams = record {
   free = free;

@@ -11,7 +11,7 @@ use Rattle.method_worker.specs.QueueViews.{QueueView, IsSeatOf}
 use Rattle.aio_disk.specs.declared.disk.Disk.{Ghosts as DiskGhosts}
 use Rattle.scan_rounds.specs.DiskActors.{IsBackend, IsDiskActor}
 use Rattle.scan_rounds.specs.DiskActors.{ActorHasRoom, backend_options}
-use Rattle.scan_rounds.specs.Progress.{AreWaiting}
+use Rattle.scan_rounds.specs.Progress.{BackendsAreReady}
 use Rattle.scan_rounds.specs.Rings.{IsRingOf}
 use Rattle.scan_rounds.specs.ListOptions.{ListOptions, list_options}
 use Rattle.scan_rounds.specs.Rounds.{AllBackendsHaveRoom, IsLeastRoom, AllHaveOptions}
@@ -59,7 +59,7 @@ same_waiting m told relations t q b c disk_actor desk ring seat kept is = record
       (sym disk_actor) is.backend;
   desk = subst (λ d. IsFreeDesk d) (sym desk) is.desk;
   seat = seat;
-  seated = λ some. kept ∙ is.seated some;
+  has_seat = λ some. kept ∙ is.has_seat some;
   ring = subst (λ r. IfSome r (IsRingOf q)) (sym ring) is.ring;
 }
 
@@ -80,16 +80,16 @@ module _ {W D : Type 0} (m : DiskGhosts D) (told : Option Told) (relations : ℕ
   first_least : (a c : Backend W D) (bs : List (Backend W D)) (room : ℕ)
       → c.disk_actor ≡ a.disk_actor → IsLeastRoom (a ∷ bs) room → IsLeastRoom (c ∷ bs) room
   first_least a c bs room same least = record {
-    have = first_room room a c bs same least.have;
+    all_have_room = first_room room a c bs same least.all_have_room;
     greatest = λ n have. least.greatest n (first_room n c a bs (sym same) have);
   }
 
   -- the first of them has closed the queue
   pub first_closed : (bs : List (Backend W D)) (b c : Backend W D) (counts : Counts)
-      → AreWaiting m told relations t q bs counts → b ≡ slice_index_or bs 0 b
+      → BackendsAreReady m told relations t q bs counts → b ≡ slice_index_or bs 0 b
       → c.disk_actor ≡ b.disk_actor → c.desk ≡ b.desk → c.ring ≡ b.ring
       → IfSome c.seat (IsSeatOf q) → is_some c.seat ≡ is_some b.seat
-      → AreWaiting m told relations t q (slice_set bs 0 c) counts
+      → BackendsAreReady m told relations t q (slice_set bs 0 c) counts
       × (map backend_disk_actor (slice_set bs 0 c) ≡ map backend_disk_actor bs)
   first_closed [] b c counts w is disk_actor desk ring seat kept = absurd (omega (arith, w.some))
   first_closed (a ∷ bs) b c counts w is disk_actor desk ring seat kept =

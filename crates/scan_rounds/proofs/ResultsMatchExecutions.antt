@@ -23,7 +23,7 @@ use Rattle.aio_word.specs.Totals.{by_backends, by_runners}
 use Rattle.aio_word.proofs.OwnMarksBoundWord.{has-counted, kind_place-small}
 use Rattle.aio_word.proofs.ReplacedElement.{sum-in}
 use Rattle.aio_word.proofs.TotalsAgree.{sum_below, sum_below-same, buckets, sums-swapped, sum-same}
-use Rattle.aio_handle.specs.Closing.{EndState}
+use Rattle.aio_handle.specs.EndStates.{EndState}
 use Rattle.aio_handle.proofs.IoMarksMatchClaims.{balance}
 use Rattle.aio_handle.proofs.ListsOfAllActors.{idle-place}
 use Rattle.aio_handle.proofs.SeatLists.{entry-at}
@@ -88,8 +88,8 @@ both-stand c parts h w s free g = dite (dec_le c.start g)
     ∙ (ap (λ (n : ℕ). one_if (nat_lt 4 n)) free ∙ (less-none 4 ∙ sym
     (s.now (kind.Local Failed) ∙ (ap (λ (n : ℕ). one_if (nat_lt 6 n)) free ∙ less-none 6))))))
     (λ ne. dite (dec_le g w.generation)
-    (λ le. s.over g lo (omega arith) (kind.Io Failed)
-    ∙ sym (s.over g lo (omega arith) (kind.Local Failed)))
+    (λ le. s.past_marks g lo (omega arith) (kind.Io Failed)
+    ∙ sym (s.past_marks g lo (omega arith) (kind.Local Failed)))
     (λ more. s.none g (inr (omega arith)) (kind.Io Failed)
     ∙ sym (s.none g (inr (omega arith)) (kind.Local Failed)))))
     (λ low. s.none g (inl (omega arith)) (kind.Io Failed)
@@ -129,7 +129,7 @@ module _ (c : Config) (parts : List Known) (e : EndState c parts) where
       let G : ℕ = sum_by (λ (p : Known). sum_by (λ (m : Mark). m.generation) p.marks) parts + 1 in
       let bound : (p : Known) → IsIn p parts → (m : Mark) → IsIn m p.marks
       → (m.handle < handle_count c) × (m.generation < G) = λ p i m j. (
-        (e.stands.each_list p i).in_range m j,
+        (e.words_match_lists.each_list p i).in_range m j,
         (let a = sum-in (λ (x : Mark). x.generation) p.marks m j in
             let b = sum-in (λ (x : Known). sum_by (λ (m : Mark). m.generation) x.marks) parts p i in
             omega arith),
@@ -142,8 +142,8 @@ module _ (c : Config) (parts : List Known) (e : EndState c parts) where
       (λ h lt. sum_below-same
       (λ g. sum_by (λ (p : Known). count_at_rank h (8 * g + 4) p.marks) parts)
       (λ g. sum_by (λ (p : Known). count_at_rank h (8 * g + 6) p.marks) parts) G (λ g _.
-      (let (w, word) = entry-at e.words h (let wide = e.stands.wide in omega arith) in
-      both-stand c parts h w (e.stands.each_handle h w word) (idle-place w (e.idle h w word)) g)))
+      (let (w, word) = entry-at e.words h (let wide = e.words_match_lists.one_per_handle in omega arith) in
+      both-stand c parts h w (e.words_match_lists.each_handle h w word) (idle-place w (e.idle h w word)) g)))
       ∙ sym (spread-all 6 (lit< tt) (handle_count c) G parts bound))
 
 local-owned : (k : Kind) → kind_place k ≡ 6 → IsOwnerKind k
@@ -167,7 +167,7 @@ runners_take_none c p s runner = dite (ℕ_discrete (local_mark_count p.marks) 0
     (let m = has-counted (λ (x : Mark). one_if (kind_place x.kind == 6)) p.marks (omega arith) in
     let inside : m.it.handle < c.backends * c.per_backend = s.in_range m.it m.within in
     let own : p.number ≡ m.it.handle / c.per_backend =
-    s.owned m.it m.within (local-owned m.it.kind (is-local (kind_place m.it.kind) m.more)) in
+    s.in_owner_list m.it m.within (local-owned m.it.kind (is-local (kind_place m.it.kind) m.more)) in
     dite (ℕ_discrete c.per_backend 0)
     (λ zero. let x : m.it.handle < c.backends * 0 =
     subst (λ (z : ℕ). m.it.handle < c.backends * z) zero inside in omega arith)

@@ -8,7 +8,7 @@ use Rattle.page_check.specs.SynchronousAnswer.{Entry, reader_of}
 use Rattle.std.specs.List.{All}
 use Rattle.std.proofs.lemmas.List.{get_or-map, length-map}
 use Rattle.page_check.specs.Told.{Told}
-use Rattle.aio_disk.specs.Counts.{raised_by}
+use Rattle.aio_disk.specs.Counts.{count_plus}
 use Rattle.aio_word.specs.declared.Mark.{Mark}
 use Rattle.aio_word.proofs.MoreMarksKeep.{io-more, failed-more}
 use Rattle.aio_handle.specs.Execution.{CountersFollowMarks}
@@ -16,38 +16,32 @@ use Rattle.aio_handle.specs.ContractViews.{TableView}
 use Rattle.method_worker.specs.QueueViews.{QueueView}
 use Rattle.aio_disk.specs.declared.disk.Disk.{Ghosts as DiskGhosts}
 use Rattle.scan_rounds.specs.DiskActors.{IsBackend, IsDiskActor, DiskActorAdvanced}
-use Rattle.scan_rounds.specs.Progress.{AreWaiting, RoundsAdvanced}
-use Rattle.scan_rounds.specs.Jobs.{IsFresh, IsListed, AreAnswered, blocks_among, entries_of_job}
+use Rattle.scan_rounds.specs.Progress.{BackendsAreReady, RoundsAdvanced}
+use Rattle.scan_rounds.specs.Jobs.{IsNewJob, JobIsListed, AllJobsAnswered, job_block_count}
+use Rattle.scan_rounds.specs.Jobs.{entries_of_job}
 use Rattle.scan_rounds.specs.ListOptions.{ListOptions}
 use Rattle.scan_rounds.specs.BlockFilter.{BlockFilter}
 use Rattle.scan_rounds.specs.JobSources.{JobSourceAdvanced}
-use Rattle.scan_rounds.specs.Rounds.{AllAdvanced, AllHaveOptions, AreListed, backend_disk_actor}
+use Rattle.scan_rounds.specs.Rounds.{AllActorsAdvanced, AllHaveOptions, AllJobsListed}
+use Rattle.scan_rounds.specs.Rounds.{backend_disk_actor}
 use Rattle.scan_rounds.specs.Rounds.{results_taken_count}
 use Rattle.read_stream.specs.ActorProgress.{local_mark_count}
 use Rattle.read_stream.specs.StreamAnswers.{MayBeUnread}
 use Rattle.scan_rounds.specs.declared.job.Job.{Job}
+use Rattle.scan_rounds.specs.declared.job_source.JobSource.{Ghosts as JobSourceGhosts}
 use Rattle.scan_rounds.proofs.Blocks.{answer_wider}
 use Rattle.scan_rounds.specs.declared.disk_actor.DiskActor.{DiskActor}
 use Rattle.scan_rounds.specs.declared.backend.Backend.{Backend}
 use Rattle.scan_rounds.specs.declared.rounds.Counts.{Counts}
 use Rattle.scan_rounds.proofs.CountRaised.{raised_none, raised_twice}
+use Rattle.scan_rounds.proofs.Sums.{sum-mapped}
 
 results_taken-disk_actors : {W D : Type 0} (bs : List (Backend W D))
     → results_taken_count bs ≡ sum_by (λ (h : DiskActor W D). local_mark_count h.actor.known.marks)
     (map backend_disk_actor bs)
-results_taken-disk_actors bs = sum_by-map-is bs
-  where
-    sum_by-map-is : {W D : Type 0} (bs : List (Backend W D))
-        → sum_by (λ (b : Backend W D). local_mark_count b.disk_actor.actor.known.marks) bs
-        ≡ sum_by (λ (h : DiskActor W D). local_mark_count h.actor.known.marks)
-        (map backend_disk_actor bs)
-    sum_by-map-is [] = refl
-    sum_by-map-is {W} {D} (b ∷ bs) =
-        let f : Backend W D → ℕ = λ x. local_mark_count x.disk_actor.actor.known.marks in
-        let h : DiskActor W D → ℕ = λ x. local_mark_count x.actor.known.marks in
-        let rest = sum_by-map-is bs in
-        let x = sum_by-cons f b bs in
-        let y = sum_by-cons h b.disk_actor (map backend_disk_actor bs) in omega arith
+results_taken-disk_actors {W} {D} bs =
+    sym (sum-mapped (λ (h : DiskActor W D). local_mark_count h.actor.known.marks)
+    backend_disk_actor bs)
 
 -- what backends have taken is their actors'
 pub taken_as : {W D : Type 0} (cs ds : List (Backend W D))
@@ -61,11 +55,12 @@ taken_as {W} {D} cs ds same =
 pub listed_as : {W D : Type 0} (block_filter : Option BlockFilter) (how : ListOptions)
     (told : Option Told) (bs cs ds : List (Backend W D)) (js ks : List Job)
     → length js ≤ length cs → map backend_disk_actor ds ≡ map backend_disk_actor cs
-    → AreListed block_filter how told bs cs js ks → AreListed block_filter how told bs ds js ks
+    → AllJobsListed block_filter how told bs cs js ks → AllJobsListed block_filter how told bs ds js
+    ks
 listed_as {W} {D} block_filter how told bs cs ds js ks few same is = record {
   jobs_are = is.jobs_are;
   each = λ i d j lt.
-      subst (λ (h : DiskActor W D). IsListed block_filter how told
+      subst (λ (h : DiskActor W D). JobIsListed block_filter how told
       (MayBeUnread (slice_index_or bs i d).disk_actor.actor h.actor.known) (slice_index_or js i j)
       (slice_index_or ks i j)) (at i d (omega arith)) (is.each i d j lt);
 }
@@ -119,8 +114,8 @@ module _ {W D : Type 0} (m : DiskGhosts D) (told : Option Told) (relations : ℕ
     marks = sym (append-nil h.actor.known.marks);
     before = is.disk;
     after = is.disk;
-    had = is.held;
-    has = is.held;
+    had_disk = is.held;
+    has_disk = is.held;
     counters_follow = record {
       read_each = λ below. omega arith;
       fault_each = λ below. omega arith;
@@ -130,7 +125,7 @@ module _ {W D : Type 0} (m : DiskGhosts D) (told : Option Told) (relations : ℕ
   pub goes_then : (h k l : DiskActor W D) → DiskActorAdvanced m told relations t h k
       → DiskActorAdvanced m told relations t k l → DiskActorAdvanced m told relations t h l
   goes_then h k l a b =
-      let one : a.after ≡ b.before = some_same k.disk a.after b.before a.has b.had in
+      let one : a.after ≡ b.before = some_same k.disk a.after b.before a.has_disk b.had_disk in
       let second : CountersFollowMarks (m.reads a.after) (m.reads b.after) (m.faults a.after)
       (m.faults b.after)
       b.more =
@@ -143,13 +138,13 @@ module _ {W D : Type 0} (m : DiskGhosts D) (told : Option Told) (relations : ℕ
             ∙ append_assoc h.actor.known.marks a.more b.more);
         before = a.before;
         after = b.after;
-        had = a.had;
-        has = b.has;
+        had_disk = a.had_disk;
+        has_disk = b.has_disk;
         counters_follow = pays_then _ _ _ _ _ _ a.more b.more a.counters_follow second;
       }
 
   pub all_stay : (bs : List (Backend W D)) (q : QueueView) → All (IsBackend m told relations t q) bs
-      → AllAdvanced m told relations t (map backend_disk_actor bs) (map backend_disk_actor bs)
+      → AllActorsAdvanced m told relations t (map backend_disk_actor bs) (map backend_disk_actor bs)
   all_stay bs q all = record {
     as_many = refl;
     each = λ i d lt.
@@ -158,29 +153,29 @@ module _ {W D : Type 0} (m : DiskGhosts D) (told : Option Told) (relations : ℕ
         (λ e. stays_put (slice_index_or bs i e).disk_actor (all i e inside).disk_actor));
   }
 
-  pub all_then : (hs ks ls : List (DiskActor W D)) → AllAdvanced m told relations t hs ks
-      → AllAdvanced m told relations t ks ls → AllAdvanced m told relations t hs ls
+  pub all_then : (hs ks ls : List (DiskActor W D)) → AllActorsAdvanced m told relations t hs ks
+      → AllActorsAdvanced m told relations t ks ls → AllActorsAdvanced m told relations t hs ls
   all_then hs ks ls a b = record {
     as_many = b.as_many ∙ a.as_many;
     each = λ i d lt. goes_then _ _ _ (a.each i d lt) (b.each i d (omega (arith, a.as_many)));
   }
 
   pub as_many_disk_actors : (bs cs : List (Backend W D))
-      → AllAdvanced m told relations t (map backend_disk_actor bs) (map backend_disk_actor cs)
+      → AllActorsAdvanced m told relations t (map backend_disk_actor bs) (map backend_disk_actor cs)
       → length cs ≡ length bs
   as_many_disk_actors bs cs go = sym (length-map cs backend_disk_actor)
       ∙ (go.as_many ∙ length-map bs backend_disk_actor)
 
   pub gone_nowhere : (q : QueueView) (bs : List (Backend W D)) (counts : Counts)
-      (blocks kept unread : ℕ) → AreWaiting m told relations t q bs counts → unread ≡ 0
+      (blocks kept unread : ℕ) → BackendsAreReady m told relations t q bs counts → unread ≡ 0
       → RoundsAdvanced m told relations t bs bs counts counts blocks kept unread
   gone_nowhere q bs counts blocks kept unread w none = record {
-    go_on = all_stay bs q w.backends;
+    actors_advanced = all_stay bs q w.backends;
     room = omega arith;
-    taken = omega arith;
+    results_bound = omega arith;
     more = 0;
-    raised = raised_none counts.unread;
-    enough = omega arith;
+    unread_raised = raised_none counts.unread;
+    unread_enough = omega arith;
   }
 
   -- backends with the same actors and disks
@@ -192,13 +187,13 @@ module _ {W D : Type 0} (m : DiskGhosts D) (told : Option Told) (relations : ℕ
       let gone = subst (λ (xs : List (Backend W D)). RoundsAdvanced m told relations t xs cs a b n i
       k) begun
       gone' in record {
-        go_on = subst (λ (hs : List (DiskActor W D)). AllAdvanced m told relations t
-            (map backend_disk_actor bs) hs) (sym same) gone.go_on;
+        actors_advanced = subst (λ (hs : List (DiskActor W D)). AllActorsAdvanced m told relations t
+            (map backend_disk_actor bs) hs) (sym same) gone.actors_advanced;
         room = gone.room;
-        taken = (let x = taken_as cs ds same in omega (arith, gone.taken));
+        results_bound = (let x = taken_as cs ds same in omega (arith, gone.results_bound));
         more = gone.more;
-        raised = gone.raised;
-        enough = gone.enough;
+        unread_raised = gone.unread_raised;
+        unread_enough = gone.unread_enough;
       }
 
   pub gone_then : (bs cs ds : List (Backend W D)) (a b c : Counts)
@@ -206,65 +201,60 @@ module _ {W D : Type 0} (m : DiskGhosts D) (told : Option Told) (relations : ℕ
       → RoundsAdvanced m told relations t cs ds b c k j y → n + k ≤ all → i + j ≤ kept
       → most ≤ x + y → RoundsAdvanced m told relations t bs ds a c all kept most
   gone_then bs cs ds a b c n k i j x y all kept most one two blocks fewer unread = record {
-    go_on = all_then _ _ _ one.go_on two.go_on;
+    actors_advanced = all_then _ _ _ one.actors_advanced two.actors_advanced;
     room = omega (arith, one.room, two.room);
-    taken = omega (arith, one.taken, two.taken);
+    results_bound = omega (arith, one.results_bound, two.results_bound);
     more = one.more + two.more;
-    raised = two.raised ∙ (ap (raised_by two.more) one.raised
+    unread_raised = two.unread_raised ∙ (ap (count_plus two.more) one.unread_raised
         ∙ raised_twice one.more two.more a.unread);
-    enough = omega (arith, one.enough, two.enough);
+    unread_enough = omega (arith, one.unread_enough, two.unread_enough);
   }
 
 module _ {W D A : Type 0} {m : DiskGhosts D} {told : Option Told} {relations : ℕ} {t : TableView}
-    {q : QueueView} {blocks_left unskipped_left unread : A → ℕ} {options : A → ListOptions}
-    {block_filter : A → Option BlockFilter}
-    {follows : A → A → Type 0} where
+    {q : QueueView} {s : JobSourceGhosts A W} where
   -- before the first round
   pub no_rounds : (bs : List (Backend W D)) (js : List Job) (a : A) (counts : Counts)
-      → AreWaiting m told relations t q bs counts → AllHaveOptions (options a) bs → follows a a
-      → JobSourceAdvanced m told relations t q blocks_left unskipped_left unread options
-      block_filter follows bs bs js js a a counts counts
+      → BackendsAreReady m told relations t q bs counts → AllHaveOptions (s.options a) bs
+      → s.follows a a → JobSourceAdvanced m told relations t q s bs bs js js a a counts counts
   no_rounds bs js a counts waiting list_in itself = record {
-    waiting = waiting;
+    ready = waiting;
     backends = refl;
     places = refl;
-    left_fewer = omega arith;
-    due_fewer = omega arith;
-    all_list_in = list_in;
+    blocks_not_more = omega arith;
+    unskipped_not_more = omega arith;
+    all_have_options = list_in;
     options_are = refl;
     filter_is = refl;
-    gone = gone_nowhere m told relations t q bs counts _ _ _ waiting (omega arith);
-    goes_on = itself;
+    rounds_advanced = gone_nowhere m told relations t q bs counts _ _ _ waiting (omega arith);
+    source_follows = itself;
   }
 
   -- some rounds, and then further ones by some of the places
   pub rounds_then : {bs cs ds : List (Backend W D)} {js ks ls fs gs : List Job} {a b c : A}
       {before between after : Counts}
-      → ((x y z : A) → follows x y → follows y z → follows x z)
-      → JobSourceAdvanced m told relations t q blocks_left unskipped_left unread options
-      block_filter follows bs cs js ks a b before between
-      → JobSourceAdvanced m told relations t q blocks_left unskipped_left unread options
-      block_filter follows cs ds fs gs b c between after → length ls ≡ length ks
-      → JobSourceAdvanced m told relations t q blocks_left unskipped_left unread options
-      block_filter follows bs ds js ls a c before after
+      → ((x y z : A) → s.follows x y → s.follows y z → s.follows x z)
+      → JobSourceAdvanced m told relations t q s bs cs js ks a b before between
+      → JobSourceAdvanced m told relations t q s cs ds fs gs b c between after
+      → length ls ≡ length ks
+      → JobSourceAdvanced m told relations t q s bs ds js ls a c before after
   rounds_then {bs} {cs} {ds} {js} {ks} {ls} {fs} {gs} {a} {b} {c} on one two same = record {
-    waiting = two.waiting;
+    ready = two.ready;
     backends = two.backends ∙ one.backends;
     places = same ∙ one.places;
-    left_fewer = omega (arith, one.left_fewer, two.left_fewer);
-    due_fewer = omega (arith, one.due_fewer, two.due_fewer);
-    all_list_in = subst (λ (n : ListOptions). AllHaveOptions n ds) one.options_are two.all_list_in;
+    blocks_not_more = omega (arith, one.blocks_not_more, two.blocks_not_more);
+    unskipped_not_more = omega (arith, one.unskipped_not_more, two.unskipped_not_more);
+    all_have_options = subst (λ (n : ListOptions). AllHaveOptions n ds) one.options_are two.all_have_options;
     options_are = two.options_are ∙ one.options_are;
     filter_is = two.filter_is ∙ one.filter_is;
-    gone = gone_then m told relations t bs cs ds _ _ _ _ _ _ _ _ _ _ _ _ one.gone two.gone
-        (omega (arith, one.left_fewer, two.left_fewer))
-        (omega (arith, one.due_fewer, two.due_fewer)) (omega arith);
-    goes_on = on a b c one.goes_on two.goes_on;
+    rounds_advanced = gone_then m told relations t bs cs ds _ _ _ _ _ _ _ _ _ _ _ _ one.rounds_advanced two.rounds_advanced
+        (omega (arith, one.blocks_not_more, two.blocks_not_more))
+        (omega (arith, one.unskipped_not_more, two.unskipped_not_more)) (omega arith);
+    source_follows = on a b c one.source_follows two.source_follows;
   }
 
 -- jobs that are fresh ask for at least one block each
-pub some_blocks : (relations n : ℕ) (js : List Job) → All (IsFresh relations) (take n js) → 0 < n
-    → 0 < length js → 0 < blocks_among (take n js)
+pub some_blocks : (relations n : ℕ) (js : List Job) → All (IsNewJob relations) (take n js) → 0 < n
+    → 0 < length js → 0 < job_block_count (take n js)
 some_blocks relations (suc n) (j ∷ js) fresh some there =
     let first = fresh 0 j (omega arith) in
     let sum = sum_by-cons (λ (k : Job). k.count) j (take n js) in
@@ -274,8 +264,8 @@ some_blocks relations (suc n) [] fresh some there = absurd (omega arith)
 
 -- whatever may be unread
 pub anyway : {block_filter : Option BlockFilter} (how : ListOptions) (told : Option Told)
-    (may : Entry (Unit {0}) → Type 0) (j k : Job) → IsListed block_filter how told may j k
-    → IsListed block_filter how told (λ _. ⊤) j k
+    (may : Entry (Unit {0}) → Type 0) (j k : Job) → JobIsListed block_filter how told may j k
+    → JobIsListed block_filter how told (λ _. ⊤) j k
 anyway {block_filter} how told may j k is = record {
   same = is.same;
   answer = record {
@@ -286,13 +276,13 @@ anyway {block_filter} how told may j k is = record {
     answers = answer_wider (reader_of how.zero told) may (λ _. ⊤) (entries_of_job block_filter j) _
         (λ e may. tt) is.answer.answers;
   };
-  quiet = is.quiet;
+  no_warnings = is.no_warnings;
 }
 
 -- by the job source's options and filter, before and after it gave the jobs
 pub answered_as : (block_filter block_filter' : Option BlockFilter) (how how' : ListOptions)
     (told : Option Told) (js ks : List Job) → block_filter' ≡ block_filter → how' ≡ how
-    → AreAnswered block_filter how told js ks → AreAnswered block_filter' how' told js ks
+    → AllJobsAnswered block_filter how told js ks → AllJobsAnswered block_filter' how' told js ks
 answered_as block_filter block_filter' how how' told js ks out same is =
-    subst (λ (n : ListOptions). AreAnswered block_filter' n told js ks) (sym same)
-    (subst (λ (s : Option BlockFilter). AreAnswered s how told js ks) (sym out) is)
+    subst (λ (n : ListOptions). AllJobsAnswered block_filter' n told js ks) (sym same)
+    (subst (λ (s : Option BlockFilter). AllJobsAnswered s how told js ks) (sym out) is)

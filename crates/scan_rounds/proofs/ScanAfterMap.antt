@@ -6,7 +6,7 @@ use Rattle.std.specs.List.{All}
 use Rattle.std.proofs.lemmas.List.{length-map}
 use Rattle.page_check.specs.SynchronousAnswer.{reader_of}
 use Rattle.page_check.specs.Told.{Told}
-use Rattle.aio_disk.specs.Counts.{raised_by}
+use Rattle.aio_disk.specs.Counts.{count_plus}
 use Rattle.aio_word.specs.Events.{lives_ended}
 use Rattle.aio_word.specs.Tokens.{failed_result_count}
 use Rattle.aio_handle.specs.ContractViews.{TableView}
@@ -16,16 +16,17 @@ use Rattle.read_stream.specs.StreamAnswers.{MayBeUnread}
 use Rattle.read_stream.specs.ActorProgress.{local_mark_count}
 use Rattle.vis_map.specs.Bits.{Map}
 use Rattle.aio_disk.specs.declared.disk.Disk.{Ghosts as DiskGhosts}
-use Rattle.scan_rounds.specs.DiskActors.{DiskActorAdvanced, HasReadMap, IsBackend}
+use Rattle.scan_rounds.specs.DiskActors.{DiskActorAdvanced, BackendReadMap, IsBackend}
 use Rattle.scan_rounds.specs.DiskActors.{IsWorker, entries_of_blocks}
 use Rattle.scan_rounds.specs.DiskActors.{backend_options, map_blocks}
-use Rattle.scan_rounds.specs.Jobs.{is_unread, said_end, unread_in}
+use Rattle.scan_rounds.specs.Jobs.{is_unread, answered_ending, unread_ending_count}
 use Rattle.scan_rounds.specs.ListOptions.{ListOptions}
-use Rattle.scan_rounds.specs.Progress.{AreWaiting}
-use Rattle.scan_rounds.specs.Rounds.{AllAdvanced, AllHaveOptions, AllServed, AllBackendsHaveRoom}
-use Rattle.scan_rounds.specs.Rounds.{IsFirstRead}
-use Rattle.scan_rounds.specs.Rounds.{IsMapRead}
-use Rattle.scan_rounds.specs.ConsumedPages.{HasPages, PagesConsumed}
+use Rattle.scan_rounds.specs.Progress.{BackendsAreReady}
+use Rattle.scan_rounds.specs.Rounds.{AllActorsAdvanced, AllHaveOptions, AllWorkersServed}
+use Rattle.scan_rounds.specs.Rounds.{AllBackendsHaveRoom}
+use Rattle.scan_rounds.specs.Rounds.{FirstBackendReadMap}
+use Rattle.scan_rounds.specs.Rounds.{MapPagesConsumed}
+use Rattle.scan_rounds.specs.ConsumedPages.{MapHasPages, PagesConsumed}
 use Rattle.scan_rounds.specs.Rounds.{IsLeastRoom, backend_disk_actor, failed_results_taken}
 use Rattle.scan_rounds.specs.Rounds.{results_taken_count}
 use Rattle.scan_rounds.specs.Scans.{IsScan, scan_options}
@@ -46,7 +47,7 @@ use Rattle.scan_rounds.proofs.UnreadLeavesResult.{results_more, unread_after}
 -- workers that did nothing
 pub workers_stay : {W D : Type 0} (m : DiskGhosts D) (told : Option Told) (relations : ℕ)
     (t : TableView) (q : QueueView) (ws : List (Worker W D))
-    → All (IsWorker m told relations t q) ws → AllServed m told relations t q ws ws
+    → All (IsWorker m told relations t q) ws → AllWorkersServed m told relations t q ws ws
 workers_stay m told relations t q ws all = record {
   as_many = refl;
   each = λ i d lt. record {
@@ -60,13 +61,13 @@ module _ {W D : Type 0} (m : DiskGhosts D) (told : Option Told) (relations : ℕ
     (q : QueueView) (bs cs : List (Backend W D)) (relation pages : ℕ) (found : Map)
     (warnings : List ℕ) (end : Ending) (all : All (IsBackend m told relations t q) bs)
     (some : 1 ≤ length bs)
-    (read : IsFirstRead m told relations t q bs cs relation pages found warnings end) where
+    (read : FirstBackendReadMap m told relations t q bs cs relation pages found warnings end) where
   inside : (i : ℕ) → i < length cs → i < length bs
   inside i lt = omega (arith, read.as_many)
 
   -- a fact of each backend
   each_of : (P : Backend W D → Backend W D → Type 0)
-      → ((d : Backend W D) → HasReadMap m told relations t q (slice_index_or bs 0 d)
+      → ((d : Backend W D) → BackendReadMap m told relations t q (slice_index_or bs 0 d)
       (slice_index_or cs 0 d) relation pages found warnings end
       → P (slice_index_or bs 0 d) (slice_index_or cs 0 d))
       → ((i : ℕ) (d : Backend W D) → i < length bs
@@ -95,10 +96,10 @@ module _ {W D : Type 0} (m : DiskGhosts D) (told : Option Told) (relations : ℕ
   lived_read i d lt h = each_of
       (λ b c. lives_ended h c.disk_actor.actor.known.marks
       ≤ lives_ended h b.disk_actor.actor.known.marks + 65)
-      (λ e r. (let lived = r.read.lived h in let few = r.few in omega arith))
+      (λ e r. (let lived = r.read.lives_bound h in let few = r.few in omega arith))
       (λ k e below. omega arith) i d lt
 
-  pub go_on_read : AllAdvanced m told relations t (map backend_disk_actor bs)
+  pub go_on_read : AllActorsAdvanced m told relations t (map backend_disk_actor bs)
       (map backend_disk_actor cs)
   go_on_read = record {
     as_many = length-map cs backend_disk_actor ∙ (read.as_many
@@ -136,7 +137,7 @@ module _ {W D : Type 0} (m : DiskGhosts D) (told : Option Told) (relations : ℕ
       let f : Backend W D → ℕ = λ b. local_mark_count b.disk_actor.actor.known.marks in
       let sum = at_most f (λ (n : ℕ). n) bs cs (pages ∷ []) read.as_many some
       (raised_first f pages (λ d.
-      (let taken = (read.first d).read.taken in
+      (let taken = (read.first d).read.results_bound in
       let few = few_in_range None relation 0 pages in omega arith)))
       (λ i d le lt. (let same = same_count f i d le in omega arith)) in
       omega arith
@@ -157,42 +158,45 @@ module _ {W D : Type 0} (m : DiskGhosts D) (told : Option Told) (relations : ℕ
   unread_or false is d =
       let kept = results_kept _ _ (read.first d).read.advanced in omega arith
 
-  results_read : failed_results_taken bs + unread_in end ≤ failed_results_taken cs
+  results_read : failed_results_taken bs + unread_ending_count end ≤ failed_results_taken cs
   results_read =
       let f : Backend W D → ℕ = λ b. failed_result_count b.disk_actor.actor.known.marks in
-      let sum = at_least f (λ (n : ℕ). n) bs cs (unread_in end ∷ []) read.as_many some
-      (lowered_first f (unread_in end) (unread_or (is_unread end) refl))
+      let sum = at_least f (λ (n : ℕ). n) bs cs (unread_ending_count end ∷ []) read.as_many some
+      (lowered_first f (unread_ending_count end) (unread_or (is_unread end) refl))
       (λ i d le lt. (let same = same_count f i d le in omega arith)) in
       omega arith
 
   pub waiting_read : (before room unread : ℕ) → IsLeastRoom cs room
-      → before ≤ failed_results_taken bs → unread ≡ raised_by (unread_in end) before
-      → AreWaiting m told relations t q cs (record { room = room; unread = unread })
+      → before ≤ failed_results_taken bs → unread ≡ count_plus (unread_ending_count end) before
+      → BackendsAreReady m told relations t q cs (record { room = room; unread = unread })
   waiting_read before room unread least few raised = record {
     some = omega (arith, read.as_many);
     backends = stand_read;
     room = least;
-    few_unread = raised_within unread (unread_in end) before _ _ raised few results_read;
+    few_unread = raised_within unread (unread_ending_count end) before _ _ raised few results_read;
   }
 
   pub fallen_read : (before room : ℕ) → IsLeastRoom bs before → IsLeastRoom cs room
       → before ≤ room + 65
   fallen_read before room was now =
       least_falls 65 bs cs before room read.as_many (λ i d lt. (goes_read i d lt).same)
-      (λ i d lt. (all i d lt).backend) lived_read was.have now
+      (λ i d lt. (all i d lt).backend) lived_read was.all_have_room now
 
 -- the first of some backends has read a map
 pub first_read : {W D : Type 0} (m : DiskGhosts D) (told : Option Told) (relations : ℕ)
     (t : TableView) (q : QueueView) (bs : List (Backend W D)) (b c : Backend W D)
     (relation pages : ℕ) (found : Map) (warnings : List ℕ) (end : Ending) → 1 ≤ length bs
-    → b ≡ slice_index_or bs 0 b → HasReadMap m told relations t q b c relation pages found warnings
-    end → IsFirstRead m told relations t q bs (slice_set bs 0 c) relation pages found warnings end
+    → b ≡ slice_index_or bs 0 b → BackendReadMap m told relations t q b c relation pages found
+    warnings
+    end → FirstBackendReadMap m told relations t q bs (slice_set bs 0 c) relation pages found
+    warnings end
 first_read m told relations t q [] b c relation pages found warnings end some is read =
     absurd (omega arith)
 first_read m told relations t q (a ∷ bs) b c relation pages found warnings end some is read =
     record {
       as_many = refl;
-      first = λ d. subst (λ (x : Backend _ _). HasReadMap m told relations t q x c relation pages
+      first = λ d. subst (λ (x : Backend _ _). BackendReadMap m told relations t q x c relation
+          pages
           found warnings end) is read;
       others = behind;
     }
@@ -213,51 +217,48 @@ less_room n k bs cs le same have =
 module _ {W D : Type 0} (m : DiskGhosts D) (told : Option Told) (relations : ℕ) (s : Scan W D)
     (bs cs : List (Backend W D)) (room relation pages : ℕ) (found : Map) (warnings : List ℕ)
     (end : Ending) (is : IsScan m told relations s) (begun : bs ≡ s.backends.items)
-    (read' : IsFirstRead m told relations s.shared.table s.shared.queue bs cs
+    (read' : FirstBackendReadMap m told relations s.shared.table s.shared.queue bs cs
     relation pages found warnings end) (least : IsLeastRoom cs room) where
-  read : IsFirstRead m told relations s.shared.table s.shared.queue s.backends.items
+  read : FirstBackendReadMap m told relations s.shared.table s.shared.queue s.backends.items
       cs relation pages found warnings end
-  read = subst (λ (xs : List (Backend W D)). IsFirstRead m told relations s.shared.table
+  read = subst (λ (xs : List (Backend W D)). FirstBackendReadMap m told relations s.shared.table
       s.shared.queue xs cs relation pages found warnings end) begun read'
 
   pub scan_read : (s' : Scan W D) → s'.backends.items ≡ cs → s'.room ≡ room
       → s'.shared ≡ s.shared → s'.workers ≡ s.workers → s'.jobs ≡ s.jobs
       → s'.opened ≡ s.opened → s'.actors ≡ s.actors → s'.disks ≡ s.disks
-      → scan_options s' ≡ scan_options s → s'.unread ≡ raised_by (unread_in end) s.unread
+      → scan_options s' ≡ scan_options s → s'.unread ≡ count_plus (unread_ending_count end) s.unread
       → IsScan m told relations s'
   scan_read s' now left shared workers jobs opened actors disks options unread =
       let t = s.shared.table in
       let q = s.shared.queue in
-      let stands = is.backends_stand in
+      let stands = is.all_backends in
       let some = is.some in
       scan_again m told relations s s' s.backends.items s.workers.items is
       (ap (λ (c : SharedState W). c.table) shared) refl refl
       (rw (shared, now, left) (waiting_read m told relations t q s.backends.items cs relation
       pages found warnings end stands some read s.unread room s'.unread least
       is.few_unread unread))
-      (rw (shared, workers) (workers_stay m told relations t q s.workers.items is.workers_stand))
+      (rw (shared, workers) (workers_stay m told relations t q s.workers.items is.all_workers))
       (rw (shared, now) (go_on_read m told relations t q s.backends.items cs relation pages
       found warnings end stands some read))
       (rw (options, now) (options_read m told relations t q s.backends.items cs relation
-      pages found warnings end stands some read (scan_options s) is.all_list_in))
+      pages found warnings end stands some read (scan_options s) is.all_have_options))
       (rw now read.as_many) (rw jobs refl) opened actors disks
 
   pub room_read : s.room ≤ room + 65
   room_read = fallen_read m told relations s.shared.table s.shared.queue s.backends.items
-      cs relation pages found warnings end is.backends_stand is.some read s.room
+      cs relation pages found warnings end is.all_backends is.some read s.room
       room is.room least
 
   pub results_taken-mapped : results_taken_count cs ≤ results_taken_count s.backends.items + pages
   results_taken-mapped = taken_read m told relations s.shared.table s.shared.queue s.backends.items
-      cs relation pages found warnings end is.backends_stand is.some read
+      cs relation pages found warnings end is.all_backends is.some read
 
-  pub as_many_read : length cs ≡ length s.backends.items
-  as_many_read = read.as_many
-
-  pub map_read : IsMapRead (scan_options s) told s.backends.items cs relation pages
+  pub map_read : MapPagesConsumed (scan_options s) told s.backends.items cs relation pages
       found warnings end
-  map_read d = subst (λ (zero : Bool). PagesConsumed (HasPages found warnings) zero told
+  map_read d = subst (λ (zero : Bool). PagesConsumed (MapHasPages found warnings) zero told
       (MayBeUnread (slice_index_or s.backends.items 0 d).disk_actor.actor
       (slice_index_or cs 0 d).disk_actor.actor.known) (job_entries relation 0 pages)
-      (said_end end)) (ap (λ (n : ListOptions). n.zero) (is.all_list_in 0 d is.some))
+      (answered_ending end)) (ap (λ (n : ListOptions). n.zero) (is.all_have_options 0 d is.some))
       (read.first d).read.given

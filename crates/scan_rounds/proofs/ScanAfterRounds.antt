@@ -11,10 +11,11 @@ use Rattle.aio_handle.specs.ContractViews.{TableView}
 use Rattle.method_worker.specs.QueueViews.{QueueView, IsSeatOf, SeatView}
 use Rattle.aio_disk.specs.declared.disk.Disk.{Ghosts as DiskGhosts}
 use Rattle.scan_rounds.specs.DiskActors.{IsBackend, IsWorker, DiskActorAdvanced}
-use Rattle.scan_rounds.specs.DiskActors.{MayServe}
-use Rattle.scan_rounds.specs.Progress.{AreWaiting}
+use Rattle.scan_rounds.specs.DiskActors.{WorkerMayServe}
+use Rattle.scan_rounds.specs.Progress.{BackendsAreReady}
 use Rattle.scan_rounds.specs.Rings.{IsRingOf}
-use Rattle.scan_rounds.specs.Rounds.{AllAdvanced, AllHaveOptions, AllServed, backend_disk_actor}
+use Rattle.scan_rounds.specs.Rounds.{AllActorsAdvanced, AllHaveOptions, AllWorkersServed}
+use Rattle.scan_rounds.specs.Rounds.{backend_disk_actor}
 use Rattle.scan_rounds.specs.Rounds.{worker_disk_actor}
 use Rattle.scan_rounds.specs.Scans.{IsScan, DiskCountersFollowMarks, AllDiskCountersFollowMarks}
 use Rattle.scan_rounds.specs.Scans.{scan_disk_actors}
@@ -46,7 +47,7 @@ module _ {W D : Type 0} (m : DiskGhosts D) (told : Option Told) (relations : ℕ
     backend = is.backend;
     desk = is.desk;
     seat = seat_again q r b.seat line words is.seat;
-    seated = is.seated;
+    has_seat = is.has_seat;
     ring = ring_again q r b.ring line words is.ring;
   }
 
@@ -63,7 +64,7 @@ module _ {W D : Type 0} (m : DiskGhosts D) (told : Option Told) (relations : ℕ
   backends_again bs all i d lt = backend_again (slice_index_or bs i d) (all i d lt)
 
   pub workers_again : (ws : List (Worker W D)) → All (IsWorker m told relations t q) ws
-      → All (MayServe m told relations t r) ws
+      → All (WorkerMayServe m told relations t r) ws
   workers_again ws all i d lt =
       may_serve m told relations t r (slice_index_or ws i d)
       (worker_again (slice_index_or ws i d) (all i d lt))
@@ -82,8 +83,9 @@ module _ {W D : Type 0} (m : DiskGhosts D) (told : Option Told) (relations : ℕ
   worked_at q [] vs i d lt same advanced = absurd (omega arith)
   worked_at q (w ∷ ws) [] i d lt same advanced = absurd (omega arith)
 
-  workers_go : (q : QueueView) (ws vs : List (Worker W D)) → AllServed m told relations t q ws vs
-      → AllAdvanced m told relations t (map worker_disk_actor ws) (map worker_disk_actor vs)
+  workers_go : (q : QueueView) (ws vs : List (Worker W D)) → AllWorkersServed m told relations t q
+      ws vs
+      → AllActorsAdvanced m told relations t (map worker_disk_actor ws) (map worker_disk_actor vs)
   workers_go q ws vs all = record {
     as_many = length-map vs worker_disk_actor ∙ (all.as_many
         ∙ sym (length-map ws worker_disk_actor));
@@ -113,7 +115,7 @@ module _ {W D : Type 0} (m : DiskGhosts D) (told : Option Told) (relations : ℕ
       → DiskActorAdvanced m told relations t h k → DiskCountersFollowMarks m o k
   paid_on o h k counters_are advanced =
       let same : counters_are.disk ≡ advanced.before =
-      some_same h.disk counters_are.disk advanced.before counters_are.held advanced.had in
+      some_same h.disk counters_are.disk advanced.before counters_are.held advanced.had_disk in
       let on : CountersFollowMarks (m.reads counters_are.disk) (m.reads advanced.after)
       (m.faults counters_are.disk)
       (m.faults advanced.after) advanced.more =
@@ -121,7 +123,7 @@ module _ {W D : Type 0} (m : DiskGhosts D) (told : Option Told) (relations : ℕ
       (m.faults advanced.after)
       advanced.more) (sym same) advanced.counters_follow in record {
         disk = advanced.after;
-        held = advanced.has;
+        held = advanced.has_disk;
         counters_follow = subst (λ (ms : List Mark). CountersFollowMarks (m.reads o)
             (m.reads advanced.after)
             (m.faults o)
@@ -145,11 +147,11 @@ module _ {W D : Type 0} (m : DiskGhosts D) (told : Option Told) (relations : ℕ
   pub waiting_in : (s : Scan W D) (t : TableView) (r : QueueView) (bs : List (Backend W D))
       → IsScan m told relations s → t ≡ s.shared.table → r.entries ≡ s.shared.queue.entries
       → r.words ≡ s.shared.queue.words → bs ≡ s.backends.items
-      → AreWaiting m told relations t r bs (record { room = s.room; unread = s.unread })
+      → BackendsAreReady m told relations t r bs (record { room = s.room; unread = s.unread })
   waiting_in s t r bs is table line words same = rw (table, same) (record {
     some = is.some;
     backends = backends_again m told relations s.shared.table s.shared.queue r line words
-        s.backends.items is.backends_stand;
+        s.backends.items is.all_backends;
     room = is.room;
     few_unread = is.few_unread;
   })
@@ -157,19 +159,19 @@ module _ {W D : Type 0} (m : DiskGhosts D) (told : Option Told) (relations : ℕ
   pub serving_in : (s : Scan W D) (t : TableView) (r : QueueView) (ws : List (Worker W D))
       → IsScan m told relations s → t ≡ s.shared.table → r.entries ≡ s.shared.queue.entries
       → r.words ≡ s.shared.queue.words → ws ≡ s.workers.items
-      → All (MayServe m told relations t r) ws
+      → All (WorkerMayServe m told relations t r) ws
   serving_in s t r ws is table line words same = rw (table, same)
       (workers_again m told relations s.shared.table s.shared.queue r line words s.workers.items
-      is.workers_stand)
+      is.all_workers)
 
   -- after some rounds beside the workers
   pub scan_again : (s s' : Scan W D) (bs : List (Backend W D)) (ws : List (Worker W D))
       → IsScan m told relations s → s'.shared.table ≡ s.shared.table → bs ≡ s.backends.items
       → ws ≡ s.workers.items
-      → AreWaiting m told relations s'.shared.table s'.shared.queue s'.backends.items
+      → BackendsAreReady m told relations s'.shared.table s'.shared.queue s'.backends.items
       (record { room = s'.room; unread = s'.unread })
-      → AllServed m told relations s'.shared.table s'.shared.queue ws s'.workers.items
-      → AllAdvanced m told relations s'.shared.table (map backend_disk_actor bs)
+      → AllWorkersServed m told relations s'.shared.table s'.shared.queue ws s'.workers.items
+      → AllActorsAdvanced m told relations s'.shared.table (map backend_disk_actor bs)
       (map backend_disk_actor s'.backends.items) → AllHaveOptions (scan_options s')
       s'.backends.items → length s'.backends.items ≡ length bs
       → length s'.jobs.items ≡ length s.jobs.items → s'.opened ≡ s.opened → s'.actors ≡ s.actors
@@ -183,11 +185,11 @@ module _ {W D : Type 0} (m : DiskGhosts D) (told : Option Told) (relations : ℕ
         workers_are = (let c = ap (λ (n : TableView). n.config.runners) table in
             let w = ap length served in omega (arith, is.workers_are, workers_served.as_many));
         some = waiting.some;
-        backends_stand = waiting.backends;
-        workers_stand = λ i d lt. (workers_served.each i d
+        all_backends = waiting.backends;
+        all_workers = λ i d lt. (workers_served.each i d
             (omega (arith, workers_served.as_many))).is;
         counters_are = paid_all;
-        all_list_in = all;
+        all_have_options = all;
         room = waiting.room;
         few_unread = waiting.few_unread;
         jobs_suffice = (let j = is.jobs_suffice in let b = ap length begun in omega arith);
@@ -216,7 +218,7 @@ module _ {W D : Type 0} (m : DiskGhosts D) (told : Option Told) (relations : ℕ
           ++ map worker_disk_actor ws) begun ∙ ap (λ (ys : List (Worker W D)). map
           backend_disk_actor s.backends.items ++ map worker_disk_actor ys) served
 
-      workers_went : AllAdvanced m told relations s'.shared.table (map worker_disk_actor ws)
+      workers_went : AllActorsAdvanced m told relations s'.shared.table (map worker_disk_actor ws)
           (map worker_disk_actor s'.workers.items)
       workers_went = workers_go m told relations s'.shared.table s'.shared.queue ws
           s'.workers.items workers_served

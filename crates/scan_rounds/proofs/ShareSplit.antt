@@ -8,7 +8,7 @@ use Rattle.std.proofs.lemmas.List.Concat.{flat_map-append}
 use native.Mathlib.Nat.{mul-suc}
 use denote.Ref.{MutBor}
 use denote.Param.Members.{Shared}
-use Rattle.scan_rounds.specs.Shares.{Share, AcceptsShares, AreFilled, AreShared, ShareDone}
+use Rattle.scan_rounds.specs.Shares.{Share, AcceptsShares, SharesAreFilled, AllTasksDone, ShareDone}
 
 only_one : {X : Type 0} (xs : List X) (d : X) → length xs ≡ 1 → slice_index_or xs 0 d ∷ [] ≡ xs
 only_one (x ∷ []) d one = refl
@@ -21,11 +21,11 @@ only_set [] y one = absurd (omega arith)
 only_set (x ∷ z ∷ xs) y one = absurd (omega arith)
 
 -- shares, and others behind them, of which there are none unless the first are full
-filled_both : {T J : Type 0} (size : ℕ) (ss rs : List (Share T J)) → AreFilled size ss
-    → AreFilled size rs
+filled_both : {T J : Type 0} (size : ℕ) (ss rs : List (Share T J)) → SharesAreFilled size ss
+    → SharesAreFilled size rs
     → (length (flat_map (λ (s : Share T J). s.tasks) ss) < size * length ss
     → flat_map (λ (s : Share T J). s.tasks) rs ≡ [])
-    → AreFilled size (ss ++ rs)
+    → SharesAreFilled size (ss ++ rs)
 filled_both size [] rs one two full = two
 filled_both {T} {J} size (s ∷ ss) rs one two full =
     let f : Share T J → List J = λ r. r.tasks in
@@ -46,7 +46,7 @@ module _ {F T J : Type 0} (g : Shared F (MutBor T × (MutBor (List J) × Unit {0
   pub one_share : (size : ℕ) (ts : List T) (t u : T) (js ks : List J) → length ts ≡ 1
       → length js ≤ size
       → ShareDone g f (record { before = slice_index_or ts 0 t; after = u; tasks = js; done = ks })
-      → AreShared g f size ts (slice_set ts 0 u) js ks
+      → AllTasksDone g f size ts (slice_set ts 0 u) js ks
   one_share size ts t u js ks one few is = record {
     shares = record { before = slice_index_or ts 0 t; after = u; tasks = js; done = ks } ∷ [];
     filled = (few, λ less. refl, tt);
@@ -54,13 +54,13 @@ module _ {F T J : Type 0} (g : Shared F (MutBor T × (MutBor (List J) × Unit {0
     takers_after = only_set ts u one;
     tasks = append-nil js;
     tasks_after = append-nil ks;
-    taken = All-cons (ShareDone g f) _ [] is (All-nil (ShareDone g f));
+    shares_done = All-cons (ShareDone g f) _ [] is (All-nil (ShareDone g f));
   }
 
   pub both_shares : (size : ℕ) (ts us vs ws : List T) (js ks ls ms : List J)
-      → (length js < size * length ts → ls ≡ []) → AreShared g f size ts us js ks
-      → AreShared g f size vs ws ls ms
-      → AreShared g f size (ts ++ vs) (us ++ ws) (js ++ ls) (ks ++ ms)
+      → (length js < size * length ts → ls ≡ []) → AllTasksDone g f size ts us js ks
+      → AllTasksDone g f size vs ws ls ms
+      → AllTasksDone g f size (ts ++ vs) (us ++ ws) (js ++ ls) (ks ++ ms)
   both_shares size ts us vs ws js ks ls ms full one two = record {
     shares = one.shares ++ two.shares;
     filled = filled_both size one.shares two.shares one.filled two.filled
@@ -81,7 +81,7 @@ module _ {F T J : Type 0} (g : Shared F (MutBor T × (MutBor (List J) × Unit {0
     tasks_after = flat_map-append (λ (s : Share T J). s.done) one.shares two.shares
         ∙ (ap (λ x. x ++ flat_map (λ (s : Share T J). s.done) two.shares) one.tasks_after
         ∙ ap (λ x. ks ++ x) two.tasks_after);
-    taken = All-append (ShareDone g f) one.shares two.shares one.taken two.taken;
+    shares_done = All-append (ShareDone g f) one.shares two.shares one.shares_done two.shares_done;
   }
 
   pub accepts_front : (size : ℕ) (ts us vs : List T) (js ks ls : List J) → ts ≡ us ++ vs

@@ -15,12 +15,13 @@ use Rattle.read_stream.specs.ActorProgress.{local_mark_count}
 use Rattle.aio_disk.specs.declared.disk.Disk.{Ghosts as DiskGhosts}
 use Rattle.scan_rounds.specs.DiskActors.{IsBackend, DiskActorAdvanced, ActorHasRoom}
 use Rattle.scan_rounds.specs.DiskActors.{backend_options}
-use Rattle.scan_rounds.specs.Jobs.{IsFresh, IsListed, AreAnswered, entries_of_job, is_unread}
+use Rattle.scan_rounds.specs.Jobs.{IsNewJob, JobIsListed, AllJobsAnswered, entries_of_job}
+use Rattle.scan_rounds.specs.Jobs.{is_unread}
 use Rattle.scan_rounds.specs.ListOptions.{ListOptions}
 use Rattle.scan_rounds.specs.BlockFilter.{BlockFilter}
-use Rattle.scan_rounds.specs.Shares.{AreFilled, Share}
-use Rattle.scan_rounds.specs.Rounds.{AllHaveOptions, AreListed}
-use Rattle.scan_rounds.specs.Turns.{MayTurn, HasTurned, ListedAlone}
+use Rattle.scan_rounds.specs.Shares.{SharesAreFilled, Share}
+use Rattle.scan_rounds.specs.Rounds.{AllHaveOptions, AllJobsListed}
+use Rattle.scan_rounds.specs.Turns.{BackendsMayTakeTurn, BackendsTookTurn, ListedAlone}
 use Rattle.scan_rounds.specs.declared.backend.Backend.{Backend}
 use Rattle.scan_rounds.specs.declared.job.Job.{Job}
 
@@ -48,12 +49,13 @@ each_joined R [] bs (c ∷ cs) ds same one two i d lt = absurd (omega arith)
 each_joined R (a ∷ gs) bs [] ds same one two i d lt = absurd (omega arith)
 
 pub answers_joined : (block_filter : Option BlockFilter) (how : ListOptions) (told : Option Told)
-    (xs ys vs ws : List Job) → AreAnswered block_filter how told xs vs
-    → AreAnswered block_filter how told ys ws → AreAnswered block_filter how told (xs ++ ys) (vs
+    (xs ys vs ws : List Job) → AllJobsAnswered block_filter how told xs vs
+    → AllJobsAnswered block_filter how told ys ws → AllJobsAnswered block_filter how told (xs
+    ++ ys) (vs
     ++ ws)
 answers_joined block_filter how told xs ys vs ws one two = record {
   as_many = omega (arith, length-append vs ws, length-append xs ys, one.as_many, two.as_many);
-  each = each_joined (IsListed block_filter how told (λ _. ⊤))
+  each = each_joined (JobIsListed block_filter how told (λ _. ⊤))
       xs ys vs ws one.as_many one.each two.each;
 }
 
@@ -62,27 +64,28 @@ module _ {W D : Type 0} (m : DiskGhosts D) (told : Option Told) (relations : ℕ
   -- what some have done beside others is what all have done
   pub brought_together : (block_filter : Option BlockFilter) (more : ℕ)
       (gs bs cs ds : List (Backend W D)) (xs ys vs ws : List Job)
-      → HasTurned m told relations t q block_filter more gs cs xs vs
-      → HasTurned m told relations t q block_filter more bs ds ys ws
-      → HasTurned m told relations t q block_filter more (gs ++ bs) (cs ++ ds) (xs ++ ys) (vs ++ ws)
+      → BackendsTookTurn m told relations t q block_filter more gs cs xs vs
+      → BackendsTookTurn m told relations t q block_filter more bs ds ys ws
+      → BackendsTookTurn m told relations t q block_filter more (gs ++ bs) (cs ++ ds) (xs ++ ys) (vs
+      ++ ws)
   brought_together block_filter more gs bs cs ds xs ys vs ws one two = record {
     as_many = omega (arith, length-append cs ds, length-append gs bs, one.as_many, two.as_many);
     jobs_are = omega (arith, length-append vs ws, length-append xs ys, one.jobs_are, two.jobs_are);
     backends = All-append (IsBackend m told relations t q) cs ds one.backends two.backends;
     advanced = each_joined (λ (b c : Backend W D). DiskActorAdvanced m told relations t b.disk_actor
         c.disk_actor) gs bs cs ds one.as_many one.advanced two.advanced;
-    lived = each_joined (λ (b c : Backend W D). (h : ℕ)
+    lives_bound = each_joined (λ (b c : Backend W D). (h : ℕ)
         → lives_ended h c.disk_actor.actor.known.marks ≤ lives_ended h
         b.disk_actor.actor.known.marks + more)
-        gs bs cs ds one.as_many one.lived two.lived;
+        gs bs cs ds one.as_many one.lives_bound two.lives_bound;
     options_same = each_joined (λ (b c : Backend W D). backend_options c ≡ backend_options b)
         gs bs cs ds one.as_many one.options_same two.options_same;
-    taken = (let f : Backend W D → ℕ = λ b. local_mark_count b.disk_actor.actor.known.marks in
+    results_bound = (let f : Backend W D → ℕ = λ b. local_mark_count b.disk_actor.actor.known.marks in
         let w : Job → ℕ = λ j. length (entries_of_job block_filter j) in
         omega (
           arith,
-          one.taken,
-          two.taken,
+          one.results_bound,
+          two.results_bound,
           sum_by-append f cs ds,
           sum_by-append f gs bs,
           sum_by-append w xs ys,
@@ -104,15 +107,15 @@ module _ {W D : Type 0} (m : DiskGhosts D) (told : Option Told) (relations : ℕ
 
   -- no backend has done no job
   pub nothing_turned : (block_filter : Option BlockFilter) (more : ℕ)
-      → HasTurned {W = W} {D = D} m told relations t q block_filter more [] [] [] []
+      → BackendsTookTurn {W = W} {D = D} m told relations t q block_filter more [] [] [] []
   nothing_turned block_filter more = record {
     as_many = refl;
     jobs_are = refl;
     backends = λ i d lt. absurd (omega arith);
     advanced = λ i d lt. absurd (omega arith);
-    lived = λ i d lt. absurd (omega arith);
+    lives_bound = λ i d lt. absurd (omega arith);
     options_same = λ i d lt. absurd (omega arith);
-    taken = omega arith;
+    results_bound = omega arith;
     unread = omega arith;
     answered = λ how all. record { as_many = refl; each = λ i j lt. absurd (omega arith) };
   }
@@ -120,16 +123,17 @@ module _ {W D : Type 0} (m : DiskGhosts D) (told : Option Told) (relations : ℕ
   -- what each has done of its share is what all have done
   pub shares_turned : (block_filter : Option BlockFilter) (more : ℕ)
       (shares : List (Share (Backend W D) Job)) → All
-      (λ (s : Share (Backend W D) Job). HasTurned m told relations t q block_filter more
+      (λ (s : Share (Backend W D) Job). BackendsTookTurn m told relations t q block_filter more
       (s.before ∷ []) (s.after ∷ []) s.tasks s.done) shares
-      → HasTurned m told relations t q block_filter more
+      → BackendsTookTurn m told relations t q block_filter more
       (map (λ (s : Share (Backend W D) Job). s.before) shares)
       (map (λ (s : Share (Backend W D) Job). s.after) shares)
       (flat_map (λ (s : Share (Backend W D) Job). s.tasks) shares)
       (flat_map (λ (s : Share (Backend W D) Job). s.done) shares)
   shares_turned block_filter more [] all = nothing_turned block_filter more
   shares_turned block_filter more (s ∷ shares) all =
-      let P : Share (Backend W D) Job → Type 0 = λ r. HasTurned m told relations t q block_filter
+      let P : Share (Backend W D) Job → Type 0 = λ r. BackendsTookTurn m told relations t q
+      block_filter
       more (r.before ∷ []) (r.after ∷ []) r.tasks r.done in
       brought_together block_filter more (s.before ∷ []) _ (s.after ∷ []) _ s.tasks _ s.done _
       (All-head P s shares all) (shares_turned block_filter more shares (All-tail P s shares all))
@@ -137,12 +141,13 @@ module _ {W D : Type 0} (m : DiskGhosts D) (told : Option Told) (relations : ℕ
   -- one of the backends may do a part of the jobs
   pub may_share : (share i : ℕ) (b : Backend W D) (bs : List (Backend W D)) (xs js ys ks : List Job)
       → i < length bs → b ≡ slice_index_or bs i b → ks ≡ xs ++ (js ++ ys)
-      → MayTurn m told relations t q share bs ks → MayTurn m told relations t q share (b ∷ []) js
+      → BackendsMayTakeTurn m told relations t q share bs ks → BackendsMayTakeTurn m told relations
+      t q share (b ∷ []) js
   may_share share i b bs xs js ys ks lt is part may = record {
     backends = one (IsBackend m told relations t q) may.backends;
     room = one (λ (x : Backend W D). ActorHasRoom (64 * share) x.disk_actor.actor) may.room;
-    fresh = all_front (IsFresh relations) js ys (all_back (IsFresh relations) xs (js ++ ys)
-        (subst (λ (l : List Job). All (IsFresh relations) l) part may.fresh));
+    fresh = all_front (IsNewJob relations) js ys (all_back (IsNewJob relations) xs (js ++ ys)
+        (subst (λ (l : List Job). All (IsNewJob relations) l) part may.fresh));
   }
     where
       one : (P : Backend W D → Type 0) → All P bs → All P (b ∷ [])
@@ -150,16 +155,19 @@ module _ {W D : Type 0} (m : DiskGhosts D) (told : Option Told) (relations : ℕ
 
   pub turned_as : {block_filter : Option BlockFilter} {more : ℕ} (b c d e : Backend W D)
       (js ks ls ns : List Job) → b ≡ d → c ≡ e → js ≡ ls → ks ≡ ns
-      → HasTurned m told relations t q block_filter more (b ∷ []) (c ∷ []) js ks
-      → HasTurned m told relations t q block_filter more (d ∷ []) (e ∷ []) ls ns
+      → BackendsTookTurn m told relations t q block_filter more (b ∷ []) (c ∷ []) js ks
+      → BackendsTookTurn m told relations t q block_filter more (d ∷ []) (e ∷ []) ls ns
   turned_as {block_filter} {more} b c d e js ks ls ns one two tasks done is =
-      subst (λ (x : Backend W D). HasTurned m told relations t q block_filter more (x ∷ []) (e ∷ [])
+      subst (λ (x : Backend W D). BackendsTookTurn m told relations t q block_filter more (x
+      ∷ []) (e ∷ [])
       ls ns) one
-      (subst (λ (x : Backend W D). HasTurned m told relations t q block_filter more (b ∷ [])
+      (subst (λ (x : Backend W D). BackendsTookTurn m told relations t q block_filter more (b ∷ [])
       (x ∷ []) ls ns) two
-      (subst (λ (x : List Job). HasTurned m told relations t q block_filter more (b ∷ []) (c ∷ [])
+      (subst (λ (x : List Job). BackendsTookTurn m told relations t q block_filter more (b ∷ []) (c
+      ∷ [])
       x ns) tasks
-      (subst (λ (x : List Job). HasTurned m told relations t q block_filter more (b ∷ []) (c ∷ [])
+      (subst (λ (x : List Job). BackendsTookTurn m told relations t q block_filter more (b ∷ []) (c
+      ∷ [])
       js x) done is)))
 
   pub all_turned : (block_filter : Option BlockFilter) (more : ℕ) (bs cs : List (Backend W D))
@@ -168,15 +176,16 @@ module _ {W D : Type 0} (m : DiskGhosts D) (told : Option Told) (relations : ℕ
       → map (λ (s : Share (Backend W D) Job). s.after) shares ≡ cs
       → flat_map (λ (s : Share (Backend W D) Job). s.tasks) shares ≡ js
       → flat_map (λ (s : Share (Backend W D) Job). s.done) shares ≡ ks
-      → All (λ (s : Share (Backend W D) Job). HasTurned m told relations t q block_filter more
+      → All (λ (s : Share (Backend W D) Job). BackendsTookTurn m told relations t q block_filter
+      more
       (s.before ∷ []) (s.after ∷ []) s.tasks s.done) shares
-      → HasTurned m told relations t q block_filter more bs cs js ks
+      → BackendsTookTurn m told relations t q block_filter more bs cs js ks
   all_turned block_filter more bs cs js ks shares one two tasks done all =
       let before = map (λ (s : Share (Backend W D) Job). s.before) shares in
       let after = map (λ (s : Share (Backend W D) Job). s.after) shares in
       let own = flat_map (λ (s : Share (Backend W D) Job). s.tasks) shares in
       let Turned : List (Backend W D) → List (Backend W D) → List Job → List Job → Type 0 =
-      HasTurned m told relations t q block_filter more in
+      BackendsTookTurn m told relations t q block_filter more in
       subst (λ (x : List (Backend W D)). Turned x cs js ks) one
       (subst (λ (x : List (Backend W D)). Turned before x js ks) two
       (subst (λ (x : List Job). Turned before after x ks) tasks
@@ -187,9 +196,9 @@ module _ {W D : Type 0} (m : DiskGhosts D) (told : Option Told) (relations : ℕ
 placed : {W D : Type 0} (block_filter : Option BlockFilter) (how : ListOptions)
     (told : Option Told) (b c : Backend W D) (bs cs : List (Backend W D))
     (xs vs ys ws : List Job) → length xs ≤ 1 → (length xs < 1 → ys ≡ [])
-    → AreListed block_filter how told (b ∷ []) (c ∷ []) xs vs
-    → AreListed block_filter how told bs cs ys ws
-    → AreListed block_filter how told (b ∷ bs) (c ∷ cs) (xs ++ ys) (vs ++ ws)
+    → AllJobsListed block_filter how told (b ∷ []) (c ∷ []) xs vs
+    → AllJobsListed block_filter how told bs cs ys ws
+    → AllJobsListed block_filter how told (b ∷ bs) (c ∷ cs) (xs ++ ys) (vs ++ ws)
 placed block_filter how told b c bs cs (x ∷ []) (v ∷ []) ys ws few full one rest = record {
   jobs_are = omega (arith, rest.jobs_are);
   each = elim [
@@ -212,11 +221,11 @@ placed block_filter how told b c bs cs (x ∷ y ∷ xs) vs ys ws few full one re
     absurd (omega arith)
 
 shares_placed : {W D : Type 0} (block_filter : Option BlockFilter) (how : ListOptions)
-    (told : Option Told) (shares : List (Share (Backend W D) Job)) → AreFilled 1 shares
+    (told : Option Told) (shares : List (Share (Backend W D) Job)) → SharesAreFilled 1 shares
     → All (λ (s : Share (Backend W D) Job). ListedAlone told block_filter s.before s.after s.tasks
     s.done) shares
     → AllHaveOptions how (map (λ (s : Share (Backend W D) Job). s.before) shares)
-    → AreListed block_filter how told (map (λ (s : Share (Backend W D) Job). s.before) shares)
+    → AllJobsListed block_filter how told (map (λ (s : Share (Backend W D) Job). s.before) shares)
     (map (λ (s : Share (Backend W D) Job). s.after) shares)
     (flat_map (λ (s : Share (Backend W D) Job). s.tasks) shares)
     (flat_map (λ (s : Share (Backend W D) Job). s.done) shares)
@@ -229,7 +238,7 @@ shares_placed {W} {D} block_filter how told (s ∷ shares) filled all options =
     r.after r.tasks r.done in
     let Options : Backend W D → Type 0 = λ b. backend_options b ≡ how in
     let befores = map (λ (r : Share (Backend W D) Job). r.before) shares in
-    let own = subst (λ (n : ListOptions). AreListed block_filter n told (s.before ∷ [])
+    let own = subst (λ (n : ListOptions). AllJobsListed block_filter n told (s.before ∷ [])
     (s.after ∷ []) s.tasks s.done) (All-head Options s.before befores options)
     (All-head Own s shares all filled.0) in
     placed block_filter how told s.before s.after _ _ s.tasks s.done _ _ filled.0 filled.1 own
@@ -243,19 +252,19 @@ alone_as b c d e js ks ls ns one two tasks done is = rw (sym one, sym two, sym t
 
 pub all_placed : {W D : Type 0} (block_filter : Option BlockFilter) (how : ListOptions)
     (told : Option Told) (bs cs : List (Backend W D)) (js ks : List Job)
-    (shares : List (Share (Backend W D) Job)) → AreFilled 1 shares
+    (shares : List (Share (Backend W D) Job)) → SharesAreFilled 1 shares
     → map (λ (s : Share (Backend W D) Job). s.before) shares ≡ bs
     → map (λ (s : Share (Backend W D) Job). s.after) shares ≡ cs
     → flat_map (λ (s : Share (Backend W D) Job). s.tasks) shares ≡ js
     → flat_map (λ (s : Share (Backend W D) Job). s.done) shares ≡ ks
     → All (λ (s : Share (Backend W D) Job). ListedAlone told block_filter s.before s.after s.tasks
-    s.done) shares → AllHaveOptions how bs → AreListed block_filter how told bs cs js ks
+    s.done) shares → AllHaveOptions how bs → AllJobsListed block_filter how told bs cs js ks
 all_placed {W} {D} block_filter how told bs cs js ks shares filled one two tasks done all options =
     let before = map (λ (s : Share (Backend W D) Job). s.before) shares in
     let after = map (λ (s : Share (Backend W D) Job). s.after) shares in
     let own = flat_map (λ (s : Share (Backend W D) Job). s.tasks) shares in
     let Listed : List (Backend W D) → List (Backend W D) → List Job → List Job → Type 0 =
-    AreListed block_filter how told in
+    AllJobsListed block_filter how told in
     subst (λ (x : List (Backend W D)). Listed x cs js ks) one
     (subst (λ (x : List (Backend W D)). Listed before x js ks) two
     (subst (λ (x : List Job). Listed before after x ks) tasks

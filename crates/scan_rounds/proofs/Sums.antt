@@ -1,15 +1,22 @@
--- Sums over two lists.
-use Rattle.std.proofs.Common.{◌≡◌, ℕ, suc, ◌+◌, ◌<◌, ◌≤◌, List, [], ◌∷◌, length, sum_by, refl}
-use Rattle.std.proofs.Common.{arith}
+-- Sums over one list, and over two.
+use Rattle.std.proofs.Common.{◌≡◌, ℕ, suc, ◌+◌, ◌<◌, ◌≤◌, List, [], ◌∷◌, length, map}
+use Rattle.std.proofs.Common.{sum_by, arith, refl}
+use Rattle.std.specs.List.{All}
 use Rattle.std.specs.Prelude.{slice_index_or}
-use Rattle.std.proofs.lemmas.List.Sums.{sum_by-cons}
+use Rattle.std.proofs.lemmas.List.Sums.{sum_by-cons, sum_by-le}
+
+pub sum-mapped : {A B : Type 0} (f : B → ℕ) (g : A → B) (xs : List A)
+    → sum_by f (map g xs) ≡ sum_by (λ x. f (g x)) xs
+sum-mapped f g [] = refl
+sum-mapped f g (x ∷ xs) =
+    let rest = sum-mapped f g xs in
+    omega (arith, sum_by-cons f (g x) (map g xs), sum_by-cons (λ y. f (g y)) x xs)
+
+pub sum-none : {A : Type 0} (f : A → ℕ) (xs : List A) → All (λ x. f x ≡ 0) xs → sum_by f xs ≡ 0
+sum-none f xs none = omega (arith, sum_by-le f 0 xs (λ k d lt. omega (arith, none k d lt)))
 
 -- the second list may be shorter
 module _ {X Y : Type 0} (f : X → ℕ) (w : Y → ℕ) where
-  none_more : (js : List Y) → length js ≤ 0 → sum_by w js ≡ 0
-  none_more [] le = refl
-  none_more (j ∷ js) le = absurd (omega arith)
-
   pub at_most : (xs ys : List X) (js : List Y) → length ys ≡ length xs → length js ≤ length xs
       → ((i : ℕ) (d : X) (j : Y) → i < length js
       → f (slice_index_or ys i d) ≤ f (slice_index_or xs i d) + w (slice_index_or js i j))

@@ -5,17 +5,17 @@ use Rattle.page_check.specs.Told.{Told}
 use Rattle.aio_handle.specs.ContractViews.{TableView}
 use Rattle.method_worker.specs.QueueViews.{QueueView}
 use Rattle.aio_disk.specs.declared.disk.Disk.{Ghosts as DiskGhosts}
-use Rattle.scan_rounds.specs.DiskActors.{IsWorker, MayServe}
+use Rattle.scan_rounds.specs.DiskActors.{IsWorker, WorkerMayServe}
 use Rattle.scan_rounds.specs.declared.worker.Worker.{Worker}
 
 module _ {W D : Type 0} (m : DiskGhosts D) (told : Option Told) (relations : ℕ) (t : TableView)
     (q : QueueView) where
-  pub is_worker : (w : Worker W D) → MayServe m told relations t q w
+  pub is_worker : (w : Worker W D) → WorkerMayServe m told relations t q w
       → IsWorker m told relations t q w
-  unfolding MayServe
+  unfolding WorkerMayServe
   is_worker w may = may
 
   pub may_serve : (w : Worker W D) → IsWorker m told relations t q w
-      → MayServe m told relations t q w
-  unfolding MayServe
+      → WorkerMayServe m told relations t q w
+  unfolding WorkerMayServe
   may_serve w is = is

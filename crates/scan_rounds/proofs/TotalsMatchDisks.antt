@@ -1,5 +1,5 @@
 -- What the end of the table says of the disks.
-use Rattle.std.proofs.Common.{◌≡◌, ℕ, zero, suc, ◌+◌, ◌<◌, ◌≤◌, cond, nat_lt, List, [], ◌∷◌, ◌++◌}
+use Rattle.std.proofs.Common.{◌≡◌, ℕ, suc, ◌+◌, ◌<◌, ◌≤◌, cond, nat_lt, List, [], ◌∷◌, ◌++◌}
 use Rattle.std.proofs.Common.{map, drop, length, get_or, sum_by, Option, Some, refl, sym, ap, ◌∙◌}
 use Rattle.std.proofs.Common.{subst}
 use Rattle.std.proofs.Common.{inl, inr, ⊎_elim, arith}
@@ -18,7 +18,7 @@ use Rattle.aio_word.specs.Tokens.{failed_result_count}
 use Rattle.aio_word.specs.Totals.{by_runners}
 use Rattle.aio_word.proofs.ListWithMark.{get_or-in}
 use Rattle.aio_word.proofs.ReplacedElement.{in-right}
-use Rattle.aio_handle.specs.Closing.{HasNoOwnerTokens, NoneHasOwnerTokens, AreTotals, TotalsView}
+use Rattle.aio_handle.specs.EndStates.{HasNoOwnerTokens, NoneHasOwnerTokens, AreTotals, TotalsView}
 use Rattle.aio_handle.specs.Execution.{last_count}
 use Rattle.aio_handle.specs.ContractViews.{TableView, ActorView, IsActorOf, actor_known}
 use Rattle.aio_handle.proofs.FailedResultsHaveExecutions.{failed_results_few}
@@ -30,29 +30,16 @@ use Rattle.scan_rounds.specs.Rounds.{backend_disk_actor, worker_disk_actor, resu
 use Rattle.scan_rounds.specs.Scans.{IsScan, IsFinished, HasDisk}
 use Rattle.scan_rounds.specs.Scans.{actor_of}
 use Rattle.scan_rounds.specs.Scans.{disk_of}
-use Rattle.scan_rounds.specs.Scans.{scan_disk_actors, lists_of, opened_disks}
+use Rattle.scan_rounds.specs.Scans.{scan_disk_actors, known_lists, opened_disks}
 use Rattle.scan_rounds.specs.declared.disk_actor.DiskActor.{DiskActor}
 use Rattle.scan_rounds.specs.declared.scan.Scan.{Scan}
 use Rattle.scan_rounds.specs.declared.worker.Worker.{Worker}
 use Rattle.scan_rounds.proofs.DisksCountForActors.{CountedBy, all-counted, counted-lengths}
 use Rattle.scan_rounds.proofs.DisksCountForActors.{counted-tell, counted-reads, counted-faults}
-use Rattle.scan_rounds.proofs.DisksCountForActors.{counted-read, counted-fault, counted-drop}
+use Rattle.scan_rounds.proofs.DisksCountForActors.{counted-at, counted-drop}
+use Rattle.scan_rounds.proofs.Sums.{sum-mapped, sum-none}
 use Rattle.scan_rounds.proofs.ResultsMatchExecutions.{executed, executed_as_taken}
 use Rattle.scan_rounds.proofs.ResultsMatchExecutions.{runners_take_none}
-
-sum-mapped : {A B : Type 0} (f : B → ℕ) (g : A → B) (xs : List A)
-    → sum_by f (map g xs) ≡ sum_by (λ x. f (g x)) xs
-sum-mapped f g [] = refl
-sum-mapped f g (x ∷ xs) =
-    let rest = sum-mapped f g xs in
-    omega (arith, sum_by-cons f (g x) (map g xs), sum_by-cons (λ y. f (g y)) x xs)
-
-sum-none : {A : Type 0} (f : A → ℕ) (xs : List A) → All (λ x. f x ≡ 0) xs → sum_by f xs ≡ 0
-sum-none f [] none = refl
-sum-none f (x ∷ xs) none =
-    let rest = sum-none f xs (λ k d lt. none (suc k) d (omega arith)) in
-    let here : f x ≡ 0 = none 0 x (omega arith) in
-    omega (arith, sum_by-cons f x xs)
 
 in-mapped : {A B : Type 0} (f : A → B) (xs : List A) (x : A) → IsIn x xs → IsIn (f x) (map f xs)
 in-mapped f [] x i = absurd i
@@ -74,11 +61,11 @@ above-same n top x le = grind (arith, nat_tests)
 
 module _ {W D : Type 0} where
   sum-lists : (f : Known → ℕ) (hs : List (DiskActor W D))
-      → sum_by f (lists_of hs) ≡ sum_by (λ (h : DiskActor W D). f h.actor.known) hs
+      → sum_by f (known_lists hs) ≡ sum_by (λ (h : DiskActor W D). f h.actor.known) hs
   sum-lists f hs = sum-mapped f actor_known (map actor_of hs)
       ∙ sum-mapped (λ (a : ActorView). f a.known) actor_of hs
 
-  sum-scan : (f : Known → ℕ) (s : Scan W D) → sum_by f (lists_of (scan_disk_actors s))
+  sum-scan : (f : Known → ℕ) (s : Scan W D) → sum_by f (known_lists (scan_disk_actors s))
       ≡ sum_by (λ b. f b.disk_actor.actor.known) s.backends.items
       + sum_by (λ w. f w.disk_actor.actor.known) s.workers.items
   sum-scan f s =
@@ -94,11 +81,11 @@ module _ {W D : Type 0} where
       )
 
   -- what was put down, the backends' first
-  pub put_all : {X : Type 0} (f : DiskActor W D → X) (s : Scan W D) (start between end : List X)
+  pub push_all_parts : {X : Type 0} (f : DiskActor W D → X) (s : Scan W D) (start between end : List X)
       → start ≡ [] → between ≡ start ++ map f (map backend_disk_actor s.backends.items)
       → end ≡ between ++ map f (map worker_disk_actor s.workers.items)
       → end ≡ map f (scan_disk_actors s)
-  put_all f s start between end none first second =
+  push_all_parts f s start between end none first second =
       let bs = map backend_disk_actor s.backends.items in
       let ws = map worker_disk_actor s.workers.items in
       second ∙ (ap (λ (l : List _). l ++ map f ws)
@@ -107,7 +94,7 @@ module _ {W D : Type 0} where
 module _ {W D : Type 0} (m : DiskGhosts D) (told : Option Told) (relations : ℕ)
     (t : TableView) where
   quiet-all : (hs : List (DiskActor W D)) → All (IsDiskActor m told relations t) hs
-      → NoneHasOwnerTokens (lists_of hs)
+      → NoneHasOwnerTokens (known_lists hs)
   quiet-all [] stand p i = absurd i
   quiet-all (h ∷ hs) stand p i = ⊎_elim
       (λ e. subst HasNoOwnerTokens e (stand 0 h (omega arith)).rest)
@@ -116,37 +103,37 @@ module _ {W D : Type 0} (m : DiskGhosts D) (told : Option Told) (relations : ℕ
 module _ {W D : Type 0} (m : DiskGhosts D) (told : Option Told) (relations : ℕ) (s : Scan W D)
     (scan : IsScan m told relations s) where
   pub backends_held : All (λ b. HasDisk b.disk_actor) s.backends.items
-  backends_held k d lt = let is = (scan.backends_stand k d lt).disk_actor in (is.disk, is.held)
+  backends_held k d lt = let is = (scan.all_backends k d lt).disk_actor in (is.disk, is.held)
 
   pub workers_held : All (λ w. HasDisk w.disk_actor) s.workers.items
-  workers_held k d lt = let is = (scan.workers_stand k d lt).disk_actor in (is.disk, is.held)
+  workers_held k d lt = let is = (scan.all_workers k d lt).disk_actor in (is.disk, is.held)
 
   all-stand : All (IsDiskActor m told relations s.shared.table) (scan_disk_actors s)
   all-stand =
       let P : DiskActor W D → Type 0 = IsDiskActor m told relations s.shared.table in
       All-append P (map backend_disk_actor s.backends.items) (map worker_disk_actor s.workers.items)
       (All-map P backend_disk_actor s.backends.items
-      (λ k d lt. (scan.backends_stand k d lt).disk_actor))
+      (λ k d lt. (scan.all_backends k d lt).disk_actor))
       (All-map P worker_disk_actor s.workers.items (λ k d lt.
-      (scan.workers_stand k d lt).disk_actor))
+      (scan.all_workers k d lt).disk_actor))
 
   pub of_table : All (IsActorOf s.shared.table) (map actor_of (scan_disk_actors s))
   of_table = All-map (IsActorOf s.shared.table) actor_of (scan_disk_actors s)
       (λ k d lt. (all-stand k d lt).of)
 
-  pub are_quiet : NoneHasOwnerTokens (lists_of (scan_disk_actors s))
+  pub are_quiet : NoneHasOwnerTokens (known_lists (scan_disk_actors s))
   are_quiet = quiet-all m told relations s.shared.table (scan_disk_actors s) all-stand
 
   abbrev config : Config
   config = s.shared.table.config
 
   abbrev parts : List Known
-  parts = lists_of (scan_disk_actors s)
+  parts = known_lists (scan_disk_actors s)
 
   module _ (totals : TotalsView) (are : AreTotals config parts totals) where
     all-executed : totals.incarnations ≡ sum_by (λ (p : Known). io_mark_count p.marks) parts
     all-executed =
-        let e = executed config parts are.ends in
+        let e = executed config parts are.end_state in
         omega (arith, are.sum, are.by_backends_are, are.by_runners_are)
 
     -- a worker's list is one of the parts, and it is a runner
@@ -155,7 +142,7 @@ module _ {W D : Type 0} (m : DiskGhosts D) (told : Option Told) (relations : ℕ
         × (config.backends ≤ (get_or s.workers.items k w).disk_actor.actor.known.number)
     worker-at k w lt =
         let it = get_or s.workers.items k w in
-        let is = scan.workers_stand k w lt in
+        let is = scan.all_workers k w lt in
         let same : it.disk_actor.actor.known.config ≡ config = is.disk_actor.of.1 in (
           in-mapped actor_known (map actor_of (scan_disk_actors s)) it.disk_actor.actor
               (in-mapped actor_of (scan_disk_actors s) it.disk_actor
@@ -171,11 +158,11 @@ module _ {W D : Type 0} (m : DiskGhosts D) (told : Option Told) (relations : ℕ
     workers-took-none k w lt =
         let (within, runner) = worker-at k w lt in
         runners_take_none config (get_or s.workers.items k w).disk_actor.actor.known
-        (are.ends.stands.each_list _ within) runner
+        (are.end_state.words_match_lists.each_list _ within) runner
 
     all-taken : totals.incarnations ≡ results_taken_count s.backends.items
     all-taken =
-        let same = executed_as_taken config parts are.ends in
+        let same = executed_as_taken config parts are.end_state in
         let sum = sum-scan (λ (p : Known). local_mark_count p.marks) s in
         let none = sum-none (λ w. local_mark_count w.disk_actor.actor.known.marks) s.workers.items
         workers-took-none in
@@ -184,7 +171,7 @@ module _ {W D : Type 0} (m : DiskGhosts D) (told : Option Told) (relations : ℕ
 
     few-results : s.unread ≤ sum_by (λ (p : Known). failed_mark_count p.marks) parts
     few-results =
-        let law = failed_results_few config are.ends.words parts are.ends.stands in
+        let law = failed_results_few config are.end_state.words parts are.end_state.words_match_lists in
         let sum = sum-scan (λ (p : Known). failed_result_count p.marks) s in
         let few = scan.few_unread in
         omega arith
@@ -195,7 +182,7 @@ module _ {W D : Type 0} (m : DiskGhosts D) (told : Option Told) (relations : ℕ
     backends-claim-none : All (λ b. claims b.disk_actor.actor.known ≡ 0) s.backends.items
     backends-claim-none k b lt =
         let it = get_or s.backends.items k b in
-        let is = scan.backends_stand k b lt in
+        let is = scan.all_backends k b lt in
         let same : it.disk_actor.actor.known.config ≡ config = is.disk_actor.of.1 in
         below-none it.disk_actor.actor.known.number config.backends
         (claimed_mark_count it.disk_actor.actor.known.marks)
@@ -207,7 +194,7 @@ module _ {W D : Type 0} (m : DiskGhosts D) (told : Option Told) (relations : ℕ
         let p = (get_or s.workers.items k w).disk_actor.actor.known in
         let (within, runner) = worker-at k w lt in
         above-same p.number config.backends (claimed_mark_count p.marks) runner
-        ∙ sym (balance config parts are.ends p within)
+        ∙ sym (balance config parts are.end_state p within)
 
     -- runners have claimed what the workers have executed
     runners-executed : totals.by_runners
@@ -255,12 +242,13 @@ module _ {W D : Type 0} (m : DiskGhosts D) (told : Option Told) (relations : ℕ
         let counters_are = all-counted m told relations s.shared.table (opened_disks s) disks
         (scan_disk_actors s) held scan.counters_are all-stand in
         let (longs, actors) = counted-lengths m told relations _ _ _ counters_are in
+        let at = counted-at m told relations _ _ _ counters_are in
         let ios = sum-lists (λ (p : Known). io_mark_count p.marks) (scan_disk_actors s) in
         let failures = sum-lists (λ (p : Known). failed_mark_count p.marks) (scan_disk_actors s) in
         let all = all-executed in
         let few = few-results in
         record {
-          are = are;
+          totals_are = are;
           parts_are = length-map (map actor_of (scan_disk_actors s)) actor_known
               ∙ (length-map (scan_disk_actors s) actor_of ∙ actors);
           disks_are = longs;
@@ -269,8 +257,10 @@ module _ {W D : Type 0} (m : DiskGhosts D) (told : Option Told) (relations : ℕ
               let sum = counted-reads m told relations _ _ _ counters_are below in omega arith;
           each_worker_read = worker-reads disks counters_are;
           each_taken = all-taken;
-          each_own = λ i p d. counted-read m told relations _ _ _ counters_are i p d;
-          each_fault = λ i p d. counted-fault m told relations _ _ _ counters_are i p d;
+          each_own = λ i p d lt below.
+              (let here = (at i p d lt).read_each below in omega arith);
+          each_fault = λ i p d lt below.
+              (let here = (at i p d lt).fault_each below in omega arith);
           each_unread = λ below.
               let sum = counted-faults m told relations _ _ _ counters_are below in
               omega arith;

@@ -20,7 +20,7 @@ use Rattle.heap_scan.specs.Job.{endings_of}
 use Rattle.read_stream.specs.StreamAnswers.{MayBeUnread}
 use Rattle.scan_rounds.specs.ListOptions.{ListOptions}
 use Rattle.scan_rounds.specs.BlockFilter.{BlockFilter}
-use Rattle.scan_rounds.specs.Jobs.{IsListed, is_unread, said_end, entries_of_job}
+use Rattle.scan_rounds.specs.Jobs.{JobIsListed, is_unread, answered_ending, entries_of_job}
 use Rattle.scan_rounds.specs.declared.job.Job.{Job}
 use Rattle.scan_rounds.specs.declared.job.Ending.{Ending}
 use Rattle.scan_rounds.specs.declared.job.Ending.TheVariants as ending
@@ -45,7 +45,7 @@ failed_one p q t more grown i =
 
 may_counted : (was : ActorView) (q : Known) (e : E) → MayBeUnread was q e
     → failed_result_count was.known.marks + 1 ≤ failed_result_count q.marks
-may_counted was q e (io, f) = failed_one was.known q _ f.taken.0 f.taken.1 f.taken.2
+may_counted was q e (io, f) = failed_one was.known q _ f.local_mark.0 f.local_mark.1 f.local_mark.2
 
 cause_of : (found : Option Reader) (may : E → Type 0) (entries : List E) (k : ℕ) (b : ℕ)
     → IsEnding found may entries k (Unread b) → (x : E) × may x
@@ -55,7 +55,7 @@ cause_of found may entries k b is = (is.next, is.cause)
 pub unread_after : (found : Option Reader) (was : ActorView) (q : Known) (entries : List E)
     (pages : List (Given (Unit {0}))) (e : Ending)
     → IsAnswer found (MayBeUnread was q) entries
-    (record { pages = pages; endings = endings_of (said_end e) })
+    (record { pages = pages; endings = endings_of (answered_ending e) })
     → is_unread e ≡ true → failed_result_count was.known.marks + 1 ≤ failed_result_count q.marks
 unread_after found was q entries pages (ending.Unread b) a is =
     let (x, may) = cause_of found (MayBeUnread was q) entries _ b a.endings.0 in
@@ -67,7 +67,8 @@ unread_after found was q entries pages ending.NoMemory a is = absurd (cc)
 
 -- a job that ended in Unread left one failed result more
 pub unread_counted : {block_filter : Option BlockFilter} (how : ListOptions) (told : Option Told)
-    (was : ActorView) (q : Known) (j k : Job) → IsListed block_filter how told (MayBeUnread was q)
+    (was : ActorView) (q : Known) (j k : Job) → JobIsListed block_filter how told (MayBeUnread was
+    q)
     j k → is_unread k.ending ≡ true → failed_result_count was.known.marks + 1
     ≤ failed_result_count q.marks
 unread_counted {block_filter} how told was q j k l is =

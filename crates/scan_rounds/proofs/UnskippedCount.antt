@@ -9,7 +9,7 @@ use Rattle.std.proofs.lemmas.List.Sums.{sum_by-cons}
 use Rattle.heap_scan.specs.Job.{block_entry, job_entries}
 use Rattle.vis_map.specs.Bits.{is_marked}
 use Rattle.scan_rounds.specs.BlockFilter.{BlockFilter, unskipped_range}
-use Rattle.scan_rounds.specs.Jobs.{blocks_among, entries_of_job, count_unskipped}
+use Rattle.scan_rounds.specs.Jobs.{job_block_count, entries_of_job, count_unskipped}
 use Rattle.scan_rounds.specs.declared.job.Job.{Job}
 
 -- a test leaves at most what there was
@@ -31,7 +31,7 @@ few_in_range (Some s) relation first count =
     (job_entries relation first count) in omega arith)
 
 -- where there is no map, all that are asked for
-pub none_left_out : (jobs : List Job) → count_unskipped None jobs ≡ blocks_among jobs
+pub none_left_out : (jobs : List Job) → count_unskipped None jobs ≡ job_block_count jobs
 none_left_out [] = refl
 none_left_out (j ∷ jobs) =
     (let here = range_count j.relation j.first j.count in

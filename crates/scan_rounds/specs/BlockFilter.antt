@@ -7,7 +7,7 @@ use Rattle.heap_scan.specs.Job.{job_entries}
 use Rattle.vis_map.specs.Bits.{Map, is_marked}
 use Rattle.vis_map.specs.MapRequest.{unmarked_entries}
 use Rattle.vis_map.specs.declared.map.Skip.{Skip}
-use Rattle.scan_rounds.specs.declared.skipping.Skipping.{Skipping}
+use Rattle.scan_rounds.specs.declared.map_filter.MapFilter.{MapFilter}
 
 -- the pages of a map, and which of the blocks that they mark are left out
 pub record BlockFilter : Type 0 where
@@ -39,6 +39,6 @@ unskipped_source block_filter first count = filter (λ b. is_unskipped block_fil
 abbrev pub map_filter : Map → Skip → Option BlockFilter
 map_filter map skip = Some (record { pages = map.added; skip = skip })
 
-abbrev pub filter_of : Option Skipping → Option BlockFilter
-filter_of None = None
-filter_of (Some s) = Some (record { pages = (s.map.now).added; skip = s.skip })
+abbrev pub filter_of_skipping : Option MapFilter → Option BlockFilter
+filter_of_skipping None = None
+filter_of_skipping (Some s) = Some (record { pages = (s.map.now).added; skip = s.skip })

@@ -9,7 +9,7 @@ use Rattle.heap_scan.specs.Listing.{TextOf, listing}
 use Rattle.heap_scan.specs.Sums.{sums_of}
 use Rattle.heap_scan.specs.Warnings.{warnings_of}
 use Rattle.vis_map.specs.Bits.{Map}
-use Rattle.scan_rounds.specs.Jobs.{ending_for}
+use Rattle.scan_rounds.specs.Jobs.{job_ending}
 use Rattle.scan_rounds.specs.declared.job.Ending.{Ending}
 use Rattle.scan_rounds.specs.declared.job.Ending.TheVariants as ending
 use Rattle.scan_rounds.specs.declared.job.Job.{Job}
@@ -28,7 +28,7 @@ abbrev pub AnswerConsumed : PagesPredicate → PagesPredicate → Said (Unit {0}
 AnswerConsumed was is (Page given) None =
     (pages : List (Given (Unit {0}))) → was pages → is (pages ++ given ∷ [])
 AnswerConsumed was is (Page given) (Some e) = (e ≡ ending.NoMemory) × StillHolds was is
-AnswerConsumed was is (Stop end) result = (result ≡ Some (ending_for end)) × StillHolds was is
+AnswerConsumed was is (Stop end) result = (result ≡ Some (job_ending end)) × StillHolds was is
 
 -- pages that, with this ending, answer the entries are held; none of them was zeroed where damaged
 -- pages are not given as zeros
@@ -42,12 +42,14 @@ pub record PagesConsumed (holds : PagesPredicate) (zero : Bool) (told : Option T
       (record { pages = pages; endings = endings_of end })
 
 -- a job has the text, the warnings and the sums of the pages
-pub record HasText (text_of : TextOf) (j : Job) (pages : List (Given (Unit {0}))) : Type 0 where
-  pub text_is : j.text.items ≡ listing text_of pages
-  pub warnings_are : j.warnings.items ≡ warnings_of pages
-  pub sums_are : j.tally ≡ sums_of pages
+pub record JobHasOutput (text_of : TextOf) (j : Job) (pages : List (Given (Unit {0}))) : Type 0
+  where
+    pub text_is : j.text.items ≡ listing text_of pages
+    pub warnings_are : j.warnings.items ≡ warnings_of pages
+    pub sums_are : j.tally ≡ sums_of pages
 
 -- a map has the pages, and these are their warnings
-pub record HasPages (m : Map) (warnings : List ℕ) (pages : List (Given (Unit {0}))) : Type 0 where
-  pub added : m.added ≡ map (λ g. g.page) pages
-  pub warnings_are : warnings ≡ warnings_of pages
+pub record MapHasPages (m : Map) (warnings : List ℕ) (pages : List (Given (Unit {0}))) : Type 0
+  where
+    pub added : m.added ≡ map (λ g. g.page) pages
+    pub warnings_are : warnings ≡ warnings_of pages

@@ -5,9 +5,9 @@ use Rattle.page_check.specs.SynchronousAnswer.{Entry}
 use Rattle.page_check.specs.Told.{Told}
 use Rattle.aio_word.specs.declared.Mark.{Mark}
 use Rattle.aio_word.specs.Events.{lives_ended}
-use Rattle.aio_handle.specs.Closing.{HasNoOwnerTokens}
+use Rattle.aio_handle.specs.EndStates.{HasNoOwnerTokens}
 use Rattle.aio_handle.specs.Execution.{CountersFollowMarks}
-use Rattle.aio_handle.specs.Free.{IsRoom}
+use Rattle.aio_handle.specs.FreeHandles.{IsRoom}
 use Rattle.aio_handle.specs.ContractViews.{TableView, ActorView, IsActorOf, IsSameActor}
 use Rattle.read_stream.specs.StreamAnswers.{MayBeUnread}
 use Rattle.read_stream.specs.Desks.{IsFreeDesk}
@@ -17,9 +17,9 @@ use Rattle.method_worker.specs.QueueViews.{QueueView, IsSeatOf}
 use Rattle.vis_map.specs.Bits.{Map}
 use Rattle.aio_disk.specs.declared.disk.Disk.{Ghosts as DiskGhosts}
 use Rattle.scan_rounds.specs.ListOptions.{ListOptions, list_options}
-use Rattle.scan_rounds.specs.Jobs.{IsFresh, IsListed, entries_of_job, said_end}
-use Rattle.scan_rounds.specs.BlockFilter.{BlockFilter, unskipped_range, filter_of}
-use Rattle.scan_rounds.specs.ConsumedPages.{HasPages, PagesPredicate, PagesConsumed}
+use Rattle.scan_rounds.specs.Jobs.{IsNewJob, JobIsListed, entries_of_job, answered_ending}
+use Rattle.scan_rounds.specs.BlockFilter.{BlockFilter, unskipped_range, filter_of_skipping}
+use Rattle.scan_rounds.specs.ConsumedPages.{MapHasPages, PagesPredicate, PagesConsumed}
 use Rattle.scan_rounds.specs.declared.job.Ending.{Ending}
 use Rattle.scan_rounds.specs.declared.source.Blocks.{Blocks}
 use Rattle.scan_rounds.specs.Rings.{IsRingOf}
@@ -34,12 +34,12 @@ ActorHasRoom least a = (room : ℕ) × IsRoom a.known.config a.known room × (le
 
 -- the blocks that a stream is to give
 abbrev pub entries_of_blocks : Blocks → List (Entry (Unit {0}))
-entries_of_blocks b = unskipped_range (filter_of b.skipping) b.relation b.first b.count
+entries_of_blocks b = unskipped_range (filter_of_skipping b.by_map) b.relation b.first b.count
 
 -- the pages of a map: so many of a relation, from the first on
 abbrev pub map_blocks : ℕ → ℕ → Blocks
 map_blocks relation pages =
-    record { relation = relation; first = 0; count = pages; skipping = None }
+    record { relation = relation; first = 0; count = pages; by_map = None }
 
 -- the options with which a backend lists
 abbrev pub backend_options : {W D : Type 0} → Backend W D → ListOptions
@@ -63,13 +63,13 @@ module _ {W D : Type 0} (m : DiskGhosts D) (told : Option Told) (relations : ℕ
     pub marks : k.actor.known.marks ≡ h.actor.known.marks ++ more
     pub before : D
     pub after : D
-    pub had : h.disk ≡ Some before
-    pub has : k.disk ≡ Some after
+    pub had_disk : h.disk ≡ Some before
+    pub has_disk : k.disk ≡ Some after
     pub counters_follow : CountersFollowMarks (m.reads before) (m.reads after) (m.faults before)
         (m.faults after) more
 
   -- the actor may read these blocks at this desk
-  pub record MayRead (h : DiskActor W D) (d : Desk W (Unit {0})) (b : Blocks) : Type 0 where
+  pub record ActorMayRead (h : DiskActor W D) (d : Desk W (Unit {0})) (b : Blocks) : Type 0 where
     pub disk_actor : IsDiskActor h
     pub backend : h.actor.known.number < h.actor.known.config.backends
     pub room : ActorHasRoom b.count h.actor
@@ -78,36 +78,38 @@ module _ {W D : Type 0} (m : DiskGhosts D) (told : Option Told) (relations : ℕ
     pub within : b.first + b.count ≤ 2 ^ 32
 
   -- it has read them, up to this ending, and this is held of their pages
-  pub record HasRead (holds : PagesPredicate) (h k : DiskActor W D) (d e : Desk W (Unit {0}))
+  pub record ActorReadBlocks (holds : PagesPredicate) (h k : DiskActor W D) (d e : Desk W
+      (Unit {0}))
       (b : Blocks) (end : Ending) : Type 0 where
     pub disk_actor : IsDiskActor k
     pub advanced : DiskActorAdvanced h k
-    pub lived : (n : ℕ) → lives_ended n k.actor.known.marks
+    pub lives_bound : (n : ℕ) → lives_ended n k.actor.known.marks
         ≤ lives_ended n h.actor.known.marks + b.count
-    pub taken : local_mark_count k.actor.known.marks
+    pub results_bound : local_mark_count k.actor.known.marks
         ≤ local_mark_count h.actor.known.marks + length (entries_of_blocks b)
     pub desk : IsFreeDesk e × (e.zero ≡ d.zero)
     pub given : PagesConsumed holds d.zero told (MayBeUnread h.actor k.actor.known)
-        (entries_of_blocks b) (said_end end)
+        (entries_of_blocks b) (answered_ending end)
 
   -- the actor may list the job's blocks at this desk
-  pub record MayList (h : DiskActor W D) (d : Desk W (Unit {0})) (j : Job) : Type 0 where
+  pub record ActorMayList (h : DiskActor W D) (d : Desk W (Unit {0})) (j : Job) : Type 0 where
     pub disk_actor : IsDiskActor h
     pub backend : h.actor.known.number < h.actor.known.config.backends
     pub room : ActorHasRoom 64 h.actor
     pub desk : IsFreeDesk d
-    pub fresh : IsFresh relations j
+    pub fresh : IsNewJob relations j
 
   -- it has listed those that are not left out, with their tuples or without
-  pub record HasListed (block_filter : Option BlockFilter) (tuples : Bool) (h k : DiskActor W D)
+  pub record ActorListedJob (block_filter : Option BlockFilter) (tuples : Bool) (h k : DiskActor W
+      D)
       (d e : Desk W (Unit {0})) (j l : Job) : Type 0 where
     pub disk_actor : IsDiskActor k
     pub advanced : DiskActorAdvanced h k
-    pub lived : (n : ℕ) → lives_ended n k.actor.known.marks ≤ lives_ended n h.actor.known.marks + 64
-    pub taken : local_mark_count k.actor.known.marks
+    pub lives_bound : (n : ℕ) → lives_ended n k.actor.known.marks ≤ lives_ended n h.actor.known.marks + 64
+    pub results_bound : local_mark_count k.actor.known.marks
         ≤ local_mark_count h.actor.known.marks + length (entries_of_job block_filter j)
     pub desk : IsFreeDesk e × (e.zero ≡ d.zero)
-    pub listed : IsListed block_filter (list_options d.zero tuples) told
+    pub listed : JobIsListed block_filter (list_options d.zero tuples) told
         (MayBeUnread h.actor k.actor.known) j l
 
   module _ (q : QueueView) where
@@ -116,16 +118,16 @@ module _ {W D : Type 0} (m : DiskGhosts D) (told : Option Told) (relations : ℕ
       pub backend : b.disk_actor.actor.known.number < b.disk_actor.actor.known.config.backends
       pub desk : IsFreeDesk b.desk
       pub seat : IfSome b.seat (IsSeatOf q)
-      pub seated : 1 ≤ t.config.runners → is_some b.seat ≡ true
+      pub has_seat : 1 ≤ t.config.runners → is_some b.seat ≡ true
       pub ring : IfSome b.ring (IsRingOf q)
 
     -- it has read so many pages of a map, up to this ending, and keeps all but its actor and its
     -- disk
-    pub record HasReadMap (b c : Backend W D) (relation pages : ℕ) (map : Map)
+    pub record BackendReadMap (b c : Backend W D) (relation pages : ℕ) (map : Map)
         (warnings : List ℕ) (end : Ending) : Type 0 where
       pub is : IsBackend c
       pub few : pages ≤ 65
-      pub read : HasRead (HasPages map warnings) b.disk_actor c.disk_actor b.desk c.desk
+      pub read : ActorReadBlocks (MapHasPages map warnings) b.disk_actor c.disk_actor b.desk c.desk
           (map_blocks relation pages) end
       pub options_same : backend_options c ≡ backend_options b
 
@@ -139,7 +141,8 @@ module _ {W D : Type 0} (m : DiskGhosts D) (told : Option Told) (relations : ℕ
       pub advanced : DiskActorAdvanced w.disk_actor v.disk_actor
 
 -- as it stands among what a thread is given
-unfoldable pub MayServe : {W D : Type 0} → DiskGhosts D → Option Told → ℕ → TableView → QueueView
+unfoldable pub WorkerMayServe : {W D : Type 0} → DiskGhosts D → Option Told → ℕ → TableView
+    → QueueView
     → Worker W D
     → Type 0
-MayServe m told relations t q w = IsWorker m told relations t q w
+WorkerMayServe m told relations t q w = IsWorker m told relations t q w

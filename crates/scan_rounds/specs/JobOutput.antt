@@ -5,7 +5,7 @@ use Rattle.page_check.specs.IsAnswer.{Next as Said, Page, Stop}
 use Rattle.heap_scan.specs.Listing.{TextOf, text_for}
 use Rattle.heap_scan.specs.Sums.{sums_with_page}
 use Rattle.heap_scan.specs.declared.sums.PageSums.{PageSums}
-use Rattle.scan_rounds.specs.Jobs.{ending_for}
+use Rattle.scan_rounds.specs.Jobs.{job_ending}
 use Rattle.scan_rounds.specs.declared.job.Ending.{Ending}
 use Rattle.scan_rounds.specs.declared.job.Ending.TheVariants as ending
 
@@ -27,5 +27,5 @@ AnswerAppended text_of (Page given) before after None =
     × (after.warnings ≡ before.warnings ++ warning_for given)
     × (after.sums ≡ sums_with_page before.sums given.page)
 AnswerAppended text_of (Page given) before after (Some e) = (e ≡ ending.NoMemory) × (after ≡ before)
-AnswerAppended text_of (Stop end) before after result = (result ≡ Some (ending_for end))
+AnswerAppended text_of (Stop end) before after result = (result ≡ Some (job_ending end))
     × (after ≡ before)

@@ -15,19 +15,19 @@ use Rattle.scan_rounds.specs.declared.job.Ending.TheVariants as ending
 use Rattle.scan_rounds.specs.declared.job.Job.{Job}
 
 -- the ending that was answered: none where there was no memory
-abbrev pub said_end : Ending → Option SaidEnding
-said_end ending.Pages = Some End
-said_end (ending.Invalid block) = Some (SaidInvalid block)
-said_end (ending.Unread block) = Some (SaidUnread block)
-said_end (ending.PastEnd block) = Some (SaidPastEnd block)
-said_end ending.NoMemory = None
+abbrev pub answered_ending : Ending → Option SaidEnding
+answered_ending ending.Pages = Some End
+answered_ending (ending.Invalid block) = Some (SaidInvalid block)
+answered_ending (ending.Unread block) = Some (SaidUnread block)
+answered_ending (ending.PastEnd block) = Some (SaidPastEnd block)
+answered_ending ending.NoMemory = None
 
 -- the ending of a job whose blocks were answered so
-abbrev pub ending_for : SaidEnding → Ending
-ending_for End = ending.Pages
-ending_for (SaidInvalid block) = ending.Invalid block
-ending_for (SaidUnread block) = ending.Unread block
-ending_for (SaidPastEnd block) = ending.PastEnd block
+abbrev pub job_ending : SaidEnding → Ending
+job_ending End = ending.Pages
+job_ending (SaidInvalid block) = ending.Invalid block
+job_ending (SaidUnread block) = ending.Unread block
+job_ending (SaidPastEnd block) = ending.PastEnd block
 
 abbrev pub is_unread : Ending → Bool
 is_unread (ending.Unread block) = true
@@ -37,19 +37,19 @@ is_unread (ending.PastEnd block) = false
 is_unread ending.NoMemory = false
 
 -- 1 where an ending is Unread
-abbrev pub unread_in : Ending → ℕ
-unread_in e = cond (is_unread e) 1 0
+abbrev pub unread_ending_count : Ending → ℕ
+unread_ending_count e = cond (is_unread e) 1 0
 
 -- how many of these jobs ended in Unread
-abbrev pub unread_among : List Job → ℕ
-unread_among jobs = count_by (λ j. is_unread j.ending) jobs
+abbrev pub unread_job_count : List Job → ℕ
+unread_job_count jobs = count_by (λ j. is_unread j.ending) jobs
 
 -- how many blocks they ask for
-abbrev pub blocks_among : List Job → ℕ
-blocks_among jobs = sum_by (λ (j : Job). j.count) jobs
+abbrev pub job_block_count : List Job → ℕ
+job_block_count jobs = sum_by (λ (j : Job). j.count) jobs
 
 -- a job that nobody has worked on
-pub record IsFresh (relations : ℕ) (j : Job) : Type 0 where
+pub record IsNewJob (relations : ℕ) (j : Job) : Type 0 where
   pub relation_in : j.relation < relations
   pub few : (1 ≤ j.count) × (j.count ≤ 64)
   pub within : j.first + j.count ≤ 2 ^ 32
@@ -69,17 +69,19 @@ count_unskipped block_filter jobs = sum_by (λ j. length (entries_of_job block_f
 -- what has become of a job that is listed with these options, without the blocks that are left out:
 -- text, warnings, sums and ending are those of the answers to the others; where damaged pages are
 -- not given as zeros, there is no warning
-pub record IsListed (block_filter : Option BlockFilter) (m : ListOptions) (told : Option Told)
+pub record JobIsListed (block_filter : Option BlockFilter) (m : ListOptions) (told : Option Told)
     (may : Entry (Unit {0}) → Type 0) (j k : Job) : Type 0 where
   pub same : (k.relation ≡ j.relation) × (k.first ≡ j.first) × (k.count ≡ j.count)
   pub answer : IsJobAnswer (text_with m.tuples) (reader_of m.zero told) may
-      (entries_of_job block_filter j) k.text.items k.warnings.items k.tally (said_end k.ending)
-  pub quiet : m.zero ≡ false → k.warnings.items ≡ []
+      (entries_of_job block_filter j) k.text.items k.warnings.items k.tally (answered_ending
+      k.ending)
+  pub no_warnings : m.zero ≡ false → k.warnings.items ≡ []
 
 -- what has become of jobs that were put, whichever block may be unread
-pub record AreAnswered (block_filter : Option BlockFilter) (m : ListOptions) (told : Option Told)
+pub record AllJobsAnswered (block_filter : Option BlockFilter) (m : ListOptions) (told : Option
+    Told)
     (asked answered : List Job) : Type 0 where
   pub as_many : length answered ≡ length asked
   pub each : (i : ℕ) (j : Job) → i < length asked
-      → IsListed block_filter m told (λ _. ⊤) (slice_index_or asked i j)
+      → JobIsListed block_filter m told (λ _. ⊤) (slice_index_or asked i j)
       (slice_index_or answered i j)

@@ -37,6 +37,10 @@ workers_of_method method.Ring workers = 0
 abbrev pub workers_of_settings : ScanSettings → ℕ
 workers_of_settings s = workers_of_method s.method s.workers
 
+-- a scan has a disk for each backend and each worker
+abbrev pub required_disks : ScanSettings → ℕ
+required_disks s = s.backends + workers_of_settings s
+
 -- how many seats of the queue backends and workers have by a method
 abbrev pub seats_of_method : MethodKind → ℕ → ℕ → ℕ
 seats_of_method method.Sync backends workers = 0
@@ -56,7 +60,7 @@ abbrev pub rings_of_settings : ScanSettings → ℕ
 rings_of_settings s = rings_of_method s.method s.backends
 
 -- the settings are in their ranges
-pub record AreSettings (s : ScanSettings) : Type 0 where
+pub record AreValidScanSettings (s : ScanSettings) : Type 0 where
   pub workers_in_range : (1 ≤ s.workers) × (s.workers ≤ 32)
   pub backends_in_range : (1 ≤ s.backends) × (s.backends ≤ 16)
   pub combine_in_range : (1 ≤ s.combine) × (s.combine ≤ 128)
@@ -76,7 +80,7 @@ config_of s start =
     }
 
 -- the settings of its streams
-pub record AreStreamsOf (s : ScanSettings) (r : Settings) : Type 0 where
+pub record AreStreamSettings (s : ScanSettings) (r : Settings) : Type 0 where
   pub combine : r.combine ≡ s.combine
   pub ios : r.ios ≡ min s.concurrency s.handles
   pub limit : r.limit ≡ max 1 (min (r.ios * s.combine) (s.buffers / s.backends))
@@ -113,24 +117,24 @@ settings_of_desk d =
 -- a desk for the streams of a scan
 pub record IsDeskFor {W : Type 0} (s : ScanSettings) (d : Desk W (Unit {0})) : Type 0 where
   pub free : IsFreeDesk d
-  pub streams : AreStreamsOf s (settings_of_desk d)
+  pub streams : AreStreamSettings s (settings_of_desk d)
 
 -- its streams read as the settings say, and it has a seat and a ring where the method wants them
-pub record IsSetUp {W D : Type 0} (s : ScanSettings) (b : Backend W D) : Type 0 where
-  pub streams : AreStreamsOf s (settings_of_desk b.desk)
+pub record IsBackendSetUp {W D : Type 0} (s : ScanSettings) (b : Backend W D) : Type 0 where
+  pub streams : AreStreamSettings s (settings_of_desk b.desk)
   pub seat : is_some b.seat ≡ has_seats s.method
   pub ring : is_some b.ring ≡ has_rings s.method
 
 module _ {W D : Type 0} where
   -- empty lists, with room for this many
-  pub record HasLists (backends workers : ℕ) (l : Lists W D) : Type 0 where
+  pub record HasEmptyLists (backends workers : ℕ) (l : Lists W D) : Type 0 where
     pub backends_fit : (l.backends.items ≡ []) × (backends ≤ vec_capacity l.backends)
     pub workers_fit : (l.workers.items ≡ []) × (workers ≤ vec_capacity l.workers)
     pub actors_fit : (l.actors.items ≡ []) × (backends + workers ≤ vec_capacity l.actors)
     pub disks_fit : (l.disks.items ≡ []) × (backends + workers ≤ vec_capacity l.disks)
 
   -- the memory of a scan with these settings, in which nothing was done
-  pub record IsMemory (s : ScanSettings) (start : ℕ) (m : Memory W D) : Type 0 where
+  pub record IsScanMemory (s : ScanSettings) (start : ℕ) (m : Memory W D) : Type 0 where
     pub config : m.shared.table.config ≡ config_of s start
     pub actors_are : length m.actors.items ≡ s.backends + workers_of_settings s
     pub actors : AreNewActors m.shared.table 0 m.actors.items
@@ -141,7 +145,7 @@ module _ {W D : Type 0} where
     pub desks_are : length m.desks.items ≡ s.backends
     pub desks : All (IsDeskFor s) m.desks.items
     pub jobs_suffice : s.backends ≤ length m.jobs.items
-    pub lists : HasLists s.backends (workers_of_settings s) m.lists
+    pub lists : HasEmptyLists s.backends (workers_of_settings s) m.lists
 
   -- the first actors and disks of the parts are those of this list, and these are left
   pub record GivesDiskActors (p left : Parts W D) (hs : List (DiskActor W D)) : Type 0 where
@@ -175,13 +179,13 @@ module _ {W D : Type 0} where
     pub desks : left.desks ≡ p.desks
 
 -- a scan with these settings, just opened over these disks, whose handles begin at this generation
-pub record IsOpened {W D : Type 0} (m : DiskGhosts D) (told : Option Told) (relations : ℕ)
+pub record IsOpenedScan {W D : Type 0} (m : DiskGhosts D) (told : Option Told) (relations : ℕ)
     (settings : ScanSettings) (start : ℕ) (disks : List D) (s : Scan W D) : Type 0 where
   pub is : IsScan m told relations s
   pub config : s.shared.table.config ≡ config_of settings start
-  pub set_up : All (IsSetUp settings) s.backends.items
+  pub set_up : All (IsBackendSetUp settings) s.backends.items
   pub opened : opened_disks s ≡ disks
-  pub taken : results_taken_count s.backends.items ≡ 0
+  pub no_results : results_taken_count s.backends.items ≡ 0
   -- up to the last generation
   pub room : s.room ≡ 2 ^ 58 - 1 - start
   pub unread : s.unread ≡ 0

@@ -3,16 +3,16 @@ use Rattle.std.specs.Prelude.{◌≡◌, ℕ, ◌+◌, ◌*◌, ◌≤◌, List,
 use Rattle.std.specs.Prelude.{IfSome, slice_index_or}
 use Rattle.std.specs.List.{All}
 use Rattle.page_check.specs.Told.{Told}
-use Rattle.aio_disk.specs.Counts.{raised_by}
+use Rattle.aio_disk.specs.Counts.{count_plus}
 use Rattle.aio_handle.specs.ContractViews.{TableView}
 use Rattle.method_worker.specs.QueueViews.{QueueView, SeatView}
 use Rattle.aio_disk.specs.declared.disk.Disk.{Ghosts as DiskGhosts}
 use Rattle.scan_rounds.specs.BlockFilter.{BlockFilter}
 use Rattle.scan_rounds.specs.DiskActors.{IsBackend}
-use Rattle.scan_rounds.specs.Jobs.{IsFresh, count_unskipped, unread_among}
+use Rattle.scan_rounds.specs.Jobs.{IsNewJob, count_unskipped, unread_job_count}
 use Rattle.scan_rounds.specs.ListOptions.{ListOptions}
-use Rattle.scan_rounds.specs.Rounds.{AllHaveOptions, AreListed}
-use Rattle.scan_rounds.specs.Rounds.{IsLeastRoom, AllAdvanced, backend_disk_actor}
+use Rattle.scan_rounds.specs.Rounds.{AllHaveOptions, AllJobsListed}
+use Rattle.scan_rounds.specs.Rounds.{IsLeastRoom, AllActorsAdvanced, backend_disk_actor}
 use Rattle.scan_rounds.specs.Rounds.{failed_results_taken, results_taken_count}
 use Rattle.scan_rounds.specs.declared.backend.Backend.{Backend}
 use Rattle.scan_rounds.specs.declared.job.Job.{Job}
@@ -29,43 +29,44 @@ pub record IsClosedByFirst {W D : Type 0} (q : QueueView) (bs : List (Backend W 
 module _ {W D : Type 0} (m : DiskGhosts D) (told : Option Told) (relations : ℕ)
     (t : TableView) where
   -- the backends wait for a round, and this is what was counted so far
-  pub record AreWaiting (q : QueueView) (bs : List (Backend W D)) (counts : Counts) : Type 0 where
-    pub some : 1 ≤ length bs
-    pub backends : All (IsBackend m told relations t q) bs
-    pub room : IsLeastRoom bs counts.room
-    -- each job that ended in Unread has left the result of a failed I/O
-    pub few_unread : counts.unread ≤ failed_results_taken bs
+  pub record BackendsAreReady (q : QueueView) (bs : List (Backend W D)) (counts : Counts) : Type 0
+    where
+      pub some : 1 ≤ length bs
+      pub backends : All (IsBackend m told relations t q) bs
+      pub room : IsLeastRoom bs counts.room
+      -- each job that ended in Unread has left the result of a failed I/O
+      pub few_unread : counts.unread ≤ failed_results_taken bs
 
   -- from the first state to the second so many blocks were asked for, of which so many were not
   -- left out, and so many jobs ended in Unread, at least
   pub record RoundsAdvanced (bs cs : List (Backend W D)) (before after : Counts)
       (blocks kept unread : ℕ) : Type 0 where
-    pub go_on : AllAdvanced m told relations t (map backend_disk_actor bs)
+    pub actors_advanced : AllActorsAdvanced m told relations t (map backend_disk_actor bs)
         (map backend_disk_actor cs)
     pub room : before.room ≤ after.room + 64 * blocks
-    pub taken : results_taken_count cs ≤ results_taken_count bs + kept
+    pub results_bound : results_taken_count cs ≤ results_taken_count bs + kept
     pub more : ℕ
-    pub raised : after.unread ≡ raised_by more before.unread
-    pub enough : unread ≤ more
+    pub unread_raised : after.unread ≡ count_plus more before.unread
+    pub unread_enough : unread ≤ more
 
   -- a round may be made of these jobs, one for each of the first backends
-  pub record MayMakeRound (q : QueueView) (bs : List (Backend W D)) (js : List Job)
+  pub record BackendsMayMakeRound (q : QueueView) (bs : List (Backend W D)) (js : List Job)
       (counts : Counts) : Type 0 where
-    pub waiting : AreWaiting q bs counts
+    pub ready : BackendsAreReady q bs counts
     pub few : length js ≤ length bs
-    pub fresh : All (IsFresh relations) js
+    pub fresh : All (IsNewJob relations) js
     pub room : 64 ≤ counts.room
 
   -- it was made, without the blocks that are left out
   pub record RoundMade (q : QueueView) (block_filter : Option BlockFilter)
       (bs cs : List (Backend W D)) (js ks : List Job) (before after : Counts) : Type 0 where
-    pub waiting : AreWaiting q cs after
+    pub ready : BackendsAreReady q cs after
     pub closed : IsClosedByFirst q cs
-    pub go_on : AllAdvanced m told relations t (map backend_disk_actor bs)
+    pub actors_advanced : AllActorsAdvanced m told relations t (map backend_disk_actor bs)
         (map backend_disk_actor cs)
     pub listed : (how : ListOptions) → AllHaveOptions how bs
-        → AreListed block_filter how told bs cs js ks
-    pub all_list_in : (how : ListOptions) → AllHaveOptions how bs → AllHaveOptions how cs
+        → AllJobsListed block_filter how told bs cs js ks
+    pub all_have_options : (how : ListOptions) → AllHaveOptions how bs → AllHaveOptions how cs
     pub room : before.room ≤ after.room + 64
-    pub unread : after.unread ≡ raised_by (unread_among ks) before.unread
-    pub taken : results_taken_count cs ≤ results_taken_count bs + count_unskipped block_filter js
+    pub unread : after.unread ≡ count_plus (unread_job_count ks) before.unread
+    pub results_bound : results_taken_count cs ≤ results_taken_count bs + count_unskipped block_filter js

@@ -9,13 +9,13 @@ use Rattle.method_worker.specs.QueueViews.{QueueView}
 use Rattle.read_stream.specs.StreamAnswers.{MayBeUnread}
 use Rattle.aio_word.specs.Tokens.{failed_result_count}
 use Rattle.aio_disk.specs.declared.disk.Disk.{Ghosts as DiskGhosts}
-use Rattle.scan_rounds.specs.DiskActors.{WorkerServed, HasReadMap, ActorHasRoom}
+use Rattle.scan_rounds.specs.DiskActors.{WorkerServed, BackendReadMap, ActorHasRoom}
 use Rattle.scan_rounds.specs.DiskActors.{DiskActorAdvanced, backend_options}
 use Rattle.read_stream.specs.ActorProgress.{local_mark_count}
 use Rattle.scan_rounds.specs.ListOptions.{ListOptions}
-use Rattle.scan_rounds.specs.Jobs.{IsListed, said_end}
+use Rattle.scan_rounds.specs.Jobs.{JobIsListed, answered_ending}
 use Rattle.scan_rounds.specs.BlockFilter.{BlockFilter}
-use Rattle.scan_rounds.specs.ConsumedPages.{HasPages, PagesConsumed}
+use Rattle.scan_rounds.specs.ConsumedPages.{MapHasPages, PagesConsumed}
 use Rattle.scan_rounds.specs.declared.job.Ending.{Ending}
 use Rattle.scan_rounds.specs.declared.disk_actor.DiskActor.{DiskActor}
 use Rattle.scan_rounds.specs.declared.backend.Backend.{Backend}
@@ -35,7 +35,7 @@ module _ {W D : Type 0} where
 
   -- the most lives for which each backend has room
   pub record IsLeastRoom (bs : List (Backend W D)) (room : ℕ) : Type 0 where
-    pub have : AllBackendsHaveRoom room bs
+    pub all_have_room : AllBackendsHaveRoom room bs
     pub greatest : (n : ℕ) → AllBackendsHaveRoom n bs → n ≤ room
 
   -- each backend lists with these options
@@ -43,22 +43,25 @@ module _ {W D : Type 0} where
   AllHaveOptions m bs = All (λ (b : Backend W D). backend_options b ≡ m) bs
 
   -- each job was listed without the blocks that are left out, by the backend at its place
-  pub record AreListed (block_filter : Option BlockFilter) (m : ListOptions) (told : Option Told)
+  pub record AllJobsListed (block_filter : Option BlockFilter) (m : ListOptions) (told : Option
+      Told)
       (bs cs : List (Backend W D)) (js ks : List Job) : Type 0 where
     pub jobs_are : length ks ≡ length js
     pub each : (i : ℕ) (d : Backend W D) (j : Job) → i < length js
-        → IsListed block_filter m told (MayBeUnread (slice_index_or bs i d).disk_actor.actor
+        → JobIsListed block_filter m told (MayBeUnread (slice_index_or bs i d).disk_actor.actor
         (slice_index_or cs i d).disk_actor.actor.known) (slice_index_or js i j)
         (slice_index_or ks i j)
 
   -- the first backend has read so many pages of a map, up to this ending; it has those before it,
   -- and these are their warnings
-  abbrev pub IsMapRead : ListOptions → Option Told → List (Backend W D) → List (Backend W D) → ℕ → ℕ
+  abbrev pub MapPagesConsumed : ListOptions → Option Told → List (Backend W D) → List (Backend W D)
+      → ℕ → ℕ
       → Map → List ℕ → Ending → Type 0
-  IsMapRead m told bs cs relation pages map warnings end =
-      (d : Backend W D) → PagesConsumed (HasPages map warnings) m.zero told
+  MapPagesConsumed m told bs cs relation pages map warnings end =
+      (d : Backend W D) → PagesConsumed (MapHasPages map warnings) m.zero told
       (MayBeUnread (slice_index_or bs 0 d).disk_actor.actor
-      (slice_index_or cs 0 d).disk_actor.actor.known) (job_entries relation 0 pages) (said_end end)
+      (slice_index_or cs 0 d).disk_actor.actor.known) (job_entries relation 0 pages)
+      (answered_ending end)
 
   -- how many results of failed I/Os the backends have taken
   abbrev pub failed_results_taken : List (Backend W D) → ℕ
@@ -73,22 +76,22 @@ module _ {W D : Type 0} where
 module _ {W D : Type 0} (m : DiskGhosts D) (told : Option Told) (relations : ℕ)
     (t : TableView) where
   -- each went on
-  pub record AllAdvanced (hs ks : List (DiskActor W D)) : Type 0 where
+  pub record AllActorsAdvanced (hs ks : List (DiskActor W D)) : Type 0 where
     pub as_many : length ks ≡ length hs
     pub each : (i : ℕ) (d : DiskActor W D) → i < length hs
         → DiskActorAdvanced m told relations t (slice_index_or hs i d) (slice_index_or ks i d)
 
 module _ {W D : Type 0} (m : DiskGhosts D) (told : Option Told) (relations : ℕ) (t : TableView)
     (q : QueueView) where
-  pub record AllServed (ws vs : List (Worker W D)) : Type 0 where
+  pub record AllWorkersServed (ws vs : List (Worker W D)) : Type 0 where
     pub as_many : length vs ≡ length ws
     pub each : (i : ℕ) (d : Worker W D) → i < length ws
         → WorkerServed m told relations t q (slice_index_or ws i d) (slice_index_or vs i d)
 
   -- the first backend has read a map, and the others are as they were
-  pub record IsFirstRead (bs cs : List (Backend W D)) (relation pages : ℕ) (map : Map)
+  pub record FirstBackendReadMap (bs cs : List (Backend W D)) (relation pages : ℕ) (map : Map)
       (warnings : List ℕ) (end : Ending) : Type 0 where
     pub as_many : length cs ≡ length bs
-    pub first : (d : Backend W D) → HasReadMap m told relations t q (slice_index_or bs 0 d)
+    pub first : (d : Backend W D) → BackendReadMap m told relations t q (slice_index_or bs 0 d)
         (slice_index_or cs 0 d) relation pages map warnings end
     pub others : (i : ℕ) (d : Backend W D) → 1 ≤ i → slice_index_or cs i d ≡ slice_index_or bs i d

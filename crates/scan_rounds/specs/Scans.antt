@@ -7,7 +7,7 @@ use Rattle.page_check.specs.Told.{Told}
 use Rattle.aio_word.specs.declared.Config.{Config}
 use Rattle.aio_word.specs.declared.Known.{Known}
 use Rattle.aio_word.specs.Tokens.{io_mark_count, failed_mark_count}
-use Rattle.aio_handle.specs.Closing.{AreTotals, TotalsView}
+use Rattle.aio_handle.specs.EndStates.{AreTotals, TotalsView}
 use Rattle.aio_handle.specs.Execution.{CountersFollowMarks, last_count}
 use Rattle.aio_handle.specs.ContractViews.{ActorView, actor_known}
 use Rattle.method_worker.specs.QueueViews.{QueueView}
@@ -42,8 +42,8 @@ module _ {W D : Type 0} where
   disk_of h = h.disk
 
   -- the lists of these actors, in their order
-  abbrev pub lists_of : List (DiskActor W D) → List Known
-  lists_of hs = map actor_known (map actor_of hs)
+  abbrev pub known_lists : List (DiskActor W D) → List Known
+  known_lists hs = map actor_known (map actor_of hs)
 
   abbrev pub HasDisk : DiskActor W D → Type 0
   HasDisk h = (disk : D) × (h.disk ≡ Some disk)
@@ -70,12 +70,12 @@ module _ {W D : Type 0} (m : DiskGhosts D) (told : Option Told) (relations : ℕ
     pub backends_are : s.shared.table.config.backends ≡ length s.backends.items
     pub workers_are : s.shared.table.config.runners ≡ length s.workers.items
     pub some : 1 ≤ length s.backends.items
-    pub backends_stand : All (IsBackend m told relations s.shared.table s.shared.queue)
+    pub all_backends : All (IsBackend m told relations s.shared.table s.shared.queue)
         s.backends.items
-    pub workers_stand : All (IsWorker m told relations s.shared.table s.shared.queue)
+    pub all_workers : All (IsWorker m told relations s.shared.table s.shared.queue)
         s.workers.items
     pub counters_are : AllDiskCountersFollowMarks (opened_disks s) (scan_disk_actors s)
-    pub all_list_in : AllHaveOptions (scan_options s) s.backends.items
+    pub all_have_options : AllHaveOptions (scan_options s) s.backends.items
     pub room : IsLeastRoom s.backends.items s.room
     -- each job that ended in Unread has left the result of a failed I/O
     pub few_unread : s.unread ≤ failed_results_taken s.backends.items
@@ -91,7 +91,7 @@ module _ {D : Type 0} (m : DiskGhosts D) (told : Option Told) (relations : ℕ) 
   -- for the lists of their actors, in the same order
   pub record IsFinished (c : Config) (unread taken : ℕ) (opened disks : List D)
       (parts : List Known) (totals : TotalsView) : Type 0 where
-    pub are : AreTotals c parts totals
+    pub totals_are : AreTotals c parts totals
     pub parts_are : length parts ≡ length disks
     pub disks_are : length disks ≡ length opened
     pub tell : All (λ d. (m.told d ≡ told) × (m.relations d ≡ relations)) disks

@@ -13,11 +13,11 @@ pub record Share (T J : Type 0) : Type 0 where
   pub done : List J
 
 -- each share has at most so many tasks, and behind one that has fewer there are none
-abbrev pub AreFilled : {T J : Type 0} → ℕ → List (Share T J) → Type 0
-AreFilled size [] = ⊤
-AreFilled {T} {J} size (s ∷ shares) = (length s.tasks ≤ size)
+abbrev pub SharesAreFilled : {T J : Type 0} → ℕ → List (Share T J) → Type 0
+SharesAreFilled size [] = ⊤
+SharesAreFilled {T} {J} size (s ∷ shares) = (length s.tasks ≤ size)
     × (length s.tasks < size → flat_map (λ (r : Share T J). r.tasks) shares ≡ [])
-    × AreFilled size shares
+    × SharesAreFilled size shares
 
 module _ {F T J : Type 0} (g : Shared F (MutBor T × (MutBor (List J) × Unit {0}))
     (Unit {0} × (MutBor T × (MutBor (List J) × Unit {0})))) (f : F) where
@@ -31,18 +31,18 @@ module _ {F T J : Type 0} (g : Shared F (MutBor T × (MutBor (List J) × Unit {0
   pub record ShareDone (s : Share T J) : Type 0 where
     pub taker : MutBor T
     pub tasks : MutBor (List J)
-    pub were : (taker.now ≡ s.before) × (tasks.now ≡ s.tasks)
+    pub before_is : (taker.now ≡ s.before) × (tasks.now ≡ s.tasks)
     pub taker_after : MutBor T
     pub tasks_after : MutBor (List J)
     pub call : g.post f (taker, (tasks, tt)) (tt, (taker_after, (tasks_after, tt)))
-    pub are : (taker_after.now ≡ s.after) × (tasks_after.now ≡ s.done)
+    pub after_is : (taker_after.now ≡ s.after) × (tasks_after.now ≡ s.done)
 
   -- the takers have done all the tasks, each its share, one share behind the other
-  pub record AreShared (size : ℕ) (ts us : List T) (js ks : List J) : Type 0 where
+  pub record AllTasksDone (size : ℕ) (ts us : List T) (js ks : List J) : Type 0 where
     pub shares : List (Share T J)
-    pub filled : AreFilled size shares
+    pub filled : SharesAreFilled size shares
     pub takers : map (λ (s : Share T J). s.before) shares ≡ ts
     pub takers_after : map (λ (s : Share T J). s.after) shares ≡ us
     pub tasks : flat_map (λ (s : Share T J). s.tasks) shares ≡ js
     pub tasks_after : flat_map (λ (s : Share T J). s.done) shares ≡ ks
-    pub taken : All ShareDone shares
+    pub shares_done : All ShareDone shares

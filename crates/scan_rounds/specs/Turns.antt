@@ -11,10 +11,11 @@ use Rattle.read_stream.specs.StreamAnswers.{MayBeUnread}
 use Rattle.read_stream.specs.ActorProgress.{local_mark_count}
 use Rattle.aio_disk.specs.declared.disk.Disk.{Ghosts as DiskGhosts}
 use Rattle.scan_rounds.specs.DiskActors.{IsBackend, DiskActorAdvanced, backend_options}
-use Rattle.scan_rounds.specs.Jobs.{IsFresh, IsListed, AreAnswered, entries_of_job, count_unskipped}
-use Rattle.scan_rounds.specs.Jobs.{unread_among}
+use Rattle.scan_rounds.specs.Jobs.{IsNewJob, JobIsListed, AllJobsAnswered, entries_of_job}
+use Rattle.scan_rounds.specs.Jobs.{count_unskipped}
+use Rattle.scan_rounds.specs.Jobs.{unread_job_count}
 use Rattle.scan_rounds.specs.ListOptions.{ListOptions}
-use Rattle.scan_rounds.specs.Rounds.{AllHaveOptions, AreListed, AllBackendsHaveRoom}
+use Rattle.scan_rounds.specs.Rounds.{AllHaveOptions, AllJobsListed, AllBackendsHaveRoom}
 use Rattle.scan_rounds.specs.Rounds.{failed_results_taken}
 use Rattle.scan_rounds.specs.Rounds.{results_taken_count}
 use Rattle.scan_rounds.specs.BlockFilter.{BlockFilter}
@@ -28,23 +29,25 @@ module _ {W D : Type 0} (m : DiskGhosts D) (told : Option Told) (relations : ℕ
       (f : Backend W D) (l : Job) : Type 0 where
     pub is : IsBackend m told relations t q f
     pub advanced : DiskActorAdvanced m told relations t b.disk_actor f.disk_actor
-    pub lived : (h : ℕ) → lives_ended h f.disk_actor.actor.known.marks
+    pub lives_bound : (h : ℕ) → lives_ended h f.disk_actor.actor.known.marks
         ≤ lives_ended h b.disk_actor.actor.known.marks + 64
-    pub taken : local_mark_count f.disk_actor.actor.known.marks
+    pub results_bound : local_mark_count f.disk_actor.actor.known.marks
         ≤ local_mark_count b.disk_actor.actor.known.marks + length (entries_of_job block_filter j)
-    pub listed : IsListed block_filter (backend_options b) told
+    pub listed : JobIsListed block_filter (backend_options b) told
         (MayBeUnread b.disk_actor.actor f.disk_actor.actor.known) j l
     pub options_same : backend_options f ≡ backend_options b
 
   -- each of these backends may do so many of these jobs
-  pub record MayTurn (share : ℕ) (bs : List (Backend W D)) (js : List Job) : Type 0 where
-    pub backends : All (IsBackend m told relations t q) bs
-    pub room : AllBackendsHaveRoom (64 * share) bs
-    pub fresh : All (IsFresh relations) js
+  pub record BackendsMayTakeTurn (share : ℕ) (bs : List (Backend W D)) (js : List Job) : Type 0
+    where
+      pub backends : All (IsBackend m told relations t q) bs
+      pub room : AllBackendsHaveRoom (64 * share) bs
+      pub fresh : All (IsNewJob relations) js
 
   -- the backends have done the jobs, without the blocks that are left out; each handle has had at
   -- most so many lives more
-  pub record HasTurned (block_filter : Option BlockFilter) (more : ℕ) (bs cs : List (Backend W D))
+  pub record BackendsTookTurn (block_filter : Option BlockFilter) (more : ℕ) (bs cs : List
+      (Backend W D))
       (js ks : List Job) : Type 0 where
     pub as_many : length cs ≡ length bs
     pub jobs_are : length ks ≡ length js
@@ -52,18 +55,18 @@ module _ {W D : Type 0} (m : DiskGhosts D) (told : Option Told) (relations : ℕ
     pub advanced : (i : ℕ) (d : Backend W D) → i < length bs
         → DiskActorAdvanced m told relations t (slice_index_or bs i d).disk_actor
         (slice_index_or cs i d).disk_actor
-    pub lived : (i : ℕ) (d : Backend W D) → i < length bs → (h : ℕ)
+    pub lives_bound : (i : ℕ) (d : Backend W D) → i < length bs → (h : ℕ)
         → lives_ended h (slice_index_or cs i d).disk_actor.actor.known.marks
         ≤ lives_ended h (slice_index_or bs i d).disk_actor.actor.known.marks + more
     pub options_same : (i : ℕ) (d : Backend W D) → i < length bs
         → backend_options (slice_index_or cs i d) ≡ backend_options (slice_index_or bs i d)
-    pub taken : results_taken_count cs ≤ results_taken_count bs + count_unskipped block_filter js
-    pub unread : failed_results_taken bs + unread_among ks ≤ failed_results_taken cs
+    pub results_bound : results_taken_count cs ≤ results_taken_count bs + count_unskipped block_filter js
+    pub unread : failed_results_taken bs + unread_job_count ks ≤ failed_results_taken cs
     pub answered : (how : ListOptions) → AllHaveOptions how bs
-        → AreAnswered block_filter how told js ks
+        → AllJobsAnswered block_filter how told js ks
 
 -- a backend that had one of these jobs at most has listed it
 abbrev pub ListedAlone : {W D : Type 0} → Option Told → Option BlockFilter → Backend W D
     → Backend W D → List Job → List Job → Type 0
 ListedAlone told block_filter b c js ks = length js ≤ 1
-    → AreListed block_filter (backend_options b) told (b ∷ []) (c ∷ []) js ks
+    → AllJobsListed block_filter (backend_options b) told (b ∷ []) (c ∷ []) js ks

@@ -1,17 +1,17 @@
 //! A backend: an actor with its disk and its desk.
 ghost use Rattle.std.specs.Prelude.{◌≡◌, ◌<◌, [], IfSome, is_some};
 ghost use Rattle.method_worker.specs.QueueViews.{IsSeatOf};
-ghost use Rattle.scan_rounds.specs.DiskActors.{HasReadMap, ActorHasRoom, IsBackend};
-ghost use Rattle.scan_rounds.specs.BlockFilter.{filter_of};
-ghost use Rattle.scan_rounds.specs.Jobs.{IsFresh};
+ghost use Rattle.scan_rounds.specs.DiskActors.{BackendReadMap, ActorHasRoom, IsBackend};
+ghost use Rattle.scan_rounds.specs.BlockFilter.{filter_of_skipping};
+ghost use Rattle.scan_rounds.specs.Jobs.{IsNewJob};
 ghost use Rattle.scan_rounds.specs.Progress.{HasClosed};
 ghost use Rattle.scan_rounds.specs.Turns.{BackendDidJob};
 
-use crate::disk_actor::DiskActor;
+use crate::disk_actor::{DiskActor, HasDiskActor};
 use crate::job::{Ending, Job};
+use crate::map_filter::MapFilter;
 use crate::ring::IdleRingState;
 use crate::shared::SharedState;
-use crate::skipping::Skipping;
 use aio_disk::Disk;
 use method_sync::SyncMethod;
 use method_worker::{QueueSeat, WorkerMethod};
@@ -32,21 +32,31 @@ pub(crate) struct Backend<W: World, D: Disk> {
     pub(crate) tuples: bool,
 }
 
+impl<W: World, D: Disk> HasDiskActor<W, D> for Backend<W, D> {
+    ghost use Rattle.scan_rounds.specs.Rounds.{backend_disk_actor};
+
+    ghost disk_actor = { backend_disk_actor };
+
+    fn into_disk_actor(self) -> DiskActor<W, D> {
+        self.disk_actor
+    }
+}
+
 impl<W: World, D: Disk> Backend<W, D> {
     /// Lists a job, without the blocks that are left out.
     pub(crate) fn list<T: Wait>(
         &mut self,
         rt: &T,
         shared: &SharedState<W>,
-        skipping: Option<Skipping<'_>>,
+        by_map: Option<MapFilter<'_>>,
         job: &mut Job,
     )
         requires is { IsBackend D.Disk W.told W.relations shared.now.table shared.now.queue
             self.old }
         requires room { ActorHasRoom 64 self.old.disk_actor.actor }
-        requires fresh { IsFresh W.relations job.old }
-        ensures did { BackendDidJob D.Disk W.told W.relations shared.now.table shared.now.queue
-            (filter_of skipping.entry) self.old job.old self.new job.new }
+        requires fresh { IsNewJob W.relations job.old }
+        ensures did_job { BackendDidJob D.Disk W.told W.relations shared.now.table shared.now.queue
+            (filter_of_skipping by_map.entry) self.old job.old self.new job.new }
     {
         let Backend {
             disk_actor,
@@ -61,7 +71,7 @@ impl<W: World, D: Disk> Backend<W, D> {
                     queue: &shared.queue,
                     seat: own,
                 };
-                disk_actor.list(rt, shared, desk, ring, &mut method, job, *tuples, skipping);
+                disk_actor.list(rt, shared, desk, ring, &mut method, job, *tuples, by_map);
                 *seat = Some(method.seat);
             }
             None => disk_actor.list(
@@ -72,7 +82,7 @@ impl<W: World, D: Disk> Backend<W, D> {
                 &mut SyncMethod,
                 job,
                 *tuples,
-                skipping,
+                by_map,
             ),
         }
     }
@@ -91,7 +101,7 @@ impl<W: World, D: Disk> Backend<W, D> {
         requires room { ActorHasRoom 65 self.old.disk_actor.actor }
         requires relation { relation < W.relations }
         requires none { (map.old.added ≡ []) × (warnings.old.items ≡ []) }
-        ensures read { HasReadMap D.Disk W.told W.relations shared.now.table shared.now.queue
+        ensures read { BackendReadMap D.Disk W.told W.relations shared.now.table shared.now.queue
             self.old self.new relation map.old.pages map.new warnings.new.items result }
         ensures pages { map.new.pages ≡ map.old.pages }
     {
@@ -111,7 +121,7 @@ impl<W: World, D: Disk> Backend<W, D> {
         ensures closed { IfSome self.new.seat (HasClosed shared.now.queue) }
         ensures rest { (self.new.disk_actor ≡ self.old.disk_actor) × (self.new.desk ≡ self.old.desk)
             × (self.new.tuples ≡ self.old.tuples) × (self.new.ring ≡ self.old.ring) }
-        ensures kept { is_some self.new.seat ≡ is_some self.old.seat }
+        ensures seat_kept { is_some self.new.seat ≡ is_some self.old.seat }
     {
         if let Some(seat) = &mut self.seat {
             shared.queue.close(rt, seat);

@@ -2,18 +2,18 @@
 ghost use Rattle.std.specs.Prelude.{◌≤◌, ◌<◌, ◌+◌, ◌-◌, length, Option};
 ghost use Rattle.std.specs.List.{All};
 ghost use Rattle.std.specs.Thread.{IsSync};
-ghost use Rattle.scan_rounds.specs.JobSources.{JobSourceAdvanced, MayRunRounds};
-ghost use Rattle.scan_rounds.specs.DiskActors.{MayServe, WorkerServed};
+ghost use Rattle.scan_rounds.specs.JobSources.{JobSourceAdvanced, BackendsMayRunSource};
+ghost use Rattle.scan_rounds.specs.DiskActors.{WorkerMayServe, WorkerServed};
 ghost use Rattle.scan_rounds.specs.Progress.{IsClosedByFirst};
-ghost use Rattle.scan_rounds.specs.RoundStates.{HasRunRound, MayRunRound};
-ghost use Rattle.scan_rounds.specs.Rounds.{AllServed};
-ghost use Rattle.scan_rounds.specs.BlockFilter.{filter_of};
+ghost use Rattle.scan_rounds.specs.RoundStates.{StateMadeRound, StateMayMakeRound};
+ghost use Rattle.scan_rounds.specs.Rounds.{AllWorkersServed};
+ghost use Rattle.scan_rounds.specs.BlockFilter.{filter_of_skipping};
 
 use crate::backend::Backend;
 use crate::job_source::JobSource;
+use crate::map_filter::MapFilter;
 use crate::run_state::{RoundState, RunState, run_round, run_rounds};
 use crate::shared::SharedState;
-use crate::skipping::Skipping;
 use crate::worker::Worker;
 use aio_disk::Disk;
 use page_check::World;
@@ -23,7 +23,8 @@ use std::thread::Threads;
 
 // Lets a worker serve the queue.
 fn serve_one<W: World, D: Disk, R: Wait>(rt: &R, shared: &SharedState<W>, worker: &mut Worker<W, D>)
-    requires may { MayServe D.Disk W.told W.relations shared.now.table shared.now.queue worker.old }
+    requires may { WorkerMayServe D.Disk W.told W.relations shared.now.table shared.now.queue
+        worker.old }
     ensures workers_served { WorkerServed D.Disk W.told W.relations shared.now.table
         shared.now.queue worker.old worker.new }
 {
@@ -36,9 +37,10 @@ fn run_workers<W: World + Send + Sync, D: Disk, R: Threads + Wait + Sync>(
     shared: &SharedState<W>,
     workers: &mut [Worker<W, D>],
 )
-    requires may { All (MayServe D.Disk W.told W.relations shared.now.table shared.now.queue)
+    requires may { All (WorkerMayServe D.Disk W.told W.relations shared.now.table shared.now.queue)
         workers.old }
-    ensures workers_served { AllServed D.Disk W.told W.relations shared.now.table shared.now.queue
+    ensures workers_served { AllWorkersServed D.Disk W.told W.relations shared.now.table
+        shared.now.queue
         workers.old workers.new }
 {
     thread::for_each_mut(
@@ -46,7 +48,7 @@ fn run_workers<W: World + Send + Sync, D: Disk, R: Threads + Wait + Sync>(
         workers,
         32,
         &|_, worker: &mut Worker<W, D>|
-            requires { MayServe D.Disk W.told W.relations shared.now.table shared.now.queue
+            requires { WorkerMayServe D.Disk W.told W.relations shared.now.table shared.now.queue
                 worker.old }
             ensures { WorkerServed D.Disk W.told W.relations shared.entry.now.table
                 shared.entry.now.queue worker.old worker.new }
@@ -60,9 +62,10 @@ pub(crate) fn serve_all<W: World + Send + Sync, D: Disk, R: Threads + Wait + Syn
     shared: &SharedState<W>,
     mut workers: Vec<Worker<W, D>>,
 ) -> Vec<Worker<W, D>>
-    requires may { All (MayServe D.Disk W.told W.relations shared.now.table shared.now.queue)
+    requires may { All (WorkerMayServe D.Disk W.told W.relations shared.now.table shared.now.queue)
         workers.items }
-    ensures workers_served { AllServed D.Disk W.told W.relations shared.now.table shared.now.queue
+    ensures workers_served { AllWorkersServed D.Disk W.told W.relations shared.now.table
+        shared.now.queue
         workers.items result.items }
 {
     run_workers(rt, shared, workers.as_mut_slice());
@@ -79,43 +82,47 @@ pub(crate) fn run_beside<
 >(
     rt: &R,
     shared: &SharedState<W>,
-    skipping: Option<Skipping<'_>>,
+    by_map: Option<MapFilter<'_>>,
     workers: Vec<Worker<W, D>>,
     run_state: RunState<W, D, A>,
 ) -> (Vec<Worker<W, D>>, RunState<W, D, A>)
-    requires serve { All (MayServe D.Disk W.told W.relations shared.now.table shared.now.queue)
+    requires serve { All (WorkerMayServe D.Disk W.told W.relations shared.now.table
+        shared.now.queue)
         workers.items }
-    requires may { MayRunRounds D.Disk W.told W.relations shared.now.table shared.now.queue
-        A.blocks_left A.options A.block_filter (filter_of skipping) run_state.backends.items
-        run_state.jobs.items run_state.job_source run_state.counts }
-    ensures workers_served { AllServed D.Disk W.told W.relations shared.now.table shared.now.queue
+    requires may { BackendsMayRunSource D.Disk W.told W.relations shared.now.table shared.now.queue
+        A.JobSource (filter_of_skipping by_map) run_state.backends.items run_state.jobs.items
+        run_state.job_source run_state.counts }
+    ensures workers_served { AllWorkersServed D.Disk W.told W.relations shared.now.table
+        shared.now.queue
         workers.items result.0.items }
     ensures advanced { JobSourceAdvanced D.Disk W.told W.relations shared.now.table shared.now.queue
-        A.blocks_left A.unskipped_left A.unread A.options A.block_filter A.follows
-        run_state.backends.items result.1.backends.items run_state.jobs.items result.1.jobs.items
-        run_state.job_source result.1.job_source run_state.counts result.1.counts }
+        A.JobSource run_state.backends.items result.1.backends.items run_state.jobs.items
+        result.1.jobs.items run_state.job_source result.1.job_source run_state.counts
+        result.1.counts }
     ensures over { A.is_over result.1.job_source }
     ensures closed { IsClosedByFirst shared.now.queue result.1.backends.items }
 {
     thread::join(
         rt,
         move || -> Vec<Worker<W, D>>
-            requires { All (MayServe D.Disk W.told W.relations shared.now.table shared.now.queue)
+            requires { All (WorkerMayServe D.Disk W.told W.relations shared.now.table
+                shared.now.queue)
                 workers.items × IsSync R.row }
-            ensures { AllServed D.Disk W.told W.relations shared.entry.now.table
+            ensures { AllWorkersServed D.Disk W.told W.relations shared.entry.now.table
                 shared.entry.now.queue workers.items result.items }
         { serve_all(rt, shared, workers) },
         move || -> RunState<W, D, A>
-            requires { MayRunRounds D.Disk W.told W.relations shared.now.table shared.now.queue
-                A.blocks_left A.options A.block_filter (filter_of skipping) run_state.backends.items
-                run_state.jobs.items run_state.job_source run_state.counts × IsSync R.row }
+            requires { BackendsMayRunSource D.Disk W.told W.relations shared.now.table
+                shared.now.queue
+                A.JobSource (filter_of_skipping by_map) run_state.backends.items
+                run_state.jobs.items
+                run_state.job_source run_state.counts × IsSync R.row }
             ensures { JobSourceAdvanced D.Disk W.told W.relations shared.entry.now.table
-                shared.entry.now.queue A.blocks_left A.unskipped_left A.unread A.options
-                A.block_filter A.follows run_state.backends.items result.backends.items
+                shared.entry.now.queue A.JobSource run_state.backends.items result.backends.items
                 run_state.jobs.items result.jobs.items run_state.job_source result.job_source
                 run_state.counts result.counts × A.is_over result.job_source × IsClosedByFirst
                 shared.entry.now.queue result.backends.items }
-        { run_rounds(rt, shared, skipping, run_state) },
+        { run_rounds(rt, shared, by_map, run_state) },
     )
 }
 
@@ -123,32 +130,35 @@ pub(crate) fn run_beside<
 pub(crate) fn round_beside<W: World + Send + Sync, D: Disk, R: Threads + Wait + Sync>(
     rt: &R,
     shared: &SharedState<W>,
-    skipping: Option<Skipping<'_>>,
+    by_map: Option<MapFilter<'_>>,
     workers: Vec<Worker<W, D>>,
     round_state: RoundState<W, D>,
 ) -> (Vec<Worker<W, D>>, RoundState<W, D>)
-    requires serve { All (MayServe D.Disk W.told W.relations shared.now.table shared.now.queue)
+    requires serve { All (WorkerMayServe D.Disk W.told W.relations shared.now.table
+        shared.now.queue)
         workers.items }
-    requires may { MayRunRound D.Disk W.told W.relations shared.now.table shared.now.queue
+    requires may { StateMayMakeRound D.Disk W.told W.relations shared.now.table shared.now.queue
         round_state }
-    ensures workers_served { AllServed D.Disk W.told W.relations shared.now.table shared.now.queue
+    ensures workers_served { AllWorkersServed D.Disk W.told W.relations shared.now.table
+        shared.now.queue
         workers.items result.0.items }
-    ensures made { HasRunRound D.Disk W.told W.relations shared.now.table shared.now.queue
-        (filter_of skipping.entry) round_state result.1 }
+    ensures made { StateMadeRound D.Disk W.told W.relations shared.now.table shared.now.queue
+        (filter_of_skipping by_map.entry) round_state result.1 }
 {
     thread::join(
         rt,
         move || -> Vec<Worker<W, D>>
-            requires { All (MayServe D.Disk W.told W.relations shared.now.table shared.now.queue)
+            requires { All (WorkerMayServe D.Disk W.told W.relations shared.now.table
+                shared.now.queue)
                 workers.items × IsSync R.row }
-            ensures { AllServed D.Disk W.told W.relations shared.entry.now.table
+            ensures { AllWorkersServed D.Disk W.told W.relations shared.entry.now.table
                 shared.entry.now.queue workers.items result.items }
         { serve_all(rt, shared, workers) },
         move || -> RoundState<W, D>
-            requires { MayRunRound D.Disk W.told W.relations shared.now.table shared.now.queue
+            requires { StateMayMakeRound D.Disk W.told W.relations shared.now.table shared.now.queue
                 round_state × IsSync R.row }
-            ensures { HasRunRound D.Disk W.told W.relations shared.entry.now.table
-                shared.entry.now.queue (filter_of skipping.entry) round_state result }
-        { run_round(rt, shared, skipping, round_state) },
+            ensures { StateMadeRound D.Disk W.told W.relations shared.entry.now.table
+                shared.entry.now.queue (filter_of_skipping by_map.entry) round_state result }
+        { run_round(rt, shared, by_map, round_state) },
     )
 }

@@ -1,19 +1,18 @@
 //! What a scan is asked for between its opening and its end.
 ghost use Rattle.std.specs.Prelude.{◌≡◌, ◌≤◌, ◌<◌, ◌+◌, ◌*◌, [], length, None, Some};
 ghost use Rattle.std.specs.List.{All};
-ghost use Rattle.scan_rounds.specs.Calls.{HasFollowed, HasMapped, HasRounded};
-ghost use Rattle.scan_rounds.specs.Calls.{MayFollow, MayMap, MayRound};
+ghost use Rattle.scan_rounds.specs.Calls.{ScanReadMap, ScanMadeRound, ScanMayReadMap};
+ghost use Rattle.scan_rounds.specs.Calls.{ScanMayMakeRound};
 ghost use Rattle.scan_rounds.specs.DiskActors.{IsBackend};
-ghost use Rattle.scan_rounds.specs.Rounds.{AllBackendsHaveRoom, IsFirstRead};
+ghost use Rattle.scan_rounds.specs.Rounds.{AllBackendsHaveRoom, FirstBackendReadMap};
 ghost use Rattle.scan_rounds.specs.BlockFilter.{map_filter};
 
 use crate::backend::Backend;
 use crate::job::{Ending, Job};
-use crate::job_source::JobSource;
+use crate::map_filter::MapFilter;
 use crate::rounds::{count_one, least_room};
 use crate::scan::Scan;
 use crate::shared::SharedState;
-use crate::skipping::Skipping;
 use aio_disk::Disk;
 use page_check::World;
 use std::mem;
@@ -36,7 +35,7 @@ fn read_by_first<W: World, D: Disk, R: Wait>(
     requires room { AllBackendsHaveRoom 65 backends.old }
     requires relation { relation < W.relations }
     requires none { (map.old.added ≡ []) × (warnings.old.items ≡ []) }
-    ensures read { IsFirstRead D.Disk W.told W.relations shared.now.table shared.now.queue
+    ensures read { FirstBackendReadMap D.Disk W.told W.relations shared.now.table shared.now.queue
         backends.old backends.new relation map.old.pages map.new warnings.new.items result }
     ensures pages { map.new.pages ≡ map.old.pages }
 {
@@ -58,7 +57,7 @@ fn read_map<W: World, D: Disk, R: Wait>(
     requires room { AllBackendsHaveRoom 65 backends.items }
     requires relation { relation < W.relations }
     requires none { (map.old.added ≡ []) × (warnings.old.items ≡ []) }
-    ensures read { IsFirstRead D.Disk W.told W.relations shared.now.table shared.now.queue
+    ensures read { FirstBackendReadMap D.Disk W.told W.relations shared.now.table shared.now.queue
         backends.items result.0.items relation map.old.pages map.new warnings.new.items result.1 }
     ensures pages { map.new.pages ≡ map.old.pages }
 {
@@ -78,9 +77,9 @@ impl<W: World, D: Disk> Scan<W, D> {
         map: &mut VisMap,
         warnings: &mut Vec<u8>,
     ) -> Ending
-        requires may { MayMap D.Disk W.told W.relations relation self.old map.old
+        requires may { ScanMayReadMap D.Disk W.told W.relations relation self.old map.old
             warnings.old.items }
-        ensures mapped { HasMapped D.Disk W.told W.relations relation self.old self.new map.old
+        ensures map_read { ScanReadMap D.Disk W.told W.relations relation self.old self.new map.old
             map.new warnings.new.items result }
     {
         let Scan {
@@ -107,8 +106,8 @@ impl<W: World + Send + Sync, D: Disk> Scan<W, D> {
     /// Where no thread can be made the parts run one after the other, the backends first, each of
     /// which executes what no worker has claimed.
     pub fn round<R: Threads + Wait + Sync>(&mut self, rt: &R, jobs: &mut [Job])
-        requires may { MayRound D.Disk W.told W.relations self.old jobs.old }
-        ensures rounded { HasRounded D.Disk W.told W.relations None self.old self.new jobs.old
+        requires may { ScanMayMakeRound D.Disk W.told W.relations self.old jobs.old }
+        ensures made_round { ScanMadeRound D.Disk W.told W.relations None self.old self.new jobs.old
             jobs.new }
     {
         self.round_by(rt, None, jobs);
@@ -122,41 +121,10 @@ impl<W: World + Send + Sync, D: Disk> Scan<W, D> {
         map: &VisMap,
         skip: Skip,
     )
-        requires may { MayRound D.Disk W.told W.relations self.old jobs.old }
-        ensures rounded { HasRounded D.Disk W.told W.relations (map_filter map.now skip) self.old
+        requires may { ScanMayMakeRound D.Disk W.told W.relations self.old jobs.old }
+        ensures made_round { ScanMadeRound D.Disk W.told W.relations (map_filter map.now skip) self.old
             self.new jobs.old jobs.new }
     {
-        self.round_by(rt, Some(Skipping { map, skip }), jobs);
-    }
-
-    /// All rounds of a job source, until it is over. They are made in turns: the first is one
-    /// round, and a later one as many as four, of which each backend does neighbouring jobs in one
-    /// thread, one of them in the caller's. The workers live from the first turn to the last. It
-    /// may wait.
-    pub fn run<R: Threads + Wait + Sync, A: JobSource<W>>(&mut self, rt: &R, job_source: A) -> A
-        requires may { MayFollow D.Disk W.told W.relations A.blocks_left A.options A.block_filter
-            None self.old job_source }
-        ensures followed { HasFollowed D.Disk W.told W.relations A.blocks_left A.unskipped_left
-            A.unread A.options A.block_filter A.follows A.is_over self.old self.new job_source
-            result }
-    {
-        self.run_by(rt, None, job_source)
-    }
-
-    /// The same, without the blocks that the map marks: those that are all-visible, or all-frozen.
-    pub fn run_filtered<R: Threads + Wait + Sync, A: JobSource<W>>(
-        &mut self,
-        rt: &R,
-        job_source: A,
-        map: &VisMap,
-        skip: Skip,
-    ) -> A
-        requires may { MayFollow D.Disk W.told W.relations A.blocks_left A.options A.block_filter
-            (map_filter map.now skip) self.old job_source }
-        ensures followed { HasFollowed D.Disk W.told W.relations A.blocks_left A.unskipped_left
-            A.unread A.options A.block_filter A.follows A.is_over self.old self.new job_source
-            result }
-    {
-        self.run_by(rt, Some(Skipping { map, skip }), job_source)
+        self.round_by(rt, Some(MapFilter { map, skip }), jobs);
     }
 }

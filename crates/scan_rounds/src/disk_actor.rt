@@ -1,23 +1,25 @@
 //! An actor with its disk.
 ghost use Rattle.std.specs.Prelude.{◌≡◌, ◌≤◌, IfSome, Some, []};
 ghost use Rattle.method_worker.specs.QueueViews.{IsSeatOf};
-ghost use Rattle.scan_rounds.specs.DiskActors.{DiskActorAdvanced, HasListed, HasRead, IsDiskActor};
-ghost use Rattle.scan_rounds.specs.DiskActors.{MayList, MayRead};
+ghost use Rattle.scan_rounds.specs.DiskActors.{DiskActorAdvanced, ActorListedJob, ActorReadBlocks};
+ghost use Rattle.scan_rounds.specs.DiskActors.{IsDiskActor};
+ghost use Rattle.scan_rounds.specs.DiskActors.{ActorMayList, ActorMayRead};
 ghost use Rattle.scan_rounds.specs.DiskActors.{map_blocks};
 ghost use Rattle.scan_rounds.specs.Rings.{IsRingOf};
-ghost use Rattle.scan_rounds.specs.BlockFilter.{filter_of};
-ghost use Rattle.scan_rounds.specs.ConsumedPages.{HasPages};
+ghost use Rattle.scan_rounds.specs.BlockFilter.{filter_of_skipping};
+ghost use Rattle.scan_rounds.specs.ConsumedPages.{MapHasPages};
+ghost use Rattle.scan_rounds.specs.declared.disk_actor.DiskActor.{DiskActor};
 
 use crate::consumer::Consumer;
 use crate::job::{Ending, Job};
 use crate::lent::{LentRunner, QueueBrand};
 use crate::listing::Listing;
 use crate::loan::end_borrow;
+use crate::map_filter::MapFilter;
 use crate::map_pages::MapPages;
 use crate::reading::read;
 use crate::ring::IdleRingState;
 use crate::shared::SharedState;
-use crate::skipping::Skipping;
 use crate::source::Blocks;
 use aio_batch::Method;
 use aio_callback::ReadIo;
@@ -41,6 +43,15 @@ pub(crate) struct DiskActor<W: World, D: Disk> {
     pub(crate) actor: Actor<ReadIo, W>,
 }
 
+/// What has an actor with its disk.
+pub(crate) trait HasDiskActor<W: World, D: Disk>: Drop {
+    ghost disk_actor: { Self → DiskActor W D };
+
+    /// The actor with its disk, without the rest.
+    fn into_disk_actor(self) -> DiskActor<W, D>
+        ensures { result ≡ disk_actor self };
+}
+
 impl<W: World, D: Disk> DiskActor<W, D> {
     // Reads blocks, and executes each I/O by itself.
     fn read_one_by_one<M: Method<ReadIo, W>, T: Wait, C: Consumer>(
@@ -52,10 +63,12 @@ impl<W: World, D: Disk> DiskActor<W, D> {
         blocks: Blocks<'_>,
         consumer: &mut C,
     ) -> Ending
-        requires may { MayRead D.Disk W.told W.relations shared.now.table self.old desk.old blocks }
+        requires may { ActorMayRead D.Disk W.told W.relations shared.now.table self.old desk.old
+            blocks }
         requires few { blocks.count ≤ C.most consumer.old }
         requires held { C.holds consumer.old [] }
-        ensures read { HasRead D.Disk W.told W.relations shared.now.table (C.holds consumer.new)
+        ensures read { ActorReadBlocks D.Disk W.told W.relations shared.now.table
+            (C.holds consumer.new)
             self.old self.new desk.old desk.new blocks.entry result }
         ensures stands_on { M.stands_on method.new ≡ M.stands_on method.old }
         ensures consumer { C.is_same consumer.old consumer.new }
@@ -93,12 +106,14 @@ impl<W: World, D: Disk> DiskActor<W, D> {
         blocks: Blocks<'_>,
         consumer: &mut C,
     ) -> (IdleRingState<W>, Ending)
-        requires may { MayRead D.Disk W.told W.relations shared.now.table self.old desk.old blocks }
+        requires may { ActorMayRead D.Disk W.told W.relations shared.now.table self.old desk.old
+            blocks }
         requires few { blocks.count ≤ C.most consumer.old }
         requires held { C.holds consumer.old [] }
         requires ring { IsRingOf shared.now.queue ring }
         requires brand { L.queue ≡ Some shared.now.queue }
-        ensures read { HasRead D.Disk W.told W.relations shared.now.table (C.holds consumer.new)
+        ensures read { ActorReadBlocks D.Disk W.told W.relations shared.now.table
+            (C.holds consumer.new)
             self.old self.new desk.old desk.new blocks.entry result.1 }
         ensures ring { IsRingOf shared.now.queue result.0 }
         ensures stands_on { M.stands_on method.new ≡ M.stands_on method.old }
@@ -141,11 +156,13 @@ impl<W: World, D: Disk> DiskActor<W, D> {
         blocks: Blocks<'_>,
         consumer: &mut C,
     ) -> Ending
-        requires may { MayRead D.Disk W.told W.relations shared.now.table self.old desk.old blocks }
+        requires may { ActorMayRead D.Disk W.told W.relations shared.now.table self.old desk.old
+            blocks }
         requires few { blocks.count ≤ C.most consumer.old }
         requires held { C.holds consumer.old [] }
         requires ring { IfSome ring.old (IsRingOf shared.now.queue) }
-        ensures read { HasRead D.Disk W.told W.relations shared.now.table (C.holds consumer.new)
+        ensures read { ActorReadBlocks D.Disk W.told W.relations shared.now.table
+            (C.holds consumer.new)
             self.old self.new desk.old desk.new blocks.entry result }
         ensures ring { IfSome ring.new (IsRingOf shared.now.queue) }
         ensures stands_on { M.stands_on method.new ≡ M.stands_on method.old }
@@ -173,13 +190,14 @@ impl<W: World, D: Disk> DiskActor<W, D> {
         method: &mut M,
         job: &mut Job,
         tuples: bool,
-        skipping: Option<Skipping<'_>>,
+        by_map: Option<MapFilter<'_>>,
     )
-        requires may { MayList D.Disk W.told W.relations shared.now.table self.old desk.old
+        requires may { ActorMayList D.Disk W.told W.relations shared.now.table self.old desk.old
             job.old }
         requires ring { IfSome ring.old (IsRingOf shared.now.queue) }
-        ensures listed { HasListed D.Disk W.told W.relations shared.now.table (filter_of
-            skipping.entry) tuples self.old self.new desk.old desk.new job.old job.new }
+        ensures listed { ActorListedJob D.Disk W.told W.relations shared.now.table
+            (filter_of_skipping
+            by_map.entry) tuples self.old self.new desk.old desk.new job.old job.new }
         ensures ring { IfSome ring.new (IsRingOf shared.now.queue) }
         ensures stands_on { M.stands_on method.new ≡ M.stands_on method.old }
     {
@@ -187,7 +205,7 @@ impl<W: World, D: Disk> DiskActor<W, D> {
             relation: job.relation,
             first: job.first,
             count: job.count,
-            skipping,
+            by_map,
         };
         let mut listing = Listing { job, tuples };
         let ending = self.read(rt, shared, desk, ring, method, blocks, &mut listing);
@@ -207,11 +225,12 @@ impl<W: World, D: Disk> DiskActor<W, D> {
         map: &mut VisMap,
         warnings: &mut Vec<u8>,
     ) -> Ending
-        requires may { MayRead D.Disk W.told W.relations shared.now.table self.old desk.old
+        requires may { ActorMayRead D.Disk W.told W.relations shared.now.table self.old desk.old
             (map_blocks relation pages) }
         requires pages { pages ≡ map.old.pages }
         requires none { (map.old.added ≡ []) × (warnings.old.items ≡ []) }
-        ensures read { HasRead D.Disk W.told W.relations shared.now.table (HasPages map.new
+        ensures read { ActorReadBlocks D.Disk W.told W.relations shared.now.table (MapHasPages
+            map.new
             warnings.new.items) self.old self.new desk.old desk.new (map_blocks relation pages)
             result }
         ensures pages { map.new.pages ≡ map.old.pages }
@@ -220,7 +239,7 @@ impl<W: World, D: Disk> DiskActor<W, D> {
             relation,
             first: 0,
             count: pages,
-            skipping: None,
+            by_map: None,
         };
         let mut taken = MapPages { map, warnings };
         let ending = self.read_one_by_one(rt, shared, desk, &mut SyncMethod, blocks, &mut taken);

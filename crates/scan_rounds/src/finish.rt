@@ -2,24 +2,21 @@
 ghost use Rattle.std.specs.Prelude.{◌≡◌, ◌+◌, ◌<◌, ◌≤◌, ◌++◌, ◌∷◌, [], map, Some};
 ghost use Rattle.std.specs.Prelude.{vec_len, vec_capacity};
 ghost use Rattle.std.specs.List.{All};
-ghost use Rattle.scan_rounds.specs.Rounds.{backend_disk_actor, worker_disk_actor};
 ghost use Rattle.scan_rounds.specs.Rounds.{results_taken_count};
 ghost use Rattle.scan_rounds.specs.Scans.{IsScan, IsFinished, HasDisk};
-ghost use Rattle.scan_rounds.specs.Scans.{actor_of, disk_of, scan_disk_actors, lists_of};
+ghost use Rattle.scan_rounds.specs.Scans.{actor_of, disk_of, scan_disk_actors, known_lists};
 ghost use Rattle.scan_rounds.specs.Scans.{opened_disks};
 
-use crate::backend::Backend;
-use crate::disk_actor::DiskActor;
+use crate::disk_actor::{DiskActor, HasDiskActor};
 use crate::scan::Scan;
 use crate::shared::SharedState;
-use crate::worker::Worker;
 use aio_callback::ReadIo;
 use aio_disk::Disk;
 use aio_handle::{Actor, Totals};
 use page_check::World;
 
 // Puts the actor and its disk behind the others.
-fn put_down<W: World, D: Disk>(
+fn push_parts<W: World, D: Disk>(
     disk_actor: DiskActor<W, D>,
     actors: &mut Vec<Actor<ReadIo, W>>,
     disks: &mut Vec<D>,
@@ -40,47 +37,26 @@ fn put_down<W: World, D: Disk>(
     disks.push_reserved(disk);
 }
 
-// Puts down the backends' actors and disks, in their order.
-fn put_backends<W: World, D: Disk>(
-    backends: Vec<Backend<W, D>>,
+// Puts the actors of all of these and their disks behind the others, in their order.
+fn push_all_parts<W: World, D: Disk, A: HasDiskActor<W, D>>(
+    all: Vec<A>,
     actors: &mut Vec<Actor<ReadIo, W>>,
     disks: &mut Vec<D>,
 )
-    requires disk_actors { All (λ b. HasDisk b.disk_actor) backends.items }
-    requires actors { vec_len actors.old + vec_len backends ≤ vec_capacity actors.old }
-    requires disks { vec_len disks.old + vec_len backends ≤ vec_capacity disks.old }
+    requires disk_actors { All (λ a. HasDisk (A.disk_actor a)) all.items }
+    requires actors { vec_len actors.old + vec_len all ≤ vec_capacity actors.old }
+    requires disks { vec_len disks.old + vec_len all ≤ vec_capacity disks.old }
     ensures actors { actors.new.items
-        ≡ actors.old.items ++ map actor_of (map backend_disk_actor backends.items) }
+        ≡ actors.old.items ++ map actor_of (map A.disk_actor all.items) }
     ensures disks { map Some disks.new.items
-        ≡ map Some disks.old.items ++ map disk_of (map backend_disk_actor backends.items) }
-    ensures lengths { (vec_len actors.new ≡ vec_len actors.old + vec_len backends)
-        × (vec_len disks.new ≡ vec_len disks.old + vec_len backends) }
+        ≡ map Some disks.old.items ++ map disk_of (map A.disk_actor all.items) }
+    ensures lengths { (vec_len actors.new ≡ vec_len actors.old + vec_len all)
+        × (vec_len disks.new ≡ vec_len disks.old + vec_len all) }
     ensures capacities { (vec_capacity actors.new ≡ vec_capacity actors.old)
         × (vec_capacity disks.new ≡ vec_capacity disks.old) }
 {
-    for backend in backends {
-        let Backend { disk_actor, .. } = backend;
-        put_down(disk_actor, actors, disks);
-    }
-}
-
-// Puts down the workers' actors and disks, in their order.
-fn put_workers<W: World, D: Disk>(
-    workers: Vec<Worker<W, D>>,
-    actors: &mut Vec<Actor<ReadIo, W>>,
-    disks: &mut Vec<D>,
-)
-    requires disk_actors { All (λ w. HasDisk w.disk_actor) workers.items }
-    requires actors { vec_len actors.old + vec_len workers ≤ vec_capacity actors.old }
-    requires disks { vec_len disks.old + vec_len workers ≤ vec_capacity disks.old }
-    ensures actors { actors.new.items
-        ≡ actors.old.items ++ map actor_of (map worker_disk_actor workers.items) }
-    ensures disks { map Some disks.new.items
-        ≡ map Some disks.old.items ++ map disk_of (map worker_disk_actor workers.items) }
-{
-    for worker in workers {
-        let Worker { disk_actor, .. } = worker;
-        put_down(disk_actor, actors, disks);
+    for each in all {
+        push_parts(each.into_disk_actor(), actors, disks);
     }
 }
 
@@ -90,7 +66,8 @@ impl<W: World, D: Disk> Scan<W, D> {
     pub fn finish(self) -> (Totals, Vec<D>)
         requires scan { IsScan D.Disk W.told W.relations self }
         ensures finished { IsFinished D.Disk W.told W.relations self.shared.table.config self.unread
-            (results_taken_count self.backends.items) (opened_disks self) result.1.items (lists_of
+            (results_taken_count self.backends.items) (opened_disks self) result.1.items
+            (known_lists
             (scan_disk_actors self)) result.0 }
         ensures disks { map Some result.1.items ≡ map disk_of (scan_disk_actors self) }
     {
@@ -102,8 +79,8 @@ impl<W: World, D: Disk> Scan<W, D> {
             mut disks,
             ..
         } = self;
-        put_backends(backends, &mut actors, &mut disks);
-        put_workers(workers, &mut actors, &mut disks);
+        push_all_parts(backends, &mut actors, &mut disks);
+        push_all_parts(workers, &mut actors, &mut disks);
         let SharedState { table, .. } = shared;
         (table.close(actors), disks)
     }

@@ -2,8 +2,9 @@
 ghost use Rattle.std.specs.Prelude.{◌≡◌, ◌≤◌, ◌<◌, ◌+◌, ℕ, List, Option, length, take, false};
 ghost use Rattle.std.specs.List.{All};
 ghost use Rattle.scan_rounds.specs.ListOptions.{ListOptions};
-ghost use Rattle.scan_rounds.specs.Jobs.{IsFresh, AreAnswered, blocks_among, count_unskipped};
-ghost use Rattle.scan_rounds.specs.Jobs.{unread_among};
+ghost use Rattle.scan_rounds.specs.Jobs.{IsNewJob, AllJobsAnswered, job_block_count};
+ghost use Rattle.scan_rounds.specs.Jobs.{count_unskipped};
+ghost use Rattle.scan_rounds.specs.Jobs.{unread_job_count};
 ghost use Rattle.scan_rounds.specs.BlockFilter.{BlockFilter};
 ghost use Rattle.scan_rounds.specs.declared.job.Job.{Job};
 
@@ -40,8 +41,8 @@ pub trait JobSource<W: World>: Drop {
     fn next_jobs(&mut self, jobs: &mut [Job]) -> usize
         requires some { 1 ≤ length jobs.old }
         ensures few { (result ≤ length jobs.new) × (length jobs.new ≡ length jobs.old) }
-        ensures fresh { All (IsFresh W.relations) (take result jobs.new) }
-        ensures left { blocks_left self.new + blocks_among (take result jobs.new)
+        ensures fresh { All (IsNewJob W.relations) (take result jobs.new) }
+        ensures left { blocks_left self.new + job_block_count (take result jobs.new)
             ≤ blocks_left self.old }
         ensures unskipped { unskipped_left self.new + count_unskipped (block_filter self.old)
             (take result jobs.new) ≤ unskipped_left self.old }
@@ -55,13 +56,13 @@ pub trait JobSource<W: World>: Drop {
     /// to be another round.
     fn finish_jobs(&mut self, jobs: &[Job]) -> bool
         ensures follows { (was : Self) (asked : List Job) → gives_jobs was asked self.old
-            → AreAnswered (block_filter self.old) (options self.old) W.told asked jobs.now
+            → AllJobsAnswered (block_filter self.old) (options self.old) W.told asked jobs.now
             → follows was self.new }
         ensures left { blocks_left self.new ≤ blocks_left self.old }
         ensures unskipped { unskipped_left self.new ≤ unskipped_left self.old }
         ensures block_filter { block_filter self.new ≡ block_filter self.old }
         ensures options { options self.new ≡ options self.old }
-        ensures unread { unread self.new ≤ unread self.old + unread_among jobs.now }
+        ensures unread { unread self.new ≤ unread self.old + unread_job_count jobs.now }
         ensures over { result ≡ false → is_over self.new };
 
     /// No round leads back to the same state.

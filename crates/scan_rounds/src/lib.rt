@@ -10,8 +10,8 @@
 //! workers that live from the first to the last. [`Scan::finish`] closes the table, and gives the
 //! disks back.
 //!
-//! With `MethodKind::Ring` it is a [`RingScan`], with the same calls and no workers: a backend that
-//! would wait executes its own I/O by a ring, together with what it takes from the queue.
+//! With `MethodKind::Ring` it is a [`RingScan`], which has no workers: a backend that would wait
+//! executes its own I/O by a ring, together with what it takes from the queue.
 //!
 //! # What the contracts mean
 //!
@@ -36,12 +36,12 @@ mod job_source;
 mod lent;
 mod listing;
 mod loan;
+mod map_filter;
 mod map_pages;
 mod memory;
 mod open;
 mod reading;
 mod ring;
-mod ring_scan;
 mod rounds;
 mod run;
 mod run_state;
@@ -49,13 +49,12 @@ mod scan;
 mod settings;
 mod shared;
 mod sharing;
-mod skipping;
 mod source;
 mod turn;
 mod worker;
 
 pub use job::{Ending, Job};
 pub use job_source::JobSource;
-pub use ring_scan::RingScan;
-pub use scan::Scan;
+pub use map_filter::MapFilter;
+pub use scan::{RingScan, Scan};
 pub use settings::{MethodKind, ScanSettings};

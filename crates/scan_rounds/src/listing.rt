@@ -139,11 +139,11 @@ pub(crate) struct Listing<'j> {
 
 impl Consumer for Listing<'_> {
     ghost use Rattle.heap_tuple.specs.Listing.{text_with};
-    ghost use Rattle.scan_rounds.specs.ConsumedPages.{HasText};
+    ghost use Rattle.scan_rounds.specs.ConsumedPages.{JobHasOutput};
     ghost use Rattle.scan_rounds.specs.Loans.{IsSameListing};
     ghost use Rattle.std.proofs.Common.{refl, ◌∙◌};
 
-    ghost holds = { λ l pages. HasText (text_with l.tuples) l.job.now pages };
+    ghost holds = { λ l pages. JobHasOutput (text_with l.tuples) l.job.now pages };
 
     ghost most = { λ l. 64 };
 

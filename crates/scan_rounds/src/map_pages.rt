@@ -14,11 +14,11 @@ pub(crate) struct MapPages<'m> {
 }
 
 impl Consumer for MapPages<'_> {
-    ghost use Rattle.scan_rounds.specs.ConsumedPages.{HasPages};
+    ghost use Rattle.scan_rounds.specs.ConsumedPages.{MapHasPages};
     ghost use Rattle.scan_rounds.specs.Loans.{IsSameMap};
     ghost use Rattle.std.proofs.Common.{refl, ◌∙◌};
 
-    ghost holds = { λ m pages. HasPages m.map.now m.warnings.now.items pages };
+    ghost holds = { λ m pages. MapHasPages m.map.now m.warnings.now.items pages };
 
     ghost most = { λ m. (m.map.now).pages };
 

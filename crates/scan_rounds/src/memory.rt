@@ -3,15 +3,16 @@ ghost use Rattle.std.specs.Prelude.{◌≡◌, ◌≤◌, ◌<◌, ◌+◌, ◌*
 ghost use Rattle.std.specs.List.{All};
 ghost use Rattle.aio_handle.specs.ContractViews.{AreNewActors};
 ghost use Rattle.method_worker.specs.QueueViews.{QueueView, IsSeatOf};
-ghost use Rattle.scan_rounds.specs.OpenedScan.{AreSettings, AreStreamsOf, HasLists, IsDeskFor};
-ghost use Rattle.scan_rounds.specs.OpenedScan.{IsMemory, config_of, rings_of_settings};
+ghost use Rattle.scan_rounds.specs.OpenedScan.{AreValidScanSettings, AreStreamSettings};
+ghost use Rattle.scan_rounds.specs.OpenedScan.{HasEmptyLists, IsDeskFor};
+ghost use Rattle.scan_rounds.specs.OpenedScan.{IsScanMemory, config_of, rings_of_settings};
 ghost use Rattle.scan_rounds.specs.OpenedScan.{seats_of_settings, workers_of_settings};
 ghost use Rattle.scan_rounds.specs.Rings.{IsRingOf};
 
 use crate::backend::Backend;
 use crate::job::Job;
 use crate::ring::IdleRingState;
-use crate::settings::{MethodKind, ScanSettings};
+use crate::settings::ScanSettings;
 use crate::shared::SharedState;
 use crate::worker::Worker;
 use aio_callback::ReadIo;
@@ -54,8 +55,8 @@ pub(crate) struct Memory<W: World, D: Disk> {
 
 // How the streams of a scan read. The frames of the pool are shared out to the backends.
 fn stream_settings(settings: &ScanSettings) -> Settings
-    requires { AreSettings settings.now }
-    ensures { AreStreamsOf settings.now result }
+    requires { AreValidScanSettings settings.now }
+    ensures { AreStreamSettings settings.now result }
 {
     let ios = settings.concurrency.min(settings.handles);
     let share = settings.buffers / settings.backends;
@@ -67,40 +68,6 @@ fn stream_settings(settings: &ScanSettings) -> Settings
         batch: settings.batch,
         segment: settings.segment,
         zero: settings.zero,
-    }
-}
-
-// How many workers there are.
-pub(crate) fn worker_count(settings: &ScanSettings) -> u32
-    ensures { result ≡ workers_of_settings settings.now }
-{
-    match settings.method {
-        MethodKind::Sync => 0,
-        MethodKind::Worker => settings.workers,
-        MethodKind::Ring => 0,
-    }
-}
-
-// How many seats of the queue backends and workers have.
-fn seat_count(settings: &ScanSettings) -> u32
-    requires { AreSettings settings.now }
-    ensures { result ≡ seats_of_settings settings.now }
-{
-    match settings.method {
-        MethodKind::Sync => 0,
-        MethodKind::Worker => settings.backends + settings.workers,
-        MethodKind::Ring => settings.backends,
-    }
-}
-
-// How many rings there are. Each has a seat of its own.
-fn ring_count(settings: &ScanSettings) -> u32
-    ensures { result ≡ rings_of_settings settings.now }
-{
-    match settings.method {
-        MethodKind::Sync => 0,
-        MethodKind::Worker => 0,
-        MethodKind::Ring => settings.backends,
     }
 }
 
@@ -123,7 +90,7 @@ fn open_desks<W: World>(
     alloc: Global,
     settings: &ScanSettings,
 ) -> Result<Vec<Desk<W, ()>>, AllocError>
-    requires { AreSettings settings.now }
+    requires { AreValidScanSettings settings.now }
     ensures count { IfOk result (λ d. length d.items ≡ settings.now.backends) }
     ensures desks { IfOk result (λ d. All (IsDeskFor settings.now) d.items) }
 {
@@ -162,7 +129,7 @@ fn open_rings<W: World>(
 // How many jobs there are for the turns of a run. A backend alone makes no thread for a turn, so
 // longer turns would save it nothing.
 fn job_count(settings: &ScanSettings) -> u32
-    requires { AreSettings settings.now }
+    requires { AreValidScanSettings settings.now }
     ensures { settings.now.backends ≤ result }
 {
     if settings.backends == 1 {
@@ -189,7 +156,7 @@ fn open_shared<W: World>(
     settings: &ScanSettings,
     start: u64,
 ) -> Result<(SharedState<W>, Vec<Actor<ReadIo, W>>, Vec<QueueSeat>), AllocError>
-    requires settings { AreSettings settings.now }
+    requires settings { AreValidScanSettings settings.now }
     requires handles { settings.now.backends * settings.now.handles ≡ W.handles }
     requires start { start < 2 ^ 58 }
     ensures config { IfOk result (λ c. c.0.table.config ≡ config_of settings.now start) }
@@ -198,8 +165,8 @@ fn open_shared<W: World>(
     ensures seats { IfOk result (λ c. All (IsSeatOf c.0.queue) c.2.items
         × (length c.2.items ≡ seats_of_settings settings.now + rings_of_settings settings.now)) }
 {
-    let workers = worker_count(settings);
-    let seats = seat_count(settings) + ring_count(settings);
+    let workers = settings.worker_count();
+    let seats = settings.seat_count() + settings.ring_count();
     let (table, actors) = Table::open(alloc, settings.backends, settings.handles, workers, start)?;
     let (queue, seats) = open_queue(alloc, seats)?;
     let pool = Pool::open(alloc, settings.buffers)?;
@@ -209,7 +176,7 @@ fn open_shared<W: World>(
 impl<W: World, D: Disk> Lists<W, D> {
     fn open(alloc: Global, backends: u32, workers: u32) -> Result<Lists<W, D>, AllocError>
         requires { backends + workers < 2 ^ 32 }
-        ensures { IfOk result (HasLists backends workers) }
+        ensures { IfOk result (HasEmptyLists backends workers) }
     {
         let all = (backends + workers) as usize;
         Ok(Lists {
@@ -228,13 +195,13 @@ impl<W: World, D: Disk> Memory<W, D> {
         settings: &ScanSettings,
         start: u64,
     ) -> Result<Memory<W, D>, AllocError>
-        requires settings { AreSettings settings.now }
+        requires settings { AreValidScanSettings settings.now }
         requires handles { settings.now.backends * settings.now.handles ≡ W.handles }
         requires start { start < 2 ^ 58 }
-        ensures { IfOk result (IsMemory settings.now start) }
+        ensures { IfOk result (IsScanMemory settings.now start) }
     {
         let (shared, actors, mut seats) = open_shared(alloc, settings, start)?;
-        let rings = open_rings(alloc, ring_count(settings), &mut seats)?;
+        let rings = open_rings(alloc, settings.ring_count(), &mut seats)?;
         Ok(Memory {
             shared,
             actors,
@@ -242,7 +209,7 @@ impl<W: World, D: Disk> Memory<W, D> {
             rings,
             desks: open_desks(alloc, settings)?,
             jobs: open_jobs(alloc, job_count(settings))?,
-            lists: Lists::open(alloc, settings.backends, worker_count(settings))?,
+            lists: Lists::open(alloc, settings.backends, settings.worker_count())?,
         })
     }
 }

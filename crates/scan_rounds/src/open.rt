@@ -1,21 +1,19 @@
 //! Opens a scan.
-ghost use Rattle.std.specs.Prelude.{◌≡◌, ◌≢◌, ◌≤◌, ◌<◌, ◌+◌, ◌*◌, ◌-◌, ◌^◌, ◌∷◌, [], length};
+ghost use Rattle.std.specs.Prelude.{◌≡◌, ◌≤◌, ◌<◌, ◌+◌, ◌*◌, ◌-◌, ◌^◌, ◌∷◌, [], length};
 ghost use Rattle.std.specs.Prelude.{IfErr, IfOk, vec_capacity};
 ghost use Rattle.std.specs.List.{All};
 ghost use Rattle.std.specs.Vec.Iter.{into_iter_items};
-ghost use Rattle.scan_rounds.specs.ListOptions.{list_options};
-ghost use Rattle.scan_rounds.specs.OpenedScan.{AreSettings, GivesBackends, GivesDiskActors};
+ghost use Rattle.scan_rounds.specs.OpenedScan.{AreValidScanSettings, GivesBackends};
+ghost use Rattle.scan_rounds.specs.OpenedScan.{GivesDiskActors};
 ghost use Rattle.scan_rounds.specs.OpenedScan.{GivesWorkers};
-ghost use Rattle.scan_rounds.specs.OpenedScan.{IsMemory, IsOpened, IsSetUp, workers_of_settings};
-ghost use Rattle.scan_rounds.specs.Rounds.{results_taken_count};
-ghost use Rattle.scan_rounds.specs.Scans.{IsScan, scan_options, opened_disks};
+ghost use Rattle.scan_rounds.specs.OpenedScan.{IsScanMemory, IsOpenedScan, required_disks};
 
 use crate::backend::Backend;
 use crate::disk_actor::DiskActor;
-use crate::memory::{Memory, worker_count};
+use crate::memory::Memory;
 use crate::ring::IdleRingState;
 use crate::scan::Scan;
-use crate::settings::{MethodKind, ScanSettings};
+use crate::settings::ScanSettings;
 use crate::worker::Worker;
 use aio_callback::ReadIo;
 use aio_disk::Disk;
@@ -136,12 +134,12 @@ fn assemble_scan<W: World, D: Disk>(
     disks: Vec<D>,
     start: u64,
 ) -> Scan<W, D>
-    requires settings { AreSettings settings.now }
+    requires settings { AreValidScanSettings settings.now }
     requires start { start < 2 ^ 58 }
-    requires memory { IsMemory settings.now start memory }
-    requires disks { length disks.items ≡ settings.now.backends + workers_of_settings settings.now }
+    requires memory { IsScanMemory settings.now start memory }
+    requires disks { length disks.items ≡ required_disks settings.now }
     requires tell { All (λ d. (D.told d ≡ W.told) × (D.relations d ≡ W.relations)) disks.items }
-    ensures { IsOpened D.Disk W.told W.relations settings.now start disks.items result }
+    ensures { IsOpenedScan D.Disk W.told W.relations settings.now start disks.items result }
 {
     let opened = Snapshot::of(&disks);
     let lists = memory.lists;
@@ -153,7 +151,7 @@ fn assemble_scan<W: World, D: Disk>(
         desks: memory.desks.into_iter(),
     };
     let backends = parts.backends(settings.backends, settings.tuples, lists.backends);
-    let workers = parts.workers(worker_count(settings), lists.workers);
+    let workers = parts.workers(settings.worker_count(), lists.workers);
     Scan {
         alloc,
         shared: memory.shared,
@@ -170,53 +168,19 @@ fn assemble_scan<W: World, D: Disk>(
     }
 }
 
-/// A scan by any method, with the generations of the table's handles from `start` on.
-pub(crate) fn open_scan<W: World, D: Disk>(
-    alloc: Global,
-    settings: &ScanSettings,
-    disks: Vec<D>,
-    start: u64,
-) -> Result<Scan<W, D>, Vec<D>>
-    requires settings { AreSettings settings.now }
-    requires disks { length disks.items ≡ settings.now.backends + workers_of_settings settings.now }
-    requires tell { All (λ d. (D.told d ≡ W.told) × (D.relations d ≡ W.relations)) disks.items }
-    requires handles { settings.now.backends * settings.now.handles ≡ W.handles }
-    requires start { start < 2 ^ 58 }
-    ensures opened { IfOk result (IsOpened D.Disk W.told W.relations settings.now start
-        disks.items) }
-    ensures back { IfErr result (λ d. d ≡ disks) }
-{
-    match Memory::open(alloc, settings, start) {
-        Ok(memory) => Ok(assemble_scan(alloc, settings, memory, disks, start)),
-        Err(_) => Err(disks),
-    }
-}
-
 impl<W: World, D: Disk> Scan<W, D> {
-    /// A scan with these settings, which are not `MethodKind::Ring`, over a disk for each backend
-    /// and then for each worker. It takes all memory that the scan ever takes, but for the texts of
-    /// jobs; where there is none, the disks come back as they are.
+    /// A scan with these settings, over a disk for each backend and then for each worker. It takes
+    /// all memory that the scan ever takes, but for the texts of jobs; where there is none, the
+    /// disks come back as they are.
     pub fn open(alloc: Global, settings: &ScanSettings, disks: Vec<D>) -> Result<Scan<W, D>, Vec<D>>
-        requires settings { AreSettings settings.now }
-        requires method { settings.now.method ≢ MethodKind.Ring }
-        requires disks { length disks.items ≡ settings.now.backends
-            + workers_of_settings settings.now }
+        requires settings { AreValidScanSettings settings.now }
+        requires disks { length disks.items ≡ required_disks settings.now }
         requires tell { All (λ d. (D.told d ≡ W.told) × (D.relations d ≡ W.relations)) disks.items }
         requires segments { All (λ d. D.segment d ≡ settings.now.segment) disks.items }
         requires handles { settings.now.backends * settings.now.handles ≡ W.handles }
-        ensures scan { IfOk result (λ s. IsScan D.Disk W.told W.relations s) }
-        ensures numbers { IfOk result
-            (λ s. (s.shared.table.config.backends ≡ settings.now.backends)
-            × (s.shared.table.config.runners ≡ workers_of_settings settings.now)
-            × (s.shared.table.config.start ≡ 0)) }
-        ensures set_up { IfOk result (λ s. All (IsSetUp settings.now) s.backends.items) }
-        ensures opened { IfOk result (λ s. opened_disks s ≡ disks.items) }
-        ensures taken { IfOk result (λ s. results_taken_count s.backends.items ≡ 0) }
-        ensures room { IfOk result (λ s. s.room ≡ 2 ^ 58 - 1) }
-        ensures unread { IfOk result (λ s. s.unread ≡ 0) }
-        ensures options { IfOk result
-            (λ s. scan_options s ≡ list_options settings.now.zero settings.now.tuples) }
-        ensures back { IfErr result (λ d. d ≡ disks) }
+        ensures opened { IfOk result (IsOpenedScan D.Disk W.told W.relations settings.now 0
+            disks.items) }
+        ensures disks_returned { IfErr result (λ d. d ≡ disks) }
     {
         Scan::open_at(alloc, settings, disks, 0)
     }
@@ -229,28 +193,19 @@ impl<W: World, D: Disk> Scan<W, D> {
         disks: Vec<D>,
         start: u64,
     ) -> Result<Scan<W, D>, Vec<D>>
-        requires settings { AreSettings settings.now }
-        requires method { settings.now.method ≢ MethodKind.Ring }
-        requires disks { length disks.items ≡ settings.now.backends
-            + workers_of_settings settings.now }
+        requires settings { AreValidScanSettings settings.now }
+        requires disks { length disks.items ≡ required_disks settings.now }
         requires tell { All (λ d. (D.told d ≡ W.told) × (D.relations d ≡ W.relations)) disks.items }
         requires segments { All (λ d. D.segment d ≡ settings.now.segment) disks.items }
         requires handles { settings.now.backends * settings.now.handles ≡ W.handles }
         requires start { start < 2 ^ 58 }
-        ensures scan { IfOk result (λ s. IsScan D.Disk W.told W.relations s) }
-        ensures numbers { IfOk result
-            (λ s. (s.shared.table.config.backends ≡ settings.now.backends)
-            × (s.shared.table.config.runners ≡ workers_of_settings settings.now)
-            × (s.shared.table.config.start ≡ start)) }
-        ensures set_up { IfOk result (λ s. All (IsSetUp settings.now) s.backends.items) }
-        ensures opened { IfOk result (λ s. opened_disks s ≡ disks.items) }
-        ensures taken { IfOk result (λ s. results_taken_count s.backends.items ≡ 0) }
-        ensures room { IfOk result (λ s. s.room ≡ 2 ^ 58 - 1 - start) }
-        ensures unread { IfOk result (λ s. s.unread ≡ 0) }
-        ensures options { IfOk result
-            (λ s. scan_options s ≡ list_options settings.now.zero settings.now.tuples) }
-        ensures back { IfErr result (λ d. d ≡ disks) }
+        ensures opened { IfOk result (IsOpenedScan D.Disk W.told W.relations settings.now start
+            disks.items) }
+        ensures disks_returned { IfErr result (λ d. d ≡ disks) }
     {
-        open_scan(alloc, settings, disks, start)
+        match Memory::open(alloc, settings, start) {
+            Ok(memory) => Ok(assemble_scan(alloc, settings, memory, disks, start)),
+            Err(_) => Err(disks),
+        }
     }
 }

@@ -1,15 +1,15 @@
 //! Reads blocks through a read stream.
 ghost use Rattle.std.specs.Prelude.{◌≡◌, ◌<◌, ◌≤◌, ◌+◌, ◌^◌, ℕ, [], length};
 ghost use Rattle.aio_word.specs.Events.{lives_ended};
-ghost use Rattle.aio_handle.specs.Closing.{HasNoOwnerTokens};
-ghost use Rattle.aio_handle.specs.Free.{IsRoom};
+ghost use Rattle.aio_handle.specs.EndStates.{HasNoOwnerTokens};
+ghost use Rattle.aio_handle.specs.FreeHandles.{IsRoom};
 ghost use Rattle.aio_handle.specs.ContractViews.{IsActorOf, IsSameActor};
 ghost use Rattle.read_stream.specs.StreamAnswers.{MayBeUnread, stream_entries};
 ghost use Rattle.read_stream.specs.Desks.{IsFreeDesk};
 ghost use Rattle.read_stream.specs.StreamState.{IsOpen};
 ghost use Rattle.read_stream.specs.ActorProgress.{ActorAdvanced, local_mark_count};
 ghost use Rattle.scan_rounds.specs.DiskActors.{entries_of_blocks};
-ghost use Rattle.scan_rounds.specs.Jobs.{said_end};
+ghost use Rattle.scan_rounds.specs.Jobs.{answered_ending};
 ghost use Rattle.scan_rounds.specs.ConsumedPages.{PagesConsumed};
 
 use crate::consumer::Consumer;
@@ -58,7 +58,7 @@ fn take_all<
         (E.reads runner.new) (E.faults runner.old) (E.faults runner.new) }
     ensures given { PagesConsumed (C.holds consumer.new) stream.old.scope.zero W.told
         (MayBeUnread stream.old.scope.was.value actor.new.known)
-        (stream_entries relation (S.left stream.old.source_was.value)) (said_end result) }
+        (stream_entries relation (S.left stream.old.source_was.value)) (answered_ending result) }
     ensures consumer { C.is_same consumer.old consumer.new }
     ensures desk { stream.new.desk.ghost_name ≡ stream.old.desk.ghost_name }
     ensures zero { stream.new.scope.zero ≡ stream.old.scope.zero }
@@ -104,17 +104,18 @@ pub(crate) fn read<W: World, M: Method<ReadIo, W>, E: Execute<ReadIo, W>, T: Wai
     ensures actor_advanced { ActorAdvanced actor.old.known actor.new.known (E.reads runner.old)
         (E.reads runner.new) (E.faults runner.old) (E.faults runner.new) }
     ensures rest { HasNoOwnerTokens actor.new.known }
-    ensures lived { (h : ℕ) → lives_ended h actor.new.known.marks
+    ensures lives_bound { (h : ℕ) → lives_ended h actor.new.known.marks
         ≤ lives_ended h actor.old.known.marks + blocks.entry.count }
-    ensures taken { local_mark_count actor.new.known.marks
+    ensures results_bound { local_mark_count actor.new.known.marks
         ≤ local_mark_count actor.old.known.marks + length (entries_of_blocks blocks.entry) }
     ensures desk { IsFreeDesk desk.new × (desk.new.zero ≡ desk.old.zero) }
     ensures given { PagesConsumed (C.holds consumer.new) desk.old.zero W.told
-        (MayBeUnread actor.old actor.new.known) (entries_of_blocks blocks.entry) (said_end result) }
+        (MayBeUnread actor.old actor.new.known) (entries_of_blocks blocks.entry) (answered_ending
+        result) }
     ensures consumer { C.is_same consumer.old consumer.new }
 {
     let relation = blocks.relation;
-    let source = UnskippedBlocks::of(blocks);
+    let source = UnskippedBlocks::new(blocks);
     let mut stream = ReadStream::open(desk, pool, actor, relation, source);
     let ending = take_all(
         rt,

@@ -1,7 +1,7 @@
 //! What a round counts: the lives that are left, and the jobs that ended in Unread.
 ghost use Rattle.std.specs.Prelude.{◌≡◌, ◌≤◌, length};
-ghost use Rattle.aio_disk.specs.Counts.{raised_by};
-ghost use Rattle.scan_rounds.specs.Jobs.{unread_among, unread_in};
+ghost use Rattle.aio_disk.specs.Counts.{count_plus};
+ghost use Rattle.scan_rounds.specs.Jobs.{unread_job_count, unread_ending_count};
 ghost use Rattle.scan_rounds.specs.Rounds.{IsLeastRoom};
 
 use crate::backend::Backend;
@@ -20,7 +20,7 @@ pub(crate) struct Counts {
 
 /// The count with one more where this is Unread.
 pub(crate) fn count_one(count: u64, ending: Ending) -> u64
-    ensures { result ≡ raised_by (unread_in ending) count }
+    ensures { result ≡ count_plus (unread_ending_count ending) count }
 {
     match ending {
         Ending::Unread(_) => count.saturating_add(1),
@@ -30,7 +30,7 @@ pub(crate) fn count_one(count: u64, ending: Ending) -> u64
 
 // The count with one more for each job that ended in Unread.
 pub(crate) fn count_unread(mut count: u64, jobs: &[Job]) -> u64
-    ensures { result ≡ raised_by (unread_among jobs.now) count }
+    ensures { result ≡ count_plus (unread_job_count jobs.now) count }
 {
     for job in jobs {
         count = count_one(count, job.ending);

@@ -1,20 +1,21 @@
 //! One round of a scan, and all rounds of a run, in their parts.
-ghost use Rattle.std.specs.Prelude.{◌≡◌, ◌≤◌, ◌<◌, ◌+◌, ◌*◌, length, take, Option, IfSome};
+ghost use Rattle.std.specs.Prelude.{◌≡◌, ◌≤◌, ◌<◌, ◌+◌, ◌*◌, length, take, IfSome};
 ghost use Rattle.std.specs.List.{All};
 ghost use Rattle.method_worker.specs.QueueViews.{IsSeatOf};
-ghost use Rattle.scan_rounds.specs.Calls.{HasFollowed, HasRounded, MayFollow, MayRound};
+ghost use Rattle.scan_rounds.specs.Calls.{ScanRanSource, ScanMadeRound, ScanMayRunSource};
+ghost use Rattle.scan_rounds.specs.Calls.{ScanMayMakeRound};
 ghost use Rattle.scan_rounds.specs.Scans.{IsOpenedAgain};
-ghost use Rattle.scan_rounds.specs.BlockFilter.{filter_of};
+ghost use Rattle.scan_rounds.specs.BlockFilter.{filter_of_skipping};
 
 use crate::backend::Backend;
 use crate::beside::{round_beside, run_beside};
 use crate::job::Job;
 use crate::job_source::JobSource;
+use crate::map_filter::MapFilter;
 use crate::rounds::Counts;
 use crate::run_state::{RoundState, RunState};
 use crate::scan::Scan;
 use crate::shared::SharedState;
-use crate::skipping::Skipping;
 use aio_disk::Disk;
 use page_check::World;
 use std::mem;
@@ -57,11 +58,12 @@ impl<W: World + Send + Sync, D: Disk> Scan<W, D> {
     pub(crate) fn round_by<R: Threads + Wait + Sync>(
         &mut self,
         rt: &R,
-        skipping: Option<Skipping<'_>>,
+        by_map: Option<MapFilter<'_>>,
         jobs: &mut [Job],
     )
-        requires may { MayRound D.Disk W.told W.relations self.old jobs.old }
-        ensures rounded { HasRounded D.Disk W.told W.relations (filter_of skipping.entry) self.old
+        requires may { ScanMayMakeRound D.Disk W.told W.relations self.old jobs.old }
+        ensures made_round { ScanMadeRound D.Disk W.told W.relations (filter_of_skipping by_map.entry)
+            self.old
             self.new jobs.old jobs.new }
     {
         let Scan {
@@ -85,13 +87,7 @@ impl<W: World + Send + Sync, D: Disk> Scan<W, D> {
             },
         };
         let own_workers = mem::replace(workers, Vec::new(*alloc));
-        let (own_workers, round_state) = round_beside(
-            rt,
-            shared,
-            skipping,
-            own_workers,
-            round_state,
-        );
+        let (own_workers, round_state) = round_beside(rt, shared, by_map, own_workers, round_state);
         *workers = own_workers;
         *backends = round_state.backends;
         *own_jobs = exchange(round_state.jobs, jobs);
@@ -99,18 +95,21 @@ impl<W: World + Send + Sync, D: Disk> Scan<W, D> {
         *unread = round_state.counts.unread;
     }
 
-    /// All rounds of a job source, without the blocks that are left out.
-    pub(crate) fn run_by<R: Threads + Wait + Sync, A: JobSource<W>>(
+    /// All rounds of a job source, until it is over, without the blocks that the map marks, where
+    /// there is one. They are made in turns: the first is one round, and a later one as many as
+    /// four, of which each backend does neighbouring jobs in one thread, one of them in the
+    /// caller's. The workers live from the first turn to the last. It may wait.
+    pub fn run<R: Threads + Wait + Sync, A: JobSource<W>>(
         &mut self,
         rt: &R,
-        skipping: Option<Skipping<'_>>,
+        by_map: Option<MapFilter<'_>>,
         job_source: A,
     ) -> A
-        requires may { MayFollow D.Disk W.told W.relations A.blocks_left A.options A.block_filter
-            (filter_of skipping) self.old job_source }
-        ensures followed { HasFollowed D.Disk W.told W.relations A.blocks_left A.unskipped_left
-            A.unread A.options A.block_filter A.follows A.is_over self.old self.new job_source
-            result }
+        requires may { ScanMayRunSource D.Disk W.told W.relations A.JobSource (filter_of_skipping
+            by_map) self.old
+            job_source }
+        ensures ran_source { ScanRanSource D.Disk W.told W.relations A.JobSource self.old self.new
+            job_source result }
     {
         let Scan {
             alloc,
@@ -133,7 +132,7 @@ impl<W: World + Send + Sync, D: Disk> Scan<W, D> {
             },
         };
         let own_workers = mem::replace(workers, Vec::new(*alloc));
-        let (own_workers, run_state) = run_beside(rt, shared, skipping, own_workers, run_state);
+        let (own_workers, run_state) = run_beside(rt, shared, by_map, own_workers, run_state);
         *workers = own_workers;
         *backends = run_state.backends;
         *jobs = run_state.jobs;

@@ -1,18 +1,19 @@
 //! The rounds of a job source, one after the other.
 ghost use Rattle.std.specs.Prelude.{◌≡◌, ◌<◌, ◌+◌, ◌*◌, ◌-◌, map, false, true};
-ghost use Rattle.scan_rounds.specs.JobSources.{JobSourceAdvanced, MayRunRounds};
+ghost use Rattle.scan_rounds.specs.JobSources.{JobSourceAdvanced, BackendsMayRunSource};
 ghost use Rattle.scan_rounds.specs.ListOptions.{ListOptions};
-ghost use Rattle.scan_rounds.specs.Progress.{AreWaiting, IsClosedByFirst, MayMakeRound, RoundMade};
+ghost use Rattle.scan_rounds.specs.Progress.{BackendsAreReady, IsClosedByFirst};
+ghost use Rattle.scan_rounds.specs.Progress.{BackendsMayMakeRound, RoundMade};
 ghost use Rattle.scan_rounds.specs.Rounds.{AllHaveOptions, backend_disk_actor};
-ghost use Rattle.scan_rounds.specs.BlockFilter.{filter_of};
-ghost use Rattle.scan_rounds.specs.RoundStates.{HasRunRound, MayRunRound};
+ghost use Rattle.scan_rounds.specs.BlockFilter.{filter_of_skipping};
+ghost use Rattle.scan_rounds.specs.RoundStates.{StateMadeRound, StateMayMakeRound};
 
 use crate::backend::Backend;
 use crate::job::Job;
 use crate::job_source::JobSource;
+use crate::map_filter::MapFilter;
 use crate::rounds::Counts;
 use crate::shared::SharedState;
-use crate::skipping::Skipping;
 use crate::turn::take_turn;
 use aio_disk::Disk;
 use page_check::World;
@@ -23,20 +24,19 @@ use std::thread::Threads;
 fn next_turn<W: World + Send + Sync, D: Disk, R: Threads + Wait + Sync, A: JobSource<W>>(
     rt: &R,
     shared: &SharedState<W>,
-    skipping: Option<Skipping<'_>>,
+    by_map: Option<MapFilter<'_>>,
     backends: &mut [Backend<W, D>],
     jobs: &mut [Job],
     job_source: &mut A,
     counts: &mut Counts,
 ) -> bool
-    requires may { MayRunRounds D.Disk W.told W.relations shared.now.table shared.now.queue
-        A.blocks_left A.options A.block_filter (filter_of skipping) backends.old jobs.old
-        job_source.old counts.old }
+    requires may { BackendsMayRunSource D.Disk W.told W.relations shared.now.table shared.now.queue
+        A.JobSource (filter_of_skipping by_map) backends.old jobs.old job_source.old counts.old }
     ensures advanced { JobSourceAdvanced D.Disk W.told W.relations shared.now.table shared.now.queue
-        A.blocks_left A.unskipped_left A.unread A.options A.block_filter A.follows backends.old
-        backends.new jobs.old jobs.new job_source.old job_source.new counts.old counts.new }
+        A.JobSource backends.old backends.new jobs.old jobs.new job_source.old job_source.new
+        counts.old counts.new }
     ensures over { result ≡ false → A.is_over job_source.new }
-    ensures nearer { result ≡ true → A.blocks_left job_source.new < A.blocks_left job_source.old }
+    ensures fewer_left { result ≡ true → A.blocks_left job_source.new < A.blocks_left job_source.old }
 {
     let count = job_source.next_jobs(jobs);
     if count == 0 {
@@ -44,7 +44,7 @@ fn next_turn<W: World + Send + Sync, D: Disk, R: Threads + Wait + Sync, A: JobSo
     }
     let (front, _) = jobs.split_at_mut(count);
     let share = front.len().div_ceil(backends.len());
-    *counts = take_turn(rt, shared, skipping, share, backends, front, *counts);
+    *counts = take_turn(rt, shared, by_map, share, backends, front, *counts);
     job_source.finish_jobs(front)
 }
 
@@ -55,9 +55,9 @@ fn close_queue<W: World, D: Disk, R: Wait>(
     backends: &mut [Backend<W, D>],
     counts: Counts,
 )
-    requires waiting { AreWaiting D.Disk W.told W.relations shared.now.table shared.now.queue
+    requires ready { BackendsAreReady D.Disk W.told W.relations shared.now.table shared.now.queue
         backends.old counts }
-    ensures waiting { AreWaiting D.Disk W.told W.relations shared.now.table shared.now.queue
+    ensures ready { BackendsAreReady D.Disk W.told W.relations shared.now.table shared.now.queue
         backends.new counts }
     ensures disk_actors { map backend_disk_actor backends.new
         ≡ map backend_disk_actor backends.old }
@@ -72,17 +72,18 @@ fn close_queue<W: World, D: Disk, R: Wait>(
 fn make_round<W: World + Send + Sync, D: Disk, R: Threads + Wait + Sync>(
     rt: &R,
     shared: &SharedState<W>,
-    skipping: Option<Skipping<'_>>,
+    by_map: Option<MapFilter<'_>>,
     backends: &mut [Backend<W, D>],
     jobs: &mut [Job],
     counts: &mut Counts,
 )
-    requires may { MayMakeRound D.Disk W.told W.relations shared.now.table shared.now.queue
+    requires may { BackendsMayMakeRound D.Disk W.told W.relations shared.now.table shared.now.queue
         backends.old jobs.old counts.old }
-    ensures made { RoundMade D.Disk W.told W.relations shared.now.table shared.now.queue (filter_of
-        skipping.entry) backends.old backends.new jobs.old jobs.new counts.old counts.new }
+    ensures made { RoundMade D.Disk W.told W.relations shared.now.table shared.now.queue
+        (filter_of_skipping
+        by_map.entry) backends.old backends.new jobs.old jobs.new counts.old counts.new }
 {
-    *counts = take_turn(rt, shared, skipping, 1, backends, jobs, *counts);
+    *counts = take_turn(rt, shared, by_map, 1, backends, jobs, *counts);
     close_queue(rt, shared, backends, *counts);
 }
 
@@ -91,25 +92,24 @@ fn make_round<W: World + Send + Sync, D: Disk, R: Threads + Wait + Sync>(
 fn all_rounds<W: World + Send + Sync, D: Disk, R: Threads + Wait + Sync, A: JobSource<W>>(
     rt: &R,
     shared: &SharedState<W>,
-    skipping: Option<Skipping<'_>>,
+    by_map: Option<MapFilter<'_>>,
     backends: &mut [Backend<W, D>],
     jobs: &mut [Job],
     job_source: &mut A,
     counts: &mut Counts,
 )
-    requires may { MayRunRounds D.Disk W.told W.relations shared.now.table shared.now.queue
-        A.blocks_left A.options A.block_filter (filter_of skipping) backends.old jobs.old
-        job_source.old counts.old }
+    requires may { BackendsMayRunSource D.Disk W.told W.relations shared.now.table shared.now.queue
+        A.JobSource (filter_of_skipping by_map) backends.old jobs.old job_source.old counts.old }
     ensures advanced { JobSourceAdvanced D.Disk W.told W.relations shared.now.table shared.now.queue
-        A.blocks_left A.unskipped_left A.unread A.options A.block_filter A.follows backends.old
-        backends.new jobs.old jobs.new job_source.old job_source.new counts.old counts.new }
+        A.JobSource backends.old backends.new jobs.old jobs.new job_source.old job_source.new
+        counts.old counts.new }
     ensures over { A.is_over job_source.new }
     ensures closed { IsClosedByFirst shared.now.queue backends.new }
 {
     let mut many = backends.len();
     loop {
         let (front, _) = jobs.split_at_mut(many);
-        if !next_turn(rt, shared, skipping, backends, front, job_source, counts) {
+        if !next_turn(rt, shared, by_map, backends, front, job_source, counts) {
             close_queue(rt, shared, backends, *counts);
             return;
         }
@@ -135,16 +135,15 @@ pub(crate) fn run_rounds<
 >(
     rt: &R,
     shared: &SharedState<W>,
-    skipping: Option<Skipping<'_>>,
+    by_map: Option<MapFilter<'_>>,
     run_state: RunState<W, D, A>,
 ) -> RunState<W, D, A>
-    requires may { MayRunRounds D.Disk W.told W.relations shared.now.table shared.now.queue
-        A.blocks_left A.options A.block_filter (filter_of skipping) run_state.backends.items
-        run_state.jobs.items run_state.job_source run_state.counts }
+    requires may { BackendsMayRunSource D.Disk W.told W.relations shared.now.table shared.now.queue
+        A.JobSource (filter_of_skipping by_map) run_state.backends.items run_state.jobs.items
+        run_state.job_source run_state.counts }
     ensures advanced { JobSourceAdvanced D.Disk W.told W.relations shared.now.table shared.now.queue
-        A.blocks_left A.unskipped_left A.unread A.options A.block_filter A.follows
-        run_state.backends.items result.backends.items run_state.jobs.items result.jobs.items
-        run_state.job_source result.job_source run_state.counts result.counts }
+        A.JobSource run_state.backends.items result.backends.items run_state.jobs.items
+        result.jobs.items run_state.job_source result.job_source run_state.counts result.counts }
     ensures over { A.is_over result.job_source }
     ensures closed { IsClosedByFirst shared.now.queue result.backends.items }
 {
@@ -157,7 +156,7 @@ pub(crate) fn run_rounds<
     all_rounds(
         rt,
         shared,
-        skipping,
+        by_map,
         backends.as_mut_slice(),
         jobs.as_mut_slice(),
         &mut job_source,
@@ -185,13 +184,13 @@ pub(crate) struct RoundState<W: World, D: Disk> {
 pub(crate) fn run_round<W: World + Send + Sync, D: Disk, R: Threads + Wait + Sync>(
     rt: &R,
     shared: &SharedState<W>,
-    skipping: Option<Skipping<'_>>,
+    by_map: Option<MapFilter<'_>>,
     round_state: RoundState<W, D>,
 ) -> RoundState<W, D>
-    requires may { MayRunRound D.Disk W.told W.relations shared.now.table shared.now.queue
+    requires may { StateMayMakeRound D.Disk W.told W.relations shared.now.table shared.now.queue
         round_state }
-    ensures made { HasRunRound D.Disk W.told W.relations shared.now.table shared.now.queue
-        (filter_of skipping.entry) round_state result }
+    ensures made { StateMadeRound D.Disk W.told W.relations shared.now.table shared.now.queue
+        (filter_of_skipping by_map.entry) round_state result }
 {
     let RoundState {
         mut backends,
@@ -203,7 +202,7 @@ pub(crate) fn run_round<W: World + Send + Sync, D: Disk, R: Threads + Wait + Syn
     make_round(
         rt,
         shared,
-        skipping,
+        by_map,
         backends.as_mut_slice(),
         front,
         &mut counts,

@@ -37,6 +37,10 @@ pub struct Scan<W: World, D: Disk> {
     pub(crate) disks: Vec<D>,
 }
 
+/// A scan whose settings are `MethodKind::Ring`. It has no workers: each backend executes I/Os by a
+/// ring over its disk, its own and those that others have pushed, in groups.
+pub type RingScan<W, D> = Scan<W, D>;
+
 impl<W: World, D: Disk> Scan<W, D> {
     /// The least room of its backends: how many more lives each of their handles can have.
     pub fn room(&self) -> u64

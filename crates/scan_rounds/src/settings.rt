@@ -1,4 +1,8 @@
 //! How a scan reads.
+ghost use Rattle.std.specs.Prelude.{◌≡◌};
+ghost use Rattle.scan_rounds.specs.OpenedScan.{AreValidScanSettings, required_disks};
+ghost use Rattle.scan_rounds.specs.OpenedScan.{rings_of_settings};
+ghost use Rattle.scan_rounds.specs.OpenedScan.{seats_of_settings, workers_of_settings};
 
 /// Who executes I/O (`io_method`).
 #[derive(Clone, Copy, Debug, PartialEq, Eq)]
@@ -37,4 +41,47 @@ pub struct ScanSettings {
     pub zero: bool,
     /// Whether the headers of heap tuples and the update chains are listed too.
     pub tuples: bool,
+}
+
+impl ScanSettings {
+    /// How many workers a scan has.
+    pub(crate) fn worker_count(&self) -> u32
+        ensures { result ≡ workers_of_settings self.now }
+    {
+        match self.method {
+            MethodKind::Sync => 0,
+            MethodKind::Worker => self.workers,
+            MethodKind::Ring => 0,
+        }
+    }
+
+    /// How many seats of the queue its backends and workers have.
+    pub(crate) fn seat_count(&self) -> u32
+        requires { AreValidScanSettings self.now }
+        ensures { result ≡ seats_of_settings self.now }
+    {
+        match self.method {
+            MethodKind::Sync => 0,
+            MethodKind::Worker => self.backends + self.workers,
+            MethodKind::Ring => self.backends,
+        }
+    }
+
+    /// How many rings it has. Each has a seat of its own.
+    pub(crate) fn ring_count(&self) -> u32
+        ensures { result ≡ rings_of_settings self.now }
+    {
+        match self.method {
+            MethodKind::Sync => 0,
+            MethodKind::Worker => 0,
+            MethodKind::Ring => self.backends,
+        }
+    }
+
+    /// How many disks it has: one for each backend and each worker.
+    pub fn disk_count(&self) -> usize
+        ensures { result ≡ required_disks self.now }
+    {
+        self.backends as usize + self.worker_count() as usize
+    }
 }

@@ -1,7 +1,7 @@
 //! Tasks that are shared out to takers, each of which does its share in a thread of its own.
 ghost use Rattle.std.specs.Prelude.{◌≤◌, ◌*◌, length};
 ghost use Rattle.std.specs.Thread.{IsSync, IsSend};
-ghost use Rattle.scan_rounds.specs.Shares.{AcceptsShares, AreShared};
+ghost use Rattle.scan_rounds.specs.Shares.{AcceptsShares, AllTasksDone};
 
 use std::thread;
 use std::thread::Threads;
@@ -19,7 +19,7 @@ pub(crate) fn share_out<R: Threads + Sync, T: Send, J: Send, F: Fn(&mut T, &mut 
     requires some { 1 ≤ length takers.old }
     requires fit { length tasks.old ≤ size * length takers.old }
     requires accepts { AcceptsShares F.Fn f.now size takers.old tasks.old }
-    ensures { AreShared F.Fn f.now size takers.old takers.new tasks.old tasks.new }
+    ensures { AllTasksDone F.Fn f.now size takers.old takers.new tasks.old tasks.new }
 {
     if takers.len() == 1 {
         f(&mut takers[0], tasks);
@@ -49,21 +49,21 @@ fn both_halves<R: Threads + Sync, T: Send, J: Send, F: Fn(&mut T, &mut [J]) + Sy
         × (length rest.old ≤ size * length others.old) }
     requires first { AcceptsShares F.Fn f.now size first.old front.old }
     requires others { AcceptsShares F.Fn f.now size others.old rest.old }
-    ensures first { AreShared F.Fn f.now size first.old first.new front.old front.new }
-    ensures others { AreShared F.Fn f.now size others.old others.new rest.old rest.new }
+    ensures first { AllTasksDone F.Fn f.now size first.old first.new front.old front.new }
+    ensures others { AllTasksDone F.Fn f.now size others.old others.new rest.old rest.new }
 {
     let mut own = ||
         requires { IsSync R.row × IsSync F.row × IsSend T.row × IsSend J.row
             × (1 ≤ length first.now) × (length front.now ≤ size * length first.now)
             × AcceptsShares F.Fn f.now size first.now front.now }
-        ensures { AreShared F.Fn f.entry.now size first.entry.now first.exit.now front.entry.now
+        ensures { AllTasksDone F.Fn f.entry.now size first.entry.now first.exit.now front.entry.now
             front.exit.now }
     { share_out(rt, f, size, first, front) };
     let mut beside = ||
         requires { IsSync R.row × IsSync F.row × IsSend T.row × IsSend J.row
             × (1 ≤ length others.now) × (length rest.now ≤ size * length others.now)
             × AcceptsShares F.Fn f.now size others.now rest.now }
-        ensures { AreShared F.Fn f.entry.now size others.entry.now others.exit.now rest.entry.now
+        ensures { AllTasksDone F.Fn f.entry.now size others.entry.now others.exit.now rest.entry.now
             rest.exit.now }
     { share_out(rt, f, size, others, rest) };
     thread::join_mut(rt, &mut own, &mut beside);

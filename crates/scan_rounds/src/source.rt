@@ -1,8 +1,8 @@
 //! The blocks that a stream is to give.
 ghost use Rattle.std.specs.Prelude.{◌≡◌, ◌+◌, ◌≤◌, ◌^◌};
-ghost use Rattle.scan_rounds.specs.BlockFilter.{unskipped_source, filter_of};
+ghost use Rattle.scan_rounds.specs.BlockFilter.{unskipped_source, filter_of_skipping};
 
-use crate::skipping::{Skipping, UnskippedTest};
+use crate::map_filter::{MapFilter, UnskippedTest};
 use block_source::{BlockSource, Filtered, Range};
 use std::marker::Model;
 
@@ -12,7 +12,7 @@ pub(crate) struct Blocks<'m> {
     pub(crate) relation: u32,
     pub(crate) first: u32,
     pub(crate) count: u32,
-    pub(crate) skipping: Option<Skipping<'m>>,
+    pub(crate) by_map: Option<MapFilter<'m>>,
 }
 
 /// The blocks that are not left out. Those that are left to give are how contracts see it.
@@ -24,22 +24,23 @@ pub(crate) struct UnskippedBlocks<'m> {
 impl<'m> Model for UnskippedBlocks<'m> {
     ghost use Rattle.std.specs.Prelude.{ℕ, List};
     ghost use Rattle.std.specs.List.{filter};
-    ghost use Rattle.scan_rounds.specs.BlockFilter.{is_unskipped, filter_of};
+    ghost use Rattle.scan_rounds.specs.BlockFilter.{is_unskipped, filter_of_skipping};
 
     ghost Value = { List (ℕ × Unit {0}) };
 
     ghost view = { λ k.
-        filter (λ b. is_unskipped (filter_of k.blocks.keep.skipping) b.0) k.blocks.inner };
+        filter (λ b. is_unskipped (filter_of_skipping k.blocks.keep.by_map) b.0) k.blocks.inner };
 }
 
 impl<'m> UnskippedBlocks<'m> {
-    pub(crate) fn of(blocks: Blocks<'m>) -> UnskippedBlocks<'m>
+    pub(crate) fn new(blocks: Blocks<'m>) -> UnskippedBlocks<'m>
         requires within { blocks.first + blocks.count ≤ 2 ^ 32 }
-        ensures { result ≡ unskipped_source (filter_of blocks.entry.skipping) blocks.entry.first
+        ensures { result ≡ unskipped_source (filter_of_skipping blocks.entry.by_map)
+            blocks.entry.first
             blocks.entry.count }
     {
         let kept = UnskippedTest {
-            skipping: blocks.skipping,
+            by_map: blocks.by_map,
         };
         UnskippedBlocks {
             blocks: Filtered::new(Range::new(blocks.first, blocks.count), kept),

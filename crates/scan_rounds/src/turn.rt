@@ -1,22 +1,24 @@
 //! A turn: all backends list some jobs, each its share of them, in threads of their own.
 ghost use Rattle.std.specs.Prelude.{◌≡◌, ◌≤◌, ◌<◌, ◌+◌, ◌*◌, ◌∷◌, [], length, map};
 ghost use Rattle.std.specs.List.{All};
-ghost use Rattle.aio_disk.specs.Counts.{raised_by};
+ghost use Rattle.aio_disk.specs.Counts.{count_plus};
 ghost use Rattle.scan_rounds.specs.DiskActors.{IsBackend};
-ghost use Rattle.scan_rounds.specs.Jobs.{AreAnswered, IsFresh, count_unskipped, unread_among};
+ghost use Rattle.scan_rounds.specs.Jobs.{AllJobsAnswered, IsNewJob, count_unskipped};
+ghost use Rattle.scan_rounds.specs.Jobs.{unread_job_count};
 ghost use Rattle.scan_rounds.specs.ListOptions.{ListOptions};
-ghost use Rattle.scan_rounds.specs.Rounds.{AllAdvanced, AllHaveOptions, AreListed, IsLeastRoom};
+ghost use Rattle.scan_rounds.specs.Rounds.{AllActorsAdvanced, AllHaveOptions, AllJobsListed};
+ghost use Rattle.scan_rounds.specs.Rounds.{IsLeastRoom};
 ghost use Rattle.scan_rounds.specs.Rounds.{backend_disk_actor, failed_results_taken};
 ghost use Rattle.scan_rounds.specs.Rounds.{results_taken_count};
-ghost use Rattle.scan_rounds.specs.BlockFilter.{filter_of};
-ghost use Rattle.scan_rounds.specs.Turns.{HasTurned, ListedAlone, MayTurn};
+ghost use Rattle.scan_rounds.specs.BlockFilter.{filter_of_skipping};
+ghost use Rattle.scan_rounds.specs.Turns.{BackendsTookTurn, ListedAlone, BackendsMayTakeTurn};
 
 use crate::backend::Backend;
 use crate::job::Job;
+use crate::map_filter::MapFilter;
 use crate::rounds::{Counts, count_unread, least_room};
 use crate::shared::SharedState;
 use crate::sharing::share_out;
-use crate::skipping::Skipping;
 use aio_disk::Disk;
 use page_check::World;
 use std::sync::Wait;
@@ -27,22 +29,25 @@ use std::thread::Threads;
 fn do_jobs<W: World, D: Disk, R: Wait>(
     rt: &R,
     shared: &SharedState<W>,
-    skipping: Option<Skipping<'_>>,
+    by_map: Option<MapFilter<'_>>,
     backend: &mut Backend<W, D>,
     jobs: &mut [Job],
 )
-    requires may { MayTurn D.Disk W.told W.relations shared.now.table shared.now.queue (length
+    requires may { BackendsMayTakeTurn D.Disk W.told W.relations shared.now.table shared.now.queue
+        (length
         jobs.old) (backend.old ∷ []) jobs.old }
-    ensures done { HasTurned D.Disk W.told W.relations shared.now.table shared.now.queue (filter_of
-        skipping.entry) (64 * length jobs.old) (backend.old ∷ []) (backend.new ∷ []) jobs.old
+    ensures done { BackendsTookTurn D.Disk W.told W.relations shared.now.table shared.now.queue
+        (filter_of_skipping
+        by_map.entry) (64 * length jobs.old) (backend.old ∷ []) (backend.new ∷ []) jobs.old
         jobs.new }
-    ensures alone { ListedAlone W.told (filter_of skipping.entry) backend.old backend.new jobs.old
+    ensures alone { ListedAlone W.told (filter_of_skipping by_map.entry) backend.old backend.new
+        jobs.old
         jobs.new }
-    ensures unmoved { length jobs.old ≡ 0 → backend.new ≡ backend.old }
+    ensures backend_same { length jobs.old ≡ 0 → backend.new ≡ backend.old }
 {
     if let Some((job, later)) = jobs.split_first_mut() {
-        backend.list(rt, shared, skipping, job);
-        do_jobs(rt, shared, skipping, backend, later);
+        backend.list(rt, shared, by_map, job);
+        do_jobs(rt, shared, by_map, backend, later);
     }
 }
 
@@ -51,51 +56,60 @@ fn do_jobs<W: World, D: Disk, R: Wait>(
 fn do_jobs_within<W: World, D: Disk, R: Wait>(
     rt: &R,
     shared: &SharedState<W>,
-    skipping: Option<Skipping<'_>>,
+    by_map: Option<MapFilter<'_>>,
     share: usize,
     backend: &mut Backend<W, D>,
     jobs: &mut [Job],
 )
-    requires may { MayTurn D.Disk W.told W.relations shared.now.table shared.now.queue share
+    requires may { BackendsMayTakeTurn D.Disk W.told W.relations shared.now.table shared.now.queue
+        share
         (backend.old ∷ []) jobs.old }
     requires few { length jobs.old ≤ share }
-    ensures done { HasTurned D.Disk W.told W.relations shared.now.table shared.now.queue (filter_of
-        skipping.entry) (64 * share) (backend.old ∷ []) (backend.new ∷ []) jobs.old jobs.new }
-    ensures alone { ListedAlone W.told (filter_of skipping.entry) backend.old backend.new jobs.old
+    ensures done { BackendsTookTurn D.Disk W.told W.relations shared.now.table shared.now.queue
+        (filter_of_skipping
+        by_map.entry) (64 * share) (backend.old ∷ []) (backend.new ∷ []) jobs.old jobs.new }
+    ensures alone { ListedAlone W.told (filter_of_skipping by_map.entry) backend.old backend.new
+        jobs.old
         jobs.new }
 {
     let _ = share;
-    do_jobs(rt, shared, skipping, backend, jobs);
+    do_jobs(rt, shared, by_map, backend, jobs);
 }
 
 // Each backend does its share of the jobs, in a thread of its own.
 fn do_shares<W: World + Send + Sync, D: Disk, R: Threads + Wait + Sync>(
     rt: &R,
     shared: &SharedState<W>,
-    skipping: Option<Skipping<'_>>,
+    by_map: Option<MapFilter<'_>>,
     share: usize,
     backends: &mut [Backend<W, D>],
     jobs: &mut [Job],
 )
     requires some { 1 ≤ length backends.old }
     requires fit { length jobs.old ≤ share * length backends.old }
-    requires may { MayTurn D.Disk W.told W.relations shared.now.table shared.now.queue share
+    requires may { BackendsMayTakeTurn D.Disk W.told W.relations shared.now.table shared.now.queue
+        share
         backends.old jobs.old }
-    ensures done { HasTurned D.Disk W.told W.relations shared.now.table shared.now.queue (filter_of
-        skipping.entry) (64 * share) backends.old backends.new jobs.old jobs.new }
+    ensures done { BackendsTookTurn D.Disk W.told W.relations shared.now.table shared.now.queue
+        (filter_of_skipping
+        by_map.entry) (64 * share) backends.old backends.new jobs.old jobs.new }
     ensures by_place { share ≡ 1 → (m : ListOptions) → AllHaveOptions m backends.old
-        → AreListed (filter_of skipping.entry) m W.told backends.old backends.new jobs.old jobs.new }
+        → AllJobsListed (filter_of_skipping by_map.entry) m W.told backends.old backends.new
+        jobs.old jobs.new }
 {
     share_out(
         rt,
         &|backend: &mut Backend<W, D>, own: &mut [Job]|
-            requires { MayTurn D.Disk W.told W.relations shared.now.table shared.now.queue share
+            requires { BackendsMayTakeTurn D.Disk W.told W.relations shared.now.table
+                shared.now.queue share
                 (backend.old ∷ []) own.old × (length own.old ≤ share) }
-            ensures { HasTurned D.Disk W.told W.relations shared.entry.now.table
-                shared.entry.now.queue (filter_of skipping.entry) (64 * share) (backend.old ∷ [])
-                (backend.new ∷ []) own.old own.new × ListedAlone W.told (filter_of skipping.entry)
+            ensures { BackendsTookTurn D.Disk W.told W.relations shared.entry.now.table
+                shared.entry.now.queue (filter_of_skipping by_map.entry) (64 * share) (backend.old
+                ∷ [])
+                (backend.new ∷ []) own.old own.new × ListedAlone W.told (filter_of_skipping
+                by_map.entry)
                 backend.old backend.new own.old own.new }
-        { do_jobs_within(rt, shared, skipping, share, backend, own) },
+        { do_jobs_within(rt, shared, by_map, share, backend, own) },
         share,
         backends,
         jobs,
@@ -107,7 +121,7 @@ fn do_shares<W: World + Send + Sync, D: Disk, R: Threads + Wait + Sync>(
 pub(crate) fn take_turn<W: World + Send + Sync, D: Disk, R: Threads + Wait + Sync>(
     rt: &R,
     shared: &SharedState<W>,
-    skipping: Option<Skipping<'_>>,
+    by_map: Option<MapFilter<'_>>,
     share: usize,
     backends: &mut [Backend<W, D>],
     jobs: &mut [Job],
@@ -117,27 +131,30 @@ pub(crate) fn take_turn<W: World + Send + Sync, D: Disk, R: Threads + Wait + Syn
         backends.old }
     requires some { 1 ≤ length backends.old }
     requires fit { length jobs.old ≤ share * length backends.old }
-    requires fresh { All (IsFresh W.relations) jobs.old }
+    requires fresh { All (IsNewJob W.relations) jobs.old }
     requires room { IsLeastRoom backends.old counts.room × (64 * share ≤ counts.room) }
     requires unread { counts.unread ≤ failed_results_taken backends.old }
     ensures backends { All (IsBackend D.Disk W.told W.relations shared.now.table shared.now.queue)
         backends.new }
-    ensures go_on { AllAdvanced D.Disk W.told W.relations shared.now.table (map backend_disk_actor
+    ensures actors_advanced { AllActorsAdvanced D.Disk W.told W.relations shared.now.table
+        (map backend_disk_actor
         backends.old) (map backend_disk_actor backends.new) }
     ensures answered { (m : ListOptions) → AllHaveOptions m backends.old
-        → AreAnswered (filter_of skipping.entry) m W.told jobs.old jobs.new }
+        → AllJobsAnswered (filter_of_skipping by_map.entry) m W.told jobs.old jobs.new }
     ensures by_place { share ≡ 1 → (m : ListOptions) → AllHaveOptions m backends.old
-        → AreListed (filter_of skipping.entry) m W.told backends.old backends.new jobs.old jobs.new }
+        → AllJobsListed (filter_of_skipping by_map.entry) m W.told backends.old backends.new
+        jobs.old jobs.new }
     ensures options { (m : ListOptions) → AllHaveOptions m backends.old
         → AllHaveOptions m backends.new }
     ensures room { IsLeastRoom backends.new result.room
         × (counts.room ≤ result.room + 64 * share) }
-    ensures unread { result.unread ≡ raised_by (unread_among jobs.new) counts.unread }
-    ensures taken { results_taken_count backends.new
-        ≤ results_taken_count backends.old + count_unskipped (filter_of skipping.entry) jobs.old }
+    ensures unread { result.unread ≡ count_plus (unread_job_count jobs.new) counts.unread }
+    ensures results_bound { results_taken_count backends.new
+        ≤ results_taken_count backends.old + count_unskipped (filter_of_skipping by_map.entry)
+        jobs.old }
     ensures results { result.unread ≤ failed_results_taken backends.new }
 {
-    do_shares(rt, shared, skipping, share, backends, jobs);
+    do_shares(rt, shared, by_map, share, backends, jobs);
     Counts {
         room: least_room(backends),
         unread: count_unread(counts.unread, jobs),

@@ -1,7 +1,7 @@
 //! A worker: an actor with its disk and its seat of the queue.
 ghost use Rattle.scan_rounds.specs.DiskActors.{IsWorker, WorkerServed};
 
-use crate::disk_actor::DiskActor;
+use crate::disk_actor::{DiskActor, HasDiskActor};
 use crate::shared::SharedState;
 use aio_disk::Disk;
 use method_worker::QueueSeat;
@@ -13,6 +13,16 @@ use std::sync::Wait;
 pub(crate) struct Worker<W: World, D: Disk> {
     pub(crate) disk_actor: DiskActor<W, D>,
     pub(crate) seat: QueueSeat,
+}
+
+impl<W: World, D: Disk> HasDiskActor<W, D> for Worker<W, D> {
+    ghost use Rattle.scan_rounds.specs.Rounds.{worker_disk_actor};
+
+    ghost disk_actor = { worker_disk_actor };
+
+    fn into_disk_actor(self) -> DiskActor<W, D> {
+        self.disk_actor
+    }
 }
 
 impl<W: World, D: Disk> Worker<W, D> {

@@ -1,7 +1,7 @@
 //! A stream over a list whose reads are made by a ring.
 ghost use Rattle.std.specs.Prelude.{◌≡◌, ◌<◌, IfSome, length};
 ghost use Rattle.std.specs.List.{All};
-ghost use Rattle.aio_handle.specs.Closing.{HasNoOwnerTokens};
+ghost use Rattle.aio_handle.specs.EndStates.{HasNoOwnerTokens};
 ghost use Rattle.aio_handle.specs.ContractViews.{AreNewActors, IsActorOf};
 ghost use Rattle.method_worker.specs.QueueViews.{IsSeatOf};
 

@@ -10,7 +10,7 @@ ghost use Rattle.aioscan_cmd.specs.Words.{number_within as number_read, number_o
 ghost use Rattle.aioscan_cmd.specs.Words.{number_if_given, method_of, is_set, is_name};
 ghost use Rattle.aioscan_cmd.specs.Words.{valid_file_names, file_words, NamesFiles};
 ghost use Rattle.aioscan_cmd.specs.Words.{parsed_settings};
-ghost use Rattle.scan_rounds.specs.OpenedScan.{AreSettings};
+ghost use Rattle.scan_rounds.specs.OpenedScan.{AreValidScanSettings};
 
 use clap::ArgMatches;
 use scan_rounds::{MethodKind, ScanSettings};
@@ -120,7 +120,7 @@ pub(crate) fn flag(matches: &ArgMatches<'_>, name: &str) -> bool
 /// How the files are read.
 pub(crate) fn settings(matches: &ArgMatches<'_>) -> Option<ScanSettings>
     ensures settings { result ≡ parsed_settings (rows_of (found_of matches.now)) }
-    ensures within { IfSome result AreSettings }
+    ensures within { IfSome result AreValidScanSettings }
 {
     Some(ScanSettings {
         method: method(matches, "method")?,

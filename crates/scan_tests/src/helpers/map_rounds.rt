@@ -2,11 +2,11 @@
 ghost use Rattle.std.specs.Prelude.{◌≡◌, ◌≤◌, ◌*◌, length, map, string_bytes};
 ghost use Rattle.std.specs.List.{All};
 ghost use Rattle.aio_disk.specs.Shelf.{shelf_told};
-ghost use Rattle.scan_rounds.specs.Jobs.{IsFresh};
-ghost use Rattle.scan_rounds.specs.OpenedScan.{AreSettings};
+ghost use Rattle.scan_rounds.specs.Jobs.{IsNewJob};
+ghost use Rattle.scan_rounds.specs.OpenedScan.{AreValidScanSettings};
 ghost use Rattle.scan_rounds.specs.Scans.{IsScan};
 
-use crate::helpers::opening::{disk_count, is_in_range, open_disks, open_scan};
+use crate::helpers::opening::{is_in_range, open_disks, open_scan};
 use crate::helpers::rounds::{Blocks, JobResult};
 use aio_disk::{Disk, Shelf};
 use page_check::World;
@@ -49,7 +49,7 @@ fn round_by_map<W: World + Send + Sync, D: Disk, R: Threads + Wait + Sync>(
 )
     requires scan { IsScan D.Disk W.told W.relations scan.old }
     requires few { (1 ≤ length jobs.old) × (length jobs.old ≤ length scan.old.backends.items) }
-    requires fresh { All (IsFresh W.relations) jobs.old }
+    requires fresh { All (IsNewJob W.relations) jobs.old }
     requires room { 64 ≤ scan.old.room }
     ensures scan { IsScan D.Disk W.told W.relations scan.new }
 {
@@ -154,12 +154,12 @@ fn scan_shelf<W: World + Send + Sync, S: Shelf, R: Threads + Wait + Sync>(
     asked: MapScanRequest,
     rounds: &[Option<Skip>],
 ) -> Result<MapScanResult, Fail>
-    requires settings { AreSettings settings.now }
+    requires settings { AreValidScanSettings settings.now }
     requires told { shelf_told (S.told shelf.old) (map string_bytes names.now) ≡ W.told }
     requires two { (W.relations ≡ length names.now) × (length names.now ≡ 2) }
     requires handles { settings.now.backends * settings.now.handles ≡ W.handles }
 {
-    let disks = open_disks(alloc, shelf, names, disk_count(settings))?;
+    let disks = open_disks(alloc, shelf, names, settings.disk_count())?;
     let settings = ScanSettings {
         segment: disks[0].segment(),
         ..*settings

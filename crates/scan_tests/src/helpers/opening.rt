@@ -1,14 +1,14 @@
 //! Scans that are opened over disks of a shelf.
-ghost use Rattle.std.specs.Prelude.{◌≡◌, ◌+◌, ◌*◌, ◌^◌, ◌<◌, ◌≢◌, length, map, IfOk, IfSome};
+ghost use Rattle.std.specs.Prelude.{◌≡◌, ◌*◌, ◌^◌, ◌<◌, length, map, IfOk, IfSome};
 ghost use Rattle.std.specs.Prelude.{IsTrue, string_bytes};
 ghost use Rattle.std.specs.List.{All};
 ghost use Rattle.aio_disk.specs.Shelf.{shelf_told};
-ghost use Rattle.scan_rounds.specs.OpenedScan.{AreSettings, workers_of_settings};
+ghost use Rattle.scan_rounds.specs.OpenedScan.{AreValidScanSettings, required_disks};
 ghost use Rattle.scan_rounds.specs.Scans.{IsScan};
 
 use aio_disk::{Disk, Shelf};
 use page_check::World;
-use scan_rounds::{MethodKind, RingScan, Scan, ScanSettings};
+use scan_rounds::{MethodKind, Scan, ScanSettings};
 use std::alloc::Global;
 use std::test::Fail;
 
@@ -49,7 +49,7 @@ pub(crate) fn one_handle(method: MethodKind) -> ScanSettings {
 
 /// Whether a scan may be opened so.
 pub(crate) fn is_in_range(settings: &ScanSettings) -> bool
-    ensures { IsTrue result → AreSettings settings.now }
+    ensures { IsTrue result → AreValidScanSettings settings.now }
 {
     let ScanSettings {
         method: _,
@@ -69,19 +69,6 @@ pub(crate) fn is_in_range(settings: &ScanSettings) -> bool
     let reads = 1 <= combine && combine <= 128 && 1 <= concurrency && concurrency <= 256;
     let memory = 1 <= handles && handles <= 64 && 16 <= buffers && buffers <= 16384;
     actors && reads && memory && 1 <= segment
-}
-
-/// How many disks a scan has.
-pub(crate) fn disk_count(settings: &ScanSettings) -> usize
-    requires { AreSettings settings.now }
-    ensures { result ≡ settings.now.backends + workers_of_settings settings.now }
-{
-    let workers = match settings.method {
-        MethodKind::Sync => 0,
-        MethodKind::Worker => settings.workers,
-        MethodKind::Ring => 0,
-    };
-    (settings.backends + workers) as usize
 }
 
 /// Opens so many disks of the same relations.
@@ -106,16 +93,15 @@ pub(crate) fn open_disks<S: Shelf>(
     Ok(disks)
 }
 
-// A scan without rings, with the generations of its handles from `start` on where that is given.
-fn open_without_rings<W: World, D: Disk>(
+/// A scan, with the generations of its handles from `start` on where that is given.
+pub(crate) fn open_scan<W: World, D: Disk>(
     alloc: Global,
     settings: &ScanSettings,
     disks: Vec<D>,
     start: Option<u64>,
 ) -> Result<Scan<W, D>, Fail>
-    requires settings { AreSettings settings.now }
-    requires method { settings.now.method ≢ MethodKind.Ring }
-    requires disks { length disks.items ≡ settings.now.backends + workers_of_settings settings.now }
+    requires settings { AreValidScanSettings settings.now }
+    requires disks { length disks.items ≡ required_disks settings.now }
     requires tell { All (λ d. (D.told d ≡ W.told) × (D.relations d ≡ W.relations)) disks.items }
     requires segments { All (λ d. D.segment d ≡ settings.now.segment) disks.items }
     requires handles { settings.now.backends * settings.now.handles ≡ W.handles }
@@ -129,53 +115,5 @@ fn open_without_rings<W: World, D: Disk>(
     match opened {
         Ok(scan) => Ok(scan),
         Err(_) => Err(Fail::from("no memory for a scan")),
-    }
-}
-
-// A scan by rings, opened in the same way.
-fn open_ringed<W: World, D: Disk>(
-    alloc: Global,
-    settings: &ScanSettings,
-    disks: Vec<D>,
-    start: Option<u64>,
-) -> Result<Scan<W, D>, Fail>
-    requires settings { AreSettings settings.now }
-    requires method { settings.now.method ≡ MethodKind.Ring }
-    requires disks { length disks.items ≡ settings.now.backends }
-    requires tell { All (λ d. (D.told d ≡ W.told) × (D.relations d ≡ W.relations)) disks.items }
-    requires segments { All (λ d. D.segment d ≡ settings.now.segment) disks.items }
-    requires handles { settings.now.backends * settings.now.handles ≡ W.handles }
-    requires start { IfSome start (λ s. s < 2 ^ 58) }
-    ensures { IfOk result (λ s. IsScan D.Disk W.told W.relations s) }
-{
-    let first = match start {
-        Some(start) => start,
-        None => 0,
-    };
-    match RingScan::open_at(alloc, settings, disks, first) {
-        Ok(rings) => Ok(rings.into_scan()),
-        Err(_) => Err(Fail::from("no memory for a scan")),
-    }
-}
-
-/// A scan by the method of its settings.
-pub(crate) fn open_scan<W: World, D: Disk>(
-    alloc: Global,
-    settings: &ScanSettings,
-    disks: Vec<D>,
-    start: Option<u64>,
-) -> Result<Scan<W, D>, Fail>
-    requires settings { AreSettings settings.now }
-    requires disks { length disks.items ≡ settings.now.backends + workers_of_settings settings.now }
-    requires tell { All (λ d. (D.told d ≡ W.told) × (D.relations d ≡ W.relations)) disks.items }
-    requires segments { All (λ d. D.segment d ≡ settings.now.segment) disks.items }
-    requires handles { settings.now.backends * settings.now.handles ≡ W.handles }
-    requires start { IfSome start (λ s. s < 2 ^ 58) }
-    ensures { IfOk result (λ s. IsScan D.Disk W.told W.relations s) }
-{
-    match settings.method {
-        MethodKind::Sync => open_without_rings(alloc, settings, disks, start),
-        MethodKind::Worker => open_without_rings(alloc, settings, disks, start),
-        MethodKind::Ring => open_ringed(alloc, settings, disks, start),
     }
 }

@@ -3,11 +3,11 @@ ghost use Rattle.std.specs.Prelude.{◌≡◌, ◌*◌, ◌^◌, ◌<◌, ◌≤
 ghost use Rattle.std.specs.Prelude.{string_bytes};
 ghost use Rattle.std.specs.List.{All};
 ghost use Rattle.aio_disk.specs.Shelf.{shelf_told};
-ghost use Rattle.scan_rounds.specs.Jobs.{IsFresh};
-ghost use Rattle.scan_rounds.specs.OpenedScan.{AreSettings};
+ghost use Rattle.scan_rounds.specs.Jobs.{IsNewJob};
+ghost use Rattle.scan_rounds.specs.OpenedScan.{AreValidScanSettings};
 ghost use Rattle.scan_rounds.specs.Scans.{IsScan};
 
-use crate::helpers::opening::{disk_count, is_in_range, open_disks, open_scan};
+use crate::helpers::opening::{is_in_range, open_disks, open_scan};
 use aio_disk::{Disk, Shelf};
 use heap_scan::PageSums;
 use page_check::World;
@@ -45,7 +45,7 @@ pub(crate) struct ScanResult {
 
 // A job for the blocks, where they are some that a job may have.
 fn job_for(alloc: Global, blocks: Blocks) -> Option<Job>
-    ensures { IfSome result (IsFresh 1) }
+    ensures { IfSome result (IsNewJob 1) }
 {
     let (first, count) = blocks;
     if count < 1 || count > 64 || first > 1000 {
@@ -58,7 +58,7 @@ fn job_for(alloc: Global, blocks: Blocks) -> Option<Job>
 
 // Jobs for these blocks.
 fn jobs_for(alloc: Global, round: &[Blocks]) -> Result<Vec<Job>, Fail>
-    ensures fresh { IfOk result (λ jobs. All (IsFresh 1) jobs.items) }
+    ensures fresh { IfOk result (λ jobs. All (IsNewJob 1) jobs.items) }
     ensures count { IfOk result (λ jobs. length jobs.items ≡ length round.now) }
 {
     let mut jobs = Vec::new(alloc);
@@ -131,13 +131,13 @@ fn scan_shelf<W: World + Send + Sync, S: Shelf, R: Threads + Wait + Sync>(
     start: Option<u64>,
     rounds: &[Vec<Blocks>],
 ) -> Result<ScanResult, Fail>
-    requires settings { AreSettings settings.now }
+    requires settings { AreValidScanSettings settings.now }
     requires told { shelf_told (S.told shelf.old) (map string_bytes names.now) ≡ W.told }
     requires one { (W.relations ≡ length names.now) × (length names.now ≡ 1) }
     requires handles { settings.now.backends * settings.now.handles ≡ W.handles }
     requires start { IfSome start (λ s. s < 2 ^ 58) }
 {
-    let disks = open_disks(alloc, shelf, names, disk_count(settings))?;
+    let disks = open_disks(alloc, shelf, names, settings.disk_count())?;
     let settings = ScanSettings {
         segment: disks[0].segment(),
         ..*settings

@@ -1,7 +1,7 @@
 //! Streams over lists, and what they are opened over.
 ghost use Rattle.std.specs.Prelude.{◌≡◌, ◌<◌, IfSome};
 ghost use Rattle.std.specs.List.{All};
-ghost use Rattle.aio_handle.specs.Closing.{HasNoOwnerTokens};
+ghost use Rattle.aio_handle.specs.EndStates.{HasNoOwnerTokens};
 ghost use Rattle.aio_handle.specs.ContractViews.{IsActorOf, IsSameActor};
 ghost use Rattle.method_worker.specs.QueueViews.{IsSeatOf};
 ghost use Rattle.read_stream.specs.StreamState.{IsOpen};

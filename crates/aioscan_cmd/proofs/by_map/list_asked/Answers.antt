@@ -13,7 +13,7 @@ returns-in-None-clause-listed g c =
           lists) c.list_rounds.ensures.lists,
       omega (
         arith,
-        c.list_rounds.ensures.taken,
+        c.list_rounds.ensures.results_bound,
         as_many c.args.asked none g.W.World.told (λ _. []),
       ),
     )

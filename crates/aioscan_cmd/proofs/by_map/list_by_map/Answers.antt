@@ -43,7 +43,7 @@ pub returns-in-Done-clause-listed : goal.returns-in-Done-clause-listed
 returns-in-Done-clause-listed g c =
     let by = c.requires.map in
     let told = g.W.World.told in
-    let read = c.map-ending.ensures.mapped.read in
+    let read = c.map-ending.ensures.map_read.read in
     let found = c.map-ending.new.map in
     let given : ℕ → List ℕ = λ b. slice_index_or found.added b [] in
     let count = ap (λ m. m.pages) c.in-Ok.ensures ∙ c.map_pages.ensures.pages in
@@ -64,19 +64,19 @@ returns-in-Done-clause-listed g c =
           (record {
             warnings = c.map-ending.new.warnings.items;
             tells = tells_same _ _ _ _ (search rules) c.write_warnings-line.ensures;
-            are = map_part _ _ told bs cs _ _ found c.map-ending.new.warnings.items
+            warnings_hold = map_part _ _ told bs cs _ _ found c.map-ending.new.warnings.items
                 c.map-ending.result some c.requires.options count read by.map _;
           })
           c.list_rounds.ensures.lists,
-      (let first = c.map-ending.ensures.mapped.taken in
-          let second = c.list_rounds.ensures.taken in omega arith),
+      (let first = c.map-ending.ensures.map_read.results_bound in
+          let second = c.list_rounds.ensures.results_bound in omega arith),
     )
 
 pub returns : goal.returns
 returns g c =
     let by = c.requires.map in
     let told = g.W.World.told in
-    let read = c.map-ending.ensures.mapped.read in
+    let read = c.map-ending.ensures.map_read.read in
     let found = c.map-ending.new.map in
     let given : ℕ → List ℕ = λ b. slice_index_or found.added b [] in
     let count = ap (λ m. m.pages) c.in-Ok.ensures ∙ c.map_pages.ensures.pages in
@@ -85,14 +85,14 @@ returns g c =
     let cs = c.map-ending.new.self.backends.items in
     let few = pages_asked c.args.asked by.map by.given told given in
     record {
-      scan = c.map-ending.ensures.mapped.scan;
-      same = c.map-ending.ensures.mapped.same;
+      scan = c.map-ending.ensures.map_read.scan;
+      same = c.map-ending.ensures.map_read.same;
       listed = (
         given,
         record {
           warnings = c.map-ending.new.warnings.items;
           tells = tells_same _ _ _ _ (search rules) c.write_warnings-line.ensures;
-          are = map_stopped c.args.asked by.map by.given told given _ _ _
+          warnings_hold = map_stopped c.args.asked by.map by.given told given _ _ _
               c.in_default-outcome_of.not-Done
               (subst (λ (o : Outcome). IsOutput
               (format_with_map (options_of_settings (resolved_settings c.args.asked))
@@ -102,7 +102,7 @@ returns g c =
               (map_part _ _ told bs cs _ _ found c.map-ending.new.warnings.items
               c.map-ending.result some c.requires.options count read by.map _));
         },
-        (let first = c.map-ending.ensures.mapped.taken in omega arith),
+        (let first = c.map-ending.ensures.map_read.results_bound in omega arith),
       );
       writes = record {
         later = omega arith;
@@ -112,5 +112,5 @@ returns g c =
       unread = λ r b is.
           (let one =
           unread_out 1 c.map-ending.result c.outcome_of.result r b c.outcome_of.ensures is in
-          let raised = c.map-ending.ensures.mapped.unread in omega arith);
+          let raised = c.map-ending.ensures.map_read.unread in omega arith);
     }

@@ -8,8 +8,7 @@ abbrev pub invariant-loop : goal.invariant-loop
 invariant-loop g l = record {
   count : vec_len l.disks ≡ l.counter;
   room : vec_capacity l.disks ≡ vec_capacity l.fn.disks;
-  unread : All (IsUnreadDisk g.S.Disk.Disk.told g.S.Disk.Disk.relations g.S.Disk.Disk.segment
-      g.S.Disk.Disk.faults g.S.Disk.Disk.reads
+  unread : All (IsUnreadDisk g.S.Disk.Disk
       (shelf_told (g.S.Shelf.told l.fn.shelf) (map string_bytes l.names)) (length l.names)
       (g.S.Shelf.segment l.fn.shelf)) l.disks.items;
   later : (g.S.Shelf.counts l.fn.shelf).open_faults ≤ (g.S.Shelf.counts l.shelf).open_faults;

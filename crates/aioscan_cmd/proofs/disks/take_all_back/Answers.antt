@@ -1,5 +1,6 @@
 use Rattle.std.proofs.Common.{◌∙◌}
-use Rattle.aioscan_cmd.proofs.DiskCountsAdd.{sum_more, rises_more, raised_more}
+use Rattle.std.proofs.lemmas.List.Sums.{sum_by_push}
+use Rattle.aioscan_cmd.proofs.DiskCountsAdd.{rises_more, raised_more}
 use Rattle.aioscan_cmd.proofs.disks.take_all_back.Goals as goal
 
 pub loop-disk-preserved : goal.loop-disk-preserved
@@ -9,10 +10,10 @@ loop-disk-preserved g c =
       told = e.told ∙ i.told;
       open_faults = e.open_faults ∙ i.open_faults;
       length_faults = rises_more _ _ _ _ _ _
-          (sum_more g.S.Disk.Disk.length_faults c.loop-disk.yielded c.in-Some.disk)
+          (sum_by_push g.S.Disk.Disk.length_faults c.loop-disk.yielded c.in-Some.disk)
           i.length_faults e.length_faults;
       faults = rises_more _ _ _ _ _ _
-          (sum_more g.S.Disk.Disk.faults c.loop-disk.yielded c.in-Some.disk) i.faults e.faults;
+          (sum_by_push g.S.Disk.Disk.faults c.loop-disk.yielded c.in-Some.disk) i.faults e.faults;
       reads = raised_more _ _ _ _ _ _
-          (sum_more g.S.Disk.Disk.reads c.loop-disk.yielded c.in-Some.disk) i.reads e.reads;
+          (sum_by_push g.S.Disk.Disk.reads c.loop-disk.yielded c.in-Some.disk) i.reads e.reads;
     }

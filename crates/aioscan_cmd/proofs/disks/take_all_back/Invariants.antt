@@ -1,5 +1,5 @@
 use Rattle.std.proofs.Common.{◌≡◌, sum_by}
-use Rattle.aio_disk.specs.Counts.{RisesBy, raised_by}
+use Rattle.aio_disk.specs.Counts.{RisesIfPositive, count_plus}
 use Rattle.aioscan_cmd.proofs.disks.take_all_back.Given as goal
 
 abbrev pub invariant-loop-disk : goal.invariant-loop-disk
@@ -7,10 +7,10 @@ invariant-loop-disk g l = record {
   told : g.S.Shelf.told l.shelf ≡ g.S.Shelf.told l.fn.shelf;
   open_faults : (g.S.Shelf.counts l.shelf).open_faults
       ≡ (g.S.Shelf.counts l.fn.shelf).open_faults;
-  length_faults : RisesBy (sum_by g.S.Disk.Disk.length_faults l.yielded)
+  length_faults : RisesIfPositive (sum_by g.S.Disk.Disk.length_faults l.yielded)
       (g.S.Shelf.counts l.fn.shelf).length_faults (g.S.Shelf.counts l.shelf).length_faults;
-  faults : RisesBy (sum_by g.S.Disk.Disk.faults l.yielded)
+  faults : RisesIfPositive (sum_by g.S.Disk.Disk.faults l.yielded)
       (g.S.Shelf.counts l.fn.shelf).faults (g.S.Shelf.counts l.shelf).faults;
   reads : (g.S.Shelf.counts l.shelf).reads
-      ≡ raised_by (sum_by g.S.Disk.Disk.reads l.yielded) (g.S.Shelf.counts l.fn.shelf).reads;
+      ≡ count_plus (sum_by g.S.Disk.Disk.reads l.yielded) (g.S.Shelf.counts l.fn.shelf).reads;
 }

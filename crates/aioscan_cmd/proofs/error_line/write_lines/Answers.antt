@@ -1,6 +1,6 @@
 use Rattle.std.proofs.Common.{◌++◌, Bool, subst, sym}
 use Rattle.aioscan_cmd.specs.ErrorLine.{IsToldOnErr, totals_line}
-use Rattle.aioscan_cmd.specs.Outcomes.{line_of}
+use Rattle.aioscan_cmd.specs.Outcomes.{outcome_line}
 use Rattle.aioscan_cmd.specs.declared.report.Line.{Line}
 use Rattle.aioscan_cmd.proofs.ErrorTextsAppend.{told_cut, told_then, shown}
 use Rattle.aioscan_cmd.proofs.error_line.write_lines.Goals as goal
@@ -8,11 +8,11 @@ use Rattle.aioscan_cmd.proofs.error_line.write_lines.Goals as goal
 pub returns-in-Whole-clause-told : goal.returns-in-Whole-clause-told
 returns-in-Whole-clause-told g c =
     let P : Bool → Type 0 = λ shows. IsToldOnErr
-    (line_of c.args.ended.end.outcome ++ totals_line shows c.args.ended.end.numbers)
+    (outcome_line c.args.ended.end.outcome ++ totals_line shows c.args.ended.end.numbers)
     c.write_totals.result (g.E.Sink.written c.args.err.now)
     (g.E.Sink.written c.write_totals.new.err) (g.E.Sink.faults c.args.err.now)
     (g.E.Sink.faults c.write_totals.new.err) in
-    let Q : Line → Type 0 = λ line. IsToldOnErr (line_of c.args.ended.end.outcome) line
+    let Q : Line → Type 0 = λ line. IsToldOnErr (outcome_line c.args.ended.end.outcome) line
     (g.E.Sink.written c.args.err.now) (g.E.Sink.written c.write_line-line.new.err)
     (g.E.Sink.faults c.args.err.now) (g.E.Sink.faults c.write_line-line.new.err) in
     let shows = shown c.args.ended.shows_totals c.if-not-ended.false in

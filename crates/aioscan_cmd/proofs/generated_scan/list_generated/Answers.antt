@@ -3,7 +3,7 @@ use Rattle.std.specs.Prelude.{Some}
 use Rattle.heap_scan.specs.declared.sums.PageSums.{PageSums}
 use Rattle.aio_disk.specs.Counts.{CountRose}
 use Rattle.aio_disk.specs.Shelf.{Files, are_there, shelf_told}
-use Rattle.aioscan_cmd.specs.Command.{relations_of}
+use Rattle.aioscan_cmd.specs.Command.{command_relations}
 use Rattle.aioscan_cmd.specs.GeneratedPages.{summary_line}
 use Rattle.aioscan_cmd.specs.Output.{OutputGrew}
 use Rattle.aioscan_cmd.specs.declared.report.Outcome.TheVariants.{NoMemory}
@@ -23,7 +23,7 @@ pub returns-then-is_done-clause-ran : goal.returns-then-is_done-clause-ran
 returns-then-is_done-clause-ran g c =
     let generated = c.requires.generated in
     let command = c.args.command.now in
-    let told = ap (λ (files : Files). shelf_told (Some files) (relations_of command))
+    let told = ap (λ (files : Files). shelf_told (Some files) (command_relations command))
     c.in-Ok.ensures ∙ generated_contents c.args.pages command generated in
     let done = c.is_done.ensures.done c.if-is_done.true in
     let sums = listed_sums_generated c.args.pages command generated _ _ _ told done
@@ -33,36 +33,36 @@ returns-then-is_done-clause-ran g c =
     let P : PageSums → Type 0 = λ s. OutputGrew c.write_summary.result b a (summary_line s) in
     let ran = c.list_files-end.ensures.ran in
     let none = none_to_warn c.args.pages command generated _ _ _ _ c.list_files-end.result.outcome _
-    told (one_relation c.args.pages command generated) ran.are (inl done) in record {
+    told (one_relation c.args.pages command generated) ran.warnings_hold (inl done) in record {
       warnings = ran.warnings;
       tells = ran.tells;
-      are = λ k. ran_generated command.settings.zero c.args.pages generated.3 b a k
+      warnings_hold = λ k. ran_generated command.settings.zero c.args.pages generated.3 b a k
           c.write_summary.result ran.warnings c.write_summary.ensures.ends none
-          (subst P sums c.write_summary.ensures.grew);
+          (subst P sums c.write_summary.ensures.output_grew);
     }
 
 pub returns-clause-ran : goal.returns-clause-ran
 returns-clause-ran g c =
     let generated = c.requires.generated in
     let command = c.args.command.now in
-    let told = ap (λ (files : Files). shelf_told (Some files) (relations_of command))
+    let told = ap (λ (files : Files). shelf_told (Some files) (command_relations command))
     c.in-Ok.ensures ∙ generated_contents c.args.pages command generated in
     let still : ¬ CountRose 0 0 = λ rose. absurd (omega (arith, rose)) in
-    let there = ap (λ (files : Files). are_there files.named (relations_of command))
+    let there = ap (λ (files : Files). are_there files.named (command_relations command))
     c.in-Ok.ensures ∙ generated_there c.args.pages command generated in
     let one = one_relation c.args.pages command generated in
     let ran = c.list_files-end.ensures.ran in
     let ended = all_listed c.args.pages command generated _ _ _ _ c.list_files-end.result.outcome _
-    told one ran.are _ _ _ _ c.list_files-end.ensures.causes c.list_files-end.ensures.words
+    told one ran.warnings_hold _ _ _ _ c.list_files-end.ensures.causes c.list_files-end.ensures.words
     (c.list_files-end.ensures.sure there) still still still in
     let none = none_to_warn c.args.pages command generated _ _ _ _ c.list_files-end.result.outcome _
-    told one ran.are ended in
+    told one ran.warnings_hold ended in
     let memory : c.list_files-end.result.outcome ≡ NoMemory = elim ended [
       | inl done ↦ absurd (c.is_done.ensures.other c.if-is_done.false done)
       | inr no_memory ↦ no_memory
     ] in record {
       warnings = ran.warnings;
       tells = ran.tells;
-      are = λ k. ran_generated_without_memory command.settings.zero c.args.pages
+      warnings_hold = λ k. ran_generated_without_memory command.settings.zero c.args.pages
           (g.O.Sink.written c.args.out.now) k _ ran.warnings memory none;
     }

@@ -1,11 +1,11 @@
 use Rattle.std.proofs.Common.{◌∙◌, List, length, rules, refl, sym, ap, arith, subst}
 use Rattle.scan_rounds.specs.ListOptions.{ListOptions}
-use Rattle.scan_rounds.specs.BlockFilter.{unskipped_entries}
+use Rattle.scan_rounds.specs.BlockFilter.{filter_of_skipping, unskipped_entries}
 use Rattle.aioscan_cmd.specs.Command.{options_of_settings}
 use Rattle.aioscan_cmd.specs.RemainingRequests.{resolved_parts, resolved_settings}
 use Rattle.aioscan_cmd.specs.RequestList.{Part, Request, blocks_of_parts}
-use Rattle.aioscan_cmd.specs.ErrorLine.{Tells, error_stream}
-use Rattle.aioscan_cmd.specs.ListerState.{filter_of_map, unskipped_parts}
+use Rattle.aioscan_cmd.specs.ErrorLine.{AppendsErrorText, error_stream}
+use Rattle.aioscan_cmd.specs.ListerState.{unskipped_parts}
 use Rattle.aioscan_cmd.specs.Output.{IsOutput, WriteFaultsCounted, format_of_options}
 use Rattle.aioscan_cmd.specs.Sums.{HasSums}
 use Rattle.aioscan_cmd.proofs.ListerRoundsCompose.{all_listed, all_written, all_summed}
@@ -16,15 +16,15 @@ use Rattle.aioscan_cmd.proofs.in_rounds.list_rounds.Goals as goal
 
 pub returns-clause-lists : goal.returns-clause-lists
 returns-clause-lists g c =
-    let t = c.run_jobs-lister.result in
-    let skips = filter_of_map c.args.by_map in
+    let t = c.run-lister.result in
+    let skips = filter_of_skipping c.args.by_map in
     let kept = unskipped_parts skips (resolved_parts c.args.asked) in
     let before = error_stream c.args.line (g.E.Sink.written c.args.err.now)
     (g.E.Sink.faults c.args.err.now) in
-    let listed = all_listed g.W.World.told g.O.Sink.written g.O.Sink.faults g.E.Sink.written
-    g.E.Sink.faults kept _ t refl (ap (unskipped_parts skips) c.of-blocks.ensures.all)
-    (zero_sums c.default.result c.default.ensures) c.run_jobs-lister.ensures.followed.goes_on
-    c.run_jobs-lister.ensures.followed.over in
+    let listed = all_listed g.W.World.told g.O.Sink g.E.Sink kept _ t refl
+    (ap (unskipped_parts skips) c.new-blocks.ensures.all)
+    (zero_sums c.default.result c.default.ensures) c.run-lister.ensures.ran_source.source_follows
+    c.run-lister.ensures.ran_source.over in
     let options_are = ap options_of_settings c.settings-settings.ensures.settings in
     let Z : ListOptions → Type 0 = λ m.
     IsOutput (format_of_options m) g.W.World.told kept (g.O.Sink.written c.args.out.now)
@@ -34,54 +34,53 @@ returns-clause-lists g c =
     g.W.World.told kept
     (g.O.Sink.written c.args.out.now) (g.O.Sink.written o) t.outcome listed.warnings in
     let Q : g.row.E.Denot → Type 0 = λ e.
-    Tells listed.warnings before
+    AppendsErrorText listed.warnings before
     (error_stream t.line (g.E.Sink.written e) (g.E.Sink.faults e)) in
-    let loan = c.run_jobs-lister.ensures.followed.goes_on.0 in
-    let err_loan = c.run_jobs-lister.ensures.followed.goes_on.1 in record {
+    let loan = c.run-lister.ensures.ran_source.source_follows.0 in
+    let err_loan = c.run-lister.ensures.ran_source.source_follows.1 in record {
       warnings = listed.warnings;
       tells = subst Q (sym (c.err-1.given.1 (sym err_loan) ∙ c.end_borrow-2.ensures)) listed.tells;
-      are = subst P (sym (c.out-1.given.1 (sym loan) ∙ c.end_borrow.ensures))
-          (subst Z options_are listed.are);
+      warnings_hold = subst P (sym (c.out-1.given.1 (sym loan) ∙ c.end_borrow.ensures))
+          (subst Z options_are listed.warnings_hold);
     }
 
 pub returns-clause-writes : goal.returns-clause-writes
 returns-clause-writes g c =
     let P : g.row.O.Denot → Type 0 = λ o.
     WriteFaultsCounted (g.O.Sink.faults c.args.out.now) (g.O.Sink.faults o)
-    c.run_jobs-lister.result.outcome in
-    let loan = c.run_jobs-lister.ensures.followed.goes_on.0 in
-    let skips = filter_of_map c.args.by_map in
+    c.run-lister.result.outcome in
+    let loan = c.run-lister.ensures.ran_source.source_follows.0 in
+    let skips = filter_of_skipping c.args.by_map in
     subst P (search (rules, loan, c.out-1.given.1))
-    (all_written g.W.World.told g.O.Sink.written g.O.Sink.faults g.E.Sink.written
-    g.E.Sink.faults (unskipped_parts skips (resolved_parts c.args.asked))
-    _ c.run_jobs-lister.result refl (ap (unskipped_parts skips) c.of-blocks.ensures.all)
-    (zero_sums c.default.result c.default.ensures) c.run_jobs-lister.ensures.followed.goes_on)
+    (all_written g.W.World.told g.O.Sink g.E.Sink
+    (unskipped_parts skips (resolved_parts c.args.asked))
+    _ c.run-lister.result refl (ap (unskipped_parts skips) c.new-blocks.ensures.all)
+    (zero_sums c.default.result c.default.ensures) c.run-lister.ensures.ran_source.source_follows)
 
 pub returns-clause-sums : goal.returns-clause-sums
 returns-clause-sums g c = λ done.
     (let options_are = ap options_of_settings c.settings-settings.ensures.settings in
-    let skips = filter_of_map c.args.by_map in
+    let skips = filter_of_skipping c.args.by_map in
     let kept = unskipped_parts skips (resolved_parts c.args.asked) in
-    let sums = c.run_jobs-lister.result.sums in
+    let sums = c.run-lister.result.sums in
     let Z : ListOptions → Type 0 = λ m. HasSums m g.W.World.told (blocks_of_parts kept) sums in
     let B : List Request → Type 0 = λ l. HasSums
     (options_of_settings (resolved_settings c.args.asked)) g.W.World.told l sums in
     subst B (resolved_unskipped skips c.args.asked) (subst Z options_are
-    (all_summed g.W.World.told g.O.Sink.written g.O.Sink.faults g.E.Sink.written
-    g.E.Sink.faults kept _ c.run_jobs-lister.result refl
-    (ap (unskipped_parts skips) c.of-blocks.ensures.all)
+    (all_summed g.W.World.told g.O.Sink g.E.Sink kept _ c.run-lister.result refl
+    (ap (unskipped_parts skips) c.new-blocks.ensures.all)
     (zero_sums c.default.result c.default.ensures)
-    c.run_jobs-lister.ensures.followed.goes_on c.run_jobs-lister.ensures.followed.over done)))
+    c.run-lister.ensures.ran_source.source_follows c.run-lister.ensures.ran_source.over done)))
 
-pub returns-clause-taken : goal.returns-clause-taken
-returns-clause-taken g c =
-    let skips = filter_of_map c.args.by_map in
-    let followed = c.run_jobs-lister.ensures.followed in
+pub returns-clause-results_bound : goal.returns-clause-results_bound
+returns-clause-results_bound g c =
+    let skips = filter_of_skipping c.args.by_map in
+    let followed = c.run-lister.ensures.ran_source in
     omega (
       arith,
-      followed.taken,
+      followed.results_bound,
       ap (λ (l : List Part). length (unskipped_entries skips (blocks_of_parts l)))
-          c.of-blocks.ensures.all,
+          c.new-blocks.ensures.all,
       ap (λ (l : List Request). length (unskipped_entries skips l))
           (resolved_blocks c.args.asked),
     )

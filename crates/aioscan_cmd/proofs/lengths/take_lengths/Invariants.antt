@@ -1,11 +1,11 @@
 use Rattle.std.proofs.Common.{◌≡◌, ◌≤◌}
-use Rattle.aioscan_cmd.specs.Lengths.{HasLengths}
+use Rattle.aioscan_cmd.specs.Lengths.{HasAllLengths}
 use Rattle.aioscan_cmd.specs.Run.{limit_known}
 use Rattle.aioscan_cmd.proofs.lengths.take_lengths.Given as goal
 
 abbrev pub invariant-loop-relation : goal.invariant-loop-relation
 invariant-loop-relation g l = record {
-  taken : HasLengths (g.D.Disk.told l.fn.disk) (g.D.Disk.segment l.fn.disk) l.relation
+  taken : HasAllLengths (g.D.Disk.told l.fn.disk) (g.D.Disk.segment l.fn.disk) l.relation
       l.lengths.items;
   limit : l.limit ≡ limit_known (g.D.Disk.told l.fn.disk) (g.D.Disk.segment l.fn.disk);
   later : g.D.Disk.length_faults l.fn.disk ≤ g.D.Disk.length_faults l.disk;

@@ -9,7 +9,7 @@ pub returns-in-Ok-clause-lists : goal.returns-in-Ok-clause-lists
 returns-in-Ok-clause-lists g c = record {
   warnings = c.args.job.now.warnings.items;
   tells = c.end_job.ensures.told;
-  are = job_written c.args.job.now _ _ _ c.end_job.ensures.ended (search rules);
+  warnings_hold = job_written c.args.job.now _ _ _ c.end_job.ensures.ended (search rules);
 }
 
 pub returns-in-Ok-clause-writes : goal.returns-in-Ok-clause-writes

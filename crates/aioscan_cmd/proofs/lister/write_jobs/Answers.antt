@@ -1,5 +1,5 @@
 use Rattle.std.proofs.Common.{arith, refl}
-use Rattle.aioscan_cmd.proofs.WriteFaultsCompose.{written_then}
+use Rattle.aioscan_cmd.proofs.OutputsAppend.{written_then}
 use Rattle.aioscan_cmd.proofs.JobTextsAppend.{next_done, next_stopped, all_listed, among_all}
 use Rattle.aioscan_cmd.proofs.JobTextsAppend.{none_listed}
 use Rattle.aioscan_cmd.proofs.ErrorTextsAppend.{warns_also, warns_none, warns_then}
@@ -9,7 +9,7 @@ use Rattle.aioscan_cmd.proofs.lister.write_jobs.Goals as goal
 pub loop-job-init : goal.loop-job-init
 loop-job-init g c = record {
   lists = warns_none _ _ _ _ _ refl (none_listed _ _);
-  gave = λ i d below. absurd (omega arith);
+  all_pages_given = λ i d below. absurd (omega arith);
   later = omega arith;
 }
 
@@ -20,9 +20,9 @@ loop-job-preserved g c =
           (λ v w first second. next_done c.args.jobs.now c.loop-job.job-index c.job-item.result
           _ _ _ c.loop-job-test.true c.job-item.is c.write_job-outcome.result.0 v w c.in-Done.is
           first second) c.loop-job.invariant.lists c.write_job-outcome.ensures.lists;
-      gave = gave_more c.args.jobs.now c.loop-job.job-index c.job-item.result c.job-item.result
-          c.loop-job-test.true c.job-item.is c.loop-job.invariant.gave
-          (c.write_job-outcome.ensures.gave c.in-Done.is);
+      all_pages_given = gave_more c.args.jobs.now c.loop-job.job-index c.job-item.result c.job-item.result
+          c.loop-job-test.true c.job-item.is c.loop-job.invariant.all_pages_given
+          (c.write_job-outcome.ensures.all_pages_given c.in-Done.is);
       later = omega (arith, c.loop-job.invariant.later);
     }
 
@@ -36,7 +36,7 @@ returns-in_default g c = record {
   writes = written_then _ _ _ _ c.loop-job.invariant.later c.write_job-outcome.ensures.writes;
   unread = among_all c.args.jobs.now c.loop-job.job-index _ c.job-item.result c.job-item.result
       c.loop-job-test.true c.job-item.is c.write_job-outcome.ensures.unread;
-  gave = λ is. absurd (c.in_default.not-Done is);
+  all_pages_given = λ is. absurd (c.in_default.not-Done is);
 }
 
 pub returns-clause-lists : goal.returns-clause-lists
@@ -45,7 +45,7 @@ returns-clause-lists g c =
     (λ w listed. all_listed c.args.jobs.now c.loop-job.job-index _ _ w c.loop-job-test.false
     listed) c.loop-job.invariant.lists
 
-pub returns-clause-gave : goal.returns-clause-gave
-returns-clause-gave g c = λ _.
+pub returns-clause-all_pages_given : goal.returns-clause-all_pages_given
+returns-clause-all_pages_given g c = λ _.
     gave_every c.args.jobs.now c.loop-job.job-index c.loop-job-test.false
-    c.loop-job.invariant.gave
+    c.loop-job.invariant.all_pages_given

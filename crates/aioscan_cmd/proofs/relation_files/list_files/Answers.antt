@@ -1,6 +1,6 @@
 use Rattle.std.proofs.Common.{◌∙◌, [], ap, length, refl}
 use Rattle.aio_disk.specs.Shelf.{shelf_told}
-use Rattle.aioscan_cmd.specs.Command.{relations_of}
+use Rattle.aioscan_cmd.specs.Command.{command_relations}
 use Rattle.aioscan_cmd.proofs.RefusedRuns.{ran_without_memory, ran_unopened}
 use Rattle.aioscan_cmd.proofs.ListedRuns.{ran_same}
 use Rattle.aioscan_cmd.proofs.SumsOverTold.{no_sums_told, sums_same}
@@ -28,7 +28,7 @@ pub returns-clause-ran : goal.returns-clause-ran
 returns-clause-ran g c =
     let names = c.names.ensures.names ∙ c.in-Ok.ensures in
     warns_also _ _ _ _ (λ w ran. ran_same
-    (shelf_told (g.S.Shelf.told c.args.shelf.now) (relations_of c.args.command.now))
+    (shelf_told (g.S.Shelf.told c.args.shelf.now) (command_relations c.args.command.now))
     (g.S.Disk.Disk.told c.in-Ok-open.disk) _ _ c.args.command.now
     (g.O.Sink.written c.args.out.now) _ _ _ _ w
     (c.in-Ok-open.ensures.contents
@@ -52,7 +52,8 @@ returns-in-Err-Memory-clause-sums g c =
 pub returns-clause-sums : goal.returns-clause-sums
 returns-clause-sums g c =
     let names = c.names.ensures.names ∙ c.in-Ok.ensures in
-    sums_same (shelf_told (g.S.Shelf.told c.args.shelf.now) (relations_of c.args.command.now)) _ _ _
+    sums_same (shelf_told (g.S.Shelf.told c.args.shelf.now) (command_relations c.args.command.now))
+    _ _ _
     _
     (c.in-Ok-open.ensures.contents
     ∙ ap (shelf_told (g.S.Shelf.told c.args.shelf.now)) names) c.scan_disk.ensures.sums

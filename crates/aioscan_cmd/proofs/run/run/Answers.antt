@@ -10,7 +10,7 @@ use Rattle.aioscan_cmd.proofs.run.run.Goals as goal
 
 pub returns-in-Err-Usage-clause-ran : goal.returns-in-Err-Usage-clause-ran
 returns-in-Err-Usage-clause-ran g c =
-    let end = c.of-in-Err-Usage.ensures.end in
+    let end = c.new-in-Err-Usage.ensures.end in
     warns_none _ _ _ _ _
     (ap (λ (e : RunEnd). e.line) end ∙ c.without_reads.ensures.line)
     (ran_no_command (g.S.Shelf.told c.args.shelf.now)
@@ -21,7 +21,7 @@ returns-in-Err-Usage-clause-ran g c =
 
 pub returns-in-Err-NoMemory-clause-ran : goal.returns-in-Err-NoMemory-clause-ran
 returns-in-Err-NoMemory-clause-ran g c =
-    let end = c.of-in-Err-NoMemory.ensures.end in
+    let end = c.new-in-Err-NoMemory.ensures.end in
     warns_none _ _ _ _ _
     (ap (λ (e : RunEnd). e.line) end ∙ c.without_reads-in-Err-NoMemory.ensures.line)
     (ran_unread (g.S.Shelf.told c.args.shelf.now)
@@ -31,7 +31,7 @@ returns-in-Err-NoMemory-clause-ran g c =
 
 pub returns-in-Err-NoMemory-clause-counted : goal.returns-in-Err-NoMemory-clause-counted
 returns-in-Err-NoMemory-clause-counted g c =
-    let end = c.of-in-Err-NoMemory.ensures.end in
+    let end = c.new-in-Err-NoMemory.ensures.end in
     let numbers = c.without_reads-in-Err-NoMemory.ensures.numbers in
     uncounted _ _ _ _ _ (ap (λ (e : RunEnd). e.numbers.incarnations) end ∙ numbers.0)
     (ap (λ (e : RunEnd). e.numbers.by_workers) end ∙ numbers.1)

@@ -18,12 +18,12 @@ returns-in-Some-clause-ran g c =
     c.list_generated.result.outcome ran.warnings in record {
       warnings = ran.warnings;
       tells = ran.tells;
-      are = subst P (sym generated) (ran.are reads);
+      warnings_hold = subst P (sym generated) (ran.warnings_hold reads);
     }
 
 pub returns-in-Some-clause-causes : goal.returns-in-Some-clause-causes
 returns-in-Some-clause-causes g c =
-    let ran = c.list_generated.ensures.ran.are 0 in
+    let ran = c.list_generated.ensures.ran.warnings_hold 0 in
     generated_causes (g.S.Shelf.counts c.args.shelf.now) _ _
     c.list_generated.result.outcome ran.ends c.list_generated.ensures.writes
 
@@ -37,5 +37,5 @@ returns-in-Some-clause-counted g c =
 
 pub returns-in-Some-clause-words : goal.returns-in-Some-clause-words
 returns-in-Some-clause-words g c =
-    let ran = c.list_generated.ensures.ran.are 0 in
+    let ran = c.list_generated.ensures.ran.warnings_hold 0 in
     (generated_apart c.list_generated.result.outcome ran.ends).usage

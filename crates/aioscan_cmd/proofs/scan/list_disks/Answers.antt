@@ -14,26 +14,25 @@ returns-clause-unread g c = λ r b is.
 pub returns-clause-disks : goal.returns-clause-disks
 returns-clause-disks g c =
     c.finish-totals.ensures.finished.disks_are
-    ∙ ap length (c.list_asked-outcome.ensures.same.opened ∙ c.in-Ok.ensures.new.opened)
+    ∙ ap length (c.list_asked-outcome.ensures.same.opened ∙ c.in-Ok.ensures.opened.opened)
 
 pub returns-in-Err-clause-disks : goal.returns-in-Err-clause-disks
-returns-in-Err-clause-disks g c = ap (λ disks. length disks.items) c.in-Err.ensures.back
+returns-in-Err-clause-disks g c = ap (λ disks. length disks.items) c.in-Err.ensures.disks_returned
 
 pub returns-clause-listed : goal.returns-clause-listed
 returns-clause-listed g c =
     let (given, lists, few) = c.list_asked-outcome.ensures.listed in
     let f = c.finish-totals.ensures.finished in
     let same = c.list_asked-outcome.ensures.same in
-    let none = ap (sum_by g.D.Disk.reads) (same.opened ∙ c.in-Ok.ensures.new.opened)
-    ∙ no_reads g.D.Disk.told g.D.Disk.relations g.D.Disk.segment g.D.Disk.faults g.D.Disk.reads
-    g.W.World.told g.W.World.relations c.args.asked.segment c.args.disks.items
+    let none = ap (sum_by g.D.Disk.reads) (same.opened ∙ c.in-Ok.ensures.opened.opened)
+    ∙ no_reads g.D.Disk g.W.World.told g.W.World.relations c.args.asked.segment c.args.disks.items
     c.requires.unread in (
       given,
       lists,
       record {
         sum = omega (
           arith,
-          f.are.sum,
+          f.totals_are.sum,
           c.incarnations.ensures,
           c.by_runners.ensures,
           c.by_backends.ensures,
@@ -42,33 +41,32 @@ returns-clause-listed g c =
             (let each = f.each_read below in omega (arith, each, none, c.incarnations.ensures));
         by_workers_are = λ below.
             workers_read g.D.Disk.reads _ c.finish-totals.result.1.items _ _ _ _
-            (ap (λ config. config.backends) same.config
-            ∙ (c.in-Ok.ensures.new.backends
-            ∙ ap (λ settings. settings.backends) c.settings-settings.ensures.settings))
+            (ap (λ config. config.backends) (same.config ∙ c.in-Ok.ensures.opened.config)
+            ∙ ap (λ settings. settings.backends) c.settings-settings.ensures.settings)
             none c.by_runners.ensures (f.each_worker_read below);
         few = omega (
           arith,
           f.each_taken,
           c.incarnations.ensures,
           few,
-          c.in-Ok.ensures.new.taken,
+          c.in-Ok.ensures.opened.no_results,
         );
         no_workers = none_by_workers _ _ _ _ _ c.settings-settings.ensures.settings
-            (ap (λ config. config.runners) same.config ∙ c.in-Ok.ensures.new.runners)
+            (ap (λ config. config.runners) (same.config ∙ c.in-Ok.ensures.opened.config))
             f.no_workers c.by_runners.ensures;
       },
     )
 
 pub returns-in-Err-clause-listed : goal.returns-in-Err-clause-listed
 returns-in-Err-clause-listed g c =
-    let none = no_reads g.D.Disk.told g.D.Disk.relations g.D.Disk.segment g.D.Disk.faults
-    g.D.Disk.reads g.W.World.told g.W.World.relations c.args.asked.segment c.args.disks.items
+    let none = no_reads g.D.Disk g.W.World.told g.W.World.relations c.args.asked.segment
+    c.args.disks.items
     c.requires.unread in
     let numbers = c.without_reads.ensures.numbers in (
       λ _. [],
       warns_none _ _ _ _ _ c.without_reads.ensures.line
           (nothing_listed _ g.W.World.told _ _ _ c.without_reads.ensures.outcome),
       nothing_counted _ _ _ _ _ _
-          (ap (λ disks. sum_by g.D.Disk.reads disks.items) c.in-Err.ensures.back ∙ none)
+          (ap (λ disks. sum_by g.D.Disk.reads disks.items) c.in-Err.ensures.disks_returned ∙ none)
           numbers.0 numbers.1 numbers.2,
     )

@@ -17,7 +17,7 @@ returns-in-Ok-clause-scanned g c =
         others = (e.length_faults, e.faults, e.reads);
         lists = λ _. lists;
         cannot_open = λ is. absurd (
-            let begun = subst (λ (o : Outcome). is_refused o ≡ false) is lists.begun in cc);
+            let begun = subst (λ (o : Outcome). is_refused o ≡ false) is lists.not_refused in cc);
         unread = c.list_disks.ensures.unread;
       }) listed,
       counted,
@@ -27,14 +27,12 @@ pub returns-in-Err-Device-clause-scanned : goal.returns-in-Err-Device-clause-sca
 returns-in-Err-Device-clause-scanned g c =
     let e = c.open_others.ensures in
     let numbers = c.without_reads.ensures.numbers in
-    let none = no_reads g.S.Disk.Disk.told g.S.Disk.Disk.relations g.S.Disk.Disk.segment
-    g.S.Disk.Disk.faults g.S.Disk.Disk.reads _ _ _ c.open_others.new.disks.items e.unread in (
+    let none = no_reads g.S.Disk.Disk _ _ _ c.open_others.new.disks.items e.unread in (
       λ _. [],
       warns_none _ _ _ _ _ c.without_reads.ensures.line
           (scan_refused _ _ _ _ _ _ _ _ _ c.without_reads.ensures.outcome e.later
           (e.length_faults, e.faults, e.reads) (search rules)
-          (no_faults g.S.Disk.Disk.told g.S.Disk.Disk.relations g.S.Disk.Disk.segment
-          g.S.Disk.Disk.faults g.S.Disk.Disk.reads _ _ _ c.open_others.new.disks.items e.unread)
+          (no_faults g.S.Disk.Disk _ _ _ c.open_others.new.disks.items e.unread)
           none),
       nothing_counted _ _ _ _ _ _ none numbers.0 numbers.1 numbers.2,
     )
@@ -43,8 +41,7 @@ pub returns-in-Err-Memory-clause-scanned : goal.returns-in-Err-Memory-clause-sca
 returns-in-Err-Memory-clause-scanned g c =
     let e = c.open_others.ensures in
     let numbers = c.without_reads-in-Err-Memory.ensures.numbers in
-    let none = no_reads g.S.Disk.Disk.told g.S.Disk.Disk.relations g.S.Disk.Disk.segment
-    g.S.Disk.Disk.faults g.S.Disk.Disk.reads _ _ _ c.open_others.new.disks.items e.unread in (
+    let none = no_reads g.S.Disk.Disk _ _ _ c.open_others.new.disks.items e.unread in (
       λ _. [],
       warns_none _ _ _ _ _ c.without_reads-in-Err-Memory.ensures.line
           (scanned_nothing _ _ _ _ _ _ _ _ _ c.without_reads-in-Err-Memory.ensures.outcome e.later

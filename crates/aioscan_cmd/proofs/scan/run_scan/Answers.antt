@@ -27,7 +27,7 @@ returns-clause-counted g c =
     let e = c.open_and_list-disks.ensures in
     let back = c.take_all_back.ensures in
     let (given, scanned, counted) = e.scanned in
-    ended_counted c.args.asked given _ _ _ _ _ _ _ _ _ scanned.are _ back.open_faults _
+    ended_counted c.args.asked given _ _ _ _ _ _ _ _ _ scanned.warnings_hold _ back.open_faults _
     back.length_faults back.faults back.reads _ _ _ counted refl
 
 pub returns-clause-causes : goal.returns-clause-causes
@@ -35,7 +35,7 @@ returns-clause-causes g c =
     let e = c.open_and_list-disks.ensures in
     let back = c.take_all_back.ensures in
     let (given, scanned, counted) = e.scanned in
-    ended_by_causes c.args.asked given _ _ _ _ _ _ _ _ _ scanned.are _ back.open_faults _
+    ended_by_causes c.args.asked given _ _ _ _ _ _ _ _ _ scanned.warnings_hold _ back.open_faults _
     back.length_faults back.faults back.reads _ _ e.writes
 
 pub returns-clause-order : goal.returns-clause-order
@@ -43,7 +43,7 @@ returns-clause-order g c =
     let e = c.open_and_list-disks.ensures in
     let back = c.take_all_back.ensures in
     let (given, scanned, counted) = e.scanned in
-    ended_in_order c.args.asked given _ _ _ _ _ _ _ _ _ scanned.are _ back.open_faults _
+    ended_in_order c.args.asked given _ _ _ _ _ _ _ _ _ scanned.warnings_hold _ back.open_faults _
     back.length_faults back.faults back.reads
 
 pub returns-clause-words : goal.returns-clause-words
@@ -51,7 +51,7 @@ returns-clause-words g c =
     let e = c.open_and_list-disks.ensures in
     let back = c.take_all_back.ensures in
     let (given, scanned, counted) = e.scanned in
-    ended_not_usage c.args.asked given _ _ _ _ _ _ _ _ _ scanned.are _ back.open_faults _
+    ended_not_usage c.args.asked given _ _ _ _ _ _ _ _ _ scanned.warnings_hold _ back.open_faults _
     back.length_faults back.faults back.reads
 
 pub returns-in_default-clause-sums : goal.returns-in_default-clause-sums

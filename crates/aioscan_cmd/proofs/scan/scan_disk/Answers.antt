@@ -1,5 +1,5 @@
 use Rattle.std.proofs.Common.{ℕ, arith, subst}
-use Rattle.aioscan_cmd.specs.Lengths.{HasNoLengths}
+use Rattle.aioscan_cmd.specs.Lengths.{LengthsFailed}
 use Rattle.aioscan_cmd.proofs.RefusedRuns.{ran_refused}
 use Rattle.aioscan_cmd.proofs.SumsOverTold.{refused_sums}
 use Rattle.aioscan_cmd.proofs.ErrorTextsAppend.{warns_none}
@@ -8,7 +8,7 @@ use Rattle.aioscan_cmd.proofs.scan.scan_disk.Goals as goal
 pub returns-in-Err-clause-ran : goal.returns-in-Err-clause-ran
 returns-in-Err-clause-ran g c =
     let P : ℕ → Type 0 =
-    λ n. HasNoLengths (g.S.Disk.Disk.told c.args.disk) (g.S.Disk.Disk.segment c.args.disk) n
+    λ n. LengthsFailed (g.S.Disk.Disk.told c.args.disk) (g.S.Disk.Disk.segment c.args.disk) n
     c.in-Err.outcome in
     warns_none _ _ _ _ _ c.without_reads.ensures.line
     (ran_refused _ _ _ _ _ _ _ _ _ c.without_reads.ensures.outcome

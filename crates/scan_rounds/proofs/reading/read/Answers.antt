@@ -6,23 +6,23 @@ use Rattle.read_stream.specs.Desks.{IsFreeDesk}
 use Rattle.read_stream.specs.declared.desk.Desk.{Desk}
 use Rattle.read_stream.specs.ActorProgress.{local_mark_count}
 use Rattle.read_stream.proofs.ActorAdvancedLaws.{advanced_then}
-use Rattle.scan_rounds.specs.BlockFilter.{filter_of}
+use Rattle.scan_rounds.specs.BlockFilter.{filter_of_skipping}
 use Rattle.scan_rounds.proofs.Blocks.{given_moved, source_count, source_entries, source_few}
 use Rattle.scan_rounds.proofs.reading.read.Goals as goal
 
 pub open-stream-requires-clause-room : goal.open-stream-requires-clause-room
 open-stream-requires-clause-room g c =
     let (room, is, enough) = c.requires.room in
-    let few = source_few (filter_of c.args.blocks.skipping) c.args.blocks.first
+    let few = source_few (filter_of_skipping c.args.blocks.by_map) c.args.blocks.first
     c.args.blocks.count in
-    let same = ap length c.of-source.ensures in
+    let same = ap length c.new-source.ensures in
     (room, is, omega arith)
 
 pub take_all-ending-requires-clause-few : goal.take_all-ending-requires-clause-few
 take_all-ending-requires-clause-few g c =
-    let few = source_few (filter_of c.args.blocks.skipping) c.args.blocks.first
+    let few = source_few (filter_of_skipping c.args.blocks.by_map) c.args.blocks.first
     c.args.blocks.count in
-    let same = ap length (c.open-stream.ensures.source ∙ c.of-source.ensures) in
+    let same = ap length (c.open-stream.ensures.source ∙ c.new-source.ensures) in
     let most = c.requires.few in
     omega arith
 
@@ -38,29 +38,29 @@ returns-clause-desk g c =
     let same = c.desk-1.given.1 (sym name) ∙ c.end_borrow.ensures in (
       subst (λ d. IsFreeDesk d) (sym same) c.close-desk.ensures.desk.1,
       ap (λ (d : Desk _ (Unit {0})). d.zero) same ∙ c.close-desk.ensures.desk.2.6
-          ∙ (sym c.take_all-ending.ensures.is_open.between.steady.zero
+          ∙ (sym c.take_all-ending.ensures.is_open.between.invariant.zero
           ∙ (c.take_all-ending.ensures.zero ∙ c.open-stream.ensures.zero)),
     )
 
-pub returns-clause-lived : goal.returns-clause-lived
-returns-clause-lived g c h =
+pub returns-clause-lives_bound : goal.returns-clause-lives_bound
+returns-clause-lives_bound g c h =
     let was = c.take_all-ending.ensures.was.0 ∙ c.open-stream.ensures.actor.0 in
-    let few = source_few (filter_of c.args.blocks.skipping) c.args.blocks.first
+    let few = source_few (filter_of_skipping c.args.blocks.by_map) c.args.blocks.first
     c.args.blocks.count in
     let long = ap length (c.take_all-ending.ensures.was.1
-    ∙ (c.open-stream.ensures.source ∙ c.of-source.ensures)) in
+    ∙ (c.open-stream.ensures.source ∙ c.new-source.ensures)) in
     let taken = c.close-desk.ensures.few in
     let marks = ap (λ (a : ActorView). lives_ended h a.known.marks) was in
-    let ended = c.close-desk.ensures.lived h in
+    let ended = c.close-desk.ensures.lives_bound h in
     omega arith
 
-pub returns-clause-taken : goal.returns-clause-taken
-returns-clause-taken g c =
+pub returns-clause-results_bound : goal.returns-clause-results_bound
+returns-clause-results_bound g c =
     let was = c.take_all-ending.ensures.was.0 ∙ c.open-stream.ensures.actor.0 in
-    let many = source_count (filter_of c.args.blocks.skipping) c.args.blocks.relation
+    let many = source_count (filter_of_skipping c.args.blocks.by_map) c.args.blocks.relation
     c.args.blocks.first c.args.blocks.count in
     let long = ap length (c.take_all-ending.ensures.was.1
-    ∙ (c.open-stream.ensures.source ∙ c.of-source.ensures)) in
+    ∙ (c.open-stream.ensures.source ∙ c.new-source.ensures)) in
     let marks = ap (λ (a : ActorView). local_mark_count a.known.marks) was in
     let taken = c.close-desk.ensures.few in
     let count = c.close-desk.ensures.count in
@@ -70,7 +70,8 @@ pub returns-clause-given : goal.returns-clause-given
 returns-clause-given g c =
     given_moved _ _ _ _ _ _ _ _ _ _ _ _ _ _ _ c.open-stream.ensures.zero
     c.open-stream.ensures.actor.0
-    (ap (stream_entries c.args.blocks.relation) (c.open-stream.ensures.source ∙ c.of-source.ensures)
-    ∙ source_entries (filter_of c.args.blocks.skipping) c.args.blocks.relation c.args.blocks.first
+    (ap (stream_entries c.args.blocks.relation) (c.open-stream.ensures.source ∙ c.new-source.ensures)
+    ∙ source_entries (filter_of_skipping c.args.blocks.by_map) c.args.blocks.relation
+    c.args.blocks.first
     c.args.blocks.count)
     c.close-desk.ensures.actor_advanced c.take_all-ending.ensures.given

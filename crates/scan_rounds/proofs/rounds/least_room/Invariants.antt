@@ -5,7 +5,7 @@ use Rattle.scan_rounds.proofs.rounds.least_room.Given as goal
 abbrev pub invariant-loop-backend : goal.invariant-loop-backend
 invariant-loop-backend g l = record {
   small : l.least < 2 ^ 64;
-  have : AllBackendsHaveRoom l.least (take l.backend-index l.backends);
+  all_have_room : AllBackendsHaveRoom l.least (take l.backend-index l.backends);
   greatest : (n : ℕ) → n < 2 ^ 64 → AllBackendsHaveRoom n (take l.backend-index l.backends) → n
       ≤ l.least;
 }

@@ -5,10 +5,8 @@ use Rattle.scan_rounds.proofs.run_state.all_rounds.Given as goal
 abbrev pub invariant-loop-backends : goal.invariant-loop-backends
 invariant-loop-backends g l = record {
   advanced : JobSourceAdvanced g.D.Disk g.W.World.told g.W.World.relations l.shared.table
-      l.shared.queue
-      g.A.JobSource.blocks_left g.A.JobSource.unskipped_left g.A.JobSource.unread
-      g.A.JobSource.options g.A.JobSource.block_filter g.A.JobSource.follows l.fn.backends
-      l.backends l.fn.jobs l.jobs l.fn.job_source l.job_source l.fn.counts l.counts;
+      l.shared.queue g.A.JobSource l.fn.backends l.backends l.fn.jobs l.jobs l.fn.job_source
+      l.job_source l.fn.counts l.counts;
   many : (1 ≤ l.many) × (l.many ≤ length l.jobs) × (length l.backends ≤ l.many);
   room : 64 * g.A.JobSource.blocks_left l.job_source ≤ l.counts.room;
 }

@@ -6,22 +6,22 @@ use Rattle.scan_rounds.specs.declared.backend.Backend.{Backend}
 use Rattle.scan_rounds.proofs.QueueClosed.{first_closed, options_closed}
 use Rattle.scan_rounds.proofs.run_state.close_queue.Goals as goal
 
-pub returns-clause-waiting : goal.returns-clause-waiting
-returns-clause-waiting g c =
+pub returns-clause-ready : goal.returns-clause-ready
+returns-clause-ready g c =
     let r = c.close.ensures.rest in
     (first_closed _ _ _ _ _ c.args.backends.now _ c.close.new.self c.args.counts
-    c.requires.waiting (get_or_default _ 0 _ _ c.requires.waiting.some) r.0 r.1 r.3
-    c.close.ensures.seat c.close.ensures.kept).0
+    c.requires.ready (get_or_default _ 0 _ _ c.requires.ready.some) r.0 r.1 r.3
+    c.close.ensures.seat c.close.ensures.seat_kept).0
 
 pub returns-clause-options : goal.returns-clause-options
 returns-clause-options g c how all =
     let r = c.close.ensures.rest in
     options_closed c.args.backends.now _ c.close.new.self
-    (get_or_default _ 0 _ _ c.requires.waiting.some) r.1 r.2 how all
+    (get_or_default _ 0 _ _ c.requires.ready.some) r.1 r.2 how all
 
 pub returns-clause-closed : goal.returns-clause-closed
 returns-clause-closed g c = record {
   seat = λ b. subst (λ (x : Backend _ _). IfSome x.seat (HasClosed c.args.shared.now.queue))
-      (sym (get_or-set_same c.args.backends.now 0 c.close.new.self b c.requires.waiting.some))
+      (sym (get_or-set_same c.args.backends.now 0 c.close.new.self b c.requires.ready.some))
       c.close.ensures.closed;
 }

@@ -9,7 +9,7 @@ use Rattle.aio_handle.specs.ContractViews.{TableView}
 use Rattle.method_worker.specs.QueueViews.{QueueView}
 use Rattle.scan_rounds.specs.BlockFilter.{BlockFilter}
 use Rattle.scan_rounds.specs.Progress.{RoundMade}
-use Rattle.scan_rounds.specs.RoundStates.{HasRunRound}
+use Rattle.scan_rounds.specs.RoundStates.{StateMadeRound}
 use Rattle.scan_rounds.specs.declared.backend.Backend.{Backend}
 use Rattle.scan_rounds.specs.declared.job.Job.{Job}
 use Rattle.scan_rounds.specs.declared.run_state.RoundState.{RoundState}
@@ -23,7 +23,7 @@ has_run : {W D : Type 0} (m : DiskGhosts D) (told : Option Told) (relations : �
     → js ≡ take r.count r.jobs.items → ks ≡ take r.count s.jobs.items
     → length s.jobs.items ≡ length r.jobs.items
     → RoundMade m told relations t q block_filter gs bs js ks r.counts s.counts
-    → HasRunRound m told relations t q block_filter r s
+    → StateMadeRound m told relations t q block_filter r s
 has_run {W} {D} m told relations t q block_filter r s gs bs js ks begun backends asked answered many
     made =
     record {
@@ -50,7 +50,7 @@ returns g c =
     let parts = c.split_at_mut-front.ensures in
     let back = c.split_at_mut-front.result.1.now in
     let listed = c.make_round.new.jobs in
-    let many = as_many_disk_actors _ _ _ _ _ _ made.go_on in
+    let many = as_many_disk_actors _ _ _ _ _ _ made.actors_advanced in
     let as_many : length listed ≡ length c.split_at_mut-front.result.0.now = c.make_round.auto.jobs
     in
     let both = length-append listed back in

@@ -19,11 +19,11 @@ share_out-returns-then-takers-eq1 g t c =
     let fit = c.requires.fit in omega arith) (record {
       taker = _;
       tasks = _;
-      were = (refl, refl);
+      before_is = (refl, refl);
       taker_after = _;
       tasks_after = _;
       call = c.f.ensures;
-      are = (refl, refl);
+      after_is = (refl, refl);
     })
 
 pub share_out-both_halves-requires-clause-first : goal.share_out-both_halves-requires-clause-first

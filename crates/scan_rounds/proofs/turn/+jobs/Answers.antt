@@ -1,8 +1,8 @@
 use Rattle.std.proofs.Common.{refl, sym, subst, arith, length, List, ◌∷◌, [], ◌*◌, ◌+◌}
 use Rattle.std.proofs.lemmas.List.Elements.{All-rest}
-use Rattle.scan_rounds.specs.Jobs.{IsFresh}
-use Rattle.scan_rounds.specs.BlockFilter.{filter_of}
-use Rattle.scan_rounds.specs.Turns.{HasTurned, ListedAlone}
+use Rattle.scan_rounds.specs.Jobs.{IsNewJob}
+use Rattle.scan_rounds.specs.BlockFilter.{filter_of_skipping}
+use Rattle.scan_rounds.specs.Turns.{BackendsTookTurn, ListedAlone}
 use Rattle.scan_rounds.specs.declared.job.Job.{Job}
 use Rattle.scan_rounds.proofs.LeastRoom.{fewer}
 use Rattle.scan_rounds.proofs.JobsInSequence.{may_later, none_done, none_listed, one_alone}
@@ -26,11 +26,11 @@ do_jobs-requires-clause-may g t c κs within =
     let later = c.in-Some.later.now in
     let own = c.args.backend.now in
     may_later _ _ _ _ _ own c.list.new.self c.in-Some.job.now c.list.new.job
-    c.list.ensures.did (length later) later
+    c.list.ensures.did_job (length later) later
     (fewer (64 * (length later + 1)) (64 * length c.args.jobs.now) own.disk_actor.actor
     (omega (arith, both.1)) (c.requires.may.room 0 own (omega arith)))
     (c.requires.may.backends 0 own (omega arith)).backend
-    (All-rest (IsFresh g.W.World.relations) c.in-Some.job.now later c.args.jobs.now both.0
+    (All-rest (IsNewJob g.W.World.relations) c.in-Some.job.now later c.args.jobs.now both.0
     c.requires.may.fresh)
 
 pub returns-in-Some : goal.returns-in-Some
@@ -39,22 +39,23 @@ returns-in-Some g t c =
     let job = c.in-Some.job.now in
     let later = c.in-Some.later.now in
     let own = c.args.backend.now in record {
-      done = subst (λ (js : List Job). HasTurned g.D.Disk g.W.World.told g.W.World.relations
-          c.args.shared.now.table c.args.shared.now.queue (filter_of c.args.skipping)
+      done = subst (λ (js : List Job). BackendsTookTurn g.D.Disk g.W.World.told g.W.World.relations
+          c.args.shared.now.table c.args.shared.now.queue (filter_of_skipping c.args.by_map)
           (64 * length c.args.jobs.now) (own ∷ []) (c.do_jobs.new.backend ∷ []) js
           (c.list.new.job ∷ c.do_jobs.new.jobs)) (sym both.0)
           (turned_more _ _ _ _ _ (64 * length later + 64) (64 * length c.args.jobs.now) (own ∷ [])
           (c.do_jobs.new.backend ∷ []) (job ∷ later) (c.list.new.job ∷ c.do_jobs.new.jobs)
           (omega (arith, both.1))
           (one_then _ _ _ _ _ own c.list.new.self job c.list.new.job
-          c.list.ensures.did (64 * length later) c.do_jobs.new.backend later
+          c.list.ensures.did_job (64 * length later) c.do_jobs.new.backend later
           c.do_jobs.new.jobs c.do_jobs.ensures.done));
-      alone = subst (λ (js : List Job). ListedAlone g.W.World.told (filter_of c.args.skipping) own
+      alone = subst (λ (js : List Job). ListedAlone g.W.World.told (filter_of_skipping
+          c.args.by_map) own
           c.do_jobs.new.backend js (c.list.new.job ∷ c.do_jobs.new.jobs)) (sym both.0)
-          (one_alone _ _ _ _ _ own c.list.new.self job c.list.new.job c.list.ensures.did
-          c.do_jobs.new.backend later c.do_jobs.new.jobs c.do_jobs.ensures.unmoved
+          (one_alone _ _ _ _ _ own c.list.new.self job c.list.new.job c.list.ensures.did_job
+          c.do_jobs.new.backend later c.do_jobs.new.jobs c.do_jobs.ensures.backend_same
           c.do_jobs.ensures.done.jobs_are);
-      unmoved = λ none. absurd (omega (arith, both.1));
+      backend_same = λ none. absurd (omega (arith, both.1));
     }
 
 pub returns-in_default : goal.returns-in_default
@@ -62,5 +63,5 @@ returns-in_default g t c = record {
   done = none_done _ _ _ _ _ c.args.backend.now c.args.jobs.now c.in_default.ensures.cases
       c.requires.may;
   alone = none_listed c.args.backend.now c.args.jobs.now c.in_default.ensures.cases;
-  unmoved = λ none. refl;
+  backend_same = λ none. refl;
 }

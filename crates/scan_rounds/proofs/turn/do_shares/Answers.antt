@@ -1,6 +1,6 @@
 use denote.Param.Send.{sendable}
 use Rattle.std.proofs.Common.{subst}
-use Rattle.scan_rounds.specs.Shares.{AreFilled}
+use Rattle.scan_rounds.specs.Shares.{SharesAreFilled}
 use Rattle.scan_rounds.proofs.SharesInParallel.{all_placed, all_turned, alone_as, may_share}
 use Rattle.scan_rounds.proofs.SharesInParallel.{turned_as}
 use Rattle.scan_rounds.proofs.turn.do_shares.Goals as goal
@@ -22,13 +22,13 @@ returns g c =
     let shared = c.share_out.ensures in record {
       done = all_turned _ _ _ _ _ _ _ c.args.backends.now c.share_out.new.takers c.args.jobs.now
           c.share_out.new.tasks shared.shares shared.takers shared.takers_after shared.tasks
-          shared.tasks_after (λ i d lt. (let one = shared.taken i d lt in
-          turned_as _ _ _ _ _ _ _ _ _ _ _ _ _ one.were.0 one.are.0 one.were.1 one.are.1
+          shared.tasks_after (λ i d lt. (let one = shared.shares_done i d lt in
+          turned_as _ _ _ _ _ _ _ _ _ _ _ _ _ one.before_is.0 one.after_is.0 one.before_is.1 one.after_is.1
           one.call.0));
       by_place = λ share how all. all_placed _ how _ c.args.backends.now c.share_out.new.takers
           c.args.jobs.now c.share_out.new.tasks shared.shares
-          (subst (λ n. AreFilled n shared.shares) share shared.filled) shared.takers
+          (subst (λ n. SharesAreFilled n shared.shares) share shared.filled) shared.takers
           shared.takers_after shared.tasks shared.tasks_after
-          (λ i d lt. (let one = shared.taken i d lt in
-          alone_as _ _ _ _ _ _ _ _ one.were.0 one.are.0 one.were.1 one.are.1 one.call.1)) all;
+          (λ i d lt. (let one = shared.shares_done i d lt in
+          alone_as _ _ _ _ _ _ _ _ one.before_is.0 one.after_is.0 one.before_is.1 one.after_is.1 one.call.1)) all;
     }

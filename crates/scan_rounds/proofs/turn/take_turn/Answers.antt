@@ -10,12 +10,12 @@ do_shares-requires-clause-may g c κs within = record {
   backends = c.requires.backends;
   room = λ i d lt. fewer (64 * c.args.share) c.args.counts.room
       (slice_index_or c.args.backends.now i d).disk_actor.actor c.requires.room.1
-      (c.requires.room.0.have i d lt);
+      (c.requires.room.0.all_have_room i d lt);
   fresh = c.requires.fresh;
 }
 
-pub returns-clause-go_on : goal.returns-clause-go_on
-returns-clause-go_on g c = all_gone_on _ _ _ _ _ _ _ _ _ _ c.do_shares.ensures.done
+pub returns-clause-actors_advanced : goal.returns-clause-actors_advanced
+returns-clause-actors_advanced g c = all_gone_on _ _ _ _ _ _ _ _ _ _ c.do_shares.ensures.done
 
 pub returns-clause-options : goal.returns-clause-options
 returns-clause-options g c = all_have_options _ _ _ _ _ _ _ _ _ _ c.do_shares.ensures.done
@@ -27,7 +27,7 @@ returns-clause-room g c =
       least_falls (64 * c.args.share) c.args.backends.now c.do_shares.new.backends
           c.args.counts.room c.least_room.result done.as_many
           (λ i d lt. (done.advanced i d lt).same)
-          (λ i d lt. (c.requires.backends i d lt).backend) done.lived c.requires.room.0.have
+          (λ i d lt. (c.requires.backends i d lt).backend) done.lives_bound c.requires.room.0.all_have_room
           c.least_room.ensures.least,
     )
 

@@ -1,6 +1,6 @@
 use Rattle.std.proofs.Common.{◌≡◌, ◌+◌, ◌-◌, arith, ap, length, ◌∙◌, sym, List, [], ℕ, get_or}
 use Rattle.std.specs.Prelude.{Option, Some, slice_index}
-use Rattle.aioscan_cmd.specs.Command.{asked_count, relation_number, relations_of}
+use Rattle.aioscan_cmd.specs.Command.{asked_count, relation_number, command_relations}
 use Rattle.aioscan_cmd.specs.RemainingRequests.{file_name_of_place}
 use Rattle.std.proofs.lemmas.List.{length-map}
 use Rattle.aioscan_cmd.proofs.RemainingRequestsStep.{relation_at}
@@ -34,7 +34,7 @@ returns-then-count-eq0-clause-block c =
     let file : file_name_of_place c.args.self.now 0 ≡ map.of.file =
     ap (λ (l : List (List ℕ)). get_or l 0 []) map.of.one_file in
     let number = at.0 ∙ ap (λ (n : List ℕ). relation_number n
-    (relations_of c.args.self.now.command.now)) file in
+    (command_relations c.args.self.now.command.now)) file in
     sym (none_asked c.args.self.now map.of.file map.of.one_file _
     (c.asked_count-count.ensures.count ∙ ap (λ (n : ℕ). asked_count c.args.self.now.command.now
     (slice_index c.args.self.now.lengths.now n)) number) (omega arith))
@@ -48,7 +48,7 @@ returns-else-count-eq0-clause-block c =
     let file : file_name_of_place c.args.self.now 0 ≡ map.of.file =
     ap (λ (l : List (List ℕ)). get_or l 0 []) map.of.one_file in
     let number = at.0 ∙ ap (λ (n : List ℕ). relation_number n
-    (relations_of c.args.self.now.command.now)) file in
+    (command_relations c.args.self.now.command.now)) file in
     ap {B = Option ℕ} (λ (n : ℕ). Some (n + (c.asked_count-count.result - 1)))
     c.first_block.ensures.block
     ∙ sym (some_asked c.args.self.now map.of.file map.of.one_file _

@@ -4,8 +4,7 @@ use Rattle.aioscan_cmd.proofs.lister.ListerJobSource.finish_jobs.Goals as goal
 
 pub returns-in-Done-clause-follows : goal.returns-in-Done-clause-follows
 returns-in-Done-clause-follows g c = λ was asked gives_jobs answered.
-    round_written g.W.World.told g.O.Sink.written g.O.Sink.faults g.E.Sink.written
-    g.E.Sink.faults was c.args.self.now _ asked c.args.jobs.now gives_jobs answered c.in-Done.is
-    refl
-    refl refl refl refl c.write_jobs-outcome.ensures.lists c.write_jobs-outcome.ensures.writes
-    c.write_jobs-outcome.ensures.gave c.add_up-self.ensures
+    round_written g.W.World.told g.O.Sink g.E.Sink was c.args.self.now _ asked c.args.jobs.now
+    gives_jobs answered c.in-Done.is refl refl refl refl refl
+    c.write_jobs-outcome.ensures.lists c.write_jobs-outcome.ensures.writes
+    c.write_jobs-outcome.ensures.all_pages_given c.add_up-self.ensures

@@ -1,6 +1,6 @@
 use Rattle.std.proofs.Common.{◌∙◌, map, sym, ap}
 use Rattle.std.specs.Option.{option_map}
-use Rattle.aioscan_cmd.proofs.FileWords.{valid_file_names-found}
+use Rattle.aioscan_cmd.proofs.WordValues.{valid_file_names-found}
 use Rattle.aioscan_cmd.proofs.words.values.names_files.Goals as goal
 
 pub returns : goal.returns

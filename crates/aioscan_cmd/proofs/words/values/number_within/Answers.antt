@@ -1,6 +1,6 @@
 use Rattle.std.proofs.Common.{◌≡◌, true}
 use Rattle.aioscan_cmd.specs.Words.{is_number}
-use Rattle.aioscan_cmd.proofs.Digits.{digits_parsed}
+use Rattle.aioscan_cmd.proofs.WordValues.{digits_parsed}
 use Rattle.aioscan_cmd.proofs.words.values.number_within.Goals as goal
 
 pub returns-in_default-clause-number : goal.returns-in_default-clause-number

@@ -1,7 +1,7 @@
 use Rattle.std.proofs.Common.{sym, ◌∙◌, refl, subst}
 use Rattle.heap_tuple.specs.Listing.{text_with}
-use Rattle.scan_rounds.specs.DiskActors.{HasListed}
-use Rattle.scan_rounds.specs.BlockFilter.{filter_of}
+use Rattle.scan_rounds.specs.DiskActors.{ActorListedJob}
+use Rattle.scan_rounds.specs.BlockFilter.{filter_of_skipping}
 use Rattle.scan_rounds.specs.declared.job.Job.{Job}
 use Rattle.scan_rounds.proofs.JobListed.{by_text}
 use Rattle.scan_rounds.proofs.OutputOfPages.{no_text}
@@ -16,9 +16,10 @@ pub returns-clause-listed : goal.returns-clause-listed
 returns-clause-listed g c =
     let same = c.read-ending.ensures.consumer in
     let job = c.job-1.given.1 (sym same.loan) ∙ c.end_borrow.ensures in
-    subst (λ (l : Job). HasListed g.D.Disk g.W.World.told g.W.World.relations
+    subst (λ (l : Job). ActorListedJob g.D.Disk g.W.World.told g.W.World.relations
     c.args.shared.now.table
-    (filter_of c.args.skipping) c.args.tuples c.args.self.now c.read-ending.new.self c.args.desk.now
+    (filter_of_skipping c.args.by_map) c.args.tuples c.args.self.now c.read-ending.new.self
+    c.args.desk.now
     c.read-ending.new.desk c.args.job.now l) (sym job)
     (by_text _ _ _ _ _ _ _ _ _ _ _ _ c.read-ending.new.consumer.job.now c.read-ending.result refl
     c.requires.may.fresh.few.1 same.relation_is same.blocks_are

@@ -1,5 +1,5 @@
 use Rattle.std.proofs.Common.{ℕ, ◌∙◌, arith, subst}
-use Rattle.scan_rounds.specs.OpenedScan.{HasLists}
+use Rattle.scan_rounds.specs.OpenedScan.{HasEmptyLists}
 use Rattle.scan_rounds.proofs.memory.Memory.open.Goals as goal
 
 pub returns : goal.returns
@@ -19,6 +19,6 @@ returns g c =
       desks = c.in_ok-open_desks.ensures.desks;
       jobs_suffice = (let many = c.in_ok-open_jobs.ensures in
           let each = c.job_count.ensures in omega arith);
-      lists = subst (λ (n : ℕ). HasLists c.args.settings.now.backends n c.in_ok-open.field-0)
+      lists = subst (λ (n : ℕ). HasEmptyLists c.args.settings.now.backends n c.in_ok-open.field-0)
           c.worker_count.ensures c.in_ok-open.ensures;
     }

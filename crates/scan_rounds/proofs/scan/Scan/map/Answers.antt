@@ -6,14 +6,14 @@ use Rattle.scan_rounds.proofs.scan.Scan.map.Goals as goal
 pub read_map-done-requires-clause-room : goal.read_map-done-requires-clause-room
 read_map-done-requires-clause-room g c κs within =
     less_room 65 c.args.self.now.room _ _ c.requires.may.room (search rules)
-    c.requires.may.scan.room.have
+    c.requires.may.scan.room.all_have_room
 
 pub returns : goal.returns
 returns g c =
     let may = c.requires.may in
     let e = c.read_map-done.ensures in
     record {
-      mapped = record {
+      map_read = record {
         scan = scan_read _ _ _ c.args.self.now c.replace-own_backends.result.items
             c.read_map-done.result.0.items c.least_room.result _ _ _ _ _ may.scan (search rules)
             e.read (search rules) _ refl refl refl refl refl refl refl refl refl
@@ -32,7 +32,7 @@ returns g c =
             c.read_map-done.result.0.items c.least_room.result _ _ _ _ _ may.scan (search rules)
             e.read (search rules);
         unread = c.count_one.ensures;
-        taken = results_taken-mapped _ _ _ c.args.self.now c.replace-own_backends.result.items
+        results_bound = results_taken-mapped _ _ _ c.args.self.now c.replace-own_backends.result.items
             c.read_map-done.result.0.items c.least_room.result _ _ _ _ _ may.scan (search rules)
             e.read (search rules);
       };

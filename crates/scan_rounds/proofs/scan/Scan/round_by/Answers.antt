@@ -1,11 +1,11 @@
 use Rattle.std.proofs.Common.{◌≡◌, arith, rules, ◌∙◌, refl, sym, ap, subst, length, List, take}
 use Rattle.std.specs.List.{All}
-use Rattle.aio_disk.specs.Counts.{raised_by}
+use Rattle.aio_disk.specs.Counts.{count_plus}
 use Rattle.aio_handle.specs.ContractViews.{TableView}
-use Rattle.scan_rounds.specs.Jobs.{IsFresh, count_unskipped, unread_among}
-use Rattle.scan_rounds.specs.Rounds.{AllHaveOptions, AreListed, results_taken_count}
+use Rattle.scan_rounds.specs.Jobs.{IsNewJob, count_unskipped, unread_job_count}
+use Rattle.scan_rounds.specs.Rounds.{AllHaveOptions, AllJobsListed, results_taken_count}
 use Rattle.scan_rounds.specs.Scans.{IsOpenedAgain, scan_options}
-use Rattle.scan_rounds.specs.BlockFilter.{filter_of}
+use Rattle.scan_rounds.specs.BlockFilter.{filter_of_skipping}
 use Rattle.scan_rounds.specs.declared.job.Job.{Job}
 use Rattle.scan_rounds.proofs.RoundsCompose.{as_many_disk_actors}
 use Rattle.scan_rounds.proofs.ScanAfterRounds.{waiting_in, serving_in, scan_again}
@@ -31,10 +31,10 @@ round_beside-own_workers-requires-clause-may g c κs within =
     record {
       some = (let enough = may.scan.jobs_suffice in omega (arith, given.as_many));
       may = record {
-        waiting = waiting_in _ _ _ c.args.self.now _ _ _ may.scan r.table r.queue.0 r.queue.1
+        ready = waiting_in _ _ _ c.args.self.now _ _ _ may.scan r.table r.queue.0 r.queue.1
             (search rules);
         few = (let jobs = ap length given.own in omega arith);
-        fresh = subst (λ (js : List Job). All (IsFresh g.W.World.relations) js) (sym given.own)
+        fresh = subst (λ (js : List Job). All (IsNewJob g.W.World.relations) js) (sym given.own)
             may.fresh;
         room = may.room;
       };
@@ -49,8 +49,8 @@ returns g c =
     let made = e.made.made in
     let after = c.round_beside-own_workers.result.1 in
     let same : c.reopen_queue.result.items ≡ s.backends.items = search rules in
-    let many = as_many_disk_actors _ _ _ _ _ _ made.go_on in
-    let options = subst (λ bs. AllHaveOptions (scan_options s) bs) (sym same) may.scan.all_list_in
+    let many = as_many_disk_actors _ _ _ _ _ _ made.actors_advanced in
+    let options = subst (λ bs. AllHaveOptions (scan_options s) bs) (sym same) may.scan.all_have_options
     in
     let before = ap (λ bs. results_taken_count bs) same in
     let count : length c.exchange.new.jobs ≡ length c.args.jobs.now = search rules in
@@ -58,11 +58,11 @@ returns g c =
     let answered : c.exchange-2.new.jobs ≡ take (length c.args.jobs.now) after.jobs.items =
     c.exchange-2.ensures.jobs ∙ ap (λ n. take n after.jobs.items) count in
     let spare = ap (λ own. length own.items) c.replace.ensures.value in
-    let bf = filter_of c.args.skipping in
+    let bf = filter_of_skipping c.args.by_map in
     record {
-      rounded = record {
+      made_round = record {
         scan = scan_again _ _ _ s _ _ _ may.scan r.table (search rules) (search rules)
-            made.waiting e.workers_served made.go_on (made.all_list_in _ options) many
+            made.ready e.workers_served made.actors_advanced (made.all_have_options _ options) many
             (c.exchange-2.ensures.as_many ∙ (e.made.jobs_are ∙ (c.exchange.ensures.as_many
             ∙ spare))) refl refl refl;
         same = record {
@@ -74,17 +74,18 @@ returns g c =
         reopened = subst (λ own. IsOpenedAgain own.items s.shared.queue
             c.reopen_queue.new.shared.queue) c.replace-own_backends.ensures.value r.reopened;
         closed = made.closed;
-        listed = subst (λ bs. AreListed bf (scan_options s) g.W.World.told bs after.backends.items
+        listed = subst (λ bs. AllJobsListed bf (scan_options s) g.W.World.told bs
+            after.backends.items
             c.args.jobs.now c.exchange-2.new.jobs) same
-            (subst (λ (js : List Job). AreListed bf (scan_options s) g.W.World.told
+            (subst (λ (js : List Job). AllJobsListed bf (scan_options s) g.W.World.told
             c.reopen_queue.result.items after.backends.items js c.exchange-2.new.jobs) asked
-            (subst (λ (ks : List Job). AreListed bf (scan_options s) g.W.World.told
+            (subst (λ (ks : List Job). AllJobsListed bf (scan_options s) g.W.World.told
             c.reopen_queue.result.items after.backends.items
             (take (length c.args.jobs.now) c.exchange.result.items) ks) (sym answered)
             (made.listed _ options)));
         room = made.room;
-        unread = subst (λ (ks : List Job). after.counts.unread ≡ raised_by (unread_among ks)
+        unread = subst (λ (ks : List Job). after.counts.unread ≡ count_plus (unread_job_count ks)
             s.unread) (sym answered) made.unread;
-        taken = (let taken = made.taken in let kept = ap (count_unskipped bf) asked in omega arith);
+        results_bound = (let taken = made.results_bound in let kept = ap (count_unskipped bf) asked in omega arith);
       };
     }

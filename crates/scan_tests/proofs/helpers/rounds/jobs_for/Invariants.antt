@@ -1,7 +1,7 @@
 use Rattle.std.proofs.Common.{◌≡◌, length}
 use Rattle.std.specs.List.{All}
-use Rattle.scan_rounds.specs.Jobs.{IsFresh}
+use Rattle.scan_rounds.specs.Jobs.{IsNewJob}
 use Rattle.scan_tests.proofs.helpers.rounds.jobs_for.Given as goal
 
 abbrev pub invariant-loop-blocks : goal.invariant-loop-blocks
-invariant-loop-blocks l = All (IsFresh 1) l.jobs.items × (length l.jobs.items ≡ l.blocks-index)
+invariant-loop-blocks l = All (IsNewJob 1) l.jobs.items × (length l.jobs.items ≡ l.blocks-index)

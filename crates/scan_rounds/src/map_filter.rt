@@ -4,26 +4,26 @@ use vis_map::{Skip, VisMap};
 
 /// A map, and which of the blocks that it marks are left out.
 #[derive(Clone, Copy)]
-pub(crate) struct Skipping<'m> {
-    pub(crate) map: &'m VisMap,
-    pub(crate) skip: Skip,
+pub struct MapFilter<'m> {
+    pub map: &'m VisMap,
+    pub skip: Skip,
 }
 
 /// Accepts the blocks that are not left out: all, where there is no map.
 #[derive(Drop)]
 pub(crate) struct UnskippedTest<'m> {
-    pub(crate) skipping: Option<Skipping<'m>>,
+    pub(crate) by_map: Option<MapFilter<'m>>,
 }
 
 impl BlockTest for UnskippedTest<'_> {
-    ghost use Rattle.scan_rounds.specs.BlockFilter.{is_unskipped, filter_of};
+    ghost use Rattle.scan_rounds.specs.BlockFilter.{is_unskipped, filter_of_skipping};
 
-    ghost accepts = { λ k block. is_unskipped (filter_of k.skipping) block };
+    ghost accepts = { λ k block. is_unskipped (filter_of_skipping k.by_map) block };
 
     fn is_accepted(&self, block: u32) -> bool {
-        match self.skipping {
+        match self.by_map {
             None => true,
-            Some(Skipping { map, skip }) => !map.skips(block, skip),
+            Some(MapFilter { map, skip }) => !map.skips(block, skip),
         }
     }
 }

@@ -4,7 +4,7 @@ use Rattle.scan_rounds.specs.ListOptions.{ListOptions}
 use Rattle.scan_rounds.specs.Rounds.{AllHaveOptions, results_taken_count}
 use Rattle.scan_rounds.specs.Scans.{IsOpenedAgain, scan_options}
 use Rattle.scan_rounds.proofs.ScanAfterRounds.{waiting_in, serving_in, scan_again}
-use Rattle.scan_rounds.proofs.scan.Scan.run_by.Goals as goal
+use Rattle.scan_rounds.proofs.scan.Scan.run.Goals as goal
 
 pub run_beside-own_workers-requires-clause-serve : goal.run_beside-own_workers-requires-clause-serve
 run_beside-own_workers-requires-clause-serve g c κs within =
@@ -18,14 +18,14 @@ run_beside-own_workers-requires-clause-may g c κs within =
     let q = c.reopen_queue.ensures.queue in
     let same : c.reopen_queue.result.items ≡ c.args.self.now.backends.items = search rules in
     record {
-      waiting = waiting_in _ _ _ c.args.self.now _ _ _ may.scan c.reopen_queue.ensures.table q.0 q.1
+      ready = waiting_in _ _ _ c.args.self.now _ _ _ may.scan c.reopen_queue.ensures.table q.0 q.1
           (search rules);
       places = (let few = may.scan.jobs_suffice in let as_many = ap (λ bs. length bs) same in
           grind arith);
       room = may.room;
-      all_list_in = subst (λ (n : ListOptions). AllHaveOptions n c.reopen_queue.result.items)
+      all_have_options = subst (λ (n : ListOptions). AllHaveOptions n c.reopen_queue.result.items)
           (sym may.options_are) (subst (λ bs. AllHaveOptions (scan_options c.args.self.now) bs)
-          (sym same) may.scan.all_list_in);
+          (sym same) may.scan.all_have_options);
       filter_is = may.filter_is;
     }
 
@@ -37,12 +37,12 @@ returns g c =
     let same : c.reopen_queue.result.items ≡ c.args.self.now.backends.items = search rules in
     let before = ap (λ bs. results_taken_count bs) same in
     record {
-      followed = record {
+      ran_source = record {
         scan = scan_again _ _ _ c.args.self.now _ _ _ may.scan r.table (search rules) (search rules)
-            e.advanced.waiting e.workers_served e.advanced.gone.go_on
+            e.advanced.ready e.workers_served e.advanced.rounds_advanced.actors_advanced
             (subst (λ (n : ListOptions). AllHaveOptions n
             c.run_beside-own_workers.result.1.backends.items) may.options_are
-            e.advanced.all_list_in)
+            e.advanced.all_have_options)
             e.advanced.backends (search rules) refl refl refl;
         same = record {
           config = ap (λ (t : TableView). t.config) r.table;
@@ -53,16 +53,16 @@ returns g c =
         reopened = subst (λ own. IsOpenedAgain own.items c.args.self.now.shared.queue
             c.reopen_queue.new.shared.queue) c.replace-own_backends.ensures.value r.reopened;
         closed = e.closed;
-        goes_on = e.advanced.goes_on;
+        source_follows = e.advanced.source_follows;
         over = e.over;
         options_are = e.advanced.options_are;
         filter_is = e.advanced.filter_is;
-        room = (let asked = e.advanced.gone.room in let fewer = e.advanced.left_fewer in omega
+        room = (let asked = e.advanced.rounds_advanced.room in let fewer = e.advanced.blocks_not_more in omega
             arith);
-        more = e.advanced.gone.more;
-        raised = e.advanced.gone.raised;
-        enough = (let told = e.advanced.gone.enough in omega arith);
-        taken = (let kept = e.advanced.gone.taken in let fewer = e.advanced.due_fewer in omega
+        more = e.advanced.rounds_advanced.more;
+        unread_raised = e.advanced.rounds_advanced.unread_raised;
+        unread_enough = (let told = e.advanced.rounds_advanced.unread_enough in omega arith);
+        results_bound = (let kept = e.advanced.rounds_advanced.results_bound in let fewer = e.advanced.unskipped_not_more in omega
             arith);
       };
     }

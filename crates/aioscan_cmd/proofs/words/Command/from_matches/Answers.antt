@@ -1,6 +1,6 @@
 use Rattle.std.proofs.Common.{rules, ◌≡◌, true}
 use Rattle.aioscan_cmd.proofs.MapWords.{map_of_words}
-use Rattle.aioscan_cmd.proofs.words.Command.of.Goals as goal
+use Rattle.aioscan_cmd.proofs.words.Command.from_matches.Goals as goal
 
 pub invariant_of-result : goal.invariant_of-result
 invariant_of-result c =

@@ -4,7 +4,7 @@ use Rattle.aioscan_cmd.specs.Command.{IsBelowIfGiven, number_limit}
 use Rattle.aioscan_cmd.specs.RequestList.{Part, blocks_of_parts}
 use Rattle.aioscan_cmd.proofs.RemainingRequestsStep.{remaining_parts-all, few_requests}
 use Rattle.aioscan_cmd.proofs.RemainingRequestsStep.{few_files, resolved_blocks}
-use Rattle.aioscan_cmd.proofs.cutter.Cutter.of.Goals as goal
+use Rattle.aioscan_cmd.proofs.cutter.Cutter.new.Goals as goal
 
 pub returns-clause-all : goal.returns-clause-all
 returns-clause-all g c = remaining_parts-all c.args.asked
