@@ -1,7 +1,7 @@
 //! Reads that wait for each other at disks of one shelf.
-use crate::helpers::{TestOutcome, words_of};
 use aio_disk::MemSink;
 use aioscan_cmd::{Report, aioscan};
+use aioscan_fixtures::runs::{TestOutcome, words_of};
 use blocking_disk::{BlockingShelf, ReadBarrier};
 use std::alloc::Global;
 use std::process::Abort;

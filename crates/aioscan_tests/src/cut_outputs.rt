@@ -1,9 +1,9 @@
 //! Outputs that fail, and what was said before.
 ghost use Rattle.std.specs.Prelude.{None};
 
-use crate::helpers::{check_outcome, empty_file, empty_lines, run, two_files, words_of};
 use aio_disk::{MemSink, Sink, WriteFault};
 use aioscan_cmd::{Line, aioscan};
+use aioscan_fixtures::runs::{check_outcome, empty_file, empty_lines, run, two_files, words_of};
 use page_fixtures::files::{Files, STEADY, shelf_of};
 use page_fixtures::pages::{DAMAGED, Parts, bytes_of};
 use std::alloc::{AllocError, Global};
@@ -108,7 +108,7 @@ fn outputs_that_fail(rt: HostRuntime) -> Result<(), Fail> {
         let cuts: (&[(u64, u64)], &[(u64, u64)]) = (&[row.cut], &[]);
         let done = run(&rt, files_of(rt.alloc(), &row)?, STEADY, row.line, cuts)?;
         let text = text_of(rt.alloc(), &row)?;
-        check_outcome(&rt, row.name, &done, (text.as_str(), row.said, row.status));
+        check_outcome(row.name, &done, (text.as_str(), row.said, row.status))?;
         assert_eq!(&rt; done.report.line, Line::Whole, "{}", row.name);
     }
     Ok(())

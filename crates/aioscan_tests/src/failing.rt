@@ -1,6 +1,6 @@
 //! Reads that fail or are short, and what is listed before them.
-use crate::helpers::{FinishedRun, check_outcome, empty_file, empty_lines, run, run_over};
 use aioscan_cmd::Outcome;
+use aioscan_fixtures::runs::{FinishedRun, check_outcome, empty_file, empty_lines, run, run_over};
 use page_fixtures::files::{Faults, STEADY, one_file};
 use std::process::Abort;
 use std::sync::Wait;
@@ -66,8 +66,7 @@ fn check_listed<R: Abort + AllocGlobal + Threads + Wait + Sync>(
     let line = "--method sync --backends 1 --stats f";
     let done = run_over(rt, empty_file(rt.alloc(), 8)?, faults_of(fails), line)?;
     let text = empty_lines(rt.alloc(), 0, listed)?;
-    check_outcome(rt, lines, &done, (text.as_str(), lines, status));
-    Ok(())
+    check_outcome(lines, &done, (text.as_str(), lines, status))
 }
 
 #[test]

@@ -1,5 +1,5 @@
 //! How many pages the pool holds.
-use crate::helpers::{check_over, empty_file, empty_lines};
+use aioscan_fixtures::runs::{check_over, empty_file, empty_lines};
 use page_fixtures::files::STEADY;
 use std::test::Fail;
 

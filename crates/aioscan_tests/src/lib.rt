@@ -14,23 +14,11 @@ mod failing;
 #[cfg(test)]
 mod frames;
 #[cfg(test)]
-mod generated_pages;
-#[cfg(test)]
-mod helpers;
-#[cfg(test)]
-mod map_reads;
-#[cfg(test)]
-mod map_runs;
+mod io_counts;
 #[cfg(test)]
 mod map_words;
 #[cfg(test)]
 mod one_file_runs;
-#[cfg(test)]
-mod plain_lister;
-#[cfg(test)]
-mod random_maps;
-#[cfg(test)]
-mod random_requests;
 #[cfg(test)]
 mod reads;
 #[cfg(test)]
@@ -40,14 +28,8 @@ mod refused_words;
 #[cfg(test)]
 mod segments;
 #[cfg(test)]
-mod settings;
-#[cfg(test)]
 mod statuses;
-#[cfg(test)]
-mod tuples;
 #[cfg(test)]
 mod untold_contents;
 #[cfg(test)]
 mod words;
-#[cfg(test)]
-mod zero_damaged;

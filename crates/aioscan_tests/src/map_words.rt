@@ -1,7 +1,7 @@
 //! Words that name a map.
-use crate::helpers::words_of;
 use crate::words::joined;
 use aioscan_cmd::read_command;
+use aioscan_fixtures::runs::words_of;
 use std::test::Fail;
 use vis_map::Skip;
 

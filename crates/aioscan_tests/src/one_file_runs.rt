@@ -1,6 +1,6 @@
 //! Pages of one file, and words that are no command.
-use crate::helpers::{TestOutcome, check_outcome, check_over, run, two_files};
 use aioscan_cmd::Line;
+use aioscan_fixtures::runs::{TestOutcome, check_outcome, check_over, run, two_files};
 use page_fixtures::files::{Faults, STEADY, one_file};
 use page_fixtures::pages::{DAMAGED, EMPTY, Parts, ZEROS, bytes_of};
 use std::process::Abort;
@@ -29,7 +29,7 @@ pub(crate) fn expect<R: Abort + AllocGlobal + Threads + Wait + Sync>(
     );
     let all = two_files(rt.alloc(), ("f", f), ("g", g))?;
     let done = run(rt, all, faults, line, (&[], &[]))?;
-    check_outcome(rt, name, &done, wanted);
+    check_outcome(name, &done, wanted)?;
     assert_eq!(rt; done.report.line, Line::Whole, "{name}");
     Ok(())
 }
@@ -203,7 +203,7 @@ fn an_error_stream_that_fails_after_3_bytes(rt: HostRuntime) -> Result<(), Fail>
     };
     let line = "--method sync --backends 1 --stats f";
     let done = run(&rt, files, read_1, line, (&[], &[(1, 3)]))?;
-    check_outcome(&rt, line, &done, ("", "unr", 3));
+    check_outcome(line, &done, ("", "unr", 3))?;
     assert_eq!(rt; done.report.line, Line::Cut);
     Ok(())
 }

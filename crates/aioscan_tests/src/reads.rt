@@ -1,5 +1,7 @@
-//! Which reads a run makes, and what its report counts.
-use crate::helpers::{FinishedRun, check_outcome, check_over, empty_file, empty_lines, run_over};
+//! Which reads a run makes.
+use aioscan_fixtures::runs::{
+    Read, check_outcome, check_over, check_reads, empty_file, empty_lines, run_over,
+};
 use page_fixtures::files::{Faults, STEADY};
 use page_fixtures::pages::{EMPTY, Parts, bytes_of};
 use std::alloc::Global;
@@ -7,30 +9,6 @@ use std::process::Abort;
 use std::sync::Wait;
 use std::test::Fail;
 use std::thread::Threads;
-
-/// The first block of a read, how many blocks were asked for, and how many came.
-pub(crate) type Read = (u32, u32, Option<u32>);
-
-// The reads of a run, in their order.
-fn reads_of(alloc: Global, run: &FinishedRun) -> Result<Vec<Read>, Fail> {
-    let mut reads = Vec::new(alloc);
-    for entry in run.shelf.log() {
-        reads.push((entry.first, entry.asked, entry.answered))?;
-    }
-    Ok(reads)
-}
-
-/// Compares the reads of a run.
-pub(crate) fn check_reads<R: Abort + AllocGlobal>(
-    rt: &R,
-    done: &FinishedRun,
-    name: &str,
-    wanted: &[Read],
-) -> Result<(), Fail> {
-    let reads = reads_of(rt.alloc(), done)?;
-    assert_eq!(rt; reads.as_slice(), wanted, "{name}");
-    Ok(())
-}
 
 // The lines of so many empty pages, once for each word `f` of a line.
 fn repeated_lines(alloc: Global, pages: u32, line: &str) -> Result<String, Fail> {
@@ -58,8 +36,8 @@ fn expect_reads<R: Abort + AllocGlobal + Threads + Wait + Sync>(
     let count = wanted.len();
     let totals = format!(in alloc; "incarnations {count} workers 0 backends {count}\n")?;
     let text = repeated_lines(alloc, pages, line)?;
-    check_outcome(rt, name, &done, (text.as_str(), totals.as_str(), 0));
-    check_reads(rt, &done, name, wanted)
+    check_outcome(name, &done, (text.as_str(), totals.as_str(), 0))?;
+    check_reads(rt.alloc(), &done, name, wanted)
 }
 
 // How many pages the file has, what the first reads give at most, the line, and the reads.
@@ -227,108 +205,7 @@ fn an_invalid_page_behind_one_read(rt: HostRuntime) -> Result<(), Fail> {
         "--method ring --backends 1 --full --from 10 --to 13 f",
     ] {
         let done = check_over(&rt, file.clone()?, STEADY, line, wanted)?;
-        check_reads(&rt, &done, line, &[(10, 4, Some(4))])?;
-    }
-    Ok(())
-}
-
-// Compares how many I/Os there were, of workers and of backends.
-fn check_counts<R: Abort>(rt: &R, done: &FinishedRun, line: &str, wanted: (u128, u128, u128)) {
-    let report = &done.report;
-    let counts = (report.incarnations, report.by_workers, report.by_backends);
-    assert_eq!(rt; counts, wanted, "{line}");
-}
-
-#[test]
-fn a_third_read_that_fails(rt: HostRuntime) -> Result<(), Fail> {
-    let alloc = rt.alloc();
-    let faults = Faults {
-        reads: &[(0, 3)],
-        ..STEADY
-    };
-    let text = empty_lines(alloc, 0, 2)?;
-    let lines = "unread page 0 2\nincarnations 3 workers 0 backends 3\n";
-    for line in [
-        "--method sync --backends 1 --combine 1 --handles 1 --stats f",
-        "--method ring --backends 1 --combine 1 --handles 1 --stats f",
-    ] {
-        let file = empty_file(alloc, 5)?;
-        let done = check_over(&rt, file, faults, line, (text.as_str(), lines, 3))?;
-        check_counts(&rt, &done, line, (3, 0, 3));
-    }
-    Ok(())
-}
-
-#[test]
-fn an_incarnation_for_each_of_512_blocks(rt: HostRuntime) -> Result<(), Fail> {
-    let alloc = rt.alloc();
-    let line = "--workers 1 --backends 2 --handles 64 --concurrency 64 --combine 1 f";
-    let text = empty_lines(alloc, 0, 512)?;
-    let wanted = (text.as_str(), "", 0);
-    let done = check_over(&rt, empty_file(alloc, 512)?, STEADY, line, wanted)?;
-    assert_eq!(rt; done.report.incarnations, 512);
-    Ok(())
-}
-
-// Appends the page that a server with checksums writes for a block below 255, and its text.
-fn push_server_page(
-    alloc: Global,
-    file: &mut Vec<u8>,
-    text: &mut String,
-    block: u32,
-) -> Result<(), Fail> {
-    let checksum = (block % 255 + 1) as u8;
-    let page: Parts<'_> = &[
-        (0, &[1, 2, 3, 4, 5, 6, 7, 8, checksum, 0, 4, 0]),
-        (12, &[36, 0, 0x88, 0x1f, 0, 32, 4, 32]),
-        (
-            24,
-            &[
-                0xd8, 0x9f, 0x50, 0, 0xb0, 0x9f, 0x50, 0, 0x88, 0x9f, 0x50, 0,
-            ],
-        ),
-    ];
-    file.extend_from_slice(bytes_of(alloc, &[page])?.as_slice())?;
-    writeln!(
-        text,
-        "page 0 {block} lower 36 upper 8072 special 8192 items 3"
-    )?;
-    writeln!(text, "item 1 normal 8152 40")?;
-    writeln!(text, "item 2 normal 8112 40")?;
-    writeln!(text, "item 3 normal 8072 40")?;
-    Ok(())
-}
-
-// Runs over one file by 28 I/Os, at most so many of them by workers, and compares what is shown.
-fn check_28<R: Abort + AllocGlobal + Threads + Wait + Sync>(
-    rt: &R,
-    file: Vec<u8>,
-    line: &str,
-    text: &str,
-    by_workers: u128,
-) -> Result<(), Fail> {
-    let done = run_over(rt, file, STEADY, line)?;
-    let (workers, backends) = (done.report.by_workers, done.report.by_backends);
-    let totals = format!(in rt.alloc(); "incarnations 28 workers {workers} backends {backends}\n")?;
-    check_outcome(rt, line, &done, (text, totals.as_str(), 0));
-    assert_eq!(rt; workers.saturating_add(backends), 28, "{line}");
-    assert!(rt; workers <= by_workers, "{line}");
-    Ok(())
-}
-
-#[test]
-fn pages_of_a_server_with_checksums(rt: HostRuntime) -> Result<(), Fail> {
-    let alloc = rt.alloc();
-    let (mut file, mut text) = (Vec::new(alloc), String::new(alloc));
-    for block in 0..200 {
-        push_server_page(alloc, &mut file, &mut text, block)?;
-    }
-    for (line, by_workers) in [
-        ("--stats f", u128::MAX),
-        ("--method sync --backends 1 --stats f", 0),
-        ("--method ring --stats f", 0),
-    ] {
-        check_28(&rt, file.clone()?, line, text.as_str(), by_workers)?;
+        check_reads(rt.alloc(), &done, line, &[(10, 4, Some(4))])?;
     }
     Ok(())
 }

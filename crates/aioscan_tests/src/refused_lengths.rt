@@ -1,6 +1,6 @@
 //! Lengths that are refused or fail, beside a further disk that cannot be opened: each comes before
 //! that open.
-use crate::helpers::{check_outcome, empty_file, run_segmented};
+use aioscan_fixtures::runs::{check_outcome, empty_file, run_segmented};
 use page_fixtures::files::{Faults, Files, STEADY};
 use std::alloc::Global;
 use std::test::Fail;
@@ -39,7 +39,7 @@ fn lengths_come_before_further_disks(rt: HostRuntime) -> Result<(), Fail> {
     for (name, segments, faults, said, status) in rows {
         let files = one_block_each(rt.alloc(), segments)?;
         let done = run_segmented(&rt, files, 1, faults, line, (&[], &[]))?;
-        check_outcome(&rt, name, &done, ("", said, status));
+        check_outcome(name, &done, ("", said, status))?;
     }
     Ok(())
 }

@@ -1,6 +1,6 @@
 //! Relations of several segments.
-use crate::helpers::{FinishedRun, check_outcome, empty_file, empty_lines, run_segmented};
 use aioscan_cmd::Line;
+use aioscan_fixtures::runs::{FinishedRun, check_outcome, empty_file, empty_lines, run_segmented};
 use page_fixtures::files::STEADY;
 use std::alloc::{AllocError, Global};
 use std::process::Abort;
@@ -110,7 +110,7 @@ fn check_row<R: Abort + AllocGlobal + Threads + Wait + Sync>(
     let line = "--method sync --backends 1 --full f";
     let done = run_segmented(rt, files, row.segment, STEADY, line, (&[], &[]))?;
     let text = empty_lines(rt.alloc(), 0, row.pages)?;
-    check_outcome(rt, row.name, &done, (text.as_str(), row.line, row.status));
+    check_outcome(row.name, &done, (text.as_str(), row.line, row.status))?;
     assert_eq!(rt; done.report.line, Line::Whole, "{}", row.name);
     Ok(done)
 }
@@ -148,7 +148,7 @@ fn blocks_across_a_border(rt: HostRuntime) -> Result<(), Fail> {
     ] {
         let files = segments(alloc, &[(4, 0), (4, 0), (2, 0)])?;
         let done = run_segmented(&rt, files, 4, STEADY, line, (&[], &[]))?;
-        check_outcome(&rt, line, &done, (text.as_str(), "", 0));
+        check_outcome(line, &done, (text.as_str(), "", 0))?;
     }
     Ok(())
 }

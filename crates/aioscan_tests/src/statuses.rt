@@ -1,6 +1,6 @@
 //! Each status, by files that are damaged or missing, and opens, lengths and reads that fail.
-use crate::helpers::TestOutcome;
 use crate::one_file_runs::{E_LINE, expect};
+use aioscan_fixtures::runs::TestOutcome;
 use page_fixtures::files::{Faults, STEADY};
 use page_fixtures::pages::{DAMAGED, EMPTY, Parts};
 use std::test::Fail;

@@ -1,6 +1,6 @@
 //! Words that are a command, and what they ask for.
-use crate::helpers::words_of;
 use aioscan_cmd::{Refusal, read_command};
+use aioscan_fixtures::runs::words_of;
 use scan_rounds::{MethodKind, ScanSettings};
 use std::alloc::Global;
 use std::process::Abort;

@@ -20,7 +20,7 @@ fn list_item(text: &mut String, item: u32, pointer: u32) -> Result<(), Fail> {
 }
 
 /// Appends the text of a page, and says whether it is a valid one.
-pub(crate) fn list_page(
+pub fn list_page(
     text: &mut String,
     relation: usize,
     block: u32,
@@ -51,12 +51,12 @@ pub(crate) fn list_page(
 
 /// What is asked for: the first and the last block, and files by their numbers.
 #[derive(Drop)]
-pub(crate) struct RandomRequest {
-    pub(crate) from: Option<u32>,
-    pub(crate) to: Option<u32>,
-    pub(crate) files: Vec<usize>,
+pub struct RandomRequest {
+    pub from: Option<u32>,
+    pub to: Option<u32>,
+    pub files: Vec<usize>,
     /// Whether damaged pages are listed as zeros.
-    pub(crate) zero: bool,
+    pub zero: bool,
 }
 
 // Appends what a block gives, and says the status, 0 where the listing goes on.
@@ -105,7 +105,7 @@ fn reference_file(
 }
 
 /// The listing, what is said on the error stream and the status for two files `a` and `b`.
-pub(crate) fn reference_run(
+pub fn reference_run(
     alloc: Global,
     asked: &RandomRequest,
     contents: &[Vec<u8>],

@@ -1,5 +1,5 @@
 //! Generated pages.
-use crate::helpers::{TestOutcome, check_over, empty_file};
+use aioscan_fixtures::runs::{TestOutcome, check_over, empty_file};
 use page_fixtures::files::STEADY;
 use std::process::Abort;
 use std::sync::Wait;

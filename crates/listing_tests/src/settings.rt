@@ -1,6 +1,6 @@
 //! The same bytes by all settings.
-use crate::helpers::{FinishedRun, run_over};
 use crate::random_requests::pick;
+use aioscan_fixtures::runs::{FinishedRun, run_over};
 use page_fixtures::files::STEADY;
 use page_fixtures::pages::{DAMAGED, EMPTY, Parts, ZEROS, bytes_of};
 use std::alloc::Global;

@@ -1,7 +1,7 @@
 //! Whole runs by a visibility map: each method, damaged pages, tuples, and what fails.
-use crate::helpers::{TestOutcome, check_outcome, empty_file, empty_lines, run, two_files};
 use crate::map_reads::{FLAGGED, HEADER, MARKED, lines_of, run_by_map};
 use aioscan_cmd::Line;
+use aioscan_fixtures::runs::{TestOutcome, check_outcome, empty_file, empty_lines, run, two_files};
 use page_fixtures::files::{Faults, STEADY, one_file};
 use page_fixtures::pages::{DAMAGED, EMPTY, Parts, ZEROS, bytes_of};
 use std::process::Abort;
@@ -44,8 +44,7 @@ fn check_by_map<R: Abort + AllocGlobal + Threads + Wait + Sync>(
 ) -> Result<(), Fail> {
     let (file, map) = (bytes_of(rt.alloc(), file)?, bytes_of(rt.alloc(), map)?);
     let done = run_by_map(rt, file, map, faults, line)?;
-    check_outcome(rt, line, &done, wanted);
-    Ok(())
+    check_outcome(line, &done, wanted)
 }
 
 // Runs by each method, and compares the output, what is said of it and the status.
@@ -158,8 +157,7 @@ fn a_map_that_is_missing(rt: HostRuntime) -> Result<(), Fail> {
     let files = one_file(rt.alloc(), "f", empty_file(rt.alloc(), 8)?)?;
     let line = "--stats --map m f";
     let done = run(&rt, files, STEADY, line, (&[], &[]))?;
-    check_outcome(&rt, line, &done, ("", "cannot open\n", 3));
-    Ok(())
+    check_outcome(line, &done, ("", "cannot open\n", 3))
 }
 
 #[test]
@@ -171,7 +169,7 @@ fn an_error_stream_that_fails_at_the_warning_of_a_map(rt: HostRuntime) -> Result
     let done = run(&rt, files, STEADY, line, (&[], &[(1, 5)]))?;
     let mut text = empty_lines(alloc, 0, 1)?;
     text.push_str("page 0 1 new\n")?;
-    check_outcome(&rt, line, &done, (text.as_str(), "zeroe", 0));
+    check_outcome(line, &done, (text.as_str(), "zeroe", 0))?;
     assert_eq!(&rt; done.report.line, Line::Cut);
     Ok(())
 }

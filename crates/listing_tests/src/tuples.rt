@@ -1,5 +1,5 @@
 //! Listings with the headers of tuples and their update chains.
-use crate::helpers::{TestOutcome, check_outcome, run, two_files};
+use aioscan_fixtures::runs::{TestOutcome, check_outcome, run, two_files};
 use page_fixtures::files::STEADY;
 use page_fixtures::pages::{DAMAGED, EMPTY, Parts, ZEROS, bytes_of};
 use std::process::Abort;
@@ -98,7 +98,7 @@ fn expect<R: Abort + AllocGlobal + Threads + Wait + Sync>(
         let line = format!(in alloc; "{method} --tuples {words}")?;
         let all = two_files(alloc, ("f", f), ("g", g))?;
         let done = run(rt, all, STEADY, line.as_str(), (&[], &[]))?;
-        check_outcome(rt, name, &done, wanted);
+        check_outcome(name, &done, wanted)?;
     }
     Ok(())
 }

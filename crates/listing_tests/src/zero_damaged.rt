@@ -1,10 +1,9 @@
 //! Invalid pages that are listed as zeros, with a warning each.
-use crate::helpers::{
-    FinishedRun, TestOutcome, check_outcome, check_over, empty_file, empty_lines, run,
-};
 use crate::random_requests::{check_damaged_files, check_requests};
-use crate::reads::check_reads;
 use aioscan_cmd::Line;
+use aioscan_fixtures::runs::{
+    FinishedRun, TestOutcome, check_outcome, check_over, check_reads, empty_file, empty_lines, run,
+};
 use page_fixtures::files::{STEADY, one_file};
 use page_fixtures::pages::{DAMAGED, EMPTY, Parts, ZEROS, bytes_of};
 use std::alloc::Global;
@@ -50,7 +49,7 @@ fn zeros_in_place_of_an_invalid_page(rt: HostRuntime) -> Result<(), Fail> {
     let _ = expect(&rt, bad_at_12(alloc)?, line, wanted)?;
     let line = "--zero-damaged --method sync --backends 1 --full --from 10 --to 13 f";
     let done = expect(&rt, bad_at_12(alloc)?, line, wanted)?;
-    check_reads(&rt, &done, line, &[(10, 4, Some(4))])
+    check_reads(rt.alloc(), &done, line, &[(10, 4, Some(4))])
 }
 
 #[test]
@@ -103,7 +102,7 @@ fn an_error_stream_that_fails_at_the_first_warning(rt: HostRuntime) -> Result<()
         text.push_str("page 0 0 new\n")?;
         text.push_str(empty_lines(alloc, 1, 2)?.as_str())?;
     }
-    check_outcome(&rt, line, &done, (text.as_str(), "zeroe", 0));
+    check_outcome(line, &done, (text.as_str(), "zeroe", 0))?;
     assert_eq!(&rt; done.report.line, Line::Cut);
     Ok(())
 }

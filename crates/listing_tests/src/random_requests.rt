@@ -1,9 +1,9 @@
 //! Random requests, on which a run and the reference lister are compared.
 ghost use Rattle.std.specs.Prelude.{◌<◌};
 
-use crate::helpers::{TestOutcome, check_outcome, run, two_files};
-use crate::plain_lister::{RandomRequest, reference_run};
 use crate::settings::random_settings;
+use aioscan_fixtures::plain_lister::{RandomRequest, reference_run};
+use aioscan_fixtures::runs::{TestOutcome, check_outcome, run, two_files};
 use page_fixtures::files::STEADY;
 use page_fixtures::pages::{DAMAGED, EMPTY, Parts, ZEROS, bytes_of};
 use std::alloc::{AllocError, Global};
@@ -96,8 +96,7 @@ pub(crate) fn expect_outcome<R: Abort + AllocGlobal + Threads + Wait + Sync>(
     let files = two_files(rt.alloc(), ("a", a), ("b", b))?;
     let done = run(rt, files, STEADY, line, (&[], &[]))?;
     let name = format!(in rt.alloc(); "request {request}: {line}")?;
-    check_outcome(rt, name.as_str(), &done, wanted);
-    Ok(())
+    check_outcome(name.as_str(), &done, wanted)
 }
 
 // Runs a request over the files `a` and `b`, and compares what it shows with what the reference

@@ -1,5 +1,5 @@
 //! The reads of scans that leave out the blocks that a visibility map marks.
-use crate::helpers::{FinishedRun, check_outcome, empty_file, run, two_files};
+use aioscan_fixtures::runs::{FinishedRun, check_outcome, empty_file, run, two_files};
 use page_fixtures::files::{Faults, STEADY};
 use page_fixtures::pages::{DAMAGED, EMPTY, Parts, ZEROS, bytes_of};
 use std::alloc::Global;
@@ -84,7 +84,7 @@ fn expect_reads<R: Abort + AllocGlobal + Threads + Wait + Sync>(
         "{}incarnations {count} workers 0 backends {count}\n",
         wanted.1
     )?;
-    check_outcome(rt, words, &done, (text.as_str(), told.as_str(), wanted.2));
+    check_outcome(words, &done, (text.as_str(), told.as_str(), wanted.2))?;
     let made = reads_by_relation(rt, &done)?;
     assert_eq!(rt; made.as_slice(), reads, "{words}");
     Ok(())

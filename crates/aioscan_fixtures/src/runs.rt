@@ -1,21 +1,21 @@
-//! Runs of the top call over files in memory, and what they show.
+//! Runs of the top call over files in memory, what they show and what they read.
 use aio_disk::{MemShelf, MemSink};
 use aioscan_cmd::{Report, aioscan};
 use page_fixtures::files::{Faults, Files, one_file, segmented_shelf};
 use page_fixtures::pages::{EMPTY, bytes_of};
 use std::alloc::{AllocError, Global};
-use std::process::Abort;
+use std::str;
 use std::sync::Wait;
 use std::test::Fail;
 use std::thread::Threads;
 
 /// A file of so many empty pages.
-pub(crate) fn empty_file(alloc: Global, pages: usize) -> Result<Vec<u8>, AllocError> {
+pub fn empty_file(alloc: Global, pages: usize) -> Result<Vec<u8>, AllocError> {
     bytes_of(alloc, vec![in alloc; EMPTY; pages]?.as_slice())
 }
 
 /// The lines of empty pages of relation 0.
-pub(crate) fn empty_lines(alloc: Global, first: u32, after: u32) -> Result<String, Fail> {
+pub fn empty_lines(alloc: Global, first: u32, after: u32) -> Result<String, Fail> {
     let mut text = String::new(alloc);
     for block in first..after {
         writeln!(
@@ -27,7 +27,7 @@ pub(crate) fn empty_lines(alloc: Global, first: u32, after: u32) -> Result<Strin
 }
 
 /// The words of a line. A word `''` is empty.
-pub(crate) fn words_of(alloc: Global, line: &str) -> Result<Vec<String>, AllocError> {
+pub fn words_of(alloc: Global, line: &str) -> Result<Vec<String>, AllocError> {
     let mut words = Vec::new(alloc);
     for word in line.split(' ') {
         if word == "''" {
@@ -41,15 +41,15 @@ pub(crate) fn words_of(alloc: Global, line: &str) -> Result<Vec<String>, AllocEr
 
 /// What a run over files in memory has left.
 #[derive(Drop)]
-pub(crate) struct FinishedRun {
-    pub(crate) report: Report,
-    pub(crate) out: MemSink,
-    pub(crate) err: MemSink,
-    pub(crate) shelf: MemShelf,
+pub struct FinishedRun {
+    pub report: Report,
+    pub out: MemSink,
+    pub err: MemSink,
+    pub shelf: MemShelf,
 }
 
 /// Two files of these names.
-pub(crate) fn two_files(
+pub fn two_files(
     alloc: Global,
     (name, file): (&str, Vec<u8>),
     (second, other): (&str, Vec<u8>),
@@ -60,18 +60,27 @@ pub(crate) fn two_files(
 }
 
 /// The output, what is said on the error stream, and the status.
-pub(crate) type TestOutcome<'a> = (&'a str, &'a str, u8);
+pub type TestOutcome<'a> = (&'a str, &'a str, u8);
 
-/// Compares what a run shows.
-pub(crate) fn check_outcome<R: Abort>(
-    rt: &R,
-    name: &str,
-    done: &FinishedRun,
-    wanted: TestOutcome<'_>,
-) {
-    assert_eq!(rt; done.out.bytes(), wanted.0.as_bytes(), "{name}");
-    assert_eq!(rt; done.err.bytes(), wanted.1.as_bytes(), "{name}");
-    assert_eq!(rt; done.report.status, wanted.2, "{name}");
+// Fails where a stream's bytes are another text, and names the row.
+fn check_text(name: &str, stream: &str, bytes: &[u8], wanted: &str) -> Result<(), Fail> {
+    if bytes == wanted.as_bytes() {
+        return Ok(());
+    }
+    let text = str::from_utf8(bytes);
+    Err(Fail::new(format_args!("{name}: {stream} {text:?}, wanted {wanted:?}")))
+}
+
+/// Fails where a run shows something else than wanted, and names the row.
+pub fn check_outcome(name: &str, done: &FinishedRun, wanted: TestOutcome<'_>) -> Result<(), Fail> {
+    let (output, said, status) = wanted;
+    check_text(name, "output", done.out.bytes(), output)?;
+    check_text(name, "error stream", done.err.bytes(), said)?;
+    if done.report.status == status {
+        return Ok(());
+    }
+    let shown = done.report.status;
+    Err(Fail::new(format_args!("{name}: status {shown}, wanted {status}")))
 }
 
 // A sink that fails at these writes.
@@ -80,7 +89,7 @@ fn sink_of(alloc: Global, cuts: &[(u64, u64)]) -> Result<MemSink, AllocError> {
 }
 
 /// A run over files in memory, whose sinks fail at these writes.
-pub(crate) fn run<R: Abort + AllocGlobal + Threads + Wait + Sync>(
+pub fn run<R: AllocGlobal + Threads + Wait + Sync>(
     rt: &R,
     files: Files,
     faults: Faults<'_>,
@@ -91,7 +100,7 @@ pub(crate) fn run<R: Abort + AllocGlobal + Threads + Wait + Sync>(
 }
 
 /// The same over files that are segments of this size, from 1 to 131072 blocks.
-pub(crate) fn run_segmented<R: Abort + AllocGlobal + Threads + Wait + Sync>(
+pub fn run_segmented<R: AllocGlobal + Threads + Wait + Sync>(
     rt: &R,
     files: Files,
     segment: u32,
@@ -114,7 +123,7 @@ pub(crate) fn run_segmented<R: Abort + AllocGlobal + Threads + Wait + Sync>(
 }
 
 /// A run over the one file `f`.
-pub(crate) fn run_over<R: Abort + AllocGlobal + Threads + Wait + Sync>(
+pub fn run_over<R: AllocGlobal + Threads + Wait + Sync>(
     rt: &R,
     file: Vec<u8>,
     faults: Faults<'_>,
@@ -125,7 +134,7 @@ pub(crate) fn run_over<R: Abort + AllocGlobal + Threads + Wait + Sync>(
 }
 
 /// Runs over the one file `f`, and compares what is shown.
-pub(crate) fn check_over<R: Abort + AllocGlobal + Threads + Wait + Sync>(
+pub fn check_over<R: AllocGlobal + Threads + Wait + Sync>(
     rt: &R,
     file: Vec<u8>,
     faults: Faults<'_>,
@@ -133,6 +142,33 @@ pub(crate) fn check_over<R: Abort + AllocGlobal + Threads + Wait + Sync>(
     wanted: TestOutcome<'_>,
 ) -> Result<FinishedRun, Fail> {
     let done = run_over(rt, file, faults, line)?;
-    check_outcome(rt, line, &done, wanted);
+    check_outcome(line, &done, wanted)?;
     Ok(done)
+}
+
+/// The first block of a read, how many blocks were asked for, and how many came.
+pub type Read = (u32, u32, Option<u32>);
+
+// The reads of a run, in their order.
+fn reads_of(alloc: Global, run: &FinishedRun) -> Result<Vec<Read>, Fail> {
+    let mut reads = Vec::new(alloc);
+    for entry in run.shelf.log() {
+        reads.push((entry.first, entry.asked, entry.answered))?;
+    }
+    Ok(reads)
+}
+
+/// Fails where a run made other reads than wanted, and names the row.
+pub fn check_reads(
+    alloc: Global,
+    done: &FinishedRun,
+    name: &str,
+    wanted: &[Read],
+) -> Result<(), Fail> {
+    let reads = reads_of(alloc, done)?;
+    if reads.as_slice() == wanted {
+        return Ok(());
+    }
+    let reads = reads.as_slice();
+    Err(Fail::new(format_args!("{name}: reads {reads:?}, wanted {wanted:?}")))
 }

@@ -1,0 +1,20 @@
+//! What is listed: tests of `aioscan` by random requests, by maps, with tuples, of damaged and of
+//! generated pages, under many settings.
+#![tactic(auto)]
+
+#[cfg(test)]
+mod generated_pages;
+#[cfg(test)]
+mod map_reads;
+#[cfg(test)]
+mod map_runs;
+#[cfg(test)]
+mod random_maps;
+#[cfg(test)]
+mod random_requests;
+#[cfg(test)]
+mod settings;
+#[cfg(test)]
+mod tuples;
+#[cfg(test)]
+mod zero_damaged;
