@@ -1,7 +1,7 @@
 //! What the stream answers.
 ghost use Rattle.std.specs.Prelude.{◌≡◌};
 ghost use Rattle.aio_handle.specs.ContractViews.{IsActorOf};
-ghost use Rattle.read_stream.specs.StreamState.{IsOpen};
+ghost use Rattle.read_stream.specs.StreamState.{IsOpenFor};
 
 use aio_callback::ReadIo;
 use aio_handle::{Actor, Execute, Table};
@@ -35,12 +35,10 @@ pub fn take_all<W: World, E: Execute<ReadIo, W>, R: Wait + Print>(
 ) -> io::Result<()>
     requires table { IsActorOf table.now actor.old }
     requires told { (E.told runner.old ≡ W.told) × (E.relations runner.old ≡ W.relations) }
-    requires actor { actor.old ≡ stream.old.actor_is.value }
-    requires is_open { IsOpen (λ r. r) W.told W.relations W.handles stream.old }
+    requires is_open { IsOpenFor (λ r. r) W.told W.relations W.handles stream.old actor.old }
     ensures table { IsActorOf table.now actor.new }
     ensures told { (E.told runner.new ≡ W.told) × (E.relations runner.new ≡ W.relations) }
-    ensures actor { actor.new ≡ stream.new.actor_is.value }
-    ensures is_open { IsOpen (λ r. r) W.told W.relations W.handles stream.new }
+    ensures is_open { IsOpenFor (λ r. r) W.told W.relations W.handles stream.new actor.new }
 {
     for _ in 0..11 {
         print_answer(rt, stream.next(rt, table, actor, &mut SyncMethod, runner))?;

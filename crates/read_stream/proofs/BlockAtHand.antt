@@ -123,7 +123,7 @@ module _ {W S P : Type 0} (left : S → List (ℕ × P)) (told : Option Told)
       → UnderwayWith left told relations handles (record_blocks_left s.current s.step) [] 0 p s
       → s.current ≡ None
   no_current p s giving none u =
-      let few = few_in_queue s.desk.now.combine handles s.desk.now.wants.items
+      let few = few_in_queue s.desk.now.settings.combine handles s.desk.now.wants.items
       (map block_number s.desk.now.queue.items) (record_blocks_left s.current s.step)
       (pending_blocks s.plan.pending) [] u.running.wants u.running.queue_order in
       let long : length (map block_number s.desk.now.queue.items) ≡ 0 =

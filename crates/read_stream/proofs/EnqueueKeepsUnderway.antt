@@ -25,7 +25,8 @@ use Rattle.read_stream.specs.Changes.{EnqueuesBlock}
 use Rattle.read_stream.proofs.NextAnswerCases.{readable-then}
 use Rattle.read_stream.proofs.ReadsMatchRuns.{reads-later}
 use Rattle.read_stream.proofs.ActorAdvancedLaws.{advanced_nothing}
-use Rattle.read_stream.proofs.StreamInvariantLaws.{SameScopeAndDesk, current_kept, invariant_moved}
+use Rattle.read_stream.proofs.StreamInvariantLaws.{SameScopeAndDesk, current_kept, each_setting}
+use Rattle.read_stream.proofs.StreamInvariantLaws.{invariant_moved}
 use Rattle.read_stream.proofs.BlockAtHand.{rest_kept}
 
 module _ {W S P : Type 0} (left : S → List (ℕ × P)) (told : Option Told)
@@ -43,7 +44,8 @@ module _ {W S P : Type 0} (left : S → List (ℕ × P)) (told : Option Told)
   underway_enqueued source a first k room u =
       let g = u.running in
       let e = k.consumer_unchanged in
-      let d = e.settings in
+      let d = each_setting s.desk.now.settings n.desk.now.settings
+      e.same_stream.settings in
       let scope : n.scope ≡ s.scope = e.same_stream.scope in
       let items : n.desk.now.queue.items ≡ s.desk.now.queue.items ++ a ∷ [] =
       ap (λ (z : Buffer (QueuedBlock P)). z.items) k.queue in
@@ -53,7 +55,7 @@ module _ {W S P : Type 0} (left : S → List (ℕ × P)) (told : Option Told)
       let same : SameScopeAndDesk s n = record {
         scope = scope;
         source_was = e.same_stream.source_was;
-        settings = d;
+        settings = e.same_stream.settings;
         queue = ap (λ (z : Buffer (QueuedBlock P)). z.capacity) k.queue;
         wants = ap (λ (z : Buffer Want). z.capacity) k.wants;
       } in

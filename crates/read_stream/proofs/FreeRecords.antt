@@ -68,7 +68,7 @@ module _ {W S P : Type 0} (left : S → List (ℕ × P)) (told : Option Told)
       × (length (wanted_runs s.desk.now.wants.items) + length (pending_blocks s.plan.pending)
       + length behind ≤ length s.desk.now.queue.items)
   few_blocks behind u =
-      let few = few_in_queue s.desk.now.combine handles s.desk.now.wants.items
+      let few = few_in_queue s.desk.now.settings.combine handles s.desk.now.wants.items
       (map block_number s.desk.now.queue.items) rest (pending_blocks s.plan.pending) behind
       u.running.wants u.running.queue_order in
       let n = length-map s.desk.now.queue.items block_number in

@@ -36,7 +36,7 @@ use Rattle.read_stream.proofs.PartIsNextAnswer.{page_is_next}
 use Rattle.read_stream.proofs.ListPositions.{below-at, here-at, mapped-at, rest-at}
 use Rattle.read_stream.proofs.QueueMovesKeepIssued.{first-of}
 use Rattle.read_stream.proofs.NextAnswerCases.{next-page, readable-then}
-use Rattle.read_stream.proofs.StreamInvariantLaws.{SameScopeAndDesk, invariant_moved}
+use Rattle.read_stream.proofs.StreamInvariantLaws.{SameScopeAndDesk, each_setting, invariant_moved}
 use Rattle.read_stream.proofs.BlockAtHand.{hand_more, in-record, spent-once}
 use Rattle.read_stream.proofs.QueueFront.{ios_within_list}
 use Rattle.read_stream.proofs.StopIsNextAnswer.{left-of}
@@ -155,7 +155,7 @@ module _ {W S P : Type 0} (left : S → List (ℕ × P)) (told : Option Told)
     same = record {
       scope = k.same_stream.scope;
       source_was = k.same_stream.source_was;
-      settings = k.settings;
+      settings = k.same_stream.settings;
       queue = ap (λ (z : Buffer (QueuedBlock P)). z.capacity) k.queue;
       wants = ap (λ (z : Buffer Want). z.capacity) k.wants;
     }
@@ -164,7 +164,8 @@ module _ {W S P : Type 0} (left : S → List (ℕ × P)) (told : Option Told)
         (record_blocks_left n.current (step.Page a.block a.per_buffer_data)) [] 0 p n
     going-then =
         let g = u.running in
-        let d = k.settings in
+        let d = each_setting s.desk.now.settings n.desk.now.settings
+        k.same_stream.settings in
         let scope : n.scope ≡ s.scope = k.same_stream.scope in
         let relation : n.scope.relation ≡ s.scope.relation =
         ap (λ (z : Scope W). z.relation) scope in

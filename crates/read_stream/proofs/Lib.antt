@@ -32,7 +32,10 @@ pub mod EnqueueKeepsUnderway
 pub mod PopWantKeepsUnderway
 pub mod RecordReachesBlock
 pub mod PartIsNextAnswer
+pub mod UnreadCauses
 pub mod LaterActorKeepsAnswer
+pub mod AnswerPages
+pub mod CallersView
 pub mod FreeRecordKeepsUnderway
 pub mod StopIsNextAnswer
 pub mod GivenPageIsNextAnswer

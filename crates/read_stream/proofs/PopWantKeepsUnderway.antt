@@ -34,7 +34,7 @@ module _ {W S P : Type 0} (left : S → List (ℕ × P)) (told : Option Told)
       same = record {
         scope = k.consumer_unchanged.same_stream.scope;
         source_was = k.consumer_unchanged.same_stream.source_was;
-        settings = k.consumer_unchanged.settings;
+        settings = k.consumer_unchanged.same_stream.settings;
         queue = ap (λ (z : Buffer (QueuedBlock P)). z.capacity) k.queue;
         wants = ap (λ (z : Buffer Want). z.capacity) k.wants;
       };

@@ -35,7 +35,7 @@ module _ {W S P : Type 0} (left : S → List (ℕ × P)) (told : Option Told)
   -- the block behind is wanted from the pool
   pub underway_pushed : (w : Want)
       → UnderwayWith left told relations handles rest (blocks_of_want w) 0 p s
-      → s.plan.pending ≡ None → runs_of_want w ≡ [] → IsValidWant s.desk.now.combine handles w
+      → s.plan.pending ≡ None → runs_of_want w ≡ [] → IsValidWant s.desk.now.settings.combine handles w
       → PushesWant w s n → Underway left told relations handles p n
   underway_pushed w u none no_run is k =
       let g = u.running in
@@ -53,7 +53,7 @@ module _ {W S P : Type 0} (left : S → List (ℕ × P)) (told : Option Told)
       let same : SameScopeAndDesk s n = record {
         scope = k.consumer_unchanged.same_stream.scope;
         source_was = k.consumer_unchanged.same_stream.source_was;
-        settings = k.consumer_unchanged.settings;
+        settings = k.consumer_unchanged.same_stream.settings;
         queue = ap (λ (z : Buffer (QueuedBlock P)). z.capacity) k.queue;
         wants = ap (λ (z : Buffer Want). z.capacity) k.wants;
       } in
@@ -100,10 +100,10 @@ module _ {W S P : Type 0} (left : S → List (ℕ × P)) (told : Option Told)
             ++ (wanted_blocks n.desk.now.wants.items ++ (pending_blocks n.plan.pending ++ [])))
             (sym (rest_kept s.current n.current s.step n.step k.consumer_unchanged.current
             k.consumer_unchanged.step)))))))
-            (subst (λ (z : List Want). (x : Want) → IsIn x z → IsValidWant s.desk.now.combine
+            (subst (λ (z : List Want). (x : Want) → IsIn x z → IsValidWant s.desk.now.settings.combine
             handles x)
             (sym wants)
-            (each-pushed (λ x. IsValidWant s.desk.now.combine handles x) ws w g.wants is))
+            (each-pushed (λ x. IsValidWant s.desk.now.settings.combine handles x) ws w g.wants is))
             (subst (λ (z : List Run). ReadsForRuns n.scope p n.desk.now.reads z) (sym same-runs)
             (subst (λ (z : Scope W). ReadsForRuns z p n.desk.now.reads (wanted_runs ws)) (sym scope)
             (subst (λ (z : Reads W). ReadsForRuns s.scope p z (wanted_runs ws)) (sym k.reads)

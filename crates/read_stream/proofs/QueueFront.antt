@@ -70,7 +70,7 @@ module _ {W S P : Type 0} (left : S → List (ℕ × P)) (told : Option Told)
       → IsRunning left told relations handles hand behind spent p s
       → ios_started s.desk.now.reads + length hand ≤ length (left s.source_was.value) + spent
   ios_within_list hand behind spent p s g =
-      let few = few_in_queue s.desk.now.combine handles s.desk.now.wants.items
+      let few = few_in_queue s.desk.now.settings.combine handles s.desk.now.wants.items
       (map block_number s.desk.now.queue.items) hand (pending_blocks s.plan.pending) behind
       g.wants g.queue_order in
       let n = length-map s.desk.now.queue.items block_number in

@@ -47,7 +47,7 @@ module _ {W S P : Type 0} (left : S → List (ℕ × P)) (told : Option Told)
       → map block_number s.desk.now.queue.items
       ≡ record_blocks_from io block
       ++ (wanted_blocks n.desk.now.wants.items ++ (pending_blocks n.plan.pending ++ []))
-      → ((w : Want) → IsIn w n.desk.now.wants.items → IsValidWant s.desk.now.combine handles w)
+      → ((w : Want) → IsIn w n.desk.now.wants.items → IsValidWant s.desk.now.settings.combine handles w)
       → ReadsForRuns n.scope q n.desk.now.reads (wanted_runs n.desk.now.wants.items)
       → ios_started n.desk.now.reads
       ≤ s.given + length (wanted_runs n.desk.now.wants.items) + spent_ios (Some io) block
@@ -104,7 +104,7 @@ module _ {W S P : Type 0} (left : S → List (ℕ × P)) (told : Option Told)
       ap (λ (z : Buffer Want). z.items) k.wants ∙ ap (λ (z : List Want). drop 1 z) first in
       let reads : m.desk.now.reads ≡ r = k.reads in
       let scope : m.scope ≡ s.scope = k.consumer_unchanged.same_stream.scope in
-      let is : IsRun s.desk.now.combine run =
+      let is : IsRun s.desk.now.settings.combine run =
       g.wants (want.Run run) (subst (λ (z : List Want). IsIn (want.Run run) z) (sym first)
       (inl refl)) in
       let some = is.not_empty in
@@ -148,7 +148,7 @@ module _ {W S P : Type 0} (left : S → List (ℕ × P)) (told : Option Told)
         same = record {
           scope = scope;
           source_was = k.consumer_unchanged.same_stream.source_was;
-          settings = k.consumer_unchanged.settings;
+          settings = k.consumer_unchanged.same_stream.settings;
           queue = ap (λ (z : Buffer (QueuedBlock P)). z.capacity) k.queue;
           wants = ap (λ (z : Buffer Want). z.capacity) k.wants;
         };

@@ -1,5 +1,5 @@
 -- A stream whose page, plan, source or actor changes, over the same desk.
-use Rattle.std.proofs.Common.{◌≡◌, ℕ, List, [], ◌++◌, length, map, ap, arith, true, ◌∙◌}
+use Rattle.std.proofs.Common.{◌≡◌, ℕ, List, [], ◌++◌, length, map, ap, true, ◌∙◌}
 use Rattle.std.specs.Prelude.{Bool, Option}
 use Rattle.page_check.specs.Told.{Told}
 use Rattle.aio_word.specs.declared.Known.{Known}

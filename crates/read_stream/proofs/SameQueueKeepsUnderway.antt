@@ -35,15 +35,7 @@ queue_then a b d x y = record {
   same = record {
     scope = y.same.scope ∙ x.same.scope;
     source_was = y.same.source_was ∙ x.same.source_was;
-    settings = (
-      y.same.settings.0 ∙ x.same.settings.0,
-      y.same.settings.1 ∙ x.same.settings.1,
-      y.same.settings.2 ∙ x.same.settings.2,
-      y.same.settings.3 ∙ x.same.settings.3,
-      y.same.settings.4 ∙ x.same.settings.4,
-      y.same.settings.5 ∙ x.same.settings.5,
-      y.same.settings.6 ∙ x.same.settings.6,
-    );
+    settings = y.same.settings ∙ x.same.settings;
     queue = y.same.queue ∙ x.same.queue;
     wants = y.same.wants ∙ x.same.wants;
   };
@@ -67,7 +59,7 @@ same_queue_popped s queue pl e = record {
   same = record {
     scope = refl;
     source_was = refl;
-    settings = (refl, refl, refl, refl, refl, refl, refl);
+    settings = refl;
     queue = refl;
     wants = refl;
   };
@@ -90,7 +82,7 @@ same_queue_taken_out s io = record {
   same = record {
     scope = refl;
     source_was = refl;
-    settings = (refl, refl, refl, refl, refl, refl, refl);
+    settings = refl;
     queue = refl;
     wants = refl;
   };

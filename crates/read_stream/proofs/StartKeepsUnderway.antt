@@ -37,7 +37,7 @@ module _ {W S P : Type 0} (left : S → List (ℕ × P)) (told : Option Told)
       → UnderwayWith left told relations handles rest behind 0 p s → SamePlan s.plan pl
       → pending_blocks s.plan.pending ++ behind
       ≡ run_blocks run ++ (pending_blocks pl.pending ++ behind')
-      → IsRun s.desk.now.combine run → StartsRun run (record s { plan = pl }) n
+      → IsRun s.desk.now.settings.combine run → StartsRun run (record s { plan = pl }) n
       → 1 < length s.desk.now.reads.free.items → ActorAdvanced p q a b d f
       → Issued n.scope told relations q n.desk.now.reads
       → length n.desk.now.reads.batch < 32
@@ -59,7 +59,7 @@ module _ {W S P : Type 0} (left : S → List (ℕ × P)) (told : Option Told)
       let same : SameScopeAndDesk s n = record {
         scope = st.consumer_unchanged.same_stream.scope;
         source_was = st.consumer_unchanged.same_stream.source_was;
-        settings = st.consumer_unchanged.settings;
+        settings = st.consumer_unchanged.same_stream.settings;
         queue = ap (λ (z : Buffer (QueuedBlock P)). z.capacity) st.queue;
         wants = ap (λ (z : Buffer Want). z.capacity) st.wants;
       } in
@@ -101,10 +101,10 @@ module _ {W S P : Type 0} (left : S → List (ℕ × P)) (told : Option Told)
             ++ (wanted_blocks n.desk.now.wants.items ++ (pending_blocks n.plan.pending ++ behind')))
             (sym (rest_kept s.current n.current s.step n.step st.consumer_unchanged.current
             st.consumer_unchanged.step)))))))
-            (subst (λ (z : List Want). (w : Want) → IsIn w z → IsValidWant s.desk.now.combine
+            (subst (λ (z : List Want). (w : Want) → IsIn w z → IsValidWant s.desk.now.settings.combine
             handles w)
             (sym wants)
-            (each-pushed (λ w. IsValidWant s.desk.now.combine handles w) ws (want.Run run) g.wants
+            (each-pushed (λ w. IsValidWant s.desk.now.settings.combine handles w) ws (want.Run run) g.wants
             is))
             (subst (λ (z : List Run). ReadsForRuns n.scope q n.desk.now.reads z) (sym started)
             (runs (wanted_runs ws) g.runs))

@@ -15,7 +15,8 @@ use Rattle.read_stream.specs.declared.scope.Scope.{Scope}
 use Rattle.read_stream.specs.declared.stream.ReadStream.{ReadStream}
 use Rattle.read_stream.specs.StreamAnswers.{stream_entries}
 use Rattle.read_stream.specs.StreamIos.{Issued, ReadsForRuns, IsTakenIn, record_count, ios_started}
-use Rattle.read_stream.specs.Desks.{SameDeskSettings}
+use Rattle.read_stream.specs.declared.desk.Settings.{Settings}
+use Rattle.read_stream.specs.Desks.{AreValidSettings}
 use Rattle.read_stream.specs.WantedBlocks.{IsValidWant, source_item, block_number, wanted_blocks}
 use Rattle.read_stream.specs.WantedBlocks.{wanted_runs, pending_blocks}
 use Rattle.read_stream.specs.PagesAtHand.{count_some}
@@ -29,7 +30,7 @@ use Rattle.read_stream.proofs.TakenInRecordKept.{taken-grown}
 pub record SameScopeAndDesk {W S P : Type 0} (s n : ReadStream W S P) : Type 0 where
   pub scope : n.scope ≡ s.scope
   pub source_was : n.source_was ≡ s.source_was
-  pub settings : SameDeskSettings s.desk.now n.desk.now
+  pub settings : n.desk.now.settings ≡ s.desk.now.settings
   pub queue : n.desk.now.queue.capacity ≡ s.desk.now.queue.capacity
   pub wants : n.desk.now.wants.capacity ≡ s.desk.now.wants.capacity
 
@@ -55,7 +56,7 @@ same_queue_of_look_ahead {P} s n m = record {
   same = record {
     scope = m.same_stream.scope;
     source_was = m.same_stream.source_was;
-    settings = m.settings;
+    settings = m.same_stream.settings;
     queue = ap (λ (z : Buffer (QueuedBlock P)). z.capacity) m.queue;
     wants = m.wants;
   };
@@ -77,27 +78,29 @@ same_stream_then a b d x y = record {
   desk = y.desk ∙ x.desk;
   scope = y.scope ∙ x.scope;
   source_was = y.source_was ∙ x.source_was;
+  settings = y.settings ∙ x.settings;
 }
 
-desk-then : {W S P : Type 0} (a b d : ReadStream W S P) → SameDeskSettings a.desk.now b.desk.now
-    → SameDeskSettings b.desk.now d.desk.now → SameDeskSettings a.desk.now d.desk.now
-desk-then a b d x y = (
-  y.0 ∙ x.0,
-  y.1 ∙ x.1,
-  y.2 ∙ x.2,
-  y.3 ∙ x.3,
-  y.4 ∙ x.4,
-  y.5 ∙ x.5,
-  y.6 ∙ x.6,
+-- the same settings, one by one
+pub each_setting : (a b : Settings) → b ≡ a
+    → (b.combine ≡ a.combine) × (b.ios ≡ a.ios) × (b.limit ≡ a.limit) × (b.zero ≡ a.zero)
+each_setting a b e = (
+  ap (λ (z : Settings). z.combine) e,
+  ap (λ (z : Settings). z.ios) e,
+  ap (λ (z : Settings). z.limit) e,
+  ap (λ (z : Settings). z.zero) e,
 )
 
 pub same_stream_refl : {W S P : Type 0} (s : ReadStream W S P) → SameStream s s
-same_stream_refl s = record { desk = refl; scope = refl; source_was = refl }
+same_stream_refl s = record { desk = refl; scope = refl; source_was = refl; settings = refl }
+
+pub same_desk_refl : {W S P : Type 0} (s : ReadStream W S P) → SameScopeAndDesk s s
+same_desk_refl s =
+    record { scope = refl; source_was = refl; settings = refl; queue = refl; wants = refl }
 
 pub consumer_unchanged_refl : {W S P : Type 0} (s : ReadStream W S P) → ConsumerUnchanged s s
 consumer_unchanged_refl s = record {
   same_stream = same_stream_refl s;
-  settings = (refl, refl, refl, refl, refl, refl, refl);
   pin = refl;
   current = refl;
   step = refl;
@@ -108,7 +111,6 @@ pub consumer_unchanged_then : {W S P : Type 0} (a b d : ReadStream W S P) → Co
     → ConsumerUnchanged b d → ConsumerUnchanged a d
 consumer_unchanged_then a b d x y = record {
   same_stream = same_stream_then a b d x.same_stream y.same_stream;
-  settings = desk-then a b d x.settings y.settings;
   pin = y.pin ∙ x.pin;
   current = y.current ∙ x.current;
   step = y.step ∙ x.step;
@@ -141,7 +143,7 @@ module _ {W S P : Type 0} (left : S → List (ℕ × P)) (told : Option Told)
         → record_count n.desk.now.reads + count_some n.current ≡ s.scope.total
         → StreamInvariant left told relations handles q n
     invariant_moved u issued staged current all =
-        let d = e.settings in
+        let d = each_setting s.desk.now.settings n.desk.now.settings e.settings in
         let total : n.scope.total ≡ s.scope.total = ap (λ (z : Scope W). z.total) e.scope in
         let relation : n.scope.relation ≡ s.scope.relation =
         ap (λ (z : Scope W). z.relation) e.scope in
@@ -151,12 +153,12 @@ module _ {W S P : Type 0} (left : S → List (ℕ × P)) (told : Option Told)
         ap (λ z. length (left z.value)) e.source_was in
         record {
           relation_in_range = let z = u.relation_in_range in omega arith;
-          settings = rw (d.0, d.1, d.2, d.5) u.settings;
+          settings = subst (λ (z : Settings). AreValidSettings z) (sym e.settings) u.settings;
           scope = (
             room ∙ (u.scope.0 ∙ sym d.0),
             (let z = u.scope.1 in let y = d.1 in omega arith),
           );
-          zero = ap (λ (z : Scope W). z.zero) e.scope ∙ (u.zero ∙ sym d.6);
+          zero = ap (λ (z : Scope W). z.zero) e.scope ∙ (u.zero ∙ sym d.3);
           queue = let z = u.queue in let y = d.2 in let x = e.queue in omega arith;
           wants = let z = u.wants in let y = d.2 in let x = e.wants in omega arith;
           list_within_most = let z = u.list_within_most in omega arith;
@@ -173,7 +175,7 @@ module _ {W S P : Type 0} (left : S → List (ℕ × P)) (told : Option Told)
         → map block_number s.desk.now.queue.items
         ≡ hand' ++ (wanted_blocks n.desk.now.wants.items
         ++ (pending_blocks n.plan.pending ++ behind'))
-        → ((w : Want) → IsIn w n.desk.now.wants.items → IsValidWant s.desk.now.combine handles w)
+        → ((w : Want) → IsIn w n.desk.now.wants.items → IsValidWant s.desk.now.settings.combine handles w)
         → ReadsForRuns n.scope q n.desk.now.reads (wanted_runs n.desk.now.wants.items)
         → ios_started n.desk.now.reads
         ≤ s.given + length (wanted_runs n.desk.now.wants.items) + spent'
@@ -182,7 +184,7 @@ module _ {W S P : Type 0} (left : S → List (ℕ × P)) (told : Option Told)
         → IsRunning left told relations handles hand' behind' spent' q n
     running_moved g front wants runs few_ios in_use spare =
         let f = e.same in
-        let d = f.settings in
+        let d = each_setting s.desk.now.settings n.desk.now.settings f.settings in
         let total : n.scope.total ≡ s.scope.total = ap (λ (z : Scope W). z.total) f.scope in
         let relation : n.scope.relation ≡ s.scope.relation =
         ap (λ (z : Scope W). z.relation) f.scope in

@@ -8,18 +8,17 @@ use Rattle.read_stream.specs.declared.queue.Want.{Want}
 use Rattle.read_stream.specs.declared.queue.Want.TheVariants as want
 use Rattle.read_stream.specs.declared.stream.ReadStream.{ReadStream}
 use Rattle.read_stream.specs.StreamIos.{record_count, ios_started}
-use Rattle.read_stream.specs.Desks.{SameDeskSettings}
 
 -- what is the same over a whole call
 pub record SameStream {W S P : Type 0} (old new : ReadStream W S P) : Type 0 where
   pub desk : new.desk.ghost_name ≡ old.desk.ghost_name
   pub scope : new.scope ≡ old.scope
   pub source_was : new.source_was ≡ old.source_was
+  pub settings : new.desk.now.settings ≡ old.desk.now.settings
 
 -- what looking ahead leaves as it is
 pub record ConsumerUnchanged {W S P : Type 0} (old new : ReadStream W S P) : Type 0 where
   pub same_stream : SameStream old new
-  pub settings : SameDeskSettings old.desk.now new.desk.now
   pub pin : new.pin ≡ old.pin
   pub current : new.current ≡ old.current
   pub step : new.step ≡ old.step
@@ -28,7 +27,6 @@ pub record ConsumerUnchanged {W S P : Type 0} (old new : ReadStream W S P) : Typ
 -- what serving a block leaves as it is, until the block is given
 pub record LookAheadUnchanged {W S P : Type 0} (old new : ReadStream W S P) : Type 0 where
   pub same_stream : SameStream old new
-  pub settings : SameDeskSettings old.desk.now new.desk.now
   pub source : new.source ≡ old.source
   pub over : new.over ≡ old.over
   pub queue : new.desk.now.queue ≡ old.desk.now.queue
@@ -92,7 +90,6 @@ pub record ReadsOne {W S P : Type 0} (old new : ReadStream W S P) : Type 0 where
 pub record GivesPage {W S P : Type 0} (a : QueuedBlock P) (old new : ReadStream W S P)
     : Type 0 where
   pub same_stream : SameStream old new
-  pub settings : SameDeskSettings old.desk.now new.desk.now
   pub source : new.source ≡ old.source
   pub over : new.over ≡ old.over
   pub pin : new.pin ≡ old.pin

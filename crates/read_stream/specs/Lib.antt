@@ -6,5 +6,6 @@ pub mod Parts
 pub mod Desks
 pub mod WantedBlocks
 pub mod PagesAtHand
+pub mod StreamViews
 pub mod StreamState
 pub mod Changes

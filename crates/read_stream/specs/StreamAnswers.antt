@@ -1,5 +1,5 @@
 -- What a stream answers, in the words of synchronous reads.
-use Rattle.std.specs.Prelude.{◌≡◌, ℕ, Bool, true, false, List, map, ⊤}
+use Rattle.std.specs.Prelude.{◌≡◌, ℕ, Bool, true, false, List, map, ⊤, Option, Some, None}
 use Rattle.page_check.specs.SynchronousAnswer.{Entry, Ending as SaidEnding}
 use Rattle.page_check.specs.SynchronousAnswer.{End as SaidEnd, Invalid as SaidInvalid}
 use Rattle.page_check.specs.SynchronousAnswer.{PastEnd as SaidPastEnd, Unread as SaidUnread}
@@ -87,6 +87,12 @@ module _ {P : Type 0} where
   step_answer relation step.Start page = SaidStop SaidEnd
   step_answer relation (step.Page block info) page = page_answer relation block info page.0 page.1
   step_answer relation (step.Stop end) page = SaidStop (synchronous_ending end)
+
+  -- how the stream has ended after its last step, if it has
+  abbrev pub step_ending : Step P → Option SaidEnding
+  step_ending step.Start = None
+  step_ending (step.Page block info) = None
+  step_ending (step.Stop end) = Some (synchronous_ending end)
 
   -- the stream has answered by an ending already, and this is what holds of it
   abbrev pub IfStopped : Step P → (Ending → Type 0) → Type 0

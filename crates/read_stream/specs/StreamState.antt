@@ -11,8 +11,9 @@ use Rattle.read_stream.specs.declared.answer.Ending.{Ending}
 use Rattle.read_stream.specs.declared.answer.Ending.TheVariants as ending
 use Rattle.read_stream.specs.declared.queue.Want.{Want}
 use Rattle.read_stream.specs.declared.stream.ReadStream.{ReadStream}
-use Rattle.read_stream.specs.StreamAnswers.{stream_entries, synchronous_ending, pages_given}
-use Rattle.read_stream.specs.StreamAnswers.{step_answer, IsFailedRead}
+use Rattle.read_stream.specs.StreamAnswers.{stream_entries, synchronous_ending, step_ending}
+use Rattle.read_stream.specs.StreamAnswers.{IsFailedRead}
+use Rattle.read_stream.specs.StreamViews.{StreamView, IsActorAsLeft, stream_after}
 use Rattle.read_stream.specs.StreamAnswers.{MayBeUnread, IfStopped, IfRunning}
 use Rattle.read_stream.specs.StreamIos.{Issued, ReadsForRuns, IsTakenIn, record_count, ios_started}
 use Rattle.read_stream.specs.Desks.{AreValidSettings}
@@ -21,7 +22,6 @@ use Rattle.read_stream.specs.WantedBlocks.{pending_blocks, wanted_runs}
 use Rattle.read_stream.specs.PagesAtHand.{IsAtHand, LendsCurrentPage, count_some, blocks_at_hand}
 use Rattle.read_stream.specs.PagesAtHand.{spent_ios}
 use Rattle.read_stream.specs.PagesAtHand.{record_blocks_left}
-use Rattle.read_stream.specs.PagesAtHand.{current_page}
 
 -- the record of a failed read is kept
 abbrev pub IfUnread : Ending → (ℕ → Type 0) → Type 0
@@ -29,6 +29,19 @@ IfUnread ending.End holds = ⊤
 IfUnread (ending.Invalid block) holds = ⊤
 IfUnread (ending.Unread block) holds = holds block
 IfUnread (ending.PastEnd block) holds = ⊤
+
+-- a stream as its callers see it
+abbrev pub stream_view : {W S P : Type 0} → (S → List (ℕ × P)) → ReadStream W S P → StreamView P
+stream_view left s = record {
+  relation = s.scope.relation;
+  blocks = left s.source_was.value;
+  desk = s.desk.ghost_name;
+  settings = s.desk.now.settings;
+  given = s.given;
+  ending = step_ending s.step;
+  actor_was = s.scope.was.value;
+  actor_is = s.actor_is.value;
+}
 
 module _ {W S P : Type 0} (left : S → List (ℕ × P)) (told : Option Told)
     (relations handles : ℕ) where
@@ -42,12 +55,11 @@ module _ {W S P : Type 0} (left : S → List (ℕ × P)) (told : Option Told)
   -- what holds of a stream at any time, whose actor knows p
   pub record StreamInvariant (p : Known) (s : ReadStream W S P) : Type 0 where
     pub relation_in_range : s.scope.relation < relations
-    pub settings : AreValidSettings s.desk.now.combine s.desk.now.ios s.desk.now.limit
-        s.desk.now.segment
-    pub scope : (s.scope.combine ≡ s.desk.now.combine) × (s.scope.total ≡ s.desk.now.ios + 1)
-    pub zero : s.scope.zero ≡ s.desk.now.zero
-    pub queue : s.desk.now.limit ≤ s.desk.now.queue.capacity
-    pub wants : s.desk.now.limit ≤ s.desk.now.wants.capacity
+    pub settings : AreValidSettings s.desk.now.settings
+    pub scope : (s.scope.combine ≡ s.desk.now.settings.combine) × (s.scope.total ≡ s.desk.now.settings.ios + 1)
+    pub zero : s.scope.zero ≡ s.desk.now.settings.zero
+    pub queue : s.desk.now.settings.limit ≤ s.desk.now.queue.capacity
+    pub wants : s.desk.now.settings.limit ≤ s.desk.now.wants.capacity
     pub list_within_most : length (list_at_open s) ≤ s.scope.most
     pub issued : Issued s.scope told relations p s.desk.now.reads
     pub batch_within : length s.desk.now.reads.batch < 32
@@ -68,7 +80,7 @@ module _ {W S P : Type 0} (left : S → List (ℕ × P)) (told : Option Told)
     pub queue_order : map block_number s.desk.now.queue.items
         ≡ hand ++ (wanted_blocks s.desk.now.wants.items
         ++ (pending_blocks s.plan.pending ++ behind))
-    pub wants : (w : Want) → IsIn w s.desk.now.wants.items → IsValidWant s.desk.now.combine handles
+    pub wants : (w : Want) → IsIn w s.desk.now.wants.items → IsValidWant s.desk.now.settings.combine handles
         w
     -- the I/Os that were started and not taken up are for the runs that are wanted
     pub runs : ReadsForRuns s.scope p s.desk.now.reads (wanted_runs s.desk.now.wants.items)
@@ -76,13 +88,13 @@ module _ {W S P : Type 0} (left : S → List (ℕ × P)) (told : Option Told)
     pub few_ios : ios_started s.desk.now.reads
         ≤ s.given + length (wanted_runs s.desk.now.wants.items) + spent
     pub ahead : s.plan.blocks_ahead ≡ length s.desk.now.queue.items
-    pub queue_within_limit : length s.desk.now.queue.items ≤ s.desk.now.limit
+    pub queue_within_limit : length s.desk.now.queue.items ≤ s.desk.now.settings.limit
     pub in_use : s.plan.ios_in_progress + length s.desk.now.reads.free.items ≡ s.scope.total
     -- a block that was looked for in the pool has a record to be read by
     pub spare_record : 0 < length s.desk.now.reads.free.items + count_some s.current
-    pub combine : s.plan.combine ≡ s.desk.now.combine
-    pub max_ios : s.plan.max_ios ≡ s.desk.now.ios
-    pub limit : s.plan.limit ≡ s.desk.now.limit
+    pub combine : s.plan.combine ≡ s.desk.now.settings.combine
+    pub max_ios : s.plan.max_ios ≡ s.desk.now.settings.ios
+    pub limit : s.plan.limit ≡ s.desk.now.settings.limit
 
   -- between two calls
   pub record IsBetweenCalls (p : Known) (s : ReadStream W S P) : Type 0 where
@@ -101,18 +113,16 @@ module _ {W S P : Type 0} (left : S → List (ℕ × P)) (told : Option Told)
     pub backend : s.actor_is.value.known.number < s.actor_is.value.known.config.backends
     pub between : IsBetweenCalls s.actor_is.value.known s
 
-  -- the same stream after a call that left its actor so and gave this answer
+  -- it is open, and the actor is as it was left: by the opening, or by the last call
+  pub record IsOpenFor (s : ReadStream W S P) (actor : ActorView) : Type 0 where
+    pub is_open : IsOpen s
+    pub as_left : IsActorAsLeft s.actor_is.value actor
+
+  -- the stream after a call that left the actor so and gave this answer
   pub record StreamAnswered (old new : ReadStream W S P) (actor : ActorView) (answer : Said P)
       : Type 0 where
-    pub desk : new.desk.ghost_name ≡ old.desk.ghost_name
-    pub source : new.source_was.value ≡ old.source_was.value
-    pub actor_was : new.scope.was.value ≡ old.scope.was.value
-    pub actor_is : new.actor_is.value ≡ actor
-    pub relation : new.scope.relation ≡ old.scope.relation
-    pub zero : new.scope.zero ≡ old.scope.zero
-    pub given : new.given ≡ old.given + pages_given answer
-    pub answer_is : answer ≡ step_answer new.scope.relation new.step (current_page new)
-    pub is_open : IsOpen new
+    pub view : stream_view left new ≡ stream_after (stream_view left old) actor answer
+    pub open_for : IsOpenFor new actor
 
   -- in the middle of a call
   pub record UnderwayWith (hand behind : List ℕ) (spent : ℕ) (p : Known) (s : ReadStream W S P)

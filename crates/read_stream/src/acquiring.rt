@@ -52,11 +52,11 @@ impl<W: World> Reads<W> {
         scope: &Scope<W>,
         context: &mut IoContext<W, M, E>,
     ) -> HandedOut<W>
-        requires valid_context { IsValidContext E.told E.relations W.told W.relations scope.now
+        requires valid_context { IsValidContext E.Execute W.told W.relations scope.now
             context.old }
         requires issued { Issued scope.now W.told W.relations context.old.actor.now.known self.old }
         requires few_ios { ios_started self.old < scope.now.most }
-        ensures context_advanced { ContextAdvanced E.told E.relations E.reads E.faults M.stands_on
+        ensures context_advanced { ContextAdvanced E.Execute M.Method
             context.old
             context.new }
         ensures handle_handed_out { HandleHandedOut scope.now W.told W.relations
@@ -74,7 +74,7 @@ impl<W: World> Reads<W> {
         if let Some(token) = self.hand_out(scope, context.table, context.actor) {
             return token;
         }
-        self.submit(rt, scope, context);
+        self.submit(rt, scope, context, false);
         self.take_in(rt, scope, context);
         match self.hand_out(scope, context.table, context.actor) {
             Some(token) => token,

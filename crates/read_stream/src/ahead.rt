@@ -29,12 +29,12 @@ impl<'d, 'p, W: World, S: BlockSource<P> + Drop, P: Copy> ReadStream<'d, 'p, W, 
         context: &mut IoContext<W, M, E>,
         block: u32,
     )
-        requires valid_context { IsValidContext E.told E.relations W.told W.relations self.old.scope
+        requires valid_context { IsValidContext E.Execute W.told W.relations self.old.scope
             context.old }
         requires underway { UnderwayWith S.left W.told W.relations W.handles (record_blocks_left
             self.old.current self.old.step) (block ∷ []) 0 context.old.actor.now.known self.old }
         requires free { 1 < length self.old.desk.now.reads.free.items }
-        ensures context_advanced { ContextAdvanced E.told E.relations E.reads E.faults M.stands_on
+        ensures context_advanced { ContextAdvanced E.Execute M.Method
             context.old
             context.new }
         ensures underway { Underway S.left W.told W.relations W.handles context.new.actor.now.known
@@ -53,7 +53,7 @@ impl<'d, 'p, W: World, S: BlockSource<P> + Drop, P: Copy> ReadStream<'d, 'p, W, 
 
     // The block from where the pool has it or awaits it now.
     fn from_pool<T: Wait>(&self, rt: &T, block: u32) -> Option<Want>
-        ensures { IfSome result (λ w. IsValidWant self.now.desk.now.combine W.handles w
+        ensures { IfSome result (λ w. IsValidWant self.now.desk.now.settings.combine W.handles w
             × (blocks_of_want w ≡ block ∷ []) × (runs_of_want w ≡ [])) }
     {
         let tag = Tag {
@@ -100,16 +100,16 @@ impl<'d, 'p, W: World, S: BlockSource<P> + Drop, P: Copy> ReadStream<'d, 'p, W, 
         context: &mut IoContext<W, M, E>,
         want: Want,
     )
-        requires valid_context { IsValidContext E.told E.relations W.told W.relations self.old.scope
+        requires valid_context { IsValidContext E.Execute W.told W.relations self.old.scope
             context.old }
         requires underway { UnderwayWith S.left W.told W.relations W.handles (record_blocks_left
             self.old.current self.old.step) (blocks_of_want want) 0 context.old.actor.now.known
             self.old }
-        requires want { IsValidWant self.old.desk.now.combine W.handles want × (runs_of_want want
+        requires want { IsValidWant self.old.desk.now.settings.combine W.handles want × (runs_of_want want
             ≡ [])
             × (length (blocks_of_want want) ≡ 1) }
         requires free { 1 < length self.old.desk.now.reads.free.items }
-        ensures context_advanced { ContextAdvanced E.told E.relations E.reads E.faults M.stands_on
+        ensures context_advanced { ContextAdvanced E.Execute M.Method
             context.old
             context.new }
         ensures underway { Underway S.left W.told W.relations W.handles context.new.actor.now.known
@@ -128,12 +128,12 @@ impl<'d, 'p, W: World, S: BlockSource<P> + Drop, P: Copy> ReadStream<'d, 'p, W, 
         rt: &T,
         context: &mut IoContext<W, M, E>,
     )
-        requires valid_context { IsValidContext E.told E.relations W.told W.relations self.old.scope
+        requires valid_context { IsValidContext E.Execute W.told W.relations self.old.scope
             context.old }
         requires underway { Underway S.left W.told W.relations W.handles context.old.actor.now.known
             self.old }
         requires ahead { MayLookAhead self.old.plan }
-        ensures context_advanced { ContextAdvanced E.told E.relations E.reads E.faults M.stands_on
+        ensures context_advanced { ContextAdvanced E.Execute M.Method
             context.old
             context.new }
         ensures underway { Underway S.left W.told W.relations W.handles context.new.actor.now.known
@@ -173,11 +173,11 @@ impl<'d, 'p, W: World, S: BlockSource<P> + Drop, P: Copy> ReadStream<'d, 'p, W, 
         rt: &T,
         context: &mut IoContext<W, M, E>,
     )
-        requires valid_context { IsValidContext E.told E.relations W.told W.relations self.old.scope
+        requires valid_context { IsValidContext E.Execute W.told W.relations self.old.scope
             context.old }
         requires underway { Underway S.left W.told W.relations W.handles context.old.actor.now.known
             self.old }
-        ensures context_advanced { ContextAdvanced E.told E.relations E.reads E.faults M.stands_on
+        ensures context_advanced { ContextAdvanced E.Execute M.Method
             context.old
             context.new }
         ensures underway { Underway S.left W.told W.relations W.handles context.new.actor.now.known

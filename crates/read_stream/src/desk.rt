@@ -2,7 +2,7 @@
 ghost use Rattle.std.specs.Prelude.{◌≡◌, ◌≤◌, ◌+◌, IfOk, IfSome, length};
 ghost use Rattle.read_stream.specs.IoContexts.{IsValidContext, ContextAdvanced};
 ghost use Rattle.read_stream.specs.StreamIos.{Issued, record_count, ios_started};
-ghost use Rattle.read_stream.specs.Desks.{SameDeskSettings, AreValidSettings, IsFreeDesk};
+ghost use Rattle.read_stream.specs.Desks.{AreValidSettings, IsFreeDesk, desk_settings};
 ghost use Rattle.read_stream.specs.PagesAtHand.{count_some};
 
 use crate::io_context::IoContext;
@@ -39,13 +39,7 @@ pub struct Settings {
 /// The memory of one stream after the other: records, the queue and the batch.
 #[derive(Drop)]
 pub struct Desk<W: World, P: Copy> {
-    pub(crate) combine: u32,
-    pub(crate) ios: u32,
-    pub(crate) limit: u32,
-    pub(crate) full: bool,
-    pub(crate) batched: bool,
-    pub(crate) segment: u32,
-    pub(crate) zero: bool,
+    pub(crate) settings: Settings,
     // The blocks that were taken from the source and not given.
     pub(crate) queue: HeapCircularBuffer<QueuedBlock<P>>,
     // How they are to be had, but for those at hand and those of the pending run.
@@ -57,22 +51,12 @@ impl<W: World, P: Copy> Desk<W, P> {
     /// A desk for streams with these settings. It takes all the memory that its streams need: one
     /// record more than there may be I/Os under way, for a block that has left the pool again.
     pub fn open(alloc: Global, settings: &Settings) -> Result<Desk<W, P>, AllocError>
-        requires settings { AreValidSettings settings.now.combine settings.now.ios
-            settings.now.limit settings.now.segment }
+        requires settings { AreValidSettings settings.now }
         ensures free { IfOk result IsFreeDesk }
-        ensures settings { IfOk result (λ d. (d.combine ≡ settings.now.combine)
-            × (d.ios ≡ settings.now.ios) × (d.limit ≡ settings.now.limit)
-            × (d.full ≡ settings.now.full) × (d.batched ≡ settings.now.batch)
-            × (d.segment ≡ settings.now.segment) × (d.zero ≡ settings.now.zero)) }
+        ensures settings { IfOk result (λ d. desk_settings d ≡ settings.now) }
     {
         Ok(Desk {
-            combine: settings.combine,
-            ios: settings.ios,
-            limit: settings.limit,
-            full: settings.full,
-            batched: settings.batch,
-            segment: settings.segment,
-            zero: settings.zero,
+            settings: *settings,
             queue: HeapCircularBuffer::with_capacity(alloc, settings.limit as usize)?,
             wants: HeapCircularBuffer::with_capacity(alloc, settings.limit as usize)?,
             reads: Reads::make(alloc, settings.ios + 1, settings.combine)?,
@@ -97,23 +81,23 @@ impl<W: World, P: Copy> Desk<W, P> {
         context: &mut IoContext<W, M, E>,
         current: Option<ReadIo>,
     ) -> u64
-        requires valid_context { IsValidContext E.told E.relations W.told W.relations scope.now
+        requires valid_context { IsValidContext E.Execute W.told W.relations scope.now
             context.old }
-        requires settings { AreValidSettings self.old.combine self.old.ios self.old.limit
-            self.old.segment }
-        requires desk { (scope.now.combine ≡ self.old.combine)
-            × (scope.now.total ≡ self.old.ios + 1) × (self.old.limit ≤ self.old.queue.capacity)
-            × (self.old.limit ≤ self.old.wants.capacity) }
+        requires settings { AreValidSettings self.old.settings }
+        requires desk { (scope.now.combine ≡ self.old.settings.combine)
+            × (scope.now.total ≡ self.old.settings.ios + 1)
+            × (self.old.settings.limit ≤ self.old.queue.capacity)
+            × (self.old.settings.limit ≤ self.old.wants.capacity) }
         requires issued { Issued scope.now W.told W.relations context.old.actor.now.known
             self.old.reads }
         requires current { IfSome current (λ io. length io.pages ≡ scope.now.combine) }
         requires all { record_count self.old.reads + count_some current ≡ scope.now.total }
-        ensures context_advanced { ContextAdvanced E.told E.relations E.reads E.faults M.stands_on
+        ensures context_advanced { ContextAdvanced E.Execute M.Method
             context.old
             context.new }
         ensures issued { Issued scope.now W.told W.relations context.new.actor.now.known
             self.new.reads }
-        ensures free { IsFreeDesk self.new × SameDeskSettings self.old self.new }
+        ensures free { IsFreeDesk self.new × (self.new.settings ≡ self.old.settings) }
         ensures count { (result ≡ self.new.reads.taken_in)
             × (ios_started self.new.reads ≡ ios_started self.old.reads) }
     {

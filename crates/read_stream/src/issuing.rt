@@ -1,10 +1,14 @@
 //! The calls that start a stream's I/Os.
 ghost use Rattle.std.specs.Prelude.{◌≡◌, ◌≤◌, ◌<◌, ◌+◌, ◌^◌, [], ◌∷◌, ◌++◌, length, List};
+ghost use Rattle.std.specs.Prelude.{IfSome, IfNone};
 ghost use Rattle.aio_word.specs.declared.WaitRef.{WaitRef};
 ghost use Rattle.aio_word.specs.Stands.{IsIn};
 ghost use Rattle.aio_word.specs.Tokens.{IsStaged};
 ghost use Rattle.read_stream.specs.IoContexts.{IsValidContext, ContextAdvanced};
-ghost use Rattle.aio_callback.specs.ReadIoView.{ReadIoView, with_aim};
+ghost use Rattle.aio_handle.specs.ContractViews.{IsActorOf};
+ghost use Rattle.aio_batch.specs.NextSubmission.{IsNextSubmission};
+ghost use Rattle.aio_batch.specs.StagedTokens.{AreStagedTokens};
+ghost use Rattle.aio_callback.specs.ReadIoView.{ReadIoView, record_aim, with_aim};
 ghost use Rattle.aio_callback.specs.StreamOutcomes.{stream_ids};
 ghost use Rattle.read_plan.specs.declared.runs.Run.{Run};
 ghost use Rattle.read_plan.specs.Runs.{IsRun};
@@ -17,9 +21,9 @@ use crate::io_context::IoContext;
 use crate::reads::Reads;
 use crate::ring::push;
 use crate::scope::Scope;
-use aio_batch::Method;
+use aio_batch::{Batch, Method};
 use aio_callback::{CallbackId, ReadIo};
-use aio_handle::{Execute, Staged};
+use aio_handle::{Execute, InFlight, Staged};
 use aio_word::WaitRef;
 use buf_pool::{Pool, Tag};
 use method_sync::SyncMethod;
@@ -77,18 +81,47 @@ fn aim_record(mut io: ReadIo, relation: u32, run: Run, zero: bool) -> ReadIo
     }
 }
 
+// Submits the I/O that was staged first: alone, so that this thread executes it, or by the method.
+fn submit_next<W: World, M: Method<ReadIo, W>, E: Execute<ReadIo, W>, T: Wait>(
+    rt: &T,
+    batch: &mut Batch<ReadIo, W>,
+    context: &mut IoContext<W, M, E>,
+    alone: bool,
+) -> Option<InFlight<W>>
+    requires table { IsActorOf context.old.table.now context.old.actor.now }
+    requires told { (E.told context.old.runner.now ≡ W.told)
+        × (E.relations context.old.runner.now ≡ W.relations) }
+    requires tokens { AreStagedTokens context.old.actor.now.known batch.old }
+    ensures context_advanced { ContextAdvanced E.Execute M.Method context.old context.new }
+    ensures next { IfSome result (λ t. IsNextSubmission record_aim batch.old batch.new t
+        context.old.actor.now.known context.new.actor.now.known (E.reads context.old.runner.now)
+        (E.reads context.new.runner.now) (E.faults context.old.runner.now)
+        (E.faults context.new.runner.now)) }
+    ensures none { IfNone result ((batch.old ≡ []) × (batch.new ≡ batch.old)
+        × (context.new.actor ≡ context.old.actor)) }
+    ensures tokens { AreStagedTokens context.new.actor.now.known batch.new }
+{
+    let table = context.table;
+    if alone {
+        return batch.submit_next(rt, table, context.actor, &mut SyncMethod, context.runner);
+    }
+    batch.submit_next(rt, table, context.actor, context.method, context.runner)
+}
+
 impl<W: World> Reads<W> {
-    /// Submits what is staged, in the order of staging.
+    /// Submits what is staged, in the order of staging: alone, so that this thread executes each,
+    /// or by the method.
     pub fn submit<M: Method<ReadIo, W>, E: Execute<ReadIo, W>, T: Wait>(
         &mut self,
         rt: &T,
         scope: &Scope<W>,
         context: &mut IoContext<W, M, E>,
+        alone: bool,
     )
-        requires valid_context { IsValidContext E.told E.relations W.told W.relations scope.now
+        requires valid_context { IsValidContext E.Execute W.told W.relations scope.now
             context.old }
         requires issued { Issued scope.now W.told W.relations context.old.actor.now.known self.old }
-        ensures context_advanced { ContextAdvanced E.told E.relations E.reads E.faults M.stands_on
+        ensures context_advanced { ContextAdvanced E.Execute M.Method
             context.old
             context.new }
         ensures issued { Issued scope.now W.told W.relations context.new.actor.now.known self.new }
@@ -99,13 +132,7 @@ impl<W: World> Reads<W> {
         ensures runs { (runs : List Run) → ReadsForRuns scope.now context.old.actor.now.known
             self.old runs → ReadsForRuns scope.now context.new.actor.now.known self.new runs }
     {
-        while let Some(token) = self.batch.submit_next(
-            rt,
-            context.table,
-            context.actor,
-            context.method,
-            context.runner,
-        ) {
+        while let Some(token) = submit_next(rt, &mut self.batch, context, alone) {
             push(&mut self.in_flight, token);
         }
     }
@@ -120,14 +147,14 @@ impl<W: World> Reads<W> {
         io: ReadIo,
         run: Run,
     ) -> Staged<ReadIo, W>
-        requires valid_context { IsValidContext E.told E.relations W.told W.relations scope.now
+        requires valid_context { IsValidContext E.Execute W.told W.relations scope.now
             context.old }
         requires issued { Issued scope.now W.told W.relations context.old.actor.now.known self.old }
         requires relation { scope.now.relation < W.relations }
         requires record { length io.pages ≡ scope.now.combine }
         requires run { IsRun scope.now.combine run }
         requires few_ios { ios_started self.old < scope.now.most }
-        ensures context_advanced { ContextAdvanced E.told E.relations E.reads E.faults M.stands_on
+        ensures context_advanced { ContextAdvanced E.Execute M.Method
             context.old
             context.new }
         ensures issued { IssuedExcept (result.0 ∷ []) scope.now W.told W.relations
@@ -161,7 +188,7 @@ impl<W: World> Reads<W> {
     }
 
     /// Starts a read of the run by the record. It is submitted where the batch is full, or where
-    /// I/Os are not submitted together.
+    /// I/Os are not submitted together: alone, so that this thread executes it, or by the method.
     pub fn start<M: Method<ReadIo, W>, E: Execute<ReadIo, W>, T: Wait>(
         &mut self,
         rt: &T,
@@ -170,8 +197,9 @@ impl<W: World> Reads<W> {
         context: &mut IoContext<W, M, E>,
         io: ReadIo,
         run: Run,
+        alone: bool,
     )
-        requires valid_context { IsValidContext E.told E.relations W.told W.relations scope.now
+        requires valid_context { IsValidContext E.Execute W.told W.relations scope.now
             context.old }
         requires issued { Issued scope.now W.told W.relations context.old.actor.now.known self.old }
         requires relation { scope.now.relation < W.relations }
@@ -180,7 +208,7 @@ impl<W: World> Reads<W> {
         requires record { length io.pages ≡ scope.now.combine }
         requires run { IsRun scope.now.combine run }
         requires few_ios { ios_started self.old < scope.now.most }
-        ensures context_advanced { ContextAdvanced E.told E.relations E.reads E.faults M.stands_on
+        ensures context_advanced { ContextAdvanced E.Execute M.Method
             context.old
             context.new }
         ensures issued { Issued scope.now W.told W.relations context.new.actor.now.known self.new }
@@ -194,7 +222,7 @@ impl<W: World> Reads<W> {
         let token = self.stage(rt, scope, pool, context, io, run);
         self.put(token);
         if !scope.batched || self.batch.len() == MOST_STAGED {
-            self.submit(rt, scope, context);
+            self.submit(rt, scope, context, alone);
         }
     }
 
@@ -208,7 +236,7 @@ impl<W: World> Reads<W> {
         io: ReadIo,
         run: Run,
     ) -> ReadIo
-        requires valid_context { IsValidContext E.told E.relations W.told W.relations scope.now
+        requires valid_context { IsValidContext E.Execute W.told W.relations scope.now
             context.old }
         requires issued { Issued scope.now W.told W.relations context.old.actor.now.known self.old }
         requires room { record_count self.old < scope.now.total }
@@ -216,7 +244,7 @@ impl<W: World> Reads<W> {
         requires record { length io.pages ≡ scope.now.combine }
         requires run { IsRun scope.now.combine run }
         requires few_ios { ios_started self.old < scope.now.most }
-        ensures context_advanced { ContextAdvanced E.told E.relations E.reads E.faults M.stands_on
+        ensures context_advanced { ContextAdvanced E.Execute M.Method
             context.old
             context.new }
         ensures issued { Issued scope.now W.told W.relations context.new.actor.now.known self.new }
@@ -228,17 +256,10 @@ impl<W: World> Reads<W> {
         ensures runs { (runs : List Run) → ReadsForRuns scope.now context.old.actor.now.known
             self.old runs → ReadsForRuns scope.now context.new.actor.now.known self.new runs }
     {
-        self.submit(rt, scope, context);
+        self.submit(rt, scope, context, false);
         let token = self.stage(rt, scope, pool, context, io, run);
         self.put(token);
-        let Some(token) = self.batch.submit_next(
-            rt,
-            context.table,
-            context.actor,
-            &mut SyncMethod,
-            context.runner,
-        )
-        else {
+        let Some(token) = submit_next(rt, &mut self.batch, context, true) else {
             unreachable!()
         };
         self.settle(rt, scope, context, token)

@@ -28,12 +28,12 @@ impl<'d, 'p, W: World, S: BlockSource<P> + Drop, P: Copy> ReadStream<'d, 'p, W, 
         context: &mut IoContext<W, M, E>,
         block: u32,
     )
-        requires valid_context { IsValidContext E.told E.relations W.told W.relations self.old.scope
+        requires valid_context { IsValidContext E.Execute W.told W.relations self.old.scope
             context.old }
         requires underway { UnderwayWith S.left W.told W.relations W.handles (block ∷ []) [] 0
             context.old.actor.now.known self.old }
         requires none { (self.old.current ≡ None) × (self.old.pin ≡ None) }
-        ensures context_advanced { ContextAdvanced E.told E.relations E.reads E.faults M.stands_on
+        ensures context_advanced { ContextAdvanced E.Execute M.Method
             context.old
             context.new }
         ensures reaches { BlockIsAtHand S.left W.told W.relations W.handles block
@@ -57,13 +57,13 @@ impl<'d, 'p, W: World, S: BlockSource<P> + Drop, P: Copy> ReadStream<'d, 'p, W, 
         block: u32,
         reference: WaitRef,
     )
-        requires valid_context { IsValidContext E.told E.relations W.told W.relations self.old.scope
+        requires valid_context { IsValidContext E.Execute W.told W.relations self.old.scope
             context.old }
         requires underway { UnderwayWith S.left W.told W.relations W.handles (block ∷ []) [] 0
             context.old.actor.now.known self.old }
         requires none { (self.old.current ≡ None) × (self.old.pin ≡ None) }
         requires range { reference.handle < W.handles }
-        ensures context_advanced { ContextAdvanced E.told E.relations E.reads E.faults M.stands_on
+        ensures context_advanced { ContextAdvanced E.Execute M.Method
             context.old
             context.new }
         ensures reaches { BlockIsAtHand S.left W.told W.relations W.handles block
@@ -88,13 +88,13 @@ impl<'d, 'p, W: World, S: BlockSource<P> + Drop, P: Copy> ReadStream<'d, 'p, W, 
         context: &mut IoContext<W, M, E>,
         reference: WaitRef,
     )
-        requires valid_context { IsValidContext E.told E.relations W.told W.relations self.old.scope
+        requires valid_context { IsValidContext E.Execute W.told W.relations self.old.scope
             context.old }
         requires underway { (hand : List ℕ) × UnderwayWith S.left W.told W.relations W.handles hand
             [] 0 context.old.actor.now.known self.old }
         requires all_submitted { AllSubmitted context.old.actor.now.known }
         requires range { reference.handle < W.handles }
-        ensures context_advanced { ContextAdvanced E.told E.relations E.reads E.faults M.stands_on
+        ensures context_advanced { ContextAdvanced E.Execute M.Method
             context.old
             context.new }
         ensures underway { (hand : List ℕ) → UnderwayWith S.left W.told W.relations W.handles hand
@@ -135,12 +135,12 @@ impl<'d, 'p, W: World, S: BlockSource<P> + Drop, P: Copy> ReadStream<'d, 'p, W, 
         context: &mut IoContext<W, M, E>,
         block: u32,
     )
-        requires valid_context { IsValidContext E.told E.relations W.told W.relations self.old.scope
+        requires valid_context { IsValidContext E.Execute W.told W.relations self.old.scope
             context.old }
         requires underway { UnderwayWith S.left W.told W.relations W.handles (block ∷ []) [] 0
             context.old.actor.now.known self.old }
         requires none { (self.old.current ≡ None) × (self.old.pin ≡ None) }
-        ensures context_advanced { ContextAdvanced E.told E.relations E.reads E.faults M.stands_on
+        ensures context_advanced { ContextAdvanced E.Execute M.Method
             context.old
             context.new }
         ensures reaches { BlockIsAtHand S.left W.told W.relations W.handles block

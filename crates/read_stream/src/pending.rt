@@ -16,7 +16,6 @@ use aio_batch::Method;
 use aio_callback::ReadIo;
 use aio_handle::Execute;
 use block_source::BlockSource;
-use method_sync::SyncMethod;
 use page_check::World;
 use read_plan::Run;
 use std::sync::Wait;
@@ -30,7 +29,7 @@ impl<'d, 'p, W: World, S: BlockSource<P> + Drop, P: Copy> ReadStream<'d, 'p, W, 
         context: &mut IoContext<W, M, E>,
         run: Run,
     )
-        requires valid_context { IsValidContext E.told E.relations W.told W.relations self.old.scope
+        requires valid_context { IsValidContext E.Execute W.told W.relations self.old.scope
             context.old }
         requires issued { Issued self.old.scope W.told W.relations context.old.actor.now.known
             self.old.desk.now.reads }
@@ -41,7 +40,7 @@ impl<'d, 'p, W: World, S: BlockSource<P> + Drop, P: Copy> ReadStream<'d, 'p, W, 
         requires plan { self.old.plan.ios_in_progress < 2 ^ 32 - 1 }
         requires few_ios { ios_started self.old.desk.now.reads < self.old.scope.most }
         requires room { length self.old.desk.now.wants.items < self.old.desk.now.wants.capacity }
-        ensures context_advanced { ContextAdvanced E.told E.relations E.reads E.faults M.stands_on
+        ensures context_advanced { ContextAdvanced E.Execute M.Method
             context.old
             context.new }
         ensures issued { Issued self.new.scope W.told W.relations context.new.actor.now.known
@@ -57,21 +56,10 @@ impl<'d, 'p, W: World, S: BlockSource<P> + Drop, P: Copy> ReadStream<'d, 'p, W, 
         };
         self.plan.started();
         push(&mut self.desk.wants, Want::Run(run));
-        if self.is_alone() {
-            let mut by_itself = IoContext {
-                table: context.table,
-                actor: &mut *context.actor,
-                method: &mut SyncMethod,
-                runner: &mut *context.runner,
-            };
-            self.desk
-                .reads
-                .start(rt, &self.scope, self.pool, &mut by_itself, io, run);
-        } else {
-            self.desk
-                .reads
-                .start(rt, &self.scope, self.pool, context, io, run);
-        }
+        let alone = self.is_alone();
+        self.desk
+            .reads
+            .start(rt, &self.scope, self.pool, context, io, run, alone);
     }
 
     // Whether one read, a look or a join is all that is wanted, no page is given, and no further
@@ -86,13 +74,13 @@ impl<'d, 'p, W: World, S: BlockSource<P> + Drop, P: Copy> ReadStream<'d, 'p, W, 
         rt: &T,
         context: &mut IoContext<W, M, E>,
     )
-        requires valid_context { IsValidContext E.told E.relations W.told W.relations self.old.scope
+        requires valid_context { IsValidContext E.Execute W.told W.relations self.old.scope
             context.old }
         requires underway { (behind : List ℕ) × UnderwayWith S.left W.told W.relations W.handles
             (record_blocks_left self.old.current self.old.step) behind 0 context.old.actor.now.known
             self.old }
         requires free { 1 < length self.old.desk.now.reads.free.items }
-        ensures context_advanced { ContextAdvanced E.told E.relations E.reads E.faults M.stands_on
+        ensures context_advanced { ContextAdvanced E.Execute M.Method
             context.old
             context.new }
         ensures underway { (behind : List ℕ) → UnderwayWith S.left W.told W.relations W.handles
@@ -117,12 +105,12 @@ impl<'d, 'p, W: World, S: BlockSource<P> + Drop, P: Copy> ReadStream<'d, 'p, W, 
         rt: &T,
         context: &mut IoContext<W, M, E>,
     )
-        requires valid_context { IsValidContext E.told E.relations W.told W.relations self.old.scope
+        requires valid_context { IsValidContext E.Execute W.told W.relations self.old.scope
             context.old }
         requires underway { Underway S.left W.told W.relations W.handles context.old.actor.now.known
             self.old }
         requires free { 1 < length self.old.desk.now.reads.free.items }
-        ensures context_advanced { ContextAdvanced E.told E.relations E.reads E.faults M.stands_on
+        ensures context_advanced { ContextAdvanced E.Execute M.Method
             context.old
             context.new }
         ensures underway { Underway S.left W.told W.relations W.handles context.new.actor.now.known
@@ -139,7 +127,7 @@ impl<'d, 'p, W: World, S: BlockSource<P> + Drop, P: Copy> ReadStream<'d, 'p, W, 
     // Whether the pending run has as many blocks as a run may have.
     fn is_whole(&self) -> bool {
         match self.plan.pending() {
-            Some(run) => run.count == self.desk.combine,
+            Some(run) => run.count == self.desk.settings.combine,
             None => false,
         }
     }
@@ -161,11 +149,11 @@ impl<'d, 'p, W: World, S: BlockSource<P> + Drop, P: Copy> ReadStream<'d, 'p, W, 
         rt: &T,
         context: &mut IoContext<W, M, E>,
     )
-        requires valid_context { IsValidContext E.told E.relations W.told W.relations self.old.scope
+        requires valid_context { IsValidContext E.Execute W.told W.relations self.old.scope
             context.old }
         requires underway { Underway S.left W.told W.relations W.handles context.old.actor.now.known
             self.old }
-        ensures context_advanced { ContextAdvanced E.told E.relations E.reads E.faults M.stands_on
+        ensures context_advanced { ContextAdvanced E.Execute M.Method
             context.old
             context.new }
         ensures underway { Underway S.left W.told W.relations W.handles context.new.actor.now.known

@@ -27,7 +27,7 @@ impl<'d, 'p, W: World, S: BlockSource<P> + Drop, P: Copy> ReadStream<'d, 'p, W, 
         context: &mut IoContext<W, M, E>,
         block: u32,
     ) -> Option<Ending>
-        requires valid_context { IsValidContext E.told E.relations W.told W.relations self.old.scope
+        requires valid_context { IsValidContext E.Execute W.told W.relations self.old.scope
             context.old }
         requires underway { Underway S.left W.told W.relations W.handles context.old.actor.now.known
             self.old }
@@ -37,7 +37,7 @@ impl<'d, 'p, W: World, S: BlockSource<P> + Drop, P: Copy> ReadStream<'d, 'p, W, 
             ≡ Some block }
         requires last { self.old.desk.now.wants.items ≡ [] → self.old.current ≡ None
             → self.old.plan.pending ≡ None }
-        ensures context_advanced { ContextAdvanced E.told E.relations E.reads E.faults M.stands_on
+        ensures context_advanced { ContextAdvanced E.Execute M.Method
             context.old
             context.new }
         ensures reaches { BlockIsAtHand S.left W.told W.relations W.handles block
@@ -61,7 +61,7 @@ impl<'d, 'p, W: World, S: BlockSource<P> + Drop, P: Copy> ReadStream<'d, 'p, W, 
         context: &mut IoContext<W, M, E>,
         block: u32,
     )
-        requires valid_context { IsValidContext E.told E.relations W.told W.relations self.old.scope
+        requires valid_context { IsValidContext E.Execute W.told W.relations self.old.scope
             context.old }
         requires underway { Underway S.left W.told W.relations W.handles context.old.actor.now.known
             self.old }
@@ -71,7 +71,7 @@ impl<'d, 'p, W: World, S: BlockSource<P> + Drop, P: Copy> ReadStream<'d, 'p, W, 
             ≡ Some block }
         requires last { self.old.desk.now.wants.items ≡ [] → self.old.current ≡ None
             → self.old.plan.pending ≡ None }
-        ensures context_advanced { ContextAdvanced E.told E.relations E.reads E.faults M.stands_on
+        ensures context_advanced { ContextAdvanced E.Execute M.Method
             context.old
             context.new }
         ensures reaches { BlockIsAtHand S.left W.told W.relations W.handles block
@@ -90,7 +90,7 @@ impl<'d, 'p, W: World, S: BlockSource<P> + Drop, P: Copy> ReadStream<'d, 'p, W, 
         context: &mut IoContext<W, M, E>,
         block: u32,
     )
-        requires valid_context { IsValidContext E.told E.relations W.told W.relations self.old.scope
+        requires valid_context { IsValidContext E.Execute W.told W.relations self.old.scope
             context.old }
         requires underway { UnderwayWith S.left W.told W.relations W.handles [] [] 0
             context.old.actor.now.known self.old }
@@ -99,7 +99,7 @@ impl<'d, 'p, W: World, S: BlockSource<P> + Drop, P: Copy> ReadStream<'d, 'p, W, 
             ≡ Some block }
         requires last { self.old.desk.now.wants.items ≡ [] → self.old.current ≡ None
             → self.old.plan.pending ≡ None }
-        ensures context_advanced { ContextAdvanced E.told E.relations E.reads E.faults M.stands_on
+        ensures context_advanced { ContextAdvanced E.Execute M.Method
             context.old
             context.new }
         ensures reaches { BlockIsAtHand S.left W.told W.relations W.handles block
@@ -142,7 +142,7 @@ impl<'d, 'p, W: World, S: BlockSource<P> + Drop, P: Copy> ReadStream<'d, 'p, W, 
         block: u32,
         run: Run,
     )
-        requires valid_context { IsValidContext E.told E.relations W.told W.relations self.old.scope
+        requires valid_context { IsValidContext E.Execute W.told W.relations self.old.scope
             context.old }
         requires underway { UnderwayWith S.left W.told W.relations W.handles [] [] 0
             context.old.actor.now.known self.old }
@@ -150,7 +150,7 @@ impl<'d, 'p, W: World, S: BlockSource<P> + Drop, P: Copy> ReadStream<'d, 'p, W, 
         requires front_block { slice_get (map block_number self.old.desk.now.queue.items) 0
             ≡ Some block }
         requires run { slice_get self.old.desk.now.wants.items 0 ≡ Some (RunWant run) }
-        ensures context_advanced { ContextAdvanced E.told E.relations E.reads E.faults M.stands_on
+        ensures context_advanced { ContextAdvanced E.Execute M.Method
             context.old
             context.new }
         ensures reaches { BlockIsAtHand S.left W.told W.relations W.handles block
@@ -169,7 +169,7 @@ impl<'d, 'p, W: World, S: BlockSource<P> + Drop, P: Copy> ReadStream<'d, 'p, W, 
         block: u32,
         run: Run,
     )
-        requires valid_context { IsValidContext E.told E.relations W.told W.relations self.old.scope
+        requires valid_context { IsValidContext E.Execute W.told W.relations self.old.scope
             context.old }
         requires underway { UnderwayWith S.left W.told W.relations W.handles [] [] 0
             context.old.actor.now.known self.old }
@@ -178,7 +178,7 @@ impl<'d, 'p, W: World, S: BlockSource<P> + Drop, P: Copy> ReadStream<'d, 'p, W, 
             ≡ Some block }
         requires run { slice_get self.old.desk.now.wants.items 0 ≡ Some (RunWant run) }
         requires batch_empty { self.old.desk.now.reads.batch ≡ [] }
-        ensures context_advanced { ContextAdvanced E.told E.relations E.reads E.faults M.stands_on
+        ensures context_advanced { ContextAdvanced E.Execute M.Method
             context.old
             context.new }
         ensures reaches { BlockIsAtHand S.left W.told W.relations W.handles block

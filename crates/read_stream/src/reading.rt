@@ -35,7 +35,7 @@ impl<'d, 'p, W: World, S: BlockSource<P> + Drop, P: Copy> ReadStream<'d, 'p, W, 
         io: ReadIo,
         run: Run,
     )
-        requires valid_context { IsValidContext E.told E.relations W.told W.relations self.old.scope
+        requires valid_context { IsValidContext E.Execute W.told W.relations self.old.scope
             context.old }
         requires issued { Issued self.old.scope W.told W.relations context.old.actor.now.known
             self.old.desk.now.reads }
@@ -44,7 +44,7 @@ impl<'d, 'p, W: World, S: BlockSource<P> + Drop, P: Copy> ReadStream<'d, 'p, W, 
         requires record { length io.pages ≡ self.old.scope.combine }
         requires run { IsRun self.old.scope.combine run }
         requires few_ios { ios_started self.old.desk.now.reads < self.old.scope.most }
-        ensures context_advanced { ContextAdvanced E.told E.relations E.reads E.faults M.stands_on
+        ensures context_advanced { ContextAdvanced E.Execute M.Method
             context.old
             context.new }
         ensures issued { Issued self.new.scope W.told W.relations context.new.actor.now.known
@@ -73,12 +73,12 @@ impl<'d, 'p, W: World, S: BlockSource<P> + Drop, P: Copy> ReadStream<'d, 'p, W, 
         context: &mut IoContext<W, M, E>,
         block: u32,
     ) -> Option<Ending>
-        requires valid_context { IsValidContext E.told E.relations W.told W.relations self.old.scope
+        requires valid_context { IsValidContext E.Execute W.told W.relations self.old.scope
             context.old }
         requires reaches { BlockIsAtHand S.left W.told W.relations W.handles block
             context.old.actor.now.known self.old }
         requires some { self.old.current ≢ None }
-        ensures context_advanced { ContextAdvanced E.told E.relations E.reads E.faults M.stands_on
+        ensures context_advanced { ContextAdvanced E.Execute M.Method
             context.old
             context.new }
         ensures reaches { BlockIsAtHand S.left W.told W.relations W.handles block
@@ -137,13 +137,13 @@ impl<'d, 'p, W: World, S: BlockSource<P> + Drop, P: Copy> ReadStream<'d, 'p, W, 
         context: &mut IoContext<W, M, E>,
         block: u32,
     )
-        requires valid_context { IsValidContext E.told E.relations W.told W.relations self.old.scope
+        requires valid_context { IsValidContext E.Execute W.told W.relations self.old.scope
             context.old }
         requires reaches { BlockIsAtHand S.left W.told W.relations W.handles block
             context.old.actor.now.known self.old }
         requires some { self.old.current ≢ None }
         requires block_behind_first { IfSome self.old.current (λ io. io.first < block) }
-        ensures context_advanced { ContextAdvanced E.told E.relations E.reads E.faults M.stands_on
+        ensures context_advanced { ContextAdvanced E.Execute M.Method
             context.old
             context.new }
         ensures reaches { BlockIsAtHand S.left W.told W.relations W.handles block

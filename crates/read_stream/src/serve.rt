@@ -7,11 +7,12 @@ ghost use Rattle.page_check.specs.IsAnswer.{IsNext, IfPage};
 ghost use Rattle.read_stream.specs.IoContexts.{IsValidContext, ContextAdvanced};
 ghost use Rattle.read_stream.specs.StreamAnswers.{stream_entries, MayBeUnread, pages_given};
 ghost use Rattle.read_stream.specs.StreamAnswers.{step_answer};
-ghost use Rattle.read_stream.specs.StreamAnswers.{IfStopped};
+ghost use Rattle.read_stream.specs.StreamAnswers.{IfStopped, step_ending};
+ghost use Rattle.read_stream.specs.StreamViews.{answered_stop, stream_after};
 ghost use Rattle.read_stream.specs.PagesAtHand.{LendsCurrentPage, HasMoreBlocks};
 ghost use Rattle.read_stream.specs.PagesAtHand.{record_blocks_left};
 ghost use Rattle.read_stream.specs.PagesAtHand.{current_page};
-ghost use Rattle.read_stream.specs.StreamState.{IsBetweenCalls, IsOpen, StreamAnswered, Underway};
+ghost use Rattle.read_stream.specs.StreamState.{IsBetweenCalls, IsOpen, Underway, stream_view};
 ghost use Rattle.read_stream.specs.StreamState.{UnderwayWith};
 ghost use Rattle.read_stream.specs.Changes.{SameStream, LookAheadUnchanged, GivesPage};
 ghost use Rattle.read_stream.specs.Changes.{ConsumerUnchanged};
@@ -26,7 +27,6 @@ use aio_batch::Method;
 use aio_callback::ReadIo;
 use aio_handle::Execute;
 use block_source::BlockSource;
-use method_sync::SyncMethod;
 use page_check::World;
 use std::mem;
 use std::snapshot::Snapshot;
@@ -39,11 +39,11 @@ impl<'d, 'p, W: World, S: BlockSource<P> + Drop, P: Copy> ReadStream<'d, 'p, W, 
         rt: &T,
         context: &mut IoContext<W, M, E>,
     )
-        requires valid_context { IsValidContext E.told E.relations W.told W.relations self.old.scope
+        requires valid_context { IsValidContext E.Execute W.told W.relations self.old.scope
             context.old }
         requires actor { context.old.actor.now ≡ self.old.actor_is.value }
         requires is_open { IsOpen S.left W.told W.relations W.handles self.old }
-        ensures context_advanced { ContextAdvanced E.told E.relations E.reads E.faults M.stands_on
+        ensures context_advanced { ContextAdvanced E.Execute M.Method
             context.old
             context.new }
         ensures answer { IfPage (step_answer self.new.scope.relation self.new.step
@@ -54,9 +54,11 @@ impl<'d, 'p, W: World, S: BlockSource<P> + Drop, P: Copy> ReadStream<'d, 'p, W, 
             self.old.given
             (step_answer self.new.scope.relation self.new.step (current_page self.new)) }
         ensures answer_repeated { IfStopped self.old.step (λ e. self.new.step ≡ Stop e) }
-        ensures follows { StreamAnswered S.left W.told W.relations W.handles self.old self.new
+        ensures view { stream_view S.left self.new
+            ≡ stream_after (stream_view S.left self.old)
             context.new.actor.now (step_answer self.new.scope.relation self.new.step
             (current_page self.new)) }
+        ensures is_open { IsOpen S.left W.told W.relations W.handles self.new }
     {
         if let Step::Stop(_) = self.step {
             return;
@@ -128,11 +130,11 @@ impl<'d, 'p, W: World, S: BlockSource<P> + Drop, P: Copy> ReadStream<'d, 'p, W, 
         rt: &T,
         context: &mut IoContext<W, M, E>,
     )
-        requires valid_context { IsValidContext E.told E.relations W.told W.relations self.old.scope
+        requires valid_context { IsValidContext E.Execute W.told W.relations self.old.scope
             context.old }
         requires underway { (hand : List ℕ) × UnderwayWith S.left W.told W.relations W.handles hand
             [] 0 context.old.actor.now.known self.old }
-        ensures context_advanced { ContextAdvanced E.told E.relations E.reads E.faults M.stands_on
+        ensures context_advanced { ContextAdvanced E.Execute M.Method
             context.old
             context.new }
         ensures underway { (hand : List ℕ) → UnderwayWith S.left W.told W.relations W.handles hand
@@ -145,17 +147,8 @@ impl<'d, 'p, W: World, S: BlockSource<P> + Drop, P: Copy> ReadStream<'d, 'p, W, 
         ensures wants { self.new.desk.now.wants ≡ self.old.desk.now.wants }
         ensures batch_empty { self.new.desk.now.reads.batch ≡ [] }
     {
-        if self.is_alone() {
-            let mut by_itself = IoContext {
-                table: context.table,
-                actor: &mut *context.actor,
-                method: &mut SyncMethod,
-                runner: &mut *context.runner,
-            };
-            self.desk.reads.submit(rt, &self.scope, &mut by_itself);
-        } else {
-            self.desk.reads.submit(rt, &self.scope, context);
-        }
+        let alone = self.is_alone();
+        self.desk.reads.submit(rt, &self.scope, context, alone);
     }
 
     // Serves the front of the queue.
@@ -164,7 +157,7 @@ impl<'d, 'p, W: World, S: BlockSource<P> + Drop, P: Copy> ReadStream<'d, 'p, W, 
         rt: &T,
         context: &mut IoContext<W, M, E>,
     )
-        requires valid_context { IsValidContext E.told E.relations W.told W.relations self.old.scope
+        requires valid_context { IsValidContext E.Execute W.told W.relations self.old.scope
             context.old }
         requires underway { Underway S.left W.told W.relations W.handles context.old.actor.now.known
             self.old }
@@ -174,7 +167,7 @@ impl<'d, 'p, W: World, S: BlockSource<P> + Drop, P: Copy> ReadStream<'d, 'p, W, 
             → self.old.plan.pending ≡ None }
         requires ended { self.old.desk.now.queue.items ≡ [] → self.old.current ≡ None
             → S.left self.old.source ≡ [] }
-        ensures context_advanced { ContextAdvanced E.told E.relations E.reads E.faults M.stands_on
+        ensures context_advanced { ContextAdvanced E.Execute M.Method
             context.old
             context.new }
         ensures between { IsBetweenCalls S.left W.told W.relations W.handles
@@ -187,6 +180,8 @@ impl<'d, 'p, W: World, S: BlockSource<P> + Drop, P: Copy> ReadStream<'d, 'p, W, 
             (stream_entries self.old.scope.relation (S.left self.old.source_was.value))
             self.old.given
             (step_answer self.new.scope.relation self.new.step (current_page self.new)) }
+        ensures ending { step_ending self.new.step ≡ answered_stop (step_answer
+            self.new.scope.relation self.new.step (current_page self.new)) }
         ensures pages_counted { self.new.given ≡ self.old.given
             + pages_given (step_answer self.new.scope.relation self.new.step
             (current_page self.new)) }

@@ -1,22 +1,20 @@
 //! A read stream.
-ghost use Rattle.std.specs.Prelude.{◌≡◌, ◌<◌, ◌≤◌, ◌+◌, ℕ, length, []};
-ghost use Rattle.page_check.specs.SynchronousAnswer.{reader_of};
+ghost use Rattle.std.specs.Prelude.{◌≡◌, ◌≢◌, ◌<◌, ◌≤◌, ◌+◌, ℕ, [], length, IfSome, true};
+ghost use Rattle.std.specs.declared.snapshot.Snapshot.{Snapshot};
 ghost use Rattle.page_check.specs.PageBytes.{IsPage};
-ghost use Rattle.page_check.specs.IsAnswer.{IsNext, IfPage, Stop as SaidStop};
+ghost use Rattle.page_check.specs.IsAnswer.{IfPage, Stop as SaidStop};
+ghost use Rattle.aio_word.specs.declared.Class.TheVariants.{Unended};
 ghost use Rattle.aio_word.specs.Events.{lives_ended};
 ghost use Rattle.aio_handle.specs.EndStates.{HasNoOwnerTokens};
 ghost use Rattle.aio_handle.specs.FreeHandles.{IsRoom};
-ghost use Rattle.aio_handle.specs.ContractViews.{IsActorOf, IsSameActor};
-ghost use Rattle.read_stream.specs.StreamAnswers.{stream_entries, MayBeUnread, synchronous_answer};
-ghost use Rattle.read_stream.specs.StreamAnswers.{synchronous_ending, step_answer};
-ghost use Rattle.read_stream.specs.StreamAnswers.{IfStopped, IfZeroed};
-ghost use Rattle.read_stream.specs.Desks.{IsFreeDesk, SameDeskSettings};
+ghost use Rattle.aio_handle.specs.ContractViews.{ActorView, IsActorOf};
+ghost use Rattle.read_stream.specs.StreamAnswers.{synchronous_answer, step_answer, IfZeroed};
+ghost use Rattle.read_stream.specs.StreamViews.{answer_of, new_stream, IsStreamAnswer};
+ghost use Rattle.read_stream.specs.StreamViews.{HasNoFailedRead, IsSynchronousAnswer, CallAdvanced};
+ghost use Rattle.read_stream.specs.Desks.{IsFreeDesk, desk_settings};
 ghost use Rattle.read_stream.specs.PagesAtHand.{current_page, HasCurrentPage, page_at, zeroed_at};
-ghost use Rattle.read_stream.specs.StreamState.{IsOpen, StreamAnswered};
-ghost use Rattle.std.specs.Prelude.{◌≢◌, IfSome, true};
-ghost use Rattle.aio_word.specs.declared.Class.TheVariants.{Unended};
-ghost use Rattle.read_stream.specs.declared.answer.Step.TheVariants.{Start, Stop};
-ghost use Rattle.read_stream.specs.ActorProgress.{ActorAdvanced, local_mark_count};
+ghost use Rattle.read_stream.specs.StreamState.{IsOpen, IsOpenFor, StreamAnswered, stream_view};
+ghost use Rattle.read_stream.specs.ActorProgress.{local_mark_count};
 
 use crate::answer::{Ending, Next, Step};
 use crate::desk::Desk;
@@ -34,6 +32,7 @@ use std::snapshot::Snapshot;
 use std::sync::Wait;
 
 /// A stream of the pages of one relation, in the order of a source. It must be spent by `close`.
+/// Contracts speak of what it reads, how far it has come, and its actor (`stream_view`).
 pub struct ReadStream<'d, 'p, W: World, S: BlockSource<P> + Drop, P: Copy> {
     pub(crate) desk: &'d mut Desk<W, P>,
     pub(crate) pool: &'p Pool<W>,
@@ -74,26 +73,28 @@ impl<'d, 'p, W: World, S: BlockSource<P> + Drop, P: Copy> ReadStream<'d, 'p, W, 
         requires room { (room : ℕ) × IsRoom actor.now.known.config actor.now.known room
             × (length (S.left source) ≤ room) }
         requires relation { relation < W.relations }
-        ensures desk { result.desk.ghost_name ≡ desk.entry.ghost_name }
-        ensures is_open { IsOpen S.left W.told W.relations W.handles result }
-        ensures source { result.source_was.value ≡ source }
-        ensures actor { (result.scope.was.value ≡ actor.now) × (result.actor_is.value ≡ actor.now) }
-        ensures relation { result.scope.relation ≡ relation }
-        ensures zero { result.scope.zero ≡ desk.old.zero }
-        ensures none { result.given ≡ 0 }
-        ensures running { result.step ≡ Start }
+        ensures stream { stream_view S.left result ≡ new_stream desk.entry.ghost_name
+            (desk_settings desk.old) relation (S.left source) actor.now }
+        ensures is_open { IsOpenFor S.left W.told W.relations W.handles result actor.now }
     {
         let source_was = Snapshot::of(&source);
+        let settings = desk.settings;
         let scope = Scope {
             relation,
-            combine: desk.combine,
-            total: desk.ios + 1,
-            batched: desk.batched,
-            zero: desk.zero,
+            combine: settings.combine,
+            total: settings.ios + 1,
+            batched: settings.batch,
+            zero: settings.zero,
             most: actor.room(),
             was: Snapshot::of(actor),
         };
-        let plan = Plan::new(desk.combine, desk.ios, desk.limit, desk.full, desk.segment);
+        let plan = Plan::new(
+            settings.combine,
+            settings.ios,
+            settings.limit,
+            settings.full,
+            settings.segment,
+        );
         desk.begin();
         ReadStream {
             desk,
@@ -111,7 +112,12 @@ impl<'d, 'p, W: World, S: BlockSource<P> + Drop, P: Copy> ReadStream<'d, 'p, W, 
         }
     }
 
-    /// The page of the next block, lent with the source's data until the next call.
+    /// The page of the next block, lent with the source's data until the next call; or how the
+    /// stream has ended, which each later call says again. `Unread` comes where a read of this
+    /// stream has failed, `Invalid` where a page is damaged and the settings do not give zeros for
+    /// it, `PastEnd` where the relation has no such block. It may wait.
+    ///
+    /// Between two calls the actor makes no I/O of its own and executes none. It may look.
     pub fn next<M: Method<ReadIo, W>, E: Execute<ReadIo, W>, T: Wait>(
         &mut self,
         rt: &T,
@@ -122,29 +128,22 @@ impl<'d, 'p, W: World, S: BlockSource<P> + Drop, P: Copy> ReadStream<'d, 'p, W, 
     ) -> Next<'_, P>
         requires table { IsActorOf table.now actor.old }
         requires told { (E.told runner.old ≡ W.told) × (E.relations runner.old ≡ W.relations) }
-        requires actor { actor.old ≡ self.old.actor_is.value }
-        requires is_open { IsOpen S.left W.told W.relations W.handles self.old }
-        ensures same { IsSameActor actor.old actor.new }
-        ensures told { (E.told runner.new ≡ E.told runner.old)
-            × (E.relations runner.new ≡ E.relations runner.old) }
-        ensures actor_advanced { ActorAdvanced actor.old.known actor.new.known (E.reads runner.old)
-            (E.reads runner.new) (E.faults runner.old) (E.faults runner.new) }
-        ensures stands_on { M.stands_on method.new ≡ M.stands_on method.old }
-        ensures answer { IsNext (reader_of self.old.scope.zero W.told)
-            (MayBeUnread self.old.scope.was.value actor.new.known)
-            (stream_entries self.old.scope.relation (S.left self.old.source_was.value))
-            self.old.given (synchronous_answer self.old.scope.relation result) }
-        ensures zeroed { IfZeroed (synchronous_answer self.old.scope.relation result)
-            (self.old.scope.zero ≡ true) }
-        ensures answer_repeated { IfStopped self.old.step
-            (λ e. synchronous_answer self.old.scope.relation result
-            ≡ SaidStop (synchronous_ending e)) }
+        requires is_open { IsOpenFor S.left W.told W.relations W.handles self.old actor.old }
+        ensures advanced { CallAdvanced E.Execute M.Method actor.old actor.new runner.old runner.new
+            method.old method.new }
+        ensures answer { IsStreamAnswer W.told (stream_view S.left self.old) actor.new
+            (answer_of (stream_view S.left self.old) result) }
+        ensures complete { HasNoFailedRead (stream_view S.left self.old).actor_was actor.new
+            → IsSynchronousAnswer W.told (stream_view S.left self.old)
+            (answer_of (stream_view S.left self.old) result) }
+        ensures answer_repeated { IfSome (stream_view S.left self.old).ending
+            (λ e. answer_of (stream_view S.left self.old) result ≡ SaidStop e) }
         ensures* after { sem 𝓛 (Rests
             (the_row (record { mir = named 0; lft = [] }) (record { mir = named 1; lft = [] })
             W.row S.row P.row W.World)
             self.entry
             (λ n. StreamAnswered S.left W.told W.relations W.handles self.old n actor.new
-            (synchronous_answer self.old.scope.relation result))) }
+            (answer_of (stream_view S.left self.old) result))) }
     {
         let mut context = IoContext {
             table,
@@ -152,8 +151,19 @@ impl<'d, 'p, W: World, S: BlockSource<P> + Drop, P: Copy> ReadStream<'d, 'p, W, 
             method,
             runner,
         };
+        self.note_actor(context.actor);
         self.advance(rt, &mut context);
         self.answer()
+    }
+
+    // The actor may have looked since the last call.
+    fn note_actor(&mut self, actor: &Actor<ReadIo, W>)
+        requires is_open { IsOpenFor S.left W.told W.relations W.handles self.old actor.now }
+        ensures is_open { IsOpen S.left W.told W.relations W.handles self.new }
+        ensures noted { (actor_is : Snapshot ActorView) × (actor_is.value ≡ actor.now)
+            × (self.new ≡ record self.old { actor_is = actor_is }) }
+    {
+        self.actor_is = Snapshot::of(actor);
     }
 
     // The last answer, lent.
@@ -212,7 +222,7 @@ impl<'d, 'p, W: World, S: BlockSource<P> + Drop, P: Copy> ReadStream<'d, 'p, W, 
     }
 
     /// Ends the stream: no token of its actor is out, and its desk is free. The answer is how many
-    /// I/Os of the stream its actor took in.
+    /// I/Os of the stream its actor took in. It may wait.
     pub fn close<M: Method<ReadIo, W>, E: Execute<ReadIo, W>, T: Wait>(
         self,
         rt: &T,
@@ -223,23 +233,21 @@ impl<'d, 'p, W: World, S: BlockSource<P> + Drop, P: Copy> ReadStream<'d, 'p, W, 
     ) -> (u64, &'d mut Desk<W, P>)
         requires table { IsActorOf table.now actor.old }
         requires told { (E.told runner.old ≡ W.told) × (E.relations runner.old ≡ W.relations) }
-        requires actor { actor.old ≡ self.actor_is.value }
-        requires is_open { IsOpen S.left W.told W.relations W.handles self }
-        ensures same { IsSameActor actor.old actor.new }
-        ensures told { (E.told runner.new ≡ E.told runner.old)
-            × (E.relations runner.new ≡ E.relations runner.old) }
-        ensures actor_advanced { ActorAdvanced actor.old.known actor.new.known (E.reads runner.old)
-            (E.reads runner.new) (E.faults runner.old) (E.faults runner.new) }
-        ensures stands_on { M.stands_on method.new ≡ M.stands_on method.old }
+        requires is_open { IsOpenFor S.left W.told W.relations W.handles self actor.old }
+        ensures advanced { CallAdvanced E.Execute M.Method actor.old actor.new runner.old runner.new
+            method.old method.new }
         ensures no_owner_tokens { HasNoOwnerTokens actor.new.known }
         ensures count { local_mark_count actor.new.known.marks
-            ≡ local_mark_count self.entry.scope.was.value.known.marks + result.0 }
-        ensures few { result.0 ≤ length (S.left self.entry.source_was.value) }
+            ≡ local_mark_count (stream_view S.left self.entry).actor_was.known.marks + result.0 }
+        ensures few { result.0 ≤ length (stream_view S.left self.entry).blocks }
         ensures lives_bound { (h : ℕ) → lives_ended h actor.new.known.marks
-            ≤ lives_ended h self.entry.scope.was.value.known.marks + result.0 }
-        ensures desk { (result.1.ghost_name ≡ self.entry.desk.ghost_name) × IsFreeDesk result.1.now
-            × SameDeskSettings self.entry.desk.now result.1.now }
+            ≤ lives_ended h (stream_view S.left self.entry).actor_was.known.marks + result.0 }
+        ensures desk { (result.1.ghost_name ≡ (stream_view S.left self.entry).desk)
+            × IsFreeDesk result.1.now
+            × (desk_settings result.1.now ≡ (stream_view S.left self.entry).settings) }
     {
+        let mut stream = self;
+        stream.note_actor(actor);
         let ReadStream {
             desk,
             pool,
@@ -253,7 +261,7 @@ impl<'d, 'p, W: World, S: BlockSource<P> + Drop, P: Copy> ReadStream<'d, 'p, W, 
             given: _,
             source_was: _,
             actor_is: _,
-        } = self;
+        } = stream;
         if let Some(pin) = pin {
             pool.unpin(rt, pin);
         }

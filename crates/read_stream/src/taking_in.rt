@@ -29,13 +29,13 @@ impl<W: World> Reads<W> {
         context: &mut IoContext<W, M, E>,
         token: InFlight<W>,
     ) -> ReadIo
-        requires valid_context { IsValidContext E.told E.relations W.told W.relations scope.now
+        requires valid_context { IsValidContext E.Execute W.told W.relations scope.now
             context.old }
         requires held_by_caller { HeldByCaller scope.now W.told W.relations
             context.old.actor.now.known
             self.old token }
         requires all_submitted { AllSubmitted context.old.actor.now.known }
-        ensures context_advanced { ContextAdvanced E.told E.relations E.reads E.faults M.stands_on
+        ensures context_advanced { ContextAdvanced E.Execute M.Method
             context.old
             context.new }
         ensures issued { Issued scope.now W.told W.relations context.new.actor.now.known self.new }
@@ -67,11 +67,11 @@ impl<W: World> Reads<W> {
         scope: &Scope<W>,
         context: &mut IoContext<W, M, E>,
     ) -> Option<ReadIo>
-        requires valid_context { IsValidContext E.told E.relations W.told W.relations scope.now
+        requires valid_context { IsValidContext E.Execute W.told W.relations scope.now
             context.old }
         requires issued { Issued scope.now W.told W.relations context.old.actor.now.known self.old }
         requires batch_empty { self.old.batch ≡ [] }
-        ensures context_advanced { ContextAdvanced E.told E.relations E.reads E.faults M.stands_on
+        ensures context_advanced { ContextAdvanced E.Execute M.Method
             context.old
             context.new }
         ensures issued { Issued scope.now W.told W.relations context.new.actor.now.known self.new }
@@ -103,11 +103,11 @@ impl<W: World> Reads<W> {
         scope: &Scope<W>,
         context: &mut IoContext<W, M, E>,
     ) -> Option<ReadIo>
-        requires valid_context { IsValidContext E.told E.relations W.told W.relations scope.now
+        requires valid_context { IsValidContext E.Execute W.told W.relations scope.now
             context.old }
         requires issued { Issued scope.now W.told W.relations context.old.actor.now.known self.old }
         requires batch_empty { self.old.batch ≡ [] }
-        ensures context_advanced { ContextAdvanced E.told E.relations E.reads E.faults M.stands_on
+        ensures context_advanced { ContextAdvanced E.Execute M.Method
             context.old
             context.new }
         ensures issued { Issued scope.now W.told W.relations context.new.actor.now.known self.new }
@@ -139,11 +139,11 @@ impl<W: World> Reads<W> {
         scope: &Scope<W>,
         context: &mut IoContext<W, M, E>,
     )
-        requires valid_context { IsValidContext E.told E.relations W.told W.relations scope.now
+        requires valid_context { IsValidContext E.Execute W.told W.relations scope.now
             context.old }
         requires issued { Issued scope.now W.told W.relations context.old.actor.now.known self.old }
         requires batch_empty { self.old.batch ≡ [] }
-        ensures context_advanced { ContextAdvanced E.told E.relations E.reads E.faults M.stands_on
+        ensures context_advanced { ContextAdvanced E.Execute M.Method
             context.old
             context.new }
         ensures issued { Issued scope.now W.told W.relations context.new.actor.now.known self.new }
@@ -168,11 +168,11 @@ impl<W: World> Reads<W> {
         scope: &Scope<W>,
         context: &mut IoContext<W, M, E>,
     ) -> u64
-        requires valid_context { IsValidContext E.told E.relations W.told W.relations scope.now
+        requires valid_context { IsValidContext E.Execute W.told W.relations scope.now
             context.old }
         requires issued { Issued scope.now W.told W.relations context.old.actor.now.known self.old }
         requires all { record_count self.old ≡ scope.now.total }
-        ensures context_advanced { ContextAdvanced E.told E.relations E.reads E.faults M.stands_on
+        ensures context_advanced { ContextAdvanced E.Execute M.Method
             context.old
             context.new }
         ensures issued { Issued scope.now W.told W.relations context.new.actor.now.known self.new }
@@ -180,7 +180,7 @@ impl<W: World> Reads<W> {
         ensures count { (result ≡ self.new.taken_in)
             × (ios_started self.new ≡ ios_started self.old) }
     {
-        self.submit(rt, scope, context);
+        self.submit(rt, scope, context, false);
         while let Some(io) = self.oldest_record(rt, scope, context) {
             self.release(io);
         }

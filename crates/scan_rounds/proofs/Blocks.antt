@@ -5,8 +5,7 @@ use Rattle.std.specs.Prelude.{Option, Some, None}
 use Rattle.std.specs.List.{filter, range_with_len}
 use Rattle.std.proofs.lemmas.List.{length-map}
 use Rattle.page_check.specs.Told.{Told}
-use Rattle.page_check.specs.SynchronousAnswer.{Reader, Ending as SaidEnding, End, reader_of}
-use Rattle.page_check.specs.SynchronousAnswer.{Invalid, PastEnd, Unread}
+use Rattle.page_check.specs.SynchronousAnswer.{Reader, Ending as SaidEnding, reader_of}
 use Rattle.page_check.specs.IsAnswer.{Answers, IsAnswer, IsEnding, OneEnding}
 use Rattle.aio_word.specs.declared.Known.{Known}
 use Rattle.aio_handle.specs.ContractViews.{ActorView}
@@ -14,11 +13,11 @@ use Rattle.block_source.specs.BlocksLeft.{consecutive_blocks, block_alone}
 use Rattle.heap_scan.specs.Job.{job_entries, block_entry}
 use Rattle.read_stream.specs.StreamAnswers.{stream_entries, stream_entry, MayBeUnread}
 use Rattle.read_stream.specs.ActorProgress.{ActorAdvanced}
-use Rattle.read_stream.proofs.ActorAdvancedLaws.{since_later}
+use Rattle.read_stream.proofs.UnreadCauses.{ending_wider, may_later}
 use Rattle.scan_rounds.specs.BlockFilter.{BlockFilter, is_unskipped, unskipped_entries}
 use Rattle.scan_rounds.specs.BlockFilter.{unskipped_range, unskipped_source}
 use Rattle.scan_rounds.specs.ConsumedPages.{PagesPredicate, PagesConsumed}
-use Rattle.scan_rounds.proofs.AnswerPages.{E}
+use Rattle.scan_rounds.proofs.UnitEntries.{E}
 use Rattle.scan_rounds.proofs.UnskippedCount.{few_in_range}
 
 abbrev pub Blocks : Type 0
@@ -67,32 +66,6 @@ pub source_entries : (block_filter : Option BlockFilter) (r first count : ℕ)
 source_entries block_filter r first count = kept_entries block_filter r
     (consecutive_blocks first count) ∙ ap (unskipped_entries block_filter)
     (range_entries r first count)
-
--- what may be unread may be so after more
-pub may_later : (was : ActorView) (p q : Known) (reads reads' faults faults' : ℕ)
-    → ActorAdvanced p q reads reads' faults faults' → (e : E) → MayBeUnread was p e
-    → MayBeUnread was q e
-may_later was p q reads reads' faults faults' w e (io, f) = (
-  io,
-  record {
-    relation_is = f.relation_is;
-    first = f.first;
-    class_is = f.class_is;
-    was_submitted = w.aims _ f.was_submitted;
-    local_mark = since_later was.known p q _ reads reads' faults faults' f.local_mark w;
-    io_mark_if_alone = λ one. since_later was.known p q _ reads reads' faults faults'
-        (f.io_mark_if_alone one) w;
-  },
-)
-
-ending_wider : (found : Option Reader) (may may' : E → Type 0) (entries : List E) (k : ℕ)
-    (end : SaidEnding) → ((e : E) → may e → may' e) → IsEnding found may entries k end
-    → IsEnding found may' entries k end
-ending_wider found may may' entries k (Unread b) wider is =
-    record { next = is.next; here = is.here; named = is.named; cause = wider is.next is.cause }
-ending_wider found may may' entries k End wider is = is
-ending_wider found may may' entries k (Invalid b) wider is = is
-ending_wider found may may' entries k (PastEnd b) wider is = is
 
 endings_wider : (found : Option Reader) (may may' : E → Type 0) (entries : List E) (k : ℕ)
     (ends : List SaidEnding) → ((e : E) → may e → may' e)

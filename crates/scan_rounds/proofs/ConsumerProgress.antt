@@ -10,18 +10,17 @@ use Rattle.page_check.specs.SynchronousAnswer.{reader_of, Ending as SaidEnding, 
 use Rattle.page_check.specs.SynchronousAnswer.{Invalid, PastEnd, Unread}
 use Rattle.page_check.specs.IsAnswer.{Next as Said, Page, Stop, IsAnswer, IsNext, IfPage}
 use Rattle.page_check.proofs.AnswersInOrder.{answered_none, answered_next}
-use Rattle.aio_word.specs.declared.Known.{Known}
 use Rattle.aio_handle.specs.ContractViews.{ActorView}
-use Rattle.read_stream.specs.StreamAnswers.{stream_entries, MayBeUnread, synchronous_answer}
+use Rattle.read_stream.specs.StreamAnswers.{synchronous_answer}
 use Rattle.read_stream.specs.StreamAnswers.{pages_given, IfZeroed}
 use Rattle.read_stream.specs.declared.answer.Next.{Next as StreamNext}
+use Rattle.read_stream.specs.StreamViews.{StreamView, IsSameStream, IsStreamAnswer, stream_after}
 use Rattle.scan_rounds.specs.Jobs.{answered_ending, job_ending}
 use Rattle.scan_rounds.specs.ConsumedPages.{PagesPredicate, PagesConsumed, StillHolds}
 use Rattle.scan_rounds.specs.ConsumedPages.{AnswerConsumed}
 use Rattle.scan_rounds.specs.declared.job.Ending.{Ending}
-use Rattle.scan_rounds.proofs.AnswerPages.{E, G, first_valid, page_within, page_anyway}
-use Rattle.scan_rounds.proofs.AnswerPages.{pages_anyway}
-use Rattle.scan_rounds.proofs.Blocks.{Blocks}
+use Rattle.read_stream.proofs.AnswerPages.{first_valid, page_within, page_anyway, pages_anyway}
+use Rattle.scan_rounds.proofs.UnitEntries.{E, G}
 
 abbrev pub AreUnzeroed : Bool → List G → Type 0
 AreUnzeroed on pages = on ≡ false → All (λ g. g.zeroed ≡ false) pages
@@ -158,27 +157,28 @@ module _ (was now : PagesPredicate) (on : Bool) (told : Option Told) (may : E �
   taken_end e so_far is takes some = last_of next e so_far is
       (subst (λ (x : Option Ending). AnswerConsumed was now next x) some takes)
 
--- an answer of the stream, where the stream is about these blocks
-pub at_place : (on on' : Bool) (told : Option Told) (p p' : ActorView) (q : Known) (r r' : ℕ)
-    (l l' : Blocks) (k : ℕ) (a : StreamNext (Unit {0})) → p' ≡ p → r' ≡ r → l' ≡ l → on' ≡ on
-    → IsNext (reader_of on' told) (MayBeUnread p' q) (stream_entries r' l') k
-    (synchronous_answer r' a)
-    → IsNext (reader_of on told) (MayBeUnread p q) (stream_entries r l) k (synchronous_answer r a)
-at_place on on' told p p' q r r' l l' k a ep er el eo is' =
-    let found = reader_of on told in
-    let is = subst (λ (b : Bool). IsNext (reader_of b told) (MayBeUnread p' q)
-    (stream_entries r' l') k
-    (synchronous_answer r' a)) eo is' in
-    subst (λ (x : ActorView). IsNext found (MayBeUnread x q) (stream_entries r l) k
-    (synchronous_answer r a)) ep
-    (subst (λ (x : ℕ). IsNext found (MayBeUnread p' q) (stream_entries x l) k
-    (synchronous_answer x a)) er
-    (subst (λ (x : Blocks). IsNext found (MayBeUnread p' q) (stream_entries r' x) k
-    (synchronous_answer r' a)) el is))
+-- the stream as it was, with what it has given since, and its relation by this name
+abbrev pub later_stream : StreamView (Unit {0}) → ℕ → ℕ → StreamView (Unit {0})
+later_stream s r given = record s { relation = r; given = given }
 
-pub zeroed_at_place : (on on' : Bool) (r r' : ℕ) (a : StreamNext (Unit {0})) → r' ≡ r → on' ≡ on
-    → IfZeroed (synchronous_answer r' a) (on' ≡ true)
-    → IfZeroed (synchronous_answer r a) (on ≡ true)
-zeroed_at_place on on' r r' a er eo is =
-    subst (λ (b : Bool). IfZeroed (synchronous_answer r a) (b ≡ true)) eo
-    (subst (λ (x : ℕ). IfZeroed (synchronous_answer x a) (on' ≡ true)) er is)
+-- what the stream answers some calls later
+pub at_place : (s t : StreamView (Unit {0})) (told : Option Told) (now : ActorView) (r : ℕ)
+    (a : StreamNext (Unit {0})) → IsSameStream s t → s.relation ≡ r
+    → IsStreamAnswer told t now (synchronous_answer t.relation a)
+    → IsStreamAnswer told (later_stream s r t.given) now (synchronous_answer r a)
+at_place s t told now r a same place is =
+    let here = subst (λ (z : StreamView (Unit {0})). IsStreamAnswer told z now
+    (synchronous_answer z.relation a)) same is in
+    subst (λ (n : ℕ). IsStreamAnswer told (later_stream s n t.given) now (synchronous_answer n a))
+    place
+    (record { next = here.next; valid = here.valid; zeroed = here.zeroed; within = here.within })
+
+-- how many pages it has given then
+pub given_by_call : (s t n : StreamView (Unit {0})) (now : ActorView) (r : ℕ)
+    (a : StreamNext (Unit {0})) → IsSameStream s t → s.relation ≡ r
+    → n ≡ stream_after t now (synchronous_answer t.relation a)
+    → n.given ≡ t.given + pages_given (synchronous_answer r a)
+given_by_call s t n now r a same place after =
+    ap (λ (z : StreamView (Unit {0})). z.given) after
+    ∙ ap (λ (m : ℕ). t.given + pages_given (synchronous_answer m a))
+    (ap (λ (z : StreamView (Unit {0})). z.relation) same ∙ place)

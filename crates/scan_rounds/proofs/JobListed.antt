@@ -21,7 +21,7 @@ use Rattle.scan_rounds.specs.declared.disk_actor.DiskActor.{DiskActor}
 use Rattle.scan_rounds.specs.declared.job.Ending.{Ending}
 use Rattle.scan_rounds.specs.declared.job.Job.{Job}
 use Rattle.scan_rounds.specs.declared.source.Blocks.{Blocks}
-use Rattle.scan_rounds.proofs.AnswerPages.{E, G}
+use Rattle.scan_rounds.proofs.UnitEntries.{E, G}
 use Rattle.scan_rounds.proofs.OutputOfPages.{unwarned}
 
 -- pages that were not zeroed have no warnings
@@ -57,7 +57,7 @@ module _ {W D : Type 0} (m : DiskGhosts D) (told : Option Told) (relations : ℕ
         text_is = read.given.held.text_is;
         warnings_are = read.given.held.warnings_are;
         sums_are = read.given.held.sums_are;
-        answers = subst (λ (es : List E). IsAnswer (reader_of d.zero told)
+        answers = subst (λ (es : List E). IsAnswer (reader_of d.settings.zero told)
             (MayBeUnread h.actor k.actor.known) es
             (record { pages = read.given.pages; endings = endings_of (answered_ending end) })) same
             read.given.answers;

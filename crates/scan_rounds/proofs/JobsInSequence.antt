@@ -32,7 +32,8 @@ use Rattle.scan_rounds.specs.declared.backend.Backend.{Backend}
 use Rattle.scan_rounds.specs.declared.job.Job.{Job}
 use Rattle.scan_rounds.proofs.RoundsCompose.{anyway, goes_at, goes_then, stays_put}
 use Rattle.scan_rounds.proofs.LeastRoom.{fewer, left_after}
-use Rattle.scan_rounds.proofs.UnreadLeavesResult.{results_more, unread_counted}
+use Rattle.read_stream.proofs.UnreadCauses.{results_more}
+use Rattle.scan_rounds.proofs.UnreadLeavesResult.{unread_counted}
 
 -- fresh jobs are no more than their blocks
 pub few_jobs : (relations : ℕ) (js : List Job) → All (IsNewJob relations) js

@@ -1,4 +1,4 @@
-pub mod AnswerPages
+pub mod UnitEntries
 pub mod UnskippedCount
 pub mod Blocks
 mod ConsumerProgress

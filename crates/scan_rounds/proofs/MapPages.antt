@@ -15,7 +15,7 @@ use Rattle.scan_rounds.specs.ConsumedPages.{MapHasPages}
 use Rattle.scan_rounds.specs.declared.disk_actor.DiskActor.{DiskActor}
 use Rattle.scan_rounds.specs.declared.job.Ending.{Ending}
 use Rattle.scan_rounds.specs.declared.source.Blocks.{Blocks}
-use Rattle.scan_rounds.proofs.AnswerPages.{G}
+use Rattle.scan_rounds.proofs.UnitEntries.{G}
 use Rattle.scan_rounds.proofs.OutputOfPages.{no_warnings, one_warning, unwarned}
 
 pub no_pages : (m : Map) (warnings : List ℕ) → m.added ≡ [] → warnings ≡ []

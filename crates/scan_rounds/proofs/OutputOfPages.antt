@@ -17,7 +17,7 @@ use Rattle.scan_rounds.specs.ConsumedPages.{JobHasOutput, AnswerConsumed}
 use Rattle.scan_rounds.specs.declared.job.Ending.{Ending}
 use Rattle.scan_rounds.specs.declared.job.Ending.TheVariants as ending
 use Rattle.scan_rounds.specs.declared.job.Job.{Job}
-use Rattle.scan_rounds.proofs.AnswerPages.{G}
+use Rattle.scan_rounds.proofs.UnitEntries.{G}
 
 one_listing : (text_of : TextOf) (g : G) → text_for text_of g ≡ listing text_of (g ∷ [])
 unfolding listing

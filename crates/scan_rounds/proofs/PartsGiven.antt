@@ -2,7 +2,7 @@
 use Rattle.std.proofs.Common.{◌≡◌, ℕ, ◌+◌, ◌-◌, ◌≤◌, List, [], ◌∷◌, ◌++◌, length, map, refl, sym}
 use Rattle.std.proofs.Common.{ap, ◌∙◌, subst, arith, append_assoc, length-append}
 use Rattle.std.specs.Prelude.{Option, Some, None, option_to_list}
-use Rattle.std.specs.Prelude.{◌*◌, ◌/◌, Bool, max, min, is_some, true, false}
+use Rattle.std.specs.Prelude.{Bool, is_some, true, false}
 use Rattle.std.specs.List.{flat_map}
 use Rattle.std.specs.Vec.Iter.{into_iter_items}
 use Rattle.std.proofs.lemmas.Grind.{flat_map-append}
@@ -10,7 +10,7 @@ use Rattle.std.proofs.lemmas.List.{map-append, length-map}
 use Rattle.std.specs.List.{All}
 use Rattle.std.proofs.lemmas.List.Elements.{All-append, All-cons, All-nil}
 use Rattle.method_worker.specs.QueueViews.{SeatView}
-use Rattle.read_stream.specs.Desks.{IsFreeDesk}
+use Rattle.read_stream.specs.Desks.{IsFreeDesk, desk_settings}
 use Rattle.read_stream.specs.declared.desk.Desk.{Desk}
 use Rattle.read_stream.specs.declared.desk.Settings.{Settings}
 use Rattle.scan_rounds.specs.OpenedScan.{AreStreamSettings, GivesDiskActors, GivesBackends}
@@ -112,21 +112,10 @@ module _ {A B : Type 0} (f : A → Option B) where
     none_took none = let sum = parted in none_has us (omega (arith, sum, none))
 
 pub desk_for : {W : Type 0} (s : ScanSettings) (r : Settings) (d : Desk W (Unit {0})) → IsFreeDesk d
-    → (d.combine ≡ r.combine) × (d.ios ≡ r.ios) × (d.limit ≡ r.limit) × (d.full ≡ r.full)
-    × (d.batched ≡ r.batch) × (d.segment ≡ r.segment) × (d.zero ≡ r.zero) → AreStreamSettings s r
-    → IsDeskFor s d
+    → desk_settings d ≡ r → AreStreamSettings s r → IsDeskFor s d
 desk_for s r d free same streams = record {
   free = free;
-  streams = record {
-    combine = same.0 ∙ streams.combine;
-    ios = same.1 ∙ streams.ios;
-    limit = same.2 ∙ streams.limit
-        ∙ ap (λ (n : ℕ). max 1 (min (n * s.combine) (s.buffers / s.backends))) (sym same.1);
-    full = same.3 ∙ streams.full;
-    batch = same.4 ∙ streams.batch;
-    segment = same.5 ∙ streams.segment;
-    zero = same.6 ∙ streams.zero;
-  };
+  streams = subst (λ (z : Settings). AreStreamSettings s z) (sym same) streams;
 }
 
 module _ {W D : Type 0} where

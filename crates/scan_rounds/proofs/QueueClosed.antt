@@ -28,8 +28,8 @@ module _ {W D : Type 0} where
   same_options : (b c : Backend W D) → c.desk ≡ b.desk → c.tuples ≡ b.tuples
       → backend_options c ≡ backend_options b
   same_options b c desk tuples =
-      ap (λ (x : Desk W (Unit {0})). list_options x.zero c.tuples) desk
-      ∙ ap (λ (x : Bool). list_options b.desk.zero x) tuples
+      ap (λ (x : Desk W (Unit {0})). list_options x.settings.zero c.tuples) desk
+      ∙ ap (λ (x : Bool). list_options b.desk.settings.zero x) tuples
 
   first_lists : (how : ListOptions) (a c : Backend W D) (bs : List (Backend W D))
       → backend_options c ≡ backend_options a → AllHaveOptions how (a ∷ bs)

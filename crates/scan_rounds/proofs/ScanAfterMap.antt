@@ -42,7 +42,8 @@ use Rattle.scan_rounds.proofs.UnskippedCount.{few_in_range}
 use Rattle.scan_rounds.proofs.LeastRoom.{least_falls}
 use Rattle.scan_rounds.proofs.CountRaised.{raised_within}
 use Rattle.scan_rounds.proofs.Sums.{at_least, at_most}
-use Rattle.scan_rounds.proofs.UnreadLeavesResult.{results_more, unread_after}
+use Rattle.read_stream.proofs.UnreadCauses.{results_more}
+use Rattle.scan_rounds.proofs.UnreadLeavesResult.{unread_after}
 
 -- workers that did nothing
 pub workers_stay : {W D : Type 0} (m : DiskGhosts D) (told : Option Told) (relations : ℕ)
@@ -153,7 +154,7 @@ module _ {W D : Type 0} (m : DiskGhosts D) (told : Option Told) (relations : ℕ
       ≤ failed_result_count (slice_index_or cs 0 d).disk_actor.actor.known.marks
   unread_or true is d =
       let given = (read.first d).read.given in
-      unread_after (reader_of (slice_index_or bs 0 d).desk.zero told) _ _
+      unread_after (reader_of (slice_index_or bs 0 d).desk.settings.zero told) _ _
       (entries_of_blocks (map_blocks relation pages)) given.pages end given.answers is
   unread_or false is d =
       let kept = results_kept _ _ (read.first d).read.advanced in omega arith

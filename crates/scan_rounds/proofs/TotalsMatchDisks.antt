@@ -15,7 +15,6 @@ use Rattle.aio_word.specs.declared.Known.{Known}
 use Rattle.aio_word.specs.Stands.{IsIn}
 use Rattle.aio_word.specs.Tokens.{claimed_mark_count, io_mark_count, failed_mark_count}
 use Rattle.aio_word.specs.Tokens.{failed_result_count}
-use Rattle.aio_word.specs.Totals.{by_runners}
 use Rattle.aio_word.proofs.ListWithMark.{get_or-in}
 use Rattle.aio_word.proofs.ReplacedElement.{in-right}
 use Rattle.aio_handle.specs.EndStates.{HasNoOwnerTokens, NoneHasOwnerTokens, AreTotals, TotalsView}

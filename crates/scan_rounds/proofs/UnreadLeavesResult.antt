@@ -1,23 +1,15 @@
 -- A job that ended in Unread has left the result of a failed I/O in its actor's list.
-use Rattle.std.proofs.Common.{◌≡◌, ℕ, ◌+◌, ◌≤◌, true, List, ◌++◌}
-use Rattle.std.proofs.Common.{cond, ap, arith}
-use Rattle.std.proofs.lemmas.List.Sums.{sum_by-append}
+use Rattle.std.proofs.Common.{◌≡◌, ℕ, ◌+◌, ◌≤◌, true, List}
 use Rattle.std.specs.Prelude.{Option}
 use Rattle.page_check.specs.Told.{Told}
 use Rattle.page_check.specs.SynchronousAnswer.{Entry, Given, Reader, Unread, reader_of}
 use Rattle.page_check.specs.IsAnswer.{IsAnswer, IsEnding}
-use Rattle.aio_word.specs.declared.Class.TheVariants.{Failed}
-use Rattle.aio_word.specs.declared.Kind.TheVariants as kind
 use Rattle.aio_word.specs.declared.Known.{Known}
-use Rattle.aio_word.specs.declared.Mark.{Mark}
-use Rattle.aio_word.specs.declared.WaitRef.{WaitRef}
-use Rattle.aio_word.specs.Events.{make_mark}
-use Rattle.aio_word.specs.Stands.{IsIn}
-use Rattle.aio_word.specs.Tokens.{failed_result_count, is_failed_result}
-use Rattle.aio_word.proofs.ReplacedElement.{sum-in}
+use Rattle.aio_word.specs.Tokens.{failed_result_count}
 use Rattle.aio_handle.specs.ContractViews.{ActorView}
 use Rattle.heap_scan.specs.Job.{endings_of}
 use Rattle.read_stream.specs.StreamAnswers.{MayBeUnread}
+use Rattle.read_stream.proofs.UnreadCauses.{may_counted}
 use Rattle.scan_rounds.specs.ListOptions.{ListOptions}
 use Rattle.scan_rounds.specs.BlockFilter.{BlockFilter}
 use Rattle.scan_rounds.specs.Jobs.{JobIsListed, is_unread, answered_ending, entries_of_job}
@@ -27,25 +19,6 @@ use Rattle.scan_rounds.specs.declared.job.Ending.TheVariants as ending
 
 abbrev E : Type 0
 E = Entry (Unit {0})
-
-pub results_more : (xs ys : List Mark)
-    → failed_result_count (xs ++ ys) ≡ failed_result_count xs + failed_result_count ys
-results_more xs ys = sum_by-append (λ (m : Mark). cond (is_failed_result m.kind) 1 0) xs ys
-
-failed_one : (p q : Known) (t : WaitRef) (more : List Mark) → q.marks ≡ p.marks ++ more
-    → IsIn (make_mark t (kind.Local Failed)) more
-    → failed_result_count p.marks + 1 ≤ failed_result_count q.marks
-failed_one p q t more grown i =
-    let one = sum-in (λ (m : Mark). cond (is_failed_result m.kind) 1 0) more
-    (make_mark t (kind.Local Failed)) i in
-    let all = results_more p.marks more in
-    let same : failed_result_count q.marks ≡ failed_result_count (p.marks ++ more) =
-    ap failed_result_count grown in
-    omega arith
-
-may_counted : (was : ActorView) (q : Known) (e : E) → MayBeUnread was q e
-    → failed_result_count was.known.marks + 1 ≤ failed_result_count q.marks
-may_counted was q e (io, f) = failed_one was.known q _ f.local_mark.0 f.local_mark.1 f.local_mark.2
 
 cause_of : (found : Option Reader) (may : E → Type 0) (entries : List E) (k : ℕ) (b : ℕ)
     → IsEnding found may entries k (Unread b) → (x : E) × may x

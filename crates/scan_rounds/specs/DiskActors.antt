@@ -43,7 +43,7 @@ map_blocks relation pages =
 
 -- the options with which a backend lists
 abbrev pub backend_options : {W D : Type 0} → Backend W D → ListOptions
-backend_options b = list_options b.desk.zero b.tuples
+backend_options b = list_options b.desk.settings.zero b.tuples
 
 module _ {W D : Type 0} (m : DiskGhosts D) (told : Option Told) (relations : ℕ)
     (t : TableView) where
@@ -87,8 +87,8 @@ module _ {W D : Type 0} (m : DiskGhosts D) (told : Option Told) (relations : ℕ
         ≤ lives_ended n h.actor.known.marks + b.count
     pub results_bound : local_mark_count k.actor.known.marks
         ≤ local_mark_count h.actor.known.marks + length (entries_of_blocks b)
-    pub desk : IsFreeDesk e × (e.zero ≡ d.zero)
-    pub given : PagesConsumed holds d.zero told (MayBeUnread h.actor k.actor.known)
+    pub desk : IsFreeDesk e × (e.settings.zero ≡ d.settings.zero)
+    pub given : PagesConsumed holds d.settings.zero told (MayBeUnread h.actor k.actor.known)
         (entries_of_blocks b) (answered_ending end)
 
   -- the actor may list the job's blocks at this desk
@@ -108,8 +108,8 @@ module _ {W D : Type 0} (m : DiskGhosts D) (told : Option Told) (relations : ℕ
     pub lives_bound : (n : ℕ) → lives_ended n k.actor.known.marks ≤ lives_ended n h.actor.known.marks + 64
     pub results_bound : local_mark_count k.actor.known.marks
         ≤ local_mark_count h.actor.known.marks + length (entries_of_job block_filter j)
-    pub desk : IsFreeDesk e × (e.zero ≡ d.zero)
-    pub listed : JobIsListed block_filter (list_options d.zero tuples) told
+    pub desk : IsFreeDesk e × (e.settings.zero ≡ d.settings.zero)
+    pub listed : JobIsListed block_filter (list_options d.settings.zero tuples) told
         (MayBeUnread h.actor k.actor.known) j l
 
   module _ (q : QueueView) where

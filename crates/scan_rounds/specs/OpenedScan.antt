@@ -9,7 +9,7 @@ use Rattle.page_check.specs.Told.{Told}
 use Rattle.aio_word.specs.declared.Config.{Config}
 use Rattle.aio_handle.specs.ContractViews.{AreNewActors}
 use Rattle.method_worker.specs.QueueViews.{IsSeatOf}
-use Rattle.read_stream.specs.Desks.{IsFreeDesk}
+use Rattle.read_stream.specs.Desks.{IsFreeDesk, desk_settings}
 use Rattle.read_stream.specs.declared.desk.Desk.{Desk}
 use Rattle.read_stream.specs.declared.desk.Settings.{Settings}
 use Rattle.aio_disk.specs.declared.disk.Disk.{Ghosts as DiskGhosts}
@@ -101,27 +101,14 @@ has_rings method.Sync = false
 has_rings method.Worker = false
 has_rings method.Ring = true
 
--- how the streams of a desk read
-abbrev pub settings_of_desk : {W : Type 0} → Desk W (Unit {0}) → Settings
-settings_of_desk d =
-    record {
-      combine = d.combine;
-      ios = d.ios;
-      limit = d.limit;
-      full = d.full;
-      batch = d.batched;
-      segment = d.segment;
-      zero = d.zero;
-    }
-
 -- a desk for the streams of a scan
 pub record IsDeskFor {W : Type 0} (s : ScanSettings) (d : Desk W (Unit {0})) : Type 0 where
   pub free : IsFreeDesk d
-  pub streams : AreStreamSettings s (settings_of_desk d)
+  pub streams : AreStreamSettings s (desk_settings d)
 
 -- its streams read as the settings say, and it has a seat and a ring where the method wants them
 pub record IsBackendSetUp {W D : Type 0} (s : ScanSettings) (b : Backend W D) : Type 0 where
-  pub streams : AreStreamSettings s (settings_of_desk b.desk)
+  pub streams : AreStreamSettings s (desk_settings b.desk)
   pub seat : is_some b.seat ≡ has_seats s.method
   pub ring : is_some b.ring ≡ has_rings s.method
 

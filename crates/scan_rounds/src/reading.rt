@@ -6,7 +6,8 @@ ghost use Rattle.aio_handle.specs.FreeHandles.{IsRoom};
 ghost use Rattle.aio_handle.specs.ContractViews.{IsActorOf, IsSameActor};
 ghost use Rattle.read_stream.specs.StreamAnswers.{MayBeUnread, stream_entries};
 ghost use Rattle.read_stream.specs.Desks.{IsFreeDesk};
-ghost use Rattle.read_stream.specs.StreamState.{IsOpen};
+ghost use Rattle.read_stream.specs.StreamState.{IsOpenFor, stream_view};
+ghost use Rattle.read_stream.specs.StreamViews.{CallAdvanced, IsSameStream};
 ghost use Rattle.read_stream.specs.ActorProgress.{ActorAdvanced, local_mark_count};
 ghost use Rattle.scan_rounds.specs.DiskActors.{entries_of_blocks};
 ghost use Rattle.scan_rounds.specs.Jobs.{answered_ending};
@@ -45,27 +46,20 @@ fn take_all<
 ) -> Ending
     requires table { IsActorOf table.now actor.old }
     requires told { (E.told runner.old ≡ W.told) × (E.relations runner.old ≡ W.relations) }
-    requires actor { actor.old ≡ stream.old.actor_is.value }
-    requires relation { stream.old.scope.relation ≡ relation }
-    requires is_open { IsOpen S.left W.told W.relations W.handles stream.old }
-    requires none { stream.old.given ≡ 0 }
-    requires few { length (S.left stream.old.source_was.value) ≤ C.most consumer.old }
+    requires is_open { IsOpenFor S.left W.told W.relations W.handles stream.old actor.old }
+    requires relation { (stream_view S.left stream.old).relation ≡ relation }
+    requires none { (stream_view S.left stream.old).given ≡ 0 }
+    requires few { length (stream_view S.left stream.old).blocks ≤ C.most consumer.old }
     requires held { C.holds consumer.old [] }
-    ensures same { IsSameActor actor.old actor.new }
-    ensures told { (E.told runner.new ≡ W.told) × (E.relations runner.new ≡ W.relations) }
-    ensures stands_on { M.stands_on method.new ≡ M.stands_on method.old }
-    ensures actor_advanced { ActorAdvanced actor.old.known actor.new.known (E.reads runner.old)
-        (E.reads runner.new) (E.faults runner.old) (E.faults runner.new) }
-    ensures given { PagesConsumed (C.holds consumer.new) stream.old.scope.zero W.told
-        (MayBeUnread stream.old.scope.was.value actor.new.known)
-        (stream_entries relation (S.left stream.old.source_was.value)) (answered_ending result) }
+    ensures advanced { CallAdvanced E.Execute M.Method actor.old actor.new runner.old runner.new
+        method.old method.new }
+    ensures given { PagesConsumed (C.holds consumer.new) (stream_view S.left
+        stream.old).settings.zero W.told
+        (MayBeUnread (stream_view S.left stream.old).actor_was actor.new.known)
+        (stream_entries relation (stream_view S.left stream.old).blocks) (answered_ending result) }
     ensures consumer { C.is_same consumer.old consumer.new }
-    ensures desk { stream.new.desk.ghost_name ≡ stream.old.desk.ghost_name }
-    ensures zero { stream.new.scope.zero ≡ stream.old.scope.zero }
-    ensures was { (stream.new.scope.was.value ≡ stream.old.scope.was.value)
-        × (stream.new.source_was.value ≡ stream.old.source_was.value) }
-    ensures actor { actor.new ≡ stream.new.actor_is.value }
-    ensures is_open { IsOpen S.left W.told W.relations W.handles stream.new }
+    ensures stream { IsSameStream (stream_view S.left stream.old) (stream_view S.left stream.new) }
+    ensures is_open { IsOpenFor S.left W.told W.relations W.handles stream.new actor.new }
 {
     loop {
         let answer = stream.next(rt, table, actor, method, runner);
@@ -108,8 +102,8 @@ pub(crate) fn read<W: World, M: Method<ReadIo, W>, E: Execute<ReadIo, W>, T: Wai
         ≤ lives_ended h actor.old.known.marks + blocks.entry.count }
     ensures results_bound { local_mark_count actor.new.known.marks
         ≤ local_mark_count actor.old.known.marks + length (entries_of_blocks blocks.entry) }
-    ensures desk { IsFreeDesk desk.new × (desk.new.zero ≡ desk.old.zero) }
-    ensures given { PagesConsumed (C.holds consumer.new) desk.old.zero W.told
+    ensures desk { IsFreeDesk desk.new × (desk.new.settings.zero ≡ desk.old.settings.zero) }
+    ensures given { PagesConsumed (C.holds consumer.new) desk.old.settings.zero W.told
         (MayBeUnread actor.old actor.new.known) (entries_of_blocks blocks.entry) (answered_ending
         result) }
     ensures consumer { C.is_same consumer.old consumer.new }

@@ -3,6 +3,7 @@
 use crate::helpers::cases::{Blocks, CASE, Case, FULL};
 use crate::helpers::rows::{ROW, Row, check_rows};
 use page_fixtures::files::{Faults, STEADY};
+use read_stream::Settings;
 use std::test::Fail;
 
 const NONE: Blocks<'static> = Blocks::These(&[]);
@@ -13,7 +14,7 @@ const AGAIN: Case<'static> = Case {
     ..CASE
 };
 
-const ROWS: [Row<'static>; 8] = [
+const ROWS: [Row<'static>; 9] = [
     Row {
         name: "pages come from the pool again",
         case: AGAIN,
@@ -58,6 +59,20 @@ const ROWS: [Row<'static>; 8] = [
         pages: 3,
         reads: Some(&[(2, 1), (0, 1), (1, 1)]),
         taken: Some(1),
+        ..ROW
+    },
+    Row {
+        name: "a block that another backend reads leaves the distance as it is",
+        case: Case {
+            blocks: 11,
+            settings: Settings { combine: 4, ..FULL },
+            other: Some(NONE),
+            list: Blocks::EveryOther(6),
+            ..CASE
+        },
+        pages: 6,
+        reads: Some(&[(2, 1), (4, 1), (0, 1), (6, 1), (8, 1), (10, 1)]),
+        taken: Some(5),
         ..ROW
     },
     Row {

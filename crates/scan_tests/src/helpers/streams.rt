@@ -4,7 +4,7 @@ ghost use Rattle.std.specs.List.{All};
 ghost use Rattle.aio_handle.specs.EndStates.{HasNoOwnerTokens};
 ghost use Rattle.aio_handle.specs.ContractViews.{IsActorOf, IsSameActor};
 ghost use Rattle.method_worker.specs.QueueViews.{IsSeatOf};
-ghost use Rattle.read_stream.specs.StreamState.{IsOpen};
+ghost use Rattle.read_stream.specs.StreamState.{IsOpenFor};
 
 use aio_batch::Method;
 use aio_callback::ReadIo;
@@ -43,13 +43,11 @@ fn take_pages<W: World, M: Method<ReadIo, W>, E: Execute<ReadIo, W>, T: Wait>(
 ) -> Result<(), AllocError>
     requires table { IsActorOf table.now actor.old }
     requires told { (E.told runner.old ≡ W.told) × (E.relations runner.old ≡ W.relations) }
-    requires actor { actor.old ≡ stream.old.actor_is.value }
-    requires is_open { IsOpen (λ r. r) W.told W.relations W.handles stream.old }
+    requires is_open { IsOpenFor (λ r. r) W.told W.relations W.handles stream.old actor.old }
     ensures same { IsSameActor actor.old actor.new }
     ensures told { (E.told runner.new ≡ W.told) × (E.relations runner.new ≡ W.relations) }
     ensures stands_on { M.stands_on method.new ≡ M.stands_on method.old }
-    ensures actor { actor.new ≡ stream.new.actor_is.value }
-    ensures is_open { IsOpen (λ r. r) W.told W.relations W.handles stream.new }
+    ensures is_open { IsOpenFor (λ r. r) W.told W.relations W.handles stream.new actor.new }
 {
     for _ in 0..calls {
         if let Next::Page(_, block, note) = stream.next(rt, table, actor, method, runner) {

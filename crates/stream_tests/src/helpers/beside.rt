@@ -33,8 +33,8 @@ pub(crate) fn stream_beside<W: World, E: Execute<ReadIo, W>, T: Wait>(
 ) -> Result<Streamed, AllocError>
     requires table { IsActorOf table.now actor.old × IsActorOf table.now other.old }
     requires told { (E.told runner.old ≡ W.told) × (E.relations runner.old ≡ W.relations) }
-    requires settings { AreValidSettings case.now.settings.combine case.now.settings.ios
-        case.now.settings.limit case.now.settings.segment }
+    requires settings { AreValidSettings case.now.settings }
+    requires handles { 0 < W.handles }
     requires backends { (actor.old.known.number < table.now.config.backends)
         × (other.old.known.number < table.now.config.backends) }
     requires rest { HasNoOwnerTokens actor.old.known × HasNoOwnerTokens other.old.known }

@@ -53,8 +53,8 @@ pub(crate) fn read_before<W: World, E: Execute<ReadIo, W>, T: Wait>(
 ) -> Result<(), AllocError>
     requires table { IsActorOf table.now actor.old }
     requires told { (E.told runner.old ≡ W.told) × (E.relations runner.old ≡ W.relations) }
-    requires settings { AreValidSettings case.now.settings.combine case.now.settings.ios
-        case.now.settings.limit case.now.settings.segment }
+    requires settings { AreValidSettings case.now.settings }
+    requires handles { 0 < W.handles }
     requires backend { actor.old.known.number < table.now.config.backends }
     requires rest { HasNoOwnerTokens actor.old.known }
     requires relation { case.now.relation < W.relations }

@@ -31,8 +31,7 @@ fn read_all<W: World, D: Disk, T: Wait>(
 ) -> Result<(Option<Streamed>, D), AllocError>
     requires handles_in { (1 ≤ case.now.handles) × (case.now.handles ≤ 64) }
     requires frames { (16 ≤ case.now.frames) × (case.now.frames ≤ 16384) }
-    requires settings { AreValidSettings case.now.settings.combine case.now.settings.ios
-        case.now.settings.limit case.now.settings.segment }
+    requires settings { AreValidSettings case.now.settings }
     requires handles { W.handles ≡ 2 * case.now.handles }
     requires told { (D.told disk ≡ W.told) × (D.relations disk ≡ W.relations) }
     requires relation { case.now.relation < W.relations }

@@ -3,13 +3,14 @@ ghost use Rattle.std.specs.Prelude.{◌≡◌, ◌<◌};
 ghost use Rattle.aio_handle.specs.EndStates.{HasNoOwnerTokens};
 ghost use Rattle.aio_handle.specs.ContractViews.{IsActorOf, IsSameActor};
 ghost use Rattle.read_stream.specs.Desks.{AreValidSettings};
-ghost use Rattle.read_stream.specs.StreamState.{IsOpen};
+ghost use Rattle.read_stream.specs.StreamState.{IsOpenFor};
 
 use crate::helpers::answers::{Answer, answer_of};
 use crate::helpers::cases::Case;
 use crate::helpers::counting::CountingSync;
 use aio_callback::ReadIo;
 use aio_handle::{Actor, Execute, Table};
+use aio_word::WaitRef;
 use block_source::Listed;
 use buf_pool::Pool;
 use page_check::World;
@@ -17,7 +18,13 @@ use read_stream::{Desk, ReadStream};
 use std::alloc::{AllocError, Global};
 use std::sync::Wait;
 
-/// Takes the answers of so many calls.
+// What the actor looks at between two calls.
+const FIRST: WaitRef = WaitRef {
+    handle: 0,
+    generation: 0,
+};
+
+/// Takes the answers of so many calls. Behind each the actor looks at another I/O.
 pub(crate) fn take_answers<W: World, E: Execute<ReadIo, W>, T: Wait>(
     rt: &T,
     table: &Table<ReadIo, W>,
@@ -30,15 +37,15 @@ pub(crate) fn take_answers<W: World, E: Execute<ReadIo, W>, T: Wait>(
 ) -> Result<(), AllocError>
     requires table { IsActorOf table.now actor.old }
     requires told { (E.told runner.old ≡ W.told) × (E.relations runner.old ≡ W.relations) }
-    requires actor { actor.old ≡ stream.old.actor_is.value }
-    requires is_open { IsOpen (λ r. r) W.told W.relations W.handles stream.old }
+    requires is_open { IsOpenFor (λ r. r) W.told W.relations W.handles stream.old actor.old }
+    requires handles { 0 < W.handles }
     ensures same { IsSameActor actor.old actor.new }
     ensures told { (E.told runner.new ≡ W.told) × (E.relations runner.new ≡ W.relations) }
-    ensures actor { actor.new ≡ stream.new.actor_is.value }
-    ensures is_open { IsOpen (λ r. r) W.told W.relations W.handles stream.new }
+    ensures is_open { IsOpenFor (λ r. r) W.told W.relations W.handles stream.new actor.new }
 {
     for _ in 0..calls {
         all.push(answer_of(stream.next(rt, table, actor, method, runner)))?;
+        table.check(actor, FIRST);
     }
     Ok(())
 }
@@ -65,8 +72,8 @@ pub(crate) fn stream_over<W: World, E: Execute<ReadIo, W>, T: Wait>(
 ) -> Result<Streamed, AllocError>
     requires table { IsActorOf table.now actor.old }
     requires told { (E.told runner.old ≡ W.told) × (E.relations runner.old ≡ W.relations) }
-    requires settings { AreValidSettings case.now.settings.combine case.now.settings.ios
-        case.now.settings.limit case.now.settings.segment }
+    requires settings { AreValidSettings case.now.settings }
+    requires handles { 0 < W.handles }
     requires backend { actor.old.known.number < table.now.config.backends }
     requires rest { HasNoOwnerTokens actor.old.known }
     requires relation { case.now.relation < W.relations }
@@ -119,8 +126,8 @@ pub(crate) fn two_streams<W: World, E: Execute<ReadIo, W>, T: Wait>(
 ) -> Result<Streamed, AllocError>
     requires table { IsActorOf table.now actor.old }
     requires told { (E.told runner.old ≡ W.told) × (E.relations runner.old ≡ W.relations) }
-    requires settings { AreValidSettings case.now.settings.combine case.now.settings.ios
-        case.now.settings.limit case.now.settings.segment }
+    requires settings { AreValidSettings case.now.settings }
+    requires handles { 0 < W.handles }
     requires backend { actor.old.known.number < table.now.config.backends }
     requires rest { HasNoOwnerTokens actor.old.known }
     requires relation { case.now.relation < W.relations }

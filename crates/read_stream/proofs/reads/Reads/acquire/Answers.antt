@@ -28,8 +28,8 @@ returns-clause-handle_handed_out g c =
     (advanced_then p q r _ _ _ _ _ _
     (advanced-from c.hand_out.new.actor.known p q _ _ _ _
     (ap (λ (z : ActorView). z.known) c.in_default.ensures.none.0)
-    c.submit.ensures.context_advanced.actor_advanced)
-    c.take_in.ensures.context_advanced.actor_advanced)
+    c.submit.ensures.context_advanced.advanced.actor_advanced)
+    c.take_in.ensures.context_advanced.advanced.actor_advanced)
     (c.in-Some-hand_out.ensures.handle_handed_out _ _)
 
 pub returns-in-Some-clause-runs : goal.returns-in-Some-clause-runs

@@ -5,10 +5,9 @@ use Rattle.read_stream.proofs.reads.Reads.finish.Given as goal
 
 abbrev pub invariant-loop-io : goal.invariant-loop-io
 invariant-loop-io g l = record {
-  handed : IsValidContext g.E.Execute.told g.E.Execute.relations g.W.World.told g.W.World.relations
+  handed : IsValidContext g.E.Execute g.W.World.told g.W.World.relations
       l.scope l.context;
-  context_advanced : ContextAdvanced g.E.Execute.told g.E.Execute.relations g.E.Execute.reads
-      g.E.Execute.faults g.M.Method.stands_on l.fn.context l.context;
+  context_advanced : ContextAdvanced g.E.Execute g.M.Method l.fn.context l.context;
   issued : Issued l.scope g.W.World.told g.W.World.relations l.context.actor.now.known l.self;
   records : record_count l.self ≡ l.scope.total;
   started : ios_started l.self ≡ ios_started l.fn.self;

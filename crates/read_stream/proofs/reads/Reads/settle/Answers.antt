@@ -121,5 +121,5 @@ returns-clause-idle g c =
 pub returns-clause-runs : goal.returns-clause-runs
 returns-clause-runs g c = λ runs. reads-later c.args.scope.now c.args.context.now.actor.now.known
     c.reclaim-io.new.actor.known c.args.self.now _ runs
-    (returns-clause-context_advanced g c).actor_advanced.aims refl
+    (returns-clause-context_advanced g c).advanced.actor_advanced.aims refl
     refl refl

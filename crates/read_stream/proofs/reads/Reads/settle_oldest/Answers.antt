@@ -38,7 +38,7 @@ returns-in-Some-clause-run g c = λ runs stream_ios.
     subst (λ (z : List WaitRef). (rest : List Run) × (runs ≡ run_of c.settle.result ∷ rest)
     × InFlightForRuns c.args.scope.now q z rest) (sym left)
     (in-flight-first c.args.scope.now p q t (drop 1 xs) c.settle.result runs
-    c.settle.ensures.context_advanced.actor_advanced.aims c.settle.ensures.aim
+    c.settle.ensures.context_advanced.advanced.actor_advanced.aims c.settle.ensures.aim
     (subst (λ (z : List WaitRef). InFlightForRuns c.args.scope.now p z runs) first stream_ios)))
 
 pub returns-in-None-clause-issued : goal.returns-in-None-clause-issued

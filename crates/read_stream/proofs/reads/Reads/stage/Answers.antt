@@ -30,22 +30,25 @@ returns-clause-context_advanced g c =
     let q : Known = c.acquire-token.new.context.actor.now.known in
     let q1 : Known = c.define-token.new.actor.known in
     let q2 : Known = c.stage.new.actor.known in
-    let a = c.acquire-token.ensures.context_advanced in
+    let before = c.acquire-token.ensures.context_advanced in
+    let a = before.advanced in
     let b = c.define-token.ensures.same in
     let s = c.stage.ensures.same in
     record {
-      table = a.table;
-      actor = a.actor;
-      method = a.method;
-      runner = a.runner;
-      same = (s.0 ∙ (b.0 ∙ a.same.0), s.1 ∙ (b.1 ∙ a.same.1), s.2 ∙ (b.2 ∙ a.same.2));
-      told = a.told;
-      actor_advanced = advanced-staged c.args.scope.now g.W.World.told g.W.World.relations
-          c.args.context.now.actor.now.known q q1 q2 c.acquire-token.new.self t _ _ _ _
-          c.acquire-token.ensures.handle_handed_out c.define-token.ensures.event
-          (defines t d.0 q1 e c.define-token.ensures.token.2)
-          (stages t d.0 q1 q2 e c.stage.ensures.event);
-      stands_on = a.stands_on;
+      table = before.table;
+      actor = before.actor;
+      method = before.method;
+      runner = before.runner;
+      advanced = record {
+        same = (s.0 ∙ (b.0 ∙ a.same.0), s.1 ∙ (b.1 ∙ a.same.1), s.2 ∙ (b.2 ∙ a.same.2));
+        told = a.told;
+        actor_advanced = advanced-staged c.args.scope.now g.W.World.told g.W.World.relations
+            c.args.context.now.actor.now.known q q1 q2 c.acquire-token.new.self t _ _ _ _
+            c.acquire-token.ensures.handle_handed_out c.define-token.ensures.event
+            (defines t d.0 q1 e c.define-token.ensures.token.2)
+            (stages t d.0 q1 q2 e c.stage.ensures.event);
+        stands_on = a.stands_on;
+      };
     }
 
 pub returns-clause-issued : goal.returns-clause-issued

@@ -1,5 +1,5 @@
 use Rattle.std.proofs.Common.{◌≡◌, [], ◌∷◌, ◌++◌, length, List, ap, sym, subst, arith, refl}
-use Rattle.std.proofs.Common.{length-append}
+use Rattle.std.proofs.Common.{length-append, MutBor}
 use Rattle.aio_word.specs.declared.WaitRef.{WaitRef}
 use Rattle.aio_word.specs.declared.Known.{Known}
 use Rattle.aio_callback.specs.ReadIoView.{ReadIoView, record_aim}
@@ -10,7 +10,7 @@ use Rattle.read_stream.specs.declared.reads.Reads.{Reads}
 use Rattle.read_stream.specs.StreamIos.{Issued, ReadsForRuns}
 use Rattle.read_stream.specs.ActorProgress.{ActorAdvanced}
 use Rattle.read_stream.proofs.ActorAdvancedLaws.{advanced_submitting}
-use Rattle.read_stream.proofs.ContextAdvancedLaws.{valid_context_then, context_advanced_by}
+use Rattle.read_stream.proofs.ContextAdvancedLaws.{valid_context_then}
 use Rattle.read_stream.proofs.ContextAdvancedLaws.{context_advanced_refl, context_advanced_then}
 use Rattle.read_stream.proofs.ReadsMatchRuns.{reads-later, reads-submitted}
 use Rattle.read_stream.proofs.SubmitKeepsIssued.{issued-submitted}
@@ -34,9 +34,9 @@ loop-token-preserved g c =
     let inv = c.loop-token.invariant in
     let t : WaitRef = c.in-Some.token in
     let p : Known = c.loop-token.context.actor.now.known in
-    let q : Known = c.submit_next.new.actor.known in
+    let q : Known = c.submit_next.new.context.actor.now.known in
     let n = c.in-Some.ensures.next in
-    let after = c.submit_next.new.self in
+    let after = c.submit_next.new.batch in
     let items : c.push.new.queue ≡ buffer (s.in_flight.items ++ t ∷ []) s.in_flight.capacity =
     c.push.ensures in
     let whole : length s.batch ≡ length (n.token ∷ after) =
@@ -48,17 +48,15 @@ loop-token-preserved g c =
     p q _ _ _
     _ n
     in
-    let context_advanced = context_advanced_then
-    (context_advanced_by c.loop-token.context c.submit_next.new.actor c.submit_next.new.method
-    c.submit_next.new.runner c.in-Some.ensures.same c.in-Some.ensures.told actor_advanced
-    c.in-Some.ensures.stands_on) inv.context_advanced in
+    let context_advanced = context_advanced_then c.submit_next.ensures.context_advanced
+    inv.context_advanced in
     record {
       handed = valid_context_then c.requires.valid_context context_advanced;
       context_advanced = context_advanced;
       issued = subst (λ (z : Buffer WaitRef). Issued c.args.scope.now g.W.World.told
           g.W.World.relations q (record s { batch = after; in_flight = z })) (sym items)
           (issued-submitted c.args.scope.now g.W.World.told g.W.World.relations p q s after t
-          _ _ _ _ n c.in-Some.ensures.tokens inv.issued);
+          _ _ _ _ n c.submit_next.ensures.tokens inv.issued);
       records = (let k = inv.records in omega arith);
       started = (let k = inv.started in omega arith);
       free = inv.free;
@@ -68,24 +66,25 @@ loop-token-preserved g c =
           (λ x j. (inv.issued.staged_ios x j).0) (inv.runs runs f));
     }
 
+pub returns-clause-context_advanced : goal.returns-clause-context_advanced
+returns-clause-context_advanced g c = context_advanced_then c.submit_next.ensures.context_advanced
+    c.loop-token.invariant.context_advanced
+
 pub returns-clause-issued : goal.returns-clause-issued
 returns-clause-issued g c =
     let W : Type 0 = g.row.W.Denot in
     let s : Reads W = c.loop-token.self in
     let none = c.in_default.ensures.none in
-    let batch : c.submit_next.new.self ≡ s.batch = none.1 in
-    let actor : c.submit_next.new.actor ≡ c.loop-token.context.actor.now = none.2 in
-    subst (λ (z : ActorView). Issued c.args.scope.now g.W.World.told g.W.World.relations z.known
-    (record s { batch = c.submit_next.new.self })) (sym actor)
+    subst (λ (z : MutBor ActorView). Issued c.args.scope.now g.W.World.told g.W.World.relations
+    z.now.known (record s { batch = c.submit_next.new.batch })) (sym none.2)
     (subst (λ (z : List (WaitRef × ReadIoView)). Issued c.args.scope.now g.W.World.told
-    g.W.World.relations c.loop-token.context.actor.now.known (record s { batch = z })) (sym batch)
+    g.W.World.relations c.loop-token.context.actor.now.known (record s { batch = z })) (sym none.1)
     c.loop-token.invariant.issued)
 
 pub returns-clause-runs : goal.returns-clause-runs
 returns-clause-runs g c = λ runs f.
     (let none = c.in_default.ensures.none in
-    let actor : c.submit_next.new.actor ≡ c.loop-token.context.actor.now = none.2 in
-    reads-later c.args.scope.now c.loop-token.context.actor.now.known c.submit_next.new.actor.known
-    c.loop-token.self _ runs
-    (λ x i. subst (λ (z : ActorView). IsIn x z.known.aims) (sym actor) i) refl refl none.1
-    (c.loop-token.invariant.runs runs f))
+    reads-later c.args.scope.now c.loop-token.context.actor.now.known
+    c.submit_next.new.context.actor.now.known c.loop-token.self _ runs
+    (λ x i. subst (λ (z : MutBor ActorView). IsIn x z.now.known.aims) (sym none.2) i) refl refl
+    none.1 (c.loop-token.invariant.runs runs f))

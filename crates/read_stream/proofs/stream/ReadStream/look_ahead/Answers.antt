@@ -59,7 +59,7 @@ loop-self-preserved g c =
     let consumer_unchanged = c.take_next.ensures.consumer_unchanged in
     let handed = valid_context_then inv.handed c.take_next.ensures.context_advanced in
     record {
-      handed = subst (λ z. IsValidContext g.E.Execute.told g.E.Execute.relations g.W.World.told
+      handed = subst (λ z. IsValidContext g.E.Execute g.W.World.told
           g.W.World.relations z c.take_next.new.context) (sym consumer_unchanged.same_stream.scope)
           handed;
       context_advanced = context_advanced_then c.take_next.ensures.context_advanced

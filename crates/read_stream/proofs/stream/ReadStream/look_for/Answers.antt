@@ -1,4 +1,5 @@
-use Rattle.std.proofs.Common.{ℕ, sym, arith, subst}
+use Rattle.std.proofs.Common.{ℕ, ap, sym, arith, subst}
+use Rattle.read_stream.specs.declared.desk.Settings.{Settings}
 use Rattle.read_stream.specs.declared.stream.ReadStream.{ReadStream}
 use Rattle.read_stream.specs.WantedBlocks.{IsValidWant, blocks_of_want}
 use Rattle.read_stream.proofs.FreeRecords.{may_start}
@@ -26,5 +27,6 @@ returns-clause-underway g c =
     c.push_want.new.self c.args.want (c.start_pending.ensures.underway (blocks_of_want c.args.want)
     c.requires.underway) c.start_pending.ensures.none c.requires.want.1
     (subst (λ (z : ℕ). IsValidWant z g.W.World.handles c.args.want)
-    (sym c.start_pending.ensures.consumer_unchanged.settings.0) c.requires.want.0)
+    (sym (ap (λ (z : Settings). z.combine)
+    c.start_pending.ensures.consumer_unchanged.same_stream.settings)) c.requires.want.0)
     c.push_want.ensures

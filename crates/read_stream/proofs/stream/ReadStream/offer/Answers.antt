@@ -41,7 +41,7 @@ returns-in-Flush-clause-underway g c =
     c.offer.result c.offer.ensures.answer
     ∙ ap (λ (z : Offer). run_blocks_out z ++ (pending_blocks pl.pending ++ [])) c.in-Flush.is)
     (subst (λ (z : ℕ). IsRun z run) c.requires.underway.running.combine c.in-Flush.ensures.flushed)
-    c.start.ensures.starts_run c.requires.free c.start.ensures.context_advanced.actor_advanced
+    c.start.ensures.starts_run c.requires.free c.start.ensures.context_advanced.advanced.actor_advanced
     c.start.ensures.issued
     c.start.ensures.few c.start.ensures.runs
 

@@ -6,6 +6,10 @@ use Rattle.aio_handle.specs.FreeHandles.{IsRoom}
 use Rattle.aio_handle.specs.ContractViews.{ActorView}
 use Rattle.aio_callback.specs.ReadIoView.{ReadIoView}
 use Rattle.read_plan.specs.Plans.{PlanView}
+use Rattle.read_stream.specs.declared.desk.Settings.{Settings}
+use Rattle.read_stream.specs.Desks.{AreValidSettings}
+use Rattle.read_stream.proofs.CallersView.{as_left}
+use Rattle.read_stream.proofs.StreamInvariantLaws.{each_setting}
 use Rattle.page_check.specs.SynchronousAnswer.{reader_of}
 use Rattle.read_stream.specs.declared.desk.Desk.{Desk}
 use Rattle.read_stream.specs.declared.reads.Reads.{Reads}
@@ -28,18 +32,15 @@ returns-clause-is_open g c =
     let d : Desk W P = c.args.desk.now in
     let e : Desk W P = c.begin.new.self in
     let is : e ≡ record d { reads = reset_reads d.reads } = c.begin.ensures in
-    let combine : e.combine ≡ d.combine = ap (λ (z : Desk W P). z.combine) is in
-    let ios : e.ios ≡ d.ios = ap (λ (z : Desk W P). z.ios) is in
-    let limit : e.limit ≡ d.limit = ap (λ (z : Desk W P). z.limit) is in
-    let segment : e.segment ≡ d.segment = ap (λ (z : Desk W P). z.segment) is in
-    let zeroes : e.zero ≡ d.zero = ap (λ (z : Desk W P). z.zero) is in
+    let settings : e.settings ≡ d.settings = ap (λ (z : Desk W P). z.settings) is in
+    let (combine, ios, limit, zeroes) = each_setting d.settings e.settings settings in
     let reads : e.reads ≡ reset_reads d.reads = ap (λ (z : Desk W P). z.reads) is in
     let items : e.queue.items ≡ [] =
     ap (λ (z : Desk W P). z.queue.items) is ∙ c.requires.desk.queue in
     let none : length e.queue.items ≡ 0 = ap (λ (z : List (QueuedBlock P)). length z) items in
     let capacity : e.queue.capacity ≡ d.queue.capacity =
     ap (λ (z : Desk W P). z.queue.capacity) is in
-    let free : length e.reads.free.items ≡ d.ios + 1 =
+    let free : length e.reads.free.items ≡ d.settings.ios + 1 =
     ap (λ (z : Reads W). length z.free.items) reads ∙ c.requires.desk.ready.free_count in
     let b : length e.reads.batch ≡ 0 =
     ap (λ (z : Reads W). length z.batch) reads
@@ -59,10 +60,10 @@ returns-clause-is_open g c =
     let small = room_below a.known.config a.known c.room.result c.requires.backend c.room.ensures in
     let scope : Scope W = record {
       relation = c.args.relation;
-      combine = d.combine;
-      total = d.ios + 1;
-      batched = d.batched;
-      zero = d.zero;
+      combine = d.settings.combine;
+      total = d.settings.ios + 1;
+      batched = d.settings.batch;
+      zero = d.settings.zero;
       most = c.room.result;
       was = c.of.result;
     } in
@@ -91,63 +92,76 @@ returns-clause-is_open g c =
     let pending : pending_blocks c.new-plan.result.pending ≡ [] =
     ap (λ (z : PlanView). pending_blocks z.pending) plan in
     record {
-      same = (
-        ap (λ (z : ActorView). z.table) is-now ∙ sym (ap (λ (z : ActorView). z.table) is-was),
-        ap (λ (z : ActorView). z.known.config) is-now
-            ∙ sym (ap (λ (z : ActorView). z.known.config) is-was),
-        ap (λ (z : ActorView). z.known.number) is-now
-            ∙ sym (ap (λ (z : ActorView). z.known.number) is-was),
-      );
-      backend = subst (λ (z : ActorView). z.known.number < z.known.config.backends) (sym is-now)
-          c.requires.backend;
-      between = record {
-        invariant = record {
-          relation_in_range = c.requires.relation;
-          settings = rw (combine, ios, limit, segment) c.requires.desk.settings;
-          scope = (sym combine, ap (λ (z : ℕ). z + 1) (sym ios));
-          zero = sym zeroes;
-          queue = let l = c.requires.desk.most_blocks in omega arith;
-          wants = let l = c.requires.desk.most_wants in omega arith;
-          list_within_most = omega arith;
-          issued = subst (λ (z : Known). Issued scope g.W.World.told g.W.World.relations z e.reads)
-              (ap (λ (z : ActorView). z.known) (is-was ∙ sym is-now))
-              (subst (λ (z : Reads W). Issued scope g.W.World.told g.W.World.relations was.known z)
-              (sym reads) issued);
-          batch_within = omega arith;
-          current = tt;
-          record_total = omega arith;
-        };
-        few_ios = omega arith;
-        running = record {
-          given_within = omega arith;
-          readable = none-given (reader_of d.zero g.W.World.told) _;
-          blocks = ap
-              (λ (z : List (QueuedBlock P)). map source_item z
-              ++ g.S.BlockSource.left c.args.source) items
-              ∙ sym (ap (λ z. g.S.BlockSource.left z) src);
-          none_left_if_over = λ x. absurd (cc);
-          queue_order = ap (λ (z : List (QueuedBlock P)). map block_number z) items
-              ∙ sym (ap (λ (z : List Want). wanted_blocks z
-              ++ (pending_blocks c.new-plan.result.pending ++ [])) wants
-              ∙ ap (λ (z : List ℕ). z ++ []) pending);
-          wants = each-none (λ (x : Want). IsValidWant e.combine g.W.World.handles x) e.wants.items
-              wants;
-          runs = subst (λ (z : List Want). ReadsForRuns scope now.known e.reads (wanted_runs z))
-              (sym wants) (reads-none scope now.known e.reads
-              (ap (λ (z : Reads W). z.ended.items) reads ∙ c.requires.desk.ready.ended)
-              (ap (λ (z : Reads W). z.in_flight.items) reads ∙ c.requires.desk.ready.in_flight)
-              (ap (λ (z : Reads W). z.batch) reads ∙ c.requires.desk.ready.batch));
-          few_ios = omega arith;
-          ahead = ap (λ (z : PlanView). z.blocks_ahead) plan ∙ sym none;
-          queue_within_limit = omega arith;
-          in_use = (let z = ap (λ (z : PlanView). z.ios_in_progress) plan in omega arith);
-          spare_record = omega arith;
-          combine = ap (λ (z : PlanView). z.combine) plan ∙ sym combine;
-          max_ios = ap (λ (z : PlanView). z.max_ios) plan ∙ sym ios;
-          limit = ap (λ (z : PlanView). z.limit) plan ∙ sym limit;
-        };
-        lends_page = (refl, refl);
-        stop_answer = tt;
-        unread_record = tt;
-      };
+      is_open =
+          record {
+            same = (
+              ap (λ (z : ActorView). z.table) is-now ∙ sym (ap (λ (z : ActorView). z.table) is-was),
+              ap (λ (z : ActorView). z.known.config) is-now
+                  ∙ sym (ap (λ (z : ActorView). z.known.config) is-was),
+              ap (λ (z : ActorView). z.known.number) is-now
+                  ∙ sym (ap (λ (z : ActorView). z.known.number) is-was),
+            );
+            backend = subst (λ (z : ActorView). z.known.number < z.known.config.backends) (sym is-now)
+                c.requires.backend;
+            between = record {
+              invariant = record {
+                relation_in_range = c.requires.relation;
+                settings = subst (λ (z : Settings). AreValidSettings z) (sym settings)
+                    c.requires.desk.settings;
+                scope = (sym combine, ap (λ (z : ℕ). z + 1) (sym ios));
+                zero = sym zeroes;
+                queue = let l = c.requires.desk.most_blocks in omega arith;
+                wants = let l = c.requires.desk.most_wants in omega arith;
+                list_within_most = omega arith;
+                issued = subst (λ (z : Known). Issued scope g.W.World.told g.W.World.relations z e.reads)
+                    (ap (λ (z : ActorView). z.known) (is-was ∙ sym is-now))
+                    (subst (λ (z : Reads W). Issued scope g.W.World.told g.W.World.relations was.known z)
+                    (sym reads) issued);
+                batch_within = omega arith;
+                current = tt;
+                record_total = omega arith;
+              };
+              few_ios = omega arith;
+              running = record {
+                given_within = omega arith;
+                readable = none-given (reader_of d.settings.zero g.W.World.told) _;
+                blocks = ap
+                    (λ (z : List (QueuedBlock P)). map source_item z
+                    ++ g.S.BlockSource.left c.args.source) items
+                    ∙ sym (ap (λ z. g.S.BlockSource.left z) src);
+                none_left_if_over = λ x. absurd (cc);
+                queue_order = ap (λ (z : List (QueuedBlock P)). map block_number z) items
+                    ∙ sym (ap (λ (z : List Want). wanted_blocks z
+                    ++ (pending_blocks c.new-plan.result.pending ++ [])) wants
+                    ∙ ap (λ (z : List ℕ). z ++ []) pending);
+                wants = each-none (λ (x : Want). IsValidWant e.settings.combine g.W.World.handles x) e.wants.items
+                    wants;
+                runs = subst (λ (z : List Want). ReadsForRuns scope now.known e.reads (wanted_runs z))
+                    (sym wants) (reads-none scope now.known e.reads
+                    (ap (λ (z : Reads W). z.ended.items) reads ∙ c.requires.desk.ready.ended)
+                    (ap (λ (z : Reads W). z.in_flight.items) reads ∙ c.requires.desk.ready.in_flight)
+                    (ap (λ (z : Reads W). z.batch) reads ∙ c.requires.desk.ready.batch));
+                few_ios = omega arith;
+                ahead = ap (λ (z : PlanView). z.blocks_ahead) plan ∙ sym none;
+                queue_within_limit = omega arith;
+                in_use = (let z = ap (λ (z : PlanView). z.ios_in_progress) plan in omega arith);
+                spare_record = omega arith;
+                combine = ap (λ (z : PlanView). z.combine) plan ∙ sym combine;
+                max_ios = ap (λ (z : PlanView). z.max_ios) plan ∙ sym ios;
+                limit = ap (λ (z : PlanView). z.limit) plan ∙ sym limit;
+              };
+              lends_page = (refl, refl);
+              stop_answer = tt;
+              unread_record = tt;
+            };
+          };
+      as_left = as_left now a is-now;
     }
+
+pub returns-clause-stream : goal.returns-clause-stream
+returns-clause-stream g c =
+    let W : Type 0 = g.row.W.Denot in
+    let P : Type 0 = g.row.P.Denot in
+    let settings : c.begin.new.self.settings ≡ c.args.desk.now.settings =
+    ap (λ (z : Desk W P). z.settings) c.begin.ensures in
+    rw (c.of-source_was.ensures, settings, c.of.ensures, c.of-2.ensures) refl

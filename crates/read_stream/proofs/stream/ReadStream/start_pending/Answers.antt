@@ -42,6 +42,6 @@ returns-in-Some-clause-underway g c = λ behind u.
     (sym c.take_pending.ensures.run ∙ c.in-Some.is)
     ∙ sym (ap (λ (z : PlanView). run_blocks run ++ (pending_blocks z.pending ++ behind)) is))
     (subst (λ (z : ℕ). IsRun z run) u.running.combine c.in-Some.ensures.each)
-    c.start.ensures.starts_run c.requires.free c.start.ensures.context_advanced.actor_advanced
+    c.start.ensures.starts_run c.requires.free c.start.ensures.context_advanced.advanced.actor_advanced
     c.start.ensures.issued
     c.start.ensures.few c.start.ensures.runs

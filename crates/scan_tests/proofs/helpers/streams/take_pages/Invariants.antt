@@ -1,6 +1,6 @@
 use Rattle.std.proofs.Common.{◌≡◌}
 use Rattle.aio_handle.specs.ContractViews.{IsActorOf, IsSameActor}
-use Rattle.read_stream.specs.StreamState.{IsOpen}
+use Rattle.read_stream.specs.StreamState.{IsOpenFor}
 use Rattle.scan_tests.proofs.helpers.streams.take_pages.Given as goal
 
 abbrev pub invariant-loop : goal.invariant-loop
@@ -10,6 +10,6 @@ invariant-loop g l = record {
   told : (g.E.Execute.told l.runner ≡ g.W.World.told)
       × (g.E.Execute.relations l.runner ≡ g.W.World.relations);
   stands_on : g.M.Method.stands_on l.method ≡ g.M.Method.stands_on l.fn.method;
-  actor_is : l.actor ≡ l.stream.actor_is.value;
-  is_open : IsOpen (λ r. r) g.W.World.told g.W.World.relations g.W.World.handles l.stream;
+  is_open : IsOpenFor (λ r. r) g.W.World.told g.W.World.relations g.W.World.handles l.stream
+      l.actor;
 }

@@ -1,6 +1,6 @@
 use Rattle.std.proofs.Common.{◌≡◌}
 use Rattle.aio_handle.specs.ContractViews.{IsActorOf, IsSameActor}
-use Rattle.read_stream.specs.StreamState.{IsOpen}
+use Rattle.read_stream.specs.StreamState.{IsOpenFor}
 use Rattle.stream_tests.proofs.helpers.streams.take_answers.Given as goal
 
 abbrev pub invariant-loop : goal.invariant-loop
@@ -9,6 +9,6 @@ invariant-loop g l = record {
   of : IsActorOf l.table l.actor;
   told : (g.E.Execute.told l.runner ≡ g.W.World.told)
       × (g.E.Execute.relations l.runner ≡ g.W.World.relations);
-  actor_is : l.actor ≡ l.stream.actor_is.value;
-  is_open : IsOpen (λ r. r) g.W.World.told g.W.World.relations g.W.World.handles l.stream;
+  is_open : IsOpenFor (λ r. r) g.W.World.told g.W.World.relations g.W.World.handles l.stream
+      l.actor;
 }

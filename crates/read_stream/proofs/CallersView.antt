@@ -1,0 +1,92 @@
+-- What the inside of a stream answers, as its callers see it.
+use Rattle.std.proofs.Common.{◌≡◌, ◌<◌, ◌∙◌, ℕ, List, [], true, Bool, ap, append-nil, arith, length}
+use Rattle.std.proofs.Common.{refl, subst, sym}
+use Rattle.std.proofs.lemmas.List.{length-map}
+use Rattle.std.specs.Prelude.{Option, IfSome}
+use Rattle.std.specs.declared.snapshot.Snapshot.{Snapshot}
+use Rattle.page_check.specs.Told.{Told}
+use Rattle.page_check.specs.SynchronousAnswer.{Entry, reader_of}
+use Rattle.page_check.specs.IsAnswer.{IfPage, IsNext, Next as Said, Page as SaidPage}
+use Rattle.page_check.specs.IsAnswer.{Stop as SaidStop}
+use Rattle.aio_handle.specs.ContractViews.{ActorView}
+use Rattle.read_stream.specs.declared.answer.Step.{Step}
+use Rattle.read_stream.specs.declared.answer.Step.TheVariants as step
+use Rattle.read_stream.specs.declared.stream.ReadStream.{ReadStream}
+use Rattle.read_stream.specs.StreamAnswers.{IfStopped, IfZeroed, MayBeUnread, stream_entries}
+use Rattle.read_stream.specs.StreamAnswers.{stream_entry}
+use Rattle.read_stream.specs.StreamAnswers.{step_answer, step_ending}
+use Rattle.read_stream.specs.StreamState.{IsOpen, entries_at_open, stream_view}
+use Rattle.read_stream.specs.StreamViews.{StreamView, IsActorAsLeft}
+use Rattle.read_stream.specs.StreamViews.{IsSameStream, IsStreamAnswer, stream_after}
+use Rattle.read_stream.proofs.AnswerPages.{next_valid, page_within}
+
+-- an actor is as it was just left
+pub as_left : (left now : ActorView) → left ≡ now → IsActorAsLeft left now
+as_left left now is = subst (λ (z : ActorView). IsActorAsLeft left z) is (
+  refl,
+  record {
+    number = refl;
+    config = refl;
+    out = refl;
+    marks = sym (append-nil left.known.marks);
+    seen = λ h. omega arith;
+    aims = λ e i. i;
+    looks = ([], sym (append-nil left.known.looks));
+  },
+)
+
+pub same_stream_later : {P : Type 0} (s t u : StreamView P) → IsSameStream s t → IsSameStream t u
+    → IsSameStream s u
+same_stream_later {P} s t u st tu = subst (λ (z : StreamView P). u ≡ record z {
+  given = u.given;
+  ending = u.ending;
+  actor_is = u.actor_is;
+}) st tu
+
+pub later_by_call : {P : Type 0} (s n : StreamView P) (actor : ActorView) (x : Said P)
+    → n ≡ stream_after s actor x → IsSameStream s n
+later_by_call {P} s n actor x after =
+    subst (λ (z : StreamView P). IsSameStream s z) (sym after) refl
+
+-- an ending is answered again
+pub ending_again : {P : Type 0} (was now : Step P) (relation : ℕ) (page : List ℕ × Bool) (x : Said P)
+    → x ≡ step_answer relation now page → IfStopped was (λ e. now ≡ step.Stop e)
+    → IfSome (step_ending was) (λ e. x ≡ SaidStop e)
+ending_again {P} (step.Stop end) now relation page x answer again =
+    answer ∙ ap (λ (z : Step P). step_answer relation z page) again
+ending_again (step.Page block info) now relation page x answer again = tt
+ending_again step.Start now relation page x answer again = tt
+
+-- a page that is answered is that of a block left
+page_left : {P : Type 0} (told : Option Told) (s : StreamView P) (may : Entry P → Type 0) (x : Said P)
+    → IsNext (reader_of s.settings.zero told) may (stream_entries s.relation s.blocks) s.given x
+    → IfPage x (λ _. s.given < length s.blocks)
+page_left told s may (SaidPage g) is =
+    let within = page_within (reader_of s.settings.zero told) may
+    (stream_entries s.relation s.blocks) s.given g is in
+    let many = length-map s.blocks (stream_entry s.relation) in omega arith
+page_left told s may (SaidStop end) is = tt
+
+module _ {W S P : Type 0} (left : S → List (ℕ × P)) (told : Option Told)
+    (relations handles : ℕ) where
+  pub answer_seen : (s m : ReadStream W S P) (noted : Snapshot ActorView) (now : ActorView)
+      (x : Said P) → m ≡ record s { actor_is = noted } → IsOpen left told relations handles m
+      → IsNext (reader_of m.scope.zero told) (MayBeUnread m.scope.was.value now.known)
+      (entries_at_open left told relations handles m) m.given x
+      → IfZeroed x (s.desk.now.settings.zero ≡ true)
+      → IsStreamAnswer told (stream_view left s) now x
+  answer_seen s m noted now x same o next zeroed =
+      let v : StreamView P = stream_view left s in
+      let settled = subst (λ (z : Bool). IsNext (reader_of z told)
+      (MayBeUnread m.scope.was.value now.known) (entries_at_open left told relations handles m)
+      m.given x) o.between.invariant.zero next in
+      let here = subst (λ (z : ReadStream W S P). IsNext (reader_of z.desk.now.settings.zero told)
+      (MayBeUnread z.scope.was.value now.known) (entries_at_open left told relations handles z)
+      z.given x) same settled in
+      record {
+        next = here;
+        valid = next_valid v.settings.zero told (MayBeUnread v.actor_was now.known)
+            (stream_entries v.relation v.blocks) v.given x here;
+        zeroed = zeroed;
+        within = page_left told v (MayBeUnread v.actor_was now.known) x here;
+      }
