@@ -52,21 +52,16 @@ impl<W: World> Reads<W> {
         scope: &Scope<W>,
         context: &mut IoContext<W, M, E>,
     ) -> HandedOut<W>
-        requires valid_context { IsValidContext E.Execute W.told W.relations scope.now
-            context.old }
+        requires valid_context { IsValidContext E.Execute W.told W.relations scope.now context.old }
         requires issued { Issued scope.now W.told W.relations context.old.actor.now.known self.old }
         requires few_ios { ios_started self.old < scope.now.most }
-        ensures context_advanced { ContextAdvanced E.Execute M.Method
-            context.old
-            context.new }
+        ensures context_advanced { ContextAdvanced E.Execute M.Method context.old context.new }
         ensures handle_handed_out { HandleHandedOut scope.now W.told W.relations
-            context.old.actor.now.known
-            context.new.actor.now.known (E.reads context.old.runner.now)
-            (E.reads context.new.runner.now)
-            (E.faults context.old.runner.now) (E.faults context.new.runner.now) self.new result }
+            context.old.actor.now.known context.new.actor.now.known (E.reads context.old.runner.now)
+            (E.reads context.new.runner.now) (E.faults context.old.runner.now)
+            (E.faults context.new.runner.now) self.new result }
         ensures all { (record_count self.new ≡ record_count self.old)
-            × (ios_started self.new ≡ ios_started self.old)
-            × (self.new.free ≡ self.old.free) }
+            × (ios_started self.new ≡ ios_started self.old) × (self.new.free ≡ self.old.free) }
         ensures batch { length self.new.batch ≤ length self.old.batch }
         ensures runs { (runs : List Run) → ReadsForRuns scope.now context.old.actor.now.known
             self.old runs → ReadsForRuns scope.now context.new.actor.now.known self.new runs }

@@ -34,9 +34,7 @@ impl<'d, 'p, W: World, S: BlockSource<P> + Drop, P: Copy> ReadStream<'d, 'p, W, 
         requires underway { UnderwayWith S.left W.told W.relations W.handles (record_blocks_left
             self.old.current self.old.step) (block ∷ []) 0 context.old.actor.now.known self.old }
         requires free { 1 < length self.old.desk.now.reads.free.items }
-        ensures context_advanced { ContextAdvanced E.Execute M.Method
-            context.old
-            context.new }
+        ensures context_advanced { ContextAdvanced E.Execute M.Method context.old context.new }
         ensures underway { Underway S.left W.told W.relations W.handles context.new.actor.now.known
             self.new }
         ensures consumer_unchanged { ConsumerUnchanged self.old self.new }
@@ -102,16 +100,13 @@ impl<'d, 'p, W: World, S: BlockSource<P> + Drop, P: Copy> ReadStream<'d, 'p, W, 
     )
         requires valid_context { IsValidContext E.Execute W.told W.relations self.old.scope
             context.old }
-        requires underway { UnderwayWith S.left W.told W.relations W.handles (record_blocks_left
-            self.old.current self.old.step) (blocks_of_want want) 0 context.old.actor.now.known
-            self.old }
-        requires want { IsValidWant self.old.desk.now.settings.combine W.handles want × (runs_of_want want
-            ≡ [])
-            × (length (blocks_of_want want) ≡ 1) }
+        requires underway { UnderwayWith S.left W.told W.relations W.handles
+            (record_blocks_left self.old.current self.old.step) (blocks_of_want want) 0
+            context.old.actor.now.known self.old }
+        requires want { IsValidWant self.old.desk.now.settings.combine W.handles want
+            × (runs_of_want want ≡ []) × (length (blocks_of_want want) ≡ 1) }
         requires free { 1 < length self.old.desk.now.reads.free.items }
-        ensures context_advanced { ContextAdvanced E.Execute M.Method
-            context.old
-            context.new }
+        ensures context_advanced { ContextAdvanced E.Execute M.Method context.old context.new }
         ensures underway { Underway S.left W.told W.relations W.handles context.new.actor.now.known
             self.new }
         ensures consumer_unchanged { ConsumerUnchanged self.old self.new }
@@ -133,9 +128,7 @@ impl<'d, 'p, W: World, S: BlockSource<P> + Drop, P: Copy> ReadStream<'d, 'p, W, 
         requires underway { Underway S.left W.told W.relations W.handles context.old.actor.now.known
             self.old }
         requires ahead { MayLookAhead self.old.plan }
-        ensures context_advanced { ContextAdvanced E.Execute M.Method
-            context.old
-            context.new }
+        ensures context_advanced { ContextAdvanced E.Execute M.Method context.old context.new }
         ensures underway { Underway S.left W.told W.relations W.handles context.new.actor.now.known
             self.new }
         ensures consumer_unchanged { ConsumerUnchanged self.old self.new }
@@ -177,9 +170,7 @@ impl<'d, 'p, W: World, S: BlockSource<P> + Drop, P: Copy> ReadStream<'d, 'p, W, 
             context.old }
         requires underway { Underway S.left W.told W.relations W.handles context.old.actor.now.known
             self.old }
-        ensures context_advanced { ContextAdvanced E.Execute M.Method
-            context.old
-            context.new }
+        ensures context_advanced { ContextAdvanced E.Execute M.Method context.old context.new }
         ensures underway { Underway S.left W.told W.relations W.handles context.new.actor.now.known
             self.new }
         ensures consumer_unchanged { ConsumerUnchanged self.old self.new }

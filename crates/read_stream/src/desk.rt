@@ -81,8 +81,7 @@ impl<W: World, P: Copy> Desk<W, P> {
         context: &mut IoContext<W, M, E>,
         current: Option<ReadIo>,
     ) -> u64
-        requires valid_context { IsValidContext E.Execute W.told W.relations scope.now
-            context.old }
+        requires valid_context { IsValidContext E.Execute W.told W.relations scope.now context.old }
         requires settings { AreValidSettings self.old.settings }
         requires desk { (scope.now.combine ≡ self.old.settings.combine)
             × (scope.now.total ≡ self.old.settings.ios + 1)
@@ -92,9 +91,7 @@ impl<W: World, P: Copy> Desk<W, P> {
             self.old.reads }
         requires current { IfSome current (λ io. length io.pages ≡ scope.now.combine) }
         requires all { record_count self.old.reads + count_some current ≡ scope.now.total }
-        ensures context_advanced { ContextAdvanced E.Execute M.Method
-            context.old
-            context.new }
+        ensures context_advanced { ContextAdvanced E.Execute M.Method context.old context.new }
         ensures issued { Issued scope.now W.told W.relations context.new.actor.now.known
             self.new.reads }
         ensures free { IsFreeDesk self.new × (self.new.settings ≡ self.old.settings) }

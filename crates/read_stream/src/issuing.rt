@@ -118,17 +118,13 @@ impl<W: World> Reads<W> {
         context: &mut IoContext<W, M, E>,
         alone: bool,
     )
-        requires valid_context { IsValidContext E.Execute W.told W.relations scope.now
-            context.old }
+        requires valid_context { IsValidContext E.Execute W.told W.relations scope.now context.old }
         requires issued { Issued scope.now W.told W.relations context.old.actor.now.known self.old }
-        ensures context_advanced { ContextAdvanced E.Execute M.Method
-            context.old
-            context.new }
+        ensures context_advanced { ContextAdvanced E.Execute M.Method context.old context.new }
         ensures issued { Issued scope.now W.told W.relations context.new.actor.now.known self.new }
         ensures none { self.new.batch ≡ [] }
         ensures all { (record_count self.new ≡ record_count self.old)
-            × (ios_started self.new ≡ ios_started self.old)
-            × (self.new.free ≡ self.old.free) }
+            × (ios_started self.new ≡ ios_started self.old) × (self.new.free ≡ self.old.free) }
         ensures runs { (runs : List Run) → ReadsForRuns scope.now context.old.actor.now.known
             self.old runs → ReadsForRuns scope.now context.new.actor.now.known self.new runs }
     {
@@ -147,21 +143,17 @@ impl<W: World> Reads<W> {
         io: ReadIo,
         run: Run,
     ) -> Staged<ReadIo, W>
-        requires valid_context { IsValidContext E.Execute W.told W.relations scope.now
-            context.old }
+        requires valid_context { IsValidContext E.Execute W.told W.relations scope.now context.old }
         requires issued { Issued scope.now W.told W.relations context.old.actor.now.known self.old }
         requires relation { scope.now.relation < W.relations }
         requires record { length io.pages ≡ scope.now.combine }
         requires run { IsRun scope.now.combine run }
         requires few_ios { ios_started self.old < scope.now.most }
-        ensures context_advanced { ContextAdvanced E.Execute M.Method
-            context.old
-            context.new }
+        ensures context_advanced { ContextAdvanced E.Execute M.Method context.old context.new }
         ensures issued { IssuedExcept (result.0 ∷ []) scope.now W.told W.relations
             context.new.actor.now.known self.new }
-        ensures token { IsStaged context.new.actor.now.known result.0 × IsStreamRecord scope.now
-            result.1
-            × IsNewIncarnation scope.now result.0 }
+        ensures token { IsStaged context.new.actor.now.known result.0
+            × IsStreamRecord scope.now result.1 × IsNewIncarnation scope.now result.0 }
         ensures run { (result.1.first ≡ run.first) × (result.1.count ≡ run.count) }
         ensures apart { (u : WaitRef × ReadIoView) → IsIn u self.new.batch → (u.0 ≡ result.0 → ⊥) }
         ensures all { (record_count self.new ≡ record_count self.old)
@@ -199,8 +191,7 @@ impl<W: World> Reads<W> {
         run: Run,
         alone: bool,
     )
-        requires valid_context { IsValidContext E.Execute W.told W.relations scope.now
-            context.old }
+        requires valid_context { IsValidContext E.Execute W.told W.relations scope.now context.old }
         requires issued { Issued scope.now W.told W.relations context.old.actor.now.known self.old }
         requires relation { scope.now.relation < W.relations }
         requires few { length self.old.batch < 32 }
@@ -208,9 +199,7 @@ impl<W: World> Reads<W> {
         requires record { length io.pages ≡ scope.now.combine }
         requires run { IsRun scope.now.combine run }
         requires few_ios { ios_started self.old < scope.now.most }
-        ensures context_advanced { ContextAdvanced E.Execute M.Method
-            context.old
-            context.new }
+        ensures context_advanced { ContextAdvanced E.Execute M.Method context.old context.new }
         ensures issued { Issued scope.now W.told W.relations context.new.actor.now.known self.new }
         ensures few { length self.new.batch < 32 }
         ensures all { (record_count self.new ≡ record_count self.old + 1)
@@ -236,17 +225,14 @@ impl<W: World> Reads<W> {
         io: ReadIo,
         run: Run,
     ) -> ReadIo
-        requires valid_context { IsValidContext E.Execute W.told W.relations scope.now
-            context.old }
+        requires valid_context { IsValidContext E.Execute W.told W.relations scope.now context.old }
         requires issued { Issued scope.now W.told W.relations context.old.actor.now.known self.old }
         requires room { record_count self.old < scope.now.total }
         requires relation { scope.now.relation < W.relations }
         requires record { length io.pages ≡ scope.now.combine }
         requires run { IsRun scope.now.combine run }
         requires few_ios { ios_started self.old < scope.now.most }
-        ensures context_advanced { ContextAdvanced E.Execute M.Method
-            context.old
-            context.new }
+        ensures context_advanced { ContextAdvanced E.Execute M.Method context.old context.new }
         ensures issued { Issued scope.now W.told W.relations context.new.actor.now.known self.new }
         ensures record { IsTakenIn scope.now W.told W.relations context.new.actor.now.known result }
         ensures run { (result.first ≡ run.first) × (result.count ≡ run.count) }

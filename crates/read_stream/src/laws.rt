@@ -25,11 +25,10 @@ pub(crate) fn parts_are_answers<W: World, P: Copy>()
         → (p : Known) (io : ReadIoView) → IsTakenIn c told relations p io → CoversBlock io b
         → IsValidPart told io b Page → IsPage (record_page io (b - io.first))
         → IsNext (reader_of c.zero told) (MayBeUnread c.was.value p)
-        (stream_entries c.relation list) k
-        (page_answer c.relation b info (record_page io (b - io.first))
-        (record_zeroed io (b - io.first)))
-        × IfSome (reader_of c.zero told)
-        (λ f. k + 1 ≤ read_count f (stream_entries c.relation list)) }
+        (stream_entries c.relation list) k (page_answer c.relation b info
+        (record_page io (b - io.first)) (record_zeroed io (b - io.first)))
+        × IfSome (reader_of c.zero told) (λ f. k + 1 ≤ read_count f
+        (stream_entries c.relation list)) }
     ensures stop { (c : Scope W) (told : Option Told) (relations : ℕ) (list : List (ℕ × P))
         (k b : ℕ) (info : P) (rest : List (ℕ × P)) → drop k list ≡ (b, info) ∷ rest
         → IfSome (reader_of c.zero told) (λ f. k ≤ read_count f (stream_entries c.relation list))

@@ -33,9 +33,7 @@ impl<'d, 'p, W: World, S: BlockSource<P> + Drop, P: Copy> ReadStream<'d, 'p, W, 
         requires underway { UnderwayWith S.left W.told W.relations W.handles (block ∷ []) [] 0
             context.old.actor.now.known self.old }
         requires none { (self.old.current ≡ None) × (self.old.pin ≡ None) }
-        ensures context_advanced { ContextAdvanced E.Execute M.Method
-            context.old
-            context.new }
+        ensures context_advanced { ContextAdvanced E.Execute M.Method context.old context.new }
         ensures reaches { BlockIsAtHand S.left W.told W.relations W.handles block
             context.new.actor.now.known self.new }
         ensures look_ahead_unchanged { LookAheadUnchanged self.old self.new }
@@ -63,9 +61,7 @@ impl<'d, 'p, W: World, S: BlockSource<P> + Drop, P: Copy> ReadStream<'d, 'p, W, 
             context.old.actor.now.known self.old }
         requires none { (self.old.current ≡ None) × (self.old.pin ≡ None) }
         requires range { reference.handle < W.handles }
-        ensures context_advanced { ContextAdvanced E.Execute M.Method
-            context.old
-            context.new }
+        ensures context_advanced { ContextAdvanced E.Execute M.Method context.old context.new }
         ensures reaches { BlockIsAtHand S.left W.told W.relations W.handles block
             context.new.actor.now.known self.new }
         ensures look_ahead_unchanged { LookAheadUnchanged self.old self.new }
@@ -94,14 +90,11 @@ impl<'d, 'p, W: World, S: BlockSource<P> + Drop, P: Copy> ReadStream<'d, 'p, W, 
             [] 0 context.old.actor.now.known self.old }
         requires all_submitted { AllSubmitted context.old.actor.now.known }
         requires range { reference.handle < W.handles }
-        ensures context_advanced { ContextAdvanced E.Execute M.Method
-            context.old
-            context.new }
+        ensures context_advanced { ContextAdvanced E.Execute M.Method context.old context.new }
         ensures underway { (hand : List ℕ) → UnderwayWith S.left W.told W.relations W.handles hand
-            []
-            0 context.old.actor.now.known self.old
-            → UnderwayWith S.left W.told W.relations W.handles
-            hand [] 0 context.new.actor.now.known self.new }
+            [] 0 context.old.actor.now.known self.old
+            → UnderwayWith S.left W.told W.relations W.handles hand [] 0 context.new.actor.now.known
+            self.new }
         ensures consumer_unchanged { ConsumerUnchanged self.old self.new }
         ensures look_ahead_unchanged { LookAheadUnchanged self.old self.new }
         ensures done { HasSeenDone context.new.actor.now.known reference }
@@ -140,9 +133,7 @@ impl<'d, 'p, W: World, S: BlockSource<P> + Drop, P: Copy> ReadStream<'d, 'p, W, 
         requires underway { UnderwayWith S.left W.told W.relations W.handles (block ∷ []) [] 0
             context.old.actor.now.known self.old }
         requires none { (self.old.current ≡ None) × (self.old.pin ≡ None) }
-        ensures context_advanced { ContextAdvanced E.Execute M.Method
-            context.old
-            context.new }
+        ensures context_advanced { ContextAdvanced E.Execute M.Method context.old context.new }
         ensures reaches { BlockIsAtHand S.left W.told W.relations W.handles block
             context.new.actor.now.known self.new }
         ensures look_ahead_unchanged { LookAheadUnchanged self.old self.new }

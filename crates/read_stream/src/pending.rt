@@ -40,9 +40,7 @@ impl<'d, 'p, W: World, S: BlockSource<P> + Drop, P: Copy> ReadStream<'d, 'p, W, 
         requires plan { self.old.plan.ios_in_progress < 2 ^ 32 - 1 }
         requires few_ios { ios_started self.old.desk.now.reads < self.old.scope.most }
         requires room { length self.old.desk.now.wants.items < self.old.desk.now.wants.capacity }
-        ensures context_advanced { ContextAdvanced E.Execute M.Method
-            context.old
-            context.new }
+        ensures context_advanced { ContextAdvanced E.Execute M.Method context.old context.new }
         ensures issued { Issued self.new.scope W.told W.relations context.new.actor.now.known
             self.new.desk.now.reads }
         ensures few { length self.new.desk.now.reads.batch < 32 }
@@ -80,9 +78,7 @@ impl<'d, 'p, W: World, S: BlockSource<P> + Drop, P: Copy> ReadStream<'d, 'p, W, 
             (record_blocks_left self.old.current self.old.step) behind 0 context.old.actor.now.known
             self.old }
         requires free { 1 < length self.old.desk.now.reads.free.items }
-        ensures context_advanced { ContextAdvanced E.Execute M.Method
-            context.old
-            context.new }
+        ensures context_advanced { ContextAdvanced E.Execute M.Method context.old context.new }
         ensures underway { (behind : List ℕ) → UnderwayWith S.left W.told W.relations W.handles
             (record_blocks_left self.old.current self.old.step) behind 0 context.old.actor.now.known
             self.old → UnderwayWith S.left W.told W.relations W.handles
@@ -110,9 +106,7 @@ impl<'d, 'p, W: World, S: BlockSource<P> + Drop, P: Copy> ReadStream<'d, 'p, W, 
         requires underway { Underway S.left W.told W.relations W.handles context.old.actor.now.known
             self.old }
         requires free { 1 < length self.old.desk.now.reads.free.items }
-        ensures context_advanced { ContextAdvanced E.Execute M.Method
-            context.old
-            context.new }
+        ensures context_advanced { ContextAdvanced E.Execute M.Method context.old context.new }
         ensures underway { Underway S.left W.told W.relations W.handles context.new.actor.now.known
             self.new }
         ensures consumer_unchanged { ConsumerUnchanged self.old self.new }
@@ -153,9 +147,7 @@ impl<'d, 'p, W: World, S: BlockSource<P> + Drop, P: Copy> ReadStream<'d, 'p, W, 
             context.old }
         requires underway { Underway S.left W.told W.relations W.handles context.old.actor.now.known
             self.old }
-        ensures context_advanced { ContextAdvanced E.Execute M.Method
-            context.old
-            context.new }
+        ensures context_advanced { ContextAdvanced E.Execute M.Method context.old context.new }
         ensures underway { Underway S.left W.told W.relations W.handles context.new.actor.now.known
             self.new }
         ensures consumer_unchanged { ConsumerUnchanged self.old self.new }

@@ -37,9 +37,7 @@ impl<'d, 'p, W: World, S: BlockSource<P> + Drop, P: Copy> ReadStream<'d, 'p, W, 
             ≡ Some block }
         requires last { self.old.desk.now.wants.items ≡ [] → self.old.current ≡ None
             → self.old.plan.pending ≡ None }
-        ensures context_advanced { ContextAdvanced E.Execute M.Method
-            context.old
-            context.new }
+        ensures context_advanced { ContextAdvanced E.Execute M.Method context.old context.new }
         ensures reaches { BlockIsAtHand S.left W.told W.relations W.handles block
             context.new.actor.now.known self.new }
         ensures look_ahead_unchanged { LookAheadUnchanged self.old self.new }
@@ -71,9 +69,7 @@ impl<'d, 'p, W: World, S: BlockSource<P> + Drop, P: Copy> ReadStream<'d, 'p, W, 
             ≡ Some block }
         requires last { self.old.desk.now.wants.items ≡ [] → self.old.current ≡ None
             → self.old.plan.pending ≡ None }
-        ensures context_advanced { ContextAdvanced E.Execute M.Method
-            context.old
-            context.new }
+        ensures context_advanced { ContextAdvanced E.Execute M.Method context.old context.new }
         ensures reaches { BlockIsAtHand S.left W.told W.relations W.handles block
             context.new.actor.now.known self.new }
         ensures look_ahead_unchanged { LookAheadUnchanged self.old self.new }
@@ -99,9 +95,7 @@ impl<'d, 'p, W: World, S: BlockSource<P> + Drop, P: Copy> ReadStream<'d, 'p, W, 
             ≡ Some block }
         requires last { self.old.desk.now.wants.items ≡ [] → self.old.current ≡ None
             → self.old.plan.pending ≡ None }
-        ensures context_advanced { ContextAdvanced E.Execute M.Method
-            context.old
-            context.new }
+        ensures context_advanced { ContextAdvanced E.Execute M.Method context.old context.new }
         ensures reaches { BlockIsAtHand S.left W.told W.relations W.handles block
             context.new.actor.now.known self.new }
         ensures look_ahead_unchanged { LookAheadUnchanged self.old self.new }
@@ -150,9 +144,7 @@ impl<'d, 'p, W: World, S: BlockSource<P> + Drop, P: Copy> ReadStream<'d, 'p, W, 
         requires front_block { slice_get (map block_number self.old.desk.now.queue.items) 0
             ≡ Some block }
         requires run { slice_get self.old.desk.now.wants.items 0 ≡ Some (RunWant run) }
-        ensures context_advanced { ContextAdvanced E.Execute M.Method
-            context.old
-            context.new }
+        ensures context_advanced { ContextAdvanced E.Execute M.Method context.old context.new }
         ensures reaches { BlockIsAtHand S.left W.told W.relations W.handles block
             context.new.actor.now.known self.new }
         ensures look_ahead_unchanged { LookAheadUnchanged self.old self.new }
@@ -178,9 +170,7 @@ impl<'d, 'p, W: World, S: BlockSource<P> + Drop, P: Copy> ReadStream<'d, 'p, W, 
             ≡ Some block }
         requires run { slice_get self.old.desk.now.wants.items 0 ≡ Some (RunWant run) }
         requires batch_empty { self.old.desk.now.reads.batch ≡ [] }
-        ensures context_advanced { ContextAdvanced E.Execute M.Method
-            context.old
-            context.new }
+        ensures context_advanced { ContextAdvanced E.Execute M.Method context.old context.new }
         ensures reaches { BlockIsAtHand S.left W.told W.relations W.handles block
             context.new.actor.now.known self.new }
         ensures look_ahead_unchanged { LookAheadUnchanged self.old self.new }

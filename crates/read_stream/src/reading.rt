@@ -44,9 +44,7 @@ impl<'d, 'p, W: World, S: BlockSource<P> + Drop, P: Copy> ReadStream<'d, 'p, W, 
         requires record { length io.pages ≡ self.old.scope.combine }
         requires run { IsRun self.old.scope.combine run }
         requires few_ios { ios_started self.old.desk.now.reads < self.old.scope.most }
-        ensures context_advanced { ContextAdvanced E.Execute M.Method
-            context.old
-            context.new }
+        ensures context_advanced { ContextAdvanced E.Execute M.Method context.old context.new }
         ensures issued { Issued self.new.scope W.told W.relations context.new.actor.now.known
             self.new.desk.now.reads }
         ensures record { IfSome self.new.current (λ r. IsTakenIn self.new.scope W.told W.relations
@@ -78,9 +76,7 @@ impl<'d, 'p, W: World, S: BlockSource<P> + Drop, P: Copy> ReadStream<'d, 'p, W, 
         requires reaches { BlockIsAtHand S.left W.told W.relations W.handles block
             context.old.actor.now.known self.old }
         requires some { self.old.current ≢ None }
-        ensures context_advanced { ContextAdvanced E.Execute M.Method
-            context.old
-            context.new }
+        ensures context_advanced { ContextAdvanced E.Execute M.Method context.old context.new }
         ensures reaches { BlockIsAtHand S.left W.told W.relations W.handles block
             context.new.actor.now.known self.new }
         ensures look_ahead_unchanged { LookAheadUnchanged self.old self.new }
@@ -143,9 +139,7 @@ impl<'d, 'p, W: World, S: BlockSource<P> + Drop, P: Copy> ReadStream<'d, 'p, W, 
             context.old.actor.now.known self.old }
         requires some { self.old.current ≢ None }
         requires block_behind_first { IfSome self.old.current (λ io. io.first < block) }
-        ensures context_advanced { ContextAdvanced E.Execute M.Method
-            context.old
-            context.new }
+        ensures context_advanced { ContextAdvanced E.Execute M.Method context.old context.new }
         ensures reaches { BlockIsAtHand S.left W.told W.relations W.handles block
             context.new.actor.now.known self.new }
         ensures look_ahead_unchanged { LookAheadUnchanged self.old self.new }

@@ -43,19 +43,15 @@ impl<'d, 'p, W: World, S: BlockSource<P> + Drop, P: Copy> ReadStream<'d, 'p, W, 
             context.old }
         requires actor { context.old.actor.now ≡ self.old.actor_is.value }
         requires is_open { IsOpen S.left W.told W.relations W.handles self.old }
-        ensures context_advanced { ContextAdvanced E.Execute M.Method
-            context.old
-            context.new }
+        ensures context_advanced { ContextAdvanced E.Execute M.Method context.old context.new }
         ensures answer { IfPage (step_answer self.new.scope.relation self.new.step
-            (current_page self.new)) IsPage
-            → IsNext (reader_of self.old.scope.zero W.told)
+            (current_page self.new)) IsPage → IsNext (reader_of self.old.scope.zero W.told)
             (MayBeUnread self.old.scope.was.value context.new.actor.now.known)
             (stream_entries self.old.scope.relation (S.left self.old.source_was.value))
-            self.old.given
-            (step_answer self.new.scope.relation self.new.step (current_page self.new)) }
+            self.old.given (step_answer self.new.scope.relation self.new.step
+            (current_page self.new)) }
         ensures answer_repeated { IfStopped self.old.step (λ e. self.new.step ≡ Stop e) }
-        ensures view { stream_view S.left self.new
-            ≡ stream_after (stream_view S.left self.old)
+        ensures view { stream_view S.left self.new ≡ stream_after (stream_view S.left self.old)
             context.new.actor.now (step_answer self.new.scope.relation self.new.step
             (current_page self.new)) }
         ensures is_open { IsOpen S.left W.told W.relations W.handles self.new }
@@ -93,8 +89,7 @@ impl<'d, 'p, W: World, S: BlockSource<P> + Drop, P: Copy> ReadStream<'d, 'p, W, 
     // Whether the page that was lent last is the last one of its record.
     fn is_record_end(&self) -> bool
         requires lends_page { LendsCurrentPage W.told self.now.scope.relation self.now.pin
-            self.now.current
-            self.now.step }
+            self.now.current self.now.step }
         requires none { self.now.pin ≡ None }
         requires running { IfStopped self.now.step (λ _. ⊥) }
         ensures record_is_read { IsTrue result
@@ -134,14 +129,11 @@ impl<'d, 'p, W: World, S: BlockSource<P> + Drop, P: Copy> ReadStream<'d, 'p, W, 
             context.old }
         requires underway { (hand : List ℕ) × UnderwayWith S.left W.told W.relations W.handles hand
             [] 0 context.old.actor.now.known self.old }
-        ensures context_advanced { ContextAdvanced E.Execute M.Method
-            context.old
-            context.new }
+        ensures context_advanced { ContextAdvanced E.Execute M.Method context.old context.new }
         ensures underway { (hand : List ℕ) → UnderwayWith S.left W.told W.relations W.handles hand
-            []
-            0 context.old.actor.now.known self.old
-            → UnderwayWith S.left W.told W.relations W.handles
-            hand [] 0 context.new.actor.now.known self.new }
+            [] 0 context.old.actor.now.known self.old
+            → UnderwayWith S.left W.told W.relations W.handles hand [] 0 context.new.actor.now.known
+            self.new }
         ensures consumer_unchanged { ConsumerUnchanged self.old self.new }
         ensures look_ahead_unchanged { LookAheadUnchanged self.old self.new }
         ensures wants { self.new.desk.now.wants ≡ self.old.desk.now.wants }
@@ -167,24 +159,20 @@ impl<'d, 'p, W: World, S: BlockSource<P> + Drop, P: Copy> ReadStream<'d, 'p, W, 
             → self.old.plan.pending ≡ None }
         requires ended { self.old.desk.now.queue.items ≡ [] → self.old.current ≡ None
             → S.left self.old.source ≡ [] }
-        ensures context_advanced { ContextAdvanced E.Execute M.Method
-            context.old
-            context.new }
+        ensures context_advanced { ContextAdvanced E.Execute M.Method context.old context.new }
         ensures between { IsBetweenCalls S.left W.told W.relations W.handles
             context.new.actor.now.known self.new }
         ensures same_stream { SameStream self.old self.new }
         ensures answer { IfPage (step_answer self.new.scope.relation self.new.step
-            (current_page self.new)) IsPage
-            → IsNext (reader_of self.old.scope.zero W.told)
+            (current_page self.new)) IsPage → IsNext (reader_of self.old.scope.zero W.told)
             (MayBeUnread self.old.scope.was.value context.new.actor.now.known)
             (stream_entries self.old.scope.relation (S.left self.old.source_was.value))
-            self.old.given
-            (step_answer self.new.scope.relation self.new.step (current_page self.new)) }
-        ensures ending { step_ending self.new.step ≡ answered_stop (step_answer
-            self.new.scope.relation self.new.step (current_page self.new)) }
-        ensures pages_counted { self.new.given ≡ self.old.given
-            + pages_given (step_answer self.new.scope.relation self.new.step
+            self.old.given (step_answer self.new.scope.relation self.new.step
             (current_page self.new)) }
+        ensures ending { step_ending self.new.step ≡ answered_stop
+            (step_answer self.new.scope.relation self.new.step (current_page self.new)) }
+        ensures pages_counted { self.new.given ≡ self.old.given + pages_given
+            (step_answer self.new.scope.relation self.new.step (current_page self.new)) }
     {
         let Some(asked) = self.front_block() else {
             self.step = Step::Stop(Ending::End);

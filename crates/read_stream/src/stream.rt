@@ -192,8 +192,7 @@ impl<'d, 'p, W: World, S: BlockSource<P> + Drop, P: Copy> ReadStream<'d, 'p, W, 
     // The page of the block that the last step found.
     fn page(&self, block: u32) -> &Page
         requires has_current_page { HasCurrentPage W.told self.now.scope.relation self.now.pin
-            self.now.current
-            block }
+            self.now.current block }
         requires record { IfSome self.now.current (λ io. io.label.ended ≢ Unended) }
         ensures value { result.now ≡ page_at self.now.pin self.now.current block }
         ensures bytes { IsPage result.now }
@@ -210,8 +209,7 @@ impl<'d, 'p, W: World, S: BlockSource<P> + Drop, P: Copy> ReadStream<'d, 'p, W, 
     // Whether the page of the block that the last step found was zeroed.
     fn is_zeroed(&self, block: u32) -> bool
         requires has_current_page { HasCurrentPage W.told self.now.scope.relation self.now.pin
-            self.now.current
-            block }
+            self.now.current block }
         requires record { IfSome self.now.current (λ io. io.label.ended ≢ Unended) }
         ensures { result ≡ zeroed_at self.now.pin self.now.current block }
     {

@@ -40,8 +40,7 @@ fn run_workers<W: World + Send + Sync, D: Disk, R: Threads + Wait + Sync>(
     requires may { All (WorkerMayServe D.Disk W.told W.relations shared.now.table shared.now.queue)
         workers.old }
     ensures workers_served { AllWorkersServed D.Disk W.told W.relations shared.now.table
-        shared.now.queue
-        workers.old workers.new }
+        shared.now.queue workers.old workers.new }
 {
     thread::for_each_mut(
         rt,
@@ -65,8 +64,7 @@ pub(crate) fn serve_all<W: World + Send + Sync, D: Disk, R: Threads + Wait + Syn
     requires may { All (WorkerMayServe D.Disk W.told W.relations shared.now.table shared.now.queue)
         workers.items }
     ensures workers_served { AllWorkersServed D.Disk W.told W.relations shared.now.table
-        shared.now.queue
-        workers.items result.items }
+        shared.now.queue workers.items result.items }
 {
     run_workers(rt, shared, workers.as_mut_slice());
     workers
@@ -87,14 +85,12 @@ pub(crate) fn run_beside<
     run_state: RunState<W, D, A>,
 ) -> (Vec<Worker<W, D>>, RunState<W, D, A>)
     requires serve { All (WorkerMayServe D.Disk W.told W.relations shared.now.table
-        shared.now.queue)
-        workers.items }
+        shared.now.queue) workers.items }
     requires may { BackendsMayRunSource D.Disk W.told W.relations shared.now.table shared.now.queue
         A.JobSource (filter_of_skipping by_map) run_state.backends.items run_state.jobs.items
         run_state.job_source run_state.counts }
     ensures workers_served { AllWorkersServed D.Disk W.told W.relations shared.now.table
-        shared.now.queue
-        workers.items result.0.items }
+        shared.now.queue workers.items result.0.items }
     ensures advanced { JobSourceAdvanced D.Disk W.told W.relations shared.now.table shared.now.queue
         A.JobSource run_state.backends.items result.1.backends.items run_state.jobs.items
         result.1.jobs.items run_state.job_source result.1.job_source run_state.counts
@@ -106,17 +102,14 @@ pub(crate) fn run_beside<
         rt,
         move || -> Vec<Worker<W, D>>
             requires { All (WorkerMayServe D.Disk W.told W.relations shared.now.table
-                shared.now.queue)
-                workers.items × IsSync R.row }
+                shared.now.queue) workers.items × IsSync R.row }
             ensures { AllWorkersServed D.Disk W.told W.relations shared.entry.now.table
                 shared.entry.now.queue workers.items result.items }
         { serve_all(rt, shared, workers) },
         move || -> RunState<W, D, A>
             requires { BackendsMayRunSource D.Disk W.told W.relations shared.now.table
-                shared.now.queue
-                A.JobSource (filter_of_skipping by_map) run_state.backends.items
-                run_state.jobs.items
-                run_state.job_source run_state.counts × IsSync R.row }
+                shared.now.queue A.JobSource (filter_of_skipping by_map) run_state.backends.items
+                run_state.jobs.items run_state.job_source run_state.counts × IsSync R.row }
             ensures { JobSourceAdvanced D.Disk W.told W.relations shared.entry.now.table
                 shared.entry.now.queue A.JobSource run_state.backends.items result.backends.items
                 run_state.jobs.items result.jobs.items run_state.job_source result.job_source
@@ -135,13 +128,11 @@ pub(crate) fn round_beside<W: World + Send + Sync, D: Disk, R: Threads + Wait + 
     round_state: RoundState<W, D>,
 ) -> (Vec<Worker<W, D>>, RoundState<W, D>)
     requires serve { All (WorkerMayServe D.Disk W.told W.relations shared.now.table
-        shared.now.queue)
-        workers.items }
+        shared.now.queue) workers.items }
     requires may { StateMayMakeRound D.Disk W.told W.relations shared.now.table shared.now.queue
         round_state }
     ensures workers_served { AllWorkersServed D.Disk W.told W.relations shared.now.table
-        shared.now.queue
-        workers.items result.0.items }
+        shared.now.queue workers.items result.0.items }
     ensures made { StateMadeRound D.Disk W.told W.relations shared.now.table shared.now.queue
         (filter_of_skipping by_map.entry) round_state result.1 }
 {
@@ -149,8 +140,7 @@ pub(crate) fn round_beside<W: World + Send + Sync, D: Disk, R: Threads + Wait + 
         rt,
         move || -> Vec<Worker<W, D>>
             requires { All (WorkerMayServe D.Disk W.told W.relations shared.now.table
-                shared.now.queue)
-                workers.items × IsSync R.row }
+                shared.now.queue) workers.items × IsSync R.row }
             ensures { AllWorkersServed D.Disk W.told W.relations shared.entry.now.table
                 shared.entry.now.queue workers.items result.items }
         { serve_all(rt, shared, workers) },

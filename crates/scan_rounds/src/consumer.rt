@@ -25,10 +25,9 @@ pub(crate) trait Consumer: Drop {
     /// memory for the page, which is not taken then.
     fn take(&mut self, relation: u32, answer: Next<'_, ()>) -> Option<Ending>
         requires valid { IfPage (synchronous_answer relation answer) IsValid }
-        requires room { IfPage (synchronous_answer relation answer)
-            (λ _. (pages : List (Given (Unit {0})))
-            × holds self.old pages × All (λ g. IsValid g.page) pages
-            × (length pages < most self.old)) }
+        requires room { IfPage (synchronous_answer relation answer) (λ _.
+            (pages : List (Given (Unit {0}))) × holds self.old pages
+            × All (λ g. IsValid g.page) pages × (length pages < most self.old)) }
         ensures takes { AnswerConsumed (holds self.old) (holds self.new)
             (synchronous_answer relation answer.entry) result }
         ensures most { most self.new ≡ most self.old }

@@ -68,8 +68,7 @@ impl<W: World, D: Disk> DiskActor<W, D> {
         requires few { blocks.count ≤ C.most consumer.old }
         requires held { C.holds consumer.old [] }
         ensures read { ActorReadBlocks D.Disk W.told W.relations shared.now.table
-            (C.holds consumer.new)
-            self.old self.new desk.old desk.new blocks.entry result }
+            (C.holds consumer.new) self.old self.new desk.old desk.new blocks.entry result }
         ensures stands_on { M.stands_on method.new ≡ M.stands_on method.old }
         ensures consumer { C.is_same consumer.old consumer.new }
     {
@@ -113,8 +112,7 @@ impl<W: World, D: Disk> DiskActor<W, D> {
         requires ring { IsRingOf shared.now.queue ring }
         requires brand { L.queue ≡ Some shared.now.queue }
         ensures read { ActorReadBlocks D.Disk W.told W.relations shared.now.table
-            (C.holds consumer.new)
-            self.old self.new desk.old desk.new blocks.entry result.1 }
+            (C.holds consumer.new) self.old self.new desk.old desk.new blocks.entry result.1 }
         ensures ring { IsRingOf shared.now.queue result.0 }
         ensures stands_on { M.stands_on method.new ≡ M.stands_on method.old }
         ensures consumer { C.is_same consumer.old consumer.new }
@@ -162,8 +160,7 @@ impl<W: World, D: Disk> DiskActor<W, D> {
         requires held { C.holds consumer.old [] }
         requires ring { IfSome ring.old (IsRingOf shared.now.queue) }
         ensures read { ActorReadBlocks D.Disk W.told W.relations shared.now.table
-            (C.holds consumer.new)
-            self.old self.new desk.old desk.new blocks.entry result }
+            (C.holds consumer.new) self.old self.new desk.old desk.new blocks.entry result }
         ensures ring { IfSome ring.new (IsRingOf shared.now.queue) }
         ensures stands_on { M.stands_on method.new ≡ M.stands_on method.old }
         ensures consumer { C.is_same consumer.old consumer.new }
@@ -196,8 +193,8 @@ impl<W: World, D: Disk> DiskActor<W, D> {
             job.old }
         requires ring { IfSome ring.old (IsRingOf shared.now.queue) }
         ensures listed { ActorListedJob D.Disk W.told W.relations shared.now.table
-            (filter_of_skipping
-            by_map.entry) tuples self.old self.new desk.old desk.new job.old job.new }
+            (filter_of_skipping by_map.entry) tuples self.old self.new desk.old desk.new job.old
+            job.new }
         ensures ring { IfSome ring.new (IsRingOf shared.now.queue) }
         ensures stands_on { M.stands_on method.new ≡ M.stands_on method.old }
     {
@@ -229,10 +226,9 @@ impl<W: World, D: Disk> DiskActor<W, D> {
             (map_blocks relation pages) }
         requires pages { pages ≡ map.old.pages }
         requires none { (map.old.added ≡ []) × (warnings.old.items ≡ []) }
-        ensures read { ActorReadBlocks D.Disk W.told W.relations shared.now.table (MapHasPages
-            map.new
-            warnings.new.items) self.old self.new desk.old desk.new (map_blocks relation pages)
-            result }
+        ensures read { ActorReadBlocks D.Disk W.told W.relations shared.now.table
+            (MapHasPages map.new warnings.new.items) self.old self.new desk.old desk.new
+            (map_blocks relation pages) result }
         ensures pages { map.new.pages ≡ map.old.pages }
     {
         let blocks = Blocks {

@@ -47,9 +47,8 @@ fn show_page(
 ) -> Result<(), AllocError>
     requires valid { IsValid page.now }
     requires fit { FitSums (sums_with_page sums.old page.now) }
-    ensures ok { OnOk result
-        ((text.new.items ≡ text.old.items ++ text_with tuples relation block page.now)
-        × (sums.new ≡ sums_with_page sums.old page.now)) }
+    ensures ok { OnOk result ((text.new.items ≡ text.old.items ++ text_with tuples relation block
+        page.now) × (sums.new ≡ sums_with_page sums.old page.now)) }
     ensures err { OnErr result ((text.new.items ≡ text.old.items) × (sums.new ≡ sums.old)) }
 {
     put_text(tuples, relation, block, page, text)?;
@@ -69,9 +68,8 @@ fn show_zeroed(
 ) -> Result<(), AllocError>
     requires valid { IsValid page.now }
     requires fit { FitSums (sums_with_page sums.old page.now) }
-    ensures ok { OnOk result
-        ((text.new.items ≡ text.old.items ++ text_with tuples relation block page.now)
-        × (warnings.new.items ≡ warnings.old.items ++ warning_line relation block)
+    ensures ok { OnOk result ((text.new.items ≡ text.old.items ++ text_with tuples relation block
+        page.now) × (warnings.new.items ≡ warnings.old.items ++ warning_line relation block)
         × (sums.new ≡ sums_with_page sums.old page.now)) }
     ensures err { OnErr result ((text.new.items ≡ text.old.items)
         × (warnings.new.items ≡ warnings.old.items) × (sums.new ≡ sums.old)) }

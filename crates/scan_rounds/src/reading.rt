@@ -104,8 +104,8 @@ pub(crate) fn read<W: World, M: Method<ReadIo, W>, E: Execute<ReadIo, W>, T: Wai
         ≤ local_mark_count actor.old.known.marks + length (entries_of_blocks blocks.entry) }
     ensures desk { IsFreeDesk desk.new × (desk.new.settings.zero ≡ desk.old.settings.zero) }
     ensures given { PagesConsumed (C.holds consumer.new) desk.old.settings.zero W.told
-        (MayBeUnread actor.old actor.new.known) (entries_of_blocks blocks.entry) (answered_ending
-        result) }
+        (MayBeUnread actor.old actor.new.known) (entries_of_blocks blocks.entry)
+        (answered_ending result) }
     ensures consumer { C.is_same consumer.old consumer.new }
 {
     let relation = blocks.relation;

@@ -62,9 +62,8 @@ impl<W: World + Send + Sync, D: Disk> Scan<W, D> {
         jobs: &mut [Job],
     )
         requires may { ScanMayMakeRound D.Disk W.told W.relations self.old jobs.old }
-        ensures made_round { ScanMadeRound D.Disk W.told W.relations (filter_of_skipping by_map.entry)
-            self.old
-            self.new jobs.old jobs.new }
+        ensures made_round { ScanMadeRound D.Disk W.told W.relations
+            (filter_of_skipping by_map.entry) self.old self.new jobs.old jobs.new }
     {
         let Scan {
             alloc,
@@ -105,9 +104,8 @@ impl<W: World + Send + Sync, D: Disk> Scan<W, D> {
         by_map: Option<MapFilter<'_>>,
         job_source: A,
     ) -> A
-        requires may { ScanMayRunSource D.Disk W.told W.relations A.JobSource (filter_of_skipping
-            by_map) self.old
-            job_source }
+        requires may { ScanMayRunSource D.Disk W.told W.relations A.JobSource
+            (filter_of_skipping by_map) self.old job_source }
         ensures ran_source { ScanRanSource D.Disk W.told W.relations A.JobSource self.old self.new
             job_source result }
     {

@@ -80,8 +80,8 @@ fn make_round<W: World + Send + Sync, D: Disk, R: Threads + Wait + Sync>(
     requires may { BackendsMayMakeRound D.Disk W.told W.relations shared.now.table shared.now.queue
         backends.old jobs.old counts.old }
     ensures made { RoundMade D.Disk W.told W.relations shared.now.table shared.now.queue
-        (filter_of_skipping
-        by_map.entry) backends.old backends.new jobs.old jobs.new counts.old counts.new }
+        (filter_of_skipping by_map.entry) backends.old backends.new jobs.old jobs.new counts.old
+        counts.new }
 {
     *counts = take_turn(rt, shared, by_map, 1, backends, jobs, *counts);
     close_queue(rt, shared, backends, *counts);

@@ -36,8 +36,7 @@ impl<'m> UnskippedBlocks<'m> {
     pub(crate) fn new(blocks: Blocks<'m>) -> UnskippedBlocks<'m>
         requires within { blocks.first + blocks.count ≤ 2 ^ 32 }
         ensures { result ≡ unskipped_source (filter_of_skipping blocks.entry.by_map)
-            blocks.entry.first
-            blocks.entry.count }
+            blocks.entry.first blocks.entry.count }
     {
         let kept = UnskippedTest {
             by_map: blocks.by_map,

@@ -34,15 +34,12 @@ fn do_jobs<W: World, D: Disk, R: Wait>(
     jobs: &mut [Job],
 )
     requires may { BackendsMayTakeTurn D.Disk W.told W.relations shared.now.table shared.now.queue
-        (length
-        jobs.old) (backend.old ∷ []) jobs.old }
+        (length jobs.old) (backend.old ∷ []) jobs.old }
     ensures done { BackendsTookTurn D.Disk W.told W.relations shared.now.table shared.now.queue
-        (filter_of_skipping
-        by_map.entry) (64 * length jobs.old) (backend.old ∷ []) (backend.new ∷ []) jobs.old
-        jobs.new }
+        (filter_of_skipping by_map.entry) (64 * length jobs.old) (backend.old ∷ [])
+        (backend.new ∷ []) jobs.old jobs.new }
     ensures alone { ListedAlone W.told (filter_of_skipping by_map.entry) backend.old backend.new
-        jobs.old
-        jobs.new }
+        jobs.old jobs.new }
     ensures backend_same { length jobs.old ≡ 0 → backend.new ≡ backend.old }
 {
     if let Some((job, later)) = jobs.split_first_mut() {
@@ -62,15 +59,13 @@ fn do_jobs_within<W: World, D: Disk, R: Wait>(
     jobs: &mut [Job],
 )
     requires may { BackendsMayTakeTurn D.Disk W.told W.relations shared.now.table shared.now.queue
-        share
-        (backend.old ∷ []) jobs.old }
+        share (backend.old ∷ []) jobs.old }
     requires few { length jobs.old ≤ share }
     ensures done { BackendsTookTurn D.Disk W.told W.relations shared.now.table shared.now.queue
-        (filter_of_skipping
-        by_map.entry) (64 * share) (backend.old ∷ []) (backend.new ∷ []) jobs.old jobs.new }
+        (filter_of_skipping by_map.entry) (64 * share) (backend.old ∷ []) (backend.new ∷ [])
+        jobs.old jobs.new }
     ensures alone { ListedAlone W.told (filter_of_skipping by_map.entry) backend.old backend.new
-        jobs.old
-        jobs.new }
+        jobs.old jobs.new }
 {
     let _ = share;
     do_jobs(rt, shared, by_map, backend, jobs);
@@ -88,11 +83,9 @@ fn do_shares<W: World + Send + Sync, D: Disk, R: Threads + Wait + Sync>(
     requires some { 1 ≤ length backends.old }
     requires fit { length jobs.old ≤ share * length backends.old }
     requires may { BackendsMayTakeTurn D.Disk W.told W.relations shared.now.table shared.now.queue
-        share
-        backends.old jobs.old }
+        share backends.old jobs.old }
     ensures done { BackendsTookTurn D.Disk W.told W.relations shared.now.table shared.now.queue
-        (filter_of_skipping
-        by_map.entry) (64 * share) backends.old backends.new jobs.old jobs.new }
+        (filter_of_skipping by_map.entry) (64 * share) backends.old backends.new jobs.old jobs.new }
     ensures by_place { share ≡ 1 → (m : ListOptions) → AllHaveOptions m backends.old
         → AllJobsListed (filter_of_skipping by_map.entry) m W.told backends.old backends.new
         jobs.old jobs.new }
@@ -101,14 +94,12 @@ fn do_shares<W: World + Send + Sync, D: Disk, R: Threads + Wait + Sync>(
         rt,
         &|backend: &mut Backend<W, D>, own: &mut [Job]|
             requires { BackendsMayTakeTurn D.Disk W.told W.relations shared.now.table
-                shared.now.queue share
-                (backend.old ∷ []) own.old × (length own.old ≤ share) }
+                shared.now.queue share (backend.old ∷ []) own.old × (length own.old ≤ share) }
             ensures { BackendsTookTurn D.Disk W.told W.relations shared.entry.now.table
-                shared.entry.now.queue (filter_of_skipping by_map.entry) (64 * share) (backend.old
-                ∷ [])
-                (backend.new ∷ []) own.old own.new × ListedAlone W.told (filter_of_skipping
-                by_map.entry)
-                backend.old backend.new own.old own.new }
+                shared.entry.now.queue (filter_of_skipping by_map.entry) (64 * share)
+                (backend.old ∷ []) (backend.new ∷ []) own.old own.new
+                × ListedAlone W.told (filter_of_skipping by_map.entry) backend.old backend.new
+                own.old own.new }
         { do_jobs_within(rt, shared, by_map, share, backend, own) },
         share,
         backends,
@@ -137,8 +128,7 @@ pub(crate) fn take_turn<W: World + Send + Sync, D: Disk, R: Threads + Wait + Syn
     ensures backends { All (IsBackend D.Disk W.told W.relations shared.now.table shared.now.queue)
         backends.new }
     ensures actors_advanced { AllActorsAdvanced D.Disk W.told W.relations shared.now.table
-        (map backend_disk_actor
-        backends.old) (map backend_disk_actor backends.new) }
+        (map backend_disk_actor backends.old) (map backend_disk_actor backends.new) }
     ensures answered { (m : ListOptions) → AllHaveOptions m backends.old
         → AllJobsAnswered (filter_of_skipping by_map.entry) m W.told jobs.old jobs.new }
     ensures by_place { share ≡ 1 → (m : ListOptions) → AllHaveOptions m backends.old
@@ -146,12 +136,10 @@ pub(crate) fn take_turn<W: World + Send + Sync, D: Disk, R: Threads + Wait + Syn
         jobs.old jobs.new }
     ensures options { (m : ListOptions) → AllHaveOptions m backends.old
         → AllHaveOptions m backends.new }
-    ensures room { IsLeastRoom backends.new result.room
-        × (counts.room ≤ result.room + 64 * share) }
+    ensures room { IsLeastRoom backends.new result.room × (counts.room ≤ result.room + 64 * share) }
     ensures unread { result.unread ≡ count_plus (unread_job_count jobs.new) counts.unread }
-    ensures results_bound { results_taken_count backends.new
-        ≤ results_taken_count backends.old + count_unskipped (filter_of_skipping by_map.entry)
-        jobs.old }
+    ensures results_bound { results_taken_count backends.new ≤ results_taken_count backends.old
+        + count_unskipped (filter_of_skipping by_map.entry) jobs.old }
     ensures results { result.unread ≤ failed_results_taken backends.new }
 {
     do_shares(rt, shared, by_map, share, backends, jobs);
