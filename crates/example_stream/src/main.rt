@@ -1,13 +1,17 @@
 //! A read stream by itself: one backend reads ten blocks of a relation in memory, and the disk's
-//! log shows which neighbours were combined into one read.
+//! log shows which neighbours were combined into one read. Then it counts the line pointers of the
+//! same blocks, whose pages the pool has by now.
 #![tactic(auto)]
 
 ghost use Rattle.std.specs.Prelude.{◌≡◌, ◌<◌};
+ghost use Rattle.read_stream.specs.Desks.{AreValidSettings};
 
 mod answers;
+mod items;
 mod shelf;
 
 use crate::answers::take_all;
+use crate::items::count_items;
 use crate::shelf::{make_shelf, open_disk};
 use aio_callback::ReadIo;
 use aio_disk::{Disk, SteadyDisk};
@@ -21,7 +25,23 @@ use std::io;
 use std::marker::Brand;
 use std::sync::Wait;
 
-/// Reads blocks 0 to 9 of relation 0 through a stream, and gives the disk back.
+/// At most 4 blocks in one read, 4 reads under way, and 16 blocks ahead.
+fn settings(full: bool) -> Settings
+    ensures { AreValidSettings result }
+{
+    Settings {
+        combine: 4,
+        ios: 4,
+        limit: 16,
+        full,
+        batch: false,
+        segment: 131072,
+        zero: false,
+    }
+}
+
+/// Reads blocks 0 to 9 of relation 0 through a stream, counts their line pointers through another,
+/// and gives the disk back.
 fn read_ten<W: World, D: Disk, R: Wait + Print + AllocGlobal>(
     rt: &R,
     disk: D,
@@ -31,20 +51,10 @@ fn read_ten<W: World, D: Disk, R: Wait + Print + AllocGlobal>(
     requires told { (D.told disk ≡ W.told) × (D.relations disk ≡ W.relations) }
     requires relation { 0 < W.relations }
 {
-    // At most 4 blocks in one read, 4 reads under way, and 16 blocks ahead.
-    let settings = Settings {
-        combine: 4,
-        ios: 4,
-        limit: 16,
-        full,
-        batch: false,
-        segment: 131072,
-        zero: false,
-    };
     // One backend with four handles, and no runner: the sync method executes each I/O in place.
     let (table, mut actors) = Table::<ReadIo, W>::open(rt.alloc(), 1, 4, 0, 0)?;
     let pool = Pool::<W>::open(rt.alloc(), 16)?;
-    let mut desk = Desk::open(rt.alloc(), &settings)?;
+    let mut desk = Desk::open(rt.alloc(), &settings(full))?;
     let mut runner = Runner {
         disk,
         places: &pool,
@@ -52,12 +62,24 @@ fn read_ten<W: World, D: Disk, R: Wait + Print + AllocGlobal>(
     if let Some(mut actor) = actors.pop()
         && actor.room() >= 10
     {
-        let blocks = Range::new(0, 10);
-        let mut stream = ReadStream::open(&mut desk, &pool, &actor, 0, blocks);
+        let mut stream = ReadStream::open(&mut desk, &pool, &actor, 0, Range::new(0, 10));
         let taken = take_all(rt, &table, &mut actor, &mut runner, &mut stream);
         // A stream cannot be forgotten: until it is closed, I/Os of its own may be under way.
-        let _ = stream.close(rt, &table, &mut actor, &mut SyncMethod, &mut runner);
+        let (_, desk) = stream.close(rt, &table, &mut actor, &mut SyncMethod, &mut runner);
         taken?;
+        if actor.room() >= 10 {
+            let (items, pages) = count_items(
+                rt,
+                &table,
+                &pool,
+                &mut actor,
+                desk,
+                &mut runner,
+                0,
+                10,
+            );
+            println!(rt; "{pages} pages have {items} line pointers")?;
+        }
     }
     let Runner { disk, places: _ } = runner;
     Ok(disk)

@@ -169,6 +169,7 @@ impl Plan {
     /// Whether another block may be taken from the source.
     pub fn may_look_ahead(&self) -> bool
         ensures room { IsTrue result ↔ MayLookAhead self.now }
+        ensures sound { IsSoundPlan self.now }
         // Where nothing is ahead and no I/O is in progress.
         ensures idle { self.now.blocks_ahead ≡ 0 → self.now.ios_in_progress ≡ 0 → IsTrue result }
     {

@@ -2,7 +2,7 @@
 ghost use Rattle.std.specs.Prelude.{◌≡◌, ◌<◌, ◌≤◌, ◌+◌, ◌-◌, ◌^◌, [], ◌∷◌, length, IsTrue, IfSome};
 ghost use Rattle.std.specs.Prelude.{true, false, ◌⊎◌};
 ghost use Rattle.read_stream.specs.IoContexts.{IsValidContext, ContextAdvanced};
-ghost use Rattle.read_plan.specs.Plans.{MayLookAhead};
+ghost use Rattle.read_plan.specs.Plans.{IsSoundPlan, MayLookAhead};
 ghost use Rattle.read_stream.specs.WantedBlocks.{IsValidWant, blocks_of_want, runs_of_want};
 ghost use Rattle.read_stream.specs.PagesAtHand.{record_blocks_left};
 ghost use Rattle.read_stream.specs.StreamState.{Underway, UnderwayWith};
@@ -127,7 +127,7 @@ impl<'d, 'p, W: World, S: BlockSource<P> + Drop, P: Copy> ReadStream<'d, 'p, W, 
             context.old }
         requires underway { Underway S.left W.told W.relations W.handles context.old.actor.now.known
             self.old }
-        requires ahead { MayLookAhead self.old.plan }
+        requires ahead { MayLookAhead self.old.plan × IsSoundPlan self.old.plan }
         ensures context_advanced { ContextAdvanced E.Execute M.Method context.old context.new }
         ensures underway { Underway S.left W.told W.relations W.handles context.new.actor.now.known
             self.new }
@@ -135,9 +135,7 @@ impl<'d, 'p, W: World, S: BlockSource<P> + Drop, P: Copy> ReadStream<'d, 'p, W, 
         ensures progress { IsTrue self.new.over
             ⊎ (self.new.plan.blocks_ahead ≡ self.old.plan.blocks_ahead + 1) }
         ensures no_less { self.old.plan.blocks_ahead ≤ self.new.plan.blocks_ahead }
-        ensures few { self.old.plan.blocks_ahead < 16384 }
     {
-        let _ = self.plan.distance();
         let Some(taken) = self.source.next() else {
             self.over = true;
             return;
@@ -152,7 +150,7 @@ impl<'d, 'p, W: World, S: BlockSource<P> + Drop, P: Copy> ReadStream<'d, 'p, W, 
 
     // Whether another block is to be taken from the source.
     pub(crate) fn wants_more(&self) -> bool
-        ensures more { IsTrue result → MayLookAhead self.now.plan }
+        ensures more { IsTrue result → MayLookAhead self.now.plan × IsSoundPlan self.now.plan }
         ensures not_over { IsTrue result → self.now.over ≡ false }
         ensures idle { (IsTrue result → ⊥) → self.now.plan.blocks_ahead ≡ 0
             → self.now.plan.ios_in_progress ≡ 0 → self.now.over ≡ true }

@@ -34,7 +34,10 @@ pub loop-self-smaller : goal.loop-self-smaller
 loop-self-smaller g c =
     let s : ReadStream g.row.W.Denot g.row.S.Denot g.row.P.Denot = c.loop-self.self in
     let n : ReadStream g.row.W.Denot g.row.S.Denot g.row.P.Denot = c.take_next.new.self in
-    let few = c.take_next.ensures.few in
+    let ahead = c.wants_more.ensures.more c.loop-self-test.true in
+    let near = ahead.0.0 in
+    let far = ahead.1.distance in
+    let few = ahead.1.limit in
     let less = c.take_next.ensures.no_less in
     let was = not-false s.over (c.wants_more.ensures.not_over c.loop-self-test.true) in
     let most = at-most n.over in

@@ -13,8 +13,8 @@ offer-requires-clause-underway g c =
       block = c.in-Some.taken.0;
       per_buffer_data = c.in-Some.taken.1;
     } in
-    let near = c.requires.ahead.0 in
-    let far = c.distance.ensures in
+    let near = c.requires.ahead.0.0 in
+    let far = c.requires.ahead.1.distance in
     underway_enqueued g.S.BlockSource.left g.W.World.told g.W.World.relations g.W.World.handles
     c.args.context.now.actor.now.known c.args.context.now.actor.now.known s c.enqueue.new.self
     c.next.new.self
@@ -28,8 +28,8 @@ look_for-requires-clause-underway g c =
       block = c.in-Some.taken.0;
       per_buffer_data = c.in-Some.taken.1;
     } in
-    let near = c.requires.ahead.0 in
-    let far = c.distance.ensures in
+    let near = c.requires.ahead.0.0 in
+    let far = c.requires.ahead.1.distance in
     subst (λ (z : List ℕ). UnderwayWith g.S.BlockSource.left g.W.World.told g.W.World.relations
     g.W.World.handles (record_blocks_left n.current n.step) z 0 c.args.context.now.actor.now.known
     n)
