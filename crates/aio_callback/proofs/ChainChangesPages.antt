@@ -48,11 +48,6 @@ pub all_read : (pages : List (List ℕ)) → AllMatchMarks (none_zeroed (length 
 all_read [] = tt
 all_read (p ∷ ps) = (refl, all_read ps)
 
-zeros_stay : (bad : Bool) (page : List ℕ) → page ≡ zero_page
-    → (if bad then zero_page else page) ≡ zero_page
-zeros_stay true page e = refl
-zeros_stay false page e = e
-
 match_if_bad : (bad mark : Bool) (read page : List ℕ) → is_bad page ≡ bad → PageMatchesMark mark read page
     → PageMatchesMark (bad || mark) read (if bad then zero_page else page)
 match_if_bad true false read page e h = record { zeros = refl; bad = sym (ap is_bad h) ∙ e }
@@ -118,15 +113,6 @@ matching_pages [] (r ∷ rs) ps h = absurd h
 matching_pages (m ∷ ms) [] ps h = absurd h
 matching_pages (m ∷ ms) (r ∷ rs) [] h = absurd h
 matching_pages (m ∷ ms) (r ∷ rs) (p ∷ ps) h = (let e = matching_pages ms rs ps h.1 in omega arith)
-
-pub held_marks : (ms : List Bool) (rs ps : List (List ℕ)) → AllMatchMarks ms rs ps
-    → length ms ≡ length rs
-held_marks [] [] [] h = refl
-held_marks [] [] (p ∷ ps) h = absurd h
-held_marks [] (r ∷ rs) ps h = absurd h
-held_marks (m ∷ ms) [] ps h = absurd h
-held_marks (m ∷ ms) (r ∷ rs) [] h = absurd h
-held_marks (m ∷ ms) (r ∷ rs) (p ∷ ps) h = (let e = held_marks ms rs ps h.1 in omega arith)
 
 pub match_at : (ms : List Bool) (rs ps : List (List ℕ)) (i : ℕ) → i < length rs → AllMatchMarks ms rs ps
     → PageMatchesMark (get_or ms i false) (get_or rs i []) (get_or ps i [])

@@ -28,12 +28,6 @@ check_first ZeroBuffer ids e = inr refl
 check_first File ids e = absurd (cc)
 check_first Count ids e = absurd (cc)
 
-file_first : (id : CallbackId) → is_file id ≡ true → id ≡ File
-file_first File e = refl
-file_first Buffer e = absurd (cc)
-file_first ZeroBuffer e = absurd (cc)
-file_first Count e = absurd (cc)
-
 some_file : (ids : List CallbackId) → has_file ids ≡ true → (j : ℕ) × (slice_get ids j ≡ Some File)
 some_file [] e = absurd (cc)
 some_file (File ∷ ids) e = (0, refl)

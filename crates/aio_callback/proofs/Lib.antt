@@ -6,7 +6,5 @@ pub mod AnswerCompletes
 pub mod StreamReadEnds
 pub mod FinishesGrow
 pub mod FirstPagesRead
-pub mod ListRefill
 pub mod AimNamesRead
 pub mod BadPagesZeroed
-mod PageRow

@@ -59,9 +59,6 @@ bad_within n i pages e =
     let l = length-take n pages in
     let b = s.0 in (omega arith, s.1)
 
-file_nothing : (count : ℕ) → after_file count (raw_result (Read 0)) ≡ result_of 1 Error 2 (pos 0)
-file_nothing count = refl
-
 file_some : (count n : ℕ) → 0 < n → after_file count (raw_result (Read n))
     ≡ (if nat_lt n count then result_of 1 Partial 0 (pos n) else result_of 0 Good 0 (pos n))
 file_some count n some =

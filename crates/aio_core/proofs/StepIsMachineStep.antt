@@ -57,11 +57,6 @@ module _ (c : Config) (m : Machine) (e : Event) (w : Word) where
     machine-after-none h = (λ k. checked_update c m e (here k) (slice_get m.lists e.actor))
         ∙ machine-after-none-with (slice_get m.lists e.actor) h
 
--- a handle out of range has no event
-pub out-of-range : (c : Config) (m : Machine) (e : Event) → slice_get m.words e.handle ≡ None
-    → machine_after c m e ≡ None
-out-of-range c m e h = λ k. checked_update c m e (h k) (slice_get m.lists e.actor)
-
 permits-in : (c : Config) (m : Machine) (e : Event) (o : Option (List Mark))
     → slice_get m.lists e.actor ≡ o → list_permits c m e o ≡ true → e.actor < length m.lists
 permits-in c m e None at permitted = absurd (cc)

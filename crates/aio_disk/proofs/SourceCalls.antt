@@ -36,19 +36,6 @@ passed_both b m a f i g j first second =
           ∙ ap (λ (n : ℕ). option_map (with_failures (f + g) n) b) sum,
     )
 
-same_by : (b : Option Source) → b ≡ option_map (with_failures 0 0) b
-same_by None = refl
-same_by (Some s) =
-    let faults : s.faults ≡ s.faults + 0 = omega arith in
-    let interrupts : s.interrupts ≡ s.interrupts + 0 = omega arith in
-    ap {B = Option Source} (λ (x : Source). Some x) (rw (← faults, ← interrupts) refl)
-
-pub none_failed : (b : Option Source) → NoneFailed b b
-none_failed b = (0, same_by b)
-
-pub none_failed_still : (b m a : Option Source) → NoneFailed b m → a ≡ m → NoneFailed b a
-none_failed_still b m a first same = (first.0, same ∙ first.1)
-
 pub none_failed_both : (b m a : Option Source) → NoneFailed b m → NoneFailed m a → NoneFailed b a
 none_failed_both b m a first second = passed_both b m a 0 0 0 0 first second
 

@@ -161,15 +161,3 @@ module _ {c : Config} {own : List OwnHandle} {turn claims : ℕ} {b : Bool} wher
         (λ x. absurd (false-true x)),
         (λ t. absurd (none-some t.0 (sym (ap (λ (z : Known). z.out) m.is) ∙ t.1))),
       ) r
-
--- what is remembered at the start
-pub caches-initial : (c : Config) (own : List OwnHandle) (p : Known) → MatchesOwnHandles c own p
-    → p.marks ≡ []
-    → p.out ≡ None → CachesOwnHandles c own 0 false 0 p
-caches-initial c own p o em eo = record {
-  own_handles_match = o;
-  only_past_reclaimed = λ h g own-h le. ap (count_at_rank h (8 * g + 7)) em;
-  turn_in_range = omega arith;
-  out = ((λ x. absurd (false-true x)), (λ t. absurd (none-some t.0 (sym eo ∙ t.1))));
-  counted = ap (λ (z : List Mark). min (claimed_mark_count z) (2 ^ 128 - 1)) (sym em);
-}

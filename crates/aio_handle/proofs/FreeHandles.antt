@@ -13,7 +13,6 @@ use Rattle.aio_word.specs.Events.{handle_count, count_at_rank, wait_ref}
 use Rattle.aio_handle.specs.declared.own_handles.OwnHandle.{OwnHandle}
 use Rattle.aio_handle.specs.CallEvents.{generation_of}
 use Rattle.aio_handle.specs.FreeHandles.{IsFree, HasOneOut, HasNoneFree, IsRoom}
-use Rattle.aio_handle.specs.EndStates.{HasNoOwnerTokens}
 use Rattle.aio_handle.specs.OwnHandles.{own_at, IsFreeHandle, HasRoom}
 use Rattle.aio_handle.specs.OwnHandleCache.{own_handle, handle_at, MatchesOwnHandles}
 use Rattle.aio_handle.specs.OwnHandleCache.{OnlyPastReclaimed}
@@ -169,14 +168,3 @@ room-told c own p room some' o r = record {
         omega arith,
       );
 }
-
--- an actor at rest that has room is never refused: a handle of its own is free
-pub served-at-rest : (c : Config) (p : Known) (room : ℕ) → p.number < c.backends
-    → IsRoom c p (room + 1) → HasNoOwnerTokens p → HasNoneFree c p → ⊥
-served-at-rest c p room backend r rests none =
-    let (h, lt, own-h, is) = r.exact backend in
-    ⊎_elim (λ le. omega arith)
-    (λ amid.
-    let past_marks = rests.1 (wait_ref h (generation_of c p h)) in
-    let one = amid.0 in
-    let two = amid.1 in omega arith) (none h lt own-h)

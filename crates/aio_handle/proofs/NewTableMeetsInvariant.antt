@@ -6,7 +6,7 @@ use Rattle.std.proofs.Common.{slice_get}
 use Rattle.std.proofs.lemmas.Bool.Decides.{nat_tests}
 use mathlib.Core.Logic.{dite}
 use native.Mathlib.Decide.{ℕ_discrete}
-use mathlib.Core.Option.{some, none, some-injective, some-ne-none}
+use mathlib.Core.Option.{some, some-injective, some-ne-none}
 use mathlib.Core.Option as maybe
 use lib.ListN.{get_elem?, length-replicate}
 use Rattle.atomic_table.specs.Table.{opening}
@@ -15,7 +15,7 @@ use Rattle.aio_word.specs.declared.Class.TheVariants.{Unended}
 use Rattle.aio_word.specs.declared.State.TheVariants.{Idle, HandedOut}
 use Rattle.aio_word.specs.declared.Word.{Word}
 use Rattle.aio_word.specs.declared.Known.{Known}
-use Rattle.aio_word.specs.Words.{packed_word, last_generation}
+use Rattle.aio_word.specs.Words.{packed_word}
 use Rattle.aio_word.specs.Events.{start, first_machine, handle_count, actor_count, count_at_rank}
 use Rattle.aio_word.specs.Events.{make_word, wait_ref, lives_ended}
 use Rattle.aio_word.specs.Stands.{IsIn, one_if, seen_rank, IsLawfulList, MachineHasParts}
@@ -23,9 +23,6 @@ use Rattle.aio_word.specs.StandsByRank.{is_due, StandsForHandleByRank, StandsByR
 use Rattle.aio_handle.specs.declared.record.Label.{Label}
 use Rattle.aio_handle.specs.ContractViews.{TableView, ActorView, AreNewActors, IsConfig}
 use Rattle.std.proofs.Math.Nat.{mul-lt-mul_of_pos_left}
-use Rattle.aio_handle.specs.declared.own_handles.OwnHandle.{OwnHandle}
-use Rattle.aio_handle.specs.OwnHandles.{own_at, no_handle}
-use Rattle.aio_handle.specs.OwnHandleCache.{handle_at, MatchesOwnHandles}
 use Rattle.aio_handle.specs.TableInvariant.{initial_known, initial_known_from, initial_lists}
 use Rattle.aio_handle.specs.TableInvariant.{KnownMatchesWord, HandleInvariant, IsLawfulActor}
 use Rattle.aio_handle.specs.TableInvariant.{TableInvariant}
@@ -56,11 +53,6 @@ map-replicate : {A B : Type 0} (f : A → B) (n : ℕ) (x : A)
     → map f (replicate n x) ≡ replicate n (f x)
 map-replicate f zero x = refl
 map-replicate f (suc n) x = ap (λ (z : List _). f x ∷ z) (map-replicate f n x)
-
-at-replicated : {A : Type 0} (n k : ℕ) (x d : A) → k < n → get_or (replicate n x) k d ≡ x
-at-replicated zero k x d lt = absurd (omega arith)
-at-replicated (suc n) zero x d lt = refl
-at-replicated (suc n) (suc k) x d lt = at-replicated n k x d (omega arith)
 
 not-due : (s n : ℕ) → one_if (is_due s (8 * s + 0) n) ≡ 0
 not-due s n = grind (arith, nat_tests)
@@ -182,30 +174,6 @@ new-push t n xs x len old is i d lt = dite (ℕ_discrete i (length xs))
     (let g : n ≡ 0 + length xs = omega arith in g))))
     (λ ne. let below : i < length xs = omega (arith, length-append xs (x ∷ [])) in
     push-old xs x d i below ∙ old i d below)
-
--- what an actor remembers of its handles at the start
-pub new-owns : (c : Config) (n count : ℕ) (own : List OwnHandle)
-    → own ≡ replicate count record { generation = c.start; is_defined = false }
-    → (n < c.backends → count ≡ c.per_backend) → (c.backends ≤ n → count ≡ 0) → c.start < 2 ^ 58
-    → MatchesOwnHandles c own (initial_known c n)
-new-owns c n count own is backend runner small =
-    let len : length own ≡ count = ap length is ∙ length-replicate count
-    record { generation = c.start; is_defined = false } in
-    let first : (k : ℕ) → k < length own
-    → own_at own k ≡ record { generation = c.start; is_defined = false } = λ k lt. ap
-    (λ (z : List OwnHandle). own_at z k) is ∙ at-replicated count k
-    record { generation = c.start; is_defined = false } no_handle (omega arith) in record {
-      of_backend = λ lt. len ∙ backend lt;
-      of_runner = λ le. len ∙ runner le;
-      each = λ k lt. first k lt ∙ ap (λ (z : ℕ). record { generation = z; is_defined = false })
-          (let none : lives_ended (handle_at c (initial_known c n) k) [] ≡ 0 = refl in
-          let same : c.start ≡ c.start + lives_ended (handle_at c (initial_known c n) k) [] =
-          omega arith
-          in
-          same);
-      bound = λ k lt. subst (λ (y : OwnHandle). y.generation ≤ last_generation) (sym (first k lt))
-          (omega arith);
-    }
 
 -- a table has a handle
 pub some-handles : (c : Config) → IsConfig c → 0 < handle_count c

@@ -33,9 +33,6 @@ sole (q ∷ r ∷ ps) p e i = absurd (omega arith)
 less-six : (o : ℕ) → o ≢ 6 → o < 8 → one_if (nat_lt o 6) ≡ one_if (nat_lt o 7)
 less-six o ne lt = grind (arith, nat_tests)
 
-is-less : (o : ℕ) → o ≡ 6 → one_if (nat_lt o 7) ≡ 1
-is-less o e = grind (arith, nat_tests)
-
 pub one-list : (c : Config) (p : Known) (h : ℕ) (class : Class) (g : ℕ)
     → AtMoment c p h (completed_word class g) → actor_count c ≡ 1 → (k : Kind)
     → mark_count (wait_ref h g) k p.marks ≡ one_if (nat_lt (kind_place k) 6)

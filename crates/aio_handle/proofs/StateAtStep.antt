@@ -2,7 +2,7 @@
 use Rattle.std.proofs.Common.{◌≡◌, ◌≢◌, ℕ, ◌<◌, ◌≤◌, ◌==◌, Bool, true, List, [], ◌∷◌}
 use Rattle.std.proofs.Common.{◌++◌, map, get_or, sum_by, refl, sym, ap, ◌∙◌, subst, arith, Option}
 use Rattle.std.proofs.lemmas.Bool.Decides.{nat_tests}
-use mathlib.Core.Option.{some, none}
+use mathlib.Core.Option.{some}
 use mathlib.Core.Option as maybe
 use lib.ListN.{get_elem?}
 use Rattle.atomic_table.specs.Table.{State}
@@ -12,8 +12,8 @@ use Rattle.aio_word.specs.declared.Class.{Class}
 use Rattle.aio_word.specs.declared.State.{State as WordState}
 use Rattle.aio_word.specs.declared.Word.{Word}
 use Rattle.aio_word.specs.declared.Known.{Known}
-use Rattle.aio_word.specs.Words.{packed_word, word_rank, number_of_state}
-use Rattle.aio_word.specs.Events.{handle_count, state_is, make_word}
+use Rattle.aio_word.specs.Words.{packed_word, word_rank}
+use Rattle.aio_word.specs.Events.{handle_count, make_word}
 use Rattle.aio_word.specs.Stands.{IsIn, one_if, seen_rank, IsLawfulList, AtMoment, Stands}
 use Rattle.aio_word.specs.StandsByRank.{StandsForHandleByRank}
 use Rattle.aio_word.proofs.ReplacedElement.{in-here}
@@ -27,9 +27,6 @@ use Rattle.aio_handle.proofs.SeatLists.{ListIsAt, list-is-at, get_or-at, entry-a
 
 pub same-number : (a b : ℕ) → a ≡ b → (a == b) ≡ true
 same-number a b e = grind (arith, nat_tests)
-
-pub is-state : (w : Word) (s : WordState) → w.state ≡ s → state_is w s ≡ true
-is-state w s e = same-number (number_of_state w.state) (number_of_state s) (ap number_of_state e)
 
 pub word-is : (w : Word) (s : WordState) (b : Bool) (c : Class) (g : ℕ) → w.state ≡ s
     → w.claimed ≡ b → w.class ≡ c → w.generation ≡ g → w ≡ make_word s b c g

@@ -31,9 +31,6 @@ use Rattle.aio_handle.specs.LifeWords.{claimed_word, executed_word, completed_wo
 use Rattle.aio_handle.proofs.StateAtStep.{word-is, StepFinds, stood-here, known-matches-word}
 use Rattle.aio_handle.proofs.StateAtStep.{actor-here, lists-here, numbered-here}
 
-pub zero-left : (a b : ℕ) → a + b ≡ 0 → a ≡ 0
-zero-left a b e = omega arith
-
 pub idle-or-out : (s : WordState) (b : Bool) → state_place s b ≡ 0 → (s ≡ Idle) ⊎ (s ≡ HandedOut)
 idle-or-out Idle b e = inl refl
 idle-or-out HandedOut b e = inr refl

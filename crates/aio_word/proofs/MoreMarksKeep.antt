@@ -10,7 +10,7 @@ use Rattle.aio_word.specs.declared.Mark.{Mark}
 use Rattle.aio_word.specs.declared.Kind.{Kind}
 use Rattle.aio_word.specs.Events.{count_at_rank, is_mark, kind_place}
 use Rattle.aio_word.specs.Stands.{one_if}
-use Rattle.aio_word.specs.Tokens.{owner_mark_count, claimer_mark_count, is_claim, is_io}
+use Rattle.aio_word.specs.Tokens.{owner_mark_count, is_claim, is_io}
 use Rattle.aio_word.specs.Tokens.{claimed_mark_count, io_mark_count}
 use Rattle.aio_word.specs.Tokens.{failed_mark_count, is_failed, ClaimsAreCompleted}
 use Rattle.aio_word.specs.Tokens.{MarksOnceAndSeen}
@@ -37,21 +37,6 @@ owner_mark_count-more t ms more =
           more,
       mark_count-more t 7 ms more,
     )
-
-pub claimer_mark_count-more : (t : WaitRef) (ms more : List Mark)
-    → claimer_mark_count t (ms ++ more) ≡ claimer_mark_count t ms + claimer_mark_count t more
-claimer_mark_count-more t ms more = omega (
-  arith,
-  mark_count-more t 3 ms more,
-  mark_count-more t 4 ms more,
-  mark_count-more t 5 ms more,
-)
-
--- the owner's tokens are where they were, whatever an executor took up
-pub owner_mark_count-completed : (t : WaitRef) (ms more : List Mark) → ClaimsAreCompleted more
-    → owner_mark_count t (ms ++ more) ≡ owner_mark_count t ms
-owner_mark_count-completed t ms more k = let none = k.owners t in
-    omega (arith, owner_mark_count-more t ms more)
 
 pub io-more : (ms more : List Mark) → io_mark_count (ms ++ more) ≡ io_mark_count ms
     + io_mark_count more
@@ -118,60 +103,6 @@ mark_count-place t u i k ms n si = let z =
     test-place u.handle t.handle u.generation t.generation i (kind_place k) n si
     (kind_place-small k) in
     omega (arith, mark_count-push t u i k ms)
-
--- another incarnation's event leaves the owner's token
-pub owner_mark_count-other : (t u : WaitRef) (k : Kind) (ms : List Mark)
-    → (u.handle ≢ t.handle) ⊎ (u.generation ≢ t.generation)
-    → owner_mark_count t (ms ++ mark_by_parts u.handle u.generation k ∷ []) ≡ owner_mark_count t ms
-owner_mark_count-other t u k ms d =
-    omega (
-      arith,
-      mark_count-other t u 0 k ms d (omega arith),
-      mark_count-other t u 1 k ms d
-          (omega arith),
-      mark_count-other t u 2 k ms d (omega arith),
-      mark_count-other t u 6 k ms d
-          (omega arith),
-      mark_count-other t u 7 k ms d (omega arith),
-    )
-
--- a claimer's event leaves the owner's token, of whatever incarnation
-pub owner_mark_count-claimer : (t u : WaitRef) (k : Kind) (ms : List Mark) → 2 < kind_place k
-    → kind_place k < 6
-    → owner_mark_count t (ms ++ mark_by_parts u.handle u.generation k ∷ []) ≡ owner_mark_count t ms
-owner_mark_count-claimer t u k ms lo hi =
-    omega (
-      arith,
-      mark_count-place t u 0 k ms (λ e. omega arith) (omega arith),
-      mark_count-place t u 1 k ms
-          (λ e. omega arith) (omega arith),
-      mark_count-place t u 2 k ms (λ e. omega arith)
-          (omega arith),
-      mark_count-place t u 6 k ms (λ e. omega arith) (omega arith),
-      mark_count-place t u 7 k ms
-          (λ e. omega arith) (omega arith),
-    )
-
--- an owner's event leaves the claimer's token
-pub claimer_mark_count-owner : (t u : WaitRef) (k : Kind) (ms : List Mark)
-    → (kind_place k < 3) ⊎ (5 < kind_place k)
-    → claimer_mark_count t (ms ++ mark_by_parts u.handle u.generation k ∷ [])
-    ≡ claimer_mark_count t ms
-claimer_mark_count-owner t u k ms o =
-    omega (
-      arith,
-      mark_count-place t u 3 k ms (λ e. ⊎_elim (λ a. omega arith) (λ a. omega arith) o)
-          (omega arith),
-      mark_count-place t u 4 k ms (λ e. ⊎_elim (λ a. omega arith) (λ a. omega arith) o)
-          (omega arith),
-      mark_count-place t u 5 k ms (λ e. ⊎_elim (λ a. omega arith) (λ a. omega arith) o)
-          (omega arith),
-    )
-
--- two tokens of unlike counts are of different incarnations
-pub unlike : (t u : WaitRef) (ms : List Mark) → owner_mark_count t ms ≢ owner_mark_count u ms
-    → t ≢ u
-unlike t u ms n e = n (ap (λ (z : WaitRef). owner_mark_count z ms) e)
 
 test-one : (h i r n : ℕ) → one_if ((h == i) && (r == n)) ≤ 1
 test-one h i r n = grind (arith, nat_tests)

@@ -54,11 +54,6 @@ owner_mark_count t ms = mark_count t kind.Defined ms + mark_count t kind.Staged 
     + mark_count t kind.Submitted ms + mark_count t any_local ms
     + mark_count t kind.Reclaimed ms
 
--- how many it has of those that a claimer makes
-abbrev pub claimer_mark_count : WaitRef → List Mark → ℕ
-claimer_mark_count t ms = mark_count t kind.Claimed ms + mark_count t any_io ms
-    + mark_count t kind.Shared ms
-
 -- whether it is a Claimed mark, an Io mark, an Io mark of an operation that failed
 abbrev pub is_claim : Mark → Bool
 is_claim m = kind_place m.kind == 3

@@ -1,9 +1,8 @@
 -- Counts of a list's elements that pass a test.
-use Rattle.std.proofs.Common.{◌≡◌, ℕ, zero, suc, ◌+◌, ◌<◌, ◌≤◌, ⊎_elim, Bool, true, false, cond}
+use Rattle.std.proofs.Common.{◌≡◌, ℕ, suc, ◌+◌, ◌<◌, ◌≤◌, ⊎_elim, Bool, true, false, cond}
 use Rattle.std.proofs.Common.{List, [], ◌∷◌, length, get_or, set, refl, arith, count_by, ◌∙◌, ap}
-use Rattle.std.proofs.Common.{sym}
 use Rattle.std.proofs.lemmas.List.Sums.{sum_by-set, sum_by-cons}
-use Rattle.std.proofs.lemmas.Bool.{false≢true, cases_lt}
+use Rattle.std.proofs.lemmas.Bool.{false≢true}
 
 -- where no element passes the count is 0
 pub count_none : {X : Type 0} (p : X → Bool) (d : X) (xs : List X) →
@@ -21,29 +20,6 @@ count_none p d (x ∷ xs) h =
 first : (b : Bool) (n : ℕ) → cond b 1 0 + n ≡ 0 → b ≡ false
 first true n e = absurd (omega arith)
 first false n e = refl
-
--- where the count is 0 no element passes
-pub none_counted : {X : Type 0} (p : X → Bool) (d : X) (xs : List X) → count_by p xs ≡ 0 → (k : ℕ) →
-    k < length xs → p (get_or xs k d) ≡ false
-none_counted p d [] e k b = absurd (omega arith)
-none_counted p d (x ∷ xs) e zero b =
-    let split : count_by p (x ∷ xs) ≡ cond (p x) 1 0 + count_by p xs = sum_by-cons
-    (λ y. cond (p y) 1 0) x xs in
-    first (p x) (count_by p xs) (sym split ∙ e)
-none_counted p d (x ∷ xs) e (suc k) b =
-    let split : count_by p (x ∷ xs) ≡ cond (p x) 1 0 + count_by p xs = sum_by-cons
-    (λ y. cond (p y) 1 0) x xs in
-    none_counted p d xs (omega arith) k (omega arith)
-
--- where some element passes the count is above 0
-pub some_counted : {X : Type 0} (p : X → Bool) (d : X) (xs : List X) (k : ℕ) → k < length xs → p
-    (get_or xs k d) ≡ true → 0 < count_by p xs
-some_counted p d xs k b passes =
-    ⊎_elim
-    (λ (some : 0 < count_by p xs). some)
-    (λ (none : count_by p xs ≤ 0). absurd (false≢true (sym (none_counted p d xs (omega arith) k b) ∙
-    passes)))
-    (cases_lt 0 (count_by p xs))
 
 -- the count after a write
 pub counted_after : {X : Type 0} (p : X → Bool) (d : X) (xs : List X) (i : ℕ) (y : X) (old new : ℕ)

@@ -1,8 +1,7 @@
 -- What the search in the table comes to, after a change.
 use Rattle.std.proofs.Common.{◌≡◌, ℕ, ◌+◌, ◌*◌, ◌^◌, ◌%◌, ◌<◌, ◌≤◌, List, Option, Some, None}
-use Rattle.std.proofs.Common.{length, set}
+use Rattle.std.proofs.Common.{length}
 use Rattle.std.proofs.Common.{is_none, is_some, false, refl, arith, ◌⊎◌, ⊎_elim, ◌∙◌, sym, subst}
-use Rattle.std.proofs.lemmas.List.{get_or-set_same, get_or-set_other, length-set}
 use Rattle.std.proofs.lemmas.Bool.{cases_lt, cases_eq, false≢true}
 use Rattle.std.proofs.lemmas.Nat.{mod_below}
 use Rattle.std.proofs.Math.Nat.{div-lt_iff_lt-mul, mul-lt-mul_of_pos_right}
@@ -38,38 +37,6 @@ reaches_kept old new tag f k r = record {
       let kept : probe new tag j ≡ Some held.0 = rw k.size (k.full_slots _ _ held.1) in
       cc;
 }
-
--- a frame in an empty slot leaves the taken ones
-pub keeps_taken : (slots : List (Option ℕ)) (at f : ℕ) → slot_at slots at ≡ None
-    → KeepsFullSlots slots
-    (set slots at (Some f))
-keeps_taken slots at f empty = record {
-  size = length-set slots at (Some f);
-  full_slots = λ k g e.
-      ⊎_elim
-      (λ (same : k ≡ at). absurd (let clash : slot_at slots k ≡ None = rw same empty in cc))
-      (λ (other : k ≡ at → ⊥). get_or-set_other slots at k (Some f) None other ∙ e)
-      (cases_eq k at);
-}
-
--- the search comes to the frame that was put into the first empty slot on its way
-pub reaches_new : (slots : List (Option ℕ)) (tag : Tag) (f step : ℕ) → step < length slots → 0 <
-    length slots → ((k : ℕ) → k < step → probe slots tag k ≡ None → ⊥) → probe slots tag step ≡ None
-    → ProbesFind (set slots ((home_slot tag (length slots) + step) % length slots) (Some f)) tag f
-reaches_new slots tag f step within some before empty =
-    let at = (home_slot tag (length slots) + step) % length slots in
-    let new = set slots at (Some f) in
-    let kept : KeepsFullSlots slots new = keeps_taken slots at f empty in
-    let size : length new ≡ length slots = kept.size in
-    record {
-      steps = step;
-      within = omega arith;
-      there = rw size (get_or-set_same slots at (Some f) None (mod_below _ _ some));
-      before = λ k b e.
-          let held = taken_holds _ (before k b) in
-          let still : probe new tag k ≡ Some held.0 = rw size (kept.full_slots _ _ held.1) in
-          cc;
-    }
 
 -- the slot at which a search begins is one of the table
 pub hash_below : (tag : Tag) → tag_hash tag < 2 ^ 32

@@ -22,7 +22,7 @@ use Rattle.aio_handle.proofs.TokensStay.{claim-unchanged-by-look}
 use Rattle.aio_callback.specs.ReadIoView.{ReadIoView, ReadFits, record_aim}
 use Rattle.method_ring.specs.ClaimedIos.{ClaimedIo, claimed_mark, without_claimed}
 use Rattle.method_ring.specs.ClaimedIos.{claimed_with_number}
-use Rattle.method_ring.specs.ClaimedIos.{IsReadableRecord, IsClaimedIo}
+use Rattle.method_ring.specs.ClaimedIos.{IsClaimedIo}
 use Rattle.method_ring.specs.ClaimedIos.{AllClaimedIos, NumbersBelow}
 use Rattle.method_ring.specs.RingRunner.{group_claims, GathersIos}
 use Rattle.method_ring.proofs.NumberedLookup.{in-pushed, apart-push, apart-without, in-without}
@@ -36,16 +36,6 @@ held-on told relations p q x k h = record {
   aim = k.aims (record_aim x.1.1) h.aim;
   label = h.label;
   fits = h.fits;
-}
-
--- a record that was claimed and not executed has no answer
-pub unread-of : (told : Option Told) (relations n : ℕ) (r : ReadIoView) (t : WaitRef)
-    → n ≡ relations
-    → r.label ≡ bound_label t.handle t.generation → ReadFits told relations r → IsReadableRecord n r
-unread-of told relations n r t same label fits = record {
-  is_aimed = fits.aimed;
-  relation_in_range = subst (λ (z : ℕ). r.relation < z) (sym same) fits.within;
-  no_answer = fits.fresh (ap (λ l. l.ended) label);
 }
 
 pub below-push : (held : List ClaimedIo) (x : ClaimedIo) → x.0 ≡ length held
@@ -140,25 +130,6 @@ gathers-then told relations n m p q r held held' held'' a b = record {
       b.marks_grow);
   all_claimed = b.all_claimed;
 }
-
-pub gathers-most : (told : Option Told) (relations n m : ℕ) (p q : Known)
-    (held held' : List ClaimedIo) → n ≤ m → GathersIos told relations n p q held held'
-    → GathersIos told relations m p q held held'
-gathers-most told relations n m p q held held' le a = record {
-  others = a.others;
-  at_most = let x = a.at_most in omega arith;
-  claimed_ios_are = a.claimed_ios_are;
-  numbers = a.numbers;
-  marks_grow = a.marks_grow;
-  all_claimed = a.all_claimed;
-}
-
-pub length-gathered : (told : Option Told) (relations n : ℕ) (p q : Known)
-    (held held' : List ClaimedIo) → GathersIos told relations n p q held held'
-    → length held' ≤ length held + n
-length-gathered told relations n p q held held' a =
-    let x : length held' ≡ length (held ++ a.others) = ap length a.claimed_ios_are in
-    let y = length-append held a.others in let z = a.at_most in omega arith
 
 -- what is left is held, after one I/O has ended
 pub held-without : (told : Option Told) (relations : ℕ) (p q : Known) (n : ℕ)

@@ -23,9 +23,6 @@ use Rattle.method_ring.proofs.NumberedLookup.{entry-of-held, without-entry-of-he
 use Rattle.method_ring.proofs.NumberedLookup.{in-held}
 use Rattle.method_ring.proofs.NumberedLookup.{in-without, in-pushed}
 
-pub joined-none : (pending : List Entry) (n : ℕ) → pending ≡ [] → PendingReadsClaimed pending n []
-joined-none pending n e = record { pending_is = e; unread = λ x i. absurd i }
-
 module _ (pending : List Entry) (n : ℕ) (held : List ClaimedIo) (j : PendingReadsClaimed pending n
     held)
   where

@@ -1,6 +1,6 @@
 -- Places of a list: what stands there, and how far reading gets.
 use Rattle.std.proofs.Common.{◌≡◌, ℕ, ◌+◌, ◌<◌, ◌≤◌, zero, suc, Bool, true, false, List, [], ◌∷◌}
-use Rattle.std.proofs.Common.{length, take, drop, refl, ap, ◌∙◌, arith}
+use Rattle.std.proofs.Common.{length, take, refl, ap, ◌∙◌, arith}
 use Rattle.std.specs.Prelude.{Some, slice_get}
 use Rattle.std.specs.Option.{option_map}
 use Rattle.std.proofs.lemmas.List.{length-map}
@@ -9,23 +9,6 @@ use Rattle.std.proofs.lemmas.Option.{slice_get-map}
 use Rattle.page_check.specs.SynchronousAnswer.{Entry, Reader, can_read, read_count}
 use Rattle.page_check.specs.SynchronousAnswer.{entry_given, readable_pages}
 use Rattle.page_check.proofs.SynchronousReads.{read_count-cons, read_count-stop}
-
--- where what is left of a list begins with x, x is its element there
-pub entry_at : {X : Type 0} (xs : List X) (k : ℕ) (x : X) (ys : List X) → drop k xs ≡ x ∷ ys
-    → (slice_get xs k ≡ Some x) × (drop (k + 1) xs ≡ ys) × (k < length xs)
-entry_at [] zero x ys is = absurd (cc)
-entry_at [] (suc k) x ys is = absurd (cc)
-entry_at (z ∷ xs) zero x ys is = (cc, cc, omega arith)
-entry_at {X} (z ∷ xs) (suc k) x ys is =
-    let rest = entry_at xs k x ys is in
-    let more : suc k + 1 ≡ suc (k + 1) = omega arith in
-    (rest.0, ap (λ (i : ℕ). drop i (z ∷ xs)) more ∙ rest.1, omega (arith, rest.2))
-
--- and where nothing is left, it has no element there
-pub no_entry : {X : Type 0} (xs : List X) (k : ℕ) → drop k xs ≡ [] → length xs ≤ k
-no_entry [] k is = omega arith
-no_entry (z ∷ xs) zero is = absurd (cc)
-no_entry (z ∷ xs) (suc k) is = omega (arith, no_entry xs k is)
 
 taken_at : {X : Type 0} (n : ℕ) (xs : List X) (k : ℕ) (x : X) → slice_get xs k ≡ Some x → k < n
     → slice_get (take n xs) k ≡ Some x
