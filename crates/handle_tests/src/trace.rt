@@ -7,12 +7,12 @@ use aio_core::StepRefusal;
 use aio_fixtures::{
     EmptyIo, add_actor, claim_and_complete, last_actor, no_actors, submit_io, take_and_reclaim,
 };
-use aio_handle::{Actor, Table, Totals};
+use aio_handle::{Actor, Table};
 use aio_trace::{ReplayAnswer, numbers_text, replay, totals_text};
 use aio_word::{Class, Event, Step};
 use page_check::World;
-use std::alloc::{AllocError, Global};
 use std::marker::Brand;
+use std::process::Abort;
 use std::test::Fail;
 
 fn event(actor: u32, step: Step) -> Event {
@@ -24,30 +24,32 @@ fn event(actor: u32, step: Step) -> Event {
     }
 }
 
-/// A claim of a handle that is defined and not submitted is the first bad event of its run; the
-/// two events before it are lawful, and the machine after them refuses the claim.
-#[test]
-fn a_claim_before_submit_is_bad(rt: HostRuntime) -> Result<(), Fail> {
-    let alloc = rt.alloc();
-    let claim = event(1, Step::Claim);
-    let events = [event(0, Step::HandOut), event(0, Step::Define), claim];
-    let whole = replay(alloc, 1, 1, 1, 0, &events);
-    assert!(rt; matches!(&whole, ReplayAnswer::FirstBad(2)));
-    let ReplayAnswer::Lawful(mut machine) = replay(alloc, 1, 1, 1, 0, &events[..2]) else {
-        panic!(rt; "the first two events are lawful")
+/// Fails where a replay refuses an event, or where this claim then meets no such word.
+fn check_refusal<R: Abort>(rt: &R, answer: ReplayAnswer, claim: Event, word: u64) {
+    let ReplayAnswer::Lawful(mut machine) = answer else {
+        panic!(rt; "the events before {claim:?} are lawful")
     };
     let refused = StepRefusal::NotAllowed {
         event: claim,
-        word: Some(2),
+        word: Some(word),
     };
     assert!(rt; machine.step(claim) == Err(refused));
-    Ok(())
+}
+
+/// A claim of a handle that is defined and not submitted is the first bad event of its run; the
+/// two events before it are lawful, and the machine after them refuses the claim.
+#[test]
+fn a_claim_before_submit_is_bad(rt: HostRuntime) {
+    let claim = event(1, Step::Claim);
+    let events = [event(0, Step::HandOut), event(0, Step::Define), claim];
+    let whole = replay(rt.alloc(), 1, 1, 1, 0, &events);
+    assert!(&rt; matches!(&whole, ReplayAnswer::FirstBad(2)));
+    check_refusal(&rt, replay(rt.alloc(), 1, 1, 1, 0, &events[..2]), claim, 2);
 }
 
 /// All events of one life. A claim that comes too late meets the idle handle of the next one.
 #[test]
-fn a_whole_life_is_lawful(rt: HostRuntime) -> Result<(), Fail> {
-    let alloc = rt.alloc();
+fn a_whole_life_is_lawful(rt: HostRuntime) {
     let sixth = |actor, step| Event {
         generation: 6,
         ..event(actor, step)
@@ -64,21 +66,12 @@ fn a_whole_life_is_lawful(rt: HostRuntime) -> Result<(), Fail> {
         sixth(0, Step::Local),
         sixth(0, Step::Reclaim),
     ];
-    let ReplayAnswer::Lawful(mut machine) = replay(alloc, 1, 1, 1, 6, &events) else {
-        panic!(rt; "the events of a life are lawful")
-    };
-    let refused = StepRefusal::NotAllowed {
-        event: claim,
-        word: Some(448),
-    };
-    assert!(rt; machine.step(claim) == Err(refused));
-    Ok(())
+    check_refusal(&rt, replay(rt.alloc(), 1, 1, 1, 6, &events), claim, 448);
 }
 
 /// The last of 32 runners claims the last handle of 16 backends with 64 handles each.
 #[test]
-fn the_greatest_machine_has_1024_handles(rt: HostRuntime) -> Result<(), Fail> {
-    let alloc = rt.alloc();
+fn the_greatest_machine_has_1024_handles(rt: HostRuntime) {
     let last = |actor, step| Event {
         handle: 1023,
         ..event(actor, step)
@@ -91,15 +84,7 @@ fn the_greatest_machine_has_1024_handles(rt: HostRuntime) -> Result<(), Fail> {
         last(15, Step::Submit),
         claim,
     ];
-    let ReplayAnswer::Lawful(mut machine) = replay(alloc, 16, 64, 32, 0, &events) else {
-        panic!(rt; "the last runner may claim the last handle")
-    };
-    let refused = StepRefusal::NotAllowed {
-        event: claim,
-        word: Some(12),
-    };
-    assert!(rt; machine.step(claim) == Err(refused));
-    Ok(())
+    check_refusal(&rt, replay(rt.alloc(), 16, 64, 32, 0, &events), claim, 12);
 }
 
 #[test]
@@ -149,46 +134,30 @@ fn life<W: World>(
         && take_and_reclaim(table, owner, token)
 }
 
-/// The totals of three lives of a backend's handle, one executed by the runner and two by another
-/// backend.
-fn totals_of_three<W: World>(alloc: Global) -> Result<Option<Totals>, AllocError>
+/// Three lives of a backend's handle, one executed by the runner and two by another backend. A
+/// worker is a runner, a backend is a backend, and the line stands behind what was there.
+fn totals_of_three<W: World, R: Abort + AllocGlobal>(rt: &R) -> Result<(), Fail>
     requires { W.handles ≡ 2 }
 {
-    let (table, mut actors) = Table::<EmptyIo, W>::open(alloc, 2, 1, 1, 0)?;
-    let Some(mut runner) = last_actor(&table, &mut actors) else {
-        return Ok(None);
-    };
-    let Some(mut other) = last_actor(&table, &mut actors) else {
-        return Ok(None);
-    };
-    let Some(mut owner) = last_actor(&table, &mut actors) else {
-        return Ok(None);
-    };
-    if !life(&table, &mut owner, &mut other) {
-        return Ok(None);
-    }
-    if !life(&table, &mut owner, &mut runner) {
-        return Ok(None);
-    }
-    if !life(&table, &mut owner, &mut other) {
-        return Ok(None);
-    }
-    let mut all = no_actors(&table, alloc);
+    let (table, mut actors) = Table::<EmptyIo, W>::open(rt.alloc(), 2, 1, 1, 0)?;
+    let mut runner = last_actor(&table, &mut actors).ok_or("no actor")?;
+    let mut other = last_actor(&table, &mut actors).ok_or("no actor")?;
+    let mut owner = last_actor(&table, &mut actors).ok_or("no actor")?;
+    assert!(rt; life(&table, &mut owner, &mut other));
+    assert!(rt; life(&table, &mut owner, &mut runner));
+    assert!(rt; life(&table, &mut owner, &mut other));
+    let mut all = no_actors(&table, rt.alloc());
     add_actor(&table, &mut all, owner)?;
     add_actor(&table, &mut all, other)?;
     add_actor(&table, &mut all, runner)?;
-    Ok(Some(table.close(all)))
-}
-
-/// A worker is a runner, a backend is a backend, and the line stands behind what was there.
-#[test]
-fn a_runner_claims_one_of_three(rt: HostRuntime) -> Result<(), Fail> {
-    let Some(totals) = totals_of_three::<Brand>(rt.alloc())? else {
-        panic!(rt; "a handle is free")
-    };
     let mut out = Vec::from_slice(rt.alloc(), b"before\n")?;
-    totals_text(&totals, &mut out)?;
+    totals_text(&table.close(all), &mut out)?;
     let wanted = b"before\nincarnations 3 workers 1 backends 2\n";
     assert_eq!(rt; out.as_slice(), wanted.as_slice());
     Ok(())
+}
+
+#[test]
+fn a_runner_claims_one_of_three(rt: HostRuntime) -> Result<(), Fail> {
+    totals_of_three::<Brand, _>(&rt)
 }

@@ -12,7 +12,9 @@ use aio_word::WaitRef;
 use page_check::World;
 use std::alloc::{AllocError, Global};
 use std::marker::{Brand, PhantomData};
+use std::process::Abort;
 use std::sync::Wait;
+use std::test::Fail;
 
 /// The answers of so many calls of `submit_next`.
 fn submit_all<W: World, T: Wait>(
@@ -38,61 +40,36 @@ fn submit_all<W: World, T: Wait>(
     Ok(all)
 }
 
-/// What came of I/Os that were pushed and submitted, and what the batch held before, between and
-/// after.
-#[derive(Drop)]
-struct Run {
-    pushed: Vec<Pushed>,
-    submitted: Vec<Option<WaitRef>>,
-    heard: Vec<WaitRef>,
-    lengths: [usize; 3],
-}
-
-fn batched<W: World, T: Wait>(rt: &T, alloc: Global, count: u32) -> Result<Option<Run>, AllocError>
+/// 33 I/Os are pushed and submitted: there is room for 32, of which the method hears.
+fn batched<W: World, R: Abort + AllocGlobal + Wait>(rt: &R) -> Result<(), Fail>
     requires { W.handles ≡ 64 }
 {
+    let alloc = rt.alloc();
     let (table, mut actors) = Table::<EmptyIo, W>::open(alloc, 1, 64, 0, 0)?;
-    let Some(mut actor) = actors.pop() else {
-        return Ok(None);
-    };
+    let mut actor = actors.pop().ok_or("no actor")?;
     let mut batch = Batch::open(alloc)?;
-    let before = batch.len();
-    let pushed = push_all(alloc, &table, &mut actor, &mut batch, count)?;
-    let between = batch.len();
+    assert!(rt; batch.len() == 0);
+    let pushed = push_all(alloc, &table, &mut actor, &mut batch, 33)?;
+    assert!(rt; batch.len() == 32);
     let mut method = Listener {
         heard: Vec::with_capacity(alloc, 33)?,
     };
-    let submitted = submit_all(
-        rt,
-        alloc,
-        &table,
-        &mut actor,
-        &mut batch,
-        &mut method,
-        count,
-    )?;
-    Ok(Some(Run {
-        pushed,
-        submitted,
-        heard: method.heard,
-        lengths: [before, between, batch.len()],
-    }))
+    let submitted = submit_all(rt, alloc, &table, &mut actor, &mut batch, &mut method, 33)?;
+    assert!(rt; batch.len() == 0);
+    let heard = method.heard;
+    assert!(rt; pushed.len() == 33 && submitted.len() == 33 && heard.len() == 32);
+    for k in 0..32 {
+        let reference = pushed[k].reference;
+        assert!(rt; pushed[k].back.is_none(), "push {k}");
+        assert!(rt; submitted[k] == Some(reference), "submission {k}");
+        assert!(rt; heard[k] == reference, "what was heard at {k}");
+    }
+    assert!(rt; pushed[32].back == Some(pushed[32].reference));
+    assert!(rt; submitted[32].is_none());
+    Ok(())
 }
 
 #[test]
-fn thirty_three_staged_tokens(rt: HostRuntime) -> Result<(), AllocError> {
-    let Some(run) = batched::<Brand, _>(&rt, rt.alloc(), 33)? else {
-        panic!(&rt; "the table has a backend")
-    };
-    assert!(&rt; run.lengths == [0, 32, 0]);
-    assert!(&rt; run.pushed.len() == 33 && run.submitted.len() == 33 && run.heard.len() == 32);
-    for k in 0..32 {
-        let reference = run.pushed[k].reference;
-        assert!(&rt; run.pushed[k].back.is_none(), "push {k}");
-        assert!(&rt; run.submitted[k] == Some(reference), "submission {k}");
-        assert!(&rt; run.heard[k] == reference, "what was heard at {k}");
-    }
-    assert!(&rt; run.pushed[32].back == Some(run.pushed[32].reference));
-    assert!(&rt; run.submitted[32].is_none());
-    Ok(())
+fn thirty_three_staged_tokens(rt: HostRuntime) -> Result<(), Fail> {
+    batched::<Brand, _>(&rt)
 }

@@ -10,9 +10,10 @@ use aio_batch::{Batch, laws};
 use aio_fixtures::EmptyIo;
 use aio_handle::{Actor, InFlight, Table, Take, laws as table_laws};
 use page_check::World;
-use std::alloc::{AllocError, Global};
 use std::marker::{Brand, PhantomData};
+use std::process::Abort;
 use std::sync::Wait;
+use std::test::Fail;
 
 /// The first two I/Os of the batch, both in flight.
 fn submit_two<W: World, T: Wait>(
@@ -56,26 +57,24 @@ fn are_pending<W: World>(
 }
 
 /// Two I/Os are submitted, which nobody executes, and both are looked for.
-fn both_in_flight<W: World, T: Wait>(rt: &T, alloc: Global) -> Result<Option<bool>, AllocError>
+fn both_in_flight<W: World, R: Abort + AllocGlobal + Wait>(rt: &R) -> Result<(), Fail>
     requires { W.handles ≡ 2 }
 {
+    let alloc = rt.alloc();
     let (table, mut actors) = Table::<EmptyIo, W>::open(alloc, 1, 2, 0, 0)?;
-    let Some(mut actor) = actors.pop() else {
-        return Ok(None);
-    };
+    let mut actor = actors.pop().ok_or("no actor")?;
     let mut batch = Batch::open(alloc)?;
     push_all(alloc, &table, &mut actor, &mut batch, 2)?;
     let mut method = Listener {
         heard: Vec::with_capacity(alloc, 2)?,
     };
-    match submit_two(rt, &table, &mut actor, &mut batch, &mut method) {
-        Some((first, second)) => Ok(Some(are_pending(&table, &mut actor, first, second))),
-        None => Ok(None),
-    }
+    let both = submit_two(rt, &table, &mut actor, &mut batch, &mut method);
+    let (first, second) = both.ok_or("not two I/Os")?;
+    assert!(rt; are_pending(&table, &mut actor, first, second));
+    Ok(())
 }
 
 #[test]
-fn two_in_flight_are_both_kept(rt: HostRuntime) -> Result<(), AllocError> {
-    assert!(&rt; both_in_flight::<Brand, _>(&rt, rt.alloc())? == Some(true));
-    Ok(())
+fn two_in_flight_are_both_kept(rt: HostRuntime) -> Result<(), Fail> {
+    both_in_flight::<Brand, _>(&rt)
 }

@@ -6,99 +6,73 @@ use aio_fixtures::{EmptyIo, add_actor, complete_as, last_actor, no_actors, submi
 use aio_handle::{AcquireRefusal, Table, Take};
 use aio_word::Class;
 use page_check::World;
-use std::alloc::{AllocError, Global};
 use std::marker::Brand;
+use std::process::Abort;
+use std::test::Fail;
 
 /// Acquire, release, acquire, a refusal, and a whole life of what was acquired.
-fn one_life<W: World>(
-    alloc: Global,
-) -> Result<Option<(AcquireRefusal, (u128, u128, u128))>, AllocError>
+fn one_life<W: World, R: Abort + AllocGlobal>(rt: &R) -> Result<(), Fail>
     requires { W.handles ≡ 1 }
 {
-    let (table, mut actors) = Table::<EmptyIo, W>::open(alloc, 1, 1, 0, 0)?;
-    let Some(mut actor) = last_actor(&table, &mut actors) else {
-        return Ok(None);
-    };
-    let Some((token, refusal)) = acquire_again(&table, &mut actor) else {
-        return Ok(None);
-    };
-    if !live_on(&table, &mut actor, token) {
-        return Ok(None);
-    }
-    let mut all = no_actors(&table, alloc);
+    let (table, mut actors) = Table::<EmptyIo, W>::open(rt.alloc(), 1, 1, 0, 0)?;
+    let mut actor = last_actor(&table, &mut actors).ok_or("no actor")?;
+    let (token, refusal) = acquire_again(&table, &mut actor).ok_or("no free handle")?;
+    assert!(rt; refusal == AcquireRefusal::OneIsOut);
+    assert!(rt; live_on(&table, &mut actor, token));
+    let mut all = no_actors(&table, rt.alloc());
     add_actor(&table, &mut all, actor)?;
-    Ok(Some((refusal, close(table, all))))
+    assert!(rt; close(table, all) == (1, 1, 0));
+    Ok(())
 }
 
 #[test]
-fn a_life_is_counted_once(rt: HostRuntime) -> Result<(), AllocError> {
-    let Some((refusal, totals)) = one_life::<Brand>(rt.alloc())? else {
-        panic!(&rt; "a handle is free")
-    };
-    assert!(&rt; refusal == AcquireRefusal::OneIsOut);
-    assert!(&rt; totals == (1, 1, 0));
-    Ok(())
+fn a_life_is_counted_once(rt: HostRuntime) -> Result<(), Fail> {
+    one_life::<Brand, _>(&rt)
 }
 
 /// The last life of a handle, and the refusal after it.
-fn last_life<W: World>(
-    alloc: Global,
-) -> Result<Option<(AcquireRefusal, (u128, u128, u128))>, AllocError>
+fn last_life<W: World, R: Abort + AllocGlobal>(rt: &R) -> Result<(), Fail>
     requires { W.handles ≡ 1 }
 {
-    let (table, mut actors) = Table::<EmptyIo, W>::open(alloc, 1, 1, 0, (1 << 58) - 2)?;
-    let Some(mut actor) = last_actor(&table, &mut actors) else {
-        return Ok(None);
-    };
-    if !live(&table, &mut actor) {
-        return Ok(None);
-    }
+    let (table, mut actors) = Table::<EmptyIo, W>::open(rt.alloc(), 1, 1, 0, (1 << 58) - 2)?;
+    let mut actor = last_actor(&table, &mut actors).ok_or("no actor")?;
+    assert!(rt; live(&table, &mut actor));
     let Err(refusal) = table.acquire(&mut actor) else {
-        return Ok(None);
+        panic!(rt; "there is no generation behind the last")
     };
-    let mut all = no_actors(&table, alloc);
+    assert!(rt; refusal == AcquireRefusal::NoneFree);
+    let mut all = no_actors(&table, rt.alloc());
     add_actor(&table, &mut all, actor)?;
-    Ok(Some((refusal, close(table, all))))
-}
-
-#[test]
-fn one_life_before_the_last_generation(rt: HostRuntime) -> Result<(), AllocError> {
-    let Some((refusal, totals)) = last_life::<Brand>(rt.alloc())? else {
-        panic!(&rt; "a handle is free")
-    };
-    assert!(&rt; refusal == AcquireRefusal::NoneFree);
-    assert!(&rt; totals == (1, 1, 0));
+    assert!(rt; close(table, all) == (1, 1, 0));
     Ok(())
 }
 
-/// How often the record of a life was bound, when it was claimed and when it came back.
-fn bound_in_a_life<W: World>(alloc: Global) -> Result<Option<(u32, u32)>, AllocError>
+#[test]
+fn one_life_before_the_last_generation(rt: HostRuntime) -> Result<(), Fail> {
+    last_life::<Brand, _>(&rt)
+}
+
+/// The record of a life is bound once, as it shows when it is claimed and when it comes back.
+fn bound_in_a_life<W: World, R: Abort + AllocGlobal>(rt: &R) -> Result<(), Fail>
     requires { W.handles ≡ 1 }
 {
-    let (table, mut actors) = Table::<EmptyIo, W>::open(alloc, 1, 1, 0, 0)?;
-    let Some(mut actor) = last_actor(&table, &mut actors) else {
-        return Ok(None);
-    };
-    let Ok(token) = table.acquire(&mut actor) else {
-        return Ok(None);
-    };
+    let (table, mut actors) = Table::<EmptyIo, W>::open(rt.alloc(), 1, 1, 0, 0)?;
+    let mut actor = last_actor(&table, &mut actors).ok_or("no actor")?;
+    let token = table.acquire(&mut actor)?;
     let token = submit_acquired(&table, &mut actor, token, EmptyIo::new());
-    let Some(claimed) = table.claim(&mut actor, token.reference()) else {
-        return Ok(None);
-    };
-    let when_claimed = claimed.record().binds;
+    let claimed = table
+        .claim(&mut actor, token.reference())
+        .ok_or("not claimed")?;
+    assert!(rt; claimed.record().binds == 1);
     complete_as(&table, &mut actor, claimed, Class::Whole);
     let Take::Ready(local) = table.try_take(&mut actor, token) else {
-        return Ok(None);
+        panic!(rt; "the I/O has ended")
     };
-    Ok(Some((when_claimed, local.record().binds)))
+    assert!(rt; local.record().binds == 1);
+    Ok(())
 }
 
 #[test]
-fn a_record_is_bound_once_a_life(rt: HostRuntime) -> Result<(), AllocError> {
-    let Some(binds) = bound_in_a_life::<Brand>(rt.alloc())? else {
-        panic!(&rt; "a handle is free")
-    };
-    assert!(&rt; binds == (1, 1));
-    Ok(())
+fn a_record_is_bound_once_a_life(rt: HostRuntime) -> Result<(), Fail> {
+    bound_in_a_life::<Brand, _>(&rt)
 }

@@ -10,8 +10,9 @@ use aio_fixtures::{
 use aio_handle::{Actor, Table};
 use aio_word::{Class, WaitRef};
 use page_check::World;
-use std::alloc::{AllocError, Global};
 use std::marker::Brand;
+use std::process::Abort;
+use std::test::Fail;
 use std::thread::{Threads, join};
 
 /// Claims the I/O and completes it, where nobody has claimed it before.
@@ -30,33 +31,15 @@ fn claim_beside<W: World>(
     (actor, won)
 }
 
-/// What came of one I/O that two actors tried to claim at once.
-#[derive(Drop)]
-struct RaceOutcome {
-    first: bool,
-    second: bool,
-    totals: (u128, u128, u128),
-}
-
-fn race<W: World + Send + Sync, T: Threads + Sync>(
-    rt: &T,
-    alloc: Global,
-) -> Result<Option<RaceOutcome>, AllocError>
+/// Two actors try to claim one I/O at once.
+fn race<W: World + Send + Sync, R: Abort + AllocGlobal + Threads + Sync>(rt: &R) -> Result<(), Fail>
     requires { W.handles ≡ 8 }
 {
-    let (table, mut actors) = Table::<EmptyIo, W>::open(alloc, 2, 4, 1, 0)?;
-    let Some(runner) = last_actor(&table, &mut actors) else {
-        return Ok(None);
-    };
-    let Some(other) = last_actor(&table, &mut actors) else {
-        return Ok(None);
-    };
-    let Some(mut owner) = last_actor(&table, &mut actors) else {
-        return Ok(None);
-    };
-    let Some(token) = submit_io(&table, &mut owner, EmptyIo::new()) else {
-        return Ok(None);
-    };
+    let (table, mut actors) = Table::<EmptyIo, W>::open(rt.alloc(), 2, 4, 1, 0)?;
+    let runner = last_actor(&table, &mut actors).ok_or("no actor")?;
+    let other = last_actor(&table, &mut actors).ok_or("no actor")?;
+    let mut owner = last_actor(&table, &mut actors).ok_or("no actor")?;
+    let token = submit_io(&table, &mut owner, EmptyIo::new()).ok_or("no free handle")?;
     let reference = token.reference();
     let shared = &table;
     let ((runner, first), (other, second)) = join(
@@ -72,28 +55,20 @@ fn race<W: World + Send + Sync, T: Threads + Sync>(
             ensures { IsActorOf shared.entry.now result.0 × HasNoOwnerTokens result.0.known }
         { claim_beside(shared, other, reference) },
     );
-    if !take_and_reclaim(&table, &mut owner, token) {
-        return Ok(None);
-    }
-    let mut all = no_actors(&table, alloc);
+    assert!(rt; take_and_reclaim(&table, &mut owner, token));
+    let mut all = no_actors(&table, rt.alloc());
     add_actor(&table, &mut all, owner)?;
     add_actor(&table, &mut all, other)?;
     add_actor(&table, &mut all, runner)?;
-    Ok(Some(RaceOutcome {
-        first,
-        second,
-        totals: close(table, all),
-    }))
+    let totals = close(table, all);
+    assert!(rt; first != second);
+    assert!(rt; totals == (1, 0, 1) || totals == (1, 1, 0));
+    Ok(())
 }
 
 #[test]
-fn one_of_two_claims_at_once_wins(rt: HostRuntime) -> Result<(), AllocError> {
-    let Some(raced) = race::<Brand, _>(&rt, rt.alloc())? else {
-        panic!(&rt; "a handle is free")
-    };
-    assert!(&rt; raced.first != raced.second);
-    assert!(&rt; raced.totals == (1, 0, 1) || raced.totals == (1, 1, 0));
-    Ok(())
+fn one_of_two_claims_at_once_wins(rt: HostRuntime) -> Result<(), Fail> {
+    race::<Brand, _>(&rt)
 }
 
 /// So many whole lives of the actor's handles, one after the other.
@@ -116,21 +91,15 @@ fn lives<W: World>(
     Some(actor)
 }
 
-/// Two backends that live so many lives each at once, and the totals.
-fn beside<W: World + Send + Sync, T: Threads + Sync>(
-    rt: &T,
-    alloc: Global,
-    count: u32,
-) -> Result<Option<(u128, u128, u128)>, AllocError>
+/// Two backends live 10,000 lives each at once.
+fn beside<W: World + Send + Sync, R: Abort + AllocGlobal + Threads + Sync>(
+    rt: &R,
+) -> Result<(), Fail>
     requires { W.handles ≡ 8 }
 {
-    let (table, mut actors) = Table::<EmptyIo, W>::open(alloc, 2, 4, 0, 0)?;
-    let Some(other) = last_actor(&table, &mut actors) else {
-        return Ok(None);
-    };
-    let Some(one) = last_actor(&table, &mut actors) else {
-        return Ok(None);
-    };
+    let (table, mut actors) = Table::<EmptyIo, W>::open(rt.alloc(), 2, 4, 0, 0)?;
+    let other = last_actor(&table, &mut actors).ok_or("no actor")?;
+    let one = last_actor(&table, &mut actors).ok_or("no actor")?;
     let shared = &table;
     let (one, other) = join(
         rt,
@@ -138,31 +107,22 @@ fn beside<W: World + Send + Sync, T: Threads + Sync>(
             requires { IsActorOf shared.now one × (one.known.number < shared.now.config.backends)
                 × HasNoOwnerTokens one.known }
             ensures { IfSome result (λ a. IsActorOf shared.entry.now a × HasNoOwnerTokens a.known) }
-        { lives(shared, one, count) },
+        { lives(shared, one, 10_000) },
         || -> Option<Actor<EmptyIo, W>>
             requires { IsActorOf shared.now other
                 × (other.known.number < shared.now.config.backends)
                 × HasNoOwnerTokens other.known }
             ensures { IfSome result (λ a. IsActorOf shared.entry.now a × HasNoOwnerTokens a.known) }
-        { lives(shared, other, count) },
+        { lives(shared, other, 10_000) },
     );
-    let Some(one) = one else {
-        return Ok(None);
-    };
-    let Some(other) = other else {
-        return Ok(None);
-    };
-    let mut all = no_actors(&table, alloc);
-    add_actor(&table, &mut all, one)?;
-    add_actor(&table, &mut all, other)?;
-    Ok(Some(close(table, all)))
+    let mut all = no_actors(&table, rt.alloc());
+    add_actor(&table, &mut all, one.ok_or("no free handle")?)?;
+    add_actor(&table, &mut all, other.ok_or("no free handle")?)?;
+    assert!(rt; close(table, all) == (20_000, 20_000, 0));
+    Ok(())
 }
 
 #[test]
-fn totals_are_exact_beside_each_other(rt: HostRuntime) -> Result<(), AllocError> {
-    let Some(totals) = beside::<Brand, _>(&rt, rt.alloc(), 10_000)? else {
-        panic!(&rt; "a handle is free")
-    };
-    assert!(&rt; totals == (20_000, 20_000, 0));
-    Ok(())
+fn totals_are_exact_beside_each_other(rt: HostRuntime) -> Result<(), Fail> {
+    beside::<Brand, _>(&rt)
 }

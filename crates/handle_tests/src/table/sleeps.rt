@@ -8,9 +8,10 @@ use aio_fixtures::{EmptyIo, claim_io, complete_as, last_actor};
 use aio_handle::{Actor, Claimed, Table};
 use aio_word::{Class, WaitRef};
 use page_check::World;
-use std::alloc::{AllocError, Global};
 use std::marker::Brand;
+use std::process::Abort;
 use std::sync::Wait;
+use std::test::Fail;
 use std::thread::{Threads, join, yield_now};
 
 /// Ends the I/O once somebody is counted on its handle.
@@ -62,53 +63,25 @@ fn sleep_beside_runner<W: World + Send + Sync, T: Threads + Wait + Sync>(
     done
 }
 
-/// What is seen behind a sleep: on which handle it was, whether its I/O was done, and whether
-/// anybody is still counted on one of the two handles.
-#[derive(Clone, Copy, Debug, PartialEq, Eq)]
-struct SleepOutcome {
-    handle: u32,
-    done: bool,
-    counted: (bool, bool),
-}
-
-fn sleep_once<W: World + Send + Sync, T: Threads + Wait + Sync>(
-    rt: &T,
-    alloc: Global,
-) -> Result<Option<SleepOutcome>, AllocError>
+/// Behind a sleep its I/O is done, and nobody is counted on one of the two handles any more.
+fn sleep_once<W: World + Send + Sync, R: Abort + AllocGlobal + Threads + Wait + Sync>(
+    rt: &R,
+) -> Result<(), Fail>
     requires { W.handles ≡ 2 }
 {
-    let (table, mut actors) = Table::<EmptyIo, W>::open(alloc, 1, 2, 1, 0)?;
-    let Some(mut runner) = last_actor(&table, &mut actors) else {
-        return Ok(None);
-    };
-    let Some(mut owner) = last_actor(&table, &mut actors) else {
-        return Ok(None);
-    };
-    let Some(token) = submit_second(&table, &mut owner) else {
-        return Ok(None);
-    };
+    let (table, mut actors) = Table::<EmptyIo, W>::open(rt.alloc(), 1, 2, 1, 0)?;
+    let mut runner = last_actor(&table, &mut actors).ok_or("no actor")?;
+    let mut owner = last_actor(&table, &mut actors).ok_or("no actor")?;
+    let token = submit_second(&table, &mut owner).ok_or("no free handle")?;
     let reference = token.reference();
-    let Some(claimed) = claim_io(&table, &mut runner, reference) else {
-        return Ok(None);
-    };
-    let done = sleep_beside_runner(rt, &table, owner, reference, runner, claimed);
-    Ok(Some(SleepOutcome {
-        handle: reference.handle,
-        done,
-        counted: (table.is_rested_on(0), table.is_rested_on(1)),
-    }))
+    let claimed = claim_io(&table, &mut runner, reference).ok_or("the I/O is not claimed")?;
+    assert!(rt; reference.handle == 1);
+    assert!(rt; sleep_beside_runner(rt, &table, owner, reference, runner, claimed));
+    assert!(rt; !table.is_rested_on(0) && !table.is_rested_on(1));
+    Ok(())
 }
 
 #[test]
-fn an_actor_sleeps_until_its_io_ends(rt: HostRuntime) -> Result<(), AllocError> {
-    let Some(slept) = sleep_once::<Brand, _>(&rt, rt.alloc())? else {
-        panic!(&rt; "a handle is free")
-    };
-    let wanted = SleepOutcome {
-        handle: 1,
-        done: true,
-        counted: (false, false),
-    };
-    assert!(&rt; slept == wanted);
-    Ok(())
+fn an_actor_sleeps_until_its_io_ends(rt: HostRuntime) -> Result<(), Fail> {
+    sleep_once::<Brand, _>(&rt)
 }

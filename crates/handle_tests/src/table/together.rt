@@ -6,8 +6,9 @@ use aio_fixtures::{EmptyIo, last_actor, submit_io};
 use aio_handle::{Actor, Claimed, Record, Table, laws};
 use aio_word::WaitRef;
 use page_check::World;
-use std::alloc::{AllocError, Global};
 use std::marker::Brand;
+use std::process::Abort;
+use std::test::Fail;
 
 /// Two actors try to claim one I/O, one after the other. That not both have it is proved from what
 /// their calls say, whatever other actors do.
@@ -29,38 +30,23 @@ fn claim_by_both<R: Record, W: World>(
     (first, second)
 }
 
-/// Who has won the one claim, and whether the I/O has then ended for each of them.
-fn claims_and_checks<W: World>(alloc: Global) -> Result<Option<[bool; 4]>, AllocError>
+/// The first has won the one claim, and the I/O has then ended for neither of them.
+fn claims_and_checks<W: World, R: Abort + AllocGlobal>(rt: &R) -> Result<(), Fail>
     requires { W.handles ≡ 1 }
 {
-    let (table, mut actors) = Table::<EmptyIo, W>::open(alloc, 1, 1, 2, 0)?;
-    let Some(mut other) = last_actor(&table, &mut actors) else {
-        return Ok(None);
-    };
-    let Some(mut one) = last_actor(&table, &mut actors) else {
-        return Ok(None);
-    };
-    let Some(mut backend) = last_actor(&table, &mut actors) else {
-        return Ok(None);
-    };
-    let Some(token) = submit_io(&table, &mut backend, EmptyIo::new()) else {
-        return Ok(None);
-    };
+    let (table, mut actors) = Table::<EmptyIo, W>::open(rt.alloc(), 1, 1, 2, 0)?;
+    let mut other = last_actor(&table, &mut actors).ok_or("no actor")?;
+    let mut one = last_actor(&table, &mut actors).ok_or("no actor")?;
+    let mut backend = last_actor(&table, &mut actors).ok_or("no actor")?;
+    let token = submit_io(&table, &mut backend, EmptyIo::new()).ok_or("no free handle")?;
     let reference = token.reference();
     let (first, second) = claim_by_both(&table, &mut one, &mut other, reference);
-    Ok(Some([
-        first.is_some(),
-        second.is_some(),
-        table.check(&mut one, reference),
-        table.check(&mut other, reference),
-    ]))
+    assert!(rt; first.is_some() && second.is_none());
+    assert!(rt; !table.check(&mut one, reference) && !table.check(&mut other, reference));
+    Ok(())
 }
 
 #[test]
-fn one_of_two_claims_wins(rt: HostRuntime) -> Result<(), AllocError> {
-    let Some(found) = claims_and_checks::<Brand>(rt.alloc())? else {
-        panic!(&rt; "a handle is free")
-    };
-    assert!(&rt; found == [true, false, false, false]);
-    Ok(())
+fn one_of_two_claims_wins(rt: HostRuntime) -> Result<(), Fail> {
+    claims_and_checks::<Brand, _>(&rt)
 }

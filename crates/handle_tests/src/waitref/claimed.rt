@@ -11,9 +11,10 @@ use aio_fixtures::{EmptyIo, claim_io, complete_as, last_actor};
 use aio_handle::{Actor, Claimed, InFlight, Table};
 use aio_word::Class;
 use page_check::World;
-use std::alloc::{AllocError, Global};
 use std::marker::Brand;
+use std::process::Abort;
 use std::sync::Wait;
+use std::test::Fail;
 use std::thread::{Threads, join};
 
 /// An owner waits for its I/O, and at that moment a runner completes it short.
@@ -42,7 +43,7 @@ pub(super) fn owner_beside_runner<W: World + Send + Sync, T: Threads + Wait + Sy
             requires { HasClaimed table.now runner claimed.0 claimed.1.label × (W.handles ≡ 8) }
         {
             moment.all_have_begun(rt);
-            moment.one_rests(rt, table, SHORT.handle);
+            moment.one_rests(rt, table, SHORT.0);
             moment.give_up_turns();
             complete_as(table, &mut runner, claimed, Class::Short);
         },
@@ -53,54 +54,35 @@ pub(super) fn owner_beside_runner<W: World + Send + Sync, T: Threads + Wait + Sy
 /// An I/O of handle 5 that a runner has claimed before its owner begins to wait, and that it ends
 /// short at the moment. The owner is the second of two backends with four handles each, whose
 /// generations begin at 3.
-fn claimed_before<W: World + Send + Sync, T: Threads + Wait + Sync>(
-    rt: &T,
-    alloc: Global,
+fn claimed_before<W: World + Send + Sync, R: Abort + AllocGlobal + Threads + Wait + Sync>(
+    rt: &R,
     moment: &Moment,
-) -> Result<Option<WaitOutcome>, AllocError>
+) -> Result<(), Fail>
     requires { W.handles ≡ 8 }
 {
-    let (table, mut actors) = Table::<EmptyIo, W>::open(alloc, 2, 4, 1, 3)?;
-    let Some(mut runner) = last_actor(&table, &mut actors) else {
-        return Ok(None);
-    };
-    let Some(mut owner) = last_actor(&table, &mut actors) else {
-        return Ok(None);
-    };
-    let Some(token) = submit_second(&table, &mut owner) else {
-        return Ok(None);
-    };
-    let Some(claimed) = claim_io(&table, &mut runner, token.reference()) else {
-        return Ok(None);
-    };
-    Ok(Some(owner_beside_runner(rt, &table, owner, token, runner, claimed, moment)))
+    let (table, mut actors) = Table::<EmptyIo, W>::open(rt.alloc(), 2, 4, 1, 3)?;
+    let mut runner = last_actor(&table, &mut actors).ok_or("no actor")?;
+    let mut owner = last_actor(&table, &mut actors).ok_or("no actor")?;
+    let token = submit_second(&table, &mut owner).ok_or("no free handle")?;
+    let claimed = claim_io(&table, &mut runner, token.reference()).ok_or("the I/O is not claimed")?;
+    let waited = owner_beside_runner(rt, &table, owner, token, runner, claimed, moment);
+    assert!(rt; waited == SHORT);
+    Ok(())
 }
 
-pub(super) const SHORT: WaitOutcome = WaitOutcome {
-    handle: 5,
-    class: Class::Short,
-    calls: 0,
-};
+pub(super) const SHORT: WaitOutcome = (5, Class::Short, 0);
 
 #[test]
-fn runner_has_claimed_before(rt: HostRuntime) -> Result<(), AllocError> {
-    let Some(waited) = claimed_before::<Brand, _>(&rt, rt.alloc(), &Moment::new(1, 0))? else {
-        panic!(&rt; "a handle is free")
-    };
-    assert!(&rt; waited == SHORT);
-    Ok(())
+fn runner_has_claimed_before(rt: HostRuntime) -> Result<(), Fail> {
+    claimed_before::<Brand, _>(&rt, &Moment::new(1, 0))
 }
 
 /// The runner ends the I/O at another moment of the owner's wait each time: while the owner looks,
 /// on its way to sleep, and asleep.
 #[test]
-fn owner_sleeps_until_it_is_woken(rt: HostRuntime) -> Result<(), AllocError> {
+fn owner_sleeps_until_it_is_woken(rt: HostRuntime) -> Result<(), Fail> {
     for turns in 0..400 {
-        let moment = Moment::new(1, 5 * turns);
-        let Some(waited) = claimed_before::<Brand, _>(&rt, rt.alloc(), &moment)? else {
-            panic!(&rt; "a handle is free")
-        };
-        assert!(&rt; waited == SHORT);
+        claimed_before::<Brand, _>(&rt, &Moment::new(1, 5 * turns))?;
     }
     Ok(())
 }
@@ -108,11 +90,6 @@ fn owner_sleeps_until_it_is_woken(rt: HostRuntime) -> Result<(), AllocError> {
 /// The runner ends the I/O only once the owner rests: a wait that looked again and again instead
 /// would never return.
 #[test]
-fn a_wait_rests_and_does_not_spin(rt: HostRuntime) -> Result<(), AllocError> {
-    let moment = Moment::when_rested();
-    let Some(waited) = claimed_before::<Brand, _>(&rt, rt.alloc(), &moment)? else {
-        panic!(&rt; "a handle is free")
-    };
-    assert!(&rt; waited == SHORT);
-    Ok(())
+fn a_wait_rests_and_does_not_spin(rt: HostRuntime) -> Result<(), Fail> {
+    claimed_before::<Brand, _>(&rt, &Moment::when_rested())
 }

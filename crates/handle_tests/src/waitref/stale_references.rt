@@ -7,9 +7,10 @@ use aio_handle::{Actor, Table};
 use aio_waitref::{wait, wait_own};
 use aio_word::WaitRef;
 use page_check::World;
-use std::alloc::{AllocError, Global};
 use std::marker::Brand;
+use std::process::Abort;
 use std::sync::Wait;
+use std::test::Fail;
 
 /// One whole life of a handle that is free, which the actor executes by waiting.
 fn live<W: World, T: Wait>(rt: &T, table: &Table<EmptyIo, W>, actor: &mut Actor<EmptyIo, W>) -> bool
@@ -27,59 +28,30 @@ fn live<W: World, T: Wait>(rt: &T, table: &Table<EmptyIo, W>, actor: &mut Actor<
     true
 }
 
-/// What came of a wait for an I/O that is over: how often the waiter's executor was called, and
-/// whether the I/O that the handle then had in flight could still be claimed.
-#[derive(Clone, Copy, Debug, PartialEq, Eq)]
-struct StaleAnswers {
-    calls: u64,
-    left: bool,
-}
-
 /// A handle lives three times, and has a fourth I/O in flight. Another actor then waits for the
-/// first.
-fn wait_for_the_first<W: World, T: Wait>(
-    rt: &T,
-    alloc: Global,
-) -> Result<Option<StaleAnswers>, AllocError>
+/// first: its executor is not called, and the fourth can still be claimed.
+fn wait_for_the_first<W: World, R: Abort + AllocGlobal + Wait>(rt: &R) -> Result<(), Fail>
     requires { W.handles ≡ 1 }
 {
-    let (table, mut actors) = Table::<EmptyIo, W>::open(alloc, 1, 1, 1, 5)?;
-    let Some(mut waiter) = last_actor(&table, &mut actors) else {
-        return Ok(None);
-    };
-    let Some(mut owner) = last_actor(&table, &mut actors) else {
-        return Ok(None);
-    };
-    let lived = live(rt, &table, &mut owner)
-        && live(rt, &table, &mut owner)
-        && live(rt, &table, &mut owner);
-    if !lived {
-        return Ok(None);
+    let (table, mut actors) = Table::<EmptyIo, W>::open(rt.alloc(), 1, 1, 1, 5)?;
+    let mut waiter = last_actor(&table, &mut actors).ok_or("no actor")?;
+    let mut owner = last_actor(&table, &mut actors).ok_or("no actor")?;
+    for _ in 0..3 {
+        assert!(rt; live(rt, &table, &mut owner));
     }
-    let Some(token) = submit_io(&table, &mut owner, EmptyIo::new()) else {
-        return Ok(None);
-    };
+    let token = submit_io(&table, &mut owner, EmptyIo::new()).ok_or("no free handle")?;
     let first = WaitRef {
         handle: 0,
         generation: 5,
     };
     let mut executor = WholeExecutor::<W>::new();
     wait(rt, &table, &mut waiter, first, &mut executor);
-    Ok(Some(StaleAnswers {
-        calls: executor.calls,
-        left: table.claim(&mut waiter, token.reference()).is_some(),
-    }))
+    assert!(rt; executor.calls == 0);
+    assert!(rt; table.claim(&mut waiter, token.reference()).is_some());
+    Ok(())
 }
 
 #[test]
-fn reference_three_generations_old_returns_at_once(rt: HostRuntime) -> Result<(), AllocError> {
-    let Some(stale) = wait_for_the_first::<Brand, _>(&rt, rt.alloc())? else {
-        panic!(&rt; "a handle is free")
-    };
-    let untouched = StaleAnswers {
-        calls: 0,
-        left: true,
-    };
-    assert!(&rt; stale == untouched);
-    Ok(())
+fn reference_three_generations_old_returns_at_once(rt: HostRuntime) -> Result<(), Fail> {
+    wait_for_the_first::<Brand, _>(&rt)
 }
