@@ -1,12 +1,14 @@
 //! As many reads as a pool has frames, and more pages than those.
 ghost use Rattle.std.specs.Prelude.{◌≡◌, ◌≤◌, None};
 
-use crate::pages::{LATER, MINE, SEVEN, visit};
+use crate::pages::{LATER, MINE, SEVEN, pin_seven, visit};
 use buf_pool::{Begun, Found, Look, Pool, Tag};
 use page_check::World;
 use std::alloc::{AllocError, Global};
 use std::marker::Brand;
+use std::process::Abort;
 use std::sync::Wait;
+use std::test::Fail;
 
 /// Whether the pool says that the first I/O reads the block.
 fn is_mine<W: World, R: Wait>(rt: &R, pool: &Pool<W>, tag: Tag) -> bool {
@@ -18,18 +20,6 @@ fn is_mine<W: World, R: Wait>(rt: &R, pool: &Pool<W>, tag: Tag) -> bool {
         Found::Busy(reference) => reference == MINE,
         Found::Absent => false,
     }
-}
-
-/// What a pool answers where each of its frames awaits a page.
-#[derive(Clone, Copy)]
-struct Full {
-    /// How many frame numbers the neighbouring blocks had.
-    taken: u32,
-    /// To one block more.
-    further: Begun,
-    /// To one of those blocks again.
-    again: Begun,
-    mine: bool,
 }
 
 /// Begins as many neighbouring blocks as the pool has frames; how many numbers of frames they had.
@@ -56,22 +46,32 @@ fn begin_all<W: World, R: Wait>(
 }
 
 /// Begins as many neighbouring blocks as the pool has frames, one more, and one again.
-fn fill_pool<W: World, R: Wait>(rt: &R, alloc: Global, frames: u32) -> Result<Full, AllocError>
+fn fill_pool<W: World, R: Abort + AllocGlobal + Wait>(rt: &R, frames: u32) -> Result<(), AllocError>
     requires handles { W.handles ≡ 2 }
     requires frames { (16 ≤ frames) × (frames ≤ 16384) }
 {
-    let pool: Pool<W> = Pool::open(alloc, frames)?;
-    let taken = begin_all(rt, alloc, &pool, frames)?;
+    let pool: Pool<W> = Pool::open(rt.alloc(), frames)?;
+    assert_eq!(rt;
+        begin_all(rt, rt.alloc(), &pool, frames)?,
+        frames,
+        "{frames} frames"
+    );
     let further = Tag {
         relation: 0,
         block: frames,
     };
-    Ok(Full {
-        taken,
-        further: pool.begin(rt, further, LATER),
-        again: pool.begin(rt, SEVEN, LATER),
-        mine: is_mine(rt, &pool, SEVEN),
-    })
+    assert_eq!(rt;
+        pool.begin(rt, further, LATER),
+        Begun::NoRoom,
+        "{frames} frames"
+    );
+    assert_eq!(rt;
+        pool.begin(rt, SEVEN, LATER),
+        Begun::Busy(MINE),
+        "{frames} frames"
+    );
+    assert!(rt; is_mine(rt, &pool, SEVEN), "{frames} frames");
+    Ok(())
 }
 
 #[test]
@@ -79,11 +79,7 @@ fn as_many_blocks_are_begun_as_there_are_frames(rt: HostRuntime) -> Result<(), A
     // One part; one part with a frame more; parts of 17 and 16; 4 parts of 25; 8 and 128 parts of
     // 16; 4 parts, three of them of 26 and one of 25.
     for frames in [16, 17, 33, 100, 128, 2048, 103] {
-        let full = fill_pool::<Brand, HostRuntime>(&rt, rt.alloc(), frames)?;
-        assert_eq!(rt; full.taken, frames, "{frames} frames");
-        assert_eq!(rt; full.further, Begun::NoRoom, "{frames} frames");
-        assert_eq!(rt; full.again, Begun::Busy(MINE), "{frames} frames");
-        assert!(&rt; full.mine, "{frames} frames");
+        fill_pool::<Brand, _>(&rt, frames)?;
     }
     Ok(())
 }
@@ -98,30 +94,27 @@ fn read_forty<W: World, R: Wait>(rt: &R, alloc: Global, pool: &Pool<W>) -> Resul
     Ok(())
 }
 
-/// Whether a page is there while it is pinned and forty others are read, and whether it is once its
-/// pin is gone and as many reads are under way as the pool has frames.
-fn pin_and_let_go<W: World, R: Wait>(rt: &R, alloc: Global) -> Result<(bool, bool), AllocError>
+/// A page is there while it is pinned and forty others are read. Once its pin is gone and as many
+/// reads are under way as the pool has frames, it is not.
+fn pin_and_let_go<W: World, R: Abort + AllocGlobal + Wait>(rt: &R) -> Result<(), Fail>
     requires { (W.told ≡ None) × (W.handles ≡ 2) }
 {
-    let pool: Pool<W> = Pool::open(alloc, 16)?;
-    visit(rt, alloc, &pool, 7, MINE)?;
-    let pin = match pool.lookup(rt, SEVEN) {
-        Found::Hit(pin) => pin,
-        Found::Busy(_) | Found::Absent => return Ok((false, true)),
-    };
-    let read = read_forty(rt, alloc, &pool);
+    let pool: Pool<W> = Pool::open(rt.alloc(), 16)?;
+    visit(rt, rt.alloc(), &pool, 7, MINE)?;
+    let pin = pin_seven(rt, &pool).ok_or("no pin")?;
+    let read = read_forty(rt, rt.alloc(), &pool);
     let pinned = matches!(pool.peek(rt, SEVEN), Look::Hit(_));
     pool.unpin(rt, pin);
     read?;
+    assert!(rt; pinned);
     for block in 100..116 {
         let _ = pool.begin(rt, Tag { relation: 0, block }, MINE);
     }
-    Ok((pinned, matches!(pool.peek(rt, SEVEN), Look::Hit(_))))
+    assert!(rt; !matches!(pool.peek(rt, SEVEN), Look::Hit(_)));
+    Ok(())
 }
 
 #[test]
-fn a_pinned_page_stays(rt: HostRuntime) -> Result<(), AllocError> {
-    let (pinned, after) = pin_and_let_go::<Brand, HostRuntime>(&rt, rt.alloc())?;
-    assert!(&rt; pinned && !after);
-    Ok(())
+fn a_pinned_page_stays(rt: HostRuntime) -> Result<(), Fail> {
+    pin_and_let_go::<Brand, _>(&rt)
 }

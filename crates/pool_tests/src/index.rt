@@ -4,8 +4,9 @@ ghost use Rattle.std.specs.Prelude.{◌≡◌, ◌+◌, ◌^◌, ◌<◌};
 use aio_word::WaitRef;
 use buf_pool::{Begun, Look, PoolIndex, Tag};
 use page_check::World;
-use std::alloc::{AllocError, Global};
+use std::alloc::AllocError;
 use std::marker::Brand;
+use std::process::Abort;
 
 const FIRST: Tag = Tag {
     relation: 0,
@@ -57,134 +58,84 @@ fn unpins_one<W: World>(index: &mut PoolIndex<W>, frame: u32) -> bool {
     }
 }
 
-/// What an entry in progress answers to its own reference and to another.
-#[derive(Clone, Copy)]
-struct InProgress {
-    again: Begun,
-    ended_by_another: Option<u32>,
-    frame_by_another: Option<u32>,
-    frame: Option<u32>,
-    ended: Option<u32>,
-    look: Look,
-}
-
-fn read_first<W: World>(index: &mut PoolIndex<W>) -> InProgress
-    requires { 1 < W.handles }
+/// What an entry in progress answers to its own reference and to another; then what the index
+/// answers while its frame is pinned and the others await pages, and after.
+fn first_page<W: World, R: Abort + AllocGlobal>(rt: &R) -> Result<(), AllocError>
+    requires { W.handles ≡ 2 }
 {
-    InProgress {
-        again: index.begin(FIRST, reference(1)),
-        ended_by_another: index.end(FIRST, reference(1), true),
-        frame_by_another: index.frame(FIRST, reference(1)),
-        frame: index.frame(FIRST, reference(0)),
-        ended: index.end(FIRST, reference(0), true),
-        look: index.look(FIRST),
-    }
-}
-
-/// What the index answers while the first frame is pinned and the others await pages, and after.
-#[derive(Clone, Copy)]
-struct Full {
-    pinned: bool,
-    fifteen: bool,
-    no_room: Begun,
-    unpinned: bool,
-    replaced: Begun,
-    gone: Look,
-}
-
-fn fill<W: World>(index: &mut PoolIndex<W>, frame: u32) -> Full
-    requires { 0 < W.handles }
-{
+    let mut index: PoolIndex<W> = PoolIndex::open(rt.alloc(), 16)?;
+    let Begun::Yes(frame) = index.begin(FIRST, reference(0)) else {
+        panic!(rt; "a frame is free")
+    };
+    assert_eq!(rt; index.begin(FIRST, reference(1)), Begun::Busy(reference(0)));
+    assert_eq!(rt; index.end(FIRST, reference(1), true), None);
+    assert_eq!(rt; index.frame(FIRST, reference(1)), None);
+    assert_eq!(rt; index.frame(FIRST, reference(0)), Some(frame));
+    assert_eq!(rt; index.end(FIRST, reference(0), true), Some(frame));
+    assert_eq!(rt; index.look(FIRST), Look::Hit(frame));
     let further = Tag {
         relation: 1,
         block: 0,
     };
-    Full {
-        pinned: pins_one(index, frame),
-        fifteen: begins_all(index, 1, 15),
-        no_room: index.begin(further, reference(0)),
-        unpinned: unpins_one(index, frame),
-        replaced: index.begin(further, reference(0)),
-        gone: index.look(FIRST),
-    }
-}
-
-fn first_page<W: World>(alloc: Global) -> Result<Option<(u32, InProgress, Full)>, AllocError>
-    requires { W.handles ≡ 2 }
-{
-    let mut index: PoolIndex<W> = PoolIndex::open(alloc, 16)?;
-    let Begun::Yes(frame) = index.begin(FIRST, reference(0)) else {
-        return Ok(None);
-    };
-    let read = read_first(&mut index);
-    let full = fill(&mut index, frame);
-    Ok(Some((frame, read, full)))
+    assert!(rt; pins_one(&mut index, frame));
+    assert!(rt; begins_all(&mut index, 1, 15));
+    assert_eq!(rt; index.begin(further, reference(0)), Begun::NoRoom);
+    assert!(rt; unpins_one(&mut index, frame));
+    assert_eq!(rt; index.begin(further, reference(0)), Begun::Yes(frame));
+    assert_eq!(rt; index.look(FIRST), Look::Absent);
+    Ok(())
 }
 
 #[test]
 fn index_of_16_frames(rt: HostRuntime) -> Result<(), AllocError> {
-    let Some((frame, read, full)) = first_page::<Brand>(rt.alloc())? else {
-        panic!(&rt; "a frame is free")
-    };
-    assert_eq!(rt; read.again, Begun::Busy(reference(0)));
-    assert_eq!(rt; read.ended_by_another, None);
-    assert_eq!(rt; read.frame_by_another, None);
-    assert_eq!(rt; read.frame, Some(frame));
-    assert_eq!(rt; read.ended, Some(frame));
-    assert_eq!(rt; read.look, Look::Hit(frame));
-    assert!(&rt; full.pinned && full.fifteen && full.unpinned);
-    assert_eq!(rt; full.no_room, Begun::NoRoom);
-    assert_eq!(rt; full.replaced, Begun::Yes(frame));
-    assert_eq!(rt; full.gone, Look::Absent);
-    Ok(())
+    first_page::<Brand, _>(&rt)
 }
 
-fn begin_too_many<W: World>(alloc: Global) -> Result<(bool, Begun, Begun), AllocError>
+/// Begins 16 blocks, another one, and the first again.
+fn begin_too_many<W: World, R: Abort + AllocGlobal>(rt: &R) -> Result<(), AllocError>
     requires { W.handles ≡ 2 }
 {
-    let mut index: PoolIndex<W> = PoolIndex::open(alloc, 16)?;
-    let sixteen = begins_all(&mut index, 0, 16);
+    let mut index: PoolIndex<W> = PoolIndex::open(rt.alloc(), 16)?;
+    assert!(rt; begins_all(&mut index, 0, 16));
     let further = Tag {
         relation: 0,
         block: 16,
     };
-    let refused = index.begin(further, reference(1));
-    Ok((sixteen, refused, index.begin(FIRST, reference(1))))
+    assert_eq!(rt; index.begin(further, reference(1)), Begun::NoRoom);
+    assert_eq!(rt; index.begin(FIRST, reference(1)), Begun::Busy(reference(0)));
+    Ok(())
 }
 
 #[test]
 fn all_in_progress(rt: HostRuntime) -> Result<(), AllocError> {
-    let (sixteen, refused, first) = begin_too_many::<Brand>(rt.alloc())?;
-    assert!(&rt; sixteen);
-    assert_eq!(rt; refused, Begun::NoRoom);
-    assert_eq!(rt; first, Begun::Busy(reference(0)));
-    Ok(())
+    begin_too_many::<Brand, _>(&rt)
 }
 
-/// Reads every block of a relation of 40,000 through 16 frames, dropping each third page; whether
-/// each block found a frame.
-fn read_through<W: World>(alloc: Global) -> Result<bool, AllocError>
+/// Reads every block of a relation of 40,000 through 16 frames, dropping each third page.
+fn read_through<W: World, R: Abort + AllocGlobal>(rt: &R) -> Result<(), AllocError>
     requires { W.handles ≡ 2 }
 {
-    let mut index: PoolIndex<W> = PoolIndex::open(alloc, 16)?;
+    let mut index: PoolIndex<W> = PoolIndex::open(rt.alloc(), 16)?;
     for block in 0..40_000 {
         let tag = Tag { relation: 3, block };
         let Begun::Yes(frame) = index.begin(tag, reference(1)) else {
-            return Ok(false);
+            panic!(rt; "block {block} has no frame")
         };
         let kept = block % 3 != 0;
         let wanted = if kept { Look::Hit(frame) } else { Look::Absent };
-        if index.end(tag, reference(1), kept) != Some(frame) || index.look(tag) != wanted {
-            return Ok(false);
-        }
+        assert_eq!(rt;
+            index.end(tag, reference(1), kept),
+            Some(frame),
+            "block {block}"
+        );
+        assert_eq!(rt; index.look(tag), wanted, "block {block}");
     }
-    Ok(true)
+    Ok(())
 }
 
 #[test]
 fn blocks_replace_each_other(rt: HostRuntime) -> Result<(), AllocError> {
-    assert!(&rt; read_through::<Brand>(rt.alloc())?);
-    Ok(())
+    read_through::<Brand, _>(&rt)
 }
 
 /// Reads blocks of relation 0 one after the other; whether each found a frame.
@@ -215,59 +166,51 @@ fn has<W: World>(index: &PoolIndex<W>, block: u32) -> bool {
     matches!(index.look(Tag { relation: 0, block }), Look::Hit(_))
 }
 
-/// Reads 16 blocks and two more, uses these two and block 2, and reads another one. Which of the first
-/// four blocks are then there, where each had a frame.
-fn replace_three<W: World>(alloc: Global) -> Result<Option<[bool; 4]>, AllocError>
+/// Reads 16 blocks and two more, uses these two and block 2, and reads another one. The frames of the
+/// ring are in use, and the hand of the clock has passed blocks 0 and 1. It takes block 3, since
+/// block 2 was used.
+fn replace_three<W: World, R: Abort + AllocGlobal>(rt: &R) -> Result<(), AllocError>
     requires { W.handles ≡ 2 }
 {
-    let mut index: PoolIndex<W> = PoolIndex::open(alloc, 16)?;
-    let used = reads_all(&mut index, 0, 18)
-        && uses(&mut index, 16)
-        && uses(&mut index, 17)
-        && uses(&mut index, 2);
-    if !used || !reads_all(&mut index, 18, 1) {
-        return Ok(None);
+    let mut index: PoolIndex<W> = PoolIndex::open(rt.alloc(), 16)?;
+    assert!(rt; reads_all(&mut index, 0, 18));
+    for block in [16, 17, 2] {
+        assert!(rt; uses(&mut index, block), "block {block}");
     }
-    Ok(Some([
-        has(&index, 0),
-        has(&index, 1),
-        has(&index, 2),
-        has(&index, 3),
-    ]))
+    assert!(rt; reads_all(&mut index, 18, 1));
+    for (block, there) in [(0, false), (1, false), (2, true), (3, false)] {
+        assert_eq!(rt; has(&index, block), there, "block {block}");
+    }
+    Ok(())
 }
 
-// The frames of the ring are in use, and the hand of the clock has passed blocks 0 and 1. It takes
-// block 3, since block 2 was used.
 #[test]
 fn a_page_in_use_is_not_the_next_to_go(rt: HostRuntime) -> Result<(), AllocError> {
-    let there = replace_three::<Brand>(rt.alloc())?;
-    assert_eq!(rt; there, Some([false, false, true, false]));
-    Ok(())
+    replace_three::<Brand, _>(&rt)
 }
 
-/// Reads 16 blocks and four more: which of the first three and of the last three are then there.
-fn replace_by_ring<W: World>(alloc: Global) -> Result<Option<[bool; 6]>, AllocError>
+/// Reads 16 blocks and four more. Blocks 16 and 17 take the frames of 0 and 1, and these are the
+/// ring. Nobody looks them up, so 18 and 19 take their frames, and all others stay.
+fn replace_by_ring<W: World, R: Abort + AllocGlobal>(rt: &R) -> Result<(), AllocError>
     requires { W.handles ≡ 2 }
 {
-    let mut index: PoolIndex<W> = PoolIndex::open(alloc, 16)?;
-    if !reads_all(&mut index, 0, 20) {
-        return Ok(None);
+    let mut index: PoolIndex<W> = PoolIndex::open(rt.alloc(), 16)?;
+    assert!(rt; reads_all(&mut index, 0, 20));
+    let rows = [
+        (0, false),
+        (1, false),
+        (2, true),
+        (17, false),
+        (18, true),
+        (19, true),
+    ];
+    for (block, there) in rows {
+        assert_eq!(rt; has(&index, block), there, "block {block}");
     }
-    Ok(Some([
-        has(&index, 0),
-        has(&index, 1),
-        has(&index, 2),
-        has(&index, 17),
-        has(&index, 18),
-        has(&index, 19),
-    ]))
+    Ok(())
 }
 
-// Blocks 16 and 17 take the frames of 0 and 1, and these are the ring. Nobody looks them up, so 18
-// and 19 take their frames, and all others stay.
 #[test]
 fn a_page_that_nobody_looks_up_is_the_next_to_go(rt: HostRuntime) -> Result<(), AllocError> {
-    let there = replace_by_ring::<Brand>(rt.alloc())?;
-    assert_eq!(rt; there, Some([false, false, true, false, true, true]));
-    Ok(())
+    replace_by_ring::<Brand, _>(&rt)
 }

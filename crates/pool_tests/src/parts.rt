@@ -5,9 +5,12 @@ ghost use Rattle.page_check.specs.Verdict.{IsValid};
 use crate::pages::{MINE, page_of, read_into};
 use buf_pool::{Begun, Found, Look, Pool, Tag};
 use page_check::{Page, World};
-use std::alloc::{AllocError, Global};
+use std::alloc::AllocError;
 use std::marker::Brand;
+use std::ops::Range;
+use std::process::Abort;
 use std::sync::Wait;
+use std::test::Fail;
 
 /// Whether the pool has the page of this tag, which is pinned and let go again.
 fn is_there<W: World, R: Wait>(rt: &R, pool: &Pool<W>, tag: Tag) -> bool {
@@ -20,6 +23,21 @@ fn is_there<W: World, R: Wait>(rt: &R, pool: &Pool<W>, tag: Tag) -> bool {
         }
         Found::Busy(_) | Found::Absent => false,
     }
+}
+
+/// How many pages of a relation are there, of so many blocks.
+fn count_there<W: World, R: Wait>(
+    rt: &R,
+    pool: &Pool<W>,
+    relation: u32,
+    blocks: Range<u32>,
+) -> u32 {
+    let mut there = 0u32;
+    for block in blocks {
+        let tag = Tag { relation, block };
+        there = there.saturating_add(u32::from(is_there(rt, pool, tag)));
+    }
+    there
 }
 
 /// Reads as many neighbouring blocks of a relation as the pool has frames, and looks up each when it
@@ -44,118 +62,103 @@ fn fill_with<W: World, R: Wait>(
         let read = read_into(rt, pool, tag, page) && is_there(rt, pool, tag);
         taken = taken.saturating_add(u32::from(read));
     }
-    let mut there = 0u32;
-    for block in first..first + frames {
-        let tag = Tag { relation, block };
-        there = there.saturating_add(u32::from(is_there(rt, pool, tag)));
-    }
-    (taken, there)
+    (
+        taken,
+        count_there(rt, pool, relation, first..first + frames),
+    )
 }
 
-/// Fills a pool with blocks of three relations in turn: what came of each.
-fn fill_in_turn<W: World, R: Wait>(
+/// Fills a pool with blocks of three relations in turn: all take a frame, and so many of the later
+/// ones are left.
+fn fill_in_turn<W: World, R: Abort + AllocGlobal + Wait>(
     rt: &R,
-    alloc: Global,
     frames: u32,
-) -> Result<Option<[(u32, u32); 3]>, AllocError>
+    left: u32,
+) -> Result<(), Fail>
     requires told { W.told ≡ None }
     requires handles { W.handles ≡ 2 }
     requires frames { (16 ≤ frames) × (frames ≤ 16384) }
 {
-    let pool: Pool<W> = Pool::open(alloc, frames)?;
-    let Some(page) = page_of(alloc, 7)? else {
-        return Ok(None);
-    };
-    let zero = fill_with(rt, &pool, 0, frames, &page);
-    let one = fill_with(rt, &pool, 1, frames, &page);
-    let three = fill_with(rt, &pool, 3, frames, &page);
-    Ok(Some([zero, one, three]))
+    let pool: Pool<W> = Pool::open(rt.alloc(), frames)?;
+    let page = page_of(rt.alloc(), 7)?.ok_or("no sane page")?;
+    for (relation, left) in [(0, frames), (1, left), (3, left)] {
+        let filled = fill_with(rt, &pool, relation, frames, &page);
+        assert_eq!(rt;
+            filled,
+            (frames, left),
+            "{frames} frames, relation {relation}"
+        );
+    }
+    Ok(())
 }
 
 // Two parts of 17 and 16 frames, and four of 25. Pages that were looked up before are replaced. Each
 // part loses one of the new pages to its ring, once the hand of the clock has passed it.
 #[test]
-fn each_relation_has_all_frames_in_turn(rt: HostRuntime) -> Result<(), AllocError> {
+fn each_relation_has_all_frames_in_turn(rt: HostRuntime) -> Result<(), Fail> {
     for (frames, left) in [(33, 31), (100, 96)] {
-        let Some(filled) = fill_in_turn::<Brand, HostRuntime>(&rt, rt.alloc(), frames)? else {
-            panic!(&rt; "a page is sane")
-        };
-        let later = (frames, left);
-        assert_eq!(rt; filled, [(frames, frames), later, later], "{frames} frames");
+        fill_in_turn::<Brand, _>(&rt, frames, left)?;
     }
     Ok(())
 }
 
-/// How many pages of relation 0, each of which was looked up, are still there after a read of 1,000
+/// So many pages of relation 0, each of which was looked up, are still there after a read of 1,000
 /// blocks of relation 1 that nobody looks up.
-fn read_beside<W: World, R: Wait>(
+fn read_beside<W: World, R: Abort + AllocGlobal + Wait>(
     rt: &R,
-    alloc: Global,
     frames: u32,
-) -> Result<Option<u32>, AllocError>
+    left: u32,
+) -> Result<(), Fail>
     requires told { W.told ≡ None }
     requires handles { W.handles ≡ 2 }
     requires frames { (16 ≤ frames) × (frames ≤ 16384) }
 {
-    let pool: Pool<W> = Pool::open(alloc, frames)?;
-    let Some(page) = page_of(alloc, 7)? else {
-        return Ok(None);
-    };
+    let pool: Pool<W> = Pool::open(rt.alloc(), frames)?;
+    let page = page_of(rt.alloc(), 7)?.ok_or("no sane page")?;
     let _ = fill_with(rt, &pool, 0, frames, &page);
     for block in 0..1000 {
         let _ = read_into(rt, &pool, Tag { relation: 1, block }, &page);
     }
-    let mut there = 0u32;
-    for block in 0..frames {
-        let tag = Tag { relation: 0, block };
-        there = there.saturating_add(u32::from(is_there(rt, &pool, tag)));
-    }
-    Ok(Some(there))
+    assert_eq!(rt;
+        count_there(rt, &pool, 0, 0..frames),
+        left,
+        "{frames} frames"
+    );
+    Ok(())
 }
 
 // Each read takes the frame of the one before it in its part, and so each part loses one page.
 #[test]
-fn a_long_read_leaves_the_pages_that_were_looked_up(rt: HostRuntime) -> Result<(), AllocError> {
+fn a_long_read_leaves_the_pages_that_were_looked_up(rt: HostRuntime) -> Result<(), Fail> {
     for (frames, parts) in [(16, 1), (33, 2), (128, 8)] {
-        let there = read_beside::<Brand, HostRuntime>(&rt, rt.alloc(), frames)?;
-        assert_eq!(rt; there, Some(frames - parts), "{frames} frames");
+        read_beside::<Brand, _>(&rt, frames, frames - parts)?;
     }
     Ok(())
 }
 
 /// Begins as many blocks of one part as it has frames, one more of that part, and one of another.
-fn fill_one_part<W: World, R: Wait>(rt: &R, alloc: Global) -> Result<[Begun; 3], AllocError>
+fn fill_one_part<W: World, R: Abort + AllocGlobal + Wait>(rt: &R) -> Result<(), AllocError>
     requires { W.handles ≡ 2 }
 {
-    let pool: Pool<W> = Pool::open(alloc, 32)?;
-    let mut last = Begun::NoRoom;
-    for half in 0u32..16 {
-        let tag = Tag {
-            relation: 0,
-            block: 2 * half,
-        };
-        last = pool.begin(rt, tag, MINE);
+    let pool: Pool<W> = Pool::open(rt.alloc(), 32)?;
+    for half in 0u32..15 {
+        let block = 2 * half;
+        let _ = pool.begin(rt, Tag { relation: 0, block }, MINE);
     }
-    let same = Tag {
-        relation: 0,
-        block: 32,
-    };
-    let other = Tag {
-        relation: 0,
-        block: 1,
-    };
-    Ok([
-        last,
-        pool.begin(rt, same, MINE),
-        pool.begin(rt, other, MINE),
-    ])
+    let rows = [
+        (30, Begun::Yes(15)),
+        (32, Begun::NoRoom),
+        (1, Begun::Yes(16)),
+    ];
+    for (block, wanted) in rows {
+        let begun = pool.begin(rt, Tag { relation: 0, block }, MINE);
+        assert_eq!(rt; begun, wanted, "block {block}");
+    }
+    Ok(())
 }
 
 // Two parts of 16 frames.
 #[test]
 fn a_part_runs_out_by_itself(rt: HostRuntime) -> Result<(), AllocError> {
-    let begun = fill_one_part::<Brand, HostRuntime>(&rt, rt.alloc())?;
-    let expected = [Begun::Yes(15), Begun::NoRoom, Begun::Yes(16)];
-    assert_eq!(rt; begun, expected);
-    Ok(())
+    fill_one_part::<Brand, _>(&rt)
 }

@@ -1,13 +1,16 @@
 //! Two threads over one pool.
 ghost use Rattle.std.specs.Prelude.{◌≡◌, ◌<◌, None};
+ghost use Rattle.page_check.specs.Verdict.{IsValid};
 
 use crate::pages::{SEVEN, Shown, page_of, pin_seven, read_into, shows, visit};
 use aio_word::WaitRef;
 use buf_pool::{Look, Pool, Tag};
-use page_check::World;
+use page_check::{Page, World};
 use std::alloc::{AllocError, Global};
 use std::marker::Brand;
+use std::process::Abort;
 use std::sync::Wait;
+use std::test::Fail;
 use std::thread;
 use std::thread::Threads;
 
@@ -37,13 +40,13 @@ fn visit_all<W: World, R: Wait>(
     Ok(some)
 }
 
-/// Whether two threads had the pages that they asked for, and the last block is still there.
-fn visit_by_two<W: World + Send + Sync, R: Threads + Wait + Sync>(
+/// Two threads have the pages that they ask for, and the last block is still there.
+fn visit_by_two<W: World + Send + Sync, R: Abort + AllocGlobal + Threads + Wait + Sync>(
     rt: &R,
-    alloc: Global,
-) -> Result<bool, AllocError>
+) -> Result<(), AllocError>
     requires { (W.told ≡ None) × (W.handles ≡ 2) }
 {
+    let alloc = rt.alloc();
     let pool: Pool<W> = Pool::open(alloc, 16)?;
     let shared = &pool;
     let (one, other) = thread::join(
@@ -59,28 +62,27 @@ fn visit_by_two<W: World + Send + Sync, R: Threads + Wait + Sync>(
         relation: 0,
         block: 39,
     };
-    Ok(one? && other? && matches!(pool.peek(rt, last), Look::Hit(_)))
+    assert!(rt; one? && other?);
+    assert!(rt; matches!(pool.peek(rt, last), Look::Hit(_)));
+    Ok(())
 }
 
 #[test]
 fn two_threads_pin_the_pages_that_they_asked_for(rt: HostRuntime) -> Result<(), AllocError> {
-    assert!(&rt; visit_by_two::<Brand, HostRuntime>(&rt, rt.alloc())?);
-    Ok(())
+    visit_by_two::<Brand, _>(&rt)
 }
 
 /// Reads 1,000 other blocks into the pool; whether each found a frame.
-fn read_others<W: World, R: Wait>(rt: &R, alloc: Global, pool: &Pool<W>) -> Result<bool, AllocError>
-    requires { (W.told ≡ None) × (W.handles ≡ 2) }
+fn read_others<W: World, R: Wait>(rt: &R, pool: &Pool<W>, page: &Page) -> bool
+    requires told { (W.told ≡ None) × (W.handles ≡ 2) }
+    requires valid { IsValid page.now }
 {
-    let Some(page) = page_of(alloc, 1)? else {
-        return Ok(false);
-    };
     for block in 1000..2000 {
-        if !read_into(rt, pool, Tag { relation: 0, block }, &page) {
-            return Ok(false);
+        if !read_into(rt, pool, Tag { relation: 0, block }, page) {
+            return false;
         }
     }
-    Ok(true)
+    true
 }
 
 /// Looks block 7 up 1,000 times; whether each pin showed it.
@@ -98,37 +100,34 @@ fn look_at_seven<W: World, R: Wait>(rt: &R, pool: &Pool<W>) -> bool {
     true
 }
 
-/// Whether a pinned page stands and is found while two threads read others and look it up.
-fn pin_while_others_are_read<W: World + Send + Sync, R: Threads + Wait + Sync>(
-    rt: &R,
-    alloc: Global,
-) -> Result<bool, AllocError>
+/// A pinned page stands and is found while two threads read others and look it up.
+fn pin_while_others_are_read<
+    W: World + Send + Sync,
+    R: Abort + AllocGlobal + Threads + Wait + Sync,
+>(rt: &R) -> Result<(), Fail>
     requires { (W.told ≡ None) × (W.handles ≡ 2) }
 {
-    let pool: Pool<W> = Pool::open(alloc, 16)?;
-    let Some(page) = page_of(alloc, 7)? else {
-        return Ok(false);
-    };
-    let begun = read_into(rt, &pool, SEVEN, &page);
-    let Some(pin) = pin_seven(rt, &pool) else {
-        return Ok(false);
-    };
+    let pool: Pool<W> = Pool::open(rt.alloc(), 16)?;
+    let page = page_of(rt.alloc(), 7)?.ok_or("no sane page")?;
+    assert!(rt; read_into(rt, &pool, SEVEN, &page));
+    let pin = pin_seven(rt, &pool).ok_or("no pin")?;
     let before = pool.peek(rt, SEVEN);
     let shared = &pool;
+    let lent = &page;
     let (read, found) = thread::join(
         rt,
-        move || -> Result<bool, AllocError>
-            requires { (W.told ≡ None) × (W.handles ≡ 2) }
-        { read_others(rt, alloc, shared) },
+        move || -> bool
+            requires { (W.told ≡ None) × (W.handles ≡ 2) × IsValid lent.now }
+        { read_others(rt, shared, lent) },
         move || -> bool { look_at_seven(rt, shared) },
     );
     let same = shows(&pin, SEVEN) && pool.peek(rt, SEVEN) == before;
     pool.unpin(rt, pin);
-    Ok(begun && read? && found && same && matches!(before, Look::Hit(_)))
+    assert!(rt; read && found && same && matches!(before, Look::Hit(_)));
+    Ok(())
 }
 
 #[test]
-fn a_pinned_page_stands_while_others_are_read(rt: HostRuntime) -> Result<(), AllocError> {
-    assert!(&rt; pin_while_others_are_read::<Brand, HostRuntime>(&rt, rt.alloc())?);
-    Ok(())
+fn a_pinned_page_stands_while_others_are_read(rt: HostRuntime) -> Result<(), Fail> {
+    pin_while_others_are_read::<Brand, _>(&rt)
 }

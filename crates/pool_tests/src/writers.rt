@@ -6,9 +6,10 @@ use crate::pages::{MINE, SEVEN, page_of, pin_seven, read_into, shows};
 use aio_callback::Places;
 use buf_pool::{Begun, Look, Pin, Pool, Tag};
 use page_check::{Page, World};
-use std::alloc::{AllocError, Global};
 use std::marker::Brand;
+use std::process::Abort;
 use std::sync::Wait;
+use std::test::Fail;
 
 /// The block for which the frame of block 7 is taken.
 const NEXT: Tag = Tag {
@@ -16,24 +17,15 @@ const NEXT: Tag = Tag {
     block: 23,
 };
 
-/// What comes of a read into a frame whose page is still shown by a pin, and of one after it.
-#[derive(Clone, Copy)]
-struct WriterRefusal {
-    before: Look,
-    taken: Begun,
-    while_pinned: Look,
-    shown: bool,
-    after: Look,
-}
-
 /// Begins 16 blocks, the last of them `NEXT`, which takes the one frame that has a page. The index
-/// has no pin on that page, and a pin shows it.
-fn write_under_a_pin<W: World, R: Wait>(
+/// has no pin on that page, and a pin shows it: the read into that frame is refused, and one after
+/// it is not.
+fn write_under_a_pin<W: World, R: Abort + Wait>(
     rt: &R,
     pool: &Pool<W>,
     pin: Pin<'_, W>,
     page: &Page,
-) -> WriterRefusal
+)
     requires told { W.told ≡ None }
     requires range { 1 < W.handles }
     requires valid { IsValid page.now }
@@ -49,52 +41,36 @@ fn write_under_a_pin<W: World, R: Wait>(
     let shown = shows(&pin, SEVEN);
     pool.unpin(rt, pin);
     let _ = read_into(rt, pool, NEXT, page);
-    WriterRefusal {
-        before,
-        taken,
-        while_pinned,
-        shown,
-        after: pool.peek(rt, NEXT),
-    }
+    let Look::Hit(frame) = before else {
+        panic!(rt; "block 7 has a frame")
+    };
+    assert_eq!(rt; taken, Begun::Yes(frame));
+    assert_eq!(rt; while_pinned, Look::Absent);
+    assert!(rt; shown);
+    assert_eq!(rt; pool.peek(rt, NEXT), Look::Hit(frame));
 }
 
 /// Reads block 7 into two pools and pins it in both. The pin of the second is spent at the first,
 /// whose index then has no pin on the page.
-fn refuse_a_writer<W: World, R: Wait>(
-    rt: &R,
-    alloc: Global,
-) -> Result<Option<WriterRefusal>, AllocError>
+fn refuse_a_writer<W: World, R: Abort + AllocGlobal + Wait>(rt: &R) -> Result<(), Fail>
     requires { (W.told ≡ None) × (W.handles ≡ 2) }
 {
-    let pool: Pool<W> = Pool::open(alloc, 16)?;
-    let second: Pool<W> = Pool::open(alloc, 16)?;
-    let Some(page) = page_of(alloc, 7)? else {
-        return Ok(None);
-    };
+    let pool: Pool<W> = Pool::open(rt.alloc(), 16)?;
+    let second: Pool<W> = Pool::open(rt.alloc(), 16)?;
+    let page = page_of(rt.alloc(), 7)?.ok_or("no sane page")?;
     let _ = read_into(rt, &pool, SEVEN, &page);
     let _ = read_into(rt, &second, SEVEN, &page);
-    if let Some(stray) = pin_seven(rt, &second) {
-        let Some(pin) = pin_seven(rt, &pool) else {
-            second.unpin(rt, stray);
-            return Ok(None);
-        };
-        pool.unpin(rt, stray);
-        return Ok(Some(write_under_a_pin(rt, &pool, pin, &page)));
-    }
-    Ok(None)
+    let stray = pin_seven(rt, &second).ok_or("no pin")?;
+    let Some(pin) = pin_seven(rt, &pool) else {
+        second.unpin(rt, stray);
+        return Err(Fail::from("no pin"));
+    };
+    pool.unpin(rt, stray);
+    write_under_a_pin(rt, &pool, pin, &page);
+    Ok(())
 }
 
 #[test]
-fn a_frame_that_is_read_refuses_a_writer(rt: HostRuntime) -> Result<(), AllocError> {
-    let Some(refused) = refuse_a_writer::<Brand, HostRuntime>(&rt, rt.alloc())? else {
-        panic!(&rt; "block 7 is pinned")
-    };
-    let Look::Hit(frame) = refused.before else {
-        panic!(&rt; "block 7 has a frame")
-    };
-    assert_eq!(rt; refused.taken, Begun::Yes(frame));
-    assert_eq!(rt; refused.while_pinned, Look::Absent);
-    assert!(&rt; refused.shown);
-    assert_eq!(rt; refused.after, Look::Hit(frame));
-    Ok(())
+fn a_frame_that_is_read_refuses_a_writer(rt: HostRuntime) -> Result<(), Fail> {
+    refuse_a_writer::<Brand, _>(&rt)
 }
