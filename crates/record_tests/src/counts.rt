@@ -6,7 +6,7 @@ use aio_callback::CallbackId::{Buffer, Count, File};
 use aio_callback::{CallbackId, Counts, NoPlaces, Raw, ReadIo, TooMany};
 use aio_handle::Record;
 use page_check::World;
-use std::alloc::{AllocError, Global};
+use std::alloc::Global;
 use std::marker::Brand;
 use std::sync::Wait;
 use std::test::Fail;
@@ -26,16 +26,14 @@ fn counted<W: World, T: Wait>(
     alloc: Global,
     ids: &[CallbackId],
     mut counts: Counts,
-) -> Result<Option<(Counts, bool)>, AllocError>
+) -> Result<(Counts, bool), Fail>
     requires told { W.told ≡ None }
 {
-    let Ok(mut io) = aimed(alloc, ids)? else {
-        return Ok(None);
-    };
+    let mut io = aimed(alloc, ids)?;
     completed::<W, NoPlaces, T>(rt, &mut io, Raw::Read(4), &mut NoPlaces);
     let before = io.settled();
     io.complete_local(&mut counts);
-    Ok(Some((counts, !before && io.settled())))
+    Ok((counts, !before && io.settled()))
 }
 
 #[test]
@@ -48,9 +46,7 @@ fn each_count_counts(rt: HostRuntime) -> Result<(), Fail> {
     ];
     for (ids, (ios, blocks), wanted) in rows {
         let counts = Counts { ios, blocks };
-        let Some((counts, settles)) = counted::<Brand, _>(&rt, rt.alloc(), ids, counts)? else {
-            panic!(&rt; "there is room for the callbacks")
-        };
+        let (counts, settles) = counted::<Brand, _>(&rt, rt.alloc(), ids, counts)?;
         assert_eq!(rt; (counts.ios, counts.blocks), wanted, "with {ids:?}");
         assert!(rt; settles);
     }

@@ -1,5 +1,5 @@
 //! Reads of a disk that tells its contents.
-ghost use Rattle.std.specs.Prelude.{◌≡◌, ◌≢◌, ◌<◌, length, true, None, IfOk, IfSome};
+ghost use Rattle.std.specs.Prelude.{◌≡◌, ◌≢◌, ◌<◌, length, true, None, IfOk};
 ghost use Rattle.aio_word.specs.declared.Class.TheVariants.{Unended};
 ghost use Rattle.aio_callback.specs.ReadIoView.{ReadFits};
 ghost use Rattle.aio_callback.specs.StreamOutcomes.{stream_ids, IsStreamOutcome, given_count};
@@ -11,7 +11,7 @@ use aio_disk::{Disk, MemShelf, SteadyDisk, have_distinct_names};
 use aio_result::Status;
 use aio_word::Class;
 use page_check::World;
-use std::alloc::{AllocError, Global};
+use std::alloc::Global;
 use std::marker::Brand;
 use std::sync::Wait;
 use std::test::Fail;
@@ -52,18 +52,18 @@ fn read_in<W: World, D: Disk, T: Wait>(rt: &T, disk: &mut D, io: &mut ReadIo, ze
 }
 
 /// A disk with one file of three blocks of zeros, but for a byte of the second.
-fn three_blocks(alloc: Global) -> Result<Option<SteadyDisk>, AllocError>
-    ensures { IfOk result (λ o. IfSome o (λ d. length d.told.relations ≡ 1)) }
+fn three_blocks(alloc: Global) -> Result<SteadyDisk, Fail>
+    ensures { IfOk result (λ d. length d.told.relations ≡ 1) }
 {
     let mut bytes = vec![in alloc; 0u8; 3 * 8192]?;
     bytes[8192 + 8000] = 1;
     let files = vec![in alloc; (String::from_str(alloc, "three")?, bytes)]?;
     let names = vec![in alloc; String::from_str(alloc, "three")?]?;
     if !have_distinct_names(files.as_slice()) {
-        return Ok(None);
+        return Err(Fail::from("a name is given twice"));
     }
     let mut shelf = MemShelf::steady(alloc, files, 8)?;
-    Ok(shelf.open(names.as_slice()).ok())
+    Ok(shelf.open(names.as_slice()).ok().ok_or("no disk")?)
 }
 
 /// The callbacks of a stream.
@@ -84,22 +84,18 @@ fn read_of_disk<T: Wait>(
     alloc: Global,
     first: u32,
     zero: bool,
-) -> Result<Option<(Ending, u32, Vec<(bool, bool)>)>, AllocError>
+) -> Result<(Ending, u32, Vec<(bool, bool)>), Fail>
     requires { first < 8 }
 {
-    let Some(mut disk) = three_blocks(alloc)? else {
-        return Ok(None);
-    };
+    let mut disk = three_blocks(alloc)?;
     let mut io = ReadIo::make(alloc, 5)?;
-    if io.aim(0, first, 4, &callbacks(zero)).is_err() {
-        return Ok(None);
-    }
+    io.aim(0, first, 4, &callbacks(zero))?;
     let given = read_in::<Brand, SteadyDisk, T>(rt, &mut disk, &mut io, zero);
     let mut zeroed = Vec::new(alloc);
     for index in 0..io.good() {
         zeroed.push((io.zeroed(index), is_blank(io.page(index))))?;
     }
-    Ok(Some((ending_of(&io), given, zeroed)))
+    Ok((ending_of(&io), given, zeroed))
 }
 
 #[test]
@@ -121,9 +117,7 @@ fn reads_of_a_disk_fit_what_it_tells(rt: HostRuntime) -> Result<(), Fail> {
         (3, true, past_end, 0, None),
     ];
     for (first, zero, result, good, page) in rows {
-        let Some((ending, given, zeroed)) = read_of_disk(&rt, rt.alloc(), first, zero)? else {
-            panic!(&rt; "the disk is there")
-        };
+        let (ending, given, zeroed) = read_of_disk(&rt, rt.alloc(), first, zero)?;
         let wanted = Ending {
             class: Class::Short,
             result,
@@ -131,11 +125,8 @@ fn reads_of_a_disk_fit_what_it_tells(rt: HostRuntime) -> Result<(), Fail> {
         };
         assert_eq!(rt; ending, wanted, "from block {first}");
         assert_eq!(rt; given, good, "from block {first}");
-        assert_eq!(rt;
-            zeroed,
-            told_zeroed(rt.alloc(), good, page)?,
-            "from block {first}"
-        );
+        let marks = told_zeroed(rt.alloc(), good, page)?;
+        assert_eq!(rt; zeroed, marks, "from block {first}");
     }
     Ok(())
 }

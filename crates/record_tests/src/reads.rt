@@ -4,9 +4,9 @@ ghost use Rattle.aio_word.specs.declared.Class.TheVariants.{Unended};
 ghost use Rattle.aio_callback.specs.Chain.{IsWithin};
 ghost use Rattle.record_tests.specs.PendingReads.{IsPendingRead};
 
-use aio_callback::{CallbackId, Places, Raw, ReadIo, TooMany};
+use aio_callback::{CallbackId, Places, Raw, ReadIo};
 use aio_handle::Record;
-use aio_result::{AioResult, Status, encode};
+use aio_result::{AioResult, Status};
 use aio_word::{Class, WaitRef};
 use page_check::{Page, World};
 use std::alloc::{AllocError, Global};
@@ -56,20 +56,13 @@ impl<W: World> Places<W> for Notes {
 
 /// A record of handle 7 and generation 9 that is to read the blocks 10 to 13 of relation 3, and
 /// has room for 5.
-pub(crate) fn aimed(
-    alloc: Global,
-    ids: &[CallbackId],
-) -> Result<Result<ReadIo, TooMany>, AllocError>
-    ensures { IfOk result (λ o. IfOk o (λ r. IsPendingRead 4 r)) }
+pub(crate) fn aimed(alloc: Global, ids: &[CallbackId]) -> Result<ReadIo, Fail>
+    ensures { IfOk result (λ r. IsPendingRead 4 r) }
 {
     let mut io = ReadIo::make(alloc, 5)?;
-    match io.aim(3, 10, 4, ids) {
-        Ok(()) => {
-            io.bind(7, 9);
-            Ok(Ok(io))
-        }
-        Err(refusal) => Ok(Err(refusal)),
-    }
+    io.aim(3, 10, 4, ids)?;
+    io.bind(7, 9);
+    Ok(io)
 }
 
 /// Puts a page into the place of another one.
@@ -152,13 +145,11 @@ fn end_of<T: Wait>(
     ids: &[CallbackId],
     answer: Raw,
     bad: Option<usize>,
-) -> Result<Option<EndOutcome>, AllocError>
+) -> Result<EndOutcome, Fail>
     requires answer { IsWithin 4 answer }
     requires bad { IfSome bad (λ i. i < 4) }
 {
-    let Ok(mut io) = aimed(alloc, ids)? else {
-        return Ok(None);
-    };
+    let mut io = aimed(alloc, ids)?;
     if let Some(index) = bad {
         place(&mut io, index, &bad_page(alloc)?);
     }
@@ -170,11 +161,11 @@ fn end_of<T: Wait>(
     for index in 0..io.good() {
         zeroed.push((io.zeroed(index), is_blank(io.page(index))))?;
     }
-    Ok(Some(EndOutcome {
+    Ok(EndOutcome {
         ending,
         notes,
         zeroed,
-    }))
+    })
 }
 
 /// A read and what becomes of it.
@@ -245,36 +236,13 @@ pub(crate) fn check_case<R: Abort + AllocGlobal + Wait>(
 ) -> Result<(), Fail> {
     assert!(rt; matches!(case.answer, Raw::Failed | Raw::Read(0..=4)));
     assert!(rt; case.bad.is_none_or(|index| index < 4));
-    let Some(ended) = end_of(rt, rt.alloc(), ids, case.answer, case.bad)? else {
-        panic!(rt; "there is room for the callbacks")
-    };
+    let ended = end_of(rt, rt.alloc(), ids, case.answer, case.bad)?;
     let good = case.ending.good;
     assert_eq!(rt; ended.ending, case.ending, "{case:?}");
     assert_eq!(rt; case.answer.class(4), case.ending.class, "{case:?}");
-    assert_eq!(rt;
-        ended.notes.calls,
-        told_calls(rt.alloc(), good, zeroed)?,
-        "{case:?}"
-    );
-    assert_eq!(rt;
-        ended.zeroed,
-        told_zeroed(rt.alloc(), good, zeroed)?,
-        "{case:?}"
-    );
-    Ok(())
-}
-
-/// The same, and that this is the number of its result.
-pub(crate) fn check_number<R: Abort + AllocGlobal + Wait>(
-    rt: &R,
-    ids: &[CallbackId],
-    case: Case,
-    zeroed: Option<u32>,
-    number: u64,
-) -> Result<(), Fail> {
-    check_case(rt, ids, case, zeroed)?;
-    let result = case.ending.result;
-    assert!(rt; result.id < 64 && result.error < 1 << 23);
-    assert_eq!(rt; encode(&result), number, "{case:?}");
+    let calls = told_calls(rt.alloc(), good, zeroed)?;
+    let marks = told_zeroed(rt.alloc(), good, zeroed)?;
+    assert_eq!(rt; ended.notes.calls, calls, "{case:?}");
+    assert_eq!(rt; ended.zeroed, marks, "{case:?}");
     Ok(())
 }

@@ -1,5 +1,5 @@
 //! What becomes of bad pages that are to be zeroed.
-use crate::reads::{Case, case_of, check_case, check_number, result_of};
+use crate::reads::{Case, case_of, check_case, result_of};
 use aio_callback::CallbackId::{Buffer, Count, File, ZeroBuffer};
 use aio_callback::{CallbackId, Raw};
 use aio_result::Status;
@@ -13,35 +13,19 @@ fn bad_pages_are_zeroed(rt: HostRuntime) -> Result<(), Fail> {
     let part = result_of(1, Status::Partial, 0, 3);
     let unread = result_of(1, Status::Error, 1, 0);
     let past_end = result_of(1, Status::Error, 2, 0);
-    let rows = [
-        (
-            case_of(Raw::Read(4), Some(2), Class::Whole, zeroed, 4),
-            Some(2),
-            0x00000004000002c4,
-        ),
-        (
-            case_of(Raw::Read(3), Some(2), Class::Short, zeroed_part, 3),
-            Some(2),
-            0x00000003000002c4,
-        ),
-        (
-            case_of(Raw::Read(3), Some(3), Class::Short, part, 3),
-            None,
-            0x0000000300000081,
-        ),
-        (
-            case_of(Raw::Failed, Some(2), Class::Failed, unread, 0),
-            None,
-            0x0000000000000301,
-        ),
-        (
-            case_of(Raw::Read(0), Some(2), Class::Short, past_end, 0),
-            None,
-            0x0000000000000501,
-        ),
-    ];
-    for (case, page, number) in rows {
-        check_number(&rt, &[Count, ZeroBuffer, File], case, page, number)?;
+    let of_four = case_of(Raw::Read(4), Some(2), Class::Whole, zeroed, 4);
+    let of_three = case_of(Raw::Read(3), Some(2), Class::Short, zeroed_part, 3);
+    let behind = case_of(Raw::Read(3), Some(3), Class::Short, part, 3);
+    let failed = case_of(Raw::Failed, Some(2), Class::Failed, unread, 0);
+    let none = case_of(Raw::Read(0), Some(2), Class::Short, past_end, 0);
+    for (case, page) in [
+        (of_four, Some(2)),
+        (of_three, Some(2)),
+        (behind, None),
+        (failed, None),
+        (none, None),
+    ] {
+        check_case(&rt, &[Count, ZeroBuffer, File], case, page)?;
     }
     Ok(())
 }
@@ -50,22 +34,15 @@ fn bad_pages_are_zeroed(rt: HostRuntime) -> Result<(), Fail> {
 fn zeroing_goes_with_other_callbacks(rt: HostRuntime) -> Result<(), Fail> {
     let zeroed = result_of(4, Status::Warning, 1, 4);
     let invalid = result_of(2, Status::Error, 2, 2);
+    let of_four = |value, good| case_of(Raw::Read(4), Some(2), Class::Whole, value, good);
     let rows: [(&[CallbackId], Case, Option<u32>); 3] = [
-        (
-            &[ZeroBuffer, Buffer, File],
-            case_of(Raw::Read(4), Some(2), Class::Whole, invalid, 2),
-            None,
-        ),
+        (&[ZeroBuffer, Buffer, File], of_four(invalid, 2), None),
         (
             &[Count, Buffer, ZeroBuffer, File],
-            case_of(Raw::Read(4), Some(2), Class::Whole, zeroed, 4),
+            of_four(zeroed, 4),
             Some(2),
         ),
-        (
-            &[Count, ZeroBuffer],
-            case_of(Raw::Read(4), Some(2), Class::Whole, zeroed, 0),
-            None,
-        ),
+        (&[Count, ZeroBuffer], of_four(zeroed, 0), None),
     ];
     for (ids, case, page) in rows {
         check_case(&rt, ids, case, page)?;

@@ -19,6 +19,9 @@ fn results_and_their_numbers(rt: HostRuntime) {
         (result_of(1, Status::Error, 1, 0), 0x0000000000000301),
         (result_of(1, Status::Error, 2, 0), 0x0000000000000501),
         (result_of(2, Status::Error, 2, 2), 0x0000000200000502),
+        (result_of(2, Status::Error, 0, 0), 0x0000000000000102),
+        (result_of(4, Status::Warning, 1, 4), 0x00000004000002c4),
+        (result_of(4, Status::Warning, 1, 3), 0x00000003000002c4),
         (result_of(0, Status::Good, 0, -1), 0xffffffff00000040),
     ];
     for (value, number) in table {
