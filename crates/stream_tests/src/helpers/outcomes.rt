@@ -6,14 +6,14 @@ use crate::helpers::answers::Answer;
 use crate::helpers::beside::stream_beside;
 use crate::helpers::cases::{Case, is_in_range};
 use crate::helpers::other_backend::read_before;
-use crate::helpers::streams::{Streamed, two_streams};
+use crate::helpers::streams::Streamed;
 use aio_callback::ReadIo;
 use aio_disk::{Disk, MemDisk, MemShelf, Shelf};
 use aio_handle::Table;
 use buf_pool::Pool;
 use method_sync::Runner;
 use page_check::World;
-use page_fixtures::files::{one_file, open_disk, shelf_of};
+use page_fixtures::files::{Faults, STEADY, one_file, open_disk, shelf_of};
 use page_fixtures::pages::numbered_pages;
 use std::alloc::{AllocError, Global};
 use std::marker::Brand;
@@ -44,45 +44,32 @@ fn read_all<W: World, D: Disk, T: Wait>(
     };
     let mut streamed = None;
     if let (Some(mut other), Some(mut actor)) = (actors.pop(), actors.pop()) {
-        let ran = match &case.between {
-            Some(blocks) => stream_beside(
+        let mut beside = None;
+        if let Some(blocks) = &case.other {
+            read_before(
                 rt,
                 alloc,
                 case,
-                calls,
                 blocks,
                 &pool,
                 &table,
-                &mut actor,
                 &mut other,
                 &mut runner,
-            )?,
-            None => {
-                if let Some(blocks) = &case.other {
-                    read_before(
-                        rt,
-                        alloc,
-                        case,
-                        blocks,
-                        &pool,
-                        &table,
-                        &mut other,
-                        &mut runner,
-                    )?;
-                }
-                two_streams(
-                    rt,
-                    alloc,
-                    case,
-                    calls,
-                    &pool,
-                    &table,
-                    &mut actor,
-                    &mut runner,
-                )?
-            }
-        };
-        streamed = Some(ran);
+            )?;
+        } else {
+            beside = Some(other);
+        }
+        streamed = Some(stream_beside(
+            rt,
+            alloc,
+            case,
+            calls,
+            &pool,
+            &table,
+            &mut actor,
+            beside,
+            &mut runner,
+        )?);
     }
     let Runner { disk, places: _ } = runner;
     Ok((streamed, disk))
@@ -107,7 +94,12 @@ fn shelf_over(alloc: Global, case: &Case<'_>) -> Result<MemShelf, Fail> {
     )?;
     let other = numbered_pages(alloc, 1, Some(0))?;
     files.push((String::from_str(alloc, "other")?, other))?;
-    shelf_of(alloc, files, case.faults)
+    let faults = Faults {
+        reads: case.fails,
+        shorts: case.shorts,
+        ..STEADY
+    };
+    shelf_of(alloc, files, faults)
 }
 
 /// Makes so many calls of the case's stream.
