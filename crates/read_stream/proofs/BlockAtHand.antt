@@ -19,7 +19,6 @@ use Rattle.read_stream.specs.PagesAtHand.{record_blocks_from, blocks_at_hand, sp
 use Rattle.read_stream.specs.PagesAtHand.{record_blocks_left, IsAtHand, HasMoreBlocks}
 use Rattle.read_stream.specs.StreamState.{BlockIsAtHand, UnderwayWith}
 use Rattle.read_stream.specs.Parts.{CoversBlock}
-use Rattle.read_stream.proofs.SameDeskKeepsInvariant.{invariant_beside}
 use Rattle.read_stream.proofs.WantedBlocks.{few_in_queue}
 use Rattle.std.proofs.lemmas.List.FromFn.{length-range_with_len}
 use Rattle.read_stream.proofs.QueueFront.{front_is, range_first}
@@ -68,11 +67,6 @@ not_none (Some io) e = λ f. cc
 pub is_none : (o : Option ReadIoView) → is_some o ≡ false → o ≡ None
 is_none None e = refl
 is_none (Some io) e = absurd (cc)
-
-pub rest_kept : {P : Type 0} (io io' : Option ReadIoView) (a b : Step P) → io' ≡ io → b ≡ a
-    → record_blocks_left io' b ≡ record_blocks_left io a
-rest_kept {P} io io' a b e f = ap (λ (z : Option ReadIoView). record_blocks_left z b) e
-    ∙ ap (λ (z : Step P). record_blocks_left io z) f
 
 -- the blocks at hand are this one and those behind it
 pub hand_more : {P : Type 0} (o : Option ReadIoView) (block : ℕ) (info : P)
@@ -123,9 +117,10 @@ module _ {W S P : Type 0} (left : S → List (ℕ × P)) (told : Option Told)
       → UnderwayWith left told relations handles (record_blocks_left s.current s.step) [] 0 p s
       → s.current ≡ None
   no_current p s giving none u =
+      let order = u.running.order in
       let few = few_in_queue s.desk.now.settings.combine handles s.desk.now.wants.items
       (map block_number s.desk.now.queue.items) (record_blocks_left s.current s.step)
-      (pending_blocks s.plan.pending) [] u.running.wants u.running.queue_order in
+      (pending_blocks s.plan.pending) [] order.wants order.queue_order in
       let long : length (map block_number s.desk.now.queue.items) ≡ 0 =
       ap (λ (z : List (QueuedBlock P)). length (map block_number z)) none in
       current_none s.current s.step giving (omega arith)
@@ -136,26 +131,14 @@ module _ {W S P : Type 0} (left : S → List (ℕ × P)) (told : Option Told)
       → UnderwayWith left told relations handles hand' [] spent p (record s { pin = pin })
   underway_spent p s pin hand hand' spent e u =
       let g = u.running in
+      let many = g.ios.few_ios in
       record {
-        invariant = invariant_beside left told relations handles p s (record s { pin = pin })
-            u.invariant;
+        invariant = record { set_up = u.invariant.set_up; records = u.invariant.records };
         running = record {
-          given_within = g.given_within;
-          readable = g.readable;
-          blocks = g.blocks;
-          none_left_if_over = g.none_left_if_over;
-          queue_order = g.queue_order ∙ ap (λ (z : List ℕ). z
-              ++ (wanted_blocks s.desk.now.wants.items ++ (pending_blocks s.plan.pending ++ []))) e;
-          wants = g.wants;
-          runs = g.runs;
-          few_ios = let z = g.few_ios in omega arith;
-          ahead = g.ahead;
-          queue_within_limit = g.queue_within_limit;
-          in_use = g.in_use;
-          spare_record = g.spare_record;
-          combine = g.combine;
-          max_ios = g.max_ios;
-          limit = g.limit;
+          position = g.position;
+          order = rw (sym e) g.order;
+          ios = record { runs = g.ios.runs; few_ios = omega arith };
+          plan = g.plan;
         };
       }
 
@@ -166,11 +149,8 @@ module _ {W S P : Type 0} (left : S → List (ℕ × P)) (told : Option Told)
       → BlockIsAtHand left told relations handles block p (record s { pin = Some pin })
   reaches_pinned p s pin block none good u = record {
     underway = underway_spent p s (Some pin) (block ∷ []) (blocks_at_hand s.current block)
-        (spent_ios s.current block)
-        (ap (λ (z : Option ReadIoView). blocks_at_hand z block) (sym none))
-        u;
-    at_hand = subst (λ (z : Option ReadIoView). IsAtHand told s.scope.relation (Some pin) z block)
-        (sym none) good;
+        (spent_ios s.current block) (rw none refl) u;
+    at_hand = rw none good;
   }
 
   -- the record whose pages are given has the block
@@ -185,15 +165,14 @@ module _ {W S P : Type 0} (left : S → List (ℕ × P)) (told : Option Told)
       ++ (pending_blocks s.plan.pending ++ []) in
       let here : b ≡ block = front_is (map block_number s.desk.now.queue.items)
       (range_with_len (b + 1) (io.first + io.count - b - 1) ++ more) b block
-      (u.running.queue_order ∙ ap (λ (z : List ℕ). z ++ more)
+      (u.running.order.queue_order ∙ ap (λ (z : List ℕ). z ++ more)
       (rest ∙ range_first b (io.first + io.count - b) (omega arith))) at in
       record {
         underway = underway_spent p s s.pin (record_blocks_left s.current s.step)
             (blocks_at_hand s.current block) (spent_ios s.current block)
             (rest ∙ (ap (λ (z : ℕ). record_blocks_from io z) here
             ∙ sym (ap (λ (z : Option ReadIoView). blocks_at_hand z block) now))) u;
-        at_hand = subst (λ (z : Option (Pin W)). IsAtHand told s.scope.relation z s.current block)
-            (sym no_pin)
+        at_hand = rw no_pin
             (subst (λ (z : Option ReadIoView). IsAtHand {W = W} told s.scope.relation None z block)
             (sym now) (omega arith, omega arith));
       }

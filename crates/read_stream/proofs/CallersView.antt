@@ -79,7 +79,7 @@ module _ {W S P : Type 0} (left : S → List (ℕ × P)) (told : Option Told)
       let v : StreamView P = stream_view left s in
       let settled = subst (λ (z : Bool). IsNext (reader_of z told)
       (MayBeUnread m.scope.was.value now.known) (entries_at_open left told relations handles m)
-      m.given x) o.between.invariant.zero next in
+      m.given x) o.between.invariant.set_up.zero next in
       let here = subst (λ (z : ReadStream W S P). IsNext (reader_of z.desk.now.settings.zero told)
       (MayBeUnread z.scope.was.value now.known) (entries_at_open left told relations handles z)
       z.given x) same settled in

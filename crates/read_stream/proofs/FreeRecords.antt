@@ -70,7 +70,7 @@ module _ {W S P : Type 0} (left : S → List (ℕ × P)) (told : Option Told)
   few_blocks behind u =
       let few = few_in_queue s.desk.now.settings.combine handles s.desk.now.wants.items
       (map block_number s.desk.now.queue.items) rest (pending_blocks s.plan.pending) behind
-      u.running.wants u.running.queue_order in
+      u.running.order.wants u.running.order.queue_order in
       let n = length-map s.desk.now.queue.items block_number in
       (omega arith, omega arith)
 
@@ -82,11 +82,11 @@ module _ {W S P : Type 0} (left : S → List (ℕ × P)) (told : Option Told)
       × (length s.desk.now.wants.items < s.desk.now.wants.capacity)
   may_start behind u one =
       let few = few_blocks behind u in
-      let c = u.running.few_ios in
-      let w = u.running.queue_within_limit in
-      let r = u.invariant.wants in
+      let c = u.running.ios.few_ios in
+      let w = u.running.plan.queue_within_limit in
+      let r = u.invariant.set_up.wants in
       let all = queue_within_list left told relations handles rest behind 0 p s u.running in
-      let short = u.invariant.list_within_most in
+      let short = u.invariant.set_up.list_within_most in
       (omega arith, omega arith)
 
   -- where the queue is empty no I/O is in progress
@@ -97,12 +97,12 @@ module _ {W S P : Type 0} (left : S → List (ℕ × P)) (told : Option Told)
       let long : length s.desk.now.queue.items ≡ 0 =
       ap (λ (z : List (QueuedBlock P)). length z) none in
       let free = are_free s.scope p s.desk.now.reads (wanted_runs s.desk.now.wants.items)
-      u.running.runs
+      u.running.ios.runs
       (omega arith) in
       let some : count_some s.current ≡ 0 =
       ap (λ (z : Option ReadIoView). count_some z) no_record in
-      let all = u.invariant.record_total in
-      let in_use = u.running.in_use in omega arith
+      let all = u.invariant.records.record_total in
+      let in_use = u.running.plan.in_use in omega arith
 
 module _ {W S P : Type 0} (left : S → List (ℕ × P)) (told : Option Told)
     (relations handles : ℕ) (p : Known) (s : ReadStream W S P) where
@@ -113,10 +113,10 @@ module _ {W S P : Type 0} (left : S → List (ℕ × P)) (told : Option Told)
       let zero : length (wanted_runs s.desk.now.wants.items) ≡ 0 =
       ap (λ (z : List Want). length (wanted_runs z)) none in
       let free = are_free s.scope p s.desk.now.reads (wanted_runs s.desk.now.wants.items)
-      u.running.runs
+      u.running.ios.runs
       zero in
       let some : count_some s.current ≡ 0 =
       ap (λ (z : Option ReadIoView). count_some z) no_record in
-      let all = u.invariant.record_total in
-      let total = u.invariant.scope.1 in
-      let ios = u.invariant.settings.ios_in in omega arith
+      let all = u.invariant.records.record_total in
+      let total = u.invariant.set_up.scope.1 in
+      let ios = u.invariant.set_up.settings.ios_in in omega arith

@@ -22,18 +22,16 @@ use Rattle.read_stream.specs.StreamAnswers.{stream_entries, IfRunning, IfStopped
 use Rattle.read_stream.specs.StreamAnswers.{pages_given, step_ending, synchronous_ending}
 use Rattle.read_stream.specs.StreamViews.{answered_stop, stream_after, IsActorAsLeft}
 use Rattle.read_stream.specs.StreamIos.{Issued}
+use Rattle.read_stream.specs.WantedBlocks.{wanted_runs}
 use Rattle.read_stream.specs.ActorProgress.{ActorAdvanced}
 use Rattle.read_stream.specs.PagesAtHand.{record_blocks_left}
 use Rattle.read_stream.specs.StreamState.{IsBetweenCalls, IsRunning, IsOpen, IfUnread}
-use Rattle.read_stream.specs.StreamState.{UnderwayWith, entries_at_open, stream_view}
+use Rattle.read_stream.specs.StreamState.{entries_at_open, stream_view}
 use Rattle.read_stream.specs.Changes.{SameStream}
 use Rattle.read_stream.proofs.ActorAdvancedLaws.{advanced_taking_up}
 use Rattle.read_stream.proofs.ReadsMatchRuns.{reads-later}
 use Rattle.read_stream.proofs.SubmitKeepsIssued.{issued-taking-up}
-use Rattle.read_stream.proofs.SameDeskKeepsInvariant.{running_beside, invariant_beside}
-use Rattle.read_stream.proofs.SameQueueKeepsUnderway.{underway_reads}
-use Rattle.read_stream.proofs.StreamInvariantLaws.{same_desk_refl, same_stream_refl, some_taken}
-use Rattle.read_stream.proofs.StreamInvariantLaws.{invariant_moved}
+use Rattle.read_stream.proofs.StreamInvariantLaws.{same_stream_refl, some_taken}
 use Rattle.read_stream.proofs.UnreadCauses.{failed_later, may_later, next_wider}
 
 if-running : {P : Type 0} (t : Step P) (T U : Type 0) → (T → U) → IfRunning t T → IfRunning t U
@@ -89,14 +87,15 @@ module _ {W S P : Type 0} (left : S → List (ℕ × P)) (told : Option Told)
       → IsBetweenCalls left told relations handles p s
       → IsBetweenCalls left told relations handles p (record s { actor_is = actor })
   between_known p s actor b =
-      let n : ReadStream W S P = record s { actor_is = actor } in record {
-        invariant = invariant_beside left told relations handles p s n b.invariant;
+      let n : ReadStream W S P = record s { actor_is = actor } in
+      let hand : List ℕ = record_blocks_left s.current s.step in
+      record {
+        invariant = record { set_up = b.invariant.set_up; records = b.invariant.records };
         few_ios = b.few_ios;
-        running = if-running s.step
-            (IsRunning left told relations handles (record_blocks_left s.current s.step) [] 0 p s)
-            (IsRunning left told relations handles (record_blocks_left s.current s.step) [] 0 p n)
-            (λ g. running_beside left told relations handles p s n s.source s.over
-            (record_blocks_left s.current s.step) [] 0 refl g.none_left_if_over g) b.running;
+        running = if-running s.step (IsRunning left told relations handles hand [] 0 p s)
+            (IsRunning left told relations handles hand [] 0 p n)
+            (λ g. record { position = g.position; order = g.order; ios = g.ios; plan = g.plan })
+            b.running;
         lends_page = b.lends_page;
         stop_answer = b.stop_answer;
         unread_record = b.unread_record;
@@ -149,26 +148,33 @@ module _ {W S P : Type 0} (left : S → List (ℕ × P)) (told : Option Told)
       let all : ExecutesAll [] p q 0 0 0 0 = looked p q a in
       let w : ActorAdvanced p q 0 0 0 0 = advanced_taking_up p q 0 0 0 0 all in
       let reads : Reads W = s.desk.now.reads in
+      let v = b.invariant.records in
       let issued : Issued s.scope told relations q reads =
-      issued-taking-up s.scope [] told relations p q reads 0 0 0 0 all b.invariant.issued in
+      issued-taking-up s.scope [] told relations p q reads 0 0 0 0 all v.issued in
       let hand : List ℕ = record_blocks_left s.current s.step in
       let was : ActorView = s.scope.was.value in
-      let under : IsRunning left told relations handles hand [] 0 p s
-      → UnderwayWith left told relations handles hand [] 0 q s =
-      λ g. underway_reads left told relations handles p q s 0 0 0 0 w reads hand [] 0 issued
-      b.invariant.batch_within refl refl refl
-      (λ runs r. reads-later s.scope p q reads reads runs w.aims refl refl refl r)
-      (record { invariant = b.invariant; running = g }) in
       record {
-        invariant = invariant_moved left told relations handles p q s s (same_desk_refl s)
-            b.invariant issued b.invariant.batch_within
-            (some_taken left told relations handles s.scope p q 0 0 0 0 s.current w
-            b.invariant.current)
-            b.invariant.record_total;
+        invariant = record {
+          set_up = b.invariant.set_up;
+          records = record {
+            issued = issued;
+            batch_within = v.batch_within;
+            current = some_taken s.scope told relations p q 0 0 0 0 s.current w v.current;
+            record_total = v.record_total;
+          };
+        };
         few_ios = b.few_ios;
         running = if-running s.step (IsRunning left told relations handles hand [] 0 p s)
-            (IsRunning left told relations handles hand [] 0 q s) (λ g. (under g).running)
-            b.running;
+            (IsRunning left told relations handles hand [] 0 q s) (λ g. record {
+              position = g.position;
+              order = g.order;
+              ios = record {
+                runs = reads-later s.scope p q reads reads (wanted_runs s.desk.now.wants.items)
+                    w.aims refl refl refl g.ios.runs;
+                few_ios = g.ios.few_ios;
+              };
+              plan = g.plan;
+            }) b.running;
         lends_page = b.lends_page;
         stop_answer = if-stopped s.step _ _
             (λ e is. next_wider (reader_of s.scope.zero told) (MayBeUnread was p)

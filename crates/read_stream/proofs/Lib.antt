@@ -20,7 +20,6 @@ pub mod ReadyIsAtRest
 pub mod PartCases
 pub mod WantedBlocks
 pub mod StreamInvariantLaws
-pub mod SameDeskKeepsInvariant
 pub mod QueueFront
 pub mod SameQueueKeepsUnderway
 pub mod PlanChangeKeepsUnderway

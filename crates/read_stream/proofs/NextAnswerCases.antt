@@ -17,11 +17,6 @@ use Rattle.aio_callback.specs.GoodPages.{IsGivenAs}
 abbrev pub ReadableUpTo : {P : Type 0} → Bool → Option Told → ℕ → List (Entry P) → Type 0
 ReadableUpTo zero told k es = IfSome (reader_of zero told) (λ f. k ≤ read_count f es)
 
-pub readable-then : {P : Type 0} (told : Option Told) (zero zero' : Bool) (k k' : ℕ)
-    (es es' : List (Entry P)) → zero' ≡ zero → k' ≡ k → es' ≡ es → ReadableUpTo zero told k es
-    → ReadableUpTo zero' told k' es'
-readable-then told zero zero' k k' es es' a b c far = rw (a, b, c) far
-
 -- a page is found as it is, with damaged pages zeroed or not
 page-found : (zero : Bool) (f : Found) (page : List ℕ) → f ≡ FoundPage page
     → cond zero (zeroed_if_damaged f) f ≡ FoundPage page

@@ -36,7 +36,7 @@ module _ {W S P : Type 0} (left : S → List (ℕ × P)) (told : Option Told)
   front_want p s w ws b block first one at u =
       let more : List ℕ = wanted_blocks ws ++ (pending_blocks s.plan.pending ++ []) in
       front_is (map block_number s.desk.now.queue.items) more b block
-      (u.running.queue_order
+      (u.running.order.queue_order
       ∙ (ap (λ (z : List Want). wanted_blocks z ++ (pending_blocks s.plan.pending ++ [])) first
       ∙ (append_assoc (blocks_of_want w) (wanted_blocks ws) (pending_blocks s.plan.pending ++ [])
       ∙ ap (λ (z : List ℕ). z ++ more) one))) at
@@ -47,7 +47,7 @@ module _ {W S P : Type 0} (left : S → List (ℕ × P)) (told : Option Told)
       → slice_get (map block_number s.desk.now.queue.items) 0 ≡ Some block
       → UnderwayWith left told relations handles [] [] 0 p s → ⊥
   no_front p s block none idle at u =
-      let empty : map block_number s.desk.now.queue.items ≡ [] = u.running.queue_order
+      let empty : map block_number s.desk.now.queue.items ≡ [] = u.running.order.queue_order
       ∙ (ap (λ (z : List Want). wanted_blocks z ++ (pending_blocks s.plan.pending ++ [])) none
       ∙ ap (λ (z : Option Run). pending_blocks z ++ []) idle) in
       let e : None ≡ Some block = sym (ap (λ (z : List ℕ). slice_get z 0) empty) ∙ at in cc
@@ -59,11 +59,11 @@ module _ {W S P : Type 0} (left : S → List (ℕ × P)) (told : Option Told)
   queue_within_list hand behind spent p s g =
       let all : length (map source_item s.desk.now.queue.items ++ left s.source)
       ≡ length (drop s.given (left s.source_was.value)) =
-      ap (λ (z : List (ℕ × P)). length z) g.blocks in
+      ap (λ (z : List (ℕ × P)). length z) g.position.blocks in
       let parts = length-append (map source_item s.desk.now.queue.items) (left s.source) in
       let n = length-map s.desk.now.queue.items source_item in
       let rest = length-drop s.given (left s.source_was.value) in
-      let few = g.given_within in omega arith
+      let few = g.position.given_within in omega arith
 
   -- no more I/Os were started than the list has blocks, and fewer where one at hand has none
   pub ios_within_list : (hand behind : List ℕ) (spent : ℕ) (p : Known) (s : ReadStream W S P)
@@ -72,10 +72,10 @@ module _ {W S P : Type 0} (left : S → List (ℕ × P)) (told : Option Told)
   ios_within_list hand behind spent p s g =
       let few = few_in_queue s.desk.now.settings.combine handles s.desk.now.wants.items
       (map block_number s.desk.now.queue.items) hand (pending_blocks s.plan.pending) behind
-      g.wants g.queue_order in
+      g.order.wants g.order.queue_order in
       let n = length-map s.desk.now.queue.items block_number in
       let all = queue_within_list hand behind spent p s g in
-      let c = g.few_ios in omega arith
+      let c = g.ios.few_ios in omega arith
 
   -- one more I/O may be started for a block at hand
   pub may_read : (p : Known) (s : ReadStream W S P) (hand : List ℕ)
@@ -83,4 +83,4 @@ module _ {W S P : Type 0} (left : S → List (ℕ × P)) (told : Option Told)
       → ios_started s.desk.now.reads < s.scope.most
   may_read p s hand u some =
       let few = ios_within_list hand [] 0 p s u.running in
-      let short = u.invariant.list_within_most in omega arith
+      let short = u.invariant.set_up.list_within_most in omega arith

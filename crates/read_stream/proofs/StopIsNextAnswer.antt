@@ -26,7 +26,6 @@ use Rattle.read_stream.proofs.ListPositions.{none-at}
 use Rattle.read_stream.proofs.QueueMovesKeepIssued.{first-of}
 use Rattle.read_stream.proofs.NextAnswerCases.{next-end}
 use Rattle.read_stream.proofs.QueueFront.{ios_within_list}
-use Rattle.read_stream.proofs.SameDeskKeepsInvariant.{invariant_beside}
 
 -- where the record is that stops the stream
 stop-record : (told : Option Told) (o : Option ReadIoView) (block : ℕ) (e : Ending)
@@ -48,11 +47,7 @@ module _ {W S P : Type 0} (left : S → List (ℕ × P)) (told : Option Told)
       → IsBetweenCalls left told relations handles p (record s { step = step.Stop e })
   between_stopped p s hand behind spent e at u next kept =
       record {
-        invariant = invariant_beside left told relations handles p s (record s {
-          step = step.Stop
-              e;
-        })
-            u.invariant;
+        invariant = record { set_up = u.invariant.set_up; records = u.invariant.records };
         few_ios = let z = ios_within_list left told relations handles hand behind spent p s u.running
             in omega arith;
         running = tt;
@@ -68,7 +63,7 @@ module _ {W S P : Type 0} (left : S → List (ℕ × P)) (told : Option Told)
       → drop s.given (left s.source_was.value)
       ≡ source_item a ∷ (map source_item (drop 1 s.desk.now.queue.items) ++ left s.source)
   left-of p s hand behind spent a first g =
-      sym g.blocks ∙ ap (λ (z : List (QueuedBlock P)). map source_item z ++ left s.source)
+      sym g.position.blocks ∙ ap (λ (z : List (QueuedBlock P)). map source_item z ++ left s.source)
       (first-of s.desk.now.queue.items a first)
 
   failed-kept : (p : Known) (s : ReadStream W S P) (io : ReadIoView) (block : ℕ) (e : Ending)
@@ -97,10 +92,10 @@ module _ {W S P : Type 0} (left : S → List (ℕ × P)) (told : Option Told)
       let (io, now, has, part) = stop-record told s.current a.block e is in
       let taken : IsTakenIn s.scope told relations p io =
       subst (λ (z : Option ReadIoView). IfSome z (IsTakenIn s.scope told relations p)) now
-      u.invariant.current in
+      u.invariant.records.current in
       let next = stop_is_next s.scope told relations (left s.source_was.value) s.given a.block
       a.per_buffer_data (map source_item (drop 1 s.desk.now.queue.items) ++ left s.source)
-      (left-of p s hand behind spent a first u.running) u.running.readable p io taken has e part in (
+      (left-of p s hand behind spent a first u.running) u.running.position.readable p io taken has e part in (
         next,
         between_stopped p s hand behind spent e at u next
             (failed-kept p s io a.block e now taken part),
@@ -117,11 +112,11 @@ module _ {W S P : Type 0} (left : S → List (ℕ × P)) (told : Option Told)
   ended p s hand behind none empty u =
       let g = u.running in
       let all = none-at (left s.source_was.value) s.given
-      (sym g.blocks ∙ (ap (λ (z : List (QueuedBlock P)). map source_item z ++ left s.source) none
+      (sym g.position.blocks ∙ (ap (λ (z : List (QueuedBlock P)). map source_item z ++ left s.source) none
       ∙ empty)) in
       let n = length-map (left s.source_was.value) (stream_entry s.scope.relation) in
-      let few = g.given_within in
+      let few = g.position.given_within in
       let next = next-end s.scope.zero (MayBeUnread s.scope.was.value p)
-      (stream_entries s.scope.relation (left s.source_was.value)) s.given told g.readable
+      (stream_entries s.scope.relation (left s.source_was.value)) s.given told g.position.readable
       (omega arith) in
       (next, between_stopped p s hand behind 0 ending.End (omega arith) u next tt)

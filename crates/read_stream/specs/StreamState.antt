@@ -1,15 +1,22 @@
 -- The state of a stream, between its calls and in the middle of one.
 use Rattle.std.specs.Prelude.{◌≡◌, ℕ, ◌+◌, ◌<◌, ◌≤◌, ◌++◌, List, [], length, map, drop, true}
-use Rattle.std.specs.Prelude.{Option, IfSome, IsSomeAnd, ⊤}
+use Rattle.std.specs.Prelude.{Bool, Option, IfSome, IsSomeAnd, ⊤}
 use Rattle.page_check.specs.Told.{Told}
 use Rattle.page_check.specs.SynchronousAnswer.{Entry, read_count, reader_of}
 use Rattle.page_check.specs.IsAnswer.{Next as Said, Stop as SaidStop, IsNext}
 use Rattle.aio_word.specs.declared.Known.{Known}
 use Rattle.aio_word.specs.Stands.{IsIn}
 use Rattle.aio_handle.specs.ContractViews.{ActorView, IsSameActor}
+use Rattle.aio_callback.specs.ReadIoView.{ReadIoView}
+use Rattle.read_plan.specs.Plans.{PlanView}
+use Rattle.read_plan.specs.declared.runs.Run.{Run}
 use Rattle.read_stream.specs.declared.answer.Ending.{Ending}
 use Rattle.read_stream.specs.declared.answer.Ending.TheVariants as ending
+use Rattle.read_stream.specs.declared.desk.Settings.{Settings}
+use Rattle.read_stream.specs.declared.queue.QueuedBlock.{QueuedBlock}
 use Rattle.read_stream.specs.declared.queue.Want.{Want}
+use Rattle.read_stream.specs.declared.reads.Reads.{Reads}
+use Rattle.read_stream.specs.declared.scope.Scope.{Scope}
 use Rattle.read_stream.specs.declared.stream.ReadStream.{ReadStream}
 use Rattle.read_stream.specs.StreamAnswers.{stream_entries, synchronous_ending, step_ending}
 use Rattle.read_stream.specs.StreamAnswers.{IsFailedRead}
@@ -29,6 +36,64 @@ IfUnread ending.End holds = ⊤
 IfUnread (ending.Invalid block) holds = ⊤
 IfUnread (ending.Unread block) holds = holds block
 IfUnread (ending.PastEnd block) holds = ⊤
+
+-- what does not change while a stream is open: its list has so many blocks, and its desk has these
+-- settings, and room for so many blocks and wants
+pub record IsSetUp {W : Type 0} (relations : ℕ) (c : Scope W) (blocks : ℕ) (desk : Settings)
+    (queue_room wants_room : ℕ) : Type 0 where
+  pub relation_in_range : c.relation < relations
+  pub settings : AreValidSettings desk
+  pub scope : (c.combine ≡ desk.combine) × (c.total ≡ desk.ios + 1)
+  pub zero : c.zero ≡ desk.zero
+  pub queue : desk.limit ≤ queue_room
+  pub wants : desk.limit ≤ wants_room
+  pub list_within_most : blocks ≤ c.most
+
+-- the I/Os of a stream, and all its records: one may be at hand
+pub record HasRecords {W : Type 0} (told : Option Told) (relations : ℕ) (c : Scope W) (p : Known)
+    (reads : Reads W) (at_hand : Option ReadIoView) : Type 0 where
+  pub issued : Issued c told relations p reads
+  pub batch_within : length reads.batch < 32
+  pub current : IfSome at_hand (IsTakenIn c told relations p)
+  pub record_total : record_count reads + count_some at_hand ≡ c.total
+
+-- so many blocks of the list were given: what is left of it is what the stream has taken from its
+-- source, then what the source has left
+pub record IsPosition {W P : Type 0} (told : Option Told) (c : Scope W) (list left : List (ℕ × P))
+    (over : Bool) (given : ℕ) (queue : List (QueuedBlock P)) : Type 0 where
+  pub given_within : given ≤ length list
+  pub readable : IfSome (reader_of c.zero told)
+      (λ f. given ≤ read_count f (stream_entries c.relation list))
+  pub blocks : map source_item queue ++ left ≡ drop given list
+  pub none_left_if_over : over ≡ true → left ≡ []
+
+-- in the queue stand the blocks at hand, those that are wanted, those of the pending run and those
+-- behind
+pub record AreOrderedBlocks {P : Type 0} (handles : ℕ) (settings : Settings)
+    (hand behind : List ℕ) (queue : List (QueuedBlock P)) (wanted : List Want)
+    (pending : Option Run) : Type 0 where
+  pub queue_order : map block_number queue
+      ≡ hand ++ (wanted_blocks wanted ++ (pending_blocks pending ++ behind))
+  pub wants : (w : Want) → IsIn w wanted → IsValidWant settings.combine handles w
+
+-- the I/Os that were started and not taken up are for the runs that are wanted. So many others were
+-- started at most
+pub record AreWantedIos {W : Type 0} (c : Scope W) (p : Known) (reads : Reads W)
+    (wants : List Want) (others : ℕ) : Type 0 where
+  pub runs : ReadsForRuns c p reads (wanted_runs wants)
+  pub few_ios : ios_started reads ≤ others + length (wanted_runs wants)
+
+-- the plan counts the blocks of the queue, and the records that are not free. A block that was
+-- looked for in the pool has a record to be read by
+pub record PlanAgrees (plan : PlanView) (settings : Settings) (queued total free at_hand : ℕ)
+    : Type 0 where
+  pub ahead : plan.blocks_ahead ≡ queued
+  pub queue_within_limit : queued ≤ settings.limit
+  pub in_use : plan.ios_in_progress + free ≡ total
+  pub spare_record : 0 < free + at_hand
+  pub combine : plan.combine ≡ settings.combine
+  pub max_ios : plan.max_ios ≡ settings.ios
+  pub limit : plan.limit ≡ settings.limit
 
 -- a stream as its callers see it
 abbrev pub stream_view : {W S P : Type 0} → (S → List (ℕ × P)) → ReadStream W S P → StreamView P
@@ -54,47 +119,21 @@ module _ {W S P : Type 0} (left : S → List (ℕ × P)) (told : Option Told)
 
   -- what holds of a stream at any time, whose actor knows p
   pub record StreamInvariant (p : Known) (s : ReadStream W S P) : Type 0 where
-    pub relation_in_range : s.scope.relation < relations
-    pub settings : AreValidSettings s.desk.now.settings
-    pub scope : (s.scope.combine ≡ s.desk.now.settings.combine) × (s.scope.total ≡ s.desk.now.settings.ios + 1)
-    pub zero : s.scope.zero ≡ s.desk.now.settings.zero
-    pub queue : s.desk.now.settings.limit ≤ s.desk.now.queue.capacity
-    pub wants : s.desk.now.settings.limit ≤ s.desk.now.wants.capacity
-    pub list_within_most : length (list_at_open s) ≤ s.scope.most
-    pub issued : Issued s.scope told relations p s.desk.now.reads
-    pub batch_within : length s.desk.now.reads.batch < 32
-    pub current : IfSome s.current (IsTakenIn s.scope told relations p)
-    pub record_total : record_count s.desk.now.reads + count_some s.current ≡ s.scope.total
+    pub set_up : IsSetUp relations s.scope (length (list_at_open s)) s.desk.now.settings
+        s.desk.now.queue.capacity s.desk.now.wants.capacity
+    pub records : HasRecords told relations s.scope p s.desk.now.reads s.current
 
-  -- a stream that has not ended: what is left of the list is what it has taken, then what its
-  -- source has left. The blocks that it has taken are those at hand, those that are wanted, those
-  -- of the pending run and those behind
+  -- a stream that has not ended. The blocks that it has taken and not given are those at hand,
+  -- those that are wanted, those of the pending run and those behind
   pub record IsRunning (hand behind : List ℕ) (spent : ℕ) (p : Known) (s : ReadStream W S P)
       : Type 0 where
-    pub given_within : s.given ≤ length (list_at_open s)
-    pub readable : IfSome (reader_of s.scope.zero told)
-        (λ f. s.given ≤ read_count f (entries_at_open s))
-    pub blocks : map source_item s.desk.now.queue.items ++ left s.source
-        ≡ drop s.given (list_at_open s)
-    pub none_left_if_over : s.over ≡ true → left s.source ≡ []
-    pub queue_order : map block_number s.desk.now.queue.items
-        ≡ hand ++ (wanted_blocks s.desk.now.wants.items
-        ++ (pending_blocks s.plan.pending ++ behind))
-    pub wants : (w : Want) → IsIn w s.desk.now.wants.items → IsValidWant s.desk.now.settings.combine handles
-        w
-    -- the I/Os that were started and not taken up are for the runs that are wanted
-    pub runs : ReadsForRuns s.scope p s.desk.now.reads (wanted_runs s.desk.now.wants.items)
-    -- each I/O was started for a block that was given, for a run that is wanted, or is spent
-    pub few_ios : ios_started s.desk.now.reads
-        ≤ s.given + length (wanted_runs s.desk.now.wants.items) + spent
-    pub ahead : s.plan.blocks_ahead ≡ length s.desk.now.queue.items
-    pub queue_within_limit : length s.desk.now.queue.items ≤ s.desk.now.settings.limit
-    pub in_use : s.plan.ios_in_progress + length s.desk.now.reads.free.items ≡ s.scope.total
-    -- a block that was looked for in the pool has a record to be read by
-    pub spare_record : 0 < length s.desk.now.reads.free.items + count_some s.current
-    pub combine : s.plan.combine ≡ s.desk.now.settings.combine
-    pub max_ios : s.plan.max_ios ≡ s.desk.now.settings.ios
-    pub limit : s.plan.limit ≡ s.desk.now.settings.limit
+    pub position : IsPosition told s.scope (list_at_open s) (left s.source) s.over s.given
+        s.desk.now.queue.items
+    pub order : AreOrderedBlocks handles s.desk.now.settings hand behind s.desk.now.queue.items
+        s.desk.now.wants.items s.plan.pending
+    pub ios : AreWantedIos s.scope p s.desk.now.reads s.desk.now.wants.items (s.given + spent)
+    pub plan : PlanAgrees s.plan s.desk.now.settings (length s.desk.now.queue.items) s.scope.total
+        (length s.desk.now.reads.free.items) (count_some s.current)
 
   -- between two calls
   pub record IsBetweenCalls (p : Known) (s : ReadStream W S P) : Type 0 where

@@ -6,7 +6,7 @@ ghost use Rattle.read_plan.specs.Plans.{IsSoundPlan, MayLookAhead};
 ghost use Rattle.read_stream.specs.WantedBlocks.{IsValidWant, blocks_of_want, runs_of_want};
 ghost use Rattle.read_stream.specs.PagesAtHand.{record_blocks_left};
 ghost use Rattle.read_stream.specs.StreamState.{Underway, UnderwayWith};
-ghost use Rattle.read_stream.specs.Changes.{EnqueuesBlock, PushesWant, ConsumerUnchanged};
+ghost use Rattle.read_stream.specs.Changes.{ConsumerUnchanged, block_enqueued, want_pushed};
 
 use crate::io_context::IoContext;
 use crate::queue::{QueuedBlock, Want};
@@ -68,7 +68,7 @@ impl<'d, 'p, W: World, S: BlockSource<P> + Drop, P: Copy> ReadStream<'d, 'p, W, 
     // The block is wanted from the pool.
     fn push_want(&mut self, want: Want)
         requires { length self.old.desk.now.wants.items < self.old.desk.now.wants.capacity }
-        ensures { PushesWant want self.old self.new }
+        ensures { self.new ≡ want_pushed self.old want self.new.plan.distance }
     {
         push(&mut self.desk.wants, want);
         if let Want::Look(_) = want {
@@ -80,8 +80,10 @@ impl<'d, 'p, W: World, S: BlockSource<P> + Drop, P: Copy> ReadStream<'d, 'p, W, 
     fn enqueue(&mut self, block: u32, per_buffer_data: P)
         requires room { length self.old.desk.now.queue.items < self.old.desk.now.queue.capacity }
         requires ahead { self.old.plan.blocks_ahead < 2 ^ 32 - 1 }
-        ensures { EnqueuesBlock (record { block = block; per_buffer_data = per_buffer_data })
-            self.old self.new }
+        ensures { self.new ≡ block_enqueued self.old (record {
+          block = block;
+          per_buffer_data = per_buffer_data;
+        }) }
     {
         let asked = QueuedBlock {
             block,

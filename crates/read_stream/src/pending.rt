@@ -41,11 +41,11 @@ impl<'d, 'p, W: World, S: BlockSource<P> + Drop, P: Copy> ReadStream<'d, 'p, W, 
         requires few_ios { ios_started self.old.desk.now.reads < self.old.scope.most }
         requires room { length self.old.desk.now.wants.items < self.old.desk.now.wants.capacity }
         ensures context_advanced { ContextAdvanced E.Execute M.Method context.old context.new }
-        ensures issued { Issued self.new.scope W.told W.relations context.new.actor.now.known
+        ensures issued { Issued self.old.scope W.told W.relations context.new.actor.now.known
             self.new.desk.now.reads }
         ensures few { length self.new.desk.now.reads.batch < 32 }
         ensures runs { (runs : List Run) → ReadsForRuns self.old.scope context.old.actor.now.known
-            self.old.desk.now.reads runs → ReadsForRuns self.new.scope context.new.actor.now.known
+            self.old.desk.now.reads runs → ReadsForRuns self.old.scope context.new.actor.now.known
             self.new.desk.now.reads (runs ++ run ∷ []) }
         ensures starts_run { StartsRun run self.old self.new }
     {

@@ -4,7 +4,7 @@ ghost use Rattle.read_stream.specs.IoContexts.{IsValidContext, ContextAdvanced};
 ghost use Rattle.read_stream.specs.WantedBlocks.{block_number};
 ghost use Rattle.read_stream.specs.PagesAtHand.{HasCurrentPage, HasMoreBlocks, IsStop};
 ghost use Rattle.read_stream.specs.StreamState.{BlockIsAtHand, Underway, UnderwayWith};
-ghost use Rattle.read_stream.specs.Changes.{LookAheadUnchanged, PopsWant};
+ghost use Rattle.read_stream.specs.Changes.{LookAheadUnchanged, want_popped};
 ghost use Rattle.read_stream.specs.declared.queue.Want.TheVariants.{Run as RunWant};
 
 use crate::answer::Ending;
@@ -123,7 +123,7 @@ impl<'d, 'p, W: World, S: BlockSource<P> + Drop, P: Copy> ReadStream<'d, 'p, W, 
 
     // What is wanted next is not wanted any more.
     fn pop_want(&mut self)
-        ensures { PopsWant self.old self.new }
+        ensures { self.new ≡ want_popped self.old }
     {
         let _ = self.desk.wants.pop_front();
     }

@@ -45,13 +45,13 @@ impl<'d, 'p, W: World, S: BlockSource<P> + Drop, P: Copy> ReadStream<'d, 'p, W, 
         requires run { IsRun self.old.scope.combine run }
         requires few_ios { ios_started self.old.desk.now.reads < self.old.scope.most }
         ensures context_advanced { ContextAdvanced E.Execute M.Method context.old context.new }
-        ensures issued { Issued self.new.scope W.told W.relations context.new.actor.now.known
+        ensures issued { Issued self.old.scope W.told W.relations context.new.actor.now.known
             self.new.desk.now.reads }
-        ensures record { IfSome self.new.current (λ r. IsTakenIn self.new.scope W.told W.relations
+        ensures record { IfSome self.new.current (λ r. IsTakenIn self.old.scope W.told W.relations
             context.new.actor.now.known r × (r.first ≡ run.first) × (r.count ≡ run.count)) }
         ensures some { self.new.current ≢ None }
         ensures runs { (runs : List Run) → ReadsForRuns self.old.scope context.old.actor.now.known
-            self.old.desk.now.reads runs → ReadsForRuns self.new.scope context.new.actor.now.known
+            self.old.desk.now.reads runs → ReadsForRuns self.old.scope context.new.actor.now.known
             self.new.desk.now.reads runs }
         ensures reads { ReadsOne self.old self.new }
     {

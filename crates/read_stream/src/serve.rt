@@ -14,7 +14,7 @@ ghost use Rattle.read_stream.specs.PagesAtHand.{record_blocks_left};
 ghost use Rattle.read_stream.specs.PagesAtHand.{current_page};
 ghost use Rattle.read_stream.specs.StreamState.{IsBetweenCalls, IsOpen, Underway, stream_view};
 ghost use Rattle.read_stream.specs.StreamState.{UnderwayWith};
-ghost use Rattle.read_stream.specs.Changes.{SameStream, LookAheadUnchanged, GivesPage};
+ghost use Rattle.read_stream.specs.Changes.{SameStream, LookAheadUnchanged, page_given};
 ghost use Rattle.read_stream.specs.Changes.{ConsumerUnchanged};
 ghost use Rattle.read_stream.specs.declared.parts.Part.TheVariants.{Page};
 ghost use Rattle.read_stream.specs.declared.answer.Step.TheVariants.{Stop};
@@ -196,7 +196,7 @@ impl<'d, 'p, W: World, S: BlockSource<P> + Drop, P: Copy> ReadStream<'d, 'p, W, 
         requires front_block { slice_get self.old.desk.now.queue.items 0 ≡ Some asked }
         requires ahead { 0 < self.old.plan.blocks_ahead }
         requires given_in_range { self.old.given < 2 ^ 64 - 1 }
-        ensures { GivesPage asked self.old self.new }
+        ensures { self.new ≡ page_given self.old asked }
     {
         let _ = self.desk.queue.pop_front();
         self.plan.given();

@@ -18,7 +18,7 @@ wait_for-requires-clause-all_submitted g c =
     let n : ReadStream g.row.W.Denot g.row.S.Denot g.row.P.Denot = c.submit.new.self in
     let u = c.submit.ensures.underway (c.args.block ∷ []) c.requires.underway in
     all-submitted n.scope [] g.W.World.told g.W.World.relations
-    c.submit.new.context.actor.now.known n.desk.now.reads u.invariant.issued
+    c.submit.new.context.actor.now.known n.desk.now.reads u.invariant.records.issued
     c.submit.ensures.batch_empty
     (λ t i. absurd i)
 

@@ -51,8 +51,8 @@ returns-clause-ended g c = λ none no_record.
     let p : Known = c.loop-self.context.actor.now.known in
     let u = c.loop-self.invariant.underway in
     let not = c.loop-self-test.false in
-    u.running.none_left_if_over (c.wants_more.ensures.idle (λ (t : c.wants_more.result ≡ true). cc)
-    (u.running.ahead ∙ ap (λ (z : List (QueuedBlock g.row.P.Denot)). length z) none)
+    u.running.position.none_left_if_over (c.wants_more.ensures.idle (λ (t : c.wants_more.result ≡ true). cc)
+    (u.running.plan.ahead ∙ ap (λ (z : List (QueuedBlock g.row.P.Denot)). length z) none)
     (all_idle g.S.BlockSource.left g.W.World.told g.W.World.relations g.W.World.handles p p s s u
     none no_record))
 

@@ -1,7 +1,7 @@
-use Rattle.std.proofs.Common.{ℕ, ap, sym, arith, subst}
-use Rattle.read_stream.specs.declared.desk.Settings.{Settings}
+use Rattle.std.proofs.Common.{ℕ, arith}
 use Rattle.read_stream.specs.declared.stream.ReadStream.{ReadStream}
-use Rattle.read_stream.specs.WantedBlocks.{IsValidWant, blocks_of_want}
+use Rattle.read_stream.specs.WantedBlocks.{blocks_of_want}
+use Rattle.read_stream.specs.PagesAtHand.{record_blocks_left}
 use Rattle.read_stream.proofs.FreeRecords.{may_start}
 use Rattle.read_stream.proofs.PushWantKeepsUnderway.{underway_pushed}
 use Rattle.read_stream.proofs.stream.ReadStream.look_for.Goals as goal
@@ -22,11 +22,9 @@ push_want-requires g c =
 pub returns-clause-underway : goal.returns-clause-underway
 returns-clause-underway g c =
     let n : ReadStream g.row.W.Denot g.row.S.Denot g.row.P.Denot = c.start_pending.new.self in
-    underway_pushed g.S.BlockSource.left g.W.World.told g.W.World.relations g.W.World.handles
-    c.start_pending.new.context.actor.now.known c.start_pending.new.context.actor.now.known n
-    c.push_want.new.self c.args.want (c.start_pending.ensures.underway (blocks_of_want c.args.want)
-    c.requires.underway) c.start_pending.ensures.none c.requires.want.1
-    (subst (λ (z : ℕ). IsValidWant z g.W.World.handles c.args.want)
-    (sym (ap (λ (z : Settings). z.combine)
-    c.start_pending.ensures.consumer_unchanged.same_stream.settings)) c.requires.want.0)
-    c.push_want.ensures
+    rw c.push_want.ensures
+    (underway_pushed g.S.BlockSource.left g.W.World.told g.W.World.relations g.W.World.handles
+    c.start_pending.new.context.actor.now.known n c.args.want (record_blocks_left n.current n.step)
+    c.push_want.new.self.plan.distance c.start_pending.ensures.none c.requires.want.1
+    (rw c.start_pending.ensures.consumer_unchanged.same_stream.settings c.requires.want.0)
+    (c.start_pending.ensures.underway (blocks_of_want c.args.want) c.requires.underway))

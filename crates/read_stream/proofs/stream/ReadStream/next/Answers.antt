@@ -32,7 +32,7 @@ returns g c =
     ap (λ (z : ℕ). synchronous_answer z c.answer.result)
     (sym (ap (λ (z : StreamView P). z.relation) after)) ∙ c.answer.ensures.answer in
     let zero : n.scope.zero ≡ s.desk.now.settings.zero =
-    c.advance.ensures.is_open.between.invariant.zero
+    c.advance.ensures.is_open.between.invariant.set_up.zero
     ∙ ap (λ (z : StreamView P). z.settings.zero) after in
     let zeroed : IfZeroed x (s.desk.now.settings.zero ≡ true) =
     subst (λ (z : Bool). IfZeroed x (z ≡ true)) zero

@@ -1,13 +1,12 @@
 use Rattle.std.proofs.Common.{◌++◌, ℕ, List, [], ◌∷◌, ap, arith}
-use Rattle.std.proofs.Common.{subst, ◌∙◌}
-use Rattle.read_plan.specs.Plans.{PlanView}
-use Rattle.read_plan.specs.Runs.{IsRun}
+use Rattle.std.proofs.Common.{sym, ◌∙◌}
+use Rattle.std.specs.Prelude.{Option}
 use Rattle.read_plan.specs.declared.runs.Offer.{Offer}
 use Rattle.read_plan.specs.declared.runs.Run.{Run}
 use Rattle.read_stream.specs.declared.stream.ReadStream.{ReadStream}
 use Rattle.read_stream.specs.WantedBlocks.{pending_blocks}
 use Rattle.read_stream.specs.PagesAtHand.{record_blocks_left}
-use Rattle.read_stream.proofs.PlanChangeKeepsUnderway.{same_plan, underway_plan}
+use Rattle.read_stream.proofs.PlanChangeKeepsUnderway.{underway_plan}
 use Rattle.read_stream.proofs.FreeRecords.{may_start}
 use Rattle.read_stream.proofs.StartKeepsUnderway.{underway_started}
 use Rattle.read_stream.proofs.WantedBlocks.{run_blocks_out, none_out, offer_keeps_blocks}
@@ -30,31 +29,31 @@ start-requires-clause-room g c =
 pub returns-in-Flush-clause-underway : goal.returns-in-Flush-clause-underway
 returns-in-Flush-clause-underway g c =
     let s : ReadStream g.row.W.Denot g.row.S.Denot g.row.P.Denot = c.args.self.now in
-    let pl : PlanView = c.offer.new.self in
+    let pending : Option Run = c.offer.new.self.pending in
     let run : Run = c.in-Flush.run' in
-    underway_started g.S.BlockSource.left g.W.World.told g.W.World.relations g.W.World.handles
-    c.args.context.now.actor.now.known c.start.new.context.actor.now.known s c.start.new.self _ _ _
-    _ pl
-    run (c.args.block ∷ []) [] c.requires.underway
-    (same_plan s.plan pl pl.pending c.offer.ensures.rest)
-    (offer_keeps_blocks s.plan.combine s.plan.segment c.args.block s.plan.pending pl.pending
+    let starts = c.start.ensures.starts_run in
+    rw (starts.stream, c.offer.ensures.rest)
+    (underway_started g.S.BlockSource.left g.W.World.told g.W.World.relations g.W.World.handles
+    c.args.context.now.actor.now.known c.start.new.context.actor.now.known s _ _ _ _ run pending
+    c.start.new.self.desk.now.reads (record_blocks_left s.current s.step) (c.args.block ∷ []) []
+    c.start.ensures.context_advanced.advanced.actor_advanced
+    (rw (sym c.requires.underway.running.plan.combine) c.in-Flush.ensures.flushed)
+    (offer_keeps_blocks s.plan.combine s.plan.segment c.args.block s.plan.pending pending
     c.offer.result c.offer.ensures.answer
-    ∙ ap (λ (z : Offer). run_blocks_out z ++ (pending_blocks pl.pending ++ [])) c.in-Flush.is)
-    (subst (λ (z : ℕ). IsRun z run) c.requires.underway.running.combine c.in-Flush.ensures.flushed)
-    c.start.ensures.starts_run c.requires.free c.start.ensures.context_advanced.advanced.actor_advanced
-    c.start.ensures.issued
-    c.start.ensures.few c.start.ensures.runs
+    ∙ ap (λ (z : Offer). run_blocks_out z ++ (pending_blocks pending ++ [])) c.in-Flush.is)
+    c.start.ensures.issued c.start.ensures.few c.start.ensures.runs starts.free starts.records
+    starts.ios c.requires.free c.requires.underway)
 
 pub start_whole-requires-clause-underway : goal.start_whole-requires-clause-underway
 start_whole-requires-clause-underway g c =
     let s : ReadStream g.row.W.Denot g.row.S.Denot g.row.P.Denot = c.args.self.now in
-    let pl : PlanView = c.offer.new.self in
-    underway_plan g.S.BlockSource.left g.W.World.told g.W.World.relations g.W.World.handles
-    c.args.context.now.actor.now.known s pl (record_blocks_left s.current s.step)
-    (c.args.block ∷ []) [] 0
-    (same_plan s.plan pl pl.pending c.offer.ensures.rest)
-    (offer_keeps_blocks s.plan.combine s.plan.segment c.args.block s.plan.pending pl.pending
+    let pending : Option Run = c.offer.new.self.pending in
+    rw c.offer.ensures.rest
+    (underway_plan g.S.BlockSource.left g.W.World.told g.W.World.relations g.W.World.handles
+    c.args.context.now.actor.now.known s s.plan.distance pending
+    (record_blocks_left s.current s.step) (c.args.block ∷ []) [] 0
+    (offer_keeps_blocks s.plan.combine s.plan.segment c.args.block s.plan.pending pending
     c.offer.result c.offer.ensures.answer
-    ∙ ap (λ (z : List ℕ). z ++ (pending_blocks pl.pending ++ []))
+    ∙ ap (λ (z : List ℕ). z ++ (pending_blocks pending ++ []))
     (none_out c.offer.result c.in-Start.is))
-    c.requires.underway
+    c.requires.underway)

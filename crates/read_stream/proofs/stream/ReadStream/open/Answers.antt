@@ -105,50 +105,62 @@ returns-clause-is_open g c =
                 c.requires.backend;
             between = record {
               invariant = record {
-                relation_in_range = c.requires.relation;
-                settings = subst (λ (z : Settings). AreValidSettings z) (sym settings)
-                    c.requires.desk.settings;
-                scope = (sym combine, ap (λ (z : ℕ). z + 1) (sym ios));
-                zero = sym zeroes;
-                queue = let l = c.requires.desk.most_blocks in omega arith;
-                wants = let l = c.requires.desk.most_wants in omega arith;
-                list_within_most = omega arith;
-                issued = subst (λ (z : Known). Issued scope g.W.World.told g.W.World.relations z e.reads)
-                    (ap (λ (z : ActorView). z.known) (is-was ∙ sym is-now))
-                    (subst (λ (z : Reads W). Issued scope g.W.World.told g.W.World.relations was.known z)
-                    (sym reads) issued);
-                batch_within = omega arith;
-                current = tt;
-                record_total = omega arith;
+                set_up = record {
+                  relation_in_range = c.requires.relation;
+                  settings = subst (λ (z : Settings). AreValidSettings z) (sym settings)
+                      c.requires.desk.settings;
+                  scope = (sym combine, ap (λ (z : ℕ). z + 1) (sym ios));
+                  zero = sym zeroes;
+                  queue = let l = c.requires.desk.most_blocks in omega arith;
+                  wants = let l = c.requires.desk.most_wants in omega arith;
+                  list_within_most = omega arith;
+                };
+                records = record {
+                  issued = subst (λ (z : Known). Issued scope g.W.World.told g.W.World.relations z e.reads)
+                      (ap (λ (z : ActorView). z.known) (is-was ∙ sym is-now))
+                      (subst (λ (z : Reads W). Issued scope g.W.World.told g.W.World.relations was.known z)
+                      (sym reads) issued);
+                  batch_within = omega arith;
+                  current = tt;
+                  record_total = omega arith;
+                };
               };
               few_ios = omega arith;
               running = record {
-                given_within = omega arith;
-                readable = none-given (reader_of d.settings.zero g.W.World.told) _;
-                blocks = ap
-                    (λ (z : List (QueuedBlock P)). map source_item z
-                    ++ g.S.BlockSource.left c.args.source) items
-                    ∙ sym (ap (λ z. g.S.BlockSource.left z) src);
-                none_left_if_over = λ x. absurd (cc);
-                queue_order = ap (λ (z : List (QueuedBlock P)). map block_number z) items
-                    ∙ sym (ap (λ (z : List Want). wanted_blocks z
-                    ++ (pending_blocks c.new-plan.result.pending ++ [])) wants
-                    ∙ ap (λ (z : List ℕ). z ++ []) pending);
-                wants = each-none (λ (x : Want). IsValidWant e.settings.combine g.W.World.handles x) e.wants.items
-                    wants;
-                runs = subst (λ (z : List Want). ReadsForRuns scope now.known e.reads (wanted_runs z))
-                    (sym wants) (reads-none scope now.known e.reads
-                    (ap (λ (z : Reads W). z.ended.items) reads ∙ c.requires.desk.ready.ended)
-                    (ap (λ (z : Reads W). z.in_flight.items) reads ∙ c.requires.desk.ready.in_flight)
-                    (ap (λ (z : Reads W). z.batch) reads ∙ c.requires.desk.ready.batch));
-                few_ios = omega arith;
-                ahead = ap (λ (z : PlanView). z.blocks_ahead) plan ∙ sym none;
-                queue_within_limit = omega arith;
-                in_use = (let z = ap (λ (z : PlanView). z.ios_in_progress) plan in omega arith);
-                spare_record = omega arith;
-                combine = ap (λ (z : PlanView). z.combine) plan ∙ sym combine;
-                max_ios = ap (λ (z : PlanView). z.max_ios) plan ∙ sym ios;
-                limit = ap (λ (z : PlanView). z.limit) plan ∙ sym limit;
+                position = record {
+                  given_within = omega arith;
+                  readable = none-given (reader_of d.settings.zero g.W.World.told) _;
+                  blocks = ap
+                      (λ (z : List (QueuedBlock P)). map source_item z
+                      ++ g.S.BlockSource.left c.args.source) items
+                      ∙ sym (ap (λ z. g.S.BlockSource.left z) src);
+                  none_left_if_over = λ x. absurd (cc);
+                };
+                order = record {
+                  queue_order = ap (λ (z : List (QueuedBlock P)). map block_number z) items
+                      ∙ sym (ap (λ (z : List Want). wanted_blocks z
+                      ++ (pending_blocks c.new-plan.result.pending ++ [])) wants
+                      ∙ ap (λ (z : List ℕ). z ++ []) pending);
+                  wants = each-none (λ (x : Want). IsValidWant e.settings.combine g.W.World.handles x) e.wants.items
+                      wants;
+                };
+                ios = record {
+                  runs = subst (λ (z : List Want). ReadsForRuns scope now.known e.reads (wanted_runs z))
+                      (sym wants) (reads-none scope now.known e.reads
+                      (ap (λ (z : Reads W). z.ended.items) reads ∙ c.requires.desk.ready.ended)
+                      (ap (λ (z : Reads W). z.in_flight.items) reads ∙ c.requires.desk.ready.in_flight)
+                      (ap (λ (z : Reads W). z.batch) reads ∙ c.requires.desk.ready.batch));
+                  few_ios = omega arith;
+                };
+                plan = record {
+                  ahead = ap (λ (z : PlanView). z.blocks_ahead) plan ∙ sym none;
+                  queue_within_limit = omega arith;
+                  in_use = (let z = ap (λ (z : PlanView). z.ios_in_progress) plan in omega arith);
+                  spare_record = omega arith;
+                  combine = ap (λ (z : PlanView). z.combine) plan ∙ sym combine;
+                  max_ios = ap (λ (z : PlanView). z.max_ios) plan ∙ sym ios;
+                  limit = ap (λ (z : PlanView). z.limit) plan ∙ sym limit;
+                };
               };
               lends_page = (refl, refl);
               stop_answer = tt;

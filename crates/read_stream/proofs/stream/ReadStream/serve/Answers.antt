@@ -9,6 +9,7 @@ use Rattle.read_stream.specs.StreamAnswers.{step_answer, synchronous_ending}
 use Rattle.read_stream.specs.WantedBlocks.{block_number}
 use Rattle.read_stream.specs.PagesAtHand.{blocks_at_hand, spent_ios, record_blocks_left}
 use Rattle.read_stream.specs.PagesAtHand.{current_page}
+use Rattle.read_stream.specs.Changes.{page_given}
 use Rattle.read_stream.proofs.ListPositions.{mapped-at}
 use Rattle.read_stream.proofs.BlockAtHand.{no_current, spent_at_hand}
 use Rattle.read_stream.proofs.LaterActorKeepsAnswer.{next_answer_kept}
@@ -81,23 +82,24 @@ returns-in-None-clause-between g c =
     let first = ap (λ (z : Buffer (QueuedBlock g.row.P.Denot)). slice_get z.items 0)
     c.find.ensures.look_ahead_unchanged.queue
     ∙ (sym c.front_block.ensures ∙ c.in-Some.is) in
-    given_between g.S.BlockSource.left g.W.World.told g.W.World.relations g.W.World.handles
-    c.find.new.context.actor.now.known n c.give_page.new.self c.in-Some.asked first
-    c.give_page.ensures
-    c.find.ensures.reaches.underway c.in-None.ensures.page
+    rw c.give_page.ensures
+    (given_between g.S.BlockSource.left g.W.World.told g.W.World.relations g.W.World.handles
+    c.find.new.context.actor.now.known n c.in-Some.asked first c.find.ensures.reaches.underway
+    c.in-None.ensures.page)
 
 pub returns-in-None-clause-answer : goal.returns-in-None-clause-answer
 returns-in-None-clause-answer g c bytes =
     let s : ReadStream g.row.W.Denot g.row.S.Denot g.row.P.Denot = c.args.self.now in
     let n : ReadStream g.row.W.Denot g.row.S.Denot g.row.P.Denot = c.find.new.self in
-    let m : ReadStream g.row.W.Denot g.row.S.Denot g.row.P.Denot = c.give_page.new.self in
+    let m : ReadStream g.row.W.Denot g.row.S.Denot g.row.P.Denot = page_given n c.in-Some.asked in
     let first = ap (λ (z : Buffer (QueuedBlock g.row.P.Denot)). slice_get z.items 0)
     c.find.ensures.look_ahead_unchanged.queue
     ∙ (sym c.front_block.ensures ∙ c.in-Some.is) in
-    next_answer_kept g.S.BlockSource.left g.W.World.told g.W.World.relations g.W.World.handles
+    rw c.give_page.ensures
+    (next_answer_kept g.S.BlockSource.left g.W.World.told g.W.World.relations g.W.World.handles
     c.find.new.context.actor.now.known s n (step_answer m.scope.relation m.step (current_page m))
     c.find.ensures.look_ahead_unchanged.same_stream
     c.find.ensures.look_ahead_unchanged.given
     (given_next g.S.BlockSource.left g.W.World.told g.W.World.relations g.W.World.handles
-    c.find.new.context.actor.now.known n m c.in-Some.asked first c.give_page.ensures
-    c.find.ensures.reaches.underway c.in-None.ensures.page bytes)
+    c.find.new.context.actor.now.known n c.in-Some.asked first c.find.ensures.reaches.underway
+    c.in-None.ensures.page (rw c.give_page.ensures at bytes)))

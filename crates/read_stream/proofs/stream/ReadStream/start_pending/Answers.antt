@@ -1,11 +1,9 @@
-use Rattle.std.proofs.Common.{◌++◌, ℕ, sym, ap, arith, subst, ◌∙◌}
+use Rattle.std.proofs.Common.{◌++◌, ℕ, sym, ap, arith, ◌∙◌}
 use Rattle.std.specs.Prelude.{Option, None}
-use Rattle.read_plan.specs.Plans.{PlanView}
-use Rattle.read_plan.specs.Runs.{IsRun, run_blocks}
 use Rattle.read_plan.specs.declared.runs.Run.{Run}
 use Rattle.read_stream.specs.declared.stream.ReadStream.{ReadStream}
 use Rattle.read_stream.specs.WantedBlocks.{pending_blocks}
-use Rattle.read_stream.proofs.PlanChangeKeepsUnderway.{same_plan}
+use Rattle.read_stream.specs.PagesAtHand.{record_blocks_left}
 use Rattle.read_stream.proofs.FreeRecords.{may_start, some_pending}
 use Rattle.read_stream.proofs.StartKeepsUnderway.{underway_started}
 use Rattle.read_stream.proofs.stream.ReadStream.start_pending.Goals as goal
@@ -31,17 +29,16 @@ start-requires-clause-room g c =
 pub returns-in-Some-clause-underway : goal.returns-in-Some-clause-underway
 returns-in-Some-clause-underway g c = λ behind u.
     let s : ReadStream g.row.W.Denot g.row.S.Denot g.row.P.Denot = c.args.self.now in
-    let pl : PlanView = c.take_pending.new.self in
     let run : Run = c.in-Some.run' in
-    let is = c.take_pending.ensures.rest in
-    underway_started g.S.BlockSource.left g.W.World.told g.W.World.relations g.W.World.handles
-    c.args.context.now.actor.now.known c.start.new.context.actor.now.known s c.start.new.self _ _ _
-    _ pl
-    run behind behind u (same_plan s.plan pl None is)
+    let pending : Option Run = None in
+    let starts = c.start.ensures.starts_run in
+    rw (starts.stream, c.take_pending.ensures.rest)
+    (underway_started g.S.BlockSource.left g.W.World.told g.W.World.relations g.W.World.handles
+    c.args.context.now.actor.now.known c.start.new.context.actor.now.known s _ _ _ _ run pending
+    c.start.new.self.desk.now.reads (record_blocks_left s.current s.step) behind behind
+    c.start.ensures.context_advanced.advanced.actor_advanced
+    (rw (sym u.running.plan.combine) c.in-Some.ensures.each)
     (ap (λ (z : Option Run). pending_blocks z ++ behind)
-    (sym c.take_pending.ensures.run ∙ c.in-Some.is)
-    ∙ sym (ap (λ (z : PlanView). run_blocks run ++ (pending_blocks z.pending ++ behind)) is))
-    (subst (λ (z : ℕ). IsRun z run) u.running.combine c.in-Some.ensures.each)
-    c.start.ensures.starts_run c.requires.free c.start.ensures.context_advanced.advanced.actor_advanced
-    c.start.ensures.issued
-    c.start.ensures.few c.start.ensures.runs
+    (sym c.take_pending.ensures.run ∙ c.in-Some.is))
+    c.start.ensures.issued c.start.ensures.few c.start.ensures.runs starts.free starts.records
+    starts.ios c.requires.free u)

@@ -1,8 +1,7 @@
-use Rattle.std.proofs.Common.{ℕ, List, sym, arith, subst}
+use Rattle.std.proofs.Common.{arith}
 use Rattle.read_stream.specs.declared.queue.QueuedBlock.{QueuedBlock}
 use Rattle.read_stream.specs.declared.stream.ReadStream.{ReadStream}
 use Rattle.read_stream.specs.PagesAtHand.{record_blocks_left}
-use Rattle.read_stream.specs.StreamState.{UnderwayWith}
 use Rattle.read_stream.proofs.EnqueueKeepsUnderway.{underway_enqueued}
 use Rattle.read_stream.proofs.stream.ReadStream.take_next.Goals as goal
 
@@ -15,25 +14,21 @@ offer-requires-clause-underway g c =
     } in
     let near = c.requires.ahead.0.0 in
     let far = c.requires.ahead.1.distance in
-    underway_enqueued g.S.BlockSource.left g.W.World.told g.W.World.relations g.W.World.handles
-    c.args.context.now.actor.now.known c.args.context.now.actor.now.known s c.enqueue.new.self
-    c.next.new.self
-    a c.in-Some.ensures.first c.enqueue.ensures (omega arith) c.requires.underway
+    rw c.enqueue.ensures
+    (underway_enqueued g.S.BlockSource.left g.W.World.told g.W.World.relations g.W.World.handles
+    c.args.context.now.actor.now.known s c.next.new.self a (record_blocks_left s.current s.step)
+    c.in-Some.ensures.first (omega arith) c.requires.underway)
 
 pub look_for-requires-clause-underway : goal.look_for-requires-clause-underway
 look_for-requires-clause-underway g c =
     let s : ReadStream g.row.W.Denot g.row.S.Denot g.row.P.Denot = c.args.self.now in
-    let n : ReadStream g.row.W.Denot g.row.S.Denot g.row.P.Denot = c.enqueue.new.self in
     let a : QueuedBlock g.row.P.Denot = record {
       block = c.in-Some.taken.0;
       per_buffer_data = c.in-Some.taken.1;
     } in
     let near = c.requires.ahead.0.0 in
     let far = c.requires.ahead.1.distance in
-    subst (λ (z : List ℕ). UnderwayWith g.S.BlockSource.left g.W.World.told g.W.World.relations
-    g.W.World.handles (record_blocks_left n.current n.step) z 0 c.args.context.now.actor.now.known
-    n)
-    (sym c.in-Some-want.ensures.1)
+    rw (c.enqueue.ensures, c.in-Some-want.ensures.1)
     (underway_enqueued g.S.BlockSource.left g.W.World.told g.W.World.relations g.W.World.handles
-    c.args.context.now.actor.now.known c.args.context.now.actor.now.known s n c.next.new.self a
-    c.in-Some.ensures.first c.enqueue.ensures (omega arith) c.requires.underway)
+    c.args.context.now.actor.now.known s c.next.new.self a (record_blocks_left s.current s.step)
+    c.in-Some.ensures.first (omega arith) c.requires.underway)
