@@ -1,5 +1,5 @@
 -- Staged tokens that were put into the batch.
-use Rattle.std.proofs.Common.{◌≡◌, ◌≢◌, ℕ, ◌+◌, ◌<◌, List, [], ◌∷◌, ◌++◌, length, refl, sym, ap}
+use Rattle.std.proofs.Common.{◌≡◌, ◌≢◌, ℕ, ◌+◌, ◌<◌, List, [], ◌∷◌, ◌++◌, refl, sym, ap}
 use Rattle.std.proofs.Common.{◌∙◌, arith, subst, inl, inr, ⊎_elim, length-append}
 use Rattle.std.specs.Prelude.{Option}
 use Rattle.page_check.specs.Told.{Told}
@@ -14,7 +14,7 @@ use Rattle.read_stream.specs.declared.reads.Reads.{Reads}
 use Rattle.read_stream.specs.declared.scope.Scope.{Scope}
 use Rattle.read_stream.specs.StreamIos.{IsStreamRecord, IsNewIncarnation, Issued, IssuedExcept}
 use Rattle.read_stream.specs.StreamIos.{staged_references}
-use Rattle.read_stream.specs.StreamIos.{record_count, ios_started}
+use Rattle.read_stream.specs.StreamIos.{record_count}
 use Rattle.read_stream.proofs.PushedList.{each-pushed}
 
 held-push : (q : Known) (ts : List (WaitRef × ReadIoView)) (t : WaitRef × ReadIoView)
@@ -49,59 +49,7 @@ module _ {W : Type 0} (c : Scope W) where
       (λ e. inr (in-pushed x t r bs fs (inl e)))
       (λ l. ⊎_elim (λ e. inl e) (λ l'. inr (in-pushed x t r bs fs (inr l'))) l) i
 
-  -- a staged token was pushed
-  pub issued-pushed : (told : Option Told) (relations : ℕ) (p : Known) (s : Reads W)
-      (x : WaitRef × ReadIoView) (after : List (WaitRef × ReadIoView)) → after ≡ s.batch ++ x ∷ []
-      → IsStaged p x.0 → IsStreamRecord c x.1 → IsNewIncarnation c x.0
-      → ((u : WaitRef × ReadIoView) → IsIn u s.batch → u.0 ≢ x.0)
-      → record_count s < c.total
-      → IssuedExcept (x.0 ∷ []) c told relations p s
-      → IssuedExcept [] c told relations p (record s { batch = after })
-      × (record_count (record s { batch = after }) ≡ record_count s + 1)
-      × (ios_started (record s { batch = after }) ≡ ios_started s + 1)
-  issued-pushed told relations p s x after is new aimed fresh apart room k =
-      let more = length-append s.batch (x ∷ []) in
-      let whole : length after ≡ length (s.batch ++ x ∷ []) =
-      ap (λ (z : List (WaitRef × ReadIoView)). length z) is in (
-        record {
-          room = record {
-            free = k.room.free;
-            in_flight = k.room.in_flight;
-            ended = k.room.ended;
-            count_within = let f = k.room.count_within in omega arith;
-          };
-          number = k.number;
-          config = k.config;
-          nothing_handed_out = k.nothing_handed_out;
-          free = k.free;
-          staged_tokens = subst (λ (z : List (WaitRef × ReadIoView)). AreStagedTokens p z) (sym is)
-              (held-push p s.batch x k.staged_tokens new apart);
-          staged_ios = subst (λ (z : List (WaitRef × ReadIoView)). (u : WaitRef × ReadIoView)
-              → IsIn u z
-              → IsStreamRecord c u.1 × IsNewIncarnation c u.0) (sym is)
-              (each-pushed (λ u. IsStreamRecord c u.1 × IsNewIncarnation c u.0) s.batch x
-              k.staged_ios
-              (aimed, fresh));
-          stream_ios = k.stream_ios;
-          ended_records = k.ended_records;
-          unreclaimed_ios = λ y. ⊎_elim (λ over. inl over)
-              (λ j. inr (subst
-              (λ (z : List (WaitRef × ReadIoView)). IsIn y (staged_references z
-              ++ s.in_flight.items))
-              (sym is) (in-pushed y x.0 x.1 s.batch s.in_flight.items j)))
-              (k.unreclaimed_ios y);
-          within_most = let f = k.within_most in omega arith;
-          most_in_range = k.most_in_range;
-          room_was = k.room_was;
-          taken_in_count = k.taken_in_count;
-          lives_bound = k.lives_bound;
-          marks_since_open = k.marks_since_open;
-        },
-        omega arith,
-        omega arith,
-      )
-
-  -- and the batch has it
+  -- a staged token was pushed, and the batch has it
   pub issued-put : (told : Option Told) (relations : ℕ) (p : Known) (s s' : Reads W)
       (x : WaitRef × ReadIoView) → s' ≡ record s { batch = s.batch ++ x ∷ [] }
       → IsStaged p x.0 → IsStreamRecord c x.1 → IsNewIncarnation c x.0
@@ -109,5 +57,21 @@ module _ {W : Type 0} (c : Scope W) where
       → record_count s < c.total → IssuedExcept (x.0 ∷ []) c told relations p s
       → Issued c told relations p s'
   issued-put told relations p s s' x is new aimed fresh apart room k =
-      subst (λ (z : Reads W). Issued c told relations p z) (sym is)
-      (issued-pushed told relations p s x (s.batch ++ x ∷ []) refl new aimed fresh apart room k).0
+      let more = length-append s.batch (x ∷ []) in
+      let most = k.within_most in
+      rw is (record {
+        room = k.room;
+        count_within = omega arith;
+        within_most = omega arith;
+        actor = k.actor;
+        records = k.records;
+        tokens = record {
+          staged_tokens = held-push p s.batch x k.tokens.staged_tokens new apart;
+          staged_ios = each-pushed (λ u. IsStreamRecord c u.1 × IsNewIncarnation c u.0) s.batch x
+              k.tokens.staged_ios (aimed, fresh);
+          stream_ios = k.tokens.stream_ios;
+          unreclaimed_ios = λ y. ⊎_elim (λ over. inl over)
+              (λ j. inr (in-pushed y x.0 x.1 s.batch s.in_flight.items j))
+              (k.tokens.unreclaimed_ios y);
+        };
+      })

@@ -38,14 +38,12 @@ module _ {W S P : Type 0} (left : S → List (ℕ × P)) (told : Option Told)
       let total = v.record_total in
       let in_use = g.plan.in_use in
       let spare = g.plan.spare_record in
-      let (issued, records) = more-free s.scope told relations p reads io
-      (buffer (io ∷ reads.free.items) reads.free.capacity) refl (omega arith)
-      taken.is_stream_record.room v.issued in
       record {
         invariant = record {
           set_up = u.invariant.set_up;
           records = record {
-            issued = issued;
+            issued = more-free s.scope told relations p reads io (omega arith)
+                taken.is_stream_record.room v.issued;
             batch_within = v.batch_within;
             current = tt;
             record_total = omega arith;

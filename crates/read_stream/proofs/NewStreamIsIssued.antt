@@ -1,6 +1,6 @@
 -- A stream that was just opened.
 use Rattle.std.proofs.Common.{◌≡◌, ℕ, ◌^◌, ◌<◌, ◌≤◌, List, [], length, refl, sym, ap}
-use Rattle.std.proofs.Common.{arith, append-nil, subst, inl}
+use Rattle.std.proofs.Common.{arith, append-nil, inl}
 use Rattle.std.specs.Prelude.{Option, Some, None, IfSome}
 use Rattle.page_check.specs.Told.{Told}
 use Rattle.page_check.specs.SynchronousAnswer.{Reader}
@@ -8,13 +8,11 @@ use Rattle.aio_word.specs.declared.WaitRef.{WaitRef}
 use Rattle.aio_word.specs.declared.Known.{Known}
 use Rattle.aio_handle.specs.FreeHandles.{IsRoom}
 use Rattle.aio_handle.specs.EndStates.{HasNoOwnerTokens}
-use Rattle.aio_batch.specs.StagedTokens.{AreStagedTokens}
 use Rattle.aio_callback.specs.ReadIoView.{ReadIoView}
 use Rattle.read_stream.specs.declared.reads.Reads.{Reads}
 use Rattle.read_stream.specs.declared.scope.Scope.{Scope}
 use Rattle.read_stream.specs.StreamIos.{Issued, AllRecordsFree, IsStreamRecord, IsNewIncarnation}
 use Rattle.read_stream.specs.StreamIos.{IsTakenIn}
-use Rattle.read_stream.specs.StreamIos.{AllStreamIos}
 use Rattle.read_stream.specs.StreamIos.{known_at_open}
 use Rattle.read_stream.proofs.PushedList.{each-none}
 
@@ -32,30 +30,32 @@ module _ {W : Type 0} where
       ap (λ (z : List (WaitRef × ReadIoView)). length z) ready.batch in
       let f : length r.in_flight.items ≡ 0 =
       ap (λ (z : List WaitRef). length z) ready.in_flight in
+      let e : length r.ended.items ≡ 0 = ap (λ (z : List ReadIoView). length z) ready.ended in
       record {
-        room = record {
-          free = ready.has_room.free;
-          in_flight = ready.has_room.in_flight;
-          ended = ready.has_room.ended;
-          count_within = ready.has_room.count_within;
-        };
-        number = refl;
-        config = refl;
-        nothing_handed_out = rest.0;
-        free = ready.free;
-        staged_tokens = subst (λ (z : List (WaitRef × ReadIoView)). AreStagedTokens p z)
-            (sym ready.batch) tt;
-        staged_ios = each-none (λ x. IsStreamRecord c x.1 × IsNewIncarnation c x.0) r.batch
-            ready.batch;
-        stream_ios = subst (λ (z : List WaitRef). AllStreamIos c p z) (sym ready.in_flight) tt;
-        ended_records = each-none (λ x. IsTakenIn c told relations p x) r.ended.items ready.ended;
-        unreclaimed_ios = λ t. inl (rest.1 t);
+        room = ready.has_room;
+        count_within = let n = ready.free_count in omega arith;
         within_most = omega arith;
-        most_in_range = small;
-        room_was = room;
-        taken_in_count = omega arith;
-        lives_bound = λ h. omega arith;
-        marks_since_open = ([], sym (append-nil p.marks));
+        actor = record {
+          number = refl;
+          config = refl;
+          nothing_handed_out = rest.0;
+          most_in_range = small;
+          room_was = room;
+          taken_in_count = omega arith;
+          lives_bound = λ h. omega arith;
+          marks_since_open = ([], sym (append-nil p.marks));
+        };
+        records = record {
+          free = ready.free;
+          ended_records = each-none (λ x. IsTakenIn c told relations p x) r.ended.items ready.ended;
+        };
+        tokens = record {
+          staged_tokens = rw ready.batch tt;
+          staged_ios = each-none (λ x. IsStreamRecord c x.1 × IsNewIncarnation c x.0) r.batch
+              ready.batch;
+          stream_ios = rw ready.in_flight tt;
+          unreclaimed_ios = λ t. inl (rest.1 t);
+        };
       }
 
 -- nothing was given, and so all of it can be read

@@ -1,6 +1,7 @@
 -- Calls that leave an owner's counts as they are: what was defined, taken and reclaimed.
-use Rattle.std.proofs.Common.{◌≡◌, ◌≢◌, ℕ, ◌+◌, ◌*◌, List, [], ◌∷◌, ◌++◌, refl, sym, ap}
+use Rattle.std.proofs.Common.{◌≡◌, ◌≢◌, ℕ, ◌+◌, ◌*◌, ◌≤◌, List, [], ◌∷◌, ◌++◌, refl, sym, ap}
 use Rattle.std.proofs.Common.{◌∙◌}
+use Rattle.std.specs.Prelude.{None}
 use Rattle.std.proofs.Common.{arith, append_assoc, append-nil, ◌==◌, ◌&&◌}
 use Rattle.std.proofs.lemmas.List.Sums.{sum_by-append, sum_by-cons}
 use Rattle.std.proofs.lemmas.Bool.Decides.{nat_tests}
@@ -18,6 +19,8 @@ use Rattle.aio_word.proofs.MoreMarksKeep.{count_at_place, mark_count-more, mark_
 use Rattle.aio_handle.specs.Execution.{ExecutesAll}
 use Rattle.aio_handle.specs.CallEvents.{EventMade, WordLoaded}
 use Rattle.read_stream.specs.ActorProgress.{local_mark_count}
+use Rattle.read_stream.specs.declared.scope.Scope.{Scope}
+use Rattle.read_stream.specs.StreamIos.{IsStreamActor, known_at_open}
 
 -- the marks at one place over all incarnations, and at one place of one handle
 pub locals-more : (ms more : List Mark)
@@ -156,3 +159,30 @@ owner-counts-submitting h w w' aim p q m = owner-counts-mark
     (ap (λ (z : Known). z.marks) m.is)
     (aims-more p q (wait_ref h w.generation, aim) (ap (λ (z : Known). z.aims) m.is))
     (λ e. omega arith) (λ e. omega arith) (λ e. omega arith)
+
+module _ {W : Type 0} (c : Scope W) where
+  -- the actor of a stream has done more, and has taken in one more I/O or none
+  pub stream-actor-later : (p q : Known) (taken taken' : ℕ) (more : List Mark)
+      → q.number ≡ p.number → q.config ≡ p.config → q.out ≡ None → q.marks ≡ p.marks ++ more
+      → local_mark_count q.marks + taken ≡ local_mark_count p.marks + taken'
+      → ((h : ℕ) → lives_ended h q.marks + taken ≤ lives_ended h p.marks + taken')
+      → IsStreamActor c taken p → IsStreamActor c taken' q
+  stream-actor-later p q taken taken' more number config out grown locals lived a = record {
+    number = number ∙ a.number;
+    config = config ∙ a.config;
+    nothing_handed_out = out;
+    most_in_range = a.most_in_range;
+    room_was = a.room_was;
+    taken_in_count = let z = a.taken_in_count in omega arith;
+    lives_bound = λ h. (let y = lived h in let z = a.lives_bound h in omega arith);
+    marks_since_open = (
+      a.marks_since_open.0 ++ more,
+      grown ∙ (ap (λ (z : List Mark). z ++ more) a.marks_since_open.1
+          ∙ append_assoc (known_at_open c).marks a.marks_since_open.0 more),
+    );
+  }
+
+  pub stream-actor-kept : (p q : Known) (taken : ℕ) → OwnerCountsUnchanged p q → q.out ≡ None
+      → IsStreamActor c taken p → IsStreamActor c taken q
+  stream-actor-kept p q taken i out = stream-actor-later p q taken taken i.more i.number i.config
+      out i.grown (let z = i.locals in omega arith) (λ h. (let z = i.lived h in omega arith))

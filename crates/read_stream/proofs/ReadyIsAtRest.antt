@@ -19,9 +19,9 @@ pub at-rest : {W : Type 0} (c : Scope W) (told : Option Told) (relations : ℕ) 
     (s : Reads W) (room total : ℕ) → Issued c told relations p s → AllRecordsFree room total s
     → HasNoOwnerTokens p
 at-rest c told relations p s room total i r = (
-  i.nothing_handed_out,
+  i.actor.nothing_handed_out,
   (λ t. ⊎_elim (λ over. over)
       (λ j. absurd (none-in t (staged_references s.batch) s.in_flight.items
       (ap (λ (z : List (WaitRef × ReadIoView)). staged_references z) r.batch) r.in_flight j))
-      (i.unreclaimed_ios t)),
+      (i.tokens.unreclaimed_ios t)),
 )

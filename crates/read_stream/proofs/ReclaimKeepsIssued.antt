@@ -40,7 +40,7 @@ use Rattle.read_stream.specs.StreamIos.{Issued, ReadsBlocks, HasIdleHandle, know
 use Rattle.read_stream.specs.ActorProgress.{ActorAdvanced, MarkedSince}
 use Rattle.read_stream.proofs.ActorAdvancedLaws.{advanced_then, advanced_made, advanced_waiting}
 use Rattle.read_stream.proofs.OwnerCountsKept.{OwnerCountsUnchanged, owner-counts-then}
-use Rattle.read_stream.proofs.OwnerCountsKept.{owner-counts-taking-up, owner-counts-looking}
+use Rattle.read_stream.proofs.OwnerCountsKept.{owner-counts-taking-up, owner-counts-looking, stream-actor-later}
 use Rattle.read_stream.proofs.TakenInRecordKept.{taken-grown}
 use Rattle.read_stream.proofs.InFlightUnchanged.{stream-ios-kept}
 use Rattle.read_stream.proofs.BatchPushKeepsIssued.{staged-of}
@@ -176,52 +176,39 @@ module _ (p m q : Known) (t : WaitRef) (l : Label) (a b d e : ℕ) (class : Clas
           → Issued c told relations q (record s { taken_in = s.taken_in + 1 })
       settled-issued s keeps stream_ios apart i =
           record {
-            room = record {
-              free = i.room.free;
-              in_flight = i.room.in_flight;
-              ended = i.room.ended;
-              count_within = i.room.count_within;
-            };
-            number = number-is ∙ i.number;
-            config = config-is ∙ i.config;
-            nothing_handed_out = out-is ∙ i.nothing_handed_out;
-            free = i.free;
-            staged_tokens = held-kept-but c s.batch stream_ios i.staged_tokens;
-            staged_ios = i.staged_ios;
-            stream_ios = stream-ios-kept c p q s.in_flight.items (λ u j. kept u (apart u j))
-                i.stream_ios;
-            ended_records = λ x j. taken-grown c told relations p q more x grown
-                advanced-settling.aims
-                (i.ended_records x j);
-            unreclaimed_ios = λ x. ⊎_elim
-                (λ over. let f = same-defined t w.result_taken.class p.marks before.marks q.marks
-                marks-both idles.defined x in
-                let g = more-reclaimed x in inl (omega arith))
-                (λ j. ⊎_elim
-                (λ same. inl (let f =
-                own-reclaimed t w.result_taken.class p.marks before.marks q.marks marks-both in
-                let o = keeps.once t.handle (8 * t.generation + 0) in
-                let own : count_at_place t 0 q.marks ≤ count_at_place t 7 q.marks = omega arith in
-                subst (λ (z : WaitRef). count_at_place z 0 q.marks ≤ count_at_place z 7 q.marks)
-                same own))
-                (λ rest. inr rest) j)
-                (i.unreclaimed_ios x);
+            room = i.room;
+            count_within = i.count_within;
             within_most = let f = i.within_most in omega arith;
-            most_in_range = i.most_in_range;
-            room_was = i.room_was;
-            taken_in_count =
-                let f = one-local t w.result_taken.class p.marks before.marks q.marks marks-both
-                idles.locals in
-                let g = i.taken_in_count in omega arith;
-            lives_bound = λ h.
-                (let f = one-life t w.result_taken.class p.marks before.marks q.marks marks-both
-                idles.lived h in
-                let g = i.lives_bound h in omega arith);
-            marks_since_open = (
-              i.marks_since_open.0 ++ more,
-              grown ∙ (ap (λ (z : List Mark). z ++ more) i.marks_since_open.1
-                  ∙ append_assoc (known_at_open c).marks i.marks_since_open.0 more),
-            );
+            actor = stream-actor-later c p q s.taken_in (s.taken_in + 1) more number-is config-is
+                (out-is ∙ i.actor.nothing_handed_out) grown
+                (let f = one-local t w.result_taken.class p.marks before.marks q.marks marks-both
+                idles.locals in omega arith)
+                (λ h. (let f = one-life t w.result_taken.class p.marks before.marks q.marks
+                marks-both idles.lived h in omega arith)) i.actor;
+            records = record {
+              free = i.records.free;
+              ended_records = λ x j. taken-grown c told relations p q more x grown
+                  advanced-settling.aims (i.records.ended_records x j);
+            };
+            tokens = record {
+              staged_tokens = held-kept-but c s.batch stream_ios i.tokens.staged_tokens;
+              staged_ios = i.tokens.staged_ios;
+              stream_ios = stream-ios-kept c p q s.in_flight.items (λ u j. kept u (apart u j))
+                  i.tokens.stream_ios;
+              unreclaimed_ios = λ x. ⊎_elim
+                  (λ over. let f = same-defined t w.result_taken.class p.marks before.marks q.marks
+                  marks-both idles.defined x in
+                  let g = more-reclaimed x in inl (omega arith))
+                  (λ j. ⊎_elim
+                  (λ same. inl (let f =
+                  own-reclaimed t w.result_taken.class p.marks before.marks q.marks marks-both in
+                  let o = keeps.once t.handle (8 * t.generation + 0) in
+                  let own : count_at_place t 0 q.marks ≤ count_at_place t 7 q.marks = omega arith in
+                  subst (λ (z : WaitRef). count_at_place z 0 q.marks ≤ count_at_place z 7 q.marks)
+                  same own))
+                  (λ rest. inr rest) j)
+                  (i.tokens.unreclaimed_ios x);
+            };
           }
 
       -- the record, which the owner has settled
@@ -247,13 +234,13 @@ module _ (p m q : Known) (t : WaitRef) (l : Label) (a b d e : ℕ) (class : Clas
           let z = stream_ios.has_aim.0 in
           let same : ReadsAs x z = reads-as x z (aimed (record_aim z) stream_ios.has_aim.2) in
           let is-aimed = stream_ios.has_aim.1 in
-          let whole : q.marks ≡ (known_at_open c).marks ++ (i.marks_since_open.0 ++ more) =
-          grown ∙ (ap (λ (z : List Mark). z ++ more) i.marks_since_open.1
-          ∙ append_assoc (known_at_open c).marks i.marks_since_open.0 more) in
+          let whole : q.marks ≡ (known_at_open c).marks ++ (i.actor.marks_since_open.0 ++ more) =
+          grown ∙ (ap (λ (z : List Mark). z ++ more) i.actor.marks_since_open.1
+          ∙ append_assoc (known_at_open c).marks i.actor.marks_since_open.0 more) in
           let local : MarkedSince (known_at_open c) q (make_mark t (kind.Local o.class)) = (
-            i.marks_since_open.0 ++ more,
+            i.actor.marks_since_open.0 ++ more,
             whole,
-            in-right local-mark i.marks_since_open.0 more local-in-more,
+            in-right local-mark i.actor.marks_since_open.0 more local-in-more,
           ) in
           record {
             fits = fits;
@@ -282,9 +269,9 @@ module _ (p m q : Known) (t : WaitRef) (l : Label) (a b d e : ℕ) (class : Clas
                 (sym marks-q)
                 (in-left _ m.marks (last-mark ∷ []) lived.executed) in
                 let since : MarkedSince (known_at_open c) q (make_mark t (kind.Io x.label.ended)) = (
-                  i.marks_since_open.0 ++ more,
+                  i.actor.marks_since_open.0 ++ more,
                   whole,
-                  new-behind c (kind.Io x.label.ended) (i.marks_since_open.0
+                  new-behind c (kind.Io x.label.ended) (i.actor.marks_since_open.0
                       ++ more) stream_ios.is_new
                       (subst (λ (v : List Mark). IsIn (make_mark t (kind.Io x.label.ended)) v) whole
                       there),

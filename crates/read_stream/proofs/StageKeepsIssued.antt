@@ -34,7 +34,7 @@ use Rattle.read_stream.specs.StreamIos.{ios_started, IsStreamRecord}
 use Rattle.read_stream.specs.ActorProgress.{ActorAdvanced, local_mark_count}
 use Rattle.read_stream.proofs.ActorAdvancedLaws.{advanced_then, advanced_nothing, advanced_made}
 use Rattle.read_stream.proofs.ActorAdvancedLaws.{aims-same}
-use Rattle.read_stream.proofs.OwnerCountsKept.{locals-more}
+use Rattle.read_stream.proofs.OwnerCountsKept.{locals-more, stream-actor-later}
 use Rattle.read_stream.proofs.TakenInRecordKept.{taken-grown}
 use Rattle.read_stream.proofs.InFlightUnchanged.{stream-ios-kept, stream-io-in}
 use Rattle.read_stream.proofs.BatchPushKeepsIssued.{staged-of}
@@ -64,9 +64,9 @@ module _ {W : Type 0} (c : Scope W) (told : Option Told) (relations : ℕ) where
     is_new = λ k lt.
         let n = none-yet p q t kp made k in
         let g : count_at_place t k p.marks ≡ count_at_place t k
-        ((known_at_open c).marks ++ i.marks_since_open.0) =
-        ap (count_at_place t k) i.marks_since_open.1 in
-        let m = mark_count-more t k (known_at_open c).marks i.marks_since_open.0 in omega arith;
+        ((known_at_open c).marks ++ i.actor.marks_since_open.0) =
+        ap (count_at_place t k) i.actor.marks_since_open.1 in
+        let m = mark_count-more t k (known_at_open c).marks i.actor.marks_since_open.0 in omega arith;
     marks_once = kq;
   }
 
@@ -160,7 +160,7 @@ module _ {W : Type 0} (c : Scope W) (told : Option Told) (relations : ℕ) where
           let y = is-defined.until in omega arith)
 
       pub staged-apart : (u : WaitRef × ReadIoView) → IsIn u s.batch → u.0 ≢ t
-      staged-apart u j = staged-else u.0 (staged-of o s.batch u h.issued.staged_tokens j)
+      staged-apart u j = staged-else u.0 (staged-of o s.batch u h.issued.tokens.staged_tokens j)
 
       same-reclaimed : (x : WaitRef) → count_at_place x 7 q2.marks ≡ count_at_place x 7 o.marks
       same-reclaimed x = ap (count_at_place x 7) marks-2
@@ -221,40 +221,34 @@ module _ {W : Type 0} (c : Scope W) (told : Option Told) (relations : ℕ) where
       issued-staged most =
           let i = h.issued in record {
             room = i.room;
-            number = ap (λ (z : Known). z.number) stage.is
-                ∙ (ap (λ (z : Known). z.number) define.is
-                ∙ (ap (λ (z : Known). z.number) h.hand_out_event.is ∙ i.number));
-            config = ap (λ (z : Known). z.config) stage.is
-                ∙ (ap (λ (z : Known). z.config) define.is
-                ∙ (ap (λ (z : Known). z.config) h.hand_out_event.is ∙ i.config));
-            nothing_handed_out = ap (λ (z : Known). z.out) stage.is ∙ ap (λ (z : Known). z.out)
-                define.is;
-            free = i.free;
-            staged_tokens = staged_tokens-kept o q2 s.batch
-                (λ u j. to-q2 u.0 (staged-apart u j)) i.staged_tokens;
-            staged_ios = i.staged_ios;
-            stream_ios = stream-ios-kept c o q2 s.in_flight.items
-                (λ u j. to-q2 u
-                (in-flight-else u (stream-io-in c o s.in_flight.items u i.stream_ios j).in_flight))
-                i.stream_ios;
-            ended_records = λ x j. taken-grown c told relations o q2
-                (make_mark t kind.Defined ∷ make_mark t kind.Staged ∷ []) x grown
-                (λ e j'. advanced-defined.aims e (aims-handed e j')) (i.ended_records x j);
-            unreclaimed_ios = λ x. owed-staged x (i.unreclaimed_ios x);
+            count_within = i.count_within;
             within_most = omega arith;
-            most_in_range = i.most_in_range;
-            room_was = i.room_was;
-            taken_in_count = same-locals ∙ i.taken_in_count;
-            lives_bound = λ k. (let f = same-lives k in let g = i.lives_bound k in omega arith);
-            marks_since_open = (
-              i.marks_since_open.0 ++ (make_mark t kind.Defined ∷ make_mark t kind.Staged ∷ []),
-              grown ∙ (ap
-                  (λ (z : List Mark). z ++ (make_mark t kind.Defined ∷ make_mark t kind.Staged
-                  ∷ []))
-                  i.marks_since_open.1
-                  ∙ append_assoc (known_at_open c).marks i.marks_since_open.0
-                  (make_mark t kind.Defined ∷ make_mark t kind.Staged ∷ [])),
-            );
+            actor = stream-actor-later c o q2 s.taken_in s.taken_in
+                (make_mark t kind.Defined ∷ make_mark t kind.Staged ∷ [])
+                (ap (λ (z : Known). z.number) stage.is ∙ (ap (λ (z : Known). z.number) define.is
+                ∙ ap (λ (z : Known). z.number) h.hand_out_event.is))
+                (ap (λ (z : Known). z.config) stage.is ∙ (ap (λ (z : Known). z.config) define.is
+                ∙ ap (λ (z : Known). z.config) h.hand_out_event.is))
+                (ap (λ (z : Known). z.out) stage.is ∙ ap (λ (z : Known). z.out) define.is) grown
+                (let f = same-locals in omega arith)
+                (λ k. (let f = same-lives k in omega arith)) i.actor;
+            records = record {
+              free = i.records.free;
+              ended_records = λ x j. taken-grown c told relations o q2
+                  (make_mark t kind.Defined ∷ make_mark t kind.Staged ∷ []) x grown
+                  (λ e j'. advanced-defined.aims e (aims-handed e j'))
+                  (i.records.ended_records x j);
+            };
+            tokens = record {
+              staged_tokens = staged_tokens-kept o q2 s.batch
+                  (λ u j. to-q2 u.0 (staged-apart u j)) i.tokens.staged_tokens;
+              staged_ios = i.tokens.staged_ios;
+              stream_ios = stream-ios-kept c o q2 s.in_flight.items
+                  (λ u j. to-q2 u (in-flight-else u
+                  (stream-io-in c o s.in_flight.items u i.tokens.stream_ios j).in_flight))
+                  i.tokens.stream_ios;
+              unreclaimed_ios = λ x. owed-staged x (i.tokens.unreclaimed_ios x);
+            };
           }
 
 -- a record that was aimed, and then bound

@@ -1,11 +1,10 @@
 -- The state of a stream's I/Os, over the calls of their actor.
 use Rattle.std.proofs.Common.{◌≡◌, ◌≢◌, ℕ, ◌+◌, ◌<◌, ◌≤◌, List, [], ◌∷◌, ◌++◌, length, refl, sym}
-use Rattle.std.proofs.Common.{ap, ◌∙◌, arith, append_assoc, subst, inl, inr, ⊎_elim, length-append}
+use Rattle.std.proofs.Common.{ap, ◌∙◌, arith, subst, inl, inr, ⊎_elim, length-append}
 use Rattle.std.specs.Prelude.{Option, None}
 use Rattle.page_check.specs.Told.{Told}
 use Rattle.aio_word.specs.declared.Kind.TheVariants as kind
 use Rattle.aio_word.specs.declared.Known.{Known}
-use Rattle.aio_word.specs.declared.Mark.{Mark}
 use Rattle.aio_word.specs.declared.WaitRef.{WaitRef}
 use Rattle.aio_word.specs.Events.{mark_count}
 use Rattle.aio_word.specs.Stands.{IsIn}
@@ -25,9 +24,10 @@ use Rattle.read_stream.specs.declared.scope.Scope.{Scope}
 use Rattle.read_stream.specs.ActorProgress.{AllSubmitted}
 use Rattle.read_stream.specs.StreamIos.{ReadsBlocks, IsStreamRecord, IsNewIncarnation, Issued}
 use Rattle.read_stream.specs.StreamIos.{IssuedExcept, HeldByCaller, IsStreamIo, staged_references}
-use Rattle.read_stream.specs.StreamIos.{record_count, known_at_open}
+use Rattle.read_stream.specs.StreamIos.{record_count}
 use Rattle.read_stream.proofs.OwnerCountsKept.{OwnerCountsUnchanged, owner-counts-then}
 use Rattle.read_stream.proofs.OwnerCountsKept.{owner-counts-taking-up, owner-counts-submitting}
+use Rattle.read_stream.proofs.OwnerCountsKept.{stream-actor-kept}
 use Rattle.read_stream.proofs.TakenInRecordKept.{taken-later}
 use Rattle.read_stream.proofs.InFlightUnchanged.{stream-ios-kept, stream-io-in, stream-ios-push}
 use Rattle.read_stream.proofs.BatchPushKeepsIssued.{issued-put}
@@ -51,30 +51,25 @@ module _ {W : Type 0} (c : Scope W) where
       → IssuedExcept caller_refs c told relations q s
   issued-kept caller_refs told relations p q s i out kept k = record {
     room = k.room;
-    number = i.number ∙ k.number;
-    config = i.config ∙ k.config;
-    nothing_handed_out = out;
-    free = k.free;
-    staged_tokens = staged_tokens-kept p q s.batch
-        (λ u j. kept u.0 (in-left u.0 (staged_references s.batch) s.in_flight.items
-        (in-references u s.batch j))) k.staged_tokens;
-    staged_ios = k.staged_ios;
-    stream_ios = stream-ios-kept c p q s.in_flight.items
-        (λ t j. kept t (in-right t (staged_references s.batch) s.in_flight.items j)) k.stream_ios;
-    ended_records = λ r j. taken-later c told relations p q r i (k.ended_records r j);
-    unreclaimed_ios = λ t. ⊎_elim
-        (λ over. let a = i.defined t in let b = i.reclaimed t in inl (omega arith))
-        (λ j. inr j) (k.unreclaimed_ios t);
+    count_within = k.count_within;
     within_most = k.within_most;
-    most_in_range = k.most_in_range;
-    room_was = k.room_was;
-    taken_in_count = i.locals ∙ k.taken_in_count;
-    lives_bound = λ h. (let a = i.lived h in let b = k.lives_bound h in omega arith);
-    marks_since_open = (
-      k.marks_since_open.0 ++ i.more,
-      i.grown ∙ (ap (λ (z : List Mark). z ++ i.more) k.marks_since_open.1
-          ∙ append_assoc (known_at_open c).marks k.marks_since_open.0 i.more),
-    );
+    actor = stream-actor-kept c p q s.taken_in i out k.actor;
+    records = record {
+      free = k.records.free;
+      ended_records = λ r j. taken-later c told relations p q r i (k.records.ended_records r j);
+    };
+    tokens = record {
+      staged_tokens = staged_tokens-kept p q s.batch
+          (λ u j. kept u.0 (in-left u.0 (staged_references s.batch) s.in_flight.items
+          (in-references u s.batch j))) k.tokens.staged_tokens;
+      staged_ios = k.tokens.staged_ios;
+      stream_ios = stream-ios-kept c p q s.in_flight.items
+          (λ t j. kept t (in-right t (staged_references s.batch) s.in_flight.items j))
+          k.tokens.stream_ios;
+      unreclaimed_ios = λ t. ⊎_elim
+          (λ over. let a = i.defined t in let b = i.reclaimed t in inl (omega arith))
+          (λ j. inr j) (k.tokens.unreclaimed_ios t);
+    };
   }
 
   pub issued-taking-up : (caller_refs : List WaitRef) (told : Option Told) (relations : ℕ)
@@ -83,7 +78,7 @@ module _ {W : Type 0} (c : Scope W) where
       → IssuedExcept caller_refs c told relations q s
   issued-taking-up caller_refs told relations p q s a b d e k i =
       issued-kept caller_refs told relations p q s (owner-counts-taking-up p q a b d e k)
-      (k.grows.out ∙ i.nothing_handed_out) (λ t j. unchanged-by-execution t [] p q a b d e k) i
+      (k.grows.out ∙ i.actor.nothing_handed_out) (λ t j. unchanged-by-execution t [] p q a b d e k) i
 
   -- one I/O of the batch was submitted, and its token lies with the caller
   pub issued-lent : (told : Option Told) (relations : ℕ) (p q : Known)
@@ -94,7 +89,7 @@ module _ {W : Type 0} (c : Scope W) where
   issued-lent told relations p q s after t a b d e n held k =
       let xs : List (WaitRef × ReadIoView) = n.token ∷ after in
       let was : AreStagedTokens p xs =
-      subst (λ (z : List (WaitRef × ReadIoView)). AreStagedTokens p z) n.first k.staged_tokens in
+      subst (λ (z : List (WaitRef × ReadIoView)). AreStagedTokens p z) n.first k.tokens.staged_tokens in
       let staged-t : IsStaged p t =
       subst (λ (z : WaitRef). IsStaged p z) (sym n.reference) was.0 in
       let stage-since = staged-t.since in
@@ -104,59 +99,48 @@ module _ {W : Type 0} (c : Scope W) where
       (record_aim n.token.1) p n.between n.event_made)
       (owner-counts-taking-up n.between q a b d e n.begun) in
       let out : q.out ≡ None = n.begun.grows.out ∙ (ap (λ (z : Known). z.out) n.event_made.is
-      ∙ k.nothing_handed_out) in
+      ∙ k.actor.nothing_handed_out) in
       let whole : length s.batch ≡ length (n.token ∷ after) =
       ap (λ (z : List (WaitRef × ReadIoView)). length z) n.first in
       let lengths : length s.batch ≡ length after + 1 = omega arith in
       let kept : (u : WaitRef) → IsIn u s.in_flight.items → TokenUnchanged u p q =
-      λ u j. submission-keeps record_aim s.batch after t u p q a b d e k.staged_tokens n
-      (λ st. absurd (let f = (stream-io-in c p s.in_flight.items u k.stream_ios j).in_flight.since
+      λ u j. submission-keeps record_aim s.batch after t u p q a b d e k.tokens.staged_tokens n
+      (λ st. absurd (let f = (stream-io-in c p s.in_flight.items u k.tokens.stream_ios j).in_flight.since
       in
       let y = st.until in omega arith)) in
-      let was-staged = k.staged_ios n.token
+      let was-staged = k.tokens.staged_ios n.token
       (subst (λ (z : List (WaitRef × ReadIoView)). IsIn n.token z) (sym n.first) (inl refl)) in
       record {
         issued = record {
-          room = record {
-            free = k.room.free;
-            in_flight = k.room.in_flight;
-            ended = k.room.ended;
-            count_within = let f = k.room.count_within in omega arith;
-          };
-          number = i.number ∙ k.number;
-          config = i.config ∙ k.config;
-          nothing_handed_out = out;
-          free = k.free;
-          staged_tokens = held;
-          staged_ios = λ x j. k.staged_ios x
-              (subst (λ (z : List (WaitRef × ReadIoView)). IsIn x z) (sym n.first) (inr j));
-          stream_ios = stream-ios-kept c p q s.in_flight.items kept k.stream_ios;
-          ended_records = λ r j. taken-later c told relations p q r i (k.ended_records r j);
-          unreclaimed_ios = λ x. ⊎_elim
-              (λ over. let y = i.defined x in let z = i.reclaimed x in inl (omega arith))
-              (λ j. inr (subst
-              (λ (z : WaitRef). IsIn x ((z ∷ []) ++ staged_references after ++ s.in_flight.items))
-              (sym n.reference)
-              (subst (λ (z : List (WaitRef × ReadIoView)).
-              IsIn x (staged_references z ++ s.in_flight.items)) n.first j)))
-              (k.unreclaimed_ios x);
+          room = k.room;
+          count_within = let f = k.count_within in omega arith;
           within_most = let f = k.within_most in omega arith;
-          most_in_range = k.most_in_range;
-          room_was = k.room_was;
-          taken_in_count = i.locals ∙ k.taken_in_count;
-          lives_bound = λ h. (let x = i.lived h in let y = k.lives_bound h in omega arith);
-          marks_since_open = (
-            k.marks_since_open.0 ++ i.more,
-            i.grown ∙ (ap (λ (z : List Mark). z ++ i.more) k.marks_since_open.1
-                ∙ append_assoc (known_at_open c).marks k.marks_since_open.0 i.more),
-          );
+          actor = stream-actor-kept c p q s.taken_in i out k.actor;
+          records = record {
+            free = k.records.free;
+            ended_records = λ r j. taken-later c told relations p q r i
+                (k.records.ended_records r j);
+          };
+          tokens = record {
+            staged_tokens = held;
+            staged_ios = λ x j. k.tokens.staged_ios x (rw n.first (inr j));
+            stream_ios = stream-ios-kept c p q s.in_flight.items kept k.tokens.stream_ios;
+            unreclaimed_ios = λ x. ⊎_elim
+                (λ over. let y = i.defined x in let z = i.reclaimed x in inl (omega arith))
+                (λ j. inr (subst
+                (λ (z : WaitRef). IsIn x ((z ∷ []) ++ staged_references after
+                ++ s.in_flight.items)) (sym n.reference)
+                (subst (λ (z : List (WaitRef × ReadIoView)).
+                IsIn x (staged_references z ++ s.in_flight.items)) n.first j)))
+                (k.tokens.unreclaimed_ios x);
+          };
         };
         stream_ios = record {
           in_flight = n.in_flight;
           has_aim = (n.token.1, was-staged.0, n.aim);
           is_new = subst (λ (z : WaitRef). IsNewIncarnation c z) (sym n.reference) was-staged.1;
         };
-        apart = λ u j e'. (let f = (stream-io-in c p s.in_flight.items u k.stream_ios
+        apart = λ u j e'. (let f = (stream-io-in c p s.in_flight.items u k.tokens.stream_ios
             j).in_flight.since in
             let g : 0 < mark_count t kind.Submitted p.marks =
             subst (λ (z : WaitRef). 0 < mark_count z kind.Submitted p.marks) e' f in
@@ -179,30 +163,20 @@ module _ {W : Type 0} (c : Scope W) where
       let k = l.issued in
       let more = length-append s.in_flight.items (t ∷ []) in
       record {
-        room = record {
-          free = k.room.free;
-          in_flight = k.room.in_flight;
-          ended = k.room.ended;
-          count_within = omega arith;
-        };
-        number = k.number;
-        config = k.config;
-        nothing_handed_out = k.nothing_handed_out;
-        free = k.free;
-        staged_tokens = k.staged_tokens;
-        staged_ios = k.staged_ios;
-        stream_ios = stream-ios-push c p s.in_flight.items t k.stream_ios l.stream_ios
-            (λ u j e. l.apart u j (sym e));
-        ended_records = k.ended_records;
-        unreclaimed_ios = λ x. ⊎_elim (λ over. inl over)
-            (λ j. inr (in-behind x t (staged_references s.batch) s.in_flight.items j))
-            (k.unreclaimed_ios x);
+        room = k.room;
+        count_within = omega arith;
         within_most = let f = k.within_most in omega arith;
-        most_in_range = k.most_in_range;
-        room_was = k.room_was;
-        taken_in_count = k.taken_in_count;
-        lives_bound = k.lives_bound;
-        marks_since_open = k.marks_since_open;
+        actor = k.actor;
+        records = k.records;
+        tokens = record {
+          staged_tokens = k.tokens.staged_tokens;
+          staged_ios = k.tokens.staged_ios;
+          stream_ios = stream-ios-push c p s.in_flight.items t k.tokens.stream_ios l.stream_ios
+              (λ u j e. l.apart u j (sym e));
+          unreclaimed_ios = λ x. ⊎_elim (λ over. inl over)
+              (λ j. inr (in-behind x t (staged_references s.batch) s.in_flight.items j))
+              (k.tokens.unreclaimed_ios x);
+        };
       }
 
   -- one I/O of the batch was submitted, and its token stands behind those in flight
@@ -217,7 +191,7 @@ module _ {W : Type 0} (c : Scope W) where
   issued-submitted told relations p q s after t a b d e n held k =
       let whole : length s.batch ≡ length (n.token ∷ after) =
       ap (λ (z : List (WaitRef × ReadIoView)). length z) n.first in
-      let few = k.room.count_within in
+      let few = k.count_within in
       more-in-flight told relations q (record s { batch = after }) t (omega arith)
       (issued-lent told relations p q s after t a b d e n held k)
 
@@ -275,6 +249,6 @@ module _ {W : Type 0} (c : Scope W) where
       (λ b. absurd (subst (λ (z : List (WaitRef × ReadIoView)). IsIn t (staged_references z)) none
       b))
       (in-append t caller_refs (staged_references s.batch) i))
-      (λ f. stream-io-in c p s.in_flight.items t k.stream_ios f)
+      (λ f. stream-io-in c p s.in_flight.items t k.tokens.stream_ios f)
       (in-append t (caller_refs ++ staged_references s.batch) s.in_flight.items j)))
-      (k.unreclaimed_ios t))
+      (k.tokens.unreclaimed_ios t))

@@ -45,6 +45,12 @@ pub record HasIdleHandle (k : Config) (p : Known) : Type 0 where
   pub is_own : p.number ≡ owner k handle
   pub not_in_use : IsInUse k p handle → ⊥
 
+-- the queues of records have room for so many
+pub record HasRoom (total free in_flight ended : ℕ) : Type 0 where
+  pub free_room : total ≤ free
+  pub in_flight_room : total ≤ in_flight
+  pub ended_room : total ≤ ended
+
 module _ {W : Type 0} (c : Scope W) where
   -- what the actor knew when the stream was opened
   abbrev pub known_at_open : Known
@@ -99,6 +105,36 @@ module _ {W : Type 0} (c : Scope W) where
   InFlightForRuns p [] (run ∷ runs) = ⊥
   InFlightForRuns p (t ∷ ts) [] = ⊥
 
+  -- the actor of a stream, which has taken in so many I/Os since the stream was opened
+  pub record IsStreamActor (taken_in : ℕ) (p : Known) : Type 0 where
+    pub number : p.number ≡ known_at_open.number
+    pub config : p.config ≡ known_at_open.config
+    pub nothing_handed_out : p.out ≡ None
+    pub most_in_range : c.most < 2 ^ 58
+    -- no more I/Os than each handle could have lives when the stream was opened
+    pub room_was : IsRoom c.was.value.known.config known_at_open c.most
+    pub taken_in_count : local_mark_count p.marks ≡ local_mark_count known_at_open.marks + taken_in
+    pub lives_bound : (h : ℕ) → lives_ended h p.marks ≤ lives_ended h known_at_open.marks + taken_in
+    pub marks_since_open : (more : List _) × (p.marks ≡ known_at_open.marks ++ more)
+
+  -- records that nobody uses, and those that were taken in with their pages
+  pub record AreStreamRecords (told : Option Told) (relations : ℕ) (p : Known)
+      (unused settled : List ReadIoView) : Type 0 where
+    pub free : (r : ReadIoView) → IsIn r unused → length r.pages ≡ c.combine
+    pub ended_records : (r : ReadIoView) → IsIn r settled → IsTakenIn told relations p r
+
+  -- the tokens of a stream: those that are staged, and those in flight. Each incarnation that is not
+  -- over is one of these, or one of the caller's
+  pub record AreStreamTokens (p : Known) (caller_refs : List WaitRef)
+      (batch : List (WaitRef × ReadIoView)) (in_flight : List WaitRef) : Type 0 where
+    pub staged_tokens : AreStagedTokens p batch
+    pub staged_ios : (x : WaitRef × ReadIoView) → IsIn x batch → IsStreamRecord x.1
+        × IsNewIncarnation x.0
+    pub stream_ios : AllStreamIos p in_flight
+    pub unreclaimed_ios : (t : WaitRef)
+        → (mark_count t kind.Defined p.marks ≤ mark_count t kind.Reclaimed p.marks)
+        ⊎ IsIn t (caller_refs ++ staged_references batch ++ in_flight)
+
 module _ {W : Type 0} where
   -- how many records lie here
   abbrev pub record_count : Reads W → ℕ
@@ -109,13 +145,6 @@ module _ {W : Type 0} where
   abbrev pub ios_started : Reads W → ℕ
   ios_started s = s.taken_in + length s.batch + length s.in_flight.items
 
-  -- there is room for so many records
-  pub record HasRoom (total : ℕ) (s : Reads W) : Type 0 where
-    pub free : total ≤ s.free.capacity
-    pub in_flight : total ≤ s.in_flight.capacity
-    pub ended : total ≤ s.ended.capacity
-    pub count_within : record_count s ≤ total
-
   -- the I/Os that were started and not given, the oldest first, are to read these runs
   pub record ReadsForRuns (c : Scope W) (p : Known) (s : Reads W) (runs : List Run) : Type 0 where
     pub runs_in_flight : List Run
@@ -125,7 +154,7 @@ module _ {W : Type 0} where
 
   -- all records lie here, and nothing is under way
   pub record AllRecordsFree (room total : ℕ) (s : Reads W) : Type 0 where
-    pub has_room : HasRoom total s
+    pub has_room : HasRoom total s.free.capacity s.in_flight.capacity s.ended.capacity
     pub free : (r : ReadIoView) → IsIn r s.free.items → length r.pages ≡ room
     pub free_count : length s.free.items ≡ total
     pub batch : s.batch ≡ []
@@ -136,31 +165,12 @@ module _ {W : Type 0} where
   -- whose tokens the caller holds
   pub record IssuedExcept (caller_refs : List WaitRef) (c : Scope W) (told : Option Told)
       (relations : ℕ) (p : Known) (s : Reads W) : Type 0 where
-    pub room : HasRoom c.total s
-    pub number : p.number ≡ (known_at_open c).number
-    pub config : p.config ≡ (known_at_open c).config
-    -- nothing is handed out
-    pub nothing_handed_out : p.out ≡ None
-    pub free : (r : ReadIoView) → IsIn r s.free.items → length r.pages ≡ c.combine
-    pub staged_tokens : AreStagedTokens p s.batch
-    pub staged_ios : (x : WaitRef × ReadIoView) → IsIn x s.batch → IsStreamRecord c x.1
-        × IsNewIncarnation c x.0
-    pub stream_ios : AllStreamIos c p s.in_flight.items
-    pub ended_records : (r : ReadIoView) → IsIn r s.ended.items → IsTakenIn c told relations p r
-    -- each incarnation that is not over is one of these
-    pub unreclaimed_ios : (t : WaitRef)
-        → (mark_count t kind.Defined p.marks ≤ mark_count t kind.Reclaimed p.marks)
-        ⊎ IsIn t (caller_refs ++ staged_references s.batch ++ s.in_flight.items)
+    pub room : HasRoom c.total s.free.capacity s.in_flight.capacity s.ended.capacity
+    pub count_within : record_count s ≤ c.total
     pub within_most : ios_started s + length caller_refs ≤ c.most
-    pub most_in_range : c.most < 2 ^ 58
-    -- no more I/Os than each handle could have lives when the stream was opened
-    pub room_was : IsRoom c.was.value.known.config (known_at_open c) c.most
-    -- how many were taken in
-    pub taken_in_count : local_mark_count p.marks ≡ local_mark_count (known_at_open c).marks
-        + s.taken_in
-    pub lives_bound : (h : ℕ) → lives_ended h p.marks ≤ lives_ended h (known_at_open c).marks
-        + s.taken_in
-    pub marks_since_open : (more : List _) × (p.marks ≡ (known_at_open c).marks ++ more)
+    pub actor : IsStreamActor c s.taken_in p
+    pub records : AreStreamRecords c told relations p s.free.items s.ended.items
+    pub tokens : AreStreamTokens c p caller_refs s.batch s.in_flight.items
 
   -- the caller holds this I/O in flight, which is none of those here
   pub record HeldByCaller (c : Scope W) (told : Option Told) (relations : ℕ) (p : Known)

@@ -1,10 +1,8 @@
-use Rattle.std.proofs.Common.{◌≡◌, ◌∷◌, subst, sym, ap, arith, length, refl}
+use Rattle.std.proofs.Common.{◌≡◌, ◌∷◌, subst, ap, arith, length}
 use Rattle.std.specs.Prelude.{Some, IfSome}
 use Rattle.read_stream.specs.PagesAtHand.{count_some}
 use Rattle.aio_callback.specs.ReadIoView.{ReadIoView}
-use Rattle.circular_buffer.specs.Buffer.{buffer}
 use Rattle.read_stream.specs.declared.reads.Reads.{Reads}
-use Rattle.read_stream.specs.StreamIos.{Issued}
 use Rattle.read_stream.proofs.QueueMovesKeepIssued.{more-free}
 use Rattle.read_stream.proofs.desk.Desk.end.Goals as goal
 
@@ -19,8 +17,5 @@ finish-requires-clause-issued g c =
     let fits : length io.pages ≡ c.args.scope.now.combine =
     subst (λ z. IfSome z (λ x. length x.pages ≡ c.args.scope.now.combine)) now
     c.requires.current in
-    subst (λ (z : Reads W). Issued c.args.scope.now g.W.World.told g.W.World.relations
-    c.args.context.now.actor.now.known z) (sym c.release.ensures)
-    (more-free c.args.scope.now g.W.World.told g.W.World.relations
-    c.args.context.now.actor.now.known s
-    io (buffer (io ∷ s.free.items) s.free.capacity) refl (omega arith) fits c.requires.issued).0
+    rw c.release.ensures (more-free c.args.scope.now g.W.World.told g.W.World.relations
+    c.args.context.now.actor.now.known s io (omega arith) fits c.requires.issued)

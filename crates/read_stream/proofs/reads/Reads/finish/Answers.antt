@@ -1,9 +1,9 @@
-use Rattle.std.proofs.Common.{◌≡◌, [], ◌∷◌, List, subst, sym, ap, ◌∙◌, arith, length, refl}
+use Rattle.std.proofs.Common.{◌≡◌, [], ◌∷◌, List, ap, ◌∙◌, arith, length}
 use Rattle.aio_word.specs.declared.WaitRef.{WaitRef}
 use Rattle.aio_callback.specs.ReadIoView.{ReadIoView}
 use Rattle.circular_buffer.specs.Buffer.{Buffer, buffer}
 use Rattle.read_stream.specs.declared.reads.Reads.{Reads}
-use Rattle.read_stream.specs.StreamIos.{Issued, record_count, ios_started}
+use Rattle.read_stream.specs.StreamIos.{record_count, ios_started}
 use Rattle.read_stream.proofs.ContextAdvancedLaws.{valid_context_then, context_advanced_then}
 use Rattle.read_stream.proofs.QueueMovesKeepIssued.{more-free}
 use Rattle.read_stream.proofs.SubmitKeepsIssued.{is-none}
@@ -12,7 +12,7 @@ use Rattle.read_stream.proofs.reads.Reads.finish.Goals as goal
 pub release-requires : goal.release-requires
 release-requires g c =
     let some = c.in-Some.ensures.some.1 in
-    let room = c.in-Some.ensures.issued.room.free in
+    let room = c.in-Some.ensures.issued.room.free_room in
     let all = c.loop-io.invariant.records in
     omega arith
 
@@ -29,19 +29,15 @@ loop-io-preserved g c =
     let is : c.release.new.self
     ≡ record s { free = buffer (io ∷ s.free.items) s.free.capacity } =
     c.release.ensures in
-    let more = more-free c.args.scope.now g.W.World.told g.W.World.relations
-    c.oldest_record.new.context.actor.now.known s io (buffer (io ∷ s.free.items) s.free.capacity)
-    refl
-    (omega arith) some.0.is_stream_record.room c.in-Some.ensures.issued in
-    let count = more.1 in
     let same = rest.2 in
     let was = inv.started in
     record {
       handed = valid_context_then inv.handed c.in-Some.ensures.context_advanced;
       context_advanced = context_advanced_then c.in-Some.ensures.context_advanced
           inv.context_advanced;
-      issued = subst (λ (z : Reads W). Issued c.args.scope.now g.W.World.told g.W.World.relations
-          c.oldest_record.new.context.actor.now.known z) (sym is) more.0;
+      issued = rw is (more-free c.args.scope.now g.W.World.told g.W.World.relations
+          c.oldest_record.new.context.actor.now.known s io (omega arith)
+          some.0.is_stream_record.room c.in-Some.ensures.issued);
       records = ap (λ (z : Reads W). record_count z) is ∙ (omega arith);
       started = ap (λ (z : Reads W). ios_started z) is ∙ (same ∙ was);
       batch = ap (λ (z : Reads W). z.batch) is ∙ (rest.1 ∙ inv.batch);
@@ -75,7 +71,7 @@ returns-clause-ready g c =
     let same = state.1 in
     record {
       has_room = issued.room;
-      free = issued.free;
+      free = issued.records.free;
       free_count = omega arith;
       batch = batch;
       in_flight = in_flight;

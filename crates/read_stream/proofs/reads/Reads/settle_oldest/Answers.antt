@@ -3,8 +3,7 @@ use Rattle.aio_word.specs.declared.WaitRef.{WaitRef}
 use Rattle.circular_buffer.specs.Buffer.{Buffer}
 use Rattle.read_plan.specs.declared.runs.Run.{Run}
 use Rattle.aio_word.specs.declared.Known.{Known}
-use Rattle.read_stream.specs.declared.reads.Reads.{Reads}
-use Rattle.read_stream.specs.StreamIos.{Issued, InFlightForRuns, run_of}
+use Rattle.read_stream.specs.StreamIos.{InFlightForRuns, run_of}
 use Rattle.read_stream.proofs.ReadsMatchRuns.{in-flight-first}
 use Rattle.read_stream.proofs.QueueMovesKeepIssued.{first-of, less-in-flight, nothing-of}
 use Rattle.read_stream.proofs.QueueMovesKeepIssued.{same-queue}
@@ -12,13 +11,10 @@ use Rattle.read_stream.proofs.SubmitKeepsIssued.{all-submitted}
 use Rattle.read_stream.proofs.reads.Reads.settle_oldest.Goals as goal
 
 pub settle-requires-clause-held_by_caller : goal.settle-requires-clause-held_by_caller
-settle-requires-clause-held_by_caller g c =
-    let xs : List WaitRef = c.args.self.now.in_flight.items in
+settle-requires-clause-held_by_caller g c = rw c.pop_front.ensures.items
     (less-in-flight c.args.scope.now g.W.World.told g.W.World.relations
-    c.args.context.now.actor.now.known c.args.self.now c.in-Some.token (drop 1 xs)
-    c.pop_front.new.self
-    (first-of xs c.in-Some.token (sym c.pop_front.ensures.value ∙ c.in-Some.is))
-    c.pop_front.ensures.items c.requires.issued).0
+    c.args.context.now.actor.now.known c.args.self.now c.in-Some.token
+    (sym c.pop_front.ensures.value ∙ c.in-Some.is) c.requires.issued)
 
 pub settle-requires-clause-all_submitted : goal.settle-requires-clause-all_submitted
 settle-requires-clause-all_submitted g c =
@@ -43,9 +39,6 @@ returns-in-Some-clause-run g c = λ runs stream_ios.
 
 pub returns-in-None-clause-issued : goal.returns-in-None-clause-issued
 returns-in-None-clause-issued g c =
-    let W : Type 0 = g.row.W.Denot in
-    let s : Reads W = c.args.self.now in
-    let none = nothing-of s.in_flight.items (sym c.pop_front.ensures.value ∙ c.in-None.is) in
-    let e = same-queue s.in_flight c.pop_front.new.self c.pop_front.ensures.items none in
-    subst (λ (z : Buffer WaitRef). Issued c.args.scope.now g.W.World.told g.W.World.relations
-    c.args.context.now.actor.now.known (record s { in_flight = z })) (sym e) c.requires.issued
+    let xs : Buffer WaitRef = c.args.self.now.in_flight in
+    rw (same-queue xs c.pop_front.new.self c.pop_front.ensures.items
+    (nothing-of xs.items (sym c.pop_front.ensures.value ∙ c.in-None.is))) c.requires.issued

@@ -7,7 +7,6 @@ use Rattle.aio_word.specs.Stands.{IsIn}
 use Rattle.aio_handle.specs.ContractViews.{ActorView}
 use Rattle.circular_buffer.specs.Buffer.{Buffer, buffer}
 use Rattle.read_stream.specs.declared.reads.Reads.{Reads}
-use Rattle.read_stream.specs.StreamIos.{Issued, ReadsForRuns}
 use Rattle.read_stream.specs.ActorProgress.{ActorAdvanced}
 use Rattle.read_stream.proofs.ActorAdvancedLaws.{advanced_submitting}
 use Rattle.read_stream.proofs.ContextAdvancedLaws.{valid_context_then}
@@ -53,17 +52,13 @@ loop-token-preserved g c =
     record {
       handed = valid_context_then c.requires.valid_context context_advanced;
       context_advanced = context_advanced;
-      issued = subst (λ (z : Buffer WaitRef). Issued c.args.scope.now g.W.World.told
-          g.W.World.relations q (record s { batch = after; in_flight = z })) (sym items)
-          (issued-submitted c.args.scope.now g.W.World.told g.W.World.relations p q s after t
+      issued = rw items (issued-submitted c.args.scope.now g.W.World.told g.W.World.relations p q s after t
           _ _ _ _ n c.submit_next.ensures.tokens inv.issued);
       records = (let k = inv.records in omega arith);
       started = (let k = inv.started in omega arith);
       free = inv.free;
-      runs = λ runs f. subst (λ (z : Buffer WaitRef). ReadsForRuns c.args.scope.now q
-          (record s { batch = after; in_flight = z }) runs) (sym items)
-          (reads-submitted c.args.scope.now p q s after t _ _ _ _ runs n actor_advanced
-          (λ x j. (inv.issued.staged_ios x j).0) (inv.runs runs f));
+      runs = λ runs f. rw items (reads-submitted c.args.scope.now p q s after t _ _ _ _ runs n actor_advanced
+          (λ x j. (inv.issued.tokens.staged_ios x j).0) (inv.runs runs f));
     }
 
 pub returns-clause-context_advanced : goal.returns-clause-context_advanced
@@ -72,14 +67,8 @@ returns-clause-context_advanced g c = context_advanced_then c.submit_next.ensure
 
 pub returns-clause-issued : goal.returns-clause-issued
 returns-clause-issued g c =
-    let W : Type 0 = g.row.W.Denot in
-    let s : Reads W = c.loop-token.self in
     let none = c.in_default.ensures.none in
-    subst (λ (z : MutBor ActorView). Issued c.args.scope.now g.W.World.told g.W.World.relations
-    z.now.known (record s { batch = c.submit_next.new.batch })) (sym none.2)
-    (subst (λ (z : List (WaitRef × ReadIoView)). Issued c.args.scope.now g.W.World.told
-    g.W.World.relations c.loop-token.context.actor.now.known (record s { batch = z })) (sym none.1)
-    c.loop-token.invariant.issued)
+    rw (none.2, none.1) c.loop-token.invariant.issued
 
 pub returns-clause-runs : goal.returns-clause-runs
 returns-clause-runs g c = λ runs f.

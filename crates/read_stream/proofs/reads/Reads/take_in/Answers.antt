@@ -11,18 +11,17 @@ use Rattle.read_stream.proofs.reads.Reads.take_in.Goals as goal
 pub push-requires : goal.push-requires
 push-requires g c =
     let a = c.in-Some.ensures.some.1 in
-    let b = c.in-Some.ensures.issued.room.ended in
-    let d = c.requires.issued.room.count_within in
+    let b = c.in-Some.ensures.issued.room.ended_room in
+    let d = c.requires.issued.count_within in
     omega arith
 
 pub returns-in-Some-clause-issued : goal.returns-in-Some-clause-issued
 returns-in-Some-clause-issued g c =
     let a = c.in-Some.ensures.some.1 in
-    let d = c.requires.issued.room.count_within in
-    (more-ended c.args.scope.now g.W.World.told g.W.World.relations
-    c.settle_oldest.new.context.actor.now.known
-    c.settle_oldest.new.self c.in-Some.io c.push.new.queue c.push.ensures (omega arith)
-    c.in-Some.ensures.some.0 c.in-Some.ensures.issued).0
+    let d = c.requires.issued.count_within in
+    rw c.push.ensures (more-ended c.args.scope.now g.W.World.told g.W.World.relations
+    c.settle_oldest.new.context.actor.now.known c.settle_oldest.new.self c.in-Some.io (omega arith)
+    c.in-Some.ensures.some.0 c.in-Some.ensures.issued)
 
 pub returns-in-Some-clause-runs : goal.returns-in-Some-clause-runs
 returns-in-Some-clause-runs g c = λ runs. reads-taken-in c.args.scope.now

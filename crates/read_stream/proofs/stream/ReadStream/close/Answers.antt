@@ -16,7 +16,7 @@ returns-clause-no_owner_tokens g c =
 
 pub returns-clause-lives_bound : goal.returns-clause-lives_bound
 returns-clause-lives_bound g c = λ h.
-    (let l = c.end-taken_in.ensures.issued.lives_bound h in
+    (let l = c.end-taken_in.ensures.issued.actor.lives_bound h in
     let n = c.end-taken_in.ensures.count.0 in
     let was = ap (λ (z : ReadStream g.row.W.Denot g.row.S.Denot g.row.P.Denot).
     lives_ended h z.scope.was.value.known.marks) c.note_actor.ensures.noted.2 in

@@ -10,7 +10,7 @@ use Rattle.read_stream.specs.declared.stream.ReadStream.{ReadStream}
 use Rattle.read_stream.specs.WantedBlocks.{wanted_runs}
 use Rattle.read_stream.specs.PagesAtHand.{count_some}
 use Rattle.read_stream.proofs.ReadsMatchRuns.{reads-later}
-use Rattle.read_stream.proofs.QueueMovesKeepIssued.{first-of, less-free}
+use Rattle.read_stream.proofs.QueueMovesKeepIssued.{less-free}
 use Rattle.read_stream.proofs.QueueFront.{may_read}
 use Rattle.read_stream.proofs.BlockAtHand.{some_of}
 use Rattle.read_stream.proofs.RecordReachesBlock.{reaches_read}
@@ -32,11 +32,10 @@ returns-clause-reaches g c =
     let under = c.requires.underway in
     let run : Run = record { first = c.args.block; count = 1 } in
     let less = less-free s.scope g.W.World.told g.W.World.relations p reads c.in-Some.io
-    (drop 1 reads.free.items) queue
-    (first-of reads.free.items c.in-Some.io (sym c.pop_front.ensures.value ∙ c.in-Some.is))
-    c.pop_front.ensures.items under.invariant.records.issued in
-    let records = less.2 in
-    let free = less.3 in
+    (sym c.pop_front.ensures.value ∙ c.in-Some.is) under.invariant.records.issued in
+    let free = less.2 in
+    let popped : length queue.items ≡ length (drop 1 reads.free.items) =
+    ap (λ (z : Buffer ReadIoView). length z.items) c.pop_front.ensures.items in
     let (taken, now, (read, begins, long)) = some_of n.current _ c.read_run.ensures.some
     c.read_run.ensures.record in
     let none : count_some s.current ≡ 0 =
