@@ -79,13 +79,9 @@ module _ {W : Type 0} (c : Scope W) where
       → s'.batch ≡ s.batch → ReadsForRuns c p s runs → ReadsForRuns c q s' runs
   reads-later p q s s' runs aims in_flight ended batch a = record {
     runs_in_flight = a.runs_in_flight;
-    stream_ios = subst (λ (z : List WaitRef). InFlightForRuns c q z a.runs_in_flight)
-        (sym in_flight) (in-flight-later p q s.in_flight.items a.runs_in_flight aims a.stream_ios);
-    in_order = a.in_order
-        ∙ (ap (λ (z : List ReadIoView). map run_of z ++ a.runs_in_flight
-        ++ map (λ x. run_of x.1) s.batch) (sym ended)
-        ∙ ap (λ (z : List (WaitRef × ReadIoView)). map run_of s'.ended.items ++ a.runs_in_flight
-        ++ map (λ x. run_of x.1) z) (sym batch));
+    stream_ios = rw in_flight
+        (in-flight-later p q s.in_flight.items a.runs_in_flight aims a.stream_ios);
+    in_order = rw (ended, batch) a.in_order;
   }
 
   -- one I/O of the batch was submitted, and its token stands behind those in flight
@@ -100,7 +96,6 @@ module _ {W : Type 0} (c : Scope W) where
         in_flight = buffer (s.in_flight.items ++ t ∷ []) s.in_flight.capacity;
       }) runs
   reads-submitted p q s after t a b d e runs n actor_advanced aimed f =
-      let xs : List (WaitRef × ReadIoView) = n.token ∷ after in
       let r : ReadIoView = n.token.1 in
       record {
         runs_in_flight = f.runs_in_flight ++ run_of r ∷ [];
@@ -108,17 +103,13 @@ module _ {W : Type 0} (c : Scope W) where
             (in-flight-later p q s.in_flight.items f.runs_in_flight actor_advanced.aims
             f.stream_ios) (
               r,
-              aimed n.token (subst (λ (z : List (WaitRef × ReadIoView)). IsIn n.token z)
-                  (sym n.first) (inl refl)),
+              aimed n.token (rw n.first (inl refl)),
               n.aim,
               refl,
               refl,
             );
-        in_order = f.in_order
-            ∙ (ap (λ (z : List (WaitRef × ReadIoView)). map run_of s.ended.items ++ f.runs_in_flight
-            ++ map (λ x. run_of x.1) z) n.first
-            ∙ moved-over (map run_of s.ended.items) f.runs_in_flight (map (λ x. run_of x.1) after)
-            (run_of r));
+        in_order = f.in_order ∙ rw n.first (moved-over (map run_of s.ended.items)
+            f.runs_in_flight (map (λ x. run_of x.1) after) (run_of r));
       }
 
   -- the first I/O in flight was taken in, and its record stands behind those that have ended
@@ -130,19 +121,17 @@ module _ {W : Type 0} (c : Scope W) where
       → ReadsForRuns c q s' runs
   reads-taken-in p q s s' io runs lands ended batch f =
       let (rest, first, stream_ios) = lands f.runs_in_flight f.stream_ios in
-      let e : List Run = map run_of s.ended.items in
-      let b : List Run = map (λ x. run_of x.1) s.batch in
       record {
         runs_in_flight = rest;
         stream_ios = stream_ios;
         in_order = f.in_order
-            ∙ (ap (λ (z : List Run). e ++ z ++ b) first
-            ∙ (ap (λ (z : List Run). z ++ b) (sym (append_assoc e (run_of io ∷ []) rest))
-            ∙ (ap (λ (z : List Run). z ++ rest ++ b)
-            (sym (map-append run_of s.ended.items (io ∷ []))
-            ∙ ap (λ (z : List ReadIoView). map run_of z) (sym ended))
-            ∙ ap (λ (z : List (WaitRef × ReadIoView)). map run_of s'.ended.items ++ rest
-            ++ map (λ x. run_of x.1) z) (sym batch))));
+            ∙ (ap (λ (z : List Run). map run_of s.ended.items ++ z ++ map (λ x. run_of x.1) s.batch)
+            first ∙ rw (
+              ended,
+              batch,
+              map-append run_of s.ended.items (io ∷ []),
+              append_assoc (map run_of s.ended.items) (run_of io ∷ []) rest,
+            ) refl);
       }
 
   -- the oldest record that has ended was taken out
@@ -154,18 +143,13 @@ module _ {W : Type 0} (c : Scope W) where
   reads-given p s s' io rest run runs first ended in_flight batch f =
       let b : List (WaitRef × ReadIoView) → List Run = λ z. map (λ x. run_of x.1) z in
       let whole : run ∷ runs ≡ run_of io ∷ (map run_of rest ++ f.runs_in_flight ++ b s.batch) =
-      f.in_order
-      ∙ ap (λ (z : List ReadIoView). map run_of z ++ f.runs_in_flight ++ b s.batch) first in
+      f.in_order ∙ rw first refl in
       let left : runs ≡ map run_of rest ++ f.runs_in_flight ++ b s.batch = cc in (
         cc,
         record {
           runs_in_flight = f.runs_in_flight;
-          stream_ios = subst (λ (z : List WaitRef). InFlightForRuns c p z f.runs_in_flight)
-              (sym in_flight) f.stream_ios;
-          in_order = left ∙ (ap (λ (z : List ReadIoView). map run_of z ++ f.runs_in_flight
-              ++ b s.batch)
-              (sym ended) ∙ ap (λ (z : List (WaitRef × ReadIoView)). map run_of s'.ended.items
-              ++ f.runs_in_flight ++ b z) (sym batch));
+          stream_ios = rw in_flight f.stream_ios;
+          in_order = rw (ended, batch) left;
         },
       )
 
@@ -182,18 +166,15 @@ module _ {W : Type 0} (c : Scope W) where
       absurd (cc)
   reads-settled p q s s' (Some r) run runs ended batch ended' batch' lands none f =
       let (rest, first, stream_ios) = lands f.runs_in_flight f.stream_ios in
-      let b : List (WaitRef × ReadIoView) → List Run = λ z. map (λ x. run_of x.1) z in
-      let whole : run ∷ runs ≡ run_of r ∷ (rest ++ []) = f.in_order
-      ∙ (ap (λ (z : List ReadIoView). map run_of z ++ f.runs_in_flight ++ b s.batch) ended
-      ∙ (ap (λ (z : List (WaitRef × ReadIoView)). f.runs_in_flight ++ b z) batch
-      ∙ ap (λ (z : List Run). z ++ []) first)) in
+      let whole : run ∷ runs ≡ run_of r ∷ (rest ++ []) =
+      f.in_order ∙ (ap (λ (z : List Run). map run_of s.ended.items ++ z
+      ++ map (λ x. run_of x.1) s.batch) first ∙ rw (ended, batch) refl) in
       let left : runs ≡ rest ++ [] = cc in (
         cc,
         record {
           runs_in_flight = rest;
           stream_ios = stream_ios;
-          in_order = left ∙ (ap (λ (z : List (WaitRef × ReadIoView)). rest ++ b z) (sym batch')
-              ∙ ap (λ (z : List ReadIoView). map run_of z ++ rest ++ b s'.batch) (sym ended'));
+          in_order = rw (ended', batch') left;
         },
       )
 
@@ -232,8 +213,6 @@ module _ {W : Type 0} (c : Scope W) where
       → s.batch ≡ [] → ReadsForRuns c p s []
   reads-none p s ended in_flight batch = record {
     runs_in_flight = [];
-    stream_ios = subst (λ (z : List WaitRef). InFlightForRuns c p z []) (sym in_flight) tt;
-    in_order = ap (λ (z : List (WaitRef × ReadIoView)). map (λ x. run_of x.1) z) (sym batch)
-        ∙ ap (λ (z : List ReadIoView). map run_of z ++ [] ++ map (λ x. run_of x.1) s.batch)
-        (sym ended);
+    stream_ios = rw in_flight tt;
+    in_order = rw (ended, batch) refl;
   }
