@@ -1,2 +1,3 @@
 pub mod StagedTokensKept
 pub mod NextSubmission
+pub mod HeardInOrder

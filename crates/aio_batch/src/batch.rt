@@ -1,5 +1,5 @@
 //! I/Os that are staged, in the order in which they were pushed.
-ghost use Rattle.std.specs.Prelude.{◌≡◌, ◌<◌, [], ◌∷◌, ◌++◌, length, IfOk, IfErr, IfSome, IfNone};
+ghost use Rattle.std.specs.Prelude.{◌≡◌, ◌≤◌, ◌<◌, ℕ, [], ◌∷◌, ◌++◌, length, IfOk, IfErr, IfSome, IfNone};
 ghost use Rattle.aio_handle.specs.ContractViews.{IsActorOf, IsSameActor};
 ghost use Rattle.aio_batch.specs.Heard.{AppendsHeard};
 ghost use Rattle.aio_batch.specs.StagedTokens.{AreStagedTokens};
@@ -52,7 +52,8 @@ impl<R: Record, W: World> Batch<R, W> {
 
     /// How many I/Os it holds: 0 to 32.
     pub fn len(&self) -> usize
-        ensures { result ≡ length self.now }
+        ensures held { result ≡ length self.now }
+        ensures room { result ≤ 32 }
     {
         self.tokens.len()
     }
@@ -76,9 +77,9 @@ impl<R: Record, W: World> Batch<R, W> {
         Ok(())
     }
 
-    /// Submits the I/O that was pushed first, and lets the method begin it. None exactly where the
-    /// batch is empty, and then nothing changed. Called until it answers None it submits the batch
-    /// (`pgaio_submit_staged` of `aio.c`).
+    /// Submits the I/O that was pushed first, and has the method begin it. None exactly where the
+    /// batch is empty, and then nothing changed. Called until it answers None it submits the batch,
+    /// and begins one I/O before it submits the next.
     ///
     /// The actor is the one that has staged all of them. It takes no memory of its own; the method
     /// and the runner may wait.
@@ -100,7 +101,7 @@ impl<R: Record, W: World> Batch<R, W> {
             (λ t. IsNextSubmission R.aim self.old self.new t actor.old.known actor.new.known
             (E.reads runner.old) (E.reads runner.new) (E.faults runner.old) (E.faults runner.new)) }
         ensures heard { IfSome result (λ t. AppendsHeard (M.heard method.old)
-            (M.heard method.new) t) }
+            (M.heard method.new) (t ∷ [])) }
         ensures stands_on { M.stands_on method.new ≡ M.stands_on method.old }
         ensures none { IfNone result
             ((self.old ≡ []) × (self.new ≡ self.old) × (actor.new ≡ actor.old)
@@ -108,9 +109,31 @@ impl<R: Record, W: World> Batch<R, W> {
             × (E.faults runner.new ≡ E.faults runner.old)) }
         ensures tokens { AreStagedTokens actor.new.known self.new }
     {
-        let staged = self.tokens.pop_front()?;
-        let token = table.submit(actor, staged);
+        let token = self.pop_submitted(table, actor)?;
         method.begun(rt, table, actor, runner, token.reference());
         Some(token)
+    }
+
+    /// Submits the I/O that was pushed first, and leaves it to the caller to have it begun. None
+    /// exactly where the batch is empty, and then nothing changed.
+    ///
+    /// Called until it answers None, and then `Method::batch_submitted` with all the references,
+    /// it submits the batch as one (`pgaio_submit_staged` of `aio.c`).
+    pub fn pop_submitted(
+        &mut self,
+        table: &Table<R, W>,
+        actor: &mut Actor<R, W>,
+    ) -> Option<InFlight<W>>
+        requires table { IsActorOf table.now actor.old }
+        requires tokens { AreStagedTokens actor.old.known self.old }
+        ensures same { IsSameActor actor.old actor.new }
+        ensures next { IfSome result (λ t. (reads faults : ℕ) → IsNextSubmission R.aim self.old
+            self.new t actor.old.known actor.new.known reads reads faults faults) }
+        ensures none { IfNone result
+            ((self.old ≡ []) × (self.new ≡ self.old) × (actor.new ≡ actor.old)) }
+        ensures tokens { AreStagedTokens actor.new.known self.new }
+    {
+        let staged = self.tokens.pop_front()?;
+        Some(table.submit(actor, staged))
     }
 }
