@@ -2,3 +2,4 @@ mod StepsKeepBalance
 mod StepsKeepClosingWord
 pub mod SeatPopsInOrder
 mod WorkerStepsInOrder
+mod OwnClaimsKnown

@@ -22,9 +22,9 @@ pub record WasEmpty (handles : ℕ) (s : SeatView) : Type 0 where
   pub moment : Held 0 (RuleAllows handles s)
   pub if_only_seat : IsOnlySeat s → length s.pops ≡ length s.pushes
 
--- the seat pushed the reference
-pub record SeatPushes (t : WaitRef) (s s' : SeatView) : Type 0 where
-  pub pushes : s'.pushes ≡ s.pushes ++ t ∷ []
+-- the seat pushed these references, and did nothing else
+pub record SeatPushes (refs : List WaitRef) (s s' : SeatView) : Type 0 where
+  pub pushes : s'.pushes ≡ s.pushes ++ refs
   pub pops : s'.pops ≡ s.pops
   pub loads : s'.loads ≡ s.loads
   pub closes : s'.closes ≡ s.closes

@@ -1,6 +1,6 @@
 //! The submission queue and its seats.
 ghost use Rattle.std.specs.Prelude.{◌≡◌, ◌≤◌, ◌<◌, ◌+◌, ◌-◌, ◌^◌, ◌++◌, [], ◌∷◌, ℕ, List, min};
-ghost use Rattle.std.specs.Prelude.{length, IfOk, IfErr, OnOk};
+ghost use Rattle.std.specs.Prelude.{length, take, IfOk, IfErr, OnOk};
 ghost use Rattle.aio_word.specs.declared.WaitRef.{WaitRef};
 ghost use Rattle.std.specs.List.{All};
 ghost use Rattle.method_worker.specs.QueueViews.{IsNewSeat, IsSeatOf, IsSameSeat};
@@ -135,8 +135,8 @@ impl<W: World> SubmitQueue<W> {
         }
     }
 
-    /// Puts the reference at the back (`pgaio_worker_submission_queue_insert`), and wakes one
-    /// worker that sleeps. It makes a system call only where one sleeps.
+    /// Puts the reference at the back, and wakes one worker that sleeps. It makes a system call only
+    /// where one sleeps.
     ///
     /// `QueueFull` comes only where at some moment of the call 64 entries stood in the queue; it
     /// gives the reference back, and nothing is changed.
@@ -149,7 +149,66 @@ impl<W: World> SubmitQueue<W> {
         requires queue { IsSeatOf self.now seat.old }
         requires range { reference.handle < W.handles }
         ensures same { IsSameSeat seat.old seat.new }
-        ensures seat_pushes { OnOk result (SeatPushes reference seat.old seat.new) }
+        ensures seat_pushes { OnOk result (SeatPushes (reference ∷ []) seat.old seat.new) }
+        ensures moment { OnOk result ((items : List WaitRef)
+            × RuleAllows W.handles seat.new (items ++ reference ∷ [])) }
+        ensures full { IfErr result
+            (λ e. (e.0 ≡ reference) × (seat.new ≡ seat.old) × WasFull W.handles seat.old) }
+    {
+        let answer = self.put(rt, seat, reference);
+        if answer.is_ok() {
+            self.wake(seat, false);
+        }
+        answer
+    }
+
+    /// Puts the references at the back in their order, up to the first for which there is no room,
+    /// and then wakes workers that sleep: one for one entry, and else all of them. It makes one
+    /// system call at most. The answer is how many references it has put there.
+    pub fn push_all<T: Wait>(&self, rt: &T, seat: &mut QueueSeat, references: &[WaitRef]) -> usize
+        requires queue { IsSeatOf self.now seat.old }
+        requires range { All (λ t. t.handle < W.handles) references.now }
+        ensures same { IsSameSeat seat.old seat.new }
+        ensures count { result ≤ length references.now }
+        ensures seat_pushes { SeatPushes (take result references.now) seat.old seat.new }
+        ensures full { result < length references.now → WasFull W.handles seat.new }
+    {
+        let pushed = self.put_all(rt, seat, references);
+        if pushed > 0 {
+            self.wake(seat, pushed > 1);
+        }
+        pushed
+    }
+
+    // Puts the references at the back, up to the first for which there is no room. The answer is
+    // how many.
+    fn put_all<T: Wait>(&self, rt: &T, seat: &mut QueueSeat, references: &[WaitRef]) -> usize
+        requires queue { IsSeatOf self.now seat.old }
+        requires range { All (λ t. t.handle < W.handles) references.now }
+        ensures same { IsSameSeat seat.old seat.new }
+        ensures count { result ≤ length references.now }
+        ensures seat_pushes { SeatPushes (take result references.now) seat.old seat.new }
+        ensures full { result < length references.now → WasFull W.handles seat.new }
+    {
+        for (pushed, reference) in references.iter().enumerate() {
+            if self.put(rt, seat, *reference).is_err() {
+                return pushed;
+            }
+        }
+        references.len()
+    }
+
+    // Puts the reference at the back, and wakes nobody (`pgaio_worker_submission_queue_insert`).
+    fn put<T: Wait>(
+        &self,
+        rt: &T,
+        seat: &mut QueueSeat,
+        reference: WaitRef,
+    ) -> Result<(), QueueFull>
+        requires queue { IsSeatOf self.now seat.old }
+        requires range { reference.handle < W.handles }
+        ensures same { IsSameSeat seat.old seat.new }
+        ensures seat_pushes { OnOk result (SeatPushes (reference ∷ []) seat.old seat.new) }
         ensures moment { OnOk result ((items : List WaitRef)
             × RuleAllows W.handles seat.new (items ++ reference ∷ [])) }
         ensures full { IfErr result
@@ -161,11 +220,24 @@ impl<W: World> SubmitQueue<W> {
         {
             return Err(QueueFull(reference));
         }
+        Ok(())
+    }
+
+    // Raises the bell, and wakes one worker or all, where some sleep. Entries stand before the bell
+    // is raised, and the count of sleepers is read after it.
+    fn wake(&self, seat: &mut QueueSeat, all: bool)
+        requires queue { IsSeatOf self.now seat.old }
+        ensures seat { seat.new ≡ seat.old }
+    {
         ring(&self.words, &mut seat.word_seat);
-        if self.sleepers.load(Ordering::SeqCst) > 0 {
+        if self.sleepers.load(Ordering::SeqCst) == 0 {
+            return;
+        }
+        if all {
+            wake_all(&self.words);
+        } else {
             wake_one(&self.words);
         }
-        Ok(())
     }
 
     /// Takes the oldest entry (`pgaio_worker_submission_queue_consume`).
@@ -197,10 +269,7 @@ impl<W: World> SubmitQueue<W> {
     {
         let _ = rt;
         close_under(&self.words, &mut seat.word_seat, self.reopened);
-        ring(&self.words, &mut seat.word_seat);
-        if self.sleepers.load(Ordering::SeqCst) > 0 {
-            wake_all(&self.words);
-        }
+        self.wake(seat, true);
     }
 
     /// Opens the queue again. Its entries stay. Reopenings are counted up to 2^63 - 1.

@@ -3,7 +3,7 @@ use Rattle.crossbeam_queue.specs.Passes.{view}
 use Rattle.method_worker.specs.QueueViews.{SeatView, seat_view}
 use Rattle.method_worker.specs.SeatCalls.{WasFull}
 use Rattle.method_worker.proofs.StepsKeepBalance.{puts, learns, was-full}
-use Rattle.method_worker.proofs.queue.SubmitQueue.push.Goals as goal
+use Rattle.method_worker.proofs.queue.SubmitQueue.put.Goals as goal
 
 pub push_as-requires-clause-rule : goal.push_as-requires-clause-rule
 push_as-requires-clause-rule g c =
