@@ -1,14 +1,13 @@
 //! The calls that start a stream's I/Os.
 ghost use Rattle.std.specs.Prelude.{◌≡◌, ◌≤◌, ◌<◌, ◌+◌, ◌^◌, [], ◌∷◌, ◌++◌, length, List};
-ghost use Rattle.std.specs.Prelude.{IfSome, IfNone};
+ghost use Rattle.std.specs.List.{All};
 ghost use Rattle.aio_word.specs.declared.WaitRef.{WaitRef};
 ghost use Rattle.aio_word.specs.Stands.{IsIn};
 ghost use Rattle.aio_word.specs.Tokens.{IsStaged};
 ghost use Rattle.read_stream.specs.IoContexts.{IsValidContext, ContextAdvanced};
 ghost use Rattle.aio_handle.specs.ContractViews.{IsActorOf};
-ghost use Rattle.aio_batch.specs.NextSubmission.{IsNextSubmission};
-ghost use Rattle.aio_batch.specs.StagedTokens.{AreStagedTokens};
-ghost use Rattle.aio_callback.specs.ReadIoView.{ReadIoView, record_aim, with_aim};
+ghost use Rattle.aio_handle.specs.Execution.{ExecutesAll};
+ghost use Rattle.aio_callback.specs.ReadIoView.{ReadIoView, with_aim};
 ghost use Rattle.aio_callback.specs.StreamOutcomes.{stream_ids};
 ghost use Rattle.read_plan.specs.declared.runs.Run.{Run};
 ghost use Rattle.read_plan.specs.Runs.{IsRun};
@@ -21,9 +20,9 @@ use crate::io_context::IoContext;
 use crate::reads::Reads;
 use crate::ring::push;
 use crate::scope::Scope;
-use aio_batch::{Batch, Method};
+use aio_batch::Method;
 use aio_callback::{CallbackId, ReadIo};
-use aio_handle::{Execute, InFlight, Staged};
+use aio_handle::{Execute, Staged};
 use aio_word::WaitRef;
 use buf_pool::{Pool, Tag};
 use method_sync::SyncMethod;
@@ -33,6 +32,12 @@ use std::sync::Wait;
 
 /// How many staged I/Os a batch has room for.
 const MOST_STAGED: usize = 32;
+
+/// Where no reference stands yet.
+const NO_REFERENCE: WaitRef = WaitRef {
+    handle: 0,
+    generation: 0,
+};
 
 /// The callbacks of a stream's reads, with damaged pages zeroed or not. They run from the last to
 /// the first.
@@ -81,36 +86,35 @@ fn aim_record(mut io: ReadIo, relation: u32, run: Run, zero: bool) -> ReadIo
     }
 }
 
-// Submits the I/O that was staged first: alone, so that this thread executes it, or by the method.
-fn submit_next<W: World, M: Method<ReadIo, W>, E: Execute<ReadIo, W>, T: Wait>(
+// Has the submitted I/Os begun as one: alone, so that this thread executes each, or by the method.
+fn begin<W: World, M: Method<ReadIo, W>, E: Execute<ReadIo, W>, T: Wait>(
     rt: &T,
-    batch: &mut Batch<ReadIo, W>,
     context: &mut IoContext<W, M, E>,
+    references: &[WaitRef],
     alone: bool,
-) -> Option<InFlight<W>>
+)
     requires table { IsActorOf context.old.table.now context.old.actor.now }
     requires told { (E.told context.old.runner.now ≡ W.told)
         × (E.relations context.old.runner.now ≡ W.relations) }
-    requires tokens { AreStagedTokens context.old.actor.now.known batch.old }
+    requires range { All (λ t. t.handle < W.handles) references.now }
     ensures context_advanced { ContextAdvanced E.Execute M.Method context.old context.new }
-    ensures next { IfSome result (λ t. IsNextSubmission record_aim batch.old batch.new t
-        context.old.actor.now.known context.new.actor.now.known (E.reads context.old.runner.now)
-        (E.reads context.new.runner.now) (E.faults context.old.runner.now)
-        (E.faults context.new.runner.now)) }
-    ensures none { IfNone result ((batch.old ≡ []) × (batch.new ≡ batch.old)
-        × (context.new.actor ≡ context.old.actor)) }
-    ensures tokens { AreStagedTokens context.new.actor.now.known batch.new }
+    ensures marks { ExecutesAll [] context.old.actor.now.known context.new.actor.now.known
+        (E.reads context.old.runner.now) (E.reads context.new.runner.now)
+        (E.faults context.old.runner.now) (E.faults context.new.runner.now) }
 {
     let table = context.table;
     if alone {
-        return batch.submit_next(rt, table, context.actor, &mut SyncMethod, context.runner);
+        SyncMethod.batch_submitted(rt, table, context.actor, context.runner, references);
+        return;
     }
-    batch.submit_next(rt, table, context.actor, context.method, context.runner)
+    context
+        .method
+        .batch_submitted(rt, table, context.actor, context.runner, references);
 }
 
 impl<W: World> Reads<W> {
-    /// Submits what is staged, in the order of staging: alone, so that this thread executes each,
-    /// or by the method.
+    /// Submits what is staged, in the order of staging, and has it begun: alone, so that this thread
+    /// executes each, or by the method.
     pub fn submit<M: Method<ReadIo, W>, E: Execute<ReadIo, W>, T: Wait>(
         &mut self,
         rt: &T,
@@ -128,9 +132,17 @@ impl<W: World> Reads<W> {
         ensures runs { (runs : List Run) → ReadsForRuns scope.now context.old.actor.now.known
             self.old runs → ReadsForRuns scope.now context.new.actor.now.known self.new runs }
     {
-        while let Some(token) = submit_next(rt, &mut self.batch, context, alone) {
+        if self.batch.len() == 0 {
+            return;
+        }
+        let mut references = [NO_REFERENCE; MOST_STAGED];
+        let mut submitted = 0;
+        while let Some(token) = self.batch.pop_submitted(context.table, context.actor) {
+            references[submitted] = token.reference();
+            submitted += 1;
             push(&mut self.in_flight, token);
         }
+        begin(rt, context, &references[..submitted], alone);
     }
 
     // Stages an I/O over the run by the record.
@@ -245,7 +257,11 @@ impl<W: World> Reads<W> {
         self.submit(rt, scope, context, false);
         let token = self.stage(rt, scope, pool, context, io, run);
         self.put(token);
-        let Some(token) = submit_next(rt, &mut self.batch, context, true) else {
+        let table = context.table;
+        let Some(token) = self
+            .batch
+            .submit_next(rt, table, context.actor, &mut SyncMethod, context.runner)
+        else {
             unreachable!()
         };
         self.settle(rt, scope, context, token)

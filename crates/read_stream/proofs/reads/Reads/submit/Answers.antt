@@ -1,5 +1,8 @@
 use Rattle.std.proofs.Common.{◌≡◌, [], ◌∷◌, ◌++◌, length, List, ap, sym, subst, arith, refl}
-use Rattle.std.proofs.Common.{length-append, MutBor}
+use Rattle.std.proofs.Common.{ℕ, ◌+◌, ◌<◌, ◌∙◌, length-append, take, rules}
+use Rattle.std.proofs.lemmas.List.{length-set, take_more_set}
+use Rattle.std.proofs.lemmas.List.Elements.{All-push}
+use Rattle.aio_batch.specs.NextSubmission.{IsNextSubmission}
 use Rattle.aio_word.specs.declared.WaitRef.{WaitRef}
 use Rattle.aio_word.specs.declared.Known.{Known}
 use Rattle.aio_callback.specs.ReadIoView.{ReadIoView, record_aim}
@@ -7,12 +10,15 @@ use Rattle.aio_word.specs.Stands.{IsIn}
 use Rattle.aio_handle.specs.ContractViews.{ActorView}
 use Rattle.circular_buffer.specs.Buffer.{Buffer, buffer}
 use Rattle.read_stream.specs.declared.reads.Reads.{Reads}
+use Rattle.read_stream.specs.declared.io_context.IoContext.{IoContext}
+use Rattle.read_stream.specs.IoContexts.{ContextAdvanced}
 use Rattle.read_stream.specs.ActorProgress.{ActorAdvanced}
 use Rattle.read_stream.proofs.ActorAdvancedLaws.{advanced_submitting}
 use Rattle.read_stream.proofs.ContextAdvancedLaws.{valid_context_then}
-use Rattle.read_stream.proofs.ContextAdvancedLaws.{context_advanced_refl, context_advanced_then}
+use Rattle.read_stream.proofs.ContextAdvancedLaws.{context_advanced_by, context_advanced_refl}
+use Rattle.read_stream.proofs.ContextAdvancedLaws.{context_advanced_then}
 use Rattle.read_stream.proofs.ReadsMatchRuns.{reads-later, reads-submitted}
-use Rattle.read_stream.proofs.SubmitKeepsIssued.{issued-submitted}
+use Rattle.read_stream.proofs.SubmitKeepsIssued.{issued-submitted, issued-taking-up}
 use Rattle.read_stream.proofs.reads.Reads.submit.Goals as goal
 
 pub loop-token-init : goal.loop-token-init
@@ -24,7 +30,37 @@ loop-token-init g c = record {
   started = refl;
   free = refl;
   runs = λ runs f. f;
+  size = refl;
+  few = (let held = c.len.ensures.held in let room = c.len.ensures.room in omega arith);
+  range = λ k d less. absurd (omega (arith, less));
 }
+
+-- the batch has one token fewer
+one-less : {R : Type 0} (aim_in : R → List ℕ) (before after : List (WaitRef × R)) (t : WaitRef)
+    (p q : Known) (a b d e : ℕ) → IsNextSubmission aim_in before after t p q a b d e
+    → length before ≡ length after + 1
+one-less {R} aim_in before after t p q a b d e n =
+    let whole : length before ≡ length (n.token ∷ after) =
+    ap (λ (z : List (WaitRef × R)). length z) n.first in omega arith
+
+pub bounds-references-submitted : goal.bounds-references-submitted
+bounds-references-submitted g c =
+    let inv = c.loop-token.invariant in
+    let less = one-less record_aim c.loop-token.self.batch c.pop_submitted.new.self c.in-Some.token
+    _ _ 0 0 0 0 (c.in-Some.ensures.next 0 0) in
+    let few = inv.few in let size = inv.size in omega arith
+
+pub push-requires : goal.push-requires
+push-requires g c =
+    let less = one-less record_aim c.loop-token.self.batch c.pop_submitted.new.self c.in-Some.token
+    _ _ 0 0 0 0 (c.in-Some.ensures.next 0 0) in
+    let issued = c.loop-token.invariant.issued in
+    let within = issued.count_within in let place = issued.room.in_flight_room in omega arith
+
+pub loop-token-smaller : goal.loop-token-smaller
+loop-token-smaller g c =
+    let less = one-less record_aim c.loop-token.self.batch c.pop_submitted.new.self c.in-Some.token
+    _ _ 0 0 0 0 (c.in-Some.ensures.next 0 0) in omega arith
 
 pub loop-token-preserved : goal.loop-token-preserved
 loop-token-preserved g c =
@@ -33,9 +69,11 @@ loop-token-preserved g c =
     let inv = c.loop-token.invariant in
     let t : WaitRef = c.in-Some.token in
     let p : Known = c.loop-token.context.actor.now.known in
-    let q : Known = c.submit_next.new.context.actor.now.known in
-    let n = c.in-Some.ensures.next in
-    let after = c.submit_next.new.batch in
+    let q : Known = c.pop_submitted.new.actor.known in
+    let x = c.loop-token.context in
+    let n = c.in-Some.ensures.next (g.E.Execute.reads x.runner.now)
+    (g.E.Execute.faults x.runner.now) in
+    let after = c.pop_submitted.new.self in
     let items : c.push.new.queue ≡ buffer (s.in_flight.items ++ t ∷ []) s.in_flight.capacity =
     c.push.ensures in
     let whole : length s.batch ≡ length (n.token ∷ after) =
@@ -47,33 +85,48 @@ loop-token-preserved g c =
     p q _ _ _
     _ n
     in
-    let context_advanced = context_advanced_then c.submit_next.ensures.context_advanced
+    let context_advanced = context_advanced_then (context_advanced_by x c.pop_submitted.new.actor
+    x.method.now x.runner.now c.pop_submitted.ensures.same (refl, refl) actor_advanced refl)
     inv.context_advanced in
     record {
       handed = valid_context_then c.requires.valid_context context_advanced;
       context_advanced = context_advanced;
-      issued = rw items (issued-submitted c.args.scope.now g.W.World.told g.W.World.relations p q s after t
-          _ _ _ _ n c.submit_next.ensures.tokens inv.issued);
+      issued = rw items (issued-submitted c.args.scope.now g.W.World.told g.W.World.relations p q
+          s after t _ _ _ _ n c.pop_submitted.ensures.tokens inv.issued);
       records = (let k = inv.records in omega arith);
       started = (let k = inv.started in omega arith);
       free = inv.free;
-      runs = λ runs f. rw items (reads-submitted c.args.scope.now p q s after t _ _ _ _ runs n actor_advanced
-          (λ x j. (inv.issued.tokens.staged_ios x j).0) (inv.runs runs f));
+      runs = λ runs f. rw items (reads-submitted c.args.scope.now p q s after t _ _ _ _ runs n
+          actor_advanced (λ x j. (inv.issued.tokens.staged_ios x j).0) (inv.runs runs f));
+      size = length-set c.loop-token.references c.loop-token.submitted c.reference.result ∙ inv.size;
+      few = (let k = inv.few in omega arith);
+      range = rw (take_more_set c.loop-token.references c.loop-token.submitted c.reference.result
+          (let few = inv.few in let size = inv.size in omega arith))
+          (All-push (λ (u : WaitRef). u.handle < g.W.World.handles)
+          (take c.loop-token.submitted c.loop-token.references) c.reference.result inv.range
+          (search rules));
     }
 
 pub returns-clause-context_advanced : goal.returns-clause-context_advanced
-returns-clause-context_advanced g c = context_advanced_then c.submit_next.ensures.context_advanced
-    c.loop-token.invariant.context_advanced
+returns-clause-context_advanced g c =
+    let x : IoContext g.row.W.Denot g.row.M.Denot g.row.E.Denot = c.loop-token.context in
+    context_advanced_then c.begin.ensures.context_advanced (subst
+    (λ (z : ActorView). ContextAdvanced g.E.Execute g.M.Method c.args.context.now
+    (record x { actor = record x.actor { now = z } })) (sym c.in_default.ensures.none.2)
+    c.loop-token.invariant.context_advanced)
 
 pub returns-clause-issued : goal.returns-clause-issued
 returns-clause-issued g c =
     let none = c.in_default.ensures.none in
-    rw (none.2, none.1) c.loop-token.invariant.issued
+    rw none.1 (issued-taking-up c.args.scope.now [] g.W.World.told g.W.World.relations
+    c.pop_submitted.new.actor.known c.begin.new.context.actor.now.known c.loop-token.self _ _ _ _
+    c.begin.ensures.marks (rw none.2 c.loop-token.invariant.issued))
 
 pub returns-clause-runs : goal.returns-clause-runs
-returns-clause-runs g c = λ runs f.
-    (let none = c.in_default.ensures.none in
+returns-clause-runs g c runs f =
+    let none = c.in_default.ensures.none in
     reads-later c.args.scope.now c.loop-token.context.actor.now.known
-    c.submit_next.new.context.actor.now.known c.loop-token.self _ runs
-    (λ x i. subst (λ (z : MutBor ActorView). IsIn x z.now.known.aims) (sym none.2) i) refl refl
-    none.1 (c.loop-token.invariant.runs runs f))
+    c.begin.new.context.actor.now.known c.loop-token.self _ runs
+    (λ x i. c.begin.ensures.marks.grows.aims x
+    (subst (λ (z : ActorView). IsIn x z.known.aims) (sym none.2) i)) refl refl none.1
+    (c.loop-token.invariant.runs runs f)

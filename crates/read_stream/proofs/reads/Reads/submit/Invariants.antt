@@ -1,4 +1,5 @@
-use Rattle.std.proofs.Common.{◌≡◌, length, List}
+use Rattle.std.proofs.Common.{◌≡◌, ◌+◌, ◌≤◌, ◌<◌, length, List, take}
+use Rattle.std.specs.List.{All}
 use Rattle.read_plan.specs.declared.runs.Run.{Run}
 use Rattle.read_stream.specs.IoContexts.{IsValidContext, ContextAdvanced}
 use Rattle.read_stream.specs.StreamIos.{Issued, ReadsForRuns, record_count, ios_started}
@@ -15,6 +16,9 @@ invariant-loop-token g l = record {
   free : l.self.free ≡ l.initial.self.free;
   runs : (runs : List Run) → ReadsForRuns l.scope l.initial.context.actor.now.known l.initial.self
       runs → ReadsForRuns l.scope l.context.actor.now.known l.self runs;
+  size : length l.references ≡ 32;
+  few : l.submitted + length l.self.batch ≤ 32;
+  range : All (λ t. t.handle < g.W.World.handles) (take l.submitted l.references);
 }
 
 abbrev pub decreases-loop-token : goal.decreases-loop-token
