@@ -21,8 +21,7 @@ use Rattle.aio_handle.proofs.TokensStay.{claim-unchanged-by-claim, claimed-is-ot
 use Rattle.aio_handle.proofs.TokensStay.{claim-unchanged-by-look}
 use Rattle.aio_callback.specs.ReadIoView.{ReadIoView, ReadFits, record_aim}
 use Rattle.method_ring.specs.ClaimedIos.{ClaimedIo, claimed_mark, without_claimed}
-use Rattle.method_ring.specs.ClaimedIos.{claimed_with_number}
-use Rattle.method_ring.specs.ClaimedIos.{IsClaimedIo}
+use Rattle.method_ring.specs.ClaimedIos.{claimed_with_number, IsClaimedIo}
 use Rattle.method_ring.specs.ClaimedIos.{AllClaimedIos, NumbersBelow}
 use Rattle.method_ring.specs.RingRunner.{group_claims, GathersIos}
 use Rattle.method_ring.proofs.NumberedLookup.{in-pushed, apart-push, apart-without, in-without}

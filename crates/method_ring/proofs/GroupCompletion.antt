@@ -13,11 +13,8 @@ use Rattle.aio_word.specs.declared.Mark.{Mark}
 use Rattle.aio_word.specs.declared.WaitRef.{WaitRef}
 use Rattle.aio_word.specs.declared.Kind.TheVariants as kind
 use Rattle.aio_word.specs.Stands.{IsIn}
-use Rattle.aio_word.specs.Tokens.{AppendsMarks}
-use Rattle.aio_word.specs.Tokens.{io_mark_count}
-use Rattle.aio_word.specs.Tokens.{failed_mark_count, make_mark}
-use Rattle.aio_word.proofs.MoreMarksKeep.{count_at_place, mark_count-more}
-use Rattle.aio_word.proofs.MoreMarksKeep.{io-more, failed-more}
+use Rattle.aio_word.specs.Tokens.{AppendsMarks, io_mark_count, failed_mark_count, make_mark}
+use Rattle.aio_word.proofs.MoreMarksKeep.{count_at_place, mark_count-more, io-more, failed-more}
 use Rattle.aio_handle.specs.Execution.{last_count, ExecutesAll}
 use Rattle.aio_handle.proofs.ListsGrow.{appends-then}
 use Rattle.aio_callback.specs.Chain.{class_of}
@@ -28,9 +25,8 @@ use Rattle.aio_callback.specs.Finishes.{Finish, FinishesGrew, all_finishes, reco
 use Rattle.method_ring.specs.ClaimedIos.{ClaimedIo, claimed_mark, without_claimed}
 use Rattle.method_ring.specs.Group.{PickedFrom}
 use Rattle.method_ring.specs.RingRunner.{group_claims, end_marks, all_end_marks, group_finishes}
-use Rattle.method_ring.specs.RingRunner.{read_claim_mark}
+use Rattle.method_ring.specs.RingRunner.{read_claim_mark, RunsGroup}
 use Rattle.method_ring.specs.RingRunner.{ReadCompletedAs, CompletesClaimedIo, CompletesGroup}
-use Rattle.method_ring.specs.RingRunner.{RunsGroup}
 use Rattle.method_ring.proofs.NumberedLookup.{in-pushed, in-held, in-without, one-fewer}
 use Rattle.method_ring.proofs.NumberedLookup.{claims-without}
 use Rattle.method_ring.proofs.GroupMarks.{claims-io, claims-failed, ends-count, took-all}

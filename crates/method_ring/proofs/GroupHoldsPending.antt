@@ -16,12 +16,10 @@ use Rattle.aio_callback.proofs.FirstPagesRead.{answered_by}
 use Rattle.method_ring.specs.declared.ring.Entry.{Entry}
 use Rattle.method_ring.specs.Pending.{pending_entry, without_entry, IsFilledBy}
 use Rattle.method_ring.specs.ClaimedIos.{ClaimedIo, claimed_with_number, without_claimed}
-use Rattle.method_ring.specs.ClaimedIos.{claimed_entry}
-use Rattle.method_ring.specs.ClaimedIos.{NumbersBelow, IsReadableRecord}
+use Rattle.method_ring.specs.ClaimedIos.{claimed_entry, NumbersBelow, IsReadableRecord}
 use Rattle.method_ring.specs.Group.{PendingReadsClaimed, PickedFrom, raw_answer}
 use Rattle.method_ring.proofs.NumberedLookup.{entry-of-held, without-entry-of-held, none-pending}
-use Rattle.method_ring.proofs.NumberedLookup.{in-held}
-use Rattle.method_ring.proofs.NumberedLookup.{in-without, in-pushed}
+use Rattle.method_ring.proofs.NumberedLookup.{in-held, in-without, in-pushed}
 
 module _ (pending : List Entry) (n : ℕ) (held : List ClaimedIo) (j : PendingReadsClaimed pending n
     held)

@@ -1,11 +1,8 @@
 -- What the marks of a group count.
-use Rattle.std.proofs.Common.{◌≡◌, ◌≢◌, ℕ, ◌+◌, ◌<◌, List}
-use Rattle.std.proofs.Common.{[], ◌∷◌, ◌++◌, map, length, refl}
-use Rattle.std.proofs.Common.{arith}
+use Rattle.std.proofs.Common.{◌≡◌, ◌≢◌, ℕ, ◌+◌, ◌<◌, List, [], ◌∷◌, ◌++◌, map, length, refl, arith}
 use Rattle.aio_word.specs.declared.WaitRef.{WaitRef}
 use Rattle.aio_word.specs.declared.Kind.TheVariants as kind
-use Rattle.aio_word.specs.Tokens.{ClaimsAreCompleted, claimed_mark_count}
-use Rattle.aio_word.specs.Tokens.{io_mark_count}
+use Rattle.aio_word.specs.Tokens.{ClaimsAreCompleted, claimed_mark_count, io_mark_count}
 use Rattle.aio_word.specs.Tokens.{failed_mark_count, make_mark}
 use Rattle.aio_word.proofs.MoreMarksKeep.{count_at_place, mark_count-more, mark_count-place}
 use Rattle.aio_word.proofs.MoreMarksKeep.{io-more, claims-more, failed-more}
@@ -13,8 +10,7 @@ use Rattle.aio_handle.proofs.ListsGrow.{claims-completed-one}
 use Rattle.aio_callback.specs.ReadIoView.{ReadIoView}
 use Rattle.aio_callback.specs.Finishes.{record_reference}
 use Rattle.method_ring.specs.ClaimedIos.{ClaimedIo, claimed_mark}
-use Rattle.method_ring.specs.RingRunner.{group_claims, end_marks, all_end_marks}
-use Rattle.method_ring.specs.RingRunner.{read_claim_mark}
+use Rattle.method_ring.specs.RingRunner.{group_claims, end_marks, all_end_marks, read_claim_mark}
 
 -- Claimed marks are at one place alone
 claims-at : (t : WaitRef) (i : ℕ) → 3 ≢ i → i < 8 → (held : List ClaimedIo)

@@ -11,8 +11,7 @@ use Rattle.method_ring.specs.declared.ring.Entry.{Entry}
 use Rattle.method_ring.specs.Numbered.{first_with_number, without_number}
 use Rattle.method_ring.specs.Pending.{pending_entry, without_entry}
 use Rattle.method_ring.specs.ClaimedIos.{ClaimedIo, claimed_number, claimed_with_number}
-use Rattle.method_ring.specs.ClaimedIos.{without_claimed}
-use Rattle.method_ring.specs.ClaimedIos.{claimed_entry}
+use Rattle.method_ring.specs.ClaimedIos.{without_claimed, claimed_entry}
 use Rattle.method_ring.specs.ClaimedIos.{claimed_mark, NumbersBelow, ReferencesDiffer}
 use Rattle.method_ring.specs.RingRunner.{group_claims}
 

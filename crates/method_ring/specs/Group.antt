@@ -9,8 +9,7 @@ use Rattle.aio_callback.specs.declared.chain.Raw.TheVariants.{Read, Failed}
 use Rattle.aio_callback.specs.ReadIoView.{ReadIoView, HasAnswer, record_aim}
 use Rattle.method_ring.specs.declared.ring.Entry.{Entry}
 use Rattle.method_ring.specs.ClaimedIos.{ClaimedIo, claimed_entry, claimed_with_number}
-use Rattle.method_ring.specs.ClaimedIos.{without_claimed}
-use Rattle.method_ring.specs.ClaimedIos.{IsReadableRecord}
+use Rattle.method_ring.specs.ClaimedIos.{without_claimed, IsReadableRecord}
 
 pub record GroupView (G : Type 0) : Type 0 where
   pub ring : G

@@ -6,8 +6,7 @@ ghost use Rattle.aio_disk.specs.Disk.{AnswersPages};
 ghost use Rattle.method_ring.specs.Pending.{entry, entry_user, pending_entry, without_entry};
 ghost use Rattle.method_ring.specs.Pending.{IsFilledBy};
 ghost use Rattle.method_ring.specs.SimRing.{new_idle_ring, new_sim_ring, place_of_turn, turn_after};
-ghost use Rattle.method_ring.specs.SimRing.{number_picked};
-ghost use Rattle.method_ring.specs.SimRing.{with_pick};
+ghost use Rattle.method_ring.specs.SimRing.{number_picked, with_pick};
 
 use crate::listed::{Numbered, take_out};
 use crate::ring::{Entry, Ring};

@@ -17,8 +17,7 @@ use Rattle.aio_word.proofs.ReplacedElement.{in-left}
 use Rattle.aio_word.proofs.MoreMarksKeep.{mark_count-more, mark_count-place, io-more, claims-more}
 use Rattle.aio_word.proofs.MoreMarksKeep.{failed-more}
 use Rattle.aio_handle.specs.Execution.{ExecutesAll, CountersFollowMarks}
-use Rattle.aio_handle.specs.CallEvents.{EventMade, IsByOwner}
-use Rattle.aio_handle.specs.CallEvents.{WordLoaded}
+use Rattle.aio_handle.specs.CallEvents.{EventMade, IsByOwner, WordLoaded}
 use Rattle.aio_handle.specs.LifeWords.{staged_word, unclaimed_word}
 use Rattle.aio_handle.specs.declared.record.Label.{Label}
 use Rattle.aio_handle.specs.ContractViews.{ActorView}

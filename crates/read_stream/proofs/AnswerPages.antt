@@ -1,7 +1,6 @@
 -- The pages that a stream answers: they are valid, and each is that of an entry.
-use Rattle.std.proofs.Common.{◌≡◌, ℕ, zero, suc, ◌<◌, Bool, true, false, List, []}
+use Rattle.std.proofs.Common.{◌≡◌, ℕ, zero, suc, ◌<◌, Bool, true, false, List, [], get_or}
 use Rattle.std.proofs.Common.{◌∷◌, ◌++◌, length, map, take, refl, sym, ap, ◌∙◌, subst, arith}
-use Rattle.std.proofs.Common.{get_or}
 use Rattle.std.specs.Prelude.{Option, Some, None, slice_get, if◌then◌else◌, nat_le, ⊤}
 use Rattle.std.specs.List.{All}
 use Rattle.std.proofs.lemmas.Option.{slice_get_within}
@@ -11,12 +10,10 @@ use Rattle.page_check.specs.declared.verdict.Verdict.TheVariants.{Zero, Sane, Ba
 use Rattle.page_check.specs.Verdict.{verdict_of, IsValid}
 use Rattle.page_check.specs.SynchronousAnswer.{Entry, Given, Found, Absent, Damaged, Zeroed}
 use Rattle.page_check.specs.SynchronousAnswer.{found_at, zeroed_if_damaged, zeroing, Reader}
-use Rattle.page_check.specs.SynchronousAnswer.{Page as FoundPage}
+use Rattle.page_check.specs.SynchronousAnswer.{Page as FoundPage, readable_pages}
 use Rattle.page_check.specs.SynchronousAnswer.{found_by_verdict, is_page, found_page, reader_of}
-use Rattle.page_check.specs.SynchronousAnswer.{readable_pages}
 use Rattle.page_check.specs.SynchronousAnswer.{can_read, entry_given}
-use Rattle.page_check.specs.IsAnswer.{Next as Said, Page, Stop, IsAnswer, IsNext, AreFirst}
-use Rattle.page_check.specs.IsAnswer.{IfPage}
+use Rattle.page_check.specs.IsAnswer.{Next as Said, Page, Stop, IsAnswer, IsNext, AreFirst, IfPage}
 use Rattle.page_check.proofs.SynchronousReads.{read_count-cons, readable_pages-none}
 use Rattle.page_check.proofs.SynchronousReads.{readable_pages-stop}
 use Rattle.page_check.proofs.ValidPages.{zero_page_valid}

@@ -13,8 +13,7 @@ use Rattle.aio_callback.specs.ReadIoView.{ReadIoView}
 use Rattle.read_stream.specs.declared.reads.Reads.{Reads}
 use Rattle.read_stream.specs.declared.scope.Scope.{Scope}
 use Rattle.read_stream.specs.StreamIos.{IsStreamRecord, IsNewIncarnation, Issued, IssuedExcept}
-use Rattle.read_stream.specs.StreamIos.{staged_references}
-use Rattle.read_stream.specs.StreamIos.{record_count}
+use Rattle.read_stream.specs.StreamIos.{staged_references, record_count}
 use Rattle.read_stream.proofs.PushedList.{each-pushed}
 
 held-push : (q : Known) (ts : List (WaitRef × ReadIoView)) (t : WaitRef × ReadIoView)

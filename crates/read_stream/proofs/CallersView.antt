@@ -13,8 +13,7 @@ use Rattle.read_stream.specs.declared.answer.Step.{Step}
 use Rattle.read_stream.specs.declared.answer.Step.TheVariants as step
 use Rattle.read_stream.specs.declared.stream.ReadStream.{ReadStream}
 use Rattle.read_stream.specs.StreamAnswers.{IfStopped, IfZeroed, MayBeUnread, stream_entries}
-use Rattle.read_stream.specs.StreamAnswers.{stream_entry}
-use Rattle.read_stream.specs.StreamAnswers.{step_answer, step_ending}
+use Rattle.read_stream.specs.StreamAnswers.{stream_entry, step_answer, step_ending}
 use Rattle.read_stream.specs.StreamState.{IsOpen, entries_at_open, stream_view}
 use Rattle.read_stream.specs.StreamViews.{StreamView, IsActorAsLeft}
 use Rattle.read_stream.specs.StreamViews.{IsSameStream, IsStreamAnswer, stream_after}

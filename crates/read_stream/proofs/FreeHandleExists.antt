@@ -1,6 +1,5 @@
 -- A stream's actor has a free handle where it needs one.
-use Rattle.std.proofs.Common.{◌≡◌, ℕ, ◌<◌, List, [], ◌++◌, sym, ◌∙◌, subst}
-use Rattle.std.proofs.Common.{arith, ⊎_elim}
+use Rattle.std.proofs.Common.{◌≡◌, ℕ, ◌<◌, List, [], ◌++◌, sym, ◌∙◌, subst, arith, ⊎_elim}
 use Rattle.page_check.specs.Told.{Told}
 use Rattle.std.specs.Prelude.{Option}
 use Rattle.aio_word.specs.declared.Config.{Config}

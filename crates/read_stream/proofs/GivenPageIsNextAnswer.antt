@@ -13,15 +13,11 @@ use Rattle.buf_pool.specs.declared.pin.Pin.{Pin}
 use Rattle.read_stream.specs.declared.answer.Step.TheVariants as step
 use Rattle.read_stream.specs.declared.queue.QueuedBlock.{QueuedBlock}
 use Rattle.read_stream.specs.declared.stream.ReadStream.{ReadStream}
-use Rattle.read_stream.specs.StreamAnswers.{stream_entry, stream_entries}
-use Rattle.read_stream.specs.StreamAnswers.{step_answer, page_answer}
+use Rattle.read_stream.specs.StreamAnswers.{stream_entry, stream_entries, step_answer, page_answer}
 use Rattle.read_stream.specs.StreamAnswers.{MayBeUnread}
 use Rattle.read_stream.specs.StreamIos.{IsTakenIn}
-use Rattle.read_stream.specs.WantedBlocks.{source_item, block_number, wanted_blocks}
-use Rattle.read_stream.specs.WantedBlocks.{pending_blocks}
-use Rattle.read_stream.specs.PagesAtHand.{HasCurrentPage}
-use Rattle.read_stream.specs.PagesAtHand.{blocks_at_hand}
-use Rattle.read_stream.specs.PagesAtHand.{page_at, spent_ios}
+use Rattle.read_stream.specs.WantedBlocks.{source_item, block_number, wanted_blocks, pending_blocks}
+use Rattle.read_stream.specs.PagesAtHand.{HasCurrentPage, blocks_at_hand, page_at, spent_ios}
 use Rattle.read_stream.specs.PagesAtHand.{record_blocks_left, current_page, zeroed_at}
 use Rattle.read_stream.specs.StreamState.{IsBetweenCalls, IsRunning, UnderwayWith}
 use Rattle.read_stream.specs.Changes.{page_given}

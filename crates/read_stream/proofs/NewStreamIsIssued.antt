@@ -12,8 +12,7 @@ use Rattle.aio_callback.specs.ReadIoView.{ReadIoView}
 use Rattle.read_stream.specs.declared.reads.Reads.{Reads}
 use Rattle.read_stream.specs.declared.scope.Scope.{Scope}
 use Rattle.read_stream.specs.StreamIos.{Issued, AllRecordsFree, IsStreamRecord, IsNewIncarnation}
-use Rattle.read_stream.specs.StreamIos.{IsTakenIn}
-use Rattle.read_stream.specs.StreamIos.{known_at_open}
+use Rattle.read_stream.specs.StreamIos.{IsTakenIn, known_at_open}
 use Rattle.read_stream.proofs.PushedList.{each-none}
 
 module _ {W : Type 0} where

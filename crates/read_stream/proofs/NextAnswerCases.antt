@@ -6,8 +6,7 @@ use Rattle.page_check.specs.PageBytes.{IsPage}
 use Rattle.page_check.specs.Told.{Told}
 use Rattle.page_check.specs.SynchronousAnswer.{Entry, Found, End, Invalid, PastEnd, Unread}
 use Rattle.page_check.specs.SynchronousAnswer.{Page as FoundPage, Zeroed, Damaged, Absent}
-use Rattle.page_check.specs.SynchronousAnswer.{found_at, zeroed_if_damaged, reader_of}
-use Rattle.page_check.specs.SynchronousAnswer.{read_count}
+use Rattle.page_check.specs.SynchronousAnswer.{found_at, zeroed_if_damaged, reader_of, read_count}
 use Rattle.page_check.specs.IsAnswer.{Page, Stop, IsNext}
 use Rattle.page_check.proofs.NextAnswer as found
 use Rattle.page_check.proofs.ValidPages.{zero_page_valid}

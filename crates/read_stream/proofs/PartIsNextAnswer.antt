@@ -20,8 +20,7 @@ use Rattle.read_stream.specs.declared.answer.Ending.TheVariants as ending
 use Rattle.read_stream.specs.declared.parts.Part.TheVariants as part
 use Rattle.read_stream.specs.declared.scope.Scope.{Scope}
 use Rattle.read_stream.specs.StreamAnswers.{stream_entry, stream_entries, synchronous_ending}
-use Rattle.read_stream.specs.StreamAnswers.{page_answer, IsFailedRead}
-use Rattle.read_stream.specs.StreamAnswers.{MayBeUnread}
+use Rattle.read_stream.specs.StreamAnswers.{page_answer, IsFailedRead, MayBeUnread}
 use Rattle.read_stream.specs.StreamIos.{IsTakenIn, known_at_open}
 use Rattle.read_stream.specs.Parts.{CoversBlock, IsValidPart}
 use Rattle.read_stream.specs.ActorProgress.{MarkedSince}

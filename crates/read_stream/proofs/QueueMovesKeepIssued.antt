@@ -1,6 +1,5 @@
 -- Records and tokens that move between the caller and the I/Os of a stream.
-use Rattle.std.proofs.Common.{◌≡◌, ℕ, ◌+◌, ◌<◌, ◌≤◌, List, [], ◌∷◌, ◌++◌, length, drop}
-use Rattle.std.proofs.Common.{refl}
+use Rattle.std.proofs.Common.{◌≡◌, ℕ, ◌+◌, ◌<◌, ◌≤◌, List, [], ◌∷◌, ◌++◌, length, drop, refl}
 use Rattle.std.proofs.Common.{sym, ap, ◌∙◌, arith, subst, inl, inr, ⊎_elim, length-append}
 use Rattle.std.specs.Prelude.{Option, Some, None, slice_get}
 use Rattle.page_check.specs.Told.{Told}
@@ -13,9 +12,7 @@ use Rattle.circular_buffer.specs.Buffer.{Buffer, buffer}
 use Rattle.read_stream.specs.declared.reads.Reads.{Reads}
 use Rattle.read_stream.specs.declared.scope.Scope.{Scope}
 use Rattle.read_stream.specs.StreamIos.{Issued, HeldByCaller, AllStreamIos, AreStreamRecords}
-use Rattle.read_stream.specs.StreamIos.{IsTakenIn}
-use Rattle.read_stream.specs.StreamIos.{staged_references}
-use Rattle.read_stream.specs.StreamIos.{record_count}
+use Rattle.read_stream.specs.StreamIos.{IsTakenIn, staged_references, record_count}
 use Rattle.read_stream.proofs.PushedList.{each-pushed}
 
 -- the first of a list, and what is behind it

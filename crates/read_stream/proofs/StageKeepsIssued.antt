@@ -1,7 +1,6 @@
 -- A new I/O of a stream, from a free handle to a staged token.
 use Rattle.std.proofs.Common.{◌≡◌, ◌≢◌, ℕ, ◌+◌, ◌*◌, ◌<◌, ◌≤◌, ◌⊎◌, List, [], ◌∷◌, ◌++◌, length}
-use Rattle.std.proofs.Common.{refl}
-use Rattle.std.proofs.Common.{ap, ◌∙◌, arith, append_assoc, subst, inl, inr, ⊎_elim}
+use Rattle.std.proofs.Common.{refl, ap, ◌∙◌, arith, append_assoc, subst, inl, inr, ⊎_elim}
 use Rattle.std.specs.Prelude.{Option, Some}
 use mathlib.Core.Logic.{dite}
 use native.Mathlib.Decide.{ℕ_discrete, dec_le}
@@ -29,8 +28,7 @@ use Rattle.aio_callback.proofs.AimNamesRead.{reads-as}
 use Rattle.read_stream.specs.declared.reads.Reads.{Reads}
 use Rattle.read_stream.specs.declared.scope.Scope.{Scope}
 use Rattle.read_stream.specs.StreamIos.{IssuedExcept, Issued, HandleHandedOut, staged_references}
-use Rattle.read_stream.specs.StreamIos.{known_at_open}
-use Rattle.read_stream.specs.StreamIos.{ios_started, IsStreamRecord}
+use Rattle.read_stream.specs.StreamIos.{known_at_open, ios_started, IsStreamRecord}
 use Rattle.read_stream.specs.ActorProgress.{ActorAdvanced, local_mark_count}
 use Rattle.read_stream.proofs.ActorAdvancedLaws.{advanced_then, advanced_nothing, advanced_made}
 use Rattle.read_stream.proofs.ActorAdvancedLaws.{aims-same}

@@ -19,16 +19,14 @@ use Rattle.read_stream.specs.declared.reads.Reads.{Reads}
 use Rattle.read_stream.specs.declared.scope.Scope.{Scope}
 use Rattle.read_stream.specs.declared.stream.ReadStream.{ReadStream}
 use Rattle.read_stream.specs.StreamAnswers.{stream_entries, synchronous_ending, step_ending}
-use Rattle.read_stream.specs.StreamAnswers.{IsFailedRead}
+use Rattle.read_stream.specs.StreamAnswers.{IsFailedRead, MayBeUnread, IfStopped, IfRunning}
 use Rattle.read_stream.specs.StreamViews.{StreamView, IsActorAsLeft, stream_after}
-use Rattle.read_stream.specs.StreamAnswers.{MayBeUnread, IfStopped, IfRunning}
 use Rattle.read_stream.specs.StreamIos.{Issued, ReadsForRuns, IsTakenIn, record_count, ios_started}
 use Rattle.read_stream.specs.Desks.{AreValidSettings}
 use Rattle.read_stream.specs.WantedBlocks.{IsValidWant, source_item, block_number, wanted_blocks}
 use Rattle.read_stream.specs.WantedBlocks.{pending_blocks, wanted_runs}
 use Rattle.read_stream.specs.PagesAtHand.{IsAtHand, LendsCurrentPage, count_some, blocks_at_hand}
-use Rattle.read_stream.specs.PagesAtHand.{spent_ios}
-use Rattle.read_stream.specs.PagesAtHand.{record_blocks_left}
+use Rattle.read_stream.specs.PagesAtHand.{spent_ios, record_blocks_left}
 
 -- the record of a failed read is kept
 abbrev pub IfUnread : Ending → (ℕ → Type 0) → Type 0

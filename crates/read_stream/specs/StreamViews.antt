@@ -6,11 +6,10 @@ use Rattle.page_check.specs.Verdict.{IsValid}
 use Rattle.page_check.specs.IsAnswer.{IfPage, IsNext, Next as Said, Page as SaidPage}
 use Rattle.page_check.specs.IsAnswer.{Stop as SaidStop}
 use Rattle.aio_word.specs.Tokens.{AppendsMarks, failed_result_count}
-use Rattle.aio_handle.specs.ContractViews.{ActorView}
+use Rattle.aio_handle.specs.ContractViews.{ActorView, IsSameActor}
 use Rattle.aio_handle.specs.declared.execute.Execute.{Ghosts as ExecuteGhosts}
 use Rattle.aio_batch.specs.declared.method.Method.{Ghosts as MethodGhosts}
 use Rattle.aio_callback.specs.ReadIoView.{ReadIoView}
-use Rattle.aio_handle.specs.ContractViews.{IsSameActor}
 use Rattle.read_stream.specs.declared.desk.Settings.{Settings}
 use Rattle.read_stream.specs.declared.answer.Next.{Next}
 use Rattle.read_stream.specs.StreamAnswers.{stream_entries, synchronous_answer, pages_given}

@@ -12,8 +12,7 @@ ghost use Rattle.aio_callback.specs.StreamOutcomes.{stream_ids};
 ghost use Rattle.read_plan.specs.declared.runs.Run.{Run};
 ghost use Rattle.read_plan.specs.Runs.{IsRun};
 ghost use Rattle.read_stream.specs.StreamIos.{Issued, IssuedExcept, IsStreamRecord};
-ghost use Rattle.read_stream.specs.StreamIos.{IsNewIncarnation};
-ghost use Rattle.read_stream.specs.StreamIos.{IsTakenIn, ReadsForRuns};
+ghost use Rattle.read_stream.specs.StreamIos.{IsNewIncarnation, IsTakenIn, ReadsForRuns};
 ghost use Rattle.read_stream.specs.StreamIos.{record_count, ios_started};
 
 use crate::io_context::IoContext;

@@ -1,17 +1,14 @@
 //! How a stream advances.
-ghost use Rattle.std.specs.Prelude.{◌≡◌, ◌≢◌, ◌+◌, ◌-◌, ◌^◌, ◌<◌, [], List, ℕ};
-ghost use Rattle.std.specs.Prelude.{IsTrue, slice_get};
+ghost use Rattle.std.specs.Prelude.{◌≡◌, ◌≢◌, ◌+◌, ◌-◌, ◌^◌, ◌<◌, [], List, ℕ, IsTrue, slice_get};
 ghost use Rattle.page_check.specs.SynchronousAnswer.{reader_of};
 ghost use Rattle.page_check.specs.PageBytes.{IsPage};
 ghost use Rattle.page_check.specs.IsAnswer.{IsNext, IfPage};
 ghost use Rattle.read_stream.specs.IoContexts.{IsValidContext, ContextAdvanced};
 ghost use Rattle.read_stream.specs.StreamAnswers.{stream_entries, MayBeUnread, pages_given};
-ghost use Rattle.read_stream.specs.StreamAnswers.{step_answer};
-ghost use Rattle.read_stream.specs.StreamAnswers.{IfStopped, step_ending};
+ghost use Rattle.read_stream.specs.StreamAnswers.{step_answer, IfStopped, step_ending};
 ghost use Rattle.read_stream.specs.StreamViews.{answered_stop, stream_after};
 ghost use Rattle.read_stream.specs.PagesAtHand.{LendsCurrentPage, HasMoreBlocks};
-ghost use Rattle.read_stream.specs.PagesAtHand.{record_blocks_left};
-ghost use Rattle.read_stream.specs.PagesAtHand.{current_page};
+ghost use Rattle.read_stream.specs.PagesAtHand.{record_blocks_left, current_page};
 ghost use Rattle.read_stream.specs.StreamState.{IsBetweenCalls, IsOpen, Underway, stream_view};
 ghost use Rattle.read_stream.specs.StreamState.{UnderwayWith};
 ghost use Rattle.read_stream.specs.Changes.{SameStream, LookAheadUnchanged, page_given};

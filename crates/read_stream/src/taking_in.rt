@@ -4,9 +4,8 @@ ghost use Rattle.read_stream.specs.ActorProgress.{AllSubmitted};
 ghost use Rattle.read_stream.specs.IoContexts.{IsValidContext, ContextAdvanced};
 ghost use Rattle.read_plan.specs.declared.runs.Run.{Run};
 ghost use Rattle.read_stream.specs.StreamIos.{Issued, HeldByCaller, IsTakenIn, HasIdleHandle};
-ghost use Rattle.read_stream.specs.StreamIos.{AllRecordsFree};
+ghost use Rattle.read_stream.specs.StreamIos.{AllRecordsFree, IsRecordForRun, run_of};
 ghost use Rattle.read_stream.specs.StreamIos.{ReadsForRuns, InFlightForRuns, ReadsBlocks};
-ghost use Rattle.read_stream.specs.StreamIos.{IsRecordForRun, run_of};
 ghost use Rattle.read_stream.specs.StreamIos.{record_count, ios_started};
 
 use crate::io_context::IoContext;

@@ -2,8 +2,7 @@ use Rattle.std.proofs.Common.{◌≡◌, ◌≢◌, ◌<◌, ◌≤◌, ℕ, Lis
 use Rattle.std.proofs.Common.{refl, sym, ap, ◌∙◌, arith}
 use Rattle.std.proofs.lemmas.List.{get_or_default}
 use Rattle.method_ring.proofs.NumberedSearch.{first-later, others-later, first-here, others-here}
-use Rattle.method_ring.proofs.NumberedSearch.{first-end}
-use Rattle.method_ring.proofs.NumberedSearch.{others-end}
+use Rattle.method_ring.proofs.NumberedSearch.{first-end, others-end}
 use Rattle.method_ring.proofs.listed.take_out.Goals as goal
 
 same-read : {A : Type 0} (xs : List A) (i : ℕ) (a b : A) → i < length xs → a ≡ get_or xs i a

@@ -11,8 +11,7 @@ use Rattle.method_ring.specs.ClaimedIos.{ClaimedIo, claimed_with_number, without
 use Rattle.method_ring.specs.ClaimedIos.{claimed_entry}
 use Rattle.method_ring.specs.Group.{PendingReadsClaimed}
 use Rattle.method_ring.proofs.GroupHoldsPending.{nothing-held, is-held, entry-found, unread-held}
-use Rattle.method_ring.proofs.GroupHoldsPending.{filled-by}
-use Rattle.method_ring.proofs.GroupHoldsPending.{joined-without, picked-from}
+use Rattle.method_ring.proofs.GroupHoldsPending.{filled-by, joined-without, picked-from}
 use Rattle.method_ring.proofs.group.Group.next.Goals as goal
 
 if-none : {A : Type 0} (o : Option A) (P : Type 0) → P → IfNone o P

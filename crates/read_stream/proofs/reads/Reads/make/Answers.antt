@@ -1,6 +1,5 @@
 use Rattle.std.proofs.Common.{◌≡◌, [], ◌∷◌, ◌++◌, length, ℕ, arith, ap, sym, ◌∙◌, List, subst}
-use Rattle.std.proofs.Common.{replicate}
-use Rattle.std.proofs.Common.{length-append}
+use Rattle.std.proofs.Common.{replicate, length-append}
 use Rattle.aio_word.specs.Stands.{IsIn}
 use Rattle.aio_callback.specs.ReadIoView.{ReadIoView}
 use Rattle.circular_buffer.specs.Buffer.{Buffer}

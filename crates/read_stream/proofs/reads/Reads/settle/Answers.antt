@@ -8,8 +8,7 @@ use Rattle.aio_callback.specs.ReadIoView.{ReadIoView, ReadFits, after_local}
 use Rattle.read_stream.specs.declared.reads.Reads.{Reads}
 use Rattle.read_stream.proofs.ReadsMatchRuns.{reads-later}
 use Rattle.read_stream.proofs.ReclaimKeepsIssued.{settled-issued, settled-reading, settled-for}
-use Rattle.read_stream.proofs.ReclaimKeepsIssued.{advanced-settling}
-use Rattle.read_stream.proofs.ReclaimKeepsIssued.{idle-now}
+use Rattle.read_stream.proofs.ReclaimKeepsIssued.{advanced-settling, idle-now}
 use Rattle.read_stream.proofs.ContextAdvancedLaws.{context_advanced_by}
 use Rattle.read_stream.proofs.reads.Reads.settle.Goals as goal
 

@@ -9,8 +9,7 @@ use Rattle.aio_callback.specs.ReadIoView.{ReadIoView, record_aim}
 use Rattle.read_stream.specs.declared.reads.Reads.{Reads}
 use Rattle.read_stream.proofs.ReadsMatchRuns.{reads-later}
 use Rattle.read_stream.proofs.StageKeepsIssued.{advanced-staged, advanced-defined, issued-staged}
-use Rattle.read_stream.proofs.StageKeepsIssued.{staged-apart}
-use Rattle.read_stream.proofs.StageKeepsIssued.{aimed-as}
+use Rattle.read_stream.proofs.StageKeepsIssued.{staged-apart, aimed-as}
 use Rattle.read_stream.proofs.reads.Reads.stage.Goals as goal
 
 pub returns : goal.returns

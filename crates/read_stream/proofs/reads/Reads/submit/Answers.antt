@@ -14,9 +14,8 @@ use Rattle.read_stream.specs.declared.io_context.IoContext.{IoContext}
 use Rattle.read_stream.specs.IoContexts.{ContextAdvanced}
 use Rattle.read_stream.specs.ActorProgress.{ActorAdvanced}
 use Rattle.read_stream.proofs.ActorAdvancedLaws.{advanced_submitting}
-use Rattle.read_stream.proofs.ContextAdvancedLaws.{valid_context_then}
+use Rattle.read_stream.proofs.ContextAdvancedLaws.{valid_context_then, context_advanced_then}
 use Rattle.read_stream.proofs.ContextAdvancedLaws.{context_advanced_by, context_advanced_refl}
-use Rattle.read_stream.proofs.ContextAdvancedLaws.{context_advanced_then}
 use Rattle.read_stream.proofs.ReadsMatchRuns.{reads-later, reads-submitted}
 use Rattle.read_stream.proofs.SubmitKeepsIssued.{issued-submitted, issued-taking-up}
 use Rattle.read_stream.proofs.reads.Reads.submit.Goals as goal

@@ -6,8 +6,7 @@ use Rattle.read_stream.specs.declared.stream.ReadStream.{ReadStream}
 use Rattle.read_stream.specs.PagesAtHand.{current_page}
 use Rattle.read_stream.specs.declared.answer.Step.{Step}
 use Rattle.read_stream.specs.declared.answer.Step.TheVariants as step
-use Rattle.read_stream.specs.StreamAnswers.{IfStopped, IfZeroed, step_answer}
-use Rattle.read_stream.specs.StreamAnswers.{synchronous_answer}
+use Rattle.read_stream.specs.StreamAnswers.{IfStopped, IfZeroed, step_answer, synchronous_answer}
 use Rattle.read_stream.specs.StreamState.{StreamAnswered, stream_view}
 use Rattle.read_stream.specs.StreamViews.{StreamView, IsStreamAnswer, stream_after}
 use Rattle.read_stream.proofs.CallersView.{answer_seen, as_left, ending_again}

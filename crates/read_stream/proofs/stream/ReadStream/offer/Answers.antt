@@ -1,5 +1,4 @@
-use Rattle.std.proofs.Common.{◌++◌, ℕ, List, [], ◌∷◌, ap, arith}
-use Rattle.std.proofs.Common.{sym, ◌∙◌}
+use Rattle.std.proofs.Common.{◌++◌, ℕ, List, [], ◌∷◌, ap, arith, sym, ◌∙◌}
 use Rattle.std.specs.Prelude.{Option}
 use Rattle.read_plan.specs.declared.runs.Offer.{Offer}
 use Rattle.read_plan.specs.declared.runs.Run.{Run}

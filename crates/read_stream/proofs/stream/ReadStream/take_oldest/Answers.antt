@@ -1,5 +1,4 @@
-use Rattle.std.proofs.Common.{◌≡◌, List, length, drop, ap}
-use Rattle.std.proofs.Common.{arith, ◌∙◌}
+use Rattle.std.proofs.Common.{◌≡◌, List, length, drop, ap, arith, ◌∙◌}
 use Rattle.read_stream.specs.declared.queue.Want.TheVariants as want
 use Rattle.read_stream.specs.declared.stream.ReadStream.{ReadStream}
 use Rattle.read_stream.specs.WantedBlocks.{wanted_runs}
