@@ -18,9 +18,13 @@ fn one_life<W: World, R: Abort + AllocGlobal>(rt: &R) -> Result<(), Fail>
     let (table, mut actors) = Table::<EmptyIo, W>::open(rt.alloc(), 1, 1, 1, 0)?;
     let mut runner = last_actor(&table, &mut actors).ok_or("no actor")?;
     let mut owner = last_actor(&table, &mut actors).ok_or("no actor")?;
-    let token = submit_io(&table, &mut owner, EmptyIo::new()).ok_or("no free handle")?;
+    let Some(token) = submit_io(&table, &mut owner, EmptyIo::new()) else {
+        panic!(rt; "no free handle")
+    };
     assert!(rt; claim_and_complete(&table, &mut runner, token.reference(), Class::Short));
-    assert!(rt; take_and_reclaim(&table, &mut owner, token));
+    if !take_and_reclaim(&table, &mut owner, token) {
+        panic!(rt; "the runner has ended the I/O")
+    }
     let totals = close_with_two(rt.alloc(), table, owner, runner)?;
     assert!(rt; totals.incarnations() == 1 && totals.by_backends() == 0);
     assert!(rt; totals.by_runners() == 1);

@@ -143,9 +143,15 @@ fn totals_of_three<W: World, R: Abort + AllocGlobal>(rt: &R) -> Result<(), Fail>
     let mut runner = last_actor(&table, &mut actors).ok_or("no actor")?;
     let mut other = last_actor(&table, &mut actors).ok_or("no actor")?;
     let mut owner = last_actor(&table, &mut actors).ok_or("no actor")?;
-    assert!(rt; life(&table, &mut owner, &mut other));
-    assert!(rt; life(&table, &mut owner, &mut runner));
-    assert!(rt; life(&table, &mut owner, &mut other));
+    if !life(&table, &mut owner, &mut other) {
+        panic!(rt; "a handle is free")
+    }
+    if !life(&table, &mut owner, &mut runner) {
+        panic!(rt; "a handle is free")
+    }
+    if !life(&table, &mut owner, &mut other) {
+        panic!(rt; "a handle is free")
+    }
     let mut all = no_actors(&table, rt.alloc());
     add_actor(&table, &mut all, owner)?;
     add_actor(&table, &mut all, other)?;

@@ -21,10 +21,14 @@ fn one_read<W: World, R: Abort + AllocGlobal + Wait>(rt: &R) -> Result<(), Fail>
     let mut runner = last_actor(&table, &mut actors).ok_or("no actor")?;
     let mut owner = last_actor(&table, &mut actors).ok_or("no actor")?;
     let io = ReadIo::make(rt.alloc(), 1)?;
-    let token = submit_read(&table, &mut owner, io, 7).ok_or("no free handle")?;
+    let Some(token) = submit_read(&table, &mut owner, io, 7) else {
+        panic!(rt; "no free handle")
+    };
     let mut executor = WholeExecutor { calls: 0 };
     table.try_execute(rt, &mut runner, token.reference(), &mut executor);
-    assert!(rt; take_and_reclaim(&table, &mut owner, token));
+    if !take_and_reclaim(&table, &mut owner, token) {
+        panic!(rt; "the runner has read the block")
+    }
     let totals = close_with_two(rt.alloc(), table, owner, runner)?;
     assert!(rt; totals.incarnations() == 1 && totals.by_backends() == 0);
     assert!(rt; totals.by_runners() == 1);

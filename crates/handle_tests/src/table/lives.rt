@@ -18,7 +18,9 @@ fn one_life<W: World, R: Abort + AllocGlobal>(rt: &R) -> Result<(), Fail>
     let mut actor = last_actor(&table, &mut actors).ok_or("no actor")?;
     let (token, refusal) = acquire_again(&table, &mut actor).ok_or("no free handle")?;
     assert!(rt; refusal == AcquireRefusal::OneIsOut);
-    assert!(rt; live_on(&table, &mut actor, token));
+    if !live_on(&table, &mut actor, token) {
+        panic!(rt; "the life is whole")
+    }
     let mut all = no_actors(&table, rt.alloc());
     add_actor(&table, &mut all, actor)?;
     assert!(rt; close(table, all) == (1, 1, 0));
@@ -36,7 +38,9 @@ fn last_life<W: World, R: Abort + AllocGlobal>(rt: &R) -> Result<(), Fail>
 {
     let (table, mut actors) = Table::<EmptyIo, W>::open(rt.alloc(), 1, 1, 0, (1 << 58) - 2)?;
     let mut actor = last_actor(&table, &mut actors).ok_or("no actor")?;
-    assert!(rt; live(&table, &mut actor));
+    if !live(&table, &mut actor) {
+        panic!(rt; "a handle is free")
+    }
     let Err(refusal) = table.acquire(&mut actor) else {
         panic!(rt; "there is no generation behind the last")
     };

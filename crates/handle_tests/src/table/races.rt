@@ -39,7 +39,9 @@ fn race<W: World + Send + Sync, R: Abort + AllocGlobal + Threads + Sync>(rt: &R)
     let runner = last_actor(&table, &mut actors).ok_or("no actor")?;
     let other = last_actor(&table, &mut actors).ok_or("no actor")?;
     let mut owner = last_actor(&table, &mut actors).ok_or("no actor")?;
-    let token = submit_io(&table, &mut owner, EmptyIo::new()).ok_or("no free handle")?;
+    let Some(token) = submit_io(&table, &mut owner, EmptyIo::new()) else {
+        panic!(rt; "no free handle")
+    };
     let reference = token.reference();
     let shared = &table;
     let ((runner, first), (other, second)) = join(
@@ -55,7 +57,9 @@ fn race<W: World + Send + Sync, R: Abort + AllocGlobal + Threads + Sync>(rt: &R)
             ensures { IsActorOf shared.entry.now result.0 × HasNoOwnerTokens result.0.known }
         { claim_beside(shared, other, reference) },
     );
-    assert!(rt; take_and_reclaim(&table, &mut owner, token));
+    if !take_and_reclaim(&table, &mut owner, token) {
+        panic!(rt; "one of the two ends the I/O")
+    }
     let mut all = no_actors(&table, rt.alloc());
     add_actor(&table, &mut all, owner)?;
     add_actor(&table, &mut all, other)?;

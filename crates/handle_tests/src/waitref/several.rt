@@ -75,9 +75,13 @@ fn three_wait<W: World + Send + Sync, T: Threads + Wait + Sync>(
     let third = last_actor(&table, &mut actors).ok_or("no actor")?;
     let second = last_actor(&table, &mut actors).ok_or("no actor")?;
     let mut owner = last_actor(&table, &mut actors).ok_or("no actor")?;
-    let token = submit_second(&table, &mut owner).ok_or("no free handle")?;
+    let Some(token) = submit_second(&table, &mut owner) else {
+        return Err(Fail::from("no free handle"));
+    };
     let reference = token.reference();
-    let claimed = claim_io(&table, &mut fourth, reference).ok_or("the I/O is not claimed")?;
+    let Some(claimed) = claim_io(&table, &mut fourth, reference) else {
+        return Err(Fail::from("the I/O is not claimed"));
+    };
     let moment = Moment::new(3, turns);
     let shared = &table;
     Ok(join(

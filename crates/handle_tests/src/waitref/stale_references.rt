@@ -36,9 +36,9 @@ fn wait_for_the_first<W: World, R: Abort + AllocGlobal + Wait>(rt: &R) -> Result
     let (table, mut actors) = Table::<EmptyIo, W>::open(rt.alloc(), 1, 1, 1, 5)?;
     let mut waiter = last_actor(&table, &mut actors).ok_or("no actor")?;
     let mut owner = last_actor(&table, &mut actors).ok_or("no actor")?;
-    for _ in 0..3 {
-        assert!(rt; live(rt, &table, &mut owner));
-    }
+    assert!(rt; live(rt, &table, &mut owner));
+    assert!(rt; live(rt, &table, &mut owner));
+    assert!(rt; live(rt, &table, &mut owner));
     let token = submit_io(&table, &mut owner, EmptyIo::new()).ok_or("no free handle")?;
     let first = WaitRef {
         handle: 0,

@@ -5,6 +5,6 @@ use Rattle.handle_tests.proofs.table.races.race.Goals as goal
 
 pub add_actor-requires-clause-no_owner_tokens : goal.add_actor-requires-clause-no_owner_tokens
 add_actor-requires-clause-no_owner_tokens g c κs within =
-    let owner : HasNoOwnerTokens c.in-Some-last_actor-2.owner.known = search rules in
+    let owner : HasNoOwnerTokens c.in_ok-owner.owner.known = search rules in
     rests-with-none _ (c.take_and_reclaim.ensures.unreclaimed c.if-not-take_and_reclaim.false []
-    (c.in-Some-submit_io.ensures.submitted.unreclaimed [] (none-at-rest _ owner)))
+    (c.in-Some.ensures.submitted.unreclaimed [] (none-at-rest _ owner)))
