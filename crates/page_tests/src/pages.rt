@@ -35,8 +35,6 @@ fn summary(page: &Page) -> (Verdict, u16, Option<LinePointer>) {
 
 const EMPTY: Option<Bounds> = Some((24, 8192, 8192));
 
-const ONE: Option<Bounds> = Some((28, 8152, 8192));
-
 #[test]
 fn worked_pages(rt: HostRuntime) -> Result<(), Fail> {
     use Verdict::{Bad, Sane, Zero};
@@ -61,68 +59,33 @@ fn worked_pages(rt: HostRuntime) -> Result<(), Fail> {
     Ok(())
 }
 
-// Pages with line pointers, and the first of them.
+// Pages with line pointers, and the first of them: its bytes, its offset, kind and length.
 #[test]
 fn first_line_pointers(rt: HostRuntime) -> Result<(), Fail> {
-    let many: Option<Bounds> = Some((8192, 8192, 8192));
-    let none: &[u8] = &[];
-    let rows: [(&str, (Option<Bounds>, usize, &[u8]), u16, (u16, Kind, u16)); 6] = [
-        (
-            "one normal item",
-            (ONE, CONTENTS, &[0xd8, 0x9f, 0x50, 0]),
-            1,
-            (8152, Kind::Normal, 40),
-        ),
-        (
-            "one redirect",
-            (ONE, CONTENTS, &[5, 0, 1, 0]),
-            1,
-            (5, Kind::Redirect, 0),
-        ),
-        (
-            "one dead item",
-            (ONE, CONTENTS, &[0, 0x80, 1, 0]),
-            1,
-            (0, Kind::Dead, 0),
-        ),
-        (
-            "all bits set",
-            (ONE, CONTENTS, &[0xff, 0xff, 0xff, 0xff]),
-            1,
-            (32767, Kind::Dead, 32767),
-        ),
-        (
-            "lower 30",
-            (Some((30, 8192, 8192)), 0, none),
-            1,
-            (0, Kind::Unused, 0),
-        ),
-        (
-            "2042 unused items",
-            (many, 0, none),
-            2042,
-            (0, Kind::Unused, 0),
-        ),
+    use Kind::{Dead, Normal, Redirect, Unused};
+    let one: Bounds = (28, 8152, 8192);
+    let rows: [(&str, Bounds, [u8; 4], (u16, Kind, u16)); 6] = [
+        ("normal", one, [0xd8, 0x9f, 0x50, 0], (8152, Normal, 40)),
+        ("redirect", one, [5, 0, 1, 0], (5, Redirect, 0)),
+        ("dead", one, [0, 0x80, 1, 0], (0, Dead, 0)),
+        ("all bits set", one, [0xff; 4], (32767, Dead, 32767)),
+        ("lower 30", (30, 8192, 8192), [0; 4], (0, Unused, 0)),
+        ("2042 items", (8192, 8192, 8192), [0; 4], (0, Unused, 0)),
     ];
-    for (name, parts, items, (offset, kind, length)) in rows {
+    for (name, (lower, upper, special), bytes, (offset, kind, length)) in rows {
         let first = LinePointer {
             offset,
             kind,
             length,
         };
-        let page = page_with(parts);
+        let items = if lower == 8192 { 2042 } else { 1 };
+        let page = page_with((Some((lower, upper, special)), CONTENTS, &bytes));
         assert_eq!(rt;
             summary(&page),
             (Verdict::Sane, items, Some(first)),
             "{name}"
         );
-        if items == 1 && parts.1 == CONTENTS {
-            assert_eq!(rt;
-                &line_pointer_bytes(offset, kind, length)[..],
-                parts.2,
-                "{name}"
-            );
-        }
+        assert_eq!(rt; line_pointer_bytes(offset, kind, length), bytes, "{name}");
     }
     Ok(())
 }

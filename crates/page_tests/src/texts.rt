@@ -8,35 +8,29 @@ use std::alloc::{AllocError, Global};
 use std::process::Abort;
 use std::test::Fail;
 
+// Lower, upper and special.
+type Bounds = (u16, u16, u16);
+
 #[test]
 fn worked_texts(rt: HostRuntime) -> Result<(), Fail> {
-    let rows: [((u16, u16, u16), &[u8], &str); 4] = [
-        (
-            (24, 8192, 8192),
-            &[],
-            "page 7 1234567 lower 24 upper 8192 special 8192 items 0\n",
-        ),
-        (
-            (20, 8184, 8184),
-            &[],
-            "page 7 1234567 lower 20 upper 8184 special 8184 items 0\n",
-        ),
-        (
-            (36, 8152, 8192),
-            &[0xd8, 0x9f, 0x50, 0, 5, 0, 1, 0, 0, 0x80, 1, 0],
-            "page 7 1234567 lower 36 upper 8152 special 8192 items 3\n\
-             item 1 normal 8152 40\nitem 2 redirect 5 0\nitem 3 dead 0 0\n",
-        ),
-        (
-            (30, 8192, 8192),
-            &[],
-            "page 7 1234567 lower 30 upper 8192 special 8192 items 1\nitem 1 unused 0 0\n",
-        ),
+    let three: &[u8] = &[0xd8, 0x9f, 0x50, 0, 5, 0, 1, 0, 0, 0x80, 1, 0];
+    let items = "item 1 normal 8152 40\nitem 2 redirect 5 0\nitem 3 dead 0 0\n";
+    let rows: [(Bounds, &[u8], u16, &str); 4] = [
+        ((24, 8192, 8192), &[], 0, ""),
+        ((20, 8184, 8184), &[], 0, ""),
+        ((36, 8152, 8192), three, 3, items),
+        ((30, 8192, 8192), &[], 1, "item 1 unused 0 0\n"),
     ];
-    for ((lower, upper, special), items, text) in rows {
+    for ((lower, upper, special), contents, count, items) in rows {
+        let mut text = String::from_str(rt.alloc(), "page 7 1234567 ")?;
+        writeln!(
+            text,
+            "lower {lower} upper {upper} special {special} items {count}"
+        )?;
+        text.push_str(items)?;
         let mut out = Vec::new(rt.alloc());
         let bounds = bounds(lower, upper, special);
-        let Some(page) = valid_page_of(&[(BOUNDS, &bounds), (CONTENTS, items)]) else {
+        let Some(page) = valid_page_of(&[(BOUNDS, &bounds), (CONTENTS, contents)]) else {
             panic!(rt; "{text}")
         };
         page_text(7, 1234567, &page, &mut out)?;

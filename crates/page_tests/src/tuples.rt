@@ -55,16 +55,17 @@ pub(crate) fn text_of<R: Abort + AllocGlobal>(rt: &R, page: &Page) -> Result<Vec
     Ok(out)
 }
 
-// What the table below has of a page: lower, upper, line pointers, and headers of 40 bytes each from
-// the end of the page on.
-type Worked<'a> = (u16, u16, &'a [u8], &'a [TupleHeader]);
+// What the table below has of a page: lower, upper and special, line pointers, and headers of 40
+// bytes each from the end of the page on.
+type Worked<'a> = ((u16, u16, u16), &'a [u8], &'a [TupleHeader]);
 
 const THREE_ITEMS: &[u8] = &[
     0xd8, 0x9f, 0x50, 0, 0xb0, 0x9f, 0x50, 0, 0x88, 0x9f, 0x50, 0,
 ];
 
-fn worked_page((lower, upper, items, headers): Worked<'_>) -> Page {
-    let mut page = page_of(&[(BOUNDS, &bounds(lower, upper, 8192)), (CONTENTS, items)]);
+fn worked_page(((lower, upper, special), items, headers): Worked<'_>) -> Page {
+    let bounds = bounds(lower, upper, special);
+    let mut page = page_of(&[(BOUNDS, &bounds), (CONTENTS, items)]);
     for (offset, header) in [8152usize, 8112, 8072].iter().zip(headers) {
         put_header(&mut page, *offset, header);
     }
@@ -95,10 +96,10 @@ fn worked_tuples(rt: HostRuntime) -> Result<(), Fail> {
         header_with(6, 5, 1),
         header_with(9, 0, 3),
     ];
-    let rows: [(&str, Worked<'_>, &str); 5] = [
+    let rows: [(&str, Worked<'_>, &str); 7] = [
         (
             "one tuple",
-            (28, 8152, &[0xd8, 0x9f, 0x50, 0], ONE),
+            ((28, 8152, 8192), &[0xd8, 0x9f, 0x50, 0], ONE),
             "page 0 0 lower 28 upper 8152 special 8192 items 1\n\
              item 1 normal 8152 40\n\
              tuple 1 xmin 700 xmax 0 field3 0 ctid (0,1) attrs 2 mask 2306 hoff 24\n\
@@ -106,7 +107,7 @@ fn worked_tuples(rt: HostRuntime) -> Result<(), Fail> {
         ),
         (
             "a chain of three",
-            (36, 8072, THREE_ITEMS, &chain),
+            ((36, 8072, 8192), THREE_ITEMS, &chain),
             "page 0 0 lower 36 upper 8072 special 8192 items 3\n\
              item 1 normal 8152 40\n\
              tuple 1 xmin 700 xmax 701 field3 0 ctid (0,2) attrs 0 mask 0 hoff 0 step 2\n\
@@ -118,7 +119,7 @@ fn worked_tuples(rt: HostRuntime) -> Result<(), Fail> {
         ),
         (
             "past the end is outside",
-            (28, 8152, &[0xf4, 0x9f, 0x50, 0], &[]),
+            ((28, 8152, 8192), &[0xf4, 0x9f, 0x50, 0], &[]),
             "page 0 0 lower 28 upper 8152 special 8192 items 1\n\
              item 1 normal 8180 40\n\
              tuple 1 outside\n\
@@ -126,7 +127,7 @@ fn worked_tuples(rt: HostRuntime) -> Result<(), Fail> {
         ),
         (
             "a circle has no root",
-            (36, 8072, THREE_ITEMS, &circle),
+            ((36, 8072, 8192), THREE_ITEMS, &circle),
             "page 0 0 lower 36 upper 8072 special 8192 items 3\n\
              item 1 normal 8152 40\n\
              tuple 1 xmin 5 xmax 6 field3 0 ctid (0,2) attrs 0 mask 0 hoff 0 step 2\n\
@@ -138,9 +139,20 @@ fn worked_tuples(rt: HostRuntime) -> Result<(), Fail> {
         ),
         (
             "no tuples: a redirect and a dead item",
-            (32, 8152, &[5, 0, 1, 0, 0, 0x80, 1, 0], &[]),
+            ((32, 8152, 8192), &[5, 0, 1, 0, 0, 0x80, 1, 0], &[]),
             "page 0 0 lower 32 upper 8152 special 8192 items 2\n\
              item 1 redirect 5 0\nitem 2 dead 0 0\nchains 0 longest 0\n",
+        ),
+        (
+            "an empty page",
+            ((24, 8192, 8192), &[], &[]),
+            "page 0 0 lower 24 upper 8192 special 8192 items 0\nchains 0 longest 0\n",
+        ),
+        (
+            "a page of an index, with an index tuple of 16 bytes",
+            ((28, 8160, 8176), &[0xe0, 0x9f, 0x20, 0], &[]),
+            "page 0 0 lower 28 upper 8160 special 8176 items 1\n\
+             item 1 normal 8160 16\ntuple 1 outside\nchains 0 longest 0\n",
         ),
     ];
     for (name, worked, wanted) in rows {
