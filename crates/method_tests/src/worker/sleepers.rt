@@ -37,7 +37,7 @@ fn work_until_closed<W: World, T: Wait>(
     (calls, seat)
 }
 
-fn give_up_turns(turns: u32) {
+pub(super) fn give_up_turns(turns: u32) {
     for _ in 0..turns {
         yield_now();
     }
@@ -162,7 +162,7 @@ fn a_sleeping_worker_is_woken(rt: HostRuntime) -> Result<(), Fail> {
 }
 
 /// Waits until the I/O has ended, without giving up its turn.
-fn look_until_done<W: World, T: Wait>(
+pub(super) fn look_until_done<W: World, T: Wait>(
     rt: &T,
     table: &Table<ReadIo, W>,
     owner: &mut Actor<ReadIo, W>,
@@ -205,7 +205,7 @@ fn push_one_by_one<W: World, T: Wait>(
 }
 
 /// Submits reads of so many blocks; whether each had a handle.
-fn submit_reads<W: World>(
+pub(super) fn submit_reads<W: World>(
     alloc: Global,
     table: &Table<ReadIo, W>,
     owner: &mut Actor<ReadIo, W>,

@@ -77,7 +77,7 @@ struct Run {
 }
 
 /// A reference of a generation that never comes.
-const STALE: WaitRef = WaitRef {
+pub(super) const STALE: WaitRef = WaitRef {
     handle: 3,
     generation: 1 << 60,
 };

@@ -1,0 +1,5 @@
+use Rattle.std.proofs.Common.{None}
+use Rattle.method_tests.proofs.worker.batches.a_batch_that_fits_is_left_to_workers.Given as goal
+
+abbrev pub ghosts-three_as_one : goal.ghosts-three_as_one
+ghosts-three_as_one g a = record { told = None; handles = 4; relations = 1 }
