@@ -135,8 +135,7 @@ impl<W: World> SubmitQueue<W> {
         }
     }
 
-    /// Puts the reference at the back, and wakes one worker that sleeps. It makes a system call only
-    /// where one sleeps.
+    /// Puts the reference at the back, and wakes one worker, where one sleeps.
     ///
     /// `QueueFull` comes only where at some moment of the call 64 entries stood in the queue; it
     /// gives the reference back, and nothing is changed.
@@ -223,8 +222,7 @@ impl<W: World> SubmitQueue<W> {
         Ok(())
     }
 
-    // Raises the bell, and wakes one worker or all, where some sleep. Entries stand before the bell
-    // is raised, and the count of sleepers is read after it.
+    // Raises the bell behind new entries, and then wakes one worker or all, where some sleep.
     fn wake(&self, seat: &mut QueueSeat, all: bool)
         requires queue { IsSeatOf self.now seat.old }
         ensures seat { seat.new ≡ seat.old }
