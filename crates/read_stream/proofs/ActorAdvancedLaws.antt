@@ -1,7 +1,6 @@
 -- How far an actor advances, call by call.
 use Rattle.std.proofs.Common.{◌≡◌, ◌≢◌, ℕ, List, [], ◌∷◌, ◌++◌, refl, sym, ap, ◌∙◌}
 use Rattle.std.proofs.Common.{arith, append_assoc, append-nil, subst}
-use Rattle.std.specs.Prelude.{Option, Some, None, IfSome, IfNone}
 use Rattle.aio_word.specs.declared.Kind.{Kind}
 use Rattle.aio_word.specs.declared.Kind.TheVariants as kind
 use Rattle.aio_word.specs.declared.Known.{Known}
@@ -20,7 +19,6 @@ use Rattle.aio_handle.specs.Execution.{ExecutesAll, CountersFollowMarks}
 use Rattle.aio_handle.specs.CallEvents.{EventMade, IsByOwner, WordLoaded}
 use Rattle.aio_handle.specs.LifeWords.{staged_word, unclaimed_word}
 use Rattle.aio_handle.specs.declared.record.Label.{Label}
-use Rattle.aio_handle.specs.ContractViews.{ActorView}
 use Rattle.aio_batch.specs.NextSubmission.{IsNextSubmission}
 use Rattle.aio_waitref.specs.WaitOutcomes.{WaitsAndTakes}
 use Rattle.read_stream.specs.ActorProgress.{AllClaimsCompleted, ActorAdvanced, MarkedSince}
@@ -213,23 +211,6 @@ advanced_submitting aim_in before after t p q a b d e n =
     (advanced_made event.Submit t.handle (staged_word t.generation) (unclaimed_word t.generation)
     (aim_in n.token.1) p n.between a d tt n.event_made)
     (advanced_taking_up n.between q a b d e n.begun)
-
--- or none was left to submit
-pub advanced_submitting_any : {R : Type 0} (aim_in : R → List ℕ) (before after : List (WaitRef × R))
-    (t : Option WaitRef) (p q : Known) (a b d e : ℕ)
-    → IfSome t (λ u. IsNextSubmission aim_in before after u p q a b d e)
-    → IfNone t ((q ≡ p) × (b ≡ a) × (e ≡ d)) → ActorAdvanced p q a b d e
-advanced_submitting_any aim_in before after (Some t) p q a b d e next none =
-    advanced_submitting aim_in before after t p q a b d e next
-advanced_submitting_any aim_in before after None p q a b d e next none =
-    rw (none.0, none.1, none.2) (advanced_nothing p a d)
-
-pub unsubmitted : (t : Option WaitRef) (was now : ActorView) (a b d e : ℕ) (F G H : Type 0)
-    → IfNone t (F × G × (now ≡ was) × H × (b ≡ a) × (e ≡ d))
-    → IfNone t ((now.known ≡ was.known) × (b ≡ a) × (e ≡ d))
-unsubmitted None was now a b d e F G H none =
-    (ap (λ (z : ActorView). z.known) none.2, none.4, none.5)
-unsubmitted (Some t) was now a b d e F G H none = tt
 
 -- a load
 pub advanced_looking : (h : ℕ) (w : Word) (p q : Known) (reads faults : ℕ) → WordLoaded h w p q

@@ -1,5 +1,5 @@
 -- What of a stream is unchanged where a part of it changes.
-use Rattle.std.proofs.Common.{◌≡◌, ℕ, ◌+◌, ◌<◌, ap, refl, ◌∙◌}
+use Rattle.std.proofs.Common.{◌≡◌, ℕ, ◌+◌, ◌<◌, refl, ◌∙◌}
 use Rattle.std.specs.Prelude.{Option, Some, None, IfSome}
 use Rattle.page_check.specs.Told.{Told}
 use Rattle.aio_word.specs.declared.Known.{Known}
@@ -23,16 +23,6 @@ same_stream_then a b d x y = record {
   source_was = y.source_was ∙ x.source_was;
   settings = y.settings ∙ x.settings;
 }
-
--- the same settings, one by one
-pub each_setting : (a b : Settings) → b ≡ a
-    → (b.combine ≡ a.combine) × (b.ios ≡ a.ios) × (b.limit ≡ a.limit) × (b.zero ≡ a.zero)
-each_setting a b e = (
-  ap (λ (z : Settings). z.combine) e,
-  ap (λ (z : Settings). z.ios) e,
-  ap (λ (z : Settings). z.limit) e,
-  ap (λ (z : Settings). z.zero) e,
-)
 
 pub same_stream_refl : {W S P : Type 0} (s : ReadStream W S P) → SameStream s s
 same_stream_refl s = record { desk = refl; scope = refl; source_was = refl; settings = refl }
