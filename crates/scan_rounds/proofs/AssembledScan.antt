@@ -1,7 +1,7 @@
 -- What was made of the parts of a new scan.
 use Rattle.std.proofs.Common.{◌≡◌, ℕ, ◌+◌, ◌-◌, ◌^◌, ◌<◌, ◌≤◌, List, [], length, map, refl, sym, ap}
 use Rattle.std.proofs.Common.{◌∙◌, subst, arith}
-use Rattle.std.specs.Prelude.{Option, IfSome, Bool, vec_capacity, is_some}
+use Rattle.std.specs.Prelude.{Option, IfSome, Bool, vec_capacity, is_some, cond}
 use Rattle.std.specs.List.{All}
 use Rattle.std.specs.Vec.Iter.{into_iter_items}
 use Rattle.page_check.specs.Told.{Told}
@@ -11,11 +11,8 @@ use Rattle.method_worker.specs.QueueViews.{SeatView, IsSeatOf}
 use Rattle.aio_disk.specs.declared.disk.Disk.{Ghosts as DiskGhosts}
 use Rattle.scan_rounds.specs.ListOptions.{list_options}
 use Rattle.scan_rounds.specs.OpenedScan.{AreValidScanSettings, GivesBackends, GivesWorkers}
-use Rattle.scan_rounds.specs.OpenedScan.{IsDeskFor}
-use Rattle.scan_rounds.specs.OpenedScan.{IsOpenedScan}
-use Rattle.scan_rounds.specs.OpenedScan.{config_of, has_rings, has_seats, rings_of_method}
-use Rattle.scan_rounds.specs.OpenedScan.{rings_of_settings, seats_of_method}
-use Rattle.scan_rounds.specs.OpenedScan.{seats_of_settings, workers_of_settings}
+use Rattle.scan_rounds.specs.OpenedScan.{IsDeskFor, IsOpenedScan, config_of, needs_of_method}
+use Rattle.scan_rounds.specs.OpenedScan.{rings_of_settings, seats_of_settings, workers_of_settings}
 use Rattle.scan_rounds.specs.Rings.{IsRingOf}
 use Rattle.scan_rounds.specs.Rounds.{IsLeastRoom, backend_disk_actor, worker_disk_actor}
 use Rattle.scan_rounds.specs.Scans.{IsScan, scan_disk_actors, scan_options, opened_disks}
@@ -27,10 +24,9 @@ use Rattle.scan_rounds.specs.declared.settings.ScanSettings.{ScanSettings}
 use Rattle.scan_rounds.proofs.PartsGiven.{desk_in, seat_in, disk_actors_more}
 use Rattle.scan_rounds.proofs.ListFront.{front_all, each_had}
 use Rattle.scan_rounds.proofs.NewDiskActors.{AreFresh, disk_actors_fresh, many_disk_actors}
-use Rattle.scan_rounds.proofs.NewDiskActors.{rooms_of_new}
-use Rattle.scan_rounds.proofs.NewDiskActors.{none_taken, paid_of_new, backends_of_new}
+use Rattle.scan_rounds.proofs.NewDiskActors.{rooms_of_new, none_taken, paid_of_new, backends_of_new}
 use Rattle.scan_rounds.proofs.NewDiskActors.{workers_of_new}
-use Rattle.scan_rounds.proofs.SeatsAndRings.{beside_workers, seated_by, ringed_by}
+use Rattle.scan_rounds.proofs.SeatsAndRings.{beside_workers, taken_by}
 
 same_options : {a b c d : Bool} → a ≡ b → c ≡ d → list_options a c ≡ list_options b d
 same_options same also = rw (same, also) refl
@@ -109,20 +105,18 @@ module _ {W D : Type 0} where
     all_desks = front_all (IsDeskFor settings) desk_in s.backends.items (into_iter_items p.desks)
         (into_iter_items q.desks) made.backends.desks made.desks
 
-    all_seated : All (λ (b : Backend W D). is_some b.seat ≡ has_seats settings.method)
-        s.backends.items
-    all_seated =
-        let many = made.backends_are in
-        seated_by settings.method settings.workers settings.tuples p q s.backends.items
-        made.backends
-        (made.seats_are ∙ ap (λ n. seats_of_method settings.method n settings.workers) (sym many))
+    all_seated : All (λ (b : Backend W D). is_some b.seat
+        ≡ (needs_of_method settings.method).queue) s.backends.items
+    all_seated = taken_by (λ (b : Backend W D). b.seat) s.backends.items _ _
+        (needs_of_method settings.method).queue (workers_of_settings settings) made.backends.seats
+        made.backends.seats_left (rw made.backends_are made.seats_are)
 
-    all_ringed : All (λ (b : Backend W D). is_some b.ring ≡ has_rings settings.method)
-        s.backends.items
-    all_ringed =
-        let many = made.backends_are in
-        ringed_by settings.method settings.tuples p q s.backends.items made.backends
-        (made.rings_are ∙ ap (λ n. rings_of_method settings.method n) (sym many))
+    all_ringed : All (λ (b : Backend W D). is_some b.ring
+        ≡ (needs_of_method settings.method).rings) s.backends.items
+    all_ringed = taken_by (λ (b : Backend W D). b.ring) s.backends.items _ _
+        (needs_of_method settings.method).rings 0 made.backends.rings made.backends.rings_left
+        (let many = made.backends_are in let none : length s.backends.items + 0
+        ≡ settings.backends = omega arith in rw none made.rings_are)
 
     module _ (m : DiskGhosts D) (told : Option Told) (relations : ℕ)
         (tell : All (λ d. (m.told d ≡ told) × (m.relations d ≡ relations)) (opened_disks s)) where
@@ -151,7 +145,8 @@ module _ {W D : Type 0} where
             all_backends = backends_of_new t (opened_disks s)
                 bs ws all_fresh m told relations tell s.shared.queue (omega (arith, backends))
                 (λ k b lt. (all_desks k b lt).free) all_seats.0
-                (λ some k b lt. all_seated k b lt ∙ beside_workers settings.method settings.workers
+                (λ some k b lt. all_seated k b lt ∙ beside_workers (needs_of_method settings.method).queue
+                (cond (needs_of_method settings.method).workers settings.workers 0)
                 (let runners = ap (λ (c : Config). c.runners) made.config in
                 omega (arith, some, runners))) all_rings;
             all_workers = workers_of_new t (opened_disks s) bs ws all_fresh m told relations tell

@@ -6,13 +6,12 @@ use Rattle.std.specs.List.{All}
 use Rattle.std.proofs.lemmas.List.Elements.{All-push, All-nil}
 use Rattle.page_check.specs.Told.{Told}
 use Rattle.page_check.specs.Verdict.{IsValid}
-use Rattle.page_check.specs.SynchronousAnswer.{reader_of, Ending as SaidEnding, End}
-use Rattle.page_check.specs.SynchronousAnswer.{Invalid, PastEnd, Unread}
+use Rattle.page_check.specs.SynchronousAnswer.{reader_of, Ending as SaidEnding, End, Invalid}
+use Rattle.page_check.specs.SynchronousAnswer.{PastEnd, Unread}
 use Rattle.page_check.specs.IsAnswer.{Next as Said, Page, Stop, IsAnswer, IsNext, IfPage}
 use Rattle.page_check.proofs.AnswersInOrder.{answered_none, answered_next}
 use Rattle.aio_handle.specs.ContractViews.{ActorView}
-use Rattle.read_stream.specs.StreamAnswers.{synchronous_answer}
-use Rattle.read_stream.specs.StreamAnswers.{pages_given, IfZeroed}
+use Rattle.read_stream.specs.StreamAnswers.{synchronous_answer, pages_given, IfZeroed}
 use Rattle.read_stream.specs.declared.answer.Next.{Next as StreamNext}
 use Rattle.read_stream.specs.StreamViews.{StreamView, IsSameStream, IsStreamAnswer, stream_after}
 use Rattle.scan_rounds.specs.Jobs.{answered_ending, job_ending}

@@ -1,9 +1,8 @@
 -- Disks beside the actors that they serve: what each has counted is what its actor has executed.
-use Rattle.std.proofs.Common.{◌≡◌, ℕ, zero, suc, ◌+◌, ◌<◌, ◌≤◌, List, [], ◌∷◌, drop}
-use Rattle.std.proofs.Common.{map, length, get_or, sum_by, Option, Some, refl, ap, subst}
-use Rattle.std.proofs.Common.{arith}
+use Rattle.std.proofs.Common.{◌≡◌, ℕ, zero, suc, ◌+◌, ◌<◌, ◌≤◌, List, [], ◌∷◌, drop, map, length}
+use Rattle.std.proofs.Common.{get_or, sum_by, Option, Some, refl, ap, arith}
 use Rattle.std.proofs.lemmas.List.Sums.{sum_by-cons}
-use Rattle.std.specs.List.{All}
+use Rattle.std.specs.List.{All, AllZip}
 use Rattle.page_check.specs.Told.{Told}
 use Rattle.aio_word.specs.declared.Known.{Known}
 use Rattle.aio_word.specs.Tokens.{io_mark_count, failed_mark_count}
@@ -11,7 +10,7 @@ use Rattle.aio_handle.specs.Execution.{CountersFollowMarks, last_count}
 use Rattle.aio_handle.specs.ContractViews.{TableView}
 use Rattle.aio_disk.specs.declared.disk.Disk.{Ghosts as DiskGhosts}
 use Rattle.scan_rounds.specs.DiskActors.{IsDiskActor}
-use Rattle.scan_rounds.specs.Scans.{AllDiskCountersFollowMarks, disk_of, known_lists}
+use Rattle.scan_rounds.specs.Scans.{DiskCountersFollowMarks, disk_of, known_lists}
 use Rattle.scan_rounds.specs.declared.disk_actor.DiskActor.{DiskActor}
 
 module _ {W D : Type 0} (m : DiskGhosts D) (told : Option Told) (relations : ℕ) where
@@ -24,30 +23,20 @@ module _ {W D : Type 0} (m : DiskGhosts D) (told : Option Told) (relations : ℕ
         → CountedBy os ds hs → CountedBy (o ∷ os) (d ∷ ds) (h ∷ hs)
 
   pub all-counted : (t : TableView) (os ds : List D) (hs : List (DiskActor W D))
-      → map Some ds ≡ map disk_of hs → AllDiskCountersFollowMarks m told relations os hs
+      → map Some ds ≡ map disk_of hs → AllZip (DiskCountersFollowMarks m) os hs
       → All (IsDiskActor m told relations t) hs → CountedBy os ds hs
   all-counted t [] [] [] are counters_are stand = none
   all-counted t (o ∷ os) (d ∷ ds) (h ∷ hs) are counters_are stand =
       let has : h.disk ≡ Some d = cc in
       let rest : map Some ds ≡ map disk_of hs = cc in
       let is = stand 0 h (omega arith) in
-      let first = counters_are.each 0 o h (omega arith) in
-      let is-d : is.disk ≡ d = (let e = is.held in cc) in
-      let first-d : first.disk ≡ d = (let e = first.held in cc) in
-      more o d h os ds hs
-      (subst
-      (λ (x : D). CountersFollowMarks (m.reads o) (m.reads x) (m.faults o)
-      (m.faults x) h.actor.known.marks)
-      first-d first.counters_follow)
-      (subst (λ (x : D). (m.told x ≡ told) × (m.relations x ≡ relations)) is-d is.tells)
-      (all-counted t os ds hs rest
-      record {
-        as_many = omega (arith, counters_are.as_many);
-        each = λ i x y lt. counters_are.each (suc i) x y (omega arith);
-      }
-      (λ k x lt. stand (suc k) x (omega arith)))
-  all-counted t [] ds (h ∷ hs) are counters_are stand = absurd (omega (arith, counters_are.as_many))
-  all-counted t (o ∷ os) ds [] are counters_are stand = absurd (omega (arith, counters_are.as_many))
+      let first = counters_are.0 in
+      let is-d : d ≡ is.disk = (let e = is.held in cc) in
+      let first-d : d ≡ first.disk = (let e = first.held in cc) in
+      more o d h os ds hs (rw first-d first.counters_follow) (rw is-d is.tells)
+      (all-counted t os ds hs rest counters_are.1 (λ k x lt. stand (suc k) x (omega arith)))
+  all-counted t [] ds (h ∷ hs) are counters_are stand = absurd counters_are
+  all-counted t (o ∷ os) ds [] are counters_are stand = absurd counters_are
   all-counted t [] (d ∷ ds) [] are counters_are stand = absurd (omega (arith, ap length are))
   all-counted t (o ∷ os) [] (h ∷ hs) are counters_are stand = absurd (omega (arith, ap length are))
 

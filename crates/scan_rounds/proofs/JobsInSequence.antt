@@ -1,10 +1,8 @@
--- Jobs that a backend does one after the other, and what a turn of all makes of a scan.
-use Rattle.std.proofs.Common.{◌≡◌, ℕ, zero, suc, ◌+◌, ◌*◌, ◌<◌, ◌≤◌, List, [], ◌∷◌, length}
-use Rattle.std.proofs.Common.{map, cond, Bool, true, false, refl, sym, ap, ◌∙◌, subst}
-use Rattle.std.proofs.Common.{arith}
-use Rattle.std.specs.Prelude.{slice_index_or, Option, ⊤}
+-- Jobs that a backend does one after the other.
+use Rattle.std.proofs.Common.{◌≡◌, ℕ, zero, suc, ◌+◌, ◌-◌, ◌*◌, ◌≤◌, List, [], ◌∷◌, length, cond}
+use Rattle.std.proofs.Common.{Bool, true, false, refl, sym, ap, ◌∙◌, subst, arith}
+use Rattle.std.specs.Prelude.{Option, ⊤}
 use Rattle.std.specs.List.{All}
-use Rattle.std.proofs.lemmas.List.{length-map}
 use Rattle.std.proofs.lemmas.List.Elements.{All-cons, All-nil, All-tail}
 use Rattle.std.proofs.lemmas.List.Sums.{sum_by-cons}
 use Rattle.std.proofs.lemmas.Grind.{div_ceil_times}
@@ -12,25 +10,22 @@ use Rattle.std.specs.Int.{div_ceil}
 use native.Mathlib.Nat.{mul-le-mul, add-mul}
 use mathlib.Core.Logic.{dite}
 use native.Mathlib.Decide.{dec_le}
+use Rattle.page_check.specs.SynchronousAnswer.{Entry, reader_of}
 use Rattle.page_check.specs.Told.{Told}
 use Rattle.aio_word.specs.Tokens.{failed_result_count}
 use Rattle.aio_handle.specs.ContractViews.{TableView}
 use Rattle.method_worker.specs.QueueViews.{QueueView}
-use Rattle.read_stream.specs.StreamAnswers.{MayBeUnread}
 use Rattle.aio_disk.specs.declared.disk.Disk.{Ghosts as DiskGhosts}
 use Rattle.scan_rounds.specs.DiskActors.{IsBackend, ActorHasRoom, backend_options}
-use Rattle.scan_rounds.specs.Jobs.{IsNewJob, JobIsListed, AllJobsAnswered, entries_of_job}
-use Rattle.scan_rounds.specs.Jobs.{is_unread}
+use Rattle.scan_rounds.specs.Jobs.{IsNewJob, JobIsListed, entries_of_job, is_unread}
 use Rattle.scan_rounds.specs.Jobs.{job_block_count}
 use Rattle.scan_rounds.specs.ListOptions.{ListOptions}
-use Rattle.scan_rounds.specs.Rounds.{AllActorsAdvanced, AllHaveOptions, backend_disk_actor}
 use Rattle.scan_rounds.specs.BlockFilter.{BlockFilter}
-use Rattle.scan_rounds.proofs.SharesInParallel.{answers_joined}
-use Rattle.scan_rounds.specs.Turns.{BackendDidJob, BackendsMayTakeTurn, BackendsTookTurn}
-use Rattle.scan_rounds.specs.Turns.{ListedAlone}
+use Rattle.scan_rounds.specs.Turns.{BackendDidJob, BackendsMayDoJobs, BackendsDidJobs, ListedAlone}
 use Rattle.scan_rounds.specs.declared.backend.Backend.{Backend}
 use Rattle.scan_rounds.specs.declared.job.Job.{Job}
-use Rattle.scan_rounds.proofs.RoundsCompose.{anyway, goes_at, goes_then, stays_put}
+use Rattle.scan_rounds.proofs.ActorsAdvance.{backend_stays, goes_then}
+use Rattle.scan_rounds.proofs.Blocks.{answer_wider}
 use Rattle.scan_rounds.proofs.LeastRoom.{fewer, left_after}
 use Rattle.read_stream.proofs.UnreadCauses.{results_more}
 use Rattle.scan_rounds.proofs.UnreadLeavesResult.{unread_counted}
@@ -60,6 +55,23 @@ share_fits share tasks takers some is =
           in let parts = add-mul tasks 1 takers in absurd (omega (arith, bounds.1)))),
     )
 
+-- whatever may be unread
+anyway : {block_filter : Option BlockFilter} {how : ListOptions} {told : Option Told}
+    {may : Entry (Unit {0}) → Type 0} (j k : Job) → JobIsListed block_filter how told may j k
+    → JobIsListed block_filter how told (λ _. ⊤) j k
+anyway {block_filter} {how} {told} {may} j k is = record {
+  same = is.same;
+  answer = record {
+    pages = is.answer.pages;
+    text_is = is.answer.text_is;
+    warnings_are = is.answer.warnings_are;
+    sums_are = is.answer.sums_are;
+    answers = answer_wider (reader_of how.zero told) may (λ _. ⊤) (entries_of_job block_filter j) _
+        (λ e may. tt) is.answer.answers;
+  };
+  no_warnings = is.no_warnings;
+}
+
 pub none_listed : {W D : Type 0} {told : Option Told} {block_filter : Option BlockFilter}
     (b : Backend W D) (js : List Job) → length js ≡ 0 → ListedAlone told block_filter b b js js
 none_listed b js none few = record {
@@ -69,49 +81,17 @@ none_listed b js none few = record {
 
 module _ {W D : Type 0} (m : DiskGhosts D) (told : Option Told) (relations : ℕ) (t : TableView)
     (q : QueueView) where
-  -- each has room for fewer, too
-  pub may_fewer : (share n : ℕ) (bs : List (Backend W D)) (js : List Job) → n ≤ share
-      → BackendsMayTakeTurn m told relations t q share bs js → BackendsMayTakeTurn m told relations
-      t q n bs js
-  may_fewer share n bs js le may = record {
-    backends = may.backends;
-    room = λ i d lt. fewer (64 * n) (64 * share) (slice_index_or bs i d).disk_actor.actor
-        (omega arith) (may.room i d lt);
-    fresh = may.fresh;
-  }
-
-  -- and more lives may be said
-  pub turned_more : {block_filter : Option BlockFilter} (n more : ℕ) (bs cs : List (Backend W D))
-      (js ks : List Job) → n ≤ more → BackendsTookTurn m told relations t q block_filter n bs cs js
-      ks
-      → BackendsTookTurn m told relations t q block_filter more bs cs js ks
-  turned_more n more bs cs js ks le is = record {
-    as_many = is.as_many;
-    jobs_are = is.jobs_are;
-    backends = is.backends;
-    advanced = is.advanced;
-    lives_bound = λ i d lt h. (let few = is.lives_bound i d lt h in omega arith);
-    options_same = is.options_same;
-    results_bound = is.results_bound;
-    unread = is.unread;
-    answered = is.answered;
-  }
-
   -- no job
-  pub none_done : {block_filter : Option BlockFilter} (b : Backend W D) (js : List Job)
-      → length js ≡ 0 → BackendsMayTakeTurn m told relations t q (length js) (b ∷ []) js
-      → BackendsTookTurn m told relations t q block_filter (64 * length js) (b ∷ []) (b ∷ []) js js
-  none_done b (j ∷ js) none may = absurd (omega arith)
-  none_done b [] none may = record {
-    as_many = refl;
+  pub none_done : {block_filter : Option BlockFilter} (most : ℕ) (b : Backend W D)
+      (js : List Job) → length js ≡ 0 → IsBackend m told relations t q b
+      → BackendsDidJobs m told relations t q block_filter most (b ∷ []) (b ∷ []) js js
+  none_done most b (j ∷ js) none is = absurd (omega arith)
+  none_done most b [] none is = record {
+    backends = (backend_stays m told relations t q most b is, tt);
     jobs_are = refl;
-    backends = may.backends;
-    advanced = λ i d lt. stays_put m told relations t _ (may.backends i d lt).disk_actor;
-    lives_bound = λ i d lt h. omega arith;
-    options_same = λ i d lt. refl;
     results_bound = omega arith;
     unread = omega arith;
-    answered = λ how all. record { as_many = refl; each = λ i j lt. absurd (omega arith) };
+    answered = λ how all. tt;
   }
 
   module _ {block_filter : Option BlockFilter} (b c : Backend W D) (j l : Job)
@@ -121,8 +101,9 @@ module _ {W D : Type 0} (m : DiskGhosts D) (told : Option Told) (relations : ℕ
         ≤ failed_result_count c.disk_actor.actor.known.marks
     failed_more true is = unread_counted _ told _ _ _ _ did.listed is
     failed_more false is =
-        let more = results_more b.disk_actor.actor.known.marks did.advanced.more in
-        let same = ap failed_result_count did.advanced.marks in omega arith
+        let went = did.backend.advanced in
+        let more = results_more b.disk_actor.actor.known.marks went.more in
+        let same = ap failed_result_count went.marks in omega arith
 
     -- a job, and none behind it
     pub one_alone : (d : Backend W D) (js ls : List Job) → (length js ≡ 0 → d ≡ c)
@@ -130,93 +111,61 @@ module _ {W D : Type 0} (m : DiskGhosts D) (told : Option Told) (relations : ℕ
     one_alone d js ls unmoved same few = record {
       jobs_are = omega arith;
       each = elim [
-        | zero ↦ λ e k lt. subst (λ (x : Backend W D). JobIsListed block_filter (backend_options b)
-            told (MayBeUnread b.disk_actor.actor x.disk_actor.actor.known) j l)
-            (sym (unmoved (omega arith))) did.listed
+        | zero ↦ λ e k lt. rw (unmoved (omega arith)) did.listed
         | suc i ↦ λ e k lt. absurd (omega arith)
       ];
     }
 
     -- what is left of the backend's room
-    pub may_later : (n : ℕ) (js : List Job) → ActorHasRoom (64 * (n + 1)) b.disk_actor.actor
-        → b.disk_actor.actor.known.number < b.disk_actor.actor.known.config.backends
-        → All (IsNewJob relations) js → BackendsMayTakeTurn m told relations t q n (c ∷ []) js
-    may_later n js has backend fresh =
-        let room = left_after 64 (64 * n) b.disk_actor.actor c.disk_actor.actor did.advanced.same
-        backend (fewer (64 + 64 * n) (64 * (n + 1)) b.disk_actor.actor (omega arith) has)
-        did.lives_bound in
+    pub may_later : (share : ℕ) (js : List Job) → 1 ≤ share
+        → BackendsMayDoJobs m told relations t q share (b ∷ []) (j ∷ js)
+        → BackendsMayDoJobs m told relations t q (share - 1) (c ∷ []) js
+    may_later share js some may =
+        let went = did.backend in
+        let room = left_after 64 (64 * (share - 1)) b.disk_actor.actor c.disk_actor.actor
+        went.advanced.same (may.backends 0 b (omega arith)).backend
+        (fewer (64 + 64 * (share - 1)) (64 * share) b.disk_actor.actor (omega arith)
+        (may.room 0 b (omega arith))) went.lives_bound in
         record {
-          backends = All-cons (IsBackend m told relations t q) c [] did.is
+          backends = All-cons (IsBackend m told relations t q) c [] went.is
               (All-nil (IsBackend m told relations t q));
-          room = All-cons (λ (x : Backend W D). ActorHasRoom (64 * n) x.disk_actor.actor) c [] room
-              (All-nil (λ (x : Backend W D). ActorHasRoom (64 * n) x.disk_actor.actor));
-          fresh = fresh;
+          room = All-cons (λ (x : Backend W D). ActorHasRoom (64 * (share - 1))
+              x.disk_actor.actor) c [] room
+              (All-nil (λ (x : Backend W D). ActorHasRoom (64 * (share - 1)) x.disk_actor.actor));
+          fresh = All-tail (IsNewJob relations) j js may.fresh;
         }
 
     -- a job, and then the others
-    pub one_then : (n : ℕ) (d : Backend W D) (js ls : List Job)
-        → BackendsTookTurn m told relations t q block_filter n (c ∷ []) (d ∷ []) js ls
-        → BackendsTookTurn m told relations t q block_filter (n + 64) (b ∷ []) (d ∷ []) (j ∷ js) (l
-        ∷ ls)
-    one_then n d js ls is = record {
-      as_many = refl;
-      jobs_are = omega (arith, is.jobs_are);
-      backends = is.backends;
-      advanced = elim [
-        | zero ↦ λ e lt. goes_then m told relations t _ _ _ did.advanced
-            (is.advanced 0 c (omega arith))
-        | suc i ↦ λ e lt. absurd (omega arith)
-      ];
-      lives_bound = elim [
-        | zero ↦ λ e lt h. (let x = did.lives_bound h in let y = is.lives_bound 0 c (omega arith) h in
-            omega arith)
-        | suc i ↦ λ e lt h. absurd (omega arith)
-      ];
-      options_same = elim [
-        | zero ↦ λ e lt. is.options_same 0 c (omega arith) ∙ did.options_same
-        | suc i ↦ λ e lt. absurd (omega arith)
-      ];
-      results_bound = (let x = is.results_bound in let y = did.results_bound in
-          let w : Job → ℕ = λ k. length (entries_of_job block_filter k) in
-          let z = sum_by-cons w j js in omega arith);
-      unread = (let x = is.unread in let y = failed_more (is_unread l.ending) refl in
-          let w : Job → ℕ = λ k. cond (is_unread k.ending) 1 0 in
-          let z = sum_by-cons w l ls in omega arith);
-      answered = λ how all. answers_joined block_filter how told (j ∷ []) js (l ∷ []) ls
-          (one_answered how (all 0 b (omega arith)))
-          (is.answered how (All-cons (λ (x : Backend W D). backend_options x ≡ how) c []
-          (did.options_same ∙ all 0 b (omega arith))
-          (All-nil (λ (x : Backend W D). backend_options x ≡ how))));
-    }
-      where
-        one_answered : (how : ListOptions) → backend_options b ≡ how
-            → AllJobsAnswered block_filter how told (j ∷ []) (l ∷ [])
-        one_answered how same = record {
-          as_many = refl;
-          each = elim [
-            | zero ↦ λ k lt. subst (λ (n : ListOptions). JobIsListed block_filter n told (λ _. ⊤) j
-                l)
-                same (anyway (backend_options b) told _ j l did.listed)
-            | suc i ↦ λ k lt. absurd (omega arith)
-          ];
+    pub one_then : (less most : ℕ) (d : Backend W D) (js ls : List Job) → less + 64 ≤ most
+        → BackendsDidJobs m told relations t q block_filter less (c ∷ []) (d ∷ []) js ls
+        → BackendsDidJobs m told relations t q block_filter most (b ∷ []) (d ∷ []) (j ∷ js)
+        (l ∷ ls)
+    one_then less most d js ls enough is =
+        let went = did.backend in
+        let on = is.backends.0 in
+        record {
+          backends = (
+            record {
+              is = on.is;
+              advanced = goes_then m told relations t _ _ _ went.advanced on.advanced;
+              lives_bound = λ h. (let x = went.lives_bound h in let y = on.lives_bound h in
+                  omega arith);
+              options_same = on.options_same ∙ went.options_same;
+            },
+            tt,
+          );
+          jobs_are = omega (arith, is.jobs_are);
+          results_bound = (let w : Job → ℕ = λ k. length (entries_of_job block_filter k) in
+              omega (arith, is.results_bound, did.results_bound, sum_by-cons w j js));
+          unread = (let more = failed_more (is_unread l.ending) refl in
+              let w : Job → ℕ = λ k. cond (is_unread k.ending) 1 0 in
+              omega (arith, is.unread, more, sum_by-cons w l ls));
+          answered = λ how all.
+              (let same = all 0 b (omega arith) in (
+                subst (λ (n : ListOptions). JobIsListed block_filter n told (λ _. ⊤) j l) same
+                    (anyway j l did.listed),
+                is.answered how (All-cons (λ (x : Backend W D). backend_options x ≡ how) c []
+                    (went.options_same ∙ same)
+                    (All-nil (λ (x : Backend W D). backend_options x ≡ how))),
+              ));
         }
-
-  -- all actors with their disks, after a turn
-  pub all_gone_on : {block_filter : Option BlockFilter} (more : ℕ) (bs cs : List (Backend W D))
-      (js ks : List Job) → BackendsTookTurn m told relations t q block_filter more bs cs js ks
-      → AllActorsAdvanced m told relations t (map backend_disk_actor bs) (map backend_disk_actor cs)
-  all_gone_on more bs cs js ks is = record {
-    as_many = length-map cs backend_disk_actor ∙ (is.as_many
-        ∙ sym (length-map bs backend_disk_actor));
-    each = λ i d lt.
-        (let inside : i < length bs = omega (arith, length-map bs backend_disk_actor) in
-        goes_at m told relations t bs cs i d inside (omega (arith, is.as_many))
-        (λ e. is.advanced i e inside));
-  }
-
-  pub all_have_options : {block_filter : Option BlockFilter} (more : ℕ) (bs cs : List (Backend W D))
-      (js ks : List Job) → BackendsTookTurn m told relations t q block_filter more bs cs js ks
-      → (how : ListOptions) → AllHaveOptions how bs → AllHaveOptions how cs
-  all_have_options more bs cs js ks is how all i d lt =
-      let inside : i < length bs = omega (arith, is.as_many) in
-      is.options_same i d inside ∙ all i d inside

@@ -1,7 +1,6 @@
 -- The room that backends have.
-use Rattle.std.proofs.Common.{◌≡◌, ◌⊎◌, inl, inr, ℕ, zero, suc, ◌+◌, ◌-◌, ◌^◌, ◌<◌, ◌≤◌}
-use Rattle.std.proofs.Common.{List, [], ◌∷◌, length, get_or, take, min, sym, ap, ◌∙◌, subst, arith}
-use Rattle.std.specs.List.{All}
+use Rattle.std.proofs.Common.{◌≡◌, ◌⊎◌, inl, inr, ℕ, zero, suc, ◌+◌, ◌-◌, ◌^◌, ◌<◌, ◌≤◌, List, []}
+use Rattle.std.proofs.Common.{◌∷◌, length, get_or, take, min, sym, ap, ◌∙◌, subst, arith}
 use Rattle.std.specs.Prelude.{slice_index_or}
 use Rattle.std.proofs.Math.Nat.{min-le_left, min-le_right, min-eq_left, le-min}
 use Rattle.std.proofs.lemmas.List.{get_or-take, length-take, get_or_default}
@@ -20,22 +19,6 @@ use Rattle.scan_rounds.specs.declared.backend.Backend.{Backend}
 
 pub fewer : (n m : ℕ) (a : ActorView) → n ≤ m → ActorHasRoom m a → ActorHasRoom n a
 fewer n m a le has = (has.0, has.1, omega (arith, has.2))
-
--- the room falls by no more than the lives that ended
-pub falls : (most : ℕ) (a b : ActorView) (n k : ℕ) → IsSameActor a b
-    → a.known.number < a.known.config.backends → ActorHasRoom n a → ActorHasRoom k b
-    → ((h : ℕ) → lives_ended h b.known.marks ≤ lives_ended h a.known.marks + most)
-    → (room : ℕ) × IsRoom b.known.config b.known room × (n ≤ room + most)
-falls most a b n k same backend before after lived =
-    let c : b.known.config ≡ a.known.config = same.1 in
-    let is : IsRoom a.known.config b.known after.0 =
-    subst (λ (x : Config). IsRoom x b.known after.0) c after.1 in
-    let still : b.known.number < a.known.config.backends = rw same.2 backend in
-    let e = is.exact still in
-    let own : a.known.number ≡ _ = sym same.2 ∙ e.2 in
-    let f = before.1.for_each e.0 e.1 own in
-    let more = lived e.0 in
-    (after.0, after.1, omega (arith, before.2, e.3))
 
 -- the number below n, of those that a owns, at which f is greatest
 abbrev Greatest : (ℕ → ℕ) → (ℕ → ℕ) → ℕ → ℕ → Type 0
@@ -91,6 +74,11 @@ greatest_below f own a (suc n) =
       λ j lt.
           last_or (λ x. a ≡ own x → f x ≤ f g.0) j lt (λ is. absurd (other is)) (g.3 j),
     )
+
+-- the same backend, some lives later
+abbrev pub LivesEnded : ℕ → ActorView → ActorView → Type 0
+LivesEnded most a b = IsSameActor a b × (a.known.number < a.known.config.backends)
+    × ((h : ℕ) → lives_ended h b.known.marks ≤ lives_ended h a.known.marks + most)
 
 -- what is left after lives that ended
 pub left_after : (most n : ℕ) (a b : ActorView) → IsSameActor a b
@@ -191,21 +179,18 @@ module _ {W D : Type 0} where
   least_is least [] some small have greatest = absurd (omega arith)
 
   -- after lives that ended in each
-  pub least_falls : (most : ℕ) (bs fs : List (Backend W D)) (n k : ℕ) → length fs ≡ length bs
+  pub left_room : (most n k : ℕ) (bs cs : List (Backend W D)) → length cs ≡ length bs
       → ((i : ℕ) (d : Backend W D) → i < length bs
-      → IsSameActor (slice_index_or bs i d).disk_actor.actor
-      (slice_index_or fs i d).disk_actor.actor) → All
-      (λ (b : Backend W D). b.disk_actor.actor.known.number
-      < b.disk_actor.actor.known.config.backends) bs
-      → ((i : ℕ) (d : Backend W D) → i < length bs → (h : ℕ)
-      → lives_ended h (slice_index_or fs i d).disk_actor.actor.known.marks
-      ≤ lives_ended h (slice_index_or bs i d).disk_actor.actor.known.marks + most)
-      → AllBackendsHaveRoom n bs
-      → IsLeastRoom fs k → n ≤ k + most
-  least_falls most bs fs n k same each backend lived before after =
-      let fewer : AllBackendsHaveRoom (n - most) fs = λ i d lt.
+      → LivesEnded most (slice_index_or bs i d).disk_actor.actor
+      (slice_index_or cs i d).disk_actor.actor)
+      → AllBackendsHaveRoom n bs → IsLeastRoom cs k → n ≤ k + most
+  left_room most n k bs cs same went before after = dite (dec_le n most) (λ le. omega arith)
+      (λ more.
+      let rooms : AllBackendsHaveRoom (n - most) cs = λ i d lt.
       (let inside : i < length bs = omega (arith, same) in
-      let one = falls most _ _ n k (each i d inside) (backend i d inside) (before i d inside)
-      (after.all_have_room i d lt) (lived i d inside) in
-      (one.0, one.1, omega (arith, one.2))) in
-      let le = after.greatest (n - most) fewer in omega arith
+      let (still, backend, lived) = went i d inside in
+      left_after most (n - most) (slice_index_or bs i d).disk_actor.actor
+      (slice_index_or cs i d).disk_actor.actor still backend
+      (fewer (most + (n - most)) n (slice_index_or bs i d).disk_actor.actor (omega arith)
+      (before i d inside)) lived) in
+      let le = after.greatest (n - most) rooms in omega arith)

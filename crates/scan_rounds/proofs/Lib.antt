@@ -8,9 +8,11 @@ pub mod JobListed
 mod WorkerAtRest
 mod UnreadLeavesResult
 mod LeastRoom
+mod ListPairs
+mod ActorsAdvance
 mod CountRaised
 pub mod Sums
-pub mod RoundsCompose
+mod RoundsCompose
 mod QueueClosed
 mod ScanAfterRounds
 mod SharesInParallel

@@ -2,7 +2,7 @@
 use Rattle.std.proofs.Common.{◌≡◌, ℕ, ◌+◌, ◌-◌, ◌*◌, ◌^◌, ◌<◌, ◌≤◌, List, [], ◌++◌, length, map}
 use Rattle.std.proofs.Common.{refl, sym, ap, ◌∙◌, subst, arith, length-append, zero}
 use Rattle.std.specs.Prelude.{Option, Some, IfSome, is_some, slice_index_or, true}
-use Rattle.std.specs.List.{All}
+use Rattle.std.specs.List.{All, AllZip}
 use Rattle.std.specs.Vec.Iter.{into_iter_items}
 use Rattle.std.proofs.Math.Nat.{mul-lt-mul_of_pos_right, mul-div_cancel}
 use Rattle.std.proofs.lemmas.List.{get_or-append-add, get_or-map, length-map}
@@ -22,13 +22,14 @@ use Rattle.scan_rounds.specs.OpenedScan.{GivesDiskActors}
 use Rattle.scan_rounds.specs.Rings.{IsRingOf}
 use Rattle.scan_rounds.specs.Rounds.{IsLeastRoom, backend_disk_actor, worker_disk_actor}
 use Rattle.scan_rounds.specs.Rounds.{results_taken_count}
-use Rattle.scan_rounds.specs.Scans.{AllDiskCountersFollowMarks, actor_of, disk_of}
+use Rattle.scan_rounds.specs.Scans.{DiskCountersFollowMarks, actor_of, disk_of}
 use Rattle.scan_rounds.specs.declared.backend.Backend.{Backend}
 use Rattle.scan_rounds.specs.declared.disk_actor.DiskActor.{DiskActor}
 use Rattle.scan_rounds.specs.declared.open.Parts.{Parts}
 use Rattle.scan_rounds.specs.declared.worker.Worker.{Worker}
 use Rattle.scan_rounds.proofs.PartsGiven.{actors_left, disks_left}
 use Rattle.scan_rounds.proofs.ListFront.{front, one_there}
+use Rattle.scan_rounds.proofs.ListPairs.{zip-each}
 
 abbrev pub fresh : TableView → ℕ → ActorView
 fresh t k = record { table = t.table; known = initial_known t.config k }
@@ -154,19 +155,15 @@ module _ {W D : Type 0} where
         omega (arith, none))) in omega (arith, least)
 
     module _ (m : DiskGhosts D) (told : Option Told) (relations : ℕ) where
-      pub paid_of_new : length ds ≡ length all → AllDiskCountersFollowMarks m told relations ds all
-      paid_of_new many = record {
-        as_many = many;
-        each = λ i o h lt. record {
-          disk = slice_index_or ds i o;
-          held = new.disks i o h lt;
-          counters_follow = subst (λ ms. CountersFollowMarks (m.reads (slice_index_or ds i o))
-              (m.reads (slice_index_or ds i o)) (m.faults (slice_index_or ds i o))
-              (m.faults (slice_index_or ds i o)) ms)
-              (sym (ap (λ (x : ActorView). x.known.marks) (new.actors i h lt)))
-              (pays_nothing _ _);
-        };
-      }
+      pub paid_of_new : length ds ≡ length all → AllZip (DiskCountersFollowMarks m) ds all
+      paid_of_new many = zip-each (DiskCountersFollowMarks m) ds all (sym many) (λ i o h lt.
+          (let inside : i < length all = omega (arith, many) in
+          record {
+            disk = slice_index_or ds i o;
+            held = new.disks i o h inside;
+            counters_follow = rw (ap (λ (x : ActorView). x.known.marks) (new.actors i h inside))
+                (pays_nothing _ _);
+          }))
 
       module _ (tell : All (λ d. (m.told d ≡ told) × (m.relations d ≡ relations)) ds) where
         disk_actor_at : (k : ℕ) (h : DiskActor W D) → k < length all

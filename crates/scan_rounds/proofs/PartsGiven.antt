@@ -1,21 +1,18 @@
 -- The parts of backends and workers, and what was made of them.
 use Rattle.std.proofs.Common.{◌≡◌, ℕ, ◌+◌, ◌-◌, ◌≤◌, List, [], ◌∷◌, ◌++◌, length, map, refl, sym}
 use Rattle.std.proofs.Common.{ap, ◌∙◌, subst, arith, append_assoc, length-append}
-use Rattle.std.specs.Prelude.{Option, Some, None, option_to_list}
-use Rattle.std.specs.Prelude.{Bool, is_some, true, false}
-use Rattle.std.specs.List.{flat_map}
+use Rattle.std.specs.Prelude.{Option, Some, None, option_to_list, Bool, is_some, true, false}
+use Rattle.std.specs.List.{flat_map, All}
 use Rattle.std.specs.Vec.Iter.{into_iter_items}
 use Rattle.std.proofs.lemmas.Grind.{flat_map-append}
 use Rattle.std.proofs.lemmas.List.{map-append, length-map}
-use Rattle.std.specs.List.{All}
 use Rattle.std.proofs.lemmas.List.Elements.{All-append, All-cons, All-nil}
 use Rattle.method_worker.specs.QueueViews.{SeatView}
 use Rattle.read_stream.specs.Desks.{IsFreeDesk, desk_settings}
 use Rattle.read_stream.specs.declared.desk.Desk.{Desk}
 use Rattle.read_stream.specs.declared.desk.Settings.{Settings}
 use Rattle.scan_rounds.specs.OpenedScan.{AreStreamSettings, GivesDiskActors, GivesBackends}
-use Rattle.scan_rounds.specs.OpenedScan.{GivesWorkers}
-use Rattle.scan_rounds.specs.OpenedScan.{IsDeskFor}
+use Rattle.scan_rounds.specs.OpenedScan.{GivesWorkers, IsDeskFor}
 use Rattle.scan_rounds.specs.Rounds.{backend_disk_actor, worker_disk_actor}
 use Rattle.scan_rounds.specs.Scans.{actor_of, disk_of}
 use Rattle.scan_rounds.specs.declared.backend.Backend.{Backend}

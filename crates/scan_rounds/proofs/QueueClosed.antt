@@ -1,87 +1,115 @@
 -- The first backend has closed the queue.
-use Rattle.std.proofs.Common.{◌≡◌, ℕ, zero, suc, ◌+◌, ◌<◌, List, [], ◌∷◌, map, sum_by}
-use Rattle.std.proofs.Common.{sym, ap, ◌∙◌, subst, arith}
-use Rattle.std.specs.Prelude.{Bool, Option, IfSome, is_some, slice_index_or, slice_set}
-use Rattle.std.proofs.lemmas.List.Sums.{sum_by-cons}
+use Rattle.std.proofs.Common.{◌≡◌, ℕ, ◌<◌, ◌≤◌, List, [], ◌∷◌, length, map, sum_by, sym, ap, ◌∙◌}
+use Rattle.std.proofs.Common.{refl, subst, arith}
+use Rattle.std.specs.Prelude.{Option, IfSome, is_some, slice_index_or, slice_set, Bool}
 use Rattle.std.specs.List.{All}
+use Rattle.std.proofs.lemmas.List.{get_or-map, length-map}
+use Rattle.std.proofs.lemmas.List.Elements.{All-set}
 use Rattle.page_check.specs.Told.{Told}
 use Rattle.aio_handle.specs.ContractViews.{TableView}
 use Rattle.aio_word.specs.Tokens.{failed_result_count}
 use Rattle.method_worker.specs.QueueViews.{QueueView, IsSeatOf}
+use Rattle.read_stream.specs.ActorProgress.{local_mark_count}
+use Rattle.read_stream.specs.StreamAnswers.{MayBeUnread}
 use Rattle.aio_disk.specs.declared.disk.Disk.{Ghosts as DiskGhosts}
-use Rattle.scan_rounds.specs.DiskActors.{IsBackend, IsDiskActor}
-use Rattle.scan_rounds.specs.DiskActors.{ActorHasRoom, backend_options}
-use Rattle.scan_rounds.specs.Progress.{BackendsAreReady}
-use Rattle.scan_rounds.specs.Rings.{IsRingOf}
+use Rattle.scan_rounds.specs.BlockFilter.{BlockFilter}
+use Rattle.scan_rounds.specs.DiskActors.{ActorHasRoom, IsBackend, backend_options}
+use Rattle.scan_rounds.specs.Jobs.{JobIsListed}
+use Rattle.scan_rounds.specs.JobSources.{JobSourceAdvanced}
 use Rattle.scan_rounds.specs.ListOptions.{ListOptions, list_options}
-use Rattle.scan_rounds.specs.Rounds.{AllBackendsHaveRoom, IsLeastRoom, AllHaveOptions}
-use Rattle.scan_rounds.specs.Rounds.{backend_disk_actor}
-use Rattle.scan_rounds.specs.Rounds.{failed_results_taken}
-use Rattle.read_stream.specs.Desks.{IsFreeDesk}
+use Rattle.scan_rounds.specs.Progress.{BackendsAreReady, TurnTaken}
+use Rattle.scan_rounds.specs.Rounds.{AllHaveOptions, AllJobsListed, IsLeastRoom, backend_disk_actor}
+use Rattle.scan_rounds.specs.Rounds.{failed_results_taken, results_taken_count}
 use Rattle.read_stream.specs.declared.desk.Desk.{Desk}
-use Rattle.scan_rounds.specs.declared.disk_actor.DiskActor.{DiskActor}
 use Rattle.scan_rounds.specs.declared.backend.Backend.{Backend}
-use Rattle.scan_rounds.specs.declared.rounds.Counts.{Counts}
+use Rattle.scan_rounds.specs.declared.counts.Counts.{Counts}
+use Rattle.scan_rounds.specs.declared.disk_actor.DiskActor.{DiskActor}
+use Rattle.scan_rounds.specs.declared.job.Job.{Job}
+use Rattle.scan_rounds.specs.declared.job_source.JobSource.{Ghosts as JobSourceGhosts}
+use Rattle.scan_rounds.proofs.Sums.{sum-mapped}
 
--- a backend with the same desk lists with the same options
+-- backends with the same actors and disks
 module _ {W D : Type 0} where
-  same_options : (b c : Backend W D) → c.desk ≡ b.desk → c.tuples ≡ b.tuples
-      → backend_options c ≡ backend_options b
-  same_options b c desk tuples =
-      ap (λ (x : Desk W (Unit {0})). list_options x.settings.zero c.tuples) desk
-      ∙ ap (λ (x : Bool). list_options b.desk.settings.zero x) tuples
+  abbrev SameActors : List (Backend W D) → List (Backend W D) → Type 0
+  SameActors cs ds = map backend_disk_actor ds ≡ map backend_disk_actor cs
 
-  first_lists : (how : ListOptions) (a c : Backend W D) (bs : List (Backend W D))
-      → backend_options c ≡ backend_options a → AllHaveOptions how (a ∷ bs)
-      → AllHaveOptions how (c ∷ bs)
-  first_lists how a c bs same all zero d lt = same ∙ all 0 d (omega arith)
-  first_lists how a c bs same all (suc i) d lt = all (suc i) d lt
+  many_as : (cs ds : List (Backend W D)) → SameActors cs ds → length ds ≡ length cs
+  many_as cs ds same = sym (length-map ds backend_disk_actor)
+      ∙ (ap length same ∙ length-map cs backend_disk_actor)
 
-  pub options_closed : (bs : List (Backend W D)) (b c : Backend W D)
-      → b ≡ slice_index_or bs 0 b → c.desk ≡ b.desk → c.tuples ≡ b.tuples → (how : ListOptions)
+  actor_as : (cs ds : List (Backend W D)) → SameActors cs ds → (i : ℕ) (d : Backend W D)
+      → i < length cs → (slice_index_or cs i d).disk_actor ≡ (slice_index_or ds i d).disk_actor
+  actor_as cs ds same i d lt =
+      let inside : i < length ds = omega (arith, many_as cs ds same) in
+      sym (get_or-map backend_disk_actor cs i d d.disk_actor lt)
+      ∙ (ap (λ (hs : List (DiskActor W D)). slice_index_or hs i d.disk_actor) (sym same)
+      ∙ get_or-map backend_disk_actor ds i d d.disk_actor inside)
+
+  sum_as : (f : DiskActor W D → ℕ) (cs ds : List (Backend W D)) → SameActors cs ds
+      → sum_by (λ (b : Backend W D). f b.disk_actor) ds
+      ≡ sum_by (λ (b : Backend W D). f b.disk_actor) cs
+  sum_as f cs ds same = sym (sum-mapped f backend_disk_actor ds)
+      ∙ (ap (sum_by f) same ∙ sum-mapped f backend_disk_actor cs)
+
+  all_as : (P : DiskActor W D → Type 0) (cs ds : List (Backend W D)) → SameActors cs ds
+      → All (λ (b : Backend W D). P b.disk_actor) cs
+      → All (λ (b : Backend W D). P b.disk_actor) ds
+  all_as P cs ds same all i d lt =
+      let inside : i < length cs = omega (arith, many_as cs ds same) in
+      subst P (actor_as cs ds same i d inside) (all i d inside)
+
+  least_as : (cs ds : List (Backend W D)) (room : ℕ) → SameActors cs ds → IsLeastRoom cs room
+      → IsLeastRoom ds room
+  least_as cs ds room same least = record {
+    all_have_room = all_as (λ (h : DiskActor W D). ActorHasRoom room h.actor) cs ds same least.all_have_room;
+    greatest = λ n have. least.greatest n
+        (all_as (λ (h : DiskActor W D). ActorHasRoom n h.actor) ds cs (sym same) have);
+  }
+
+  -- what may be unread of what they have listed is the same
+  listed_as : (block_filter : Option BlockFilter) (how : ListOptions) (told : Option Told)
+      (bs cs ds : List (Backend W D)) (js ks : List Job) → length js ≤ length cs
+      → SameActors cs ds → AllJobsListed block_filter how told bs cs js ks
+      → AllJobsListed block_filter how told bs ds js ks
+  listed_as block_filter how told bs cs ds js ks few same is = record {
+    jobs_are = is.jobs_are;
+    each = λ i d j lt.
+        subst (λ (h : DiskActor W D). JobIsListed block_filter how told
+        (MayBeUnread (slice_index_or bs i d).disk_actor.actor h.actor.known)
+        (slice_index_or js i j) (slice_index_or ks i j)) (actor_as cs ds same i d (omega arith))
+        (is.each i d j lt);
+  }
+
+  -- the first of them, which lists with the same options
+  pub first_options : (bs : List (Backend W D)) (b c : Backend W D) → b ≡ slice_index_or bs 0 b
+      → 1 ≤ length bs → c.desk ≡ b.desk → c.tuples ≡ b.tuples → (how : ListOptions)
       → AllHaveOptions how bs → AllHaveOptions how (slice_set bs 0 c)
-  options_closed [] b c is desk tuples how all = all
-  options_closed (a ∷ bs) b c is desk tuples how all =
-      let was : b ≡ a = is in
-      first_lists how a c bs (same_options b c desk tuples
-      ∙ ap (λ (x : Backend W D). backend_options x) was) all
+  first_options bs b c is some desk tuples how all =
+      let same = ap (λ (x : Desk W (Unit {0})). list_options x.settings.zero c.tuples) desk
+      ∙ ap (λ (x : Bool). list_options b.desk.settings.zero x) tuples in
+      All-set (λ (x : Backend W D). backend_options x ≡ how) bs 0 c
+      (same ∙ (ap (λ (x : Backend W D). backend_options x) is ∙ all 0 b some)) all
 
--- the job of a backend, and its seat, are no part of what it has counted
-same_waiting : {W D : Type 0} (m : DiskGhosts D) (told : Option Told) (relations : ℕ)
-    (t : TableView) (q : QueueView) (b c : Backend W D) → c.disk_actor ≡ b.disk_actor
-    → c.desk ≡ b.desk → c.ring ≡ b.ring → IfSome c.seat (IsSeatOf q)
-    → is_some c.seat ≡ is_some b.seat → IsBackend m told relations t q b
-    → IsBackend m told relations t q c
-same_waiting m told relations t q b c disk_actor desk ring seat kept is = record {
-  disk_actor = subst (λ (h : DiskActor _ _). IsDiskActor m told relations t h) (sym disk_actor)
-      is.disk_actor;
-  backend = subst (λ (h : DiskActor _ _). h.actor.known.number < h.actor.known.config.backends)
-      (sym disk_actor) is.backend;
-  desk = subst (λ d. IsFreeDesk d) (sym desk) is.desk;
-  seat = seat;
-  has_seat = λ some. kept ∙ is.has_seat some;
-  ring = subst (λ r. IfSome r (IsRingOf q)) (sym ring) is.ring;
-}
+  pub first_actor : (bs : List (Backend W D)) (b c : Backend W D) → b ≡ slice_index_or bs 0 b
+      → c.disk_actor ≡ b.disk_actor → SameActors bs (slice_set bs 0 c)
+  first_actor [] b c is same = refl
+  first_actor (a ∷ bs) b c is same =
+      ap (λ (h : DiskActor W D). h ∷ map backend_disk_actor bs)
+      (same ∙ ap (λ (x : Backend W D). x.disk_actor) is)
 
 module _ {W D : Type 0} (m : DiskGhosts D) (told : Option Told) (relations : ℕ) (t : TableView)
     (q : QueueView) where
-  first_backend : (a c : Backend W D) (bs : List (Backend W D))
-      → All (IsBackend m told relations t q) (a ∷ bs) → IsBackend m told relations t q c
-      → All (IsBackend m told relations t q) (c ∷ bs)
-  first_backend a c bs all is zero d lt = is
-  first_backend a c bs all is (suc i) d lt = all (suc i) d lt
-
-  first_room : (n : ℕ) (a c : Backend W D) (bs : List (Backend W D)) → c.disk_actor ≡ a.disk_actor
-      → AllBackendsHaveRoom n (a ∷ bs) → AllBackendsHaveRoom n (c ∷ bs)
-  first_room n a c bs same all zero d lt =
-      subst (λ (h : DiskActor W D). ActorHasRoom n h.actor) (sym same) (all 0 d lt)
-  first_room n a c bs same all (suc i) d lt = all (suc i) d lt
-
-  first_least : (a c : Backend W D) (bs : List (Backend W D)) (room : ℕ)
-      → c.disk_actor ≡ a.disk_actor → IsLeastRoom (a ∷ bs) room → IsLeastRoom (c ∷ bs) room
-  first_least a c bs room same least = record {
-    all_have_room = first_room room a c bs same least.all_have_room;
-    greatest = λ n have. least.greatest n (first_room n c a bs (sym same) have);
+  -- its job and its seat are no part of what a backend has counted
+  first_stands : (b c : Backend W D) → c.disk_actor ≡ b.disk_actor → c.desk ≡ b.desk
+      → c.ring ≡ b.ring → IfSome c.seat (IsSeatOf q) → is_some c.seat ≡ is_some b.seat
+      → IsBackend m told relations t q b → IsBackend m told relations t q c
+  first_stands b c disk_actor desk ring seat kept is = record {
+    disk_actor = rw disk_actor is.disk_actor;
+    backend = rw disk_actor is.backend;
+    desk = rw desk is.desk;
+    seat = seat;
+    has_seat = λ some. kept ∙ is.has_seat some;
+    ring = rw ring is.ring;
   }
 
   -- the first of them has closed the queue
@@ -90,24 +118,57 @@ module _ {W D : Type 0} (m : DiskGhosts D) (told : Option Told) (relations : ℕ
       → c.disk_actor ≡ b.disk_actor → c.desk ≡ b.desk → c.ring ≡ b.ring
       → IfSome c.seat (IsSeatOf q) → is_some c.seat ≡ is_some b.seat
       → BackendsAreReady m told relations t q (slice_set bs 0 c) counts
-      × (map backend_disk_actor (slice_set bs 0 c) ≡ map backend_disk_actor bs)
-  first_closed [] b c counts w is disk_actor desk ring seat kept = absurd (omega (arith, w.some))
-  first_closed (a ∷ bs) b c counts w is disk_actor desk ring seat kept =
-      let was : b ≡ a = is in
-      let same : c.disk_actor ≡ a.disk_actor = disk_actor
-      ∙ ap (λ (x : Backend W D). x.disk_actor) was in
-      let stands = same_waiting m told relations t q a c same
-      (desk ∙ ap (λ (x : Backend W D). x.desk) was) (ring ∙ ap (λ (x : Backend W D). x.ring) was)
-      seat (kept ∙ ap (λ (x : Backend W D). is_some x.seat) was) (w.backends 0 a (omega arith)) in
-      let f : Backend W D → ℕ = λ x. failed_result_count x.disk_actor.actor.known.marks in
-      let results : failed_results_taken (c ∷ bs) ≡ failed_results_taken (a ∷ bs)
-      = sum_by-cons f c bs ∙ (ap (λ (h : DiskActor W D). failed_result_count h.actor.known.marks
-      + sum_by f bs) same ∙ sym (sum_by-cons f a bs)) in (
-        record {
-          some = omega arith;
-          backends = first_backend a c bs w.backends stands;
-          room = first_least a c bs counts.room same w.room;
-          few_unread = omega (arith, w.few_unread);
-        },
-        ap (λ (h : DiskActor W D). h ∷ map backend_disk_actor bs) same,
-      )
+  first_closed bs b c counts w is disk_actor desk ring seat kept =
+      let cs = slice_set bs 0 c in
+      let same = first_actor bs b c is disk_actor in
+      let results : failed_results_taken cs ≡ failed_results_taken bs =
+      sum_as (λ (h : DiskActor W D). failed_result_count h.actor.known.marks) bs cs same in record {
+        some = omega (arith, w.some, many_as bs cs same);
+        backends = All-set (IsBackend m told relations t q) bs 0 c
+            (first_stands b c disk_actor desk ring seat kept (subst (IsBackend m told relations t q) (sym is)
+            (w.backends 0 b w.some)))
+            w.backends;
+        room = least_as bs cs counts.room same w.room;
+        few_unread = omega (arith, w.few_unread, results);
+      }
+
+  -- after a turn, and after all rounds
+  module _ (bs cs ds : List (Backend W D)) (js ks : List Job) (before after : Counts)
+      (same : SameActors cs ds) (ready : BackendsAreReady m told relations t q ds after)
+      (options : (how : ListOptions) → AllHaveOptions how cs → AllHaveOptions how ds) where
+    taken : results_taken_count ds ≡ results_taken_count cs
+    taken = sum_as (λ (h : DiskActor W D). local_mark_count h.actor.known.marks) cs ds same
+
+    pub turn_closed : {block_filter : Option BlockFilter} {share : ℕ} → length js ≤ length cs
+        → TurnTaken m told relations t q block_filter share bs cs js ks before after
+        → TurnTaken m told relations t q block_filter share bs ds js ks before after
+    turn_closed few e = record {
+      ready = ready;
+      actors_advanced = rw same e.actors_advanced;
+      all_have_options = λ how all. options how (e.all_have_options how all);
+      answered = e.answered;
+      by_place = λ one how all. listed_as _ how told bs cs ds js ks few same
+          (e.by_place one how all);
+      room = e.room;
+      unread = e.unread;
+      results_bound = omega (arith, taken, e.results_bound);
+    }
+
+    pub rounds_closed : {A : Type 0} {s : JobSourceGhosts A W} {a b : A}
+        → JobSourceAdvanced m told relations t q s bs cs js ks a b before after
+        → JobSourceAdvanced m told relations t q s bs ds js ks a b before after
+    rounds_closed e = record {
+      ready = ready;
+      backends = many_as cs ds same ∙ e.backends;
+      places = e.places;
+      actors_advanced = rw same e.actors_advanced;
+      all_have_options = options _ e.all_have_options;
+      options_are = e.options_are;
+      filter_is = e.filter_is;
+      source_follows = e.source_follows;
+      room = e.room;
+      results_bound = omega (arith, taken, e.results_bound);
+      more = e.more;
+      unread_raised = e.unread_raised;
+      unread_enough = e.unread_enough;
+    }

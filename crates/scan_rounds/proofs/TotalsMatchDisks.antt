@@ -1,7 +1,6 @@
 -- What the end of the table says of the disks.
-use Rattle.std.proofs.Common.{◌≡◌, ℕ, suc, ◌+◌, ◌<◌, ◌≤◌, cond, nat_lt, List, [], ◌∷◌, ◌++◌}
-use Rattle.std.proofs.Common.{map, drop, length, get_or, sum_by, Option, Some, refl, sym, ap, ◌∙◌}
-use Rattle.std.proofs.Common.{subst}
+use Rattle.std.proofs.Common.{◌≡◌, ℕ, suc, ◌+◌, ◌<◌, ◌≤◌, cond, nat_lt, List, [], ◌∷◌, ◌++◌, map}
+use Rattle.std.proofs.Common.{drop, length, get_or, sum_by, Option, Some, refl, sym, ap, ◌∙◌, subst}
 use Rattle.std.proofs.Common.{inl, inr, ⊎_elim, arith}
 use Rattle.std.proofs.lemmas.Bool.Decides.{nat_tests}
 use Rattle.std.proofs.lemmas.List.{length-map, map-append}
@@ -26,9 +25,7 @@ use Rattle.read_stream.specs.ActorProgress.{local_mark_count}
 use Rattle.aio_disk.specs.declared.disk.Disk.{Ghosts as DiskGhosts}
 use Rattle.scan_rounds.specs.DiskActors.{IsDiskActor}
 use Rattle.scan_rounds.specs.Rounds.{backend_disk_actor, worker_disk_actor, results_taken_count}
-use Rattle.scan_rounds.specs.Scans.{IsScan, IsFinished, HasDisk}
-use Rattle.scan_rounds.specs.Scans.{actor_of}
-use Rattle.scan_rounds.specs.Scans.{disk_of}
+use Rattle.scan_rounds.specs.Scans.{IsScan, IsFinished, HasDisk, actor_of, disk_of}
 use Rattle.scan_rounds.specs.Scans.{scan_disk_actors, known_lists, opened_disks}
 use Rattle.scan_rounds.specs.declared.disk_actor.DiskActor.{DiskActor}
 use Rattle.scan_rounds.specs.declared.scan.Scan.{Scan}

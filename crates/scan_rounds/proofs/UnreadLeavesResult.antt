@@ -2,7 +2,7 @@
 use Rattle.std.proofs.Common.{◌≡◌, ℕ, ◌+◌, ◌≤◌, true, List}
 use Rattle.std.specs.Prelude.{Option}
 use Rattle.page_check.specs.Told.{Told}
-use Rattle.page_check.specs.SynchronousAnswer.{Entry, Given, Reader, Unread, reader_of}
+use Rattle.page_check.specs.SynchronousAnswer.{Given, Reader, Unread, reader_of}
 use Rattle.page_check.specs.IsAnswer.{IsAnswer, IsEnding}
 use Rattle.aio_word.specs.declared.Known.{Known}
 use Rattle.aio_word.specs.Tokens.{failed_result_count}
@@ -14,11 +14,9 @@ use Rattle.scan_rounds.specs.ListOptions.{ListOptions}
 use Rattle.scan_rounds.specs.BlockFilter.{BlockFilter}
 use Rattle.scan_rounds.specs.Jobs.{JobIsListed, is_unread, answered_ending, entries_of_job}
 use Rattle.scan_rounds.specs.declared.job.Job.{Job}
+use Rattle.scan_rounds.proofs.UnitEntries.{E}
 use Rattle.scan_rounds.specs.declared.job.Ending.{Ending}
 use Rattle.scan_rounds.specs.declared.job.Ending.TheVariants as ending
-
-abbrev E : Type 0
-E = Entry (Unit {0})
 
 cause_of : (found : Option Reader) (may : E → Type 0) (entries : List E) (k : ℕ) (b : ℕ)
     → IsEnding found may entries k (Unread b) → (x : E) × may x

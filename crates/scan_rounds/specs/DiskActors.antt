@@ -121,6 +121,14 @@ module _ {W D : Type 0} (m : DiskGhosts D) (told : Option Told) (relations : ℕ
       pub has_seat : 1 ≤ t.config.runners → is_some b.seat ≡ true
       pub ring : IfSome b.ring (IsRingOf q)
 
+    -- it went on, with at most so many lives more of each handle, and lists with the same options
+    pub record BackendAdvanced (most : ℕ) (b c : Backend W D) : Type 0 where
+      pub is : IsBackend c
+      pub advanced : DiskActorAdvanced b.disk_actor c.disk_actor
+      pub lives_bound : (h : ℕ) → lives_ended h c.disk_actor.actor.known.marks
+          ≤ lives_ended h b.disk_actor.actor.known.marks + most
+      pub options_same : backend_options c ≡ backend_options b
+
     -- it has read so many pages of a map, up to this ending, and keeps all but its actor and its
     -- disk
     pub record BackendReadMap (b c : Backend W D) (relation pages : ℕ) (map : Map)

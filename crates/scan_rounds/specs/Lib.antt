@@ -2,13 +2,11 @@ pub mod ListOptions
 pub mod BlockFilter
 pub mod Jobs
 pub mod ConsumedPages
-pub mod Loans
 pub mod JobOutput
 pub mod Rings
 pub mod DiskActors
 pub mod Rounds
 pub mod Progress
-pub mod RoundStates
 pub mod JobSources
 pub mod OpenedScan
 pub mod Scans

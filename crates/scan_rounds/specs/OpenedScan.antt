@@ -1,7 +1,7 @@
 -- The settings of a scan, and what they make.
 use Rattle.std.specs.Prelude.{◌≡◌, ℕ, ◌≤◌, ◌+◌, ◌*◌, ◌/◌, ◌++◌, List, [], length, map, min, max}
-use Rattle.std.specs.Prelude.{◌-◌, ◌^◌, Option, Some, vec_capacity, option_to_list}
-use Rattle.std.specs.Prelude.{Bool, true, false}
+use Rattle.std.specs.Prelude.{◌-◌, ◌^◌, Option, Some, vec_capacity, option_to_list, Bool, true}
+use Rattle.std.specs.Prelude.{false, cond}
 use Rattle.std.specs.Option.{is_some}
 use Rattle.std.specs.List.{All, flat_map}
 use Rattle.std.specs.Vec.Iter.{into_iter_items}
@@ -25,14 +25,20 @@ use Rattle.scan_rounds.specs.declared.open.Parts.{Parts}
 use Rattle.scan_rounds.specs.declared.scan.Scan.{Scan}
 use Rattle.scan_rounds.specs.declared.settings.MethodKind.{MethodKind}
 use Rattle.scan_rounds.specs.declared.settings.MethodKind.TheVariants as method
+use Rattle.scan_rounds.specs.declared.settings.MethodNeeds.{MethodNeeds}
 use Rattle.scan_rounds.specs.declared.settings.ScanSettings.{ScanSettings}
 use Rattle.scan_rounds.specs.declared.worker.Worker.{Worker}
 
+-- what a scan has by a method: a seat of the queue for each backend, workers, rings
+abbrev pub needs_of_method : MethodKind → MethodNeeds
+needs_of_method method.Sync = record { queue = false; workers = false; rings = false }
+needs_of_method method.Worker = record { queue = true; workers = true; rings = false }
+needs_of_method method.Ring = record { queue = true; workers = false; rings = true }
+
 -- how many workers there are by a method
 abbrev pub workers_of_method : MethodKind → ℕ → ℕ
-workers_of_method method.Sync workers = 0
-workers_of_method method.Worker workers = workers
-workers_of_method method.Ring workers = 0
+workers_of_method kind workers =
+    cond (needs_of_method kind).queue (cond (needs_of_method kind).workers workers 0) 0
 
 abbrev pub workers_of_settings : ScanSettings → ℕ
 workers_of_settings s = workers_of_method s.method s.workers
@@ -41,23 +47,14 @@ workers_of_settings s = workers_of_method s.method s.workers
 abbrev pub required_disks : ScanSettings → ℕ
 required_disks s = s.backends + workers_of_settings s
 
--- how many seats of the queue backends and workers have by a method
-abbrev pub seats_of_method : MethodKind → ℕ → ℕ → ℕ
-seats_of_method method.Sync backends workers = 0
-seats_of_method method.Worker backends workers = backends + workers
-seats_of_method method.Ring backends workers = backends
-
+-- how many seats of the queue backends and workers have
 abbrev pub seats_of_settings : ScanSettings → ℕ
-seats_of_settings s = seats_of_method s.method s.backends s.workers
+seats_of_settings s =
+    cond (needs_of_method s.method).queue (s.backends + workers_of_settings s) 0
 
--- how many rings there are by a method
-abbrev pub rings_of_method : MethodKind → ℕ → ℕ
-rings_of_method method.Sync backends = 0
-rings_of_method method.Worker backends = 0
-rings_of_method method.Ring backends = backends
-
+-- how many rings there are
 abbrev pub rings_of_settings : ScanSettings → ℕ
-rings_of_settings s = rings_of_method s.method s.backends
+rings_of_settings s = cond (needs_of_method s.method).rings s.backends 0
 
 -- the settings are in their ranges
 pub record AreValidScanSettings (s : ScanSettings) : Type 0 where
@@ -89,18 +86,6 @@ pub record AreStreamSettings (s : ScanSettings) (r : Settings) : Type 0 where
   pub segment : r.segment ≡ s.segment
   pub zero : r.zero ≡ s.zero
 
--- whether backends have seats of the queue by a method
-abbrev pub has_seats : MethodKind → Bool
-has_seats method.Sync = false
-has_seats method.Worker = true
-has_seats method.Ring = true
-
--- whether they have rings
-abbrev pub has_rings : MethodKind → Bool
-has_rings method.Sync = false
-has_rings method.Worker = false
-has_rings method.Ring = true
-
 -- a desk for the streams of a scan
 pub record IsDeskFor {W : Type 0} (s : ScanSettings) (d : Desk W (Unit {0})) : Type 0 where
   pub free : IsFreeDesk d
@@ -109,8 +94,8 @@ pub record IsDeskFor {W : Type 0} (s : ScanSettings) (d : Desk W (Unit {0})) : T
 -- its streams read as the settings say, and it has a seat and a ring where the method wants them
 pub record IsBackendSetUp {W D : Type 0} (s : ScanSettings) (b : Backend W D) : Type 0 where
   pub streams : AreStreamSettings s (desk_settings b.desk)
-  pub seat : is_some b.seat ≡ has_seats s.method
-  pub ring : is_some b.ring ≡ has_rings s.method
+  pub seat : is_some b.seat ≡ (needs_of_method s.method).queue
+  pub ring : is_some b.ring ≡ (needs_of_method s.method).rings
 
 module _ {W D : Type 0} where
   -- empty lists, with room for this many

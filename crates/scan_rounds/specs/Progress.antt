@@ -1,22 +1,21 @@
 -- The backends of a scan between two rounds, and what some rounds have made of them.
 use Rattle.std.specs.Prelude.{◌≡◌, ℕ, ◌+◌, ◌*◌, ◌≤◌, List, [], ◌∷◌, ◌++◌, length, map, Option}
 use Rattle.std.specs.Prelude.{IfSome, slice_index_or}
-use Rattle.std.specs.List.{All}
+use Rattle.std.specs.List.{All, AllZip}
 use Rattle.page_check.specs.Told.{Told}
 use Rattle.aio_disk.specs.Counts.{count_plus}
 use Rattle.aio_handle.specs.ContractViews.{TableView}
 use Rattle.method_worker.specs.QueueViews.{QueueView, SeatView}
 use Rattle.aio_disk.specs.declared.disk.Disk.{Ghosts as DiskGhosts}
 use Rattle.scan_rounds.specs.BlockFilter.{BlockFilter}
-use Rattle.scan_rounds.specs.DiskActors.{IsBackend}
-use Rattle.scan_rounds.specs.Jobs.{IsNewJob, count_unskipped, unread_job_count}
+use Rattle.scan_rounds.specs.DiskActors.{DiskActorAdvanced, IsBackend}
+use Rattle.scan_rounds.specs.Jobs.{AllJobsAnswered, IsNewJob, count_unskipped, unread_job_count}
 use Rattle.scan_rounds.specs.ListOptions.{ListOptions}
-use Rattle.scan_rounds.specs.Rounds.{AllHaveOptions, AllJobsListed}
-use Rattle.scan_rounds.specs.Rounds.{IsLeastRoom, AllActorsAdvanced, backend_disk_actor}
+use Rattle.scan_rounds.specs.Rounds.{AllHaveOptions, AllJobsListed, IsLeastRoom, backend_disk_actor}
 use Rattle.scan_rounds.specs.Rounds.{failed_results_taken, results_taken_count}
 use Rattle.scan_rounds.specs.declared.backend.Backend.{Backend}
 use Rattle.scan_rounds.specs.declared.job.Job.{Job}
-use Rattle.scan_rounds.specs.declared.rounds.Counts.{Counts}
+use Rattle.scan_rounds.specs.declared.counts.Counts.{Counts}
 
 -- the seat has closed the queue, last under the number of its reopenings
 abbrev pub HasClosed : QueueView → SeatView → Type 0
@@ -37,36 +36,26 @@ module _ {W D : Type 0} (m : DiskGhosts D) (told : Option Told) (relations : ℕ
       -- each job that ended in Unread has left the result of a failed I/O
       pub few_unread : counts.unread ≤ failed_results_taken bs
 
-  -- from the first state to the second so many blocks were asked for, of which so many were not
-  -- left out, and so many jobs ended in Unread, at least
-  pub record RoundsAdvanced (bs cs : List (Backend W D)) (before after : Counts)
-      (blocks kept unread : ℕ) : Type 0 where
-    pub actors_advanced : AllActorsAdvanced m told relations t (map backend_disk_actor bs)
-        (map backend_disk_actor cs)
-    pub room : before.room ≤ after.room + 64 * blocks
-    pub results_bound : results_taken_count cs ≤ results_taken_count bs + kept
-    pub more : ℕ
-    pub unread_raised : after.unread ≡ count_plus more before.unread
-    pub unread_enough : unread ≤ more
-
-  -- a round may be made of these jobs, one for each of the first backends
-  pub record BackendsMayMakeRound (q : QueueView) (bs : List (Backend W D)) (js : List Job)
-      (counts : Counts) : Type 0 where
+  -- a turn may be taken, in which each backend does at most so many neighbouring ones of these
+  -- jobs
+  pub record BackendsMayTakeTurn (q : QueueView) (share : ℕ) (bs : List (Backend W D))
+      (js : List Job) (counts : Counts) : Type 0 where
     pub ready : BackendsAreReady q bs counts
-    pub few : length js ≤ length bs
+    pub fit : length js ≤ share * length bs
     pub fresh : All (IsNewJob relations) js
-    pub room : 64 ≤ counts.room
+    pub room : 64 * share ≤ counts.room
 
-  -- it was made, without the blocks that are left out
-  pub record RoundMade (q : QueueView) (block_filter : Option BlockFilter)
+  -- it was taken, without the blocks that are left out
+  pub record TurnTaken (q : QueueView) (block_filter : Option BlockFilter) (share : ℕ)
       (bs cs : List (Backend W D)) (js ks : List Job) (before after : Counts) : Type 0 where
     pub ready : BackendsAreReady q cs after
-    pub closed : IsClosedByFirst q cs
-    pub actors_advanced : AllActorsAdvanced m told relations t (map backend_disk_actor bs)
-        (map backend_disk_actor cs)
-    pub listed : (how : ListOptions) → AllHaveOptions how bs
-        → AllJobsListed block_filter how told bs cs js ks
+    pub actors_advanced : AllZip (DiskActorAdvanced m told relations t)
+        (map backend_disk_actor bs) (map backend_disk_actor cs)
     pub all_have_options : (how : ListOptions) → AllHaveOptions how bs → AllHaveOptions how cs
-    pub room : before.room ≤ after.room + 64
+    pub answered : (how : ListOptions) → AllHaveOptions how bs
+        → AllJobsAnswered block_filter how told js ks
+    pub by_place : share ≡ 1 → (how : ListOptions) → AllHaveOptions how bs
+        → AllJobsListed block_filter how told bs cs js ks
+    pub room : before.room ≤ after.room + 64 * share
     pub unread : after.unread ≡ count_plus (unread_job_count ks) before.unread
     pub results_bound : results_taken_count cs ≤ results_taken_count bs + count_unskipped block_filter js

@@ -1,5 +1,5 @@
 -- What a round does to all backends, to all workers and to the jobs.
-use Rattle.std.specs.Prelude.{◌≡◌, ℕ, ◌<◌, ◌≤◌, List, length, slice_index_or, sum_by, Option}
+use Rattle.std.specs.Prelude.{◌≡◌, ℕ, ◌<◌, ◌≤◌, List, ◌∷◌, length, slice_index_or, sum_by, Option}
 use Rattle.std.specs.List.{All}
 use Rattle.page_check.specs.Told.{Told}
 use Rattle.aio_handle.specs.ContractViews.{TableView}
@@ -10,7 +10,7 @@ use Rattle.read_stream.specs.StreamAnswers.{MayBeUnread}
 use Rattle.aio_word.specs.Tokens.{failed_result_count}
 use Rattle.aio_disk.specs.declared.disk.Disk.{Ghosts as DiskGhosts}
 use Rattle.scan_rounds.specs.DiskActors.{WorkerServed, BackendReadMap, ActorHasRoom}
-use Rattle.scan_rounds.specs.DiskActors.{DiskActorAdvanced, backend_options}
+use Rattle.scan_rounds.specs.DiskActors.{backend_options}
 use Rattle.read_stream.specs.ActorProgress.{local_mark_count}
 use Rattle.scan_rounds.specs.ListOptions.{ListOptions}
 use Rattle.scan_rounds.specs.Jobs.{JobIsListed, answered_ending}
@@ -73,14 +73,6 @@ module _ {W D : Type 0} where
   results_taken_count bs = sum_by
       (λ (b : Backend W D). local_mark_count b.disk_actor.actor.known.marks) bs
 
-module _ {W D : Type 0} (m : DiskGhosts D) (told : Option Told) (relations : ℕ)
-    (t : TableView) where
-  -- each went on
-  pub record AllActorsAdvanced (hs ks : List (DiskActor W D)) : Type 0 where
-    pub as_many : length ks ≡ length hs
-    pub each : (i : ℕ) (d : DiskActor W D) → i < length hs
-        → DiskActorAdvanced m told relations t (slice_index_or hs i d) (slice_index_or ks i d)
-
 module _ {W D : Type 0} (m : DiskGhosts D) (told : Option Told) (relations : ℕ) (t : TableView)
     (q : QueueView) where
   pub record AllWorkersServed (ws vs : List (Worker W D)) : Type 0 where
@@ -91,7 +83,9 @@ module _ {W D : Type 0} (m : DiskGhosts D) (told : Option Told) (relations : ℕ
   -- the first backend has read a map, and the others are as they were
   pub record FirstBackendReadMap (bs cs : List (Backend W D)) (relation pages : ℕ) (map : Map)
       (warnings : List ℕ) (end : Ending) : Type 0 where
-    pub as_many : length cs ≡ length bs
-    pub first : (d : Backend W D) → BackendReadMap m told relations t q (slice_index_or bs 0 d)
-        (slice_index_or cs 0 d) relation pages map warnings end
-    pub others : (i : ℕ) (d : Backend W D) → 1 ≤ i → slice_index_or cs i d ≡ slice_index_or bs i d
+    pub before : Backend W D
+    pub after : Backend W D
+    pub others : List (Backend W D)
+    pub backends_were : bs ≡ before ∷ others
+    pub backends_are : cs ≡ after ∷ others
+    pub read : BackendReadMap m told relations t q before after relation pages map warnings end

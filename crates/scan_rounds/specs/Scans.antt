@@ -1,8 +1,8 @@
 -- A scan between its rounds, and what its end tells.
 use Rattle.std.specs.Prelude.{◌≡◌, ℕ, ◌+◌, ◌<◌, ◌≤◌, ◌++◌, List, [], length, map, sum_by, Option}
-use Rattle.std.specs.Prelude.{Some}
-use Rattle.std.specs.Prelude.{vec_capacity, slice_index_or, is_some, true, min, drop, ◌^◌, ◌-◌}
-use Rattle.std.specs.List.{All}
+use Rattle.std.specs.Prelude.{Some, vec_capacity, slice_index_or, is_some, true, min, drop, ◌^◌}
+use Rattle.std.specs.Prelude.{◌-◌}
+use Rattle.std.specs.List.{All, AllZip}
 use Rattle.page_check.specs.Told.{Told}
 use Rattle.aio_word.specs.declared.Config.{Config}
 use Rattle.aio_word.specs.declared.Known.{Known}
@@ -60,12 +60,6 @@ pub record DiskCountersFollowMarks {W D : Type 0} (m : DiskGhosts D) (opened : D
       h.actor.known.marks
 
 module _ {W D : Type 0} (m : DiskGhosts D) (told : Option Told) (relations : ℕ) where
-  -- each disk has counted what its actor has executed since the scan was opened
-  pub record AllDiskCountersFollowMarks (opened : List D) (hs : List (DiskActor W D)) : Type 0 where
-    pub as_many : length opened ≡ length hs
-    pub each : (i : ℕ) (o : D) (d : DiskActor W D) → i < length hs
-        → DiskCountersFollowMarks m (slice_index_or opened i o) (slice_index_or hs i d)
-
   pub record IsScan (s : Scan W D) : Type 0 where
     pub backends_are : s.shared.table.config.backends ≡ length s.backends.items
     pub workers_are : s.shared.table.config.runners ≡ length s.workers.items
@@ -74,7 +68,8 @@ module _ {W D : Type 0} (m : DiskGhosts D) (told : Option Told) (relations : ℕ
         s.backends.items
     pub all_workers : All (IsWorker m told relations s.shared.table s.shared.queue)
         s.workers.items
-    pub counters_are : AllDiskCountersFollowMarks (opened_disks s) (scan_disk_actors s)
+    -- each disk has counted what its actor has executed since the scan was opened
+    pub counters_are : AllZip (DiskCountersFollowMarks m) (opened_disks s) (scan_disk_actors s)
     pub all_have_options : AllHaveOptions (scan_options s) s.backends.items
     pub room : IsLeastRoom s.backends.items s.room
     -- each job that ended in Unread has left the result of a failed I/O

@@ -1,18 +1,19 @@
 //! Backends and workers side by side, in threads of their own: all rounds of a run, or one.
-ghost use Rattle.std.specs.Prelude.{◌≤◌, ◌<◌, ◌+◌, ◌-◌, length, Option};
+ghost use Rattle.std.specs.Prelude.{◌<◌, ◌+◌, Option};
 ghost use Rattle.std.specs.List.{All};
 ghost use Rattle.std.specs.Thread.{IsSync};
 ghost use Rattle.scan_rounds.specs.JobSources.{JobSourceAdvanced, BackendsMayRunSource};
 ghost use Rattle.scan_rounds.specs.DiskActors.{WorkerMayServe, WorkerServed};
-ghost use Rattle.scan_rounds.specs.Progress.{IsClosedByFirst};
-ghost use Rattle.scan_rounds.specs.RoundStates.{StateMadeRound, StateMayMakeRound};
+ghost use Rattle.scan_rounds.specs.Progress.{BackendsMayTakeTurn, IsClosedByFirst, TurnTaken};
 ghost use Rattle.scan_rounds.specs.Rounds.{AllWorkersServed};
 ghost use Rattle.scan_rounds.specs.BlockFilter.{filter_of_skipping};
 
 use crate::backend::Backend;
+use crate::counts::Counts;
+use crate::job::Job;
 use crate::job_source::JobSource;
 use crate::map_filter::MapFilter;
-use crate::run_state::{RoundState, RunState, run_round, run_rounds};
+use crate::rounds::{all_rounds, make_round};
 use crate::shared::SharedState;
 use crate::worker::Worker;
 use aio_disk::Disk;
@@ -55,100 +56,90 @@ fn run_workers<W: World + Send + Sync, D: Disk, R: Threads + Wait + Sync>(
     );
 }
 
-/// The workers serve the queue until it is closed, and come back.
-pub(crate) fn serve_all<W: World + Send + Sync, D: Disk, R: Threads + Wait + Sync>(
-    rt: &R,
-    shared: &SharedState<W>,
-    mut workers: Vec<Worker<W, D>>,
-) -> Vec<Worker<W, D>>
-    requires may { All (WorkerMayServe D.Disk W.told W.relations shared.now.table shared.now.queue)
-        workers.items }
-    ensures workers_served { AllWorkersServed D.Disk W.told W.relations shared.now.table
-        shared.now.queue workers.items result.items }
-{
-    run_workers(rt, shared, workers.as_mut_slice());
-    workers
-}
-
-/// All rounds beside the workers. Where no thread can be made, `join` calls its first closure last:
-/// so the workers stand first, and then find the queue closed.
+/// All rounds beside the workers. Where no thread can be made, `join_mut` calls its first closure
+/// last: so the workers stand first, and then find the queue closed. What the closures hold has one
+/// lifetime, since the borrow checker takes no two in closures that name the same `W`.
 pub(crate) fn run_beside<
+    'a,
     W: World + Send + Sync,
     D: Disk,
     R: Threads + Wait + Sync,
     A: JobSource<W>,
 >(
-    rt: &R,
-    shared: &SharedState<W>,
-    by_map: Option<MapFilter<'_>>,
-    workers: Vec<Worker<W, D>>,
-    run_state: RunState<W, D, A>,
-) -> (Vec<Worker<W, D>>, RunState<W, D, A>)
+    rt: &'a R,
+    shared: &'a SharedState<W>,
+    by_map: Option<MapFilter<'a>>,
+    workers: &'a mut [Worker<W, D>],
+    backends: &'a mut [Backend<W, D>],
+    jobs: &'a mut [Job],
+    job_source: &'a mut A,
+    counts: &'a mut Counts,
+)
     requires serve { All (WorkerMayServe D.Disk W.told W.relations shared.now.table
-        shared.now.queue) workers.items }
+        shared.now.queue) workers.old }
     requires may { BackendsMayRunSource D.Disk W.told W.relations shared.now.table shared.now.queue
-        A.JobSource (filter_of_skipping by_map) run_state.backends.items run_state.jobs.items
-        run_state.job_source run_state.counts }
+        A.JobSource (filter_of_skipping by_map) backends.old jobs.old job_source.old counts.old }
     ensures workers_served { AllWorkersServed D.Disk W.told W.relations shared.now.table
-        shared.now.queue workers.items result.0.items }
+        shared.now.queue workers.old workers.new }
     ensures advanced { JobSourceAdvanced D.Disk W.told W.relations shared.now.table shared.now.queue
-        A.JobSource run_state.backends.items result.1.backends.items run_state.jobs.items
-        result.1.jobs.items run_state.job_source result.1.job_source run_state.counts
-        result.1.counts }
-    ensures over { A.is_over result.1.job_source }
-    ensures closed { IsClosedByFirst shared.now.queue result.1.backends.items }
+        A.JobSource backends.old backends.new jobs.old jobs.new job_source.old job_source.new
+        counts.old counts.new }
+    ensures over { A.is_over job_source.new }
+    ensures closed { IsClosedByFirst shared.now.queue backends.new }
 {
-    thread::join(
-        rt,
-        move || -> Vec<Worker<W, D>>
-            requires { All (WorkerMayServe D.Disk W.told W.relations shared.now.table
-                shared.now.queue) workers.items × IsSync R.row }
-            ensures { AllWorkersServed D.Disk W.told W.relations shared.entry.now.table
-                shared.entry.now.queue workers.items result.items }
-        { serve_all(rt, shared, workers) },
-        move || -> RunState<W, D, A>
-            requires { BackendsMayRunSource D.Disk W.told W.relations shared.now.table
-                shared.now.queue A.JobSource (filter_of_skipping by_map) run_state.backends.items
-                run_state.jobs.items run_state.job_source run_state.counts × IsSync R.row }
-            ensures { JobSourceAdvanced D.Disk W.told W.relations shared.entry.now.table
-                shared.entry.now.queue A.JobSource run_state.backends.items result.backends.items
-                run_state.jobs.items result.jobs.items run_state.job_source result.job_source
-                run_state.counts result.counts × A.is_over result.job_source × IsClosedByFirst
-                shared.entry.now.queue result.backends.items }
-        { run_rounds(rt, shared, by_map, run_state) },
-    )
+    let mut serve = ||
+        requires { IsSync R.row × All (WorkerMayServe D.Disk W.told W.relations shared.now.table
+            shared.now.queue) workers.now }
+        ensures { AllWorkersServed D.Disk W.told W.relations shared.entry.now.table
+            shared.entry.now.queue workers.entry.now workers.exit.now }
+    { run_workers(rt, shared, workers) };
+    let mut rounds = ||
+        requires { IsSync R.row × BackendsMayRunSource D.Disk W.told W.relations
+            shared.now.table shared.now.queue A.JobSource (filter_of_skipping by_map) backends.now
+            jobs.now job_source.now counts.now }
+        ensures { JobSourceAdvanced D.Disk W.told W.relations shared.entry.now.table
+            shared.entry.now.queue A.JobSource backends.entry.now backends.exit.now jobs.entry.now
+            jobs.exit.now job_source.entry.now job_source.exit.now counts.entry.now counts.exit.now
+            × A.is_over job_source.exit.now
+            × IsClosedByFirst shared.entry.now.queue backends.exit.now }
+    { all_rounds(rt, shared, by_map, backends, jobs, job_source, counts) };
+    thread::join_mut(rt, &mut serve, &mut rounds);
 }
 
 /// One round beside the workers, which stand first as in `run_beside`.
-pub(crate) fn round_beside<W: World + Send + Sync, D: Disk, R: Threads + Wait + Sync>(
-    rt: &R,
-    shared: &SharedState<W>,
-    by_map: Option<MapFilter<'_>>,
-    workers: Vec<Worker<W, D>>,
-    round_state: RoundState<W, D>,
-) -> (Vec<Worker<W, D>>, RoundState<W, D>)
+pub(crate) fn round_beside<'a, W: World + Send + Sync, D: Disk, R: Threads + Wait + Sync>(
+    rt: &'a R,
+    shared: &'a SharedState<W>,
+    by_map: Option<MapFilter<'a>>,
+    workers: &'a mut [Worker<W, D>],
+    backends: &'a mut [Backend<W, D>],
+    jobs: &'a mut [Job],
+    counts: &'a mut Counts,
+)
     requires serve { All (WorkerMayServe D.Disk W.told W.relations shared.now.table
-        shared.now.queue) workers.items }
-    requires may { StateMayMakeRound D.Disk W.told W.relations shared.now.table shared.now.queue
-        round_state }
+        shared.now.queue) workers.old }
+    requires may { BackendsMayTakeTurn D.Disk W.told W.relations shared.now.table shared.now.queue 1
+        backends.old jobs.old counts.old }
     ensures workers_served { AllWorkersServed D.Disk W.told W.relations shared.now.table
-        shared.now.queue workers.items result.0.items }
-    ensures made { StateMadeRound D.Disk W.told W.relations shared.now.table shared.now.queue
-        (filter_of_skipping by_map.entry) round_state result.1 }
+        shared.now.queue workers.old workers.new }
+    ensures taken { TurnTaken D.Disk W.told W.relations shared.now.table shared.now.queue
+        (filter_of_skipping by_map.entry) 1 backends.old backends.new jobs.old jobs.new counts.old
+        counts.new }
+    ensures closed { IsClosedByFirst shared.now.queue backends.new }
 {
-    thread::join(
-        rt,
-        move || -> Vec<Worker<W, D>>
-            requires { All (WorkerMayServe D.Disk W.told W.relations shared.now.table
-                shared.now.queue) workers.items × IsSync R.row }
-            ensures { AllWorkersServed D.Disk W.told W.relations shared.entry.now.table
-                shared.entry.now.queue workers.items result.items }
-        { serve_all(rt, shared, workers) },
-        move || -> RoundState<W, D>
-            requires { StateMayMakeRound D.Disk W.told W.relations shared.now.table shared.now.queue
-                round_state × IsSync R.row }
-            ensures { StateMadeRound D.Disk W.told W.relations shared.entry.now.table
-                shared.entry.now.queue (filter_of_skipping by_map.entry) round_state result }
-        { run_round(rt, shared, by_map, round_state) },
-    )
+    let mut serve = ||
+        requires { IsSync R.row × All (WorkerMayServe D.Disk W.told W.relations shared.now.table
+            shared.now.queue) workers.now }
+        ensures { AllWorkersServed D.Disk W.told W.relations shared.entry.now.table
+            shared.entry.now.queue workers.entry.now workers.exit.now }
+    { run_workers(rt, shared, workers) };
+    let mut round = ||
+        requires { IsSync R.row × BackendsMayTakeTurn D.Disk W.told W.relations shared.now.table
+            shared.now.queue 1 backends.now jobs.now counts.now }
+        ensures { TurnTaken D.Disk W.told W.relations shared.entry.now.table
+            shared.entry.now.queue (filter_of_skipping by_map.entry) 1 backends.entry.now
+            backends.exit.now jobs.entry.now jobs.exit.now counts.entry.now counts.exit.now
+            × IsClosedByFirst shared.entry.now.queue backends.exit.now }
+    { make_round(rt, shared, by_map, backends, jobs, counts) };
+    thread::join_mut(rt, &mut serve, &mut round);
 }

@@ -8,14 +8,13 @@ ghost use Rattle.scan_rounds.specs.Rounds.{AllBackendsHaveRoom, FirstBackendRead
 ghost use Rattle.scan_rounds.specs.BlockFilter.{map_filter};
 
 use crate::backend::Backend;
+use crate::counts::{count_one, least_room};
 use crate::job::{Ending, Job};
 use crate::map_filter::MapFilter;
-use crate::rounds::{count_one, least_room};
 use crate::scan::Scan;
 use crate::shared::SharedState;
 use aio_disk::Disk;
 use page_check::World;
-use std::mem;
 use std::sync::Wait;
 use std::thread::Threads;
 use vis_map::{Skip, VisMap};
@@ -42,29 +41,6 @@ fn read_by_first<W: World, D: Disk, R: Wait>(
     backends[0].read_map(rt, shared, relation, map, warnings)
 }
 
-// The same, over a vector.
-fn read_map<W: World, D: Disk, R: Wait>(
-    rt: &R,
-    shared: &SharedState<W>,
-    mut backends: Vec<Backend<W, D>>,
-    relation: u32,
-    map: &mut VisMap,
-    warnings: &mut Vec<u8>,
-) -> (Vec<Backend<W, D>>, Ending)
-    requires backends { All (IsBackend D.Disk W.told W.relations shared.now.table shared.now.queue)
-        backends.items }
-    requires some { 1 ≤ length backends.items }
-    requires room { AllBackendsHaveRoom 65 backends.items }
-    requires relation { relation < W.relations }
-    requires none { (map.old.added ≡ []) × (warnings.old.items ≡ []) }
-    ensures read { FirstBackendReadMap D.Disk W.told W.relations shared.now.table shared.now.queue
-        backends.items result.0.items relation map.old.pages map.new warnings.new.items result.1 }
-    ensures pages { map.new.pages ≡ map.old.pages }
-{
-    let ending = read_by_first(rt, shared, backends.as_mut_slice(), relation, map, warnings);
-    (backends, ending)
-}
-
 impl<W: World, D: Disk> Scan<W, D> {
     /// Reads the pages of a visibility map, which is a relation, by the first backend, in the
     /// caller's thread and without the workers: as many as the map was opened for. The map holds
@@ -83,18 +59,16 @@ impl<W: World, D: Disk> Scan<W, D> {
             map.new warnings.new.items result }
     {
         let Scan {
-            alloc,
             shared,
             backends,
             room,
             unread,
             ..
         } = self;
-        let own_backends = mem::replace(backends, Vec::new(*alloc));
-        let (done, ending) = read_map(rt, shared, own_backends, relation, map, warnings);
-        *room = least_room(done.as_slice());
+        let backends = backends.as_mut_slice();
+        let ending = read_by_first(rt, shared, backends, relation, map, warnings);
+        *room = least_room(backends);
         *unread = count_one(*unread, ending);
-        *backends = done;
         ending
     }
 }

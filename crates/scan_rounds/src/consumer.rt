@@ -18,8 +18,10 @@ pub(crate) trait Consumer: Drop {
     /// How many pages it can take.
     ghost most: { Self → ℕ };
 
-    /// It is the same one, some pages later.
-    ghost is_same: { Self → Self → Type 0 };
+    /// What stays as it is while it takes pages.
+    ghost Kept: { Type 0 };
+
+    ghost kept: { Self → Kept };
 
     /// Takes what a stream answers next. Some where that was an ending, or where there was no
     /// memory for the page, which is not taken then.
@@ -31,11 +33,5 @@ pub(crate) trait Consumer: Drop {
         ensures takes { AnswerConsumed (holds self.old) (holds self.new)
             (synchronous_answer relation answer.entry) result }
         ensures most { most self.new ≡ most self.old }
-        ensures same { is_same self.old self.new };
-
-    /// At first it is the same one.
-    ghost is_itself: { (c : Self) → is_same c c };
-
-    /// Pages later, and then more pages later.
-    ghost is_same_later: { (a b c : Self) → is_same a b → is_same b c → is_same a c };
+        ensures kept { kept self.new ≡ kept self.old };
 }

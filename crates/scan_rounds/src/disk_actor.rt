@@ -2,9 +2,7 @@
 ghost use Rattle.std.specs.Prelude.{◌≡◌, ◌≤◌, IfSome, Some, []};
 ghost use Rattle.method_worker.specs.QueueViews.{IsSeatOf};
 ghost use Rattle.scan_rounds.specs.DiskActors.{DiskActorAdvanced, ActorListedJob, ActorReadBlocks};
-ghost use Rattle.scan_rounds.specs.DiskActors.{IsDiskActor};
-ghost use Rattle.scan_rounds.specs.DiskActors.{ActorMayList, ActorMayRead};
-ghost use Rattle.scan_rounds.specs.DiskActors.{map_blocks};
+ghost use Rattle.scan_rounds.specs.DiskActors.{IsDiskActor, ActorMayList, ActorMayRead, map_blocks};
 ghost use Rattle.scan_rounds.specs.Rings.{IsRingOf};
 ghost use Rattle.scan_rounds.specs.BlockFilter.{filter_of_skipping};
 ghost use Rattle.scan_rounds.specs.ConsumedPages.{MapHasPages};
@@ -70,7 +68,7 @@ impl<W: World, D: Disk> DiskActor<W, D> {
         ensures read { ActorReadBlocks D.Disk W.told W.relations shared.now.table
             (C.holds consumer.new) self.old self.new desk.old desk.new blocks.entry result }
         ensures stands_on { M.stands_on method.new ≡ M.stands_on method.old }
-        ensures consumer { C.is_same consumer.old consumer.new }
+        ensures kept { C.kept consumer.new ≡ C.kept consumer.old }
     {
         let Some(disk) = self.disk.take() else {
             unreachable!()
@@ -115,7 +113,7 @@ impl<W: World, D: Disk> DiskActor<W, D> {
             (C.holds consumer.new) self.old self.new desk.old desk.new blocks.entry result.1 }
         ensures ring { IsRingOf shared.now.queue result.0 }
         ensures stands_on { M.stands_on method.new ≡ M.stands_on method.old }
-        ensures consumer { C.is_same consumer.old consumer.new }
+        ensures kept { C.kept consumer.new ≡ C.kept consumer.old }
     {
         let Some(disk) = self.disk.take() else {
             unreachable!()
@@ -163,7 +161,7 @@ impl<W: World, D: Disk> DiskActor<W, D> {
             (C.holds consumer.new) self.old self.new desk.old desk.new blocks.entry result }
         ensures ring { IfSome ring.new (IsRingOf shared.now.queue) }
         ensures stands_on { M.stands_on method.new ≡ M.stands_on method.old }
-        ensures consumer { C.is_same consumer.old consumer.new }
+        ensures kept { C.kept consumer.new ≡ C.kept consumer.old }
     {
         match ring.take() {
             Some(own) => {

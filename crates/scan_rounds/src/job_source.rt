@@ -3,8 +3,7 @@ ghost use Rattle.std.specs.Prelude.{◌≡◌, ◌≤◌, ◌<◌, ◌+◌, ℕ,
 ghost use Rattle.std.specs.List.{All};
 ghost use Rattle.scan_rounds.specs.ListOptions.{ListOptions};
 ghost use Rattle.scan_rounds.specs.Jobs.{IsNewJob, AllJobsAnswered, job_block_count};
-ghost use Rattle.scan_rounds.specs.Jobs.{count_unskipped};
-ghost use Rattle.scan_rounds.specs.Jobs.{unread_job_count};
+ghost use Rattle.scan_rounds.specs.Jobs.{count_unskipped, unread_job_count};
 ghost use Rattle.scan_rounds.specs.BlockFilter.{BlockFilter};
 ghost use Rattle.scan_rounds.specs.declared.job.Job.{Job};
 

@@ -138,28 +138,22 @@ pub(crate) struct Listing<'j> {
 impl Consumer for Listing<'_> {
     ghost use Rattle.heap_tuple.specs.Listing.{text_with};
     ghost use Rattle.scan_rounds.specs.ConsumedPages.{JobHasOutput};
-    ghost use Rattle.scan_rounds.specs.Loans.{IsSameListing};
-    ghost use Rattle.std.proofs.Common.{refl, ◌∙◌};
+    ghost use Rattle.std.specs.Prelude.{Bool, ℕ};
 
     ghost holds = { λ l pages. JobHasOutput (text_with l.tuples) l.job.now pages };
 
     ghost most = { λ l. 64 };
 
-    ghost is_same = { IsSameListing };
+    // Which job is on loan, and what it asks for.
+    ghost Kept = { ℕ × Bool × ℕ × ℕ × ℕ };
 
-    ghost is_itself = { λ a. record {
-      loan = refl;
-      tuples_are = refl;
-      relation_is = refl;
-      blocks_are = (refl, refl);
-    } };
-
-    ghost is_same_later = { λ a b c one two. record {
-      loan = two.loan ∙ one.loan;
-      tuples_are = two.tuples_are ∙ one.tuples_are;
-      relation_is = two.relation_is ∙ one.relation_is;
-      blocks_are = (two.blocks_are.0 ∙ one.blocks_are.0, two.blocks_are.1 ∙ one.blocks_are.1);
-    } };
+    ghost kept = { λ l. (
+      l.job.ghost_name,
+      l.tuples,
+      (l.job.now).relation,
+      (l.job.now).first,
+      (l.job.now).count,
+    ) };
 
     fn take(&mut self, relation: u32, answer: Next<'_, ()>) -> Option<Ending> {
         let Job {

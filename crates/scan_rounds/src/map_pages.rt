@@ -15,26 +15,16 @@ pub(crate) struct MapPages<'m> {
 
 impl Consumer for MapPages<'_> {
     ghost use Rattle.scan_rounds.specs.ConsumedPages.{MapHasPages};
-    ghost use Rattle.scan_rounds.specs.Loans.{IsSameMap};
-    ghost use Rattle.std.proofs.Common.{refl, ◌∙◌};
+    ghost use Rattle.std.specs.Prelude.{ℕ};
 
     ghost holds = { λ m pages. MapHasPages m.map.now m.warnings.now.items pages };
 
     ghost most = { λ m. (m.map.now).pages };
 
-    ghost is_same = { IsSameMap };
+    // Which map and which warnings are on loan, and how many pages the map can have.
+    ghost Kept = { ℕ × ℕ × ℕ };
 
-    ghost is_itself = { λ a. record {
-      map_loan = refl;
-      warnings_loan = refl;
-      pages_are = refl;
-    } };
-
-    ghost is_same_later = { λ a b c one two. record {
-      map_loan = two.map_loan ∙ one.map_loan;
-      warnings_loan = two.warnings_loan ∙ one.warnings_loan;
-      pages_are = two.pages_are ∙ one.pages_are;
-    } };
+    ghost kept = { λ m. (m.map.ghost_name, m.warnings.ghost_name, (m.map.now).pages) };
 
     fn take(&mut self, relation: u32, answer: Next<'_, ()>) -> Option<Ending> {
         match answer {

@@ -4,9 +4,9 @@ ghost use Rattle.std.specs.List.{All};
 ghost use Rattle.aio_handle.specs.ContractViews.{AreNewActors};
 ghost use Rattle.method_worker.specs.QueueViews.{QueueView, IsSeatOf};
 ghost use Rattle.scan_rounds.specs.OpenedScan.{AreValidScanSettings, AreStreamSettings};
-ghost use Rattle.scan_rounds.specs.OpenedScan.{HasEmptyLists, IsDeskFor};
-ghost use Rattle.scan_rounds.specs.OpenedScan.{IsScanMemory, config_of, rings_of_settings};
-ghost use Rattle.scan_rounds.specs.OpenedScan.{seats_of_settings, workers_of_settings};
+ghost use Rattle.scan_rounds.specs.OpenedScan.{HasEmptyLists, IsDeskFor, IsScanMemory, config_of};
+ghost use Rattle.scan_rounds.specs.OpenedScan.{rings_of_settings, seats_of_settings};
+ghost use Rattle.scan_rounds.specs.OpenedScan.{workers_of_settings};
 ghost use Rattle.scan_rounds.specs.Rings.{IsRingOf};
 
 use crate::backend::Backend;

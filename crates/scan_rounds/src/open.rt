@@ -1,12 +1,11 @@
 //! Opens a scan.
-ghost use Rattle.std.specs.Prelude.{◌≡◌, ◌≤◌, ◌<◌, ◌+◌, ◌*◌, ◌-◌, ◌^◌, ◌∷◌, [], length};
-ghost use Rattle.std.specs.Prelude.{IfErr, IfOk, vec_capacity};
+ghost use Rattle.std.specs.Prelude.{◌≡◌, ◌≤◌, ◌<◌, ◌*◌, ◌-◌, ◌^◌, ◌∷◌, [], length, IfErr, IfOk};
+ghost use Rattle.std.specs.Prelude.{vec_capacity};
 ghost use Rattle.std.specs.List.{All};
 ghost use Rattle.std.specs.Vec.Iter.{into_iter_items};
 ghost use Rattle.scan_rounds.specs.OpenedScan.{AreValidScanSettings, GivesBackends};
-ghost use Rattle.scan_rounds.specs.OpenedScan.{GivesDiskActors};
-ghost use Rattle.scan_rounds.specs.OpenedScan.{GivesWorkers};
-ghost use Rattle.scan_rounds.specs.OpenedScan.{IsScanMemory, IsOpenedScan, required_disks};
+ghost use Rattle.scan_rounds.specs.OpenedScan.{GivesDiskActors, GivesWorkers, IsScanMemory};
+ghost use Rattle.scan_rounds.specs.OpenedScan.{IsOpenedScan, required_disks};
 
 use crate::backend::Backend;
 use crate::disk_actor::DiskActor;
@@ -128,7 +127,6 @@ impl<W: World, D: Disk> Parts<W, D> {
 
 // A scan in this memory, over these disks. The handles are at generation `start`.
 fn assemble_scan<W: World, D: Disk>(
-    alloc: Global,
     settings: &ScanSettings,
     memory: Memory<W, D>,
     disks: Vec<D>,
@@ -153,7 +151,6 @@ fn assemble_scan<W: World, D: Disk>(
     let backends = parts.backends(settings.backends, settings.tuples, lists.backends);
     let workers = parts.workers(settings.worker_count(), lists.workers);
     Scan {
-        alloc,
         shared: memory.shared,
         backends,
         workers,
@@ -204,7 +201,7 @@ impl<W: World, D: Disk> Scan<W, D> {
         ensures disks_returned { IfErr result (λ d. d ≡ disks) }
     {
         match Memory::open(alloc, settings, start) {
-            Ok(memory) => Ok(assemble_scan(alloc, settings, memory, disks, start)),
+            Ok(memory) => Ok(assemble_scan(settings, memory, disks, start)),
             Err(_) => Err(disks),
         }
     }

@@ -57,7 +57,7 @@ fn take_all<
         stream.old).settings.zero W.told
         (MayBeUnread (stream_view S.left stream.old).actor_was actor.new.known)
         (stream_entries relation (stream_view S.left stream.old).blocks) (answered_ending result) }
-    ensures consumer { C.is_same consumer.old consumer.new }
+    ensures kept { C.kept consumer.new ≡ C.kept consumer.old }
     ensures stream { IsSameStream (stream_view S.left stream.old) (stream_view S.left stream.new) }
     ensures is_open { IsOpenFor S.left W.told W.relations W.handles stream.new actor.new }
 {
@@ -106,7 +106,7 @@ pub(crate) fn read<W: World, M: Method<ReadIo, W>, E: Execute<ReadIo, W>, T: Wai
     ensures given { PagesConsumed (C.holds consumer.new) desk.old.settings.zero W.told
         (MayBeUnread actor.old actor.new.known) (entries_of_blocks blocks.entry)
         (answered_ending result) }
-    ensures consumer { C.is_same consumer.old consumer.new }
+    ensures kept { C.kept consumer.new ≡ C.kept consumer.old }
 {
     let relation = blocks.relation;
     let source = UnskippedBlocks::new(blocks);

@@ -1,51 +1,123 @@
-//! What a round counts: the lives that are left, and the jobs that ended in Unread.
-ghost use Rattle.std.specs.Prelude.{◌≡◌, ◌≤◌, length};
-ghost use Rattle.aio_disk.specs.Counts.{count_plus};
-ghost use Rattle.scan_rounds.specs.Jobs.{unread_job_count, unread_ending_count};
-ghost use Rattle.scan_rounds.specs.Rounds.{IsLeastRoom};
+//! The rounds of a job source, one after the other, and a round by itself.
+ghost use Rattle.std.specs.Prelude.{◌≡◌, ◌<◌, ◌+◌, ◌*◌, ◌-◌, map, false, true};
+ghost use Rattle.scan_rounds.specs.JobSources.{JobSourceAdvanced, BackendsMayRunSource};
+ghost use Rattle.scan_rounds.specs.ListOptions.{ListOptions};
+ghost use Rattle.scan_rounds.specs.Progress.{BackendsAreReady, IsClosedByFirst};
+ghost use Rattle.scan_rounds.specs.Progress.{BackendsMayTakeTurn, TurnTaken};
+ghost use Rattle.scan_rounds.specs.Rounds.{AllHaveOptions, backend_disk_actor};
+ghost use Rattle.scan_rounds.specs.BlockFilter.{filter_of_skipping};
 
 use crate::backend::Backend;
-use crate::job::{Ending, Job};
+use crate::counts::Counts;
+use crate::job::Job;
+use crate::job_source::JobSource;
+use crate::map_filter::MapFilter;
+use crate::shared::SharedState;
+use crate::turn::take_turn;
 use aio_disk::Disk;
 use page_check::World;
+use std::sync::Wait;
+use std::thread::Threads;
 
-/// What a scan counts over its rounds.
-#[derive(Clone, Copy)]
-pub(crate) struct Counts {
-    /// The least room of the backends.
-    pub(crate) room: u64,
-    /// How many jobs have ended in Unread.
-    pub(crate) unread: u64,
+// One turn of a job source. Whether there is to be another.
+fn next_turn<W: World + Send + Sync, D: Disk, R: Threads + Wait + Sync, A: JobSource<W>>(
+    rt: &R,
+    shared: &SharedState<W>,
+    by_map: Option<MapFilter<'_>>,
+    backends: &mut [Backend<W, D>],
+    jobs: &mut [Job],
+    job_source: &mut A,
+    counts: &mut Counts,
+) -> bool
+    requires may { BackendsMayRunSource D.Disk W.told W.relations shared.now.table shared.now.queue
+        A.JobSource (filter_of_skipping by_map) backends.old jobs.old job_source.old counts.old }
+    ensures advanced { JobSourceAdvanced D.Disk W.told W.relations shared.now.table shared.now.queue
+        A.JobSource backends.old backends.new jobs.old jobs.new job_source.old job_source.new
+        counts.old counts.new }
+    ensures over { result ≡ false → A.is_over job_source.new }
+    ensures fewer_left { result ≡ true → A.blocks_left job_source.new < A.blocks_left job_source.old }
+{
+    let count = job_source.next_jobs(jobs);
+    if count == 0 {
+        return false;
+    }
+    let (front, _) = jobs.split_at_mut(count);
+    let share = front.len().div_ceil(backends.len());
+    take_turn(rt, shared, by_map, share, backends, front, counts);
+    job_source.finish_jobs(front)
 }
 
-/// The count with one more where this is Unread.
-pub(crate) fn count_one(count: u64, ending: Ending) -> u64
-    ensures { result ≡ count_plus (unread_ending_count ending) count }
+// The first backend closes the queue, where it has a seat.
+fn close_queue<W: World, D: Disk, R: Wait>(
+    rt: &R,
+    shared: &SharedState<W>,
+    backends: &mut [Backend<W, D>],
+    counts: Counts,
+)
+    requires ready { BackendsAreReady D.Disk W.told W.relations shared.now.table shared.now.queue
+        backends.old counts }
+    ensures ready { BackendsAreReady D.Disk W.told W.relations shared.now.table shared.now.queue
+        backends.new counts }
+    ensures disk_actors { map backend_disk_actor backends.new
+        ≡ map backend_disk_actor backends.old }
+    ensures options { (m : ListOptions) → AllHaveOptions m backends.old
+        → AllHaveOptions m backends.new }
+    ensures closed { IsClosedByFirst shared.now.queue backends.new }
 {
-    match ending {
-        Ending::Unread(_) => count.saturating_add(1),
-        _ => count,
-    }
+    backends[0].close(rt, shared);
 }
 
-// The count with one more for each job that ended in Unread.
-pub(crate) fn count_unread(mut count: u64, jobs: &[Job]) -> u64
-    ensures { result ≡ count_plus (unread_job_count jobs.now) count }
+/// One round, in which each backend does one job at most; then the queue is closed.
+pub(crate) fn make_round<W: World + Send + Sync, D: Disk, R: Threads + Wait + Sync>(
+    rt: &R,
+    shared: &SharedState<W>,
+    by_map: Option<MapFilter<'_>>,
+    backends: &mut [Backend<W, D>],
+    jobs: &mut [Job],
+    counts: &mut Counts,
+)
+    requires may { BackendsMayTakeTurn D.Disk W.told W.relations shared.now.table shared.now.queue 1
+        backends.old jobs.old counts.old }
+    ensures taken { TurnTaken D.Disk W.told W.relations shared.now.table shared.now.queue
+        (filter_of_skipping by_map.entry) 1 backends.old backends.new jobs.old jobs.new counts.old
+        counts.new }
+    ensures closed { IsClosedByFirst shared.now.queue backends.new }
 {
-    for job in jobs {
-        count = count_one(count, job.ending);
-    }
-    count
+    take_turn(rt, shared, by_map, 1, backends, jobs, counts);
+    close_queue(rt, shared, backends, *counts);
 }
 
-// The least room of these backends.
-pub(crate) fn least_room<W: World, D: Disk>(backends: &[Backend<W, D>]) -> u64
-    requires some { 1 ≤ length backends.now }
-    ensures least { IsLeastRoom backends.now result }
+/// All rounds of a job source, in turns: a round by itself first, and then more and more in one
+/// turn. Then the queue is closed.
+pub(crate) fn all_rounds<
+    W: World + Send + Sync,
+    D: Disk,
+    R: Threads + Wait + Sync,
+    A: JobSource<W>,
+>(
+    rt: &R,
+    shared: &SharedState<W>,
+    by_map: Option<MapFilter<'_>>,
+    backends: &mut [Backend<W, D>],
+    jobs: &mut [Job],
+    job_source: &mut A,
+    counts: &mut Counts,
+)
+    requires may { BackendsMayRunSource D.Disk W.told W.relations shared.now.table shared.now.queue
+        A.JobSource (filter_of_skipping by_map) backends.old jobs.old job_source.old counts.old }
+    ensures advanced { JobSourceAdvanced D.Disk W.told W.relations shared.now.table shared.now.queue
+        A.JobSource backends.old backends.new jobs.old jobs.new job_source.old job_source.new
+        counts.old counts.new }
+    ensures over { A.is_over job_source.new }
+    ensures closed { IsClosedByFirst shared.now.queue backends.new }
 {
-    let mut least = u64::MAX;
-    for backend in backends {
-        least = least.min(backend.disk_actor.actor.room());
+    let mut many = backends.len();
+    loop {
+        let (front, _) = jobs.split_at_mut(many);
+        if !next_turn(rt, shared, by_map, backends, front, job_source, counts) {
+            close_queue(rt, shared, backends, *counts);
+            return;
+        }
+        many = jobs.len().min(many.saturating_mul(2));
     }
-    least
 }

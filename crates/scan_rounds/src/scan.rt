@@ -9,13 +9,11 @@ use aio_callback::ReadIo;
 use aio_disk::Disk;
 use aio_handle::Actor;
 use page_check::World;
-use std::alloc::Global;
 use std::snapshot::Snapshot;
 
 /// Backends and workers over one table of handles, one pool and one submission queue.
 #[derive(Drop)]
 pub struct Scan<W: World, D: Disk> {
-    pub(crate) alloc: Global,
     pub(crate) shared: SharedState<W>,
     // In the order of the actors' numbers.
     pub(crate) backends: Vec<Backend<W, D>>,

@@ -1,7 +1,7 @@
 //! How a scan reads.
 ghost use Rattle.std.specs.Prelude.{◌≡◌};
-ghost use Rattle.scan_rounds.specs.OpenedScan.{AreValidScanSettings, required_disks};
-ghost use Rattle.scan_rounds.specs.OpenedScan.{rings_of_settings};
+ghost use Rattle.scan_rounds.specs.OpenedScan.{AreValidScanSettings, needs_of_method};
+ghost use Rattle.scan_rounds.specs.OpenedScan.{required_disks, rings_of_settings};
 ghost use Rattle.scan_rounds.specs.OpenedScan.{seats_of_settings, workers_of_settings};
 
 /// Who executes I/O (`io_method`).
@@ -13,6 +13,35 @@ pub enum MethodKind {
     Worker,
     /// Each backend by a ring of its own, in groups: its own and those of the other backends.
     Ring,
+}
+
+/// What a scan by a method has besides its handles and its pool.
+#[derive(Clone, Copy)]
+pub(crate) struct MethodNeeds {
+    /// A seat of the queue for each backend.
+    pub(crate) queue: bool,
+    /// Workers at the queue.
+    pub(crate) workers: bool,
+    /// A ring for each backend.
+    pub(crate) rings: bool,
+}
+
+impl MethodKind {
+    /// What a scan has by this method.
+    pub(crate) fn needs(self) -> MethodNeeds
+        ensures { result ≡ needs_of_method self }
+    {
+        let (queue, workers, rings) = match self {
+            MethodKind::Sync => (false, false, false),
+            MethodKind::Worker => (true, true, false),
+            MethodKind::Ring => (true, false, true),
+        };
+        MethodNeeds {
+            queue,
+            workers,
+            rings,
+        }
+    }
 }
 
 /// How a scan reads.
@@ -48,10 +77,11 @@ impl ScanSettings {
     pub(crate) fn worker_count(&self) -> u32
         ensures { result ≡ workers_of_settings self.now }
     {
-        match self.method {
-            MethodKind::Sync => 0,
-            MethodKind::Worker => self.workers,
-            MethodKind::Ring => 0,
+        let needs = self.method.needs();
+        if needs.queue && needs.workers {
+            self.workers
+        } else {
+            0
         }
     }
 
@@ -60,10 +90,10 @@ impl ScanSettings {
         requires { AreValidScanSettings self.now }
         ensures { result ≡ seats_of_settings self.now }
     {
-        match self.method {
-            MethodKind::Sync => 0,
-            MethodKind::Worker => self.backends + self.workers,
-            MethodKind::Ring => self.backends,
+        if self.method.needs().queue {
+            self.backends + self.worker_count()
+        } else {
+            0
         }
     }
 
@@ -71,10 +101,10 @@ impl ScanSettings {
     pub(crate) fn ring_count(&self) -> u32
         ensures { result ≡ rings_of_settings self.now }
     {
-        match self.method {
-            MethodKind::Sync => 0,
-            MethodKind::Worker => 0,
-            MethodKind::Ring => self.backends,
+        if self.method.needs().rings {
+            self.backends
+        } else {
+            0
         }
     }
 

@@ -4,7 +4,7 @@ use Rattle.std.specs.Vec.Iter.{into_iter_items}
 use Rattle.aio_handle.specs.ContractViews.{AreNewActors, ActorView}
 use Rattle.method_worker.specs.QueueViews.{IsSeatOf, SeatView}
 use Rattle.scan_rounds.specs.Rings.{IsRingOf}
-use Rattle.scan_rounds.specs.OpenedScan.{IsDeskFor}
+use Rattle.scan_rounds.specs.OpenedScan.{IsDeskFor, needs_of_method}
 use Rattle.scan_rounds.specs.declared.scan.Scan.{Scan}
 use Rattle.scan_rounds.proofs.PartsGiven.{left_of_backends, seats_least}
 use Rattle.scan_rounds.proofs.AssembledScan.{opened_scan}
@@ -34,7 +34,8 @@ workers-workers-requires-clause-seats g c κs within =
     let bs = c.backends-backends.ensures.count in
     let ws = c.worker_count.ensures in
     let few : most ≤ c.args.settings.now.backends + left = omega (arith, least, bs) in
-    let enough = enough_seats c.args.settings.now.method most c.args.settings.now.backends
+    let needs = needs_of_method c.args.settings.now.method in
+    let enough = enough_seats needs.queue needs.workers most c.args.settings.now.backends
     c.args.settings.now.workers left all few in
     omega (arith, ws, enough)
 
@@ -45,7 +46,6 @@ returns g c =
     let opened = ap (λ v. v.items) c.of-opened.ensures in
     let scan : Scan g.row.W.Denot g.row.D.Denot =
     record {
-      alloc = c.args.alloc;
       shared = c.args.memory.shared;
       backends = c.backends-backends.result;
       workers = c.workers-workers.result;

@@ -1,7 +1,7 @@
 use Rattle.std.proofs.Common.{rules, refl, ◌∙◌, arith}
 use Rattle.std.proofs.lemmas.List.{length-map}
-use Rattle.read_stream.specs.StreamAnswers.{stream_entry, synchronous_answer}
-use Rattle.read_stream.specs.StreamAnswers.{stream_entries, MayBeUnread}
+use Rattle.read_stream.specs.StreamAnswers.{stream_entry, synchronous_answer, stream_entries}
+use Rattle.read_stream.specs.StreamAnswers.{MayBeUnread}
 use Rattle.read_stream.specs.StreamState.{stream_view}
 use Rattle.read_stream.specs.StreamViews.{StreamView, answer_of}
 use Rattle.read_stream.proofs.CallersView.{later_by_call, same_stream_later}
@@ -18,7 +18,7 @@ loop-ending-init g c = record {
   is_open = c.requires.is_open;
   stream = refl;
   most = refl;
-  consumer_is = g.met.C.Consumer.is_itself c.args.consumer.now;
+  kept = refl;
   so_far = nothing_yet _ _ _ _ _ c.requires.none c.requires.held;
 }
 
@@ -61,7 +61,7 @@ loop-ending-preserved g c =
       stream = same_stream_later s t _ i.stream (later_by_call t _ c.next-answer.new.actor
           (answer_of t c.next-answer.result) f.view);
       most = c.take.ensures.most ∙ i.most;
-      consumer_is = g.met.C.Consumer.is_same_later _ _ _ i.consumer_is c.take.ensures.same;
+      kept = c.take.ensures.kept ∙ i.kept;
       so_far = taken_more _ _ _ _ _ _ _ _ _ _ i.so_far here.next here.zeroed c.take.ensures.takes
           c.in_default.is (given_by_call s t _ _ c.args.relation c.next-answer.result i.stream
           c.requires.relation f.view);
@@ -103,6 +103,5 @@ returns-in-Some-clause-stream g c =
     (later_by_call t _ c.next-answer.new.actor (answer_of t c.next-answer.result)
     c.next-answer.follows.holds-at-none.view)
 
-pub returns-in-Some-clause-consumer : goal.returns-in-Some-clause-consumer
-returns-in-Some-clause-consumer g c =
-    g.met.C.Consumer.is_same_later _ _ _ c.loop-ending.invariant.consumer_is c.take.ensures.same
+pub returns-in-Some-clause-kept : goal.returns-in-Some-clause-kept
+returns-in-Some-clause-kept g c = c.take.ensures.kept ∙ c.loop-ending.invariant.kept

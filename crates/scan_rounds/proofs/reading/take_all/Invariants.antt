@@ -18,7 +18,7 @@ invariant-loop-ending g l = record {
   stream : IsSameStream (stream_view g.S.BlockSource.left l.fn.stream)
       (stream_view g.S.BlockSource.left l.stream);
   most : g.C.Consumer.most l.consumer ≡ g.C.Consumer.most l.fn.consumer;
-  consumer_is : g.C.Consumer.is_same l.fn.consumer l.consumer;
+  kept : g.C.Consumer.kept l.consumer ≡ g.C.Consumer.kept l.fn.consumer;
   so_far : SoFar (g.C.Consumer.holds l.consumer) (stream_view g.S.BlockSource.left l.fn.stream).settings.zero g.W.World.told
       (stream_entries l.relation (stream_view g.S.BlockSource.left l.fn.stream).blocks) (stream_view g.S.BlockSource.left l.stream).given;
 }

@@ -1,5 +1,5 @@
 use Rattle.std.proofs.Common.{sym, ap, ◌∙◌}
-use Rattle.scan_rounds.proofs.MapPages.{no_pages, read_same}
+use Rattle.scan_rounds.proofs.MapPages.{no_pages}
 use Rattle.scan_rounds.proofs.disk_actor.DiskActor.read_map.Goals as goal
 
 pub read_one_by_one-ending-requires-clause-held : goal.read_one_by_one-ending-requires-clause-held
@@ -8,8 +8,7 @@ read_one_by_one-ending-requires-clause-held g c κs within =
 
 pub returns-clause-read : goal.returns-clause-read
 returns-clause-read g c =
-    let consumer = c.read_one_by_one-ending.ensures.consumer in
-    let map = c.map-1.given.1 (sym consumer.map_loan) ∙ c.end_borrow.ensures in
-    let warnings = c.warnings-1.given.1 (sym consumer.warnings_loan) ∙ c.end_borrow-2.ensures in
-    read_same _ _ _ _ _ _ _ _ _ _ _ _ _ _ map (ap (λ v. v.items) warnings)
-    c.read_one_by_one-ending.ensures.read
+    let kept = c.read_one_by_one-ending.ensures.kept in
+    let map = c.map-1.given.1 (ap (λ k. k.0) (sym kept)) ∙ c.end_borrow.ensures in
+    let warnings = c.warnings-1.given.1 (ap (λ k. k.1) (sym kept)) ∙ c.end_borrow-2.ensures in
+    rw (map, ap (λ v. v.items) warnings) c.read_one_by_one-ending.ensures.read

@@ -3,7 +3,7 @@ use Rattle.std.proofs.lemmas.List.{take_all}
 use Rattle.std.proofs.Math.Nat.{min-le_left}
 use Rattle.scan_rounds.specs.Rounds.{AllBackendsHaveRoom}
 use Rattle.scan_rounds.proofs.LeastRoom.{least_next, greatest_next, least_is}
-use Rattle.scan_rounds.proofs.rounds.least_room.Goals as goal
+use Rattle.scan_rounds.proofs.counts.least_room.Goals as goal
 
 pub loop-backend-preserved : goal.loop-backend-preserved
 loop-backend-preserved g c = record {

@@ -1,6 +1,6 @@
 use Rattle.std.proofs.Common.{ℕ, ◌^◌, ◌<◌, ◌≤◌, take}
 use Rattle.scan_rounds.specs.Rounds.{AllBackendsHaveRoom}
-use Rattle.scan_rounds.proofs.rounds.least_room.Given as goal
+use Rattle.scan_rounds.proofs.counts.least_room.Given as goal
 
 abbrev pub invariant-loop-backend : goal.invariant-loop-backend
 invariant-loop-backend g l = record {

@@ -1,0 +1,75 @@
+-- What holds between two lists, place by place.
+use Rattle.std.proofs.Common.{◌≡◌, ℕ, zero, suc, ◌<◌, List, [], ◌∷◌, ◌++◌, length, map, refl, ap}
+use Rattle.std.proofs.Common.{arith}
+use Rattle.std.specs.Prelude.{slice_index_or}
+use Rattle.std.specs.List.{All, AllZip}
+use Rattle.std.proofs.lemmas.List.Elements.{All-nil, All-cons, All-head, All-tail}
+
+module _ {A B : Type 0} (R : A → B → Type 0) where
+  pub zip-length : (xs : List A) (ys : List B) → AllZip R xs ys → length ys ≡ length xs
+  zip-length [] [] all = refl
+  zip-length (x ∷ xs) (y ∷ ys) all = ap suc (zip-length xs ys all.1)
+  zip-length [] (y ∷ ys) all = absurd all
+  zip-length (x ∷ xs) [] all = absurd all
+
+  pub zip-at : (xs : List A) (ys : List B) (i : ℕ) (d : A) (e : B) → AllZip R xs ys
+      → i < length xs → R (slice_index_or xs i d) (slice_index_or ys i e)
+  zip-at (x ∷ xs) (y ∷ ys) zero d e all lt = all.0
+  zip-at (x ∷ xs) (y ∷ ys) (suc i) d e all lt = zip-at xs ys i d e all.1 (omega arith)
+  zip-at [] ys i d e all lt = absurd (omega arith)
+  zip-at (x ∷ xs) [] i d e all lt = absurd all
+
+  pub zip-each : (xs : List A) (ys : List B) → length ys ≡ length xs
+      → ((i : ℕ) (d : A) (e : B) → i < length xs
+      → R (slice_index_or xs i d) (slice_index_or ys i e)) → AllZip R xs ys
+  zip-each [] [] same each = tt
+  zip-each (x ∷ xs) (y ∷ ys) same each = (
+    each 0 x y (omega arith),
+    zip-each xs ys (omega arith) (λ i d e lt. each (suc i) d e (omega arith)),
+  )
+  zip-each [] (y ∷ ys) same each = absurd (omega arith)
+  zip-each (x ∷ xs) [] same each = absurd (omega arith)
+
+  pub zip-append : (xs us : List A) (ys vs : List B) → AllZip R xs ys → AllZip R us vs
+      → AllZip R (xs ++ us) (ys ++ vs)
+  zip-append [] us [] vs one two = two
+  zip-append (x ∷ xs) us (y ∷ ys) vs one two = (one.0, zip-append xs us ys vs one.1 two)
+  zip-append [] us (y ∷ ys) vs one two = absurd one
+  zip-append (x ∷ xs) us [] vs one two = absurd one
+
+  -- what it makes of each element of the second list
+  pub zip-all : (P : A → Type 0) (Q : B → Type 0) → ((x : A) (y : B) → R x y → P x → Q y)
+      → (xs : List A) (ys : List B) → AllZip R xs ys → All P xs → All Q ys
+  zip-all P Q makes [] [] all is = All-nil Q
+  zip-all P Q makes (x ∷ xs) (y ∷ ys) all is = All-cons Q y ys
+      (makes x y all.0 (All-head P x xs is)) (zip-all P Q makes xs ys all.1 (All-tail P x xs is))
+  zip-all P Q makes [] (y ∷ ys) all is = absurd all
+  zip-all P Q makes (x ∷ xs) [] all is = absurd all
+
+  -- and of the two that were made of both
+  pub zip-map : {X Y : Type 0} (S : X → Y → Type 0) (f : A → X) (g : B → Y)
+      → ((x : A) (y : B) → R x y → S (f x) (g y)) → (xs : List A) (ys : List B) → AllZip R xs ys
+      → AllZip S (map f xs) (map g ys)
+  zip-map S f g makes [] [] all = tt
+  zip-map S f g makes (x ∷ xs) (y ∷ ys) all =
+      (makes x y all.0, zip-map S f g makes xs ys all.1)
+  zip-map S f g makes [] (y ∷ ys) all = absurd all
+  zip-map S f g makes (x ∷ xs) [] all = absurd all
+
+  -- one relation, and then another
+  pub zip-then : {X : Type 0} (S : B → X → Type 0) (T : A → X → Type 0)
+      → ((x : A) (y : B) (z : X) → R x y → S y z → T x z) → (xs : List A) (ys : List B)
+      (zs : List X) → AllZip R xs ys → AllZip S ys zs → AllZip T xs zs
+  zip-then S T then [] [] [] one two = tt
+  zip-then S T then (x ∷ xs) (y ∷ ys) (z ∷ zs) one two =
+      (then x y z one.0 two.0, zip-then S T then xs ys zs one.1 two.1)
+  zip-then S T then [] (y ∷ ys) zs one two = absurd one
+  zip-then S T then (x ∷ xs) [] zs one two = absurd one
+  zip-then S T then [] [] (z ∷ zs) one two = absurd two
+  zip-then S T then (x ∷ xs) (y ∷ ys) [] one two = absurd two
+
+pub zip-itself : {A : Type 0} (R : A → A → Type 0) (xs : List A) → All (λ x. R x x) xs
+    → AllZip R xs xs
+zip-itself R [] all = tt
+zip-itself R (x ∷ xs) all =
+    (All-head (λ y. R y y) x xs all, zip-itself R xs (All-tail (λ y. R y y) x xs all))
