@@ -1,56 +1,38 @@
--- Blocks of one relation.
-use Rattle.std.proofs.Common.{◌≡◌, ℕ, zero, suc, Bool, true, false, cond, List, [], ◌∷◌, map, refl}
-use Rattle.std.proofs.Common.{sym, ap, ◌∙◌}
-use Rattle.std.specs.Prelude.{Option, Some, None, slice_get}
-use Rattle.std.specs.List.{filter, range_with_len}
+-- Blocks of one relation, their pages, and the listing of these.
+use Rattle.std.proofs.Common.{◌≡◌, ℕ, List, [], ◌∷◌, ◌++◌, map, take, drop, length, refl, sym}
+use Rattle.std.proofs.Common.{ap, ◌∙◌, subst, arith}
+use Rattle.std.specs.Prelude.{Option, Some, None}
+use Rattle.std.specs.List.{All, range_with_len}
+use Rattle.std.proofs.Math.Seq.{take-append_seam}
+use Rattle.std.proofs.lemmas.List.{get_or-map, length-map}
+use Rattle.std.proofs.lemmas.List.Elements.{All-drop, All-filter, All-map, All-same, All-tail}
+use Rattle.std.proofs.lemmas.List.Elements.{All-take}
+use Rattle.page_check.specs.SynchronousAnswer.{Reader, entry_given, readable_pages, read_count}
+use Rattle.page_check.specs.IsAnswer.{AreFirst}
 use Rattle.heap_scan.specs.Job.{block_entry}
+use Rattle.heap_scan.specs.Listing.{TextOf, listing, text_for}
 use Rattle.scan_rounds.specs.Jobs.{entries_of_job}
 use Rattle.scan_rounds.specs.BlockFilter.{BlockFilter, is_unskipped, unskipped_entries}
 use Rattle.scan_rounds.specs.declared.job.Job.{Job}
-use Rattle.aioscan_cmd.specs.RequestList.{Request, block_range}
+use Rattle.aioscan_cmd.specs.Command.{MapOption}
+use Rattle.aioscan_cmd.specs.RequestList.{Page, Request, block_range, without_map_pages}
 
 abbrev pub AreOf : ℕ → List Request → Type 0
-AreOf r blocks = (k : ℕ) (e : Request) → slice_get blocks k ≡ Some e → e.relation ≡ r
+AreOf r blocks = All (λ (e : Request). e.relation ≡ r) blocks
 
-mapped : {X Y : Type 0} (f : X → Y) (xs : List X) (k : ℕ) (y : Y) → slice_get (map f xs) k ≡ Some y
-    → (x : X) × (y ≡ f x)
-mapped f [] k y is = absurd (cc)
-mapped f (x ∷ xs) zero y is = (x, cc)
-mapped f (x ∷ xs) (suc k) y is = mapped f xs k y is
+abbrev pub ArePagesOf : ℕ → List Page → Type 0
+ArePagesOf r pages = All (λ (g : Page). g.entry.relation ≡ r) pages
 
 pub range_of : (r first count : ℕ) → AreOf r (block_range r first count)
-range_of r first count k e here =
-    ap (λ (x : Request). x.relation)
-    (mapped (block_entry r) (range_with_len first count) k e here).1
-
-first_of : (r : ℕ) (e : Request) (es : List Request) → AreOf r (e ∷ es) → e.relation ≡ r
-first_of r e es all = all 0 e refl
-
-rest_of : (r : ℕ) (e : Request) (es : List Request) → AreOf r (e ∷ es) → AreOf r es
-rest_of r e es all k x here = all (suc k) x here
-
-pub more_of : (r : ℕ) (e : Request) (es : List Request) → e.relation ≡ r → AreOf r es
-    → AreOf r (e ∷ es)
-more_of r e es first rest zero x here =
-    (let same : e ≡ x = cc in ap (λ (y : Request). y.relation) (sym same) ∙ first)
-more_of r e es first rest (suc k) x here = rest k x here
-
-by_test : (r : ℕ) (b : Bool) (e : Request) (es : List Request) → e.relation ≡ r → AreOf r es
-    → AreOf r (cond b (e ∷ es) es)
-by_test r true e es first rest = more_of r e es first rest
-by_test r false e es first rest = rest
-
-filtered_of : (r : ℕ) (p : Request → Bool) (es : List Request) → AreOf r es
-    → AreOf r (filter p es)
-filtered_of r p [] all = all
-filtered_of r p (e ∷ es) all =
-    by_test r (p e) e (filter p es) (first_of r e es all)
-    (filtered_of r p es (rest_of r e es all))
+range_of r first count =
+    All-map (λ (e : Request). e.relation ≡ r) (block_entry r) (range_with_len first count)
+    (λ k d below. refl)
 
 pub unskipped_of_relation : (r : ℕ) (skips : Option BlockFilter) (es : List Request) → AreOf r es
     → AreOf r (unskipped_entries skips es)
 unskipped_of_relation r None es all = all
-unskipped_of_relation r (Some s) es all = filtered_of r (λ e. is_unskipped (Some s) e.block) es all
+unskipped_of_relation r (Some s) es all =
+    All-filter (λ e. is_unskipped (Some s) e.block) (λ (e : Request). e.relation ≡ r) es all
 
 -- those of a job
 pub job_entries_of_relation : (skips : Option BlockFilter) (j : Job)
@@ -58,3 +40,52 @@ pub job_entries_of_relation : (skips : Option BlockFilter) (j : Job)
 job_entries_of_relation skips j =
     unskipped_of_relation j.relation skips (block_range j.relation j.first j.count)
     (range_of j.relation j.first j.count)
+
+All-front : {X : Type 0} (P : X → Type 0) (xs ys all : List X) → all ≡ xs ++ ys → All P all
+    → All P xs
+All-front P xs ys all joined holds =
+    All-same P xs (take (length xs) all)
+    (sym (ap (take (length xs)) joined ∙ take-append_seam xs ys)) (All-take P (length xs) all holds)
+
+-- the pages of entries of one relation
+pub pages_are_of : (r : ℕ) (found : Option Reader) (entries : List Request) (pages : List Page)
+    → AreOf r entries → AreFirst found entries pages → ArePagesOf r pages
+pages_are_of r None entries pages all first =
+    (let P : Request → Type 0 = λ e. e.relation ≡ r in
+    let entry : Page → Request = λ g. g.entry in
+    let given = All-front P (map entry pages) first.1.0 entries first.1.1 all in
+    λ k d below. subst P (get_or-map entry pages k d (entry d) below)
+    (given k (entry d) (omega (arith, length-map pages entry))))
+pages_are_of r (Some f) entries pages all first =
+    let P : Page → Type 0 = λ g. g.entry.relation ≡ r in
+    let n = read_count f entries in
+    All-front P pages first.0 (readable_pages f entries) first.1
+    (All-map P (entry_given f) (take n entries)
+    (All-take (λ (e : Request). e.relation ≡ r) n entries all))
+
+pub some_pages_of : (r k n : ℕ) (pages : List Page) → ArePagesOf r pages
+    → ArePagesOf r (take n (drop k pages))
+some_pages_of r k n pages all =
+    let P : Page → Type 0 = λ g. g.entry.relation ≡ r in
+    All-take P n (drop k pages) (All-drop P k pages all)
+
+-- the pages of a map have no text
+pub map_listing : (m : MapOption) (text_of : TextOf) (pages : List Page) → ArePagesOf 1 pages
+    → listing (without_map_pages (Some m) text_of) pages ≡ []
+unfolding listing
+map_listing m text_of [] all = refl
+map_listing m text_of (g ∷ pages) all =
+    let here = all 0 g (omega arith) in
+    let rest = map_listing m text_of pages (All-tail (λ (x : Page). x.entry.relation ≡ 1) g pages all) in
+    rw here rest
+
+-- and those of the other relation have theirs
+pub other_listing : (map : Option MapOption) (text_of : TextOf) (pages : List Page)
+    → ArePagesOf 0 pages → listing text_of pages ≡ listing (without_map_pages map text_of) pages
+unfolding listing
+other_listing None text_of pages all = refl
+other_listing (Some m) text_of [] all = refl
+other_listing (Some m) text_of (g ∷ pages) all =
+    let here = all 0 g (omega arith) in
+    let rest = other_listing (Some m) text_of pages (All-tail (λ (x : Page). x.entry.relation ≡ 0) g pages all) in
+    ap (λ (l : List ℕ). text_for text_of g ++ l) rest ∙ rw here refl

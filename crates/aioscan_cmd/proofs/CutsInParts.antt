@@ -1,5 +1,5 @@
 -- Outputs that stopped at a write that was cut, or behind what was listed.
-use Rattle.std.proofs.Common.{◌≡◌, ◌≢◌, ℕ, zero, suc, ◌+◌, ◌<◌, ◌≤◌, List, [], ◌∷◌, ◌++◌, length}
+use Rattle.std.proofs.Common.{◌≡◌, ◌≢◌, ℕ, zero, suc, ◌+◌, ◌≤◌, List, [], ◌∷◌, ◌++◌, length}
 use Rattle.std.proofs.Common.{take, drop, get_or, refl, sym, ap, ◌∙◌, arith, length-append}
 use Rattle.std.proofs.Common.{append_assoc, inl, inr, ⊎_elim}
 use Rattle.std.specs.Prelude.{Option, Some, None}
@@ -37,24 +37,6 @@ module _ (text_of : TextOf) where
   abbrev texts : List Page → List ℕ
   texts pages = listing text_of pages
 
-  -- what is said of a cut by its pages and texts alone
-  cut_by : (parts : List Part) (pages : List Page) (b a : Option (List ℕ)) (whole n begun : ℕ)
-      (first next : List ℕ) → n < length parts
-      → whole ≡ length (blocks_of_parts (take n parts))
-      → texts (take whole pages) ≡ first → texts (pages_of_part parts n pages) ≡ next → next ≢ []
-      → SinkGrew b a (first ++ take begun next) → IsCutInPart text_of parts pages b a whole
-  cut_by parts pages b a whole n begun first next inside whole_is first_is next_is some grew =
-      record {
-        n = n;
-        inside = inside;
-        whole_is = whole_is;
-        some = λ none. some (sym next_is ∙ none);
-        begun = begun;
-        output_grew = SinkGrew-same b a _ _
-            (ap (λ (l : List ℕ). l ++ take begun next) (sym first_is)
-            ∙ ap (λ (l : List ℕ). texts (take whole pages) ++ take begun l) (sym next_is)) grew;
-      }
-
   -- the write of the only part was cut
   pub cut_alone : (blocks : List Request) (pages : List Page) (b a : Option (List ℕ))
       (text : List ℕ) → length pages ≤ length blocks → text ≡ texts pages → text ≢ []
@@ -62,8 +44,14 @@ module _ (text_of : TextOf) where
       → IsCutInPart text_of (blocks ∷ []) pages b a 0
   cut_alone blocks pages b a text few is some none grew =
       let begun = begun_text b a text grew in
-      cut_by (blocks ∷ []) pages b a 0 0 begun.0 [] text (omega arith) refl none
-      (ap texts (take_all (length blocks) pages few) ∙ sym is) some begun.1
+      let all = take_all (length blocks) pages few in record {
+        n = 0;
+        inside = omega arith;
+        whole_is = refl;
+        some = rw (all, ← is) some;
+        begun = begun.0;
+        output_grew = rw (all, ← is, none) begun.1;
+      }
 
   module _ (xs ys : List Part) (pages : List Page) (b a : Option (List ℕ)) (whole : ℕ)
       (cut : IsCutInPart text_of xs pages b a whole) where
@@ -86,11 +74,15 @@ module _ (text_of : TextOf) where
     -- parts that follow change nothing
     pub cut_more : IsCutInPart text_of (xs ++ ys) pages b a whole
     cut_more =
-        let inside = cut.inside in
-        cut_by (xs ++ ys) pages b a whole cut.n cut.begun (texts (take whole pages))
-        (texts (pages_of_part xs cut.n pages)) (omega (arith, length-append xs ys))
-        (cut.whole_is ∙ ap (λ (l : List Part). length (blocks_of_parts l)) (sym same_begin))
-        refl (ap texts same_pages) cut.some cut.output_grew
+        let inside = cut.inside in record {
+          n = cut.n;
+          inside = omega (arith, length-append xs ys);
+          whole_is = cut.whole_is
+              ∙ ap (λ (l : List Part). length (blocks_of_parts l)) (sym same_begin);
+          some = rw same_pages cut.some;
+          begun = cut.begun;
+          output_grew = rw same_pages cut.output_grew;
+        }
 
   -- parts that were written before
   module _ (xs ys : List Part) (ps qs : List Page) (b m a : Option (List ℕ)) (k : ℕ)
@@ -137,15 +129,17 @@ module _ (text_of : TextOf) where
       pub cut_behind : IsCutInPart text_of (xs ++ ys) (ps ++ qs) b a (length ps + k)
       cut_behind =
           let inside = cut.inside in
-          let next = texts (pages_of_part ys cut.n qs) in
-          cut_by (xs ++ ys) (ps ++ qs) b a (length ps + k) (length xs + cut.n) cut.begun
-          (texts ps ++ texts (take k qs)) next
-          (omega (arith, length-append xs ys)) (omega (arith, cut.whole_is, begin_length))
-          texts_taken (ap texts pages_behind) cut.some
-          (SinkGrew-same b a _ _
-          (sym (append_assoc (texts ps) (texts (take k qs)) (take cut.begun next)))
-          (SinkGrew-append b m a (texts ps) (texts (take k qs) ++ take cut.begun next) grew
-          cut.output_grew))
+          let next = take cut.begun (texts (pages_of_part ys cut.n qs)) in record {
+            n = length xs + cut.n;
+            inside = omega (arith, length-append xs ys);
+            whole_is = omega (arith, cut.whole_is, begin_length);
+            some = rw pages_behind cut.some;
+            begun = cut.begun;
+            output_grew =
+                rw (pages_behind, texts_taken, append_assoc (texts ps) (texts (take k qs)) next)
+                (SinkGrew-append b m a (texts ps) (texts (take k qs) ++ next) grew
+                cut.output_grew);
+          }
 
   -- of more pages the first are the same
   module _ (parts : List Part) (ps rest : List Page) (b a : Option (List ℕ)) (whole : ℕ)
@@ -176,12 +170,16 @@ module _ (text_of : TextOf) where
           let short = texts (pages_of_part parts cut.n ps) in
           let more = texts longer.0 in
           let begun = take_within cut.begun short more in
-          cut_by parts (ps ++ rest) b a whole cut.n begun.0 (texts (take whole ps)) (short ++ more)
-          cut.inside cut.whole_is (sym texts_same)
-          (ap texts longer.1 ∙ listing-append text_of (pages_of_part parts cut.n ps) longer.0)
-          (λ none. cut.some (no_front short more none))
-          (SinkGrew-same b a _ _ (ap (λ (l : List ℕ). texts (take whole ps) ++ l) begun.1)
-          cut.output_grew)
+          let joined : texts (pages_of_part parts cut.n (ps ++ rest)) ≡ short ++ more =
+          ap texts longer.1 ∙ listing-append text_of (pages_of_part parts cut.n ps) longer.0 in
+          record {
+            n = cut.n;
+            inside = cut.inside;
+            whole_is = cut.whole_is;
+            some = λ none. cut.some (no_front short more (sym joined ∙ none));
+            begun = begun.0;
+            output_grew = rw (joined, ← begun.1, ← texts_same) cut.output_grew;
+          }
 
 -- another text of the same pages, where it is the same of each part of them
 pub cut_in_text : (text_of other : TextOf) (parts : List Part) (pages : List Page)
@@ -190,10 +188,15 @@ pub cut_in_text : (text_of other : TextOf) (parts : List Part) (pages : List Pag
     → IsCutInPart text_of parts pages b a whole → IsCutInPart other parts pages b a whole
 cut_in_text text_of other parts pages b a whole same cut =
     let n = cut.n in
-    let size = length (get_or parts n []) in
-    cut_by other parts pages b a whole n cut.begun (listing text_of (take whole pages))
-    (listing text_of (pages_of_part parts n pages)) cut.inside cut.whole_is (sym (same 0 whole))
-    (sym (same (length (blocks_of_parts (take n parts))) size)) cut.some cut.output_grew
+    let part = same (length (blocks_of_parts (take n parts))) (length (get_or parts n [])) in
+    record {
+      n = n;
+      inside = cut.inside;
+      whole_is = cut.whole_is;
+      some = rw (← part) cut.some;
+      begun = cut.begun;
+      output_grew = rw (← part, ← same 0 whole) cut.output_grew;
+    }
 
 -- each way to stop
 module _ (text_of other : TextOf) (xs ys : List Part) (ps qs : List Page)

@@ -139,13 +139,5 @@ warns_also P Q s t also first = record {
 }
 
 -- nothing to warn of
-pub warns_none : (P : List ℕ → Type 0) (line now_line : Line) (b : Option (List ℕ)) (fb : ℕ)
-    → now_line ≡ line → P [] → AppendsWarnings P (error_stream line b fb) (error_stream now_line b
-    fb)
-warns_none P line now_line b fb same are =
-    let Q : Line → Type 0 = λ l. AppendsWarnings P (error_stream line b fb) (error_stream l b fb) in
-    subst Q (sym same) (record {
-      warnings = [];
-      tells = tells_nothing (error_stream line b fb);
-      warnings_hold = are;
-    })
+pub warns_none : (P : List ℕ → Type 0) (s : ErrorStream) → P [] → AppendsWarnings P s s
+warns_none P s are = record { warnings = []; tells = tells_nothing s; warnings_hold = are }

@@ -1,5 +1,5 @@
 -- An outcome is exact, and complete where nothing failed.
-use Rattle.std.proofs.Common.{◌≡◌, ◌≢◌, ℕ, ◌<◌, List, refl, sym, ap, arith, inl, inr}
+use Rattle.std.proofs.Common.{◌≡◌, ◌≢◌, ◌⊎◌, ℕ, ◌<◌, List, refl, sym, ap, arith, inl, inr}
 use Rattle.std.specs.Prelude.{Option}
 use Rattle.std.proofs.lemmas.Bool.{cases_lt}
 use Rattle.aio_disk.specs.Counts.{ShelfCounts}
@@ -33,28 +33,28 @@ exact run (TooLong q) fits r below long fit usage opens lengths memory =
 exact run _ fits r below long fit usage opens lengths memory =
     absurd (let within = fits r below in omega arith)
 
+-- the outcome of a run that named no fault
+pub faultless : (run : SynchronousRun) (b a : Option (List ℕ)) (o : Outcome) → o ≢ Usage
+    → o ≢ CannotOpen → ((r : ℕ) → o ≢ NoLength r) → ((r k : ℕ) → o ≢ Unread r k) → o ≢ CannotWrite
+    → FitsInOrder run.limit run.lengths run.relations o → RunWrites run b a o
+    → EarlierFit run.limit run.lengths run.relations → (o ≡ run.outcome) ⊎ (o ≡ NoMemory)
+faultless run b a NoMemory usage disk length read write fits writes fit = inr refl
+faultless run b a (Unread r k) usage disk length read write fits writes fit =
+    absurd (read r k refl)
+faultless run b a CannotWrite usage disk length read write fits writes fit = absurd (write refl)
+faultless run b a Usage usage disk length read write fits writes fit = absurd (usage refl)
+faultless run b a CannotOpen usage disk length read write fits writes fit = absurd (disk refl)
+faultless run b a (NoLength r) usage disk length read write fits writes fit =
+    absurd (length r refl)
+faultless run b a (TooLong r) usage disk length read write fits writes fit =
+    absurd (let within = fit r fits.0 in let long = fits.1 in omega arith)
+faultless run b a _ usage disk length read write fits writes fit = inl (sym writes.0)
+
 pub complete : (run : SynchronousRun) (before now : ShelfCounts) (wb wn : ℕ)
     (b a : Option (List ℕ)) (o : Outcome) → o ≢ Usage → HasCauses before now wb wn o
     → FitsInOrder run.limit run.lengths run.relations o → RunWrites run b a o
     → IsComplete run before now wb wn o
-complete run before now wb wn b a NoMemory words causes fits writes opens lengths reads failed fit =
-    inr refl
-complete run before now wb wn b a (Unread r k) words causes fits writes opens lengths reads failed
-    fit =
-    absurd (reads (causes.unread r k refl))
-complete run before now wb wn b a CannotWrite words causes fits writes opens lengths reads failed
-    fit =
-    absurd (failed (causes.cannot_write refl))
-complete run before now wb wn b a Usage words causes fits writes opens lengths reads failed fit =
-    absurd (words refl)
-complete run before now wb wn b a CannotOpen words causes fits writes opens lengths reads failed fit
-    =
-    absurd (opens (causes.cannot_open refl))
-complete run before now wb wn b a (NoLength r) words causes fits writes opens lengths reads failed
-    fit =
-    absurd (lengths (causes.no_length r refl))
-complete run before now wb wn b a (TooLong r) words causes fits writes opens lengths reads failed
-    fit =
-    absurd (let within = fit r fits.0 in let long = fits.1 in omega arith)
-complete run before now wb wn b a _ words causes fits writes opens lengths reads failed fit =
-    inl (sym writes.0)
+complete run before now wb wn b a o usage causes fits writes opens lengths reads failed fit =
+    faultless run b a o usage (λ is. opens (causes.cannot_open is))
+    (λ r is. lengths (causes.no_length r is)) (λ r k is. reads (causes.unread r k is))
+    (λ is. failed (causes.cannot_write is)) fits writes fit

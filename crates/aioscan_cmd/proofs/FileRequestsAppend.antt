@@ -1,22 +1,21 @@
 -- FILE words that are listed one after the other.
 use Rattle.std.proofs.Common.{◌≡◌, ℕ, ◌<◌, List, [], ◌∷◌}
 use Rattle.std.proofs.Common.{length}
-use Rattle.std.proofs.Common.{get_or, refl, ap, subst, arith, suc, ◌∙◌, length-append, not}
+use Rattle.std.proofs.Common.{get_or, refl, ap, subst, sym, arith, suc, ◌∙◌, length-append, not}
 use Rattle.std.specs.Prelude.{Option, Some, None}
 use Rattle.std.specs.List.{filter, flat_map}
 use Rattle.std.specs.Str.{bytes_eq}
-use Rattle.vis_map.specs.MapRequest.{map_request}
 use Rattle.std.proofs.lemmas.List.Concat.{flat_map-cons}
 use Rattle.aioscan_cmd.specs.Command.{Command, MapOption, without_duplicates, command_relations}
 use Rattle.aioscan_cmd.specs.Command.{relations_with}
 use Rattle.aioscan_cmd.specs.Command.{relation_number}
 use Rattle.aioscan_cmd.specs.Command.{first_block, asked_count}
 use Rattle.aioscan_cmd.proofs.DistinctNames.{place_of_name}
-use Rattle.aioscan_cmd.specs.RequestList.{block_range}
-use Rattle.aioscan_cmd.specs.RequestList.{Request, request_list, one_file_requests}
+use Rattle.aioscan_cmd.specs.RequestList.{Request, blocks_of_parts, one_file_requests}
 use Rattle.aioscan_cmd.specs.RequestList.{all_file_requests, all_file_parts, one_file_parts}
 use Rattle.aioscan_cmd.specs.RequestList.{Part, range_parts, request_parts}
-use Rattle.aioscan_cmd.specs.RequestList.{with_map, with_map_part}
+use Rattle.aioscan_cmd.specs.RequestList.{with_map_part}
+use Rattle.aioscan_cmd.proofs.PartsOfRequests.{file_blocks}
 
 -- the number of a relation that the words name is one of those that there are
 pub relation_number-below : (command : Command) (k : ℕ) (name : List ℕ) → k < length command.files
@@ -37,42 +36,6 @@ flat_map-same F G d (x ∷ xs) same =
     rw (flat_map-cons F x xs, flat_map-cons G x xs, first, rest) refl
 
 -- the request list depends on the lengths of the relations alone that there are
-pub all_file_requests-same : (f g : ℕ → ℕ) (command : Command)
-    → ((r : ℕ) → r < length (command_relations command) → f r ≡ g r)
-    → all_file_requests f command ≡ all_file_requests g command
-unfolding all_file_requests
-all_file_requests-same f g command same =
-    flat_map-same (one_file_requests f command) (one_file_requests g command) [] command.files
-    (λ k below.
-    (let name = get_or command.files k [] in
-    let r = relation_number name (command_relations command) in
-    let length_is : f r ≡ g r = same r (relation_number-below command k name below refl) in
-    ap (λ (n : ℕ). block_range r (first_block command) (asked_count command n)) length_is))
-
-no_files : (g : ℕ → ℕ) (command : Command) → command.files ≡ [] → all_file_requests g command ≡ []
-unfolding all_file_requests
-no_files g command none = ap (flat_map (one_file_requests g command)) none
-
-with_map-same : (f g : ℕ → ℕ) (map_page : ℕ → List ℕ) (files : List (List ℕ))
-    (map : Option MapOption) (requests : List Request) → (files ≡ [] → requests ≡ [])
-    → ((r : ℕ) → r < length (relations_with files map) → f r ≡ g r)
-    → with_map map f map_page requests ≡ with_map map g map_page requests
-with_map-same f g map_page files None requests none same = refl
-with_map-same f g map_page [] (Some m) requests none same = rw (none refl) refl
-with_map-same f g map_page (file ∷ files) (Some m) requests none same =
-    let others = filter (λ other. not (bytes_eq other file)) (without_duplicates files) in
-    ap (λ (n : ℕ). map_request tt n map_page m.skip requests)
-    (same 1 (omega (arith, length-append others (m.name ∷ []))))
-
-pub request_list-same : (f g : ℕ → ℕ) (map_page : ℕ → List ℕ) (command : Command)
-    → ((r : ℕ) → r < length (command_relations command) → f r ≡ g r)
-    → request_list f map_page command ≡ request_list g map_page command
-request_list-same f g map_page command same =
-    ap (with_map command.map f map_page) (all_file_requests-same f g command same)
-    ∙ with_map-same f g map_page command.files command.map (all_file_requests g command)
-    (no_files g command) same
-
--- the same of its parts
 all_file_parts-same : (f g : ℕ → ℕ) (command : Command)
     → ((r : ℕ) → r < length (command_relations command) → f r ≡ g r)
     → all_file_parts f command ≡ all_file_parts g command
@@ -84,6 +47,17 @@ all_file_parts-same f g command same =
     let r = relation_number name (command_relations command) in
     let length_is : f r ≡ g r = same r (relation_number-below command k name below refl) in
     ap (λ (n : ℕ). range_parts r (first_block command) (asked_count command n)) length_is))
+
+pub all_file_requests-same : (f g : ℕ → ℕ) (command : Command)
+    → ((r : ℕ) → r < length (command_relations command) → f r ≡ g r)
+    → all_file_requests f command ≡ all_file_requests g command
+all_file_requests-same f g command same =
+    sym (file_blocks f command) ∙ ap blocks_of_parts (all_file_parts-same f g command same)
+    ∙ file_blocks g command
+
+no_files : (g : ℕ → ℕ) (command : Command) → command.files ≡ [] → all_file_requests g command ≡ []
+unfolding all_file_requests
+no_files g command none = ap (flat_map (one_file_requests g command)) none
 
 with_map_part-same : (f g : ℕ → ℕ) (map_page : ℕ → List ℕ) (files : List (List ℕ))
     (by : Option MapOption) (requests : List Request) (parts : List Part)

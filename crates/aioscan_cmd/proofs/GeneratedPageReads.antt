@@ -12,7 +12,6 @@ use Rattle.page_check.specs.SynchronousAnswer.{is_page, readable_pages, first_st
 use Rattle.page_check.specs.SynchronousAnswer.{zeroed_if_damaged}
 use Rattle.page_check.specs.SynchronousAnswer.{zeroing}
 use Rattle.page_check.specs.Verdict.{IsValid}
-use Rattle.page_check.proofs.AnswersOfLists.{all_given}
 use Rattle.page_check.proofs.SynchronousReads.{readable_pages-cons, readable_pages-none}
 use Rattle.page_check.proofs.SynchronousReads.{first_stop-cons}
 use Rattle.page_check.proofs.SynchronousReads.{first_stop-none}
@@ -109,12 +108,7 @@ module _ (z : Bool) (n : ℕ) (few : n ≤ 4096) where
   pub generated_sums : (tuples : Bool) (sums : PageSums)
       → HasSums (list_options z tuples) (Some (generated_told n)) requests sums
       → sums ≡ sums_of (readable_pages f requests)
-  generated_sums tuples sums has =
-      let end = has.answer.answers.endings.0 in
-      let all = all_given f requests has.answer.pages has.answer.answers.first end.0 in
-      let total : has.total ≡ sums_of (readable_pages f requests) =
-      has.answer.sums_are ∙ ap sums_of (sym all) in
-      has.sums_are ∙ ap saturated_sums total ∙ saturated_if_fitting _ fit_pages
+  generated_sums tuples sums has = has ∙ saturated_if_fitting _ fit_pages
 
   -- there is nothing to warn of
   pub none_warned : (k : ℕ) → warnings_of (take k (readable_pages f requests)) ≡ []

@@ -1,5 +1,5 @@
 -- A scan of the shelf of generated pages lists them all, or finds no memory.
-use Rattle.std.proofs.Common.{◌≡◌, ◌≢◌, ◌⊎◌, ℕ, ◌-◌, List, ◌∷◌, length, sym, ap, subst, ◌∙◌}
+use Rattle.std.proofs.Common.{◌≡◌, ◌≢◌, ◌⊎◌, ℕ, ◌-◌, List, ◌∷◌, length, ap, subst, ◌∙◌}
 use Rattle.std.proofs.Common.{arith, inl, inr, append-nil, [], take, true}
 use Rattle.std.specs.Prelude.{Option, Some}
 use Rattle.page_check.specs.Told.{Told, relation_block_count}
@@ -28,29 +28,8 @@ use Rattle.aioscan_cmd.proofs.GeneratedPagesValid.{generated_block_count}
 use Rattle.aioscan_cmd.proofs.GeneratedPageReads.{generated_outcome_done, all_quiet, none_warned}
 use Rattle.aioscan_cmd.proofs.GeneratedPageReads.{generated_sums}
 use Rattle.aioscan_cmd.proofs.GeneratedRuns.{generated_fits}
-use Rattle.aioscan_cmd.proofs.ExactOutcomes.{complete}
+use Rattle.aioscan_cmd.proofs.ExactOutcomes.{faultless}
 use Rattle.aioscan_cmd.proofs.FileRunsOverTold.{writes, is_warned}
-
--- where no open failed, their count does not matter
-abbrev but_opens : ShelfCounts → ShelfCounts
-but_opens counts = record counts { open_faults = 0 }
-
-causes_but_opens : (before now : ShelfCounts) (wb wn : ℕ) (o : Outcome)
-    → HasCauses before now wb wn o → o ≢ CannotOpen
-    → HasCauses (but_opens before) (but_opens now) wb wn o
-causes_but_opens before now wb wn o causes sure = record {
-  counts_not_reduced = record {
-    open_faults = omega arith;
-    length_faults = causes.counts_not_reduced.length_faults;
-    faults = causes.counts_not_reduced.faults;
-    reads = causes.counts_not_reduced.reads;
-  };
-  write_faults_not_reduced = causes.write_faults_not_reduced;
-  cannot_open = λ is. absurd (sure is);
-  no_length = causes.no_length;
-  unread = causes.unread;
-  cannot_write = causes.cannot_write;
-}
 
 module _ (n : ℕ) (c : Command) (is : AsksForGeneratedPages n c) where
   generated_relations : command_relations c ≡ without_duplicates (generated_file_name ∷ [])
@@ -93,10 +72,7 @@ module _ (n : ℕ) (c : Command) (is : AsksForGeneratedPages n c) where
       (told_is : told ≡ Some (generated_told n)) (one : relations ≡ 1)
       (ran : IsFileRun told relations c b a o w) where
     ran_here : IsFileRun (Some (generated_told n)) (length (command_relations c)) c b a o w
-    ran_here =
-        let P : Option Told → Type 0 = λ t. IsFileRun t relations c b a o w in
-        let Q : ℕ → Type 0 = λ r. IsFileRun (Some (generated_told n)) r c b a o w in
-        subst Q (one ∙ sym one_relation) (subst P told_is ran)
+    ran_here = rw (one_relation, ← one, ← told_is) ran
 
     pub all_listed : (before now : ShelfCounts) (wb wn : ℕ) → HasCauses before now wb wn o
         → o ≢ Usage → o ≢ CannotOpen → ¬ CountRose before.length_faults now.length_faults
@@ -108,10 +84,10 @@ module _ (n : ℕ) (c : Command) (is : AsksForGeneratedPages n c) where
         ap (λ (l : List Request). outcome_of_stop found (first_stop found l))
         (generated_list (λ block. found_page (found 1 block)))
         ∙ generated_outcome_done c.settings.zero n is.3 in
-        let still : ¬ CountRose 0 0 = λ rose. absurd (omega (arith, rose)) in
-        elim (complete run (but_opens before) (but_opens now) wb wn b.written a.written o words
-        (causes_but_opens before now wb wn o causes sure) ran_here.in_order
-        (writes (generated_told n) _ c b a o w ran_here) still lengths reads failed
+        elim (faultless run b.written a.written o words sure
+        (λ r is. lengths (causes.no_length r is)) (λ r k is. reads (causes.unread r k is))
+        (λ is. failed (causes.cannot_write is)) ran_here.in_order
+        (writes (generated_told n) _ c b a o w ran_here)
         (λ q below. generated_fits c.settings.zero n is.3 q (omega (arith, below, one_relation)))) [
           | inl same ↦ inl (same ∙ done)
           | inr memory ↦ inr memory
@@ -140,8 +116,7 @@ module _ (n : ℕ) (c : Command) (is : AsksForGeneratedPages n c) where
       → sums ≡ sums_of (readable_pages (zeroing c.settings.zero (found_at (generated_told n)))
       (block_range 0 0 n))
   listed_sums_generated told o sums told_is done has =
-      let P : Option Told → Type 0 = λ t. HasSumsTold t c o sums in
       let Q : List Request → Type 0 =
       λ l. HasSums (options_of_settings c.settings) (Some (generated_told n)) l sums in
       generated_sums c.settings.zero n is.3 c.settings.tuples sums
-      (subst Q generated_requests (subst P told_is has done is.4))
+      (subst Q generated_requests (rw told_is at (has done is.4)))

@@ -1,31 +1,22 @@
 -- Sums that are added up over jobs and rounds.
-use Rattle.std.proofs.Common.{◌≡◌, ℕ, suc, ◌+◌, ◌<◌, ◌≤◌, List, [], ◌∷◌, ◌++◌, length}
-use Rattle.std.proofs.Common.{refl, sym, ap, ◌∙◌, subst, arith, take, get_or}
-use Rattle.std.specs.Prelude.{Option, Some, ⊤}
-use Rattle.std.proofs.lemmas.List.{take_more, take_all}
-use Rattle.std.proofs.lemmas.List.Elements.{All-push}
-use Rattle.std.proofs.lemmas.List.Concat.{flat_map-cons}
-use Rattle.std.proofs.lemmas.List.Sums.{sum_by-cons}
+use Rattle.std.proofs.Common.{◌≡◌, ◌≢◌, ℕ, ◌+◌, List, [], ◌++◌, refl, sym, ap, ◌∙◌, subst, arith}
+use Rattle.std.specs.Prelude.{Option, Some, None}
 use Rattle.page_check.specs.Told.{Told}
-use Rattle.page_check.specs.SynchronousAnswer.{End, Reader, reader_of}
-use Rattle.heap_scan.specs.Job.{IsJobAnswer}
-use Rattle.heap_scan.specs.Listing.{TextOf}
-use Rattle.heap_scan.specs.Sums.{sums_joined, no_sums}
+use Rattle.page_check.specs.SynchronousAnswer.{found_at, zeroing}
+use Rattle.page_check.proofs.AnswersOfLists.{all_given}
+use Rattle.heap_scan.specs.Sums.{sums_joined, sums_of, no_sums}
 use Rattle.heap_scan.specs.declared.sums.PageSums.{PageSums}
-use Rattle.heap_scan.proofs.Jobs.{job_append}
-use Rattle.heap_tuple.specs.Listing.{text_with}
 use Rattle.scan_rounds.specs.ListOptions.{ListOptions}
-use Rattle.scan_rounds.specs.BlockFilter.{BlockFilter}
-use Rattle.scan_rounds.specs.Jobs.{JobIsListed, AllJobsAnswered, entries_of_job, answered_ending}
 use Rattle.scan_rounds.specs.declared.job.Ending.{Ending as JobEnding}
 use Rattle.scan_rounds.specs.declared.job.Ending.TheVariants as ending
-use Rattle.scan_rounds.specs.declared.job.Job.{Job}
-use Rattle.aioscan_cmd.specs.RequestList.{Request}
-use Rattle.aioscan_cmd.specs.ListerState.{unskipped_job_requests, outcome_of_ending}
-use Rattle.aioscan_cmd.specs.Sums.{saturated_count, saturated_sums, total_of_jobs, AllPagesGiven}
-use Rattle.aioscan_cmd.specs.Sums.{HasSums}
+use Rattle.aioscan_cmd.specs.ListerState.{outcome_of_ending}
+use Rattle.aioscan_cmd.specs.Output.{ListFormat, format_of_options}
+use Rattle.aioscan_cmd.specs.RequestList.{Part, blocks_of_parts}
+use Rattle.aioscan_cmd.specs.Sums.{saturated_count, saturated_sums, HasSums, IsSummedOutput}
+use Rattle.aioscan_cmd.specs.Sums.{SumsGrew}
+use Rattle.aioscan_cmd.specs.declared.report.Outcome.{Outcome}
 use Rattle.aioscan_cmd.specs.declared.report.Outcome.TheVariants.{Done}
-use Rattle.aioscan_cmd.proofs.OutputsAppend.{no_answer}
+use Rattle.aioscan_cmd.proofs.OutputsAppend.{lists_append, lists_more, lists_none}
 
 abbrev sums_with : ℕ → ℕ → ℕ → PageSums
 sums_with a b c = record { pages = a; zero = b; items = c }
@@ -36,6 +27,9 @@ same_sums x y pages zeros items =
     ∙ ap (λ (n : ℕ). sums_with y.pages n x.items) zeros
     ∙ ap (λ (n : ℕ). sums_with y.pages y.zero n) items
 
+pub zero_sums : (s : PageSums) → (s.pages ≡ 0) × ((s.zero ≡ 0) × (s.items ≡ 0)) → s ≡ no_sums
+zero_sums s is = same_sums s no_sums is.0 is.1.0 is.1.1
+
 -- what a job gave that ended a run in no fault
 pub ended_done : (r : ℕ) (end : JobEnding) → outcome_of_ending r end ≡ Done → end ≡ ending.Pages
 ended_done r ending.Pages is = refl
@@ -44,112 +38,74 @@ ended_done r (ending.Unread b) is = absurd (cc)
 ended_done r (ending.PastEnd b) is = absurd (cc)
 ended_done r ending.NoMemory is = absurd (cc)
 
-pub gave_more : (jobs : List Job) (k : ℕ) (d job : Job) → k < length jobs → job ≡ get_or jobs k d
-    → AllPagesGiven (take k jobs) → AllPagesGiven (job ∷ []) → AllPagesGiven (take (k + 1) jobs)
-gave_more jobs k d job inside is before here =
-    let P : List Job → Type 0 = λ l. AllPagesGiven l in
-    let Q : Job → Type 0 = λ j. j.ending ≡ ending.Pages in
-    subst P (sym (take_more jobs k d inside))
-    (All-push Q (take k jobs) (get_or jobs k d) before
-    (subst Q is (here 0 job (omega arith))))
+-- nothing was added
+grew_none : (s : PageSums) → SumsGrew s s no_sums
+grew_none s total is =
+    is ∙ ap saturated_sums (same_sums _ _ (omega arith) (omega arith) (omega arith))
 
-pub gave_every : (jobs : List Job) (k : ℕ) → length jobs ≤ k → AllPagesGiven (take k jobs)
-    → AllPagesGiven jobs
-gave_every jobs k all gave =
-    let P : List Job → Type 0 = λ l. AllPagesGiven l in subst P (take_all k jobs all) gave
+-- some sums and then others
+grew_then : (s t u a b : PageSums) → SumsGrew s t a → SumsGrew t u b
+    → SumsGrew s u (sums_joined a b)
+grew_then s t u a b first second total is =
+    second (sums_joined total a) (first total is)
+    ∙ ap saturated_sums (same_sums _ _ (omega arith) (omega arith) (omega arith))
 
-pub zero_sums : (s : PageSums) → (s.pages ≡ 0) × ((s.zero ≡ 0) × (s.items ≡ 0)) → s ≡ no_sums
-zero_sums s is = same_sums s no_sums is.0 is.1.0 is.1.1
+saturated_more : (a b t : ℕ) → a ≡ saturated_count t → saturated_count (a + b)
+    ≡ saturated_count (t + b)
+saturated_more a b t is = omega (arith, is)
 
-module _ (skips : Option BlockFilter) (m : ListOptions) (told : Option Told) where
-  abbrev text_of : TextOf
-  text_of = text_with m.tuples
+-- those of one job
+pub grew_by : (s t a : PageSums) → t ≡ saturated_sums (sums_joined s a) → SumsGrew s t a
+grew_by s t a added total is =
+    added ∙ same_sums _ _
+    (saturated_more s.pages a.pages total.pages (ap (λ (x : PageSums). x.pages) is))
+    (saturated_more s.zero a.zero total.zero (ap (λ (x : PageSums). x.zero) is))
+    (saturated_more s.items a.items total.items (ap (λ (x : PageSums). x.items) is))
 
-  abbrev found : Option Reader
-  found = reader_of m.zero told
+module _ (m : ListFormat) (told : Option Told) where
+  pub summed_none : (b : Option (List ℕ)) (s : PageSums) → IsSummedOutput m told [] b b Done s s []
+  unfolding lists_none
+  summed_none b s = record { lists = lists_none m told b; sums_grew = grew_none s }
 
-  abbrev Answer : List Request → PageSums → Type 0
-  Answer requests sums =
-      (text : List ℕ) × ((warnings : List ℕ)
-      × IsJobAnswer text_of found (λ _. ⊤) requests text warnings sums (Some End))
-
-  one_more : (j job : Job) (asked jobs : List Job) → JobIsListed skips m told (λ _. ⊤) j job
-      → job.ending ≡ ending.Pages → Answer (unskipped_job_requests skips asked) (total_of_jobs jobs)
-      → Answer (unskipped_job_requests skips (j ∷ asked)) (total_of_jobs (job ∷ jobs))
-  unfolding job_append
-  one_more j job asked jobs listed is rest =
-      let P : JobEnding → Type 0 =
-      λ e. IsJobAnswer text_of found (λ _. ⊤) (entries_of_job skips j)
-      job.text.items job.warnings.items job.tally (answered_ending e) in
-      let Q : List Request → Type 0 = λ l. Answer l (total_of_jobs (job ∷ jobs)) in
-      let R : PageSums → Type 0 = λ s. Answer (entries_of_job skips j
-      ++ unskipped_job_requests skips asked) s in
-      let total : sums_joined job.tally (total_of_jobs jobs) ≡ total_of_jobs (job ∷ jobs) =
-      same_sums _ _ (sym (sum_by-cons (λ (k : Job). k.tally.pages) job jobs))
-      (sym (sum_by-cons (λ (k : Job). k.tally.zero) job jobs))
-      (sym (sum_by-cons (λ (k : Job). k.tally.items) job jobs)) in
-      subst Q (sym (flat_map-cons (entries_of_job skips) j asked))
-      (subst R total (
-        job.text.items ++ rest.0,
-        (
-          job.warnings.items ++ rest.1.0,
-          job_append text_of found (λ _. ⊤) (entries_of_job skips j)
-              (unskipped_job_requests skips asked)
-              job.text.items rest.0 job.warnings.items rest.1.0 job.tally
-              (total_of_jobs jobs) (Some End) (subst P is listed.answer) rest.1.1,
-        ),
-      ))
-
-  -- jobs that gave all their pages have the sums of these
-  pub answered_all : (asked jobs : List Job)
-      → AllJobsAnswered skips m told asked jobs → AllPagesGiven jobs
-      → Answer (unskipped_job_requests skips asked) (total_of_jobs jobs)
-  answered_all [] [] all gave = ([], ([], no_answer text_of found))
-  answered_all [] (job ∷ jobs) all gave = absurd (omega (arith, all.as_many))
-  answered_all (j ∷ asked) [] all gave = absurd (omega (arith, all.as_many))
-  answered_all (j ∷ asked) (job ∷ jobs) all gave =
-      let many = all.as_many in
-      let rest : AllJobsAnswered skips m told asked jobs = record {
-        as_many = omega arith;
-        each = λ i d below. all.each (suc i) d (omega arith);
-      } in
-      one_more j job asked jobs (all.each 0 job (omega arith)) (gave 0 job (omega arith))
-      (answered_all asked jobs rest (λ i d below. gave (suc i) d (omega arith)))
-
-  -- no pages
-  pub none_summed : (sums : PageSums) → sums ≡ no_sums → HasSums m told [] sums
-  none_summed sums none = record {
-    text = [];
-    warnings = [];
-    total = no_sums;
-    answer = no_answer text_of found;
-    sums_are = none;
+  pub summed_append : (xs ys : List Part) (b between a : Option (List ℕ)) (o : Outcome)
+      (s t u : PageSums) (v w : List ℕ) → IsSummedOutput m told xs b between Done s t v
+      → IsSummedOutput m told ys between a o t u w
+      → IsSummedOutput m told (xs ++ ys) b a o s u (v ++ w)
+  unfolding lists_append
+  summed_append xs ys b between a o s t u v w front back = record {
+    lists = lists_append m told xs ys b between a o v w front.lists back.lists;
+    sums_grew = grew_then s t u front.lists.sums back.lists.sums front.sums_grew back.sums_grew;
   }
 
-  saturated_more : (a b t : ℕ) → a ≡ saturated_count t
-      → saturated_count (a + b) ≡ saturated_count (t + b)
-  saturated_more a b t is = omega (arith, is)
+  pub summed_more : (xs ys : List Part) (b a : Option (List ℕ)) (o : Outcome) (s t : PageSums)
+      (w : List ℕ) → o ≢ Done → IsSummedOutput m told xs b a o s t w
+      → IsSummedOutput m told (xs ++ ys) b a o s t w
+  unfolding lists_more
+  summed_more xs ys b a o s t w stops front = record {
+    lists = lists_more m told xs ys b a o w stops front.lists;
+    sums_grew = front.sums_grew;
+  }
 
-  -- and those of a round
-  pub round_summed : (before : List Request) (asked jobs : List Job) (was now : PageSums)
-      → HasSums m told before was → AllJobsAnswered skips m told asked jobs → AllPagesGiven jobs
-      → now ≡ saturated_sums (sums_joined was (total_of_jobs jobs))
-      → HasSums m told (before ++ unskipped_job_requests skips asked) now
-  unfolding job_append
-  round_summed before asked jobs was now so_far all gave is =
-      let here = answered_all asked jobs all gave in
-      let total = total_of_jobs jobs in record {
-        text = so_far.text ++ here.0;
-        warnings = so_far.warnings ++ here.1.0;
-        total = sums_joined so_far.total total;
-        answer = job_append text_of found (λ _. ⊤) before
-            (unskipped_job_requests skips asked) so_far.text
-            here.0 so_far.warnings here.1.0 so_far.total total (Some End) so_far.answer here.1.1;
-        sums_are = is ∙ same_sums _ _
-            (saturated_more was.pages total.pages so_far.total.pages
-            (ap (λ (s : PageSums). s.pages) so_far.sums_are))
-            (saturated_more was.zero total.zero so_far.total.zero
-            (ap (λ (s : PageSums). s.zero) so_far.sums_are))
-            (saturated_more was.items total.items so_far.total.items
-            (ap (λ (s : PageSums). s.items) so_far.sums_are));
-      }
+  pub summed_same : (xs ys : List Part) (b a : Option (List ℕ)) (o : Outcome) (s t : PageSums)
+      (w : List ℕ) → xs ≡ ys → IsSummedOutput m told xs b a o s t w
+      → IsSummedOutput m told ys b a o s t w
+  summed_same xs ys b a o s t w same listed =
+      let P : List Part → Type 0 = λ l. IsSummedOutput m told l b a o s t w in subst P same listed
+
+-- where all was listed, the sums are those of all pages
+pub summed_told : (m : ListOptions) (told : Option Told) (parts : List Part)
+    (b a : Option (List ℕ)) (o : Outcome) (s : PageSums) (w : List ℕ) → o ≡ Done
+    → IsSummedOutput (format_of_options m) told parts b a o no_sums s w
+    → HasSums m told (blocks_of_parts parts) s
+summed_told m None parts b a o s w done listed = tt
+summed_told m (Some t) parts b a o s w done listed =
+    let P : Outcome → Type 0 =
+    λ x. IsSummedOutput (format_of_options m) (Some t) parts b a x no_sums s w in
+    let all = subst P done listed in
+    let answer = all.lists.answer in
+    let end = answer.answers.endings.0 in
+    let pages = all_given (zeroing m.zero (found_at t)) (blocks_of_parts parts) answer.pages
+    answer.answers.first end.0 in
+    all.sums_grew no_sums refl
+    ∙ ap saturated_sums (same_sums _ all.lists.sums (omega arith) (omega arith) (omega arith)
+    ∙ answer.sums_are ∙ ap sums_of (sym pages))

@@ -4,6 +4,7 @@ use Rattle.std.proofs.Common.{subst, arith, append-nil, false, true, map, inl, i
 use Rattle.std.proofs.Common.{length-take}
 use Rattle.std.specs.Prelude.{Option, Some, None, slice_get, ⊤, cond}
 use Rattle.std.proofs.lemmas.List.{take_all, length-map}
+use Rattle.std.proofs.lemmas.Option.{get_or_from_slice_get, slice_get_within}
 use Rattle.std.proofs.lemmas.List.Sums.{sum_by-cons}
 use Rattle.page_check.specs.Told.{Told}
 use Rattle.page_check.specs.SynchronousAnswer.{Reader, Found, Page as FoundPage, Zeroed, Damaged}
@@ -39,7 +40,9 @@ use Rattle.aioscan_cmd.proofs.OutputsAppend.{no_listing, no_warnings, with_block
 entry_here : (r : ℕ) (blocks : List Request) → AreOf r blocks → (k b : ℕ) (e : Request)
     → slice_get blocks k ≡ Some e → b ≡ e.block → slice_get blocks k ≡ Some (request r b)
 entry_here r blocks all k b e here named =
-    let relation : e.relation ≡ r = all k e here in
+    let relation : e.relation ≡ r =
+    ap (λ (x : Request). x.relation) (sym (get_or_from_slice_get blocks k e e here))
+    ∙ all k e (slice_get_within blocks k e here) in
     let is : e ≡ request r b = ap (λ (n : ℕ). request n e.block) relation
     ∙ ap (request r) (sym named) in
     here ∙ ap {B = Option Request} (λ (x : Request). Some x) is
@@ -113,6 +116,10 @@ module _ (r : ℕ) (blocks : List Request) (all_of : AreOf r blocks) where
     abbrev texts : List Page → List ℕ
     texts pages = listing m.text_of pages
 
+    -- the blocks were listed, with these sums
+    abbrev Listed : Outcome → List ℕ → Type 0
+    Listed o w = (lists : IsOutput m told (blocks ∷ []) b a o w) × (lists.sums ≡ sums)
+
     alone : blocks_of_parts (blocks ∷ []) ≡ blocks
     alone = append-nil blocks
 
@@ -127,32 +134,33 @@ module _ (r : ℕ) (blocks : List Request) (all_of : AreOf r blocks) where
         → ((e : Request) → named_block o ≡ Some e
         → slice_get blocks (length answer.pages) ≡ Some e)
         → OutputGrew o b a text → SinkGrew b a text → (m.zero ≡ false → warnings ≡ [])
-        → (is_output_cut_off o ≡ true → o ≡ NoMemory)
-        → IsOutput m told (blocks ∷ []) b a o warnings
+        → (is_output_cut_off o ≡ true → o ≡ NoMemory) → Listed o warnings
     listed_whole o begun answer here grew all quiet memory =
         let n = length answer.pages in
-        let every = take_all n answer.pages (omega arith) in record {
-          not_refused = begun;
-          text = text;
-          all_warnings = warnings;
-          sums = sums;
-          answer = as_part (outcome_ending o) answer;
-          named_block_is = λ e is. (ap (λ (l : List Request). slice_get l n) alone ∙ here e is);
-          output_grew = grew;
-          whole = n;
-          pages_within = omega arith;
-          all = λ _. refl;
-          stopped_behind = λ is. inr (
-            memory is,
-            SinkGrew-same b a text _ (answer.text_is ∙ ap texts (sym every)) all,
-          );
-          warnings_are = answer.warnings_are ∙ ap warnings_of (sym every);
-          no_warnings = quiet;
-        }
+        let every = take_all n answer.pages (omega arith) in (
+          record {
+            not_refused = begun;
+            text = text;
+            all_warnings = warnings;
+            sums = sums;
+            answer = as_part (outcome_ending o) answer;
+            named_block_is = λ e is. (ap (λ (l : List Request). slice_get l n) alone ∙ here e is);
+            output_grew = grew;
+            whole = n;
+            pages_within = omega arith;
+            all = λ _. refl;
+            stopped_behind = λ is. inr (
+              memory is,
+              SinkGrew-same b a text _ (answer.text_is ∙ ap texts (sym every)) all,
+            );
+            warnings_are = answer.warnings_are ∙ ap warnings_of (sym every);
+            no_warnings = quiet;
+          },
+          refl,
+        )
 
     pub text_listed : (end : JobEnding) → Answer (answered_ending end) → SinkGrew b a text
-        → (m.zero ≡ false → warnings ≡ [])
-        → IsOutput m told (blocks ∷ []) b a (outcome_of_ending r end) warnings
+        → (m.zero ≡ false → warnings ≡ []) → Listed (outcome_of_ending r end) warnings
     text_listed ending.Pages answer grew quiet =
         listed_whole (outcome_of_ending r ending.Pages) refl answer
         (λ e is. absurd (cc)) grew grew quiet (λ is. absurd (cc))
@@ -190,26 +198,28 @@ module _ (r : ℕ) (blocks : List Request) (all_of : AreOf r blocks) where
     unwritten : (o : Outcome) (end : JobEnding) → is_refused o ≡ false → is_output_cut_off o ≡ true
         → named_block o ≡ None → outcome_ending o ≡ None → Answer (answered_ending end)
         → OutputGrew o b a text
-        → text ≢ [] → SinkGrewByPrefix b a text → IsOutput m told (blocks ∷ []) b a o []
+        → text ≢ [] → SinkGrewByPrefix b a text → Listed o []
     unwritten o end begun cut stops ends answer grew some first =
-        let few = pages_few (reader_of m.zero told) blocks answer.pages answer.answers.first in
-        record {
-          not_refused = begun;
-          text = text;
-          all_warnings = warnings;
-          sums = sums;
-          answer = as_part (outcome_ending o)
-              (without_end (outcome_ending o) ends (answered_ending end) answer);
-          named_block_is = λ e is. absurd (cc);
-          output_grew = grew;
-          whole = 0;
-          pages_within = omega arith;
-          all = λ is. absurd (cc);
-          stopped_behind = λ is. inl (cut_alone m.text_of blocks answer.pages b a text few answer.text_is
-              some (no_listing m.text_of) first);
-          warnings_are = sym no_warnings;
-          no_warnings = λ _. refl;
-        }
+        let few = pages_few (reader_of m.zero told) blocks answer.pages answer.answers.first in (
+          record {
+            not_refused = begun;
+            text = text;
+            all_warnings = warnings;
+            sums = sums;
+            answer = as_part (outcome_ending o)
+                (without_end (outcome_ending o) ends (answered_ending end) answer);
+            named_block_is = λ e is. absurd (cc);
+            output_grew = grew;
+            whole = 0;
+            pages_within = omega arith;
+            all = λ is. absurd (cc);
+            stopped_behind = λ is. inl (cut_alone m.text_of blocks answer.pages b a text few answer.text_is
+                some (no_listing m.text_of) first);
+            warnings_are = sym no_warnings;
+            no_warnings = λ _. refl;
+          },
+          refl,
+        )
 
 module _ (job : Job) (b a : Option (List ℕ)) where
   pub job_written : (o : Outcome) → o ≡ outcome_of_ending job.relation job.ending
@@ -217,9 +227,9 @@ module _ (job : Job) (b a : Option (List ℕ)) where
   job_written o is grew = λ skips m told asked listed.
       (let w = job.warnings.items in
       let blocks = entries_of_job skips asked in
-      let Q : Outcome → Type 0 = λ x. IsOutput (format_of_options m) told (blocks ∷ []) b a x w in
-      let R : ℕ → Type 0 = λ r. IsOutput (format_of_options m) told (blocks ∷ []) b a
-      (outcome_of_ending r job.ending) w in
+      let Q : Outcome → Type 0 = λ x. (lists : IsOutput (format_of_options m) told (blocks ∷ [])
+      b a x w) × (lists.sums ≡ job.tally) in
+      let R : ℕ → Type 0 = λ r. Q (outcome_of_ending r job.ending) in
       subst Q (sym is) (subst R (sym listed.same.0)
       (text_listed asked.relation blocks (job_entries_of_relation skips asked)
       (format_of_options m) told job.text.items w

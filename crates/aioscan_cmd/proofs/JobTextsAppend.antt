@@ -12,13 +12,17 @@ use Rattle.scan_rounds.specs.Jobs.{is_unread}
 use Rattle.scan_rounds.specs.Jobs.{count_unskipped}
 use Rattle.scan_rounds.specs.BlockFilter.{BlockFilter}
 use Rattle.scan_rounds.specs.declared.job.Job.{Job}
-use Rattle.aioscan_cmd.specs.Output.{IsOutput, format_of_options}
+use Rattle.heap_scan.specs.Sums.{sums_joined}
+use Rattle.heap_scan.specs.declared.sums.PageSums.{PageSums}
+use Rattle.aioscan_cmd.specs.Output.{format_of_options}
+use Rattle.aioscan_cmd.specs.Sums.{IsSummedOutput, saturated_sums}
 use Rattle.aioscan_cmd.specs.ListerState.{unskipped_job_requests, JobTextWritten}
 use Rattle.aioscan_cmd.specs.ListerState.{unskipped_job_parts}
 use Rattle.aioscan_cmd.specs.ListerState.{AllJobTextsWritten}
 use Rattle.aioscan_cmd.specs.declared.report.Outcome.{Outcome}
 use Rattle.aioscan_cmd.specs.declared.report.Outcome.TheVariants.{Done}
-use Rattle.aioscan_cmd.proofs.OutputsAppend.{lists_append, lists_more, lists_same, lists_none}
+use Rattle.aioscan_cmd.proofs.JobSumsAdd.{grew_by, summed_append, summed_more, summed_none}
+use Rattle.aioscan_cmd.proofs.JobSumsAdd.{summed_same}
 
 pub among_all : (jobs : List Job) (i n : ℕ) (d job : Job) → i < length jobs → job ≡ get_or jobs i d
     → n ≤ unread_job_count (job ∷ []) → n ≤ unread_job_count jobs
@@ -45,67 +49,62 @@ requests_length skips (job ∷ jobs) =
       sum_by-cons (λ (j : Job). length (entries_of_job skips j)) job jobs,
     )
 
-pub parts_one_more : (skips : Option BlockFilter) (jobs : List Job) (job : Job)
-    → unskipped_job_parts skips (jobs ++ job ∷ []) ≡ unskipped_job_parts skips jobs
-    ++ entries_of_job skips job ∷ []
-parts_one_more skips jobs job = map-append (entries_of_job skips) jobs (job ∷ [])
-
--- the texts of the first k jobs were written
-abbrev pub FirstListed : List Job → ℕ → Option (List ℕ) → Option (List ℕ) → List ℕ → Type 0
-FirstListed jobs k b a w =
+-- the texts of the first k jobs were written, and their sums added up
+abbrev pub FirstListed : List Job → ℕ → Option (List ℕ) → Option (List ℕ) → PageSums → PageSums
+    → List ℕ → Type 0
+FirstListed jobs k b a s t w =
     (skips : Option BlockFilter) (m : ListOptions) (told : Option Told) (asked : List Job)
     → AllJobsAnswered skips m told asked jobs
-    → IsOutput (format_of_options m) told (unskipped_job_parts skips (take k asked)) b a Done w
+    → IsSummedOutput (format_of_options m) told (unskipped_job_parts skips (take k asked)) b a Done
+    s t w
 
-module _ (jobs : List Job) (k : ℕ) (job : Job) (b between a : Option (List ℕ))
-    (inside : k < length jobs) (is : job ≡ get_or jobs k job) where
+module _ (jobs : List Job) (k : ℕ) (job : Job) (b between a : Option (List ℕ)) (s t u : PageSums)
+    (o : Outcome) (v w : List ℕ) (inside : k < length jobs) (is : job ≡ get_or jobs k job)
+    (added : u ≡ saturated_sums (sums_joined t job.tally)) (before : FirstListed jobs k b between s t v)
+    (here : JobTextWritten job between a o w) where
   -- and then that of the next, up to its end or not
-  pub next_listed : (o : Outcome) (v w : List ℕ) → FirstListed jobs k b between v
-      → JobTextWritten job between a o w
-      → (skips : Option BlockFilter) (m : ListOptions) (told : Option Told) (asked : List Job)
-      → AllJobsAnswered skips m told asked jobs
-      → IsOutput (format_of_options m) told
-      (unskipped_job_parts skips (take (k + 1) asked)) b a o (v ++ w)
-  next_listed o v w before here skips m told asked all =
+  next_listed : (skips : Option BlockFilter) (m : ListOptions) (told : Option Told)
+      (asked : List Job) → AllJobsAnswered skips m told asked jobs
+      → IsSummedOutput (format_of_options m) told (unskipped_job_parts skips (take (k + 1) asked))
+      b a o s u (v ++ w)
+  next_listed skips m told asked all =
       let below : k < length asked = omega (arith, all.as_many) in
-      let one = all.each k job below in
       let this = get_or asked k job in
       let P : Job → Type 0 = λ j. JobIsListed skips m told (λ _. ⊤) this j in
+      let one = here skips m told this (subst P (sym is) (all.each k job below)) in
       let more : unskipped_job_parts skips (take (k + 1) asked)
       ≡ unskipped_job_parts skips (take k asked) ++ entries_of_job skips this ∷ [] =
       ap (unskipped_job_parts skips) (take_more asked k job below)
-      ∙ parts_one_more skips (take k asked) this in
-      lists_same (format_of_options m) told _ _ b a o (v ++ w) (sym more)
-      (lists_append (format_of_options m) told (unskipped_job_parts skips (take k asked))
-      (entries_of_job skips this ∷ []) b between a o v w (before skips m told asked all)
-      (here skips m told this (subst P (sym is) one)))
+      ∙ map-append (entries_of_job skips) (take k asked) (this ∷ []) in
+      summed_same (format_of_options m) told _ _ b a o s u (v ++ w) (sym more)
+      (summed_append (format_of_options m) told (unskipped_job_parts skips (take k asked))
+      (entries_of_job skips this ∷ []) b between a o s t u v w (before skips m told asked all)
+      (record { lists = one.0; sums_grew = rw one.1 (grew_by t u job.tally added) }))
 
-  pub next_done : (o : Outcome) (v w : List ℕ) → o ≡ Done → FirstListed jobs k b between v
-      → JobTextWritten job between a o w → FirstListed jobs (k + 1) b a (v ++ w)
-  next_done o v w done before here = λ skips m told asked all.
-      (let P : Outcome → Type 0 =
-      λ x. IsOutput (format_of_options m) told
-      (unskipped_job_parts skips (take (k + 1) asked)) b a x (v ++ w) in
-      subst P done (next_listed o v w before here skips m told asked all))
+  pub next_done : o ≡ Done → FirstListed jobs (k + 1) b a s u (v ++ w)
+  next_done done = λ skips m told asked all.
+      (let P : Outcome → Type 0 = λ x. IsSummedOutput (format_of_options m) told
+      (unskipped_job_parts skips (take (k + 1) asked)) b a x s u (v ++ w) in
+      subst P done (next_listed skips m told asked all))
 
-  pub next_stopped : (o : Outcome) (v w : List ℕ) → o ≢ Done → FirstListed jobs k b between v
-      → JobTextWritten job between a o w → AllJobTextsWritten jobs b a o (v ++ w)
-  next_stopped o v w stops before here = λ skips m told asked all.
+  pub next_stopped : o ≢ Done → AllJobTextsWritten jobs b a o s u (v ++ w)
+  next_stopped stops = λ skips m told asked all.
       (let front = unskipped_job_parts skips (take (k + 1) asked) in
       let back = unskipped_job_parts skips (drop (k + 1) asked) in
       let parts : unskipped_job_parts skips asked ≡ front ++ back =
       ap (unskipped_job_parts skips) (sym (take-append-drop (k + 1) asked))
       ∙ map-append (entries_of_job skips) (take (k + 1) asked) (drop (k + 1) asked) in
-      lists_same (format_of_options m) told _ _ b a o (v ++ w) (sym parts)
-      (lists_more (format_of_options m) told front back b a o (v ++ w) stops
-      (next_listed o v w before here skips m told asked all)))
+      summed_same (format_of_options m) told _ _ b a o s u (v ++ w) (sym parts)
+      (summed_more (format_of_options m) told front back b a o s u (v ++ w) stops
+      (next_listed skips m told asked all)))
 
-pub all_listed : (jobs : List Job) (k : ℕ) (b a : Option (List ℕ)) (w : List ℕ)
-    → length jobs ≤ k → FirstListed jobs k b a w → AllJobTextsWritten jobs b a Done w
-all_listed jobs k b a w all listed = λ skips m told asked answered.
-    lists_same (format_of_options m) told _ _ b a Done w
+pub all_listed : (jobs : List Job) (k : ℕ) (b a : Option (List ℕ)) (s t : PageSums) (w : List ℕ)
+    → length jobs ≤ k → FirstListed jobs k b a s t w → AllJobTextsWritten jobs b a Done s t w
+all_listed jobs k b a s t w all listed = λ skips m told asked answered.
+    summed_same (format_of_options m) told _ _ b a Done s t w
     (ap (unskipped_job_parts skips) (take_all k asked (omega (arith, answered.as_many))))
     (listed skips m told asked answered)
 
-pub none_listed : (jobs : List Job) (s : Option (List ℕ)) → FirstListed jobs 0 s s []
-none_listed jobs s = λ skips m told asked all. lists_none (format_of_options m) told s
+pub none_listed : (jobs : List Job) (b : Option (List ℕ)) (s : PageSums)
+    → FirstListed jobs 0 b b s s []
+none_listed jobs b s = λ skips m told asked all. summed_none (format_of_options m) told b s

@@ -12,7 +12,6 @@ pub mod PartsOfRequests
 mod CutsInParts
 mod BlocksOfOneRelation
 mod JobTextOutput
-mod PagesOfOneRelation
 mod UnskippedBlocksAppend
 mod MapPageCount
 mod MapPagesThenBlocks
@@ -26,7 +25,6 @@ mod FileRunsOverTold
 mod ExactOutcomes
 pub mod TopClauses
 mod GeneratedPageReads
-mod GeneratedRunCauses
 pub mod GeneratedRuns
 mod GeneratedScans
 pub mod CommandExamples

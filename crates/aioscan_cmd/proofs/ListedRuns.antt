@@ -1,12 +1,12 @@
 -- Runs that listed blocks, all of them or up to a stop.
 use Rattle.std.proofs.Common.{◌≡◌, ℕ, ◌+◌, ◌<◌, ◌≤◌, List, length, get_or, refl, ap, arith, subst}
-use Rattle.std.proofs.Common.{true, false}
+use Rattle.std.proofs.Common.{sym, ◌∙◌, true, false}
 use Rattle.std.specs.Prelude.{Option, Some, None, slice_index}
 use Rattle.page_check.specs.Told.{Told, relation_block_count}
 use Rattle.aio_disk.specs.Counts.{count_plus}
 use Rattle.aio_handle.specs.Execution.{last_count}
 use Rattle.aioscan_cmd.specs.Command.{Command, command_relations}
-use Rattle.aioscan_cmd.specs.RequestList.{request_list, request_parts}
+use Rattle.aioscan_cmd.specs.RequestList.{blocks_of_parts, request_list, request_parts}
 use Rattle.aioscan_cmd.specs.Outcomes.{is_refused}
 use Rattle.aioscan_cmd.specs.Lengths.{HasAllLengths}
 use Rattle.aioscan_cmd.specs.Output.{ObservedState, observed_state, IsOutput, map_pages_known}
@@ -17,7 +17,8 @@ use Rattle.aioscan_cmd.specs.declared.report.Outcome.TheVariants.{Usage, CannotO
 use Rattle.aioscan_cmd.specs.declared.report.Outcome.TheVariants.{NoLength}
 use Rattle.aioscan_cmd.specs.declared.report.Outcome.TheVariants.{NoMemory, TooLong}
 use Rattle.aioscan_cmd.proofs.OutputsAppend.{lists_same}
-use Rattle.aioscan_cmd.proofs.FileRequestsAppend.{request_list-same, request_parts-same}
+use Rattle.aioscan_cmd.proofs.FileRequestsAppend.{request_parts-same}
+use Rattle.aioscan_cmd.proofs.PartsOfRequests.{request_blocks}
 
 -- the lengths fit
 lengths_fit : (told : Option Told) (segment relations : ℕ) (lengths : List ℕ)
@@ -37,16 +38,6 @@ fits_where_listed limit lengths relations CannotOpen is fit = tt
 fits_where_listed limit lengths relations (NoLength r) is fit = absurd (cc)
 fits_where_listed limit lengths relations (TooLong r) is fit = absurd (cc)
 fits_where_listed limit lengths relations _ is fit = fit
-
-same_requests : (told : Option Told) (segment relations : ℕ) (command : Command)
-    (lengths : List ℕ) (map_page : ℕ → List ℕ) → relations ≡ length (command_relations command)
-    → HasAllLengths told segment relations lengths
-    → request_list (slice_index lengths) map_page command
-    ≡ request_list (lengths_known told (slice_index lengths)) map_page command
-same_requests None segment relations command lengths map_page all has = refl
-same_requests (Some t) segment relations command lengths map_page all has =
-    request_list-same (slice_index lengths) (relation_block_count t) map_page command
-    (λ r below. has.told_lengths r (omega (arith, has.all)))
 
 same_parts : (told : Option Told) (segment relations : ℕ) (command : Command)
     (lengths : List ℕ) (map_page : ℕ → List ℕ) → relations ≡ length (command_relations command)
@@ -74,8 +65,10 @@ pub ran_listed : (told now : Option Told) (segment relations : ℕ) (command : C
 ran_listed told now segment relations command lengths given output after read o w same all has lists
     few =
     let map_page = map_pages_known told command.settings.zero given in
-    let requests = same_requests told segment relations command lengths map_page all has in
     let parts = same_parts told segment relations command lengths map_page all has in
+    let requests = sym (request_blocks (slice_index lengths) map_page command)
+    ∙ ap blocks_of_parts parts
+    ∙ request_blocks (lengths_known told (slice_index lengths)) map_page command in
     let L : Option Told → Type 0 =
     λ n. IsOutput (command_format command) n (request_parts (slice_index lengths)
     (map_pages_known n command.settings.zero given) command) output after o w in
@@ -124,12 +117,3 @@ ran_on_shelf told now relations count command output after read reads total o w 
       output_same = λ is. (let kept = run.output_same is in
           (shelf_untouched output after read reads total back kept.0, kept.1));
     })
-
--- the same run, said of the same contents
-pub ran_same : (told now : Option Told) (relations count : ℕ) (command : Command)
-    (output : Option (List ℕ)) (reads before : ℕ) (after : ObservedState) (o : Outcome) (w : List ℕ)
-    → now ≡ told → count ≡ relations → before ≡ reads
-    → IsFileRun now count command (observed_state output before) after o w
-    → IsFileRun told relations command (observed_state output reads) after o w
-ran_same told now relations count command output reads before after o w same all kept ran =
-    rw (← same, ← all, ← kept) ran

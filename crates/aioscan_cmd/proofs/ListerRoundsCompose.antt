@@ -8,9 +8,9 @@ use Rattle.scan_rounds.specs.ListOptions.{ListOptions}
 use Rattle.scan_rounds.specs.Jobs.{AllJobsAnswered}
 use Rattle.scan_rounds.specs.BlockFilter.{BlockFilter}
 use Rattle.scan_rounds.specs.declared.job.Job.{Job}
-use Rattle.aioscan_cmd.specs.RequestList.{Request, Part, blocks_of_parts}
-use Rattle.aioscan_cmd.specs.Output.{IsOutput, WriteFaultsCounted, ListFormat, format_of_options}
-use Rattle.aioscan_cmd.specs.ListerState.{unskipped_job_requests, AllJobTextsWritten, ListerIsOver}
+use Rattle.aioscan_cmd.specs.RequestList.{Part}
+use Rattle.aioscan_cmd.specs.Output.{WriteFaultsCounted, format_of_options}
+use Rattle.aioscan_cmd.specs.ListerState.{AllJobTextsWritten, ListerIsOver}
 use Rattle.aioscan_cmd.specs.ListerState.{unskipped_job_parts, unskipped_parts}
 use Rattle.aioscan_cmd.specs.ListerState.{CutsOffJobs, ListerListedParts, PreservesListing}
 use Rattle.aioscan_cmd.specs.ListerState.{lister_error_stream, lister_options, lister_filter}
@@ -19,32 +19,17 @@ use Rattle.aioscan_cmd.specs.declared.report.Line.{Line}
 use Rattle.aioscan_cmd.specs.declared.lister.Lister.{Lister}
 use Rattle.aioscan_cmd.specs.declared.report.Outcome.{Outcome}
 use Rattle.aioscan_cmd.specs.declared.report.Outcome.TheVariants.{Done}
-use Rattle.heap_scan.specs.Sums.{sums_joined, no_sums}
+use Rattle.heap_scan.specs.Sums.{no_sums}
 use Rattle.heap_scan.specs.declared.sums.PageSums.{PageSums}
-use Rattle.aioscan_cmd.specs.Sums.{AllPagesGiven, HasSums, saturated_sums, total_of_jobs}
-use Rattle.aioscan_cmd.proofs.JobSumsAdd.{none_summed, round_summed}
-use Rattle.aioscan_cmd.proofs.PartsOfRequests.{blocks-append}
-use Rattle.aioscan_cmd.proofs.UnskippedBlocksAppend.{job_blocks, unskipped_after_cut}
-use Rattle.aioscan_cmd.proofs.OutputsAppend.{lists_none, lists_append, lists_more, written_then}
+use Rattle.aioscan_cmd.specs.Sums.{IsSummedOutput}
+use Rattle.aioscan_cmd.proofs.JobSumsAdd.{summed_append, summed_more, summed_none}
+use Rattle.aioscan_cmd.proofs.UnskippedBlocksAppend.{unskipped_after_cut}
+use Rattle.aioscan_cmd.proofs.OutputsAppend.{written_then}
 use Rattle.aioscan_cmd.proofs.ErrorTextsAppend.{warns_also, warns_none, warns_then}
-
-no_blocks_listed : (m : ListFormat) (told : Option Told) (s : Option (List ℕ)) (o : Outcome)
-    → o ≡ Done → IsOutput m told [] s s o []
-no_blocks_listed m told s o done =
-    let P : Outcome → Type 0 = λ x. IsOutput m told [] s s x [] in
-    subst P (sym done) (lists_none m told s)
 
 is_done : (o : Outcome) → (o ≡ Done) ⊎ (o ≢ Done)
 is_done Done = inl refl
 is_done _ = inr (λ e. cc)
-
--- the blocks of some parts and of those of jobs
-joined_blocks : (skips : Option BlockFilter) (parts : List Part) (jobs : List Job)
-    → blocks_of_parts parts ++ unskipped_job_requests skips jobs
-    ≡ blocks_of_parts (parts ++ unskipped_job_parts skips jobs)
-joined_blocks skips parts jobs =
-    ap (λ (l : List Request). blocks_of_parts parts ++ l) (sym (job_blocks skips jobs))
-    ∙ sym (blocks-append parts (unskipped_job_parts skips jobs))
 
 nothing_written : (faults : ℕ) (o : Outcome) → o ≡ Done → WriteFaultsCounted faults faults o
 nothing_written faults o done = record {
@@ -82,14 +67,12 @@ module _ {W O E : Type 0} (told : Option Told) (out : SinkGhosts O) (err : SinkG
       → new.out.ghost_name ≡ old.out.ghost_name
       → new.err.ghost_name ≡ old.err.ghost_name
       → AppendsWarnings (AllJobTextsWritten jobs (out.written old.out.now) (out.written new.out.now)
-      new.outcome)
+      new.outcome old.sums new.sums)
       (errors old) (errors new)
       → WriteFaultsCounted (out.faults old.out.now) (out.faults new.out.now) new.outcome
-      → (new.outcome ≡ Done → AllPagesGiven jobs)
-      → new.sums ≡ saturated_sums (sums_joined old.sums (total_of_jobs jobs)) → Goes was new
+      → Goes was new
   round_written was old new asked jobs gives_jobs answered done same options_are_same filter_is_same
-      loan err_loan
-      lists writes gave sums = (
+      loan err_loan lists writes = (
         loan ∙ gives_jobs.loans.0,
         err_loan ∙ gives_jobs.loans.1,
         λ skips m all before faults_before errors_before so_far.
@@ -101,18 +84,17 @@ module _ {W O E : Type 0} (told : Option Told) (out : SinkGhosts O) (err : SinkG
             let B : Option BlockFilter → Type 0 = λ x. AllJobsAnswered x (lister_options old)
             told asked jobs in
             let here = subst A options_are (subst B filter_is answered) in
-            let P : Outcome → Type 0 =
-            λ x. AppendsWarnings (IsOutput (format_of_options m) told so_far.asked before
-            (out.written was.out.now) x) errors_before (errors was) in
-            let Q : O → Type 0 =
-            λ o. AppendsWarnings (IsOutput (format_of_options m) told so_far.asked before
-            (out.written o) Done) errors_before (errors was) in
-            let T : ErrorStream → Type 0 =
-            λ e. AppendsWarnings (IsOutput (format_of_options m) told so_far.asked before
-            (out.written old.out.now) Done) errors_before e in
+            let P : Outcome → PageSums → O → ErrorStream → Type 0 = λ x sums o e.
+            AppendsWarnings (IsSummedOutput (format_of_options m) told so_far.asked before
+            (out.written o) x no_sums sums) errors_before e in
+            let Q : Outcome → Type 0 = λ x. P x was.sums was.out.now (errors was) in
+            let R : PageSums → Type 0 = λ sums. P Done sums was.out.now (errors was) in
+            let S : O → Type 0 = λ o. P Done old.sums o (errors was) in
+            let T : ErrorStream → Type 0 = λ e. P Done old.sums old.out.now e in
             let V : O → Type 0 = λ o. WriteFaultsCounted faults_before (out.faults o) was.outcome in
             let first = subst T (same_errors was asked old gives_jobs)
-            (subst Q (sym gives_jobs.out) (subst P was_done so_far.lists)) in
+            (subst S (sym gives_jobs.out) (subst R (sym gives_jobs.sums)
+            (subst Q was_done so_far.lists))) in
             let was_written = subst V (sym gives_jobs.out) so_far.writes in record {
               asked = so_far.asked ++ unskipped_job_parts skips asked;
               rest = unskipped_parts skips old.blocks;
@@ -125,19 +107,10 @@ module _ {W O E : Type 0} (told : Option Told) (out : SinkGhosts O) (err : SinkG
               options_are = options_are_same ∙ options_are;
               filter_is = filter_is_same ∙ filter_is;
               lists = warns_then _ _ _ _ _ _
-                  (λ v w before_it now_it. lists_append (format_of_options m) told so_far.asked
+                  (λ v w before_it now_it. summed_append (format_of_options m) told so_far.asked
                   (unskipped_job_parts skips asked) before
-                  (out.written old.out.now) (out.written new.out.now)
-                  new.outcome v w before_it (now_it skips m told asked here)) first lists;
-              sums = λ all_given.
-                  (let S : PageSums → Type 0 = λ s. HasSums m told
-                  (blocks_of_parts so_far.asked) s in
-                  let T : List Request → Type 0 = λ l. HasSums m told l new.sums in
-                  subst T (joined_blocks skips so_far.asked asked)
-                  (round_summed skips m told (blocks_of_parts so_far.asked) asked jobs old.sums
-                  new.sums (subst S (sym gives_jobs.sums) (so_far.sums was_done)) here
-                  (gave all_given)
-                  sums));
+                  (out.written old.out.now) (out.written new.out.now) new.outcome no_sums old.sums
+                  new.sums v w before_it (now_it skips m told asked here)) first lists;
               writes = written_then _ _ _ _ was_written.later writes;
             }),
       )
@@ -156,27 +129,27 @@ module _ {W O E : Type 0} (told : Option Told) (out : SinkGhosts O) (err : SinkG
         left = λ _. sym same;
         options_are = refl;
         filter_is = refl;
-        lists = warns_none _ s.line s.line _ _ refl
-            (no_blocks_listed (format_of_options (lister_options s)) told
-            (out.written s.out.now) s.outcome done);
-        sums = λ _. none_summed (lister_filter s) (lister_options s) told s.sums none;
+        lists = warns_none _ (errors s) (rw (done, none) (summed_none
+            (format_of_options (lister_options s)) told (out.written s.out.now) no_sums));
         writes = nothing_written (out.faults s.out.now) s.outcome done;
       })
 
   pub all_listed : (all : List Part) (s t : Lister W O E) → s.outcome ≡ Done
       → unskipped_parts (lister_filter s) s.blocks ≡ all → s.sums ≡ no_sums → Goes s t
       → ListerIsOver t
-      → AppendsWarnings (IsOutput (format_of_options (lister_options s)) told all
-      (out.written s.out.now) (out.written t.out.now) t.outcome) (errors s) (errors t)
+      → AppendsWarnings (IsSummedOutput (format_of_options (lister_options s)) told all
+      (out.written s.out.now) (out.written t.out.now) t.outcome no_sums t.sums) (errors s)
+      (errors t)
   all_listed all s t done same no_sum goes over =
       let at = ended all s t done same no_sum goes in
       let P : List Part → Type 0 =
-      λ l. AppendsWarnings (IsOutput (format_of_options (lister_options s)) told l
-      (out.written s.out.now) (out.written t.out.now) t.outcome) (errors s) (errors t) in
+      λ l. AppendsWarnings (IsSummedOutput (format_of_options (lister_options s)) told l
+      (out.written s.out.now) (out.written t.out.now) t.outcome no_sums t.sums) (errors s)
+      (errors t) in
       let more : t.outcome ≢ Done → P all =
       λ stops. subst P (sym at.cut)
-      (warns_also _ _ _ _ (λ w listed. lists_more (format_of_options (lister_options s))
-      told at.asked at.rest _ _ t.outcome w stops listed) at.lists) in
+      (warns_also _ _ _ _ (λ w listed. summed_more (format_of_options (lister_options s))
+      told at.asked at.rest _ _ t.outcome _ _ w stops listed) at.lists) in
       ⊎_elim more
       (λ none. ⊎_elim
       (λ is. (let whole : all ≡ at.asked =
@@ -190,18 +163,3 @@ module _ {W O E : Type 0} (told : Option Told) (out : SinkGhosts O) (err : SinkG
       → unskipped_parts (lister_filter s) s.blocks ≡ all → s.sums ≡ no_sums → Goes s t
       → WriteFaultsCounted (out.faults s.out.now) (out.faults t.out.now) t.outcome
   all_written all s t done same none goes = (ended all s t done same none goes).writes
-
-  pub all_summed : (all : List Part) (s t : Lister W O E) → s.outcome ≡ Done
-      → unskipped_parts (lister_filter s) s.blocks ≡ all → s.sums ≡ no_sums → Goes s t
-      → ListerIsOver t
-      → t.outcome ≡ Done → HasSums (lister_options s) told (blocks_of_parts all) t.sums
-  all_summed all s t done same no_sum goes over is =
-      let at = ended all s t done same no_sum goes in
-      let P : List Part → Type 0 = λ l. HasSums (lister_options s) told (blocks_of_parts l)
-      t.sums in
-      ⊎_elim (λ stops. absurd (stops is))
-      (λ none. (let whole : all ≡ at.asked =
-      at.cut ∙ ap (λ (l : List Part). at.asked ++ l) (at.left is
-      ∙ ap (unskipped_parts (lister_filter s)) none)
-      ∙ append-nil at.asked in subst P (sym whole) (at.sums is)))
-      over

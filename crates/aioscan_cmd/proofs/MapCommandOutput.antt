@@ -2,7 +2,8 @@
 use Rattle.std.proofs.Common.{◌≡◌, ◌≢◌, ℕ, ◌+◌, ◌≤◌, List, [], ◌∷◌, ◌++◌, length, map, refl, sym}
 use Rattle.std.proofs.Common.{ap}
 use Rattle.std.proofs.Common.{◌∙◌, subst, arith, length-append}
-use Rattle.std.specs.Prelude.{Option, Some, None, slice_index, slice_index_or, ⊤}
+use Rattle.std.specs.Option.{option_map}
+use Rattle.std.specs.Prelude.{Option, Some, None, IfSome, slice_index, slice_index_or, ⊤}
 use Rattle.std.specs.List.{range_with_len}
 use Rattle.page_check.specs.Told.{Told}
 use Rattle.vis_map.specs.Bits.{Map}
@@ -17,22 +18,39 @@ use Rattle.scan_rounds.proofs.ReadMaps.{map_taken}
 use Rattle.scan_rounds.specs.declared.backend.Backend.{Backend}
 use Rattle.scan_rounds.specs.declared.job.Ending.{Ending as JobEnding}
 use Rattle.scan_rounds.specs.declared.job.Ending.TheVariants as ending
-use Rattle.aioscan_cmd.specs.Command.{MapOption, options_of_settings}
+use Rattle.aioscan_cmd.specs.Command.{IsMapOf, MapOption, options_of_settings}
+use Rattle.aioscan_cmd.specs.RemainingRequests.{AsksForMap}
 use Rattle.aioscan_cmd.specs.RemainingRequests.{map_page_count, resolved_request_list}
 use Rattle.aioscan_cmd.specs.RemainingRequests.{resolved_parts, resolved_request_parts}
 use Rattle.aioscan_cmd.specs.RemainingRequests.{resolved_requests, resolved_settings}
 use Rattle.aioscan_cmd.specs.ListerState.{outcome_of_ending, unskipped_parts}
 use Rattle.aioscan_cmd.specs.Output.{IsOutput, map_pages_known, command_format, format_of_options}
-use Rattle.aioscan_cmd.specs.RequestList.{Part, Request, block_range, with_map, with_map_part}
+use Rattle.aioscan_cmd.specs.RequestList.{Part, Request, block_range, blocks_of_parts, with_map}
+use Rattle.aioscan_cmd.specs.RequestList.{with_map_part}
 use Rattle.aioscan_cmd.specs.declared.cutter.ResolvedCommand.{ResolvedCommand}
+use Rattle.aioscan_cmd.specs.Words.{map_option_view}
+use Rattle.aioscan_cmd.specs.declared.words.map_option.MapOption.{MapOption as MapOfWords}
 use Rattle.aioscan_cmd.specs.declared.report.Outcome.{Outcome}
 use Rattle.aioscan_cmd.specs.declared.report.Outcome.TheVariants.{Done, Unread}
 use Rattle.aioscan_cmd.proofs.MapPagesThenBlocks.{added_known, map_listed, range_count}
 use Rattle.aioscan_cmd.proofs.MapPagesThenBlocks.{rounds_listed, format_with_map}
-use Rattle.aioscan_cmd.proofs.MapPagesThenBlocks.{whole_list, whole_parts}
+use Rattle.aioscan_cmd.proofs.MapPagesThenBlocks.{whole_parts}
+use Rattle.aioscan_cmd.proofs.PartsOfRequests.{request_blocks}
 use Rattle.aioscan_cmd.proofs.OutputsAppend.{lists_append, lists_more, lists_same}
 use Rattle.aioscan_cmd.proofs.BlocksOfOneRelation.{AreOf, unskipped_of_relation}
 use Rattle.aioscan_cmd.proofs.UnskippedBlocksAppend.{resolved_unskipped, unskipped_none}
+
+-- the words name a map
+pub asks_for_map : (a : ResolvedCommand) (found : Option MapOfWords) (option : MapOfWords)
+    → found ≡ Some option → option_map map_option_view found ≡ (a.command.now).map
+    → IfSome (option_map map_option_view found)
+    (IsMapOf (a.command.now).generated (a.command.now).files) → AsksForMap a option.skip
+asks_for_map a found option some given of = record {
+  map = map_option_view option;
+  given = sym given ∙ ap (option_map map_option_view) some;
+  skip_is = refl;
+  of = rw some at of;
+}
 
 -- a map that a scan has read
 module _ {W D : Type 0} (m m' : ListOptions) (told : Option Told) (bs cs : List (Backend W D))
@@ -157,18 +175,17 @@ module _ (a : ResolvedCommand) (by : MapOption) (with_it : (a.command.now).map �
         (sym skip_is) ∙ whole_parts by (slice_index a.lengths.now) mp (resolved_requests a)
         (resolved_parts a) (map_page_count a) added refl known
 
-    whole : pages_read ++ kept ≡ list_with (Some by)
-    whole =
-        ap (λ (x : Skip). pages_read
-        ++ unskipped_entries (Some (record { pages = added; skip = x })) (resolved_requests a))
-        (sym skip_is) ∙ whole_list by (slice_index a.lengths.now) mp (resolved_requests a)
-        (map_page_count a) added refl known
-
     pub all_asked : map_page_count a + length kept ≡ length (resolved_request_list a told given)
     all_asked =
-        sym (ap (λ (n : ℕ). n + length kept) (range_count 1 0 (map_page_count a)))
-        ∙ sym (length-append pages_read kept) ∙ ap length whole
-        ∙ sym (ap (λ (x : Option MapOption). length (list_with x)) with_it)
+        omega (
+          arith,
+          ap length (request_blocks (slice_index a.lengths.now) mp a.command.now),
+          ap (λ (x : Option MapOption). length (blocks_of_parts (parts_with x))) with_it,
+          ap (λ (l : List Part). length (blocks_of_parts l)) whole_in_parts,
+          length-append pages_read (blocks_of_parts kept_parts),
+          ap length (resolved_unskipped (Some (record { pages = added; skip = skip })) a),
+          range_count 1 0 (map_page_count a),
+        )
 
     -- the map was read, and then the rounds
     pub map_followed : (s n : Option (List ℕ)) (first last : Outcome) (v w : List ℕ)

@@ -1,5 +1,6 @@
 -- How much of a map is read.
 use Rattle.std.proofs.Common.{◌≡◌, ℕ, zero, suc, ◌+◌, ◌-◌, ◌≤◌, List, [], ◌∷◌, length, map, max}
+use Rattle.std.proofs.Common.{get_or}
 use Rattle.std.proofs.Common.{refl, sym, ap, ◌∙◌, subst, arith, append-nil, true}
 use Rattle.std.specs.Prelude.{Option, Some, None, fold, slice_index}
 use Rattle.std.specs.List.{flat_map, range_with_len}
@@ -8,7 +9,8 @@ use Rattle.std.proofs.lemmas.Slice.Eq.{bytes_eq-Decides}
 use Rattle.vis_map.specs.MapRequest.{greatest_of}
 use Rattle.aioscan_cmd.specs.Command.{Command, MapOption, asked_count, first_block}
 use Rattle.aioscan_cmd.specs.Command.{relation_number, command_relations, relations_with}
-use Rattle.aioscan_cmd.specs.RemainingRequests.{IsResolved, greatest_requested_block}
+use Rattle.aioscan_cmd.specs.RemainingRequests.{IsResolved, file_name_of_place}
+use Rattle.aioscan_cmd.specs.RemainingRequests.{greatest_requested_block}
 use Rattle.aioscan_cmd.specs.RemainingRequests.{resolved_requests}
 use Rattle.aioscan_cmd.specs.RequestList.{Request, block_range, all_file_requests}
 use Rattle.aioscan_cmd.specs.RequestList.{one_file_requests}
@@ -64,6 +66,9 @@ module _ (a : ResolvedCommand) (file : List ℕ) (is : (a.command.now).files ≡
 
   pub number_is : relation_number file (command_relations a.command.now) ≡ 0
   number_is = zero_is (a.command.now).files file (a.command.now).map is
+
+  pub first_file : file_name_of_place a 0 ≡ file
+  first_file = ap (λ (l : List (List ℕ)). get_or l 0 []) is
 
   pub all_of_zero : AreOf 0 (resolved_requests a)
   all_of_zero =

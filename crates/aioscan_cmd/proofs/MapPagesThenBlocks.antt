@@ -1,5 +1,5 @@
 -- Listing by a map: its pages, and then the blocks that it does not mark.
-use Rattle.std.proofs.Common.{◌≡◌, ℕ, zero, suc, ◌+◌, ◌≤◌, Bool, List, [], ◌∷◌, ◌++◌, length}
+use Rattle.std.proofs.Common.{◌≡◌, ℕ, zero, suc, ◌+◌, ◌≤◌, Bool, List, [], ◌∷◌, length}
 use Rattle.std.proofs.Common.{map, take, drop, refl, sym, ap, ◌∙◌, arith, length-take}
 use Rattle.std.specs.Prelude.{Option, Some, None, slice_index_or, ⊤}
 use Rattle.std.specs.List.{range_with_len}
@@ -18,7 +18,6 @@ use Rattle.vis_map.specs.Bits.{Map}
 use Rattle.vis_map.specs.MapRequest.{greatest_of, unmarked_entries, needed_pages}
 use Rattle.scan_rounds.specs.Jobs.{answered_ending}
 use Rattle.scan_rounds.specs.ListOptions.{ListOptions}
-use Rattle.scan_rounds.specs.BlockFilter.{unskipped_entries}
 use Rattle.scan_rounds.specs.ConsumedPages.{MapHasPages, PagesConsumed}
 use Rattle.scan_rounds.specs.declared.job.Ending.{Ending as JobEnding}
 use Rattle.scan_rounds.proofs.Blocks.{answer_wider}
@@ -27,14 +26,13 @@ use Rattle.aioscan_cmd.specs.Command.{MapOption}
 use Rattle.aioscan_cmd.specs.ListerState.{outcome_of_ending, unskipped_parts}
 use Rattle.aioscan_cmd.specs.Output.{IsOutput, ListFormat, map_pages_known, format_of_options}
 use Rattle.aioscan_cmd.specs.RequestList.{Page, Part, Request, block_range, blocks_of_parts}
-use Rattle.aioscan_cmd.specs.RequestList.{without_map_pages, with_map, with_map_part}
+use Rattle.aioscan_cmd.specs.RequestList.{without_map_pages, with_map_part}
 use Rattle.aioscan_cmd.specs.declared.report.Outcome.{Outcome}
 use Rattle.aioscan_cmd.proofs.CutsInParts.{cut_in_text, stopped_by}
 use Rattle.aioscan_cmd.proofs.SinkTextsAppend.{SinkGrew-nothing, SinkGrew-same}
 use Rattle.aioscan_cmd.proofs.JobTextOutput.{text_listed}
-use Rattle.aioscan_cmd.proofs.PagesOfOneRelation.{map_listing, other_listing, pages_are_of}
-use Rattle.aioscan_cmd.proofs.PagesOfOneRelation.{some_pages_of}
-use Rattle.aioscan_cmd.proofs.BlocksOfOneRelation.{AreOf, range_of}
+use Rattle.aioscan_cmd.proofs.BlocksOfOneRelation.{AreOf, map_listing, other_listing, pages_are_of}
+use Rattle.aioscan_cmd.proofs.BlocksOfOneRelation.{range_of, some_pages_of}
 
 -- the way of a command with this map
 abbrev pub format_with_map : ListOptions → Option MapOption → ListFormat
@@ -62,9 +60,9 @@ module _ (m : ListOptions) (told : Option Told) (s : Option (List ℕ)) where
         sums_are = refl;
         answers = answer_wider found_by may (λ _. ⊤) blocks _ (λ e may. tt) given.answers;
       } in
-      text_listed 1 blocks (range_of 1 0 k) (format_with_map m (Some by)) told [] warnings
+      (text_listed 1 blocks (range_of 1 0 k) (format_with_map m (Some by)) told [] warnings
       (sums_of given.pages) s s end answer (SinkGrew-nothing s)
-      (λ off. given.held.warnings_are ∙ none_warned given.pages (given.none_zeroed off))
+      (λ off. given.held.warnings_are ∙ none_warned given.pages (given.none_zeroed off))).0
 
 -- pages of relation 0 have the same text, whether or not there is a map
 module _ (m : ListOptions) (told : Option Told) (by : Option MapOption) (xs : List Part)
@@ -175,18 +173,6 @@ added_known on (Some t) may k found warnings given =
     ∙ pages_of_blocks f 1 0 k
 
 -- all that is asked for: the pages of the map, and what it leaves
-pub whole_list : (by : MapOption) (lengths : ℕ → ℕ) (mp : ℕ → List ℕ) (xs : List Request) (k : ℕ)
-    (added : List (List ℕ)) → k ≡ needed_pages (lengths 1)
-    (greatest_of (map (λ (e : Request). e.block) xs))
-    → added ≡ map mp (range_with_len 0 k)
-    → block_range 1 0 k ++ unskipped_entries (Some (record { pages = added; skip = by.skip })) xs
-    ≡ with_map (Some by) lengths mp xs
-whole_list by lengths mp xs k added count same =
-    ap (λ (l : List (List ℕ)). block_range 1 0 k ++ unmarked_entries l by.skip xs) same
-    ∙ ap (λ (n : ℕ). block_range 1 0 n ++ unmarked_entries (map mp (range_with_len 0 n)) by.skip xs)
-    count
-
--- and in parts
 pub whole_parts : (by : MapOption) (lengths : ℕ → ℕ) (mp : ℕ → List ℕ) (xs : List Request)
     (parts : List Part) (k : ℕ) (added : List (List ℕ)) → k ≡ needed_pages (lengths 1)
     (greatest_of (map (λ (e : Request). e.block) xs))

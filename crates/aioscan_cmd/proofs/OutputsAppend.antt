@@ -36,7 +36,7 @@ pub no_listing : (text_of : TextOf) → listing text_of (let none : List Page = 
 unfolding listing
 no_listing text_of = refl
 
-no_pages_sums : sums_of (let none : List Page = [] in none) ≡ no_sums
+pub no_pages_sums : sums_of (let none : List Page = [] in none) ≡ no_sums
 no_pages_sums = sums_of-none (Unit {0})
 
 pub no_warnings : warnings_of (let none : List Page = [] in none) ≡ []
@@ -60,7 +60,7 @@ pub listed_none : (text_of : TextOf) (s : Option (List ℕ))
 listed_none text_of s = SinkGrew-same s s [] _ (sym (no_listing text_of)) (SinkGrew-nothing s)
 
 -- no parts
-pub lists_none : (m : ListFormat) (told : Option Told) (s : Option (List ℕ))
+unfoldable pub lists_none : (m : ListFormat) (told : Option Told) (s : Option (List ℕ))
     → IsOutput m told [] s s Done []
 unfolding no_answer
 lists_none m told s = record {
@@ -79,7 +79,7 @@ lists_none m told s = record {
   no_warnings = λ _. refl;
 }
 
-OutputGrew-append : (o : Outcome) (b m a : Option (List ℕ)) (xs ys : List ℕ) → SinkGrew b m xs
+pub OutputGrew-append : (o : Outcome) (b m a : Option (List ℕ)) (xs ys : List ℕ) → SinkGrew b m xs
     → OutputGrew o m a ys → OutputGrew o b a (xs ++ ys)
 OutputGrew-append CannotWrite b m a xs ys first second = SinkGrewByPrefix-append b m a xs ys first
     second
@@ -111,7 +111,7 @@ module _ (m : ListFormat) (told : Option Told) (parts : List Part) (b a : Option
       ∙ ap warnings_of (take_all (length lists.answer.pages) lists.answer.pages (omega arith))
 
 -- some parts to their end, and then some more
-pub lists_append : (m : ListFormat) (told : Option Told) (xs ys : List Part)
+unfoldable pub lists_append : (m : ListFormat) (told : Option Told) (xs ys : List Part)
     (b between a : Option (List ℕ)) (o : Outcome) (v w : List ℕ)
     → IsOutput m told xs b between Done v → IsOutput m told ys between a o w
     → IsOutput m told (xs ++ ys) b a o (v ++ w)
@@ -167,7 +167,7 @@ none_early = λ k d below. absurd (omega arith)
 one_early : (end : Ending) → end ≢ End → IsEarly (Some end)
 one_early end early = λ k d below. (let first : k ≡ 0 = omega arith in rw first early)
 
-early : (o : Outcome) → o ≢ Done → IsEarly (outcome_ending o)
+pub early : (o : Outcome) → o ≢ Done → IsEarly (outcome_ending o)
 early Done stops = absurd (stops refl)
 early (Invalid r b) stops = one_early _ (λ e. cc)
 early (Missing r b) stops = one_early _ (λ e. cc)
@@ -175,7 +175,7 @@ early (Unread r b) stops = one_early _ (λ e. cc)
 early _ stops = none_early
 
 -- listing stopped, whatever is asked for behind
-pub lists_more : (m : ListFormat) (told : Option Told) (xs ys : List Part)
+unfoldable pub lists_more : (m : ListFormat) (told : Option Told) (xs ys : List Part)
     (b a : Option (List ℕ)) (o : Outcome) (w : List ℕ)
     → o ≢ Done → IsOutput m told xs b a o w → IsOutput m told (xs ++ ys) b a o w
 unfolding job_more

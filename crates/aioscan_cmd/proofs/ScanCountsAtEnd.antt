@@ -1,5 +1,5 @@
 -- What a scan has counted at its end, and what its disks add to a shelf.
-use Rattle.std.proofs.Common.{◌≡◌, ◌≢◌, ◌≤◌, ◌<◌, ◌+◌, ◌⊎◌, ◌∷◌, [], ℕ, List, length, sum_by, refl}
+use Rattle.std.proofs.Common.{◌≡◌, ◌≢◌, ◌≤◌, ◌<◌, ◌+◌, ◌⊎◌, [], ℕ, List, length, sum_by, refl}
 use Rattle.std.proofs.Common.{sym, ap, ◌∙◌, subst, arith, inl, inr, ⊎_elim, true, false}
 use Rattle.std.specs.Prelude.{Option, Some, None, IfSome}
 use Rattle.std.specs.List.{All}
@@ -15,17 +15,16 @@ use Rattle.scan_rounds.specs.declared.settings.MethodKind.TheVariants as method
 use Rattle.scan_rounds.specs.declared.settings.ScanSettings.{ScanSettings}
 use Rattle.aioscan_cmd.specs.Command.{Command, command_relations}
 use Rattle.aioscan_cmd.specs.RemainingRequests.{resolved_request_list, resolved_request_parts}
-use Rattle.aioscan_cmd.specs.RequestList.{Part}
 use Rattle.aio_disk.specs.declared.disk.Disk.{Ghosts as DiskGhosts}
 use Rattle.scan_rounds.proofs.Sums.{sum-none}
 use Rattle.aioscan_cmd.specs.Disks.{IsUnreadDisk}
 use Rattle.aioscan_cmd.specs.Lengths.{HasAllLengths}
 use Rattle.aioscan_cmd.specs.Outcomes.{is_refused}
-use Rattle.aioscan_cmd.specs.Output.{IsOutput, WriteFaultsCounted, ListFormat, observed_state}
+use Rattle.aioscan_cmd.specs.Output.{WriteFaultsCounted, observed_state}
 use Rattle.aioscan_cmd.specs.Output.{command_format}
 use Rattle.aioscan_cmd.specs.Run.{IsFileRun}
 use Rattle.aioscan_cmd.specs.Causes.{ScanHasOutcome, HasCauses, CallsInOrder}
-use Rattle.aioscan_cmd.specs.Totals.{AreRunNumbers, NumbersAreReads, AreScanNumbers}
+use Rattle.aioscan_cmd.specs.Totals.{AreRunNumbers, NumbersAreReads, AreScanNumbers, no_numbers}
 use Rattle.aioscan_cmd.specs.declared.cutter.ResolvedCommand.{ResolvedCommand}
 use Rattle.aioscan_cmd.specs.declared.report.Numbers.{Numbers}
 use Rattle.aioscan_cmd.specs.declared.report.Outcome.{Outcome}
@@ -33,7 +32,7 @@ use Rattle.aioscan_cmd.specs.declared.report.Outcome.TheVariants.{Usage, CannotO
 use Rattle.aioscan_cmd.specs.declared.report.Outcome.TheVariants.{Unread}
 use Rattle.aioscan_cmd.specs.declared.report.Outcome.TheVariants.{NoMemory}
 use Rattle.aioscan_cmd.proofs.ListedRuns.{ran_listed, ran_on_shelf}
-use Rattle.aioscan_cmd.proofs.RefusedRuns.{ran_unopened}
+use Rattle.aioscan_cmd.proofs.RefusedRuns.{ran_without_disk}
 use Rattle.aioscan_cmd.proofs.DiskCountsAdd.{none_behind}
 use Rattle.aioscan_cmd.proofs.OutputsAppend.{lists_nothing}
 
@@ -68,14 +67,14 @@ some_fault f ds opened unread each some = elim (cases_lt 0 (sum_by f ds)) [
 
 -- a scan that was not opened has read nothing
 pub nothing_counted : {D : Type 0} (asked : ResolvedCommand) (told : Option Told) (given : ℕ
-    → List ℕ) (reads : D → ℕ) (ds : List D) (n : Numbers) → sum_by reads ds ≡ 0 → n.incarnations ≡ 0
-    → n.by_workers ≡ 0 → n.by_backends ≡ 0 → AreScanNumbers asked told given reads ds n
-nothing_counted asked told given reads ds n none a b c = record {
-  sum = omega (arith, a, b, c);
-  reads_are = λ _. a ∙ sym none;
-  by_workers_are = λ _. b ∙ sym (none_behind reads _ ds none);
-  few = omega (arith, a);
-  no_workers = λ _. b;
+    → List ℕ) (reads : D → ℕ) (ds : List D) → sum_by reads ds ≡ 0
+    → AreScanNumbers asked told given reads ds no_numbers
+nothing_counted asked told given reads ds none = record {
+  sum = refl;
+  reads_are = λ _. sym none;
+  by_workers_are = λ _. sym (none_behind reads _ ds none);
+  few = omega arith;
+  no_workers = λ _. refl;
 }
 
 refused_not : (o : Outcome) → is_refused o ≡ false → is_refused o ≡ true → ⊥
@@ -176,8 +175,9 @@ module _ (asked : ResolvedCommand) (given : ℕ → List ℕ) (told : Option Tol
         ended_ran disk_told relations same all has =
             ⊎_elim
             (λ is. (let none = scanned.cannot_open is in
-            ran_unopened disk_told relations asked.command.now written now_written before.reads
-            now.reads o w is none.4 none.1 (omega (arith, reads_raised, none.3))))
+            let unread : now.reads ≡ before.reads = omega (arith, reads_raised, none.3) in
+            rw (is, none.4, none.1, unread) (ran_without_disk disk_told relations asked.command.now
+            (observed_state written before.reads))))
             (λ not. ran_on_shelf disk_told disk_told relations relations asked.command.now written
             now_written reads before.reads now.reads o w refl refl reads_raised
             (ran_listed disk_told told asked.segment relations asked.command.now asked.lengths.now
@@ -197,25 +197,18 @@ pub none_by_workers : (s t : ScanSettings) (runners by_runners by_workers : ℕ)
 none_by_workers s t runners by_runners by_workers same are none is kind =
     is ∙ none (are ∙ ap workers_of_settings same ∙ no_workers_by t.method t.workers kind)
 
--- there was no memory for a scan
-pub nothing_listed : (m : ListFormat) (told : Option Told) (parts : List Part)
-    (s : Option (List ℕ)) (o : Outcome) → o ≡ NoMemory → IsOutput m told parts s s o []
-nothing_listed m told parts s o is =
-    let P : Outcome → Type 0 = λ x. IsOutput m told parts s s x [] in
-    subst P (sym is) (lists_nothing m told parts s)
-
--- or for a disk
+-- there was no memory for a scan or for a disk
 pub scanned_nothing : (asked : ResolvedCommand) (given : ℕ → List ℕ) (told : Option Told)
-    (s : Option (List ℕ)) (before now : ShelfCounts) (faults reads : ℕ) (o : Outcome) → o ≡ NoMemory
+    (s : Option (List ℕ)) (before now : ShelfCounts) (faults reads : ℕ)
     → before.open_faults ≤ now.open_faults
     → (now.length_faults ≡ before.length_faults) × (now.faults ≡ before.faults)
     × (now.reads ≡ before.reads)
-    → ScanHasOutcome asked given told s s before now faults reads o []
-scanned_nothing asked given told s before now faults reads o is opens others = record {
+    → ScanHasOutcome asked given told s s before now faults reads NoMemory []
+scanned_nothing asked given told s before now faults reads opens others = record {
   opens = opens;
   others = others;
-  lists = λ _. nothing_listed (command_format asked.command.now) told
-      (resolved_request_parts asked told given) s o is;
+  lists = λ _. lists_nothing (command_format asked.command.now) told
+      (resolved_request_parts asked told given) s;
   cannot_open = λ refused. absurd (cc);
   unread = λ r b unread. absurd (cc);
 }
@@ -223,38 +216,55 @@ scanned_nothing asked given told s before now faults reads o is opens others = r
 -- a disk could not be opened
 pub scan_refused : (asked : ResolvedCommand) (given : ℕ
     → List ℕ) (told : Option Told) (s : Option (List ℕ))
-    (before now : ShelfCounts) (faults reads : ℕ) (o : Outcome) → o ≡ CannotOpen
-    → before.open_faults ≤ now.open_faults
+    (before now : ShelfCounts) (faults reads : ℕ)
     → (now.length_faults ≡ before.length_faults) × (now.faults ≡ before.faults)
     × (now.reads ≡ before.reads)
     → CountRose before.open_faults now.open_faults → faults ≡ 0 → reads ≡ 0
-    → ScanHasOutcome asked given told s s before now faults reads o []
-scan_refused asked given told s before now faults reads o is opens others rose no_faults no_reads =
-    record {
-      opens = opens;
-      others = others;
-      lists = λ not. absurd (not is);
-      cannot_open = λ _. (rose, refl, no_faults, no_reads, refl);
-      unread = λ r b unread. absurd (cc);
+    → ScanHasOutcome asked given told s s before now faults reads CannotOpen []
+scan_refused asked given told s before now faults reads others rose no_faults no_reads = record {
+  opens = omega arith;
+  others = others;
+  lists = λ not. absurd (not refl);
+  cannot_open = λ _. (rose, refl, no_faults, no_reads, refl);
+  unread = λ r b unread. absurd (cc);
+}
+
+-- what a shelf has counted before the scan
+pub scanned_behind : (asked : ResolvedCommand) (given : ℕ → List ℕ) (told : Option Told)
+    (written now_written : Option (List ℕ)) (first before now : ShelfCounts) (faults reads : ℕ)
+    (o : Outcome) (w : List ℕ) → first.open_faults ≤ before.open_faults
+    → before.length_faults ≡ first.length_faults → before.faults ≡ first.faults
+    → before.reads ≡ first.reads
+    → ScanHasOutcome asked given told written now_written before now faults reads o w
+    → ScanHasOutcome asked given told written now_written first now faults reads o w
+scanned_behind asked given told written now_written first before now faults reads o w opens lengths
+    read_faults read scanned = record {
+      opens = omega (arith, scanned.opens);
+      others = (
+        scanned.others.0 ∙ lengths,
+        scanned.others.1 ∙ read_faults,
+        scanned.others.2 ∙ read,
+      );
+      lists = scanned.lists;
+      cannot_open = λ is. (let rose = scanned.cannot_open is in (omega (arith, rose.0), rose.1, rose.2, rose.3, rose.4));
+      unread = scanned.unread;
     }
 
-no_workers_in : (command : Option Command) (n : Numbers) → n.by_workers ≡ 0
-    → IfSome command (λ c. c.settings.method ≢ method.Worker → n.by_workers ≡ 0)
-no_workers_in None n none = tt
-no_workers_in (Some c) n none = λ _. none
+no_workers_in : (command : Option Command)
+    → IfSome command (λ c. c.settings.method ≢ method.Worker → no_numbers.by_workers ≡ 0)
+no_workers_in None = tt
+no_workers_in (Some c) = λ _. refl
 
-no_reads_counted : (generated : Option ℕ) (s : ShelfCounts) (incarnations : ℕ) → incarnations ≡ 0
-    → NumbersAreReads generated s s incarnations
-no_reads_counted None s incarnations none = λ _. omega (arith, none)
-no_reads_counted (Some n) s incarnations none = refl
+no_reads_counted : (generated : Option ℕ) (s : ShelfCounts) → NumbersAreReads generated s s 0
+no_reads_counted None s = λ _. omega arith
+no_reads_counted (Some n) s = refl
 
 -- nothing was done
 pub uncounted : (generated : Option ℕ) (command : Option Command) (s : ShelfCounts) (o : Outcome)
-    (n : Numbers) → n.incarnations ≡ 0 → n.by_workers ≡ 0 → n.by_backends ≡ 0
-    → AreRunNumbers generated command s s o n
-uncounted generated command s o n a b c = record {
-  sum = omega (arith, a, b, c);
-  reads = no_reads_counted generated s n.incarnations a;
-  no_workers = no_workers_in command n b;
-  none = λ _. (a, b, c);
+    → AreRunNumbers generated command s s o no_numbers
+uncounted generated command s o = record {
+  sum = refl;
+  reads = no_reads_counted generated s;
+  no_workers = no_workers_in command;
+  none = λ _. (refl, refl, refl);
 }

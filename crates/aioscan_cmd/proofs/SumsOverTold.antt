@@ -1,33 +1,15 @@
 -- The sums of a run, where the contents are told.
-use Rattle.std.proofs.Common.{◌≡◌, ℕ, List, length, arith, subst, sym, ◌∙◌}
+use Rattle.std.proofs.Common.{◌≡◌, ℕ, List, length, arith, subst}
 use Rattle.std.specs.Prelude.{Option, Some, None, slice_index}
 use Rattle.page_check.specs.Told.{Told, relation_block_count}
 use Rattle.heap_scan.specs.declared.sums.PageSums.{PageSums}
 use Rattle.aioscan_cmd.specs.Command.{Command, options_of_settings, command_relations}
 use Rattle.aioscan_cmd.specs.RequestList.{Request, all_file_requests}
 use Rattle.aioscan_cmd.specs.Sums.{HasSums, HasSumsTold}
-use Rattle.aioscan_cmd.specs.Lengths.{HasAllLengths, LengthsFailed}
+use Rattle.aioscan_cmd.specs.Lengths.{HasAllLengths}
 use Rattle.aioscan_cmd.specs.declared.report.Outcome.{Outcome}
 use Rattle.aioscan_cmd.specs.declared.report.Outcome.TheVariants.{Done}
 use Rattle.aioscan_cmd.proofs.FileRequestsAppend.{all_file_requests-same}
-
--- no sums of a run that ended otherwise
-pub no_sums_told : (told : Option Told) (command : Command) (o : Outcome) (sums : PageSums)
-    → (o ≡ Done → ⊥) → HasSumsTold told command o sums
-no_sums_told None command o sums not = tt
-no_sums_told (Some t) command o sums not = λ done none. absurd (not done)
-
-refusal_not_done : (told : Option Told) (segment relations : ℕ) (o : Outcome)
-    → LengthsFailed told segment relations o → o ≡ Done → ⊥
-refusal_not_done told segment relations o has done =
-    let P : Outcome → Type 0 = λ x. LengthsFailed told segment relations x in subst P done has
-
-pub refused_sums : (told : Option Told) (command : Command) (o refusal : Outcome)
-    (sums : PageSums) (segment relations : ℕ) → o ≡ refusal
-    → LengthsFailed told segment relations refusal → HasSumsTold told command o sums
-refused_sums told command o refusal sums segment relations is has =
-    no_sums_told told command o sums
-    (λ done. refusal_not_done told segment relations refusal has (sym is ∙ done))
 
 -- the sums of the blocks that were listed, by the lengths that are told
 pub listed_sums : (told now : Option Told) (segment relations : ℕ) (command : Command)
@@ -36,7 +18,8 @@ pub listed_sums : (told now : Option Told) (segment relations : ℕ) (command : 
     → (o ≡ Done → command.map ≡ None → HasSums (options_of_settings command.settings) now
     (all_file_requests (slice_index lengths) command) sums)
     → HasSumsTold told command o sums
-listed_sums None now segment relations command lengths o sums same all has listed = tt
+listed_sums None now segment relations command lengths o sums same all has listed = λ done none.
+    tt
 listed_sums (Some t) now segment relations command lengths o sums same all has listed = λ done none.
     (let requests = all_file_requests-same (slice_index lengths) (relation_block_count t) command
     (λ r below. has.told_lengths r (omega (arith, has.all))) in
@@ -46,8 +29,3 @@ listed_sums (Some t) now segment relations command lengths o sums same all has l
     let Q : List Request → Type 0 =
     λ l. HasSums (options_of_settings command.settings) (Some t) l sums in
     subst Q requests (subst P same (listed done none)))
-
-pub sums_same : (told now : Option Told) (command : Command) (o : Outcome) (sums : PageSums)
-    → now ≡ told → HasSumsTold now command o sums → HasSumsTold told command o sums
-sums_same told now command o sums same has =
-    let P : Option Told → Type 0 = λ n. HasSumsTold n command o sums in subst P same has

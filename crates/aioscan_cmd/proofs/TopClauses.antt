@@ -1,5 +1,5 @@
 -- What the top call promises over a shelf that tells, from how the run ended.
-use Rattle.std.proofs.Common.{◌≡◌, ◌≢◌, ℕ, List, length, refl, inl, inr, subst, true}
+use Rattle.std.proofs.Common.{◌≡◌, ◌≢◌, ℕ, List, length, refl, true}
 use Rattle.std.specs.Prelude.{Bool, Option, Some, None, IfSome}
 use Rattle.page_check.specs.Told.{Told}
 use Rattle.aio_disk.specs.Counts.{ShelfCounts}
@@ -9,14 +9,14 @@ use Rattle.aioscan_cmd.specs.Outcomes.{is_refused}
 use Rattle.aioscan_cmd.specs.Output.{ObservedState}
 use Rattle.aioscan_cmd.specs.Run.{SynchronousRun, file_run, generated_run, HoldsForRun}
 use Rattle.aioscan_cmd.specs.Run.{HoldsForSource, IsCommandRun, IsSourceRun}
-use Rattle.aioscan_cmd.specs.Run.{IsFileRun, IsGeneratedRun, IsGeneratedOutcome, IsWarned}
+use Rattle.aioscan_cmd.specs.Run.{IsFileRun, IsGeneratedRun, IsWarned}
 use Rattle.aioscan_cmd.specs.Run.{RunWrites}
 use Rattle.aioscan_cmd.specs.Causes.{HasCauses, NamesFirstTooLong, IsComplete}
 use Rattle.aioscan_cmd.specs.declared.report.Outcome.{Outcome}
-use Rattle.aioscan_cmd.specs.declared.report.Outcome.TheVariants.{Done, Usage, CannotWrite}
-use Rattle.aioscan_cmd.specs.declared.report.Outcome.TheVariants.{NoMemory}
+use Rattle.aioscan_cmd.specs.declared.report.Outcome.TheVariants.{Usage}
 use Rattle.aioscan_cmd.proofs.ExactOutcomes.{exact, complete}
 use Rattle.aioscan_cmd.proofs.FileRunsOverTold.{writes, is_warned, untouched_same}
+use Rattle.aioscan_cmd.proofs.GeneratedRuns.{generated_not_refused}
 
 -- over a shelf that tells, what holds of each run holds of this one
 told_by : (told : Option Told) (c : Command) (b a : ObservedState) (o : Outcome) (w : List ℕ)
@@ -84,23 +84,13 @@ module _ (files : Option Files) (command : Option Command) (b a : ObservedState)
       complete (generated_run z n) before now wb wn b.written a.written o
       (λ is. some (usage is)) causes r.in_order r.writes) ran
 
-generated_not_refused : (o : Outcome) → IsGeneratedOutcome o → is_refused o ≡ true → ⊥
-generated_not_refused o ends refused =
-    let P : Outcome → Type 0 = λ x. is_refused x ≡ true in elim ends [
-      | inl done ↦ let is : is_refused Done ≡ true = subst P done refused in cc
-      | inr other ↦ elim other [
-        | inl cut ↦ let is : is_refused CannotWrite ≡ true = subst P cut refused in cc
-        | inr memory ↦ let is : is_refused NoMemory ≡ true = subst P memory refused in cc
-      ]
-    ]
-
 untouched_by : (files : Option Files) (c : Command) (generated : Option ℕ)
     (b a : ObservedState) (o : Outcome)
     (w : List ℕ) → IsSourceRun files c generated b a o w
     → is_refused o ≡ true → a.written ≡ b.written
 untouched_by files c None b a o w ran refused = untouched_same b a (ran.output_same refused).0
 untouched_by files c (Some n) b a o w ran refused =
-    absurd (generated_not_refused o ran.ends refused)
+    absurd (let begun = generated_not_refused o ran.ends in cc)
 
 pub any_untouched : (files : Option Files) (command : Option Command)
     (b a : ObservedState) (o : Outcome) (w : List ℕ) → (command ≡ None → a.written ≡ b.written)

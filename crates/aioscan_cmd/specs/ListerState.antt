@@ -9,10 +9,12 @@ use Rattle.scan_rounds.specs.BlockFilter.{BlockFilter, unskipped_entries, filter
 use Rattle.scan_rounds.specs.declared.job.Ending.{Ending as JobEnding}
 use Rattle.scan_rounds.specs.declared.job.Ending.TheVariants as ending
 use Rattle.scan_rounds.specs.declared.job.Job.{Job}
-use Rattle.aioscan_cmd.specs.RequestList.{Request, Part, blocks_of_parts}
+use Rattle.heap_scan.specs.Sums.{no_sums}
+use Rattle.heap_scan.specs.declared.sums.PageSums.{PageSums}
+use Rattle.aioscan_cmd.specs.RequestList.{Request, Part}
 use Rattle.aioscan_cmd.specs.Output.{IsOutput, WriteFaultsCounted, format_of_options}
 use Rattle.aioscan_cmd.specs.ErrorLine.{ErrorStream, AppendsWarnings, error_stream}
-use Rattle.aioscan_cmd.specs.Sums.{HasSums}
+use Rattle.aioscan_cmd.specs.Sums.{IsSummedOutput}
 use Rattle.aioscan_cmd.specs.declared.lister.Lister.{Lister}
 use Rattle.aioscan_cmd.specs.declared.report.Outcome.{Outcome}
 use Rattle.aioscan_cmd.specs.declared.report.Outcome.TheVariants.{Done, Invalid}
@@ -44,22 +46,23 @@ abbrev pub unread_count : Outcome → ℕ
 unread_count (Unread r b) = 1
 unread_count _ = 0
 
--- the text of a job was written: the blocks that it was asked for were listed, with these warnings
+-- the text of a job was written: the blocks that it was asked for were listed, with its sums and
+-- these warnings
 abbrev pub JobTextWritten : Job → Option (List ℕ) → Option (List ℕ) → Outcome → List ℕ → Type 0
 JobTextWritten job before now outcome warnings =
     (skips : Option BlockFilter) (m : ListOptions) (told : Option Told) (asked : Job)
     → JobIsListed skips m told (λ _. ⊤) asked job
-    → IsOutput (format_of_options m) told (entries_of_job skips asked ∷ [])
-    before now outcome warnings
+    → (lists : IsOutput (format_of_options m) told (entries_of_job skips asked ∷ [])
+    before now outcome warnings) × (lists.sums ≡ job.tally)
 
--- and the texts of some jobs
+-- and the texts of some jobs, whose sums were added up
 abbrev pub AllJobTextsWritten : List Job → Option (List ℕ) → Option (List ℕ)
-    → Outcome → List ℕ → Type 0
-AllJobTextsWritten jobs before now outcome warnings =
+    → Outcome → PageSums → PageSums → List ℕ → Type 0
+AllJobTextsWritten jobs before now outcome sums_before sums_now warnings =
     (skips : Option BlockFilter) (m : ListOptions) (told : Option Told) (asked : List Job)
     → AllJobsAnswered skips m told asked jobs
-    → IsOutput (format_of_options m) told (unskipped_job_parts skips asked)
-    before now outcome warnings
+    → IsSummedOutput (format_of_options m) told (unskipped_job_parts skips asked)
+    before now outcome sums_before sums_now warnings
 
 module _ {W O E : Type 0} where
   -- something has ended the run, or no block is left
@@ -100,9 +103,8 @@ module _ {W O E : Type 0} where
       pub left : l.outcome ≡ Done → rest ≡ unskipped_parts skips l.blocks
       pub options_are : lister_options l ≡ m
       pub filter_is : lister_filter l ≡ skips
-      pub lists : AppendsWarnings (IsOutput (format_of_options m) told asked before
-          (o.written l.out.now) l.outcome) errors (lister_error_stream l)
-      pub sums : l.outcome ≡ Done → HasSums m told (blocks_of_parts asked) l.sums
+      pub lists : AppendsWarnings (IsSummedOutput (format_of_options m) told asked before
+          (o.written l.out.now) l.outcome no_sums l.sums) errors (lister_error_stream l)
       pub writes : WriteFaultsCounted faults_before (o.faults l.out.now) l.outcome
 
     -- some rounds have led from one state to the other: whatever was listed by the first, with

@@ -1,5 +1,5 @@
 -- What is left of a request list when parts were cut off from its front.
-use Rattle.std.specs.Prelude.{◌≡◌, ℕ, ◌+◌, ◌-◌, ◌^◌, ◌<◌, ◌≤◌, ◌++◌, List, [], ◌∷◌, drop, length}
+use Rattle.std.specs.Prelude.{◌≡◌, ℕ, ◌+◌, ◌^◌, ◌<◌, ◌≤◌, ◌++◌, List, [], drop, length}
 use Rattle.std.specs.Prelude.{map, slice_index, slice_index_or, Option, Some}
 use Rattle.vis_map.specs.MapRequest.{greatest_of, needed_pages}
 use Rattle.vis_map.specs.declared.map.Skip.{Skip}
@@ -65,30 +65,33 @@ greatest_requested_block a = greatest_of (map (λ (e : Request). e.block) (resol
 abbrev pub map_page_count : ResolvedCommand → ℕ
 map_page_count a = needed_pages (slice_index a.lengths.now 1) (greatest_requested_block a)
 
--- the parts of the blocks that a FILE word adds
+-- the blocks that a FILE word adds
+abbrev pub file_range : ResolvedCommand → List ℕ → JobRange
+file_range a name =
+    let r = relation_number name (command_relations a.command.now) in record {
+      relation = r;
+      first = first_block a.command.now;
+      count = asked_count a.command.now (slice_index a.lengths.now r);
+    }
+
+-- in parts
 abbrev pub resolved_file_parts : ResolvedCommand → List ℕ → List Part
 resolved_file_parts a name = one_file_parts (slice_index a.lengths.now) a.command.now name
 
--- those of its blocks but for the first so many
-abbrev pub remaining_of_file : ResolvedCommand → List ℕ → ℕ → List Part
-remaining_of_file a name done =
-    let r = relation_number name (command_relations a.command.now) in
-    range_parts r (first_block a.command.now + done)
-    (asked_count a.command.now (slice_index a.lengths.now r) - done)
-
--- those of some FILE words, but for the first so many blocks of the first
-abbrev pub remaining_of_names : ResolvedCommand → List (List ℕ) → ℕ → List Part
-remaining_of_names a [] done = []
-remaining_of_names a (name ∷ names) done =
-    remaining_of_file a name done ++ flat_map (resolved_file_parts a) names
-
--- those of the FILE words from one on
-unfoldable pub remaining_parts : ResolvedCommand → ℕ → ℕ → List Part
-remaining_parts a file done = remaining_of_names a (drop file (a.command.now).files) done
+-- these blocks in parts, and then those of the FILE words from one on
+unfoldable pub remaining_parts : ResolvedCommand → JobRange → ℕ → List Part
+remaining_parts a rest file =
+    range_parts rest.relation rest.first rest.count
+    ++ flat_map (resolved_file_parts a) (drop file (a.command.now).files)
 
 -- the FILE word at a place
 abbrev pub file_name_of_place : ResolvedCommand → ℕ → List ℕ
 file_name_of_place a file = slice_index_or (a.command.now).files file []
+
+-- what is left of a FILE word: blocks of a relation that there is
+pub record IsFileRange (relations : ℕ) (range : JobRange) : Type 0 where
+  pub relation_in : 0 < range.count → range.relation < relations
+  pub within : range.first + range.count ≤ number_limit
 
 -- 1 to 64 blocks of a relation that there is, each with a number
 pub record IsJobRange (relations : ℕ) (cut : JobRange) : Type 0 where

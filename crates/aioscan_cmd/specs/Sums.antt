@@ -1,16 +1,13 @@
 -- The sums over the pages of a run, as its jobs have added them up.
-use Rattle.std.specs.Prelude.{◌≡◌, ℕ, ◌-◌, ◌^◌, List, sum_by, min, Option, Some, None, IfSome, ⊤}
-use Rattle.std.specs.List.{All}
-use Rattle.page_check.specs.SynchronousAnswer.{End, reader_of}
+use Rattle.std.specs.Prelude.{◌≡◌, ℕ, ◌-◌, ◌^◌, List, min, Option, None, IfSome}
+use Rattle.page_check.specs.SynchronousAnswer.{found_at, readable_pages, zeroing}
 use Rattle.page_check.specs.Told.{Told, relation_block_count}
-use Rattle.heap_scan.specs.Job.{IsJobAnswer}
+use Rattle.heap_scan.specs.Sums.{sums_joined, sums_of}
 use Rattle.heap_scan.specs.declared.sums.PageSums.{PageSums}
-use Rattle.heap_tuple.specs.Listing.{text_with}
 use Rattle.scan_rounds.specs.ListOptions.{ListOptions}
-use Rattle.scan_rounds.specs.declared.job.Ending.TheVariants as ending
-use Rattle.scan_rounds.specs.declared.job.Job.{Job}
 use Rattle.aioscan_cmd.specs.Command.{Command, options_of_settings}
-use Rattle.aioscan_cmd.specs.RequestList.{Request, all_file_requests}
+use Rattle.aioscan_cmd.specs.Output.{IsOutput, ListFormat}
+use Rattle.aioscan_cmd.specs.RequestList.{Part, Request, all_file_requests}
 use Rattle.aioscan_cmd.specs.declared.report.Outcome.{Outcome}
 use Rattle.aioscan_cmd.specs.declared.report.Outcome.TheVariants.{Done}
 
@@ -25,32 +22,29 @@ saturated_sums sums = record {
   items = saturated_count sums.items;
 }
 
--- the sums of some jobs together
-abbrev pub total_of_jobs : List Job → PageSums
-total_of_jobs jobs = record {
-  pages = sum_by (λ (j : Job). j.tally.pages) jobs;
-  zero = sum_by (λ (j : Job). j.tally.zero) jobs;
-  items = sum_by (λ (j : Job). j.tally.items) jobs;
-}
+-- these sums, whatever was added up before, grew by those of some pages
+abbrev pub SumsGrew : PageSums → PageSums → PageSums → Type 0
+SumsGrew before now added =
+    (total : PageSums) → before ≡ saturated_sums total
+    → now ≡ saturated_sums (sums_joined total added)
 
--- each of the jobs has given all its pages
-abbrev pub AllPagesGiven : List Job → Type 0
-AllPagesGiven jobs = All (λ (j : Job). j.ending ≡ ending.Pages) jobs
+-- some parts were listed, and the sums grew by those of their pages
+pub record IsSummedOutput (m : ListFormat) (told : Option Told) (parts : List Part)
+    (before now : Option (List ℕ)) (outcome : Outcome) (sums_before sums_now : PageSums)
+    (warnings : List ℕ) : Type 0 where
+  pub lists : IsOutput m told parts before now outcome warnings
+  pub sums_grew : SumsGrew sums_before sums_now lists.sums
 
--- these are the sums of the pages that answer the blocks, listed by these options to their end
-pub record HasSums (m : ListOptions) (told : Option Told) (requests : List Request)
-    (sums : PageSums) : Type 0 where
-  pub text : List ℕ
-  pub warnings : List ℕ
-  pub total : PageSums
-  pub answer : IsJobAnswer (text_with m.tuples) (reader_of m.zero told) (λ _. ⊤) requests text
-      warnings total (Some End)
-  pub sums_are : sums ≡ saturated_sums total
-
--- of the blocks that a command without a map asks for, where all were listed and the contents are
+-- these are the sums of the pages that synchronous reads of the blocks give, where the contents are
 -- told
+abbrev pub HasSums : ListOptions → Option Told → List Request → PageSums → Type 0
+HasSums m told requests sums =
+    IfSome told (λ t. sums
+    ≡ saturated_sums (sums_of (readable_pages (zeroing m.zero (found_at t)) requests)))
+
+-- of the blocks that a command without a map asks for, where all were listed
 abbrev pub HasSumsTold : Option Told → Command → Outcome → PageSums → Type 0
 HasSumsTold told command outcome sums =
-    IfSome told (λ t. outcome ≡ Done → command.map ≡ None
-    → HasSums (options_of_settings command.settings) (Some t)
+    outcome ≡ Done → command.map ≡ None
+    → IfSome told (λ t. HasSums (options_of_settings command.settings) told
     (all_file_requests (relation_block_count t) command) sums)

@@ -13,6 +13,9 @@ use Rattle.aioscan_cmd.specs.declared.cutter.ResolvedCommand.{ResolvedCommand}
 use Rattle.aioscan_cmd.specs.declared.report.Outcome.{Outcome}
 use Rattle.aioscan_cmd.specs.declared.report.Numbers.{Numbers}
 use Rattle.aioscan_cmd.specs.declared.report.Report.{Report}
+use Rattle.aioscan_cmd.specs.declared.report.RunEnd.{RunEnd}
+use Rattle.aioscan_cmd.specs.declared.report.Line.TheVariants.{Whole}
+use Rattle.heap_scan.specs.Sums.{no_sums}
 
 -- those that are reported
 abbrev pub report_numbers : Report → Numbers
@@ -20,6 +23,18 @@ report_numbers r = record {
   incarnations = r.incarnations;
   by_workers = r.by_workers;
   by_backends = r.by_backends;
+}
+
+abbrev pub no_numbers : Numbers
+no_numbers = record { incarnations = 0; by_workers = 0; by_backends = 0 }
+
+-- the end of a run that read no block and told nothing
+abbrev pub end_without_reads : Outcome → RunEnd
+end_without_reads outcome = record {
+  outcome = outcome;
+  numbers = no_numbers;
+  line = Whole;
+  sums = no_sums;
 }
 
 -- each was one read of a disk, as far as the count goes; generated pages are read from a shelf of

@@ -3,7 +3,7 @@ ghost use Rattle.std.specs.Prelude.{◌≡◌, ◌<◌, ◌≤◌, ◌+◌, ◌^
 ghost use Rattle.scan_rounds.specs.Rounds.{results_taken_count};
 ghost use Rattle.scan_rounds.specs.Scans.{IsScan, IsSameScan, scan_options};
 ghost use Rattle.aioscan_cmd.specs.Command.{options_of_settings};
-ghost use Rattle.aioscan_cmd.specs.RemainingRequests.{AsksForMap, IsResolved};
+ghost use Rattle.aioscan_cmd.specs.RemainingRequests.{IsResolved};
 ghost use Rattle.aioscan_cmd.specs.RemainingRequests.{resolved_request_list};
 ghost use Rattle.aioscan_cmd.specs.RemainingRequests.{resolved_request_parts, resolved_requests};
 ghost use Rattle.aioscan_cmd.specs.RemainingRequests.{resolved_settings};
@@ -23,58 +23,14 @@ use scan_rounds::{MapFilter, Scan};
 use std::alloc::Global;
 use std::sync::Wait;
 use std::thread::Threads;
-use vis_map::{Skip, VisMap};
+use vis_map::VisMap;
 
 /// The relation of a map.
 const MAP: u32 = 1;
 
-// Reads the map, tells its warnings, and lists by rounds what it does not mark.
-fn list_by_map<W: World + Send + Sync, D: Disk, O: Sink, E: Sink, R: Threads + Wait + Sync>(
-    rt: &R,
-    alloc: Global,
-    scan: &mut Scan<W, D>,
-    asked: ResolvedCommand<'_, '_>,
-    skip: Skip,
-    out: &mut O,
-    err: &mut E,
-) -> (Outcome, Line, PageSums)
-    requires scan { IsScan D.Disk W.told W.relations scan.old }
-    requires room { 2 ^ 37 + 65 ≤ scan.old.room }
-    requires asked { IsResolved asked }
-    requires map { AsksForMap asked skip }
-    requires options { scan_options scan.old ≡ options_of_settings (resolved_settings asked) }
-    requires world { W.relations ≡ length asked.relations.now }
-    ensures scan { IsScan D.Disk W.told W.relations scan.new }
-    ensures same { IsSameScan scan.old scan.new }
-    ensures listed { (given : ℕ → List ℕ)
-        × AppendsWarnings (IsOutput (command_format asked.entry.command.now) W.told
-        (resolved_request_parts asked.entry W.told given) (O.written out.old) (O.written out.new)
-        result.0)
-        (error_stream Line.Whole (E.written err.old) (E.faults err.old))
-        (error_stream result.1 (E.written err.new) (E.faults err.new))
-        × (results_taken_count scan.new.backends.items
-        ≤ results_taken_count scan.old.backends.items
-        + length (resolved_request_list asked.entry W.told given)) }
-    ensures writes { WriteFaultsCounted (O.faults out.old) (O.faults out.new) result.0 }
-    ensures unread { (r b : ℕ) → result.0 ≡ Outcome.Unread r b → 0 < scan.new.unread }
-{
-    let Ok(mut map) = VisMap::open(alloc, asked.map_pages()) else {
-        return (Outcome::NoMemory, Line::Whole, PageSums::default());
-    };
-    let mut warnings = Vec::new(alloc);
-    let ending = scan.map(rt, MAP, &mut map, &mut warnings);
-    let line = write_warnings(Line::Whole, warnings.as_slice(), err);
-    match outcome_of(MAP, ending) {
-        Outcome::Done => {
-            let by_map = Some(MapFilter { map: &map, skip });
-            list_rounds(rt, scan, asked, by_map, line, out, err)
-        }
-        outcome => (outcome, line, PageSums::default()),
-    }
-}
-
-/// Lists what is asked for, by the map where there is one. The answer is the outcome, how much of
-/// the warnings reached the error stream, and the sums over the pages where there is no map.
+/// Lists what is asked for. Where there is a map it is read first, its warnings are told, and blocks
+/// that it marks are left out. The answer is the outcome, how much of the warnings reached the error
+/// stream, and the sums over the pages where there is no map.
 pub(crate) fn list_asked<
     W: World + Send + Sync,
     D: Disk,
@@ -111,8 +67,24 @@ pub(crate) fn list_asked<
         → HasSums (options_of_settings (resolved_settings asked.entry)) W.told
         (resolved_requests asked.entry) result.2 }
 {
-    match asked.command.map() {
-        None => list_rounds(rt, scan, asked, None, Line::Whole, out, err),
-        Some(map) => list_by_map(rt, alloc, scan, asked, map.skip, out, err),
+    let option = match asked.command.map() {
+        Some(option) => option,
+        None => return list_rounds(rt, scan, asked, None, Line::Whole, out, err),
+    };
+    let Ok(mut map) = VisMap::open(alloc, asked.map_pages()) else {
+        return (Outcome::NoMemory, Line::Whole, PageSums::default());
+    };
+    let mut warnings = Vec::new(alloc);
+    let ending = scan.map(rt, MAP, &mut map, &mut warnings);
+    let line = write_warnings(Line::Whole, warnings.as_slice(), err);
+    match outcome_of(MAP, ending) {
+        Outcome::Done => {
+            let by_map = Some(MapFilter {
+                map: &map,
+                skip: option.skip,
+            });
+            list_rounds(rt, scan, asked, by_map, line, out, err)
+        }
+        outcome => (outcome, line, PageSums::default()),
     }
 }

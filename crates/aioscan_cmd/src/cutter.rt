@@ -1,11 +1,12 @@
 //! Cuts the blocks that a command asks for into jobs, without a list of them.
-ghost use Rattle.std.specs.Prelude.{◌≡◌, ◌≤◌, ◌<◌, ◌+◌, ◌∷◌, ◌^◌, [], length};
+ghost use Rattle.std.specs.Prelude.{◌≡◌, ◌≤◌, ◌<◌, ◌∷◌, ◌^◌, [], length};
 ghost use Rattle.std.specs.Prelude.{IfSome, IfNone};
 ghost use Rattle.aioscan_cmd.specs.Command.{number_limit};
 ghost use Rattle.scan_rounds.specs.OpenedScan.{AreValidScanSettings};
 ghost use Rattle.aioscan_cmd.specs.RequestList.{block_range, blocks_of_parts};
-ghost use Rattle.aioscan_cmd.specs.RemainingRequests.{IsResolved, IsJobRange, remaining_parts};
-ghost use Rattle.aioscan_cmd.specs.RemainingRequests.{remaining_of_file, file_name_of_place};
+ghost use Rattle.aioscan_cmd.specs.RemainingRequests.{IsResolved, IsFileRange, IsJobRange};
+ghost use Rattle.aioscan_cmd.specs.RemainingRequests.{file_name_of_place, file_range};
+ghost use Rattle.aioscan_cmd.specs.RemainingRequests.{remaining_parts};
 ghost use Rattle.aioscan_cmd.specs.RemainingRequests.{AsksForMap, greatest_requested_block};
 ghost use Rattle.aioscan_cmd.specs.RemainingRequests.{map_page_count, resolved_parts};
 ghost use Rattle.aioscan_cmd.specs.RemainingRequests.{resolved_settings};
@@ -43,6 +44,21 @@ impl ResolvedCommand<'_, '_> {
         }
     }
 
+    // The blocks that a FILE word asks for.
+    fn range_of(&self, file: usize) -> JobRange
+        requires asked { IsResolved self.now }
+        requires file { file < length (self.now.command.now).files }
+        ensures range { result ≡ file_range self.now (file_name_of_place self.now file) }
+        ensures within { IsFileRange (length self.now.relations.now) result }
+    {
+        let relation = self.relations.number_of(self.command.files()[file]);
+        JobRange {
+            relation,
+            first: self.command.first_block(),
+            count: self.command.asked_count(self.lengths[relation as usize]),
+        }
+    }
+
     // The greatest block that the one file of a map asks for.
     fn greatest(&self) -> Option<u32>
         requires asked { IsResolved self.now }
@@ -50,12 +66,11 @@ impl ResolvedCommand<'_, '_> {
         ensures block { result ≡ greatest_requested_block self.now }
         ensures below { IfSome result (λ block. block < number_limit) }
     {
-        let relation = self.relations.number_of(self.command.files()[0]);
-        let count = self.command.asked_count(self.lengths[relation as usize]);
-        if count == 0 {
+        let range = self.range_of(0);
+        if range.count == 0 {
             None
         } else {
-            Some(self.command.first_block() + (count - 1))
+            Some(range.first + (range.count - 1))
         }
     }
 
@@ -70,7 +85,7 @@ impl ResolvedCommand<'_, '_> {
     }
 }
 
-/// The blocks of a job: so many of a relation, from one on.
+/// So many blocks of a relation, from one on: those of a job, or of a FILE word.
 #[derive(Clone, Copy)]
 pub(crate) struct JobRange {
     pub(crate) relation: u32,
@@ -78,64 +93,24 @@ pub(crate) struct JobRange {
     pub(crate) count: u32,
 }
 
-// Where cutting stands: at a FILE word, of which so many blocks were cut off.
-#[derive(Clone, Copy)]
-struct Place {
-    file: usize,
-    done: u32,
-}
-
-// The next of a FILE word's blocks, of which so many were cut off.
-fn cut_off(asked: ResolvedCommand<'_, '_>, place: Place) -> Option<JobRange>
+// What is left of the FILE words before one, or, where that is none, the blocks of the next that has
+// some; and the FILE word behind.
+fn next_range(asked: ResolvedCommand<'_, '_>, mut rest: JobRange, file: usize) -> (JobRange, usize)
     requires asked { IsResolved asked }
-    requires file { place.file < length (asked.command.now).files }
-    ensures some { IfSome result (λ c.
-        (remaining_of_file asked.entry (file_name_of_place asked.entry place.file) place.done
-        ≡ block_range c.relation c.first c.count
-        ∷ remaining_of_file asked.entry
-        (file_name_of_place asked.entry place.file) (place.done + c.count))
-        × IsJobRange (length asked.entry.relations.now) c × (place.done + c.count ≤ number_limit)) }
-    ensures none { IfNone result
-        (remaining_of_file asked.entry (file_name_of_place asked.entry place.file) place.done
-        ≡ []) }
+    requires rest { IsFileRange (length asked.relations.now) rest }
+    ensures same { remaining_parts asked.entry rest file
+        ≡ remaining_parts asked.entry result.0 result.1 }
+    ensures none { result.0.count ≡ 0 → remaining_parts asked.entry result.0 result.1 ≡ [] }
+    ensures within { IsFileRange (length asked.entry.relations.now) result.0 }
 {
-    let ResolvedCommand {
-        command,
-        relations,
-        lengths,
-        ..
-    } = asked;
-    let relation = relations.number_of(command.files()[place.file]);
-    let count = command.asked_count(lengths[relation as usize]);
-    if count <= place.done {
-        return None;
-    }
-    Some(JobRange {
-        relation,
-        first: command.first_block() + place.done,
-        count: JOB_BLOCKS.min(count - place.done),
-    })
-}
-
-// The next blocks, and where cutting stands behind them.
-fn cut_next(asked: ResolvedCommand<'_, '_>, place: Place) -> Option<(Place, JobRange)>
-    requires asked { IsResolved asked }
-    ensures some { IfSome result (λ c.
-        (remaining_parts asked.entry place.file place.done
-        ≡ block_range c.1.relation c.1.first c.1.count ∷ remaining_parts
-        asked.entry c.0.file c.0.done)
-        × IsJobRange (length asked.entry.relations.now) c.1) }
-    ensures none { IfNone result (remaining_parts asked.entry place.file place.done ≡ []) }
-{
-    let mut done = place.done;
-    for file in place.file..asked.command.files().len() {
-        if let Some(cut) = cut_off(asked, Place { file, done }) {
-            let done = done + cut.count;
-            return Some((Place { file, done }, cut));
+    let files = asked.command.files().len();
+    for next in file..files {
+        if rest.count != 0 {
+            return (rest, next);
         }
-        done = 0;
+        rest = asked.range_of(next);
     }
-    None
+    (rest, files)
 }
 
 /// The blocks that are asked for, but for those that were cut off. Contracts see it as the list of
@@ -143,20 +118,25 @@ fn cut_next(asked: ResolvedCommand<'_, '_>, place: Place) -> Option<(Place, JobR
 #[derive(Drop)]
 pub(crate) struct Cutter<'a, 'w, W: World> {
     asked: ResolvedCommand<'a, 'w>,
-    place: Place,
+    /// What is left of the FILE words before the next one.
+    rest: JobRange,
+    /// The next FILE word.
+    file: usize,
     world: PhantomData<W>,
 }
 
 impl<'a, 'w, W: World> Model for Cutter<'a, 'w, W> {
     ghost use Rattle.std.specs.Prelude.{List};
     ghost use Rattle.aioscan_cmd.specs.RequestList.{Part};
-    ghost use Rattle.aioscan_cmd.specs.RemainingRequests.{remaining_parts, ResolvesRelations};
+    ghost use Rattle.aioscan_cmd.specs.RemainingRequests.{IsFileRange, ResolvesRelations};
+    ghost use Rattle.aioscan_cmd.specs.RemainingRequests.{remaining_parts};
 
     ghost Value = { List Part };
 
-    ghost view = { λ c. remaining_parts c.asked c.place.file c.place.done };
+    ghost view = { λ c. remaining_parts c.asked c.rest c.file };
 
-    ghost invariant = { λ c. ResolvesRelations W.relations c.asked };
+    ghost invariant = { λ c. ResolvesRelations W.relations c.asked
+        × IsFileRange W.relations c.rest };
 }
 
 impl<'a, 'w, W: World> Cutter<'a, 'w, W> {
@@ -172,7 +152,12 @@ impl<'a, 'w, W: World> Cutter<'a, 'w, W> {
         let _ = asked.command.last_block();
         Cutter {
             asked,
-            place: Place { file: 0, done: 0 },
+            rest: JobRange {
+                relation: 0,
+                first: 0,
+                count: 0,
+            },
+            file: 0,
             world: PhantomData,
         }
     }
@@ -185,8 +170,17 @@ impl<'a, 'w, W: World> Cutter<'a, 'w, W> {
             × IsJobRange W.relations c) }
         ensures none { IfNone result ((self.old ≡ []) × (self.new ≡ [])) }
     {
-        let (place, cut) = cut_next(self.asked, self.place)?;
-        self.place = place;
-        Some(cut)
+        let (rest, file) = next_range(self.asked, self.rest, self.file);
+        let count = JOB_BLOCKS.min(rest.count);
+        if count == 0 {
+            return None;
+        }
+        self.file = file;
+        self.rest = JobRange {
+            relation: rest.relation,
+            first: rest.first + count,
+            count: rest.count - count,
+        };
+        Some(JobRange { count, ..rest })
     }
 }

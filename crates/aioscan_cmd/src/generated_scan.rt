@@ -9,8 +9,8 @@ ghost use Rattle.aioscan_cmd.specs.ErrorLine.{AppendsWarnings, error_stream};
 ghost use Rattle.aioscan_cmd.specs.Totals.{AreRunNumbers};
 
 use crate::generated::make_file;
-use crate::relation_files::list_files;
 use crate::report::RunEnd;
+use crate::scan::list_files;
 use crate::words::Command;
 use crate::{Line, Outcome};
 use aio_disk::{MemShelf, Sink, SteadyShelf, WriteFault};

@@ -20,7 +20,6 @@ mod in_rounds;
 mod lengths;
 mod lister;
 pub mod program;
-mod relation_files;
 mod relations;
 mod report;
 mod run;

@@ -11,7 +11,7 @@ ghost use Rattle.aioscan_cmd.specs.ErrorLine.{AppendsErrorText, AppendsWarnings,
 ghost use Rattle.aio_disk.specs.Counts.{CountRose};
 ghost use Rattle.aio_disk.specs.Sink.{SinkTakes};
 ghost use Rattle.aio_disk.specs.declared.fault.WriteFault.TheVariants.{Device};
-ghost use Rattle.aioscan_cmd.specs.Sums.{AllPagesGiven, saturated_sums, total_of_jobs};
+ghost use Rattle.aioscan_cmd.specs.Sums.{saturated_sums};
 ghost use Rattle.heap_scan.specs.Sums.{sums_joined};
 
 use crate::cutter::Cutter;
@@ -105,7 +105,6 @@ fn write_job<O: Sink, E: Sink>(job: &Job, out: &mut O, line: Line, err: &mut E) 
         (error_stream result.1 (E.written err.new) (E.faults err.new)) }
     ensures writes { WriteFaultsCounted (O.faults out.old) (O.faults out.new) result.0 }
     ensures unread { unread_count result.0 ≤ unread_job_count (job.now ∷ []) }
-    ensures all_pages_given { result.0 ≡ Outcome.Done → AllPagesGiven (job.now ∷ []) }
 {
     match write_text(job.text.as_slice(), out) {
         Ok(()) => end_job(job, line, err),
@@ -114,46 +113,43 @@ fn write_job<O: Sink, E: Sink>(job: &Job, out: &mut O, line: Line, err: &mut E) 
     }
 }
 
-// Writes the texts and the warnings of jobs, up to the first that ended in a fault.
+// Adds the sums of a job to those so far.
+fn add_up(sums: PageSums, tally: PageSums) -> PageSums
+    ensures { result ≡ saturated_sums (sums_joined sums tally) }
+{
+    PageSums {
+        pages: sums.pages.saturating_add(tally.pages),
+        zero: sums.zero.saturating_add(tally.zero),
+        items: sums.items.saturating_add(tally.items),
+    }
+}
+
+// Writes the texts and the warnings of jobs, up to the first that ended in a fault, and adds up
+// their sums.
 fn write_jobs<O: Sink, E: Sink>(
     jobs: &[Job],
     out: &mut O,
     mut line: Line,
     err: &mut E,
-) -> (Outcome, Line)
+    mut sums: PageSums,
+) -> (Outcome, Line, PageSums)
     ensures lists { AppendsWarnings (AllJobTextsWritten jobs.now (O.written out.old)
-        (O.written out.new) result.0) (error_stream line (E.written err.old) (E.faults err.old))
+        (O.written out.new) result.0 sums result.2)
+        (error_stream line (E.written err.old) (E.faults err.old))
         (error_stream result.1 (E.written err.new) (E.faults err.new)) }
     ensures writes { WriteFaultsCounted (O.faults out.old) (O.faults out.new) result.0 }
     ensures unread { unread_count result.0 ≤ unread_job_count jobs.now }
-    ensures all_pages_given { result.0 ≡ Outcome.Done → AllPagesGiven jobs.now }
 {
     for job in jobs {
         let (outcome, reached) = write_job(job, out, line, err);
         line = reached;
+        sums = add_up(sums, job.tally);
         match outcome {
             Outcome::Done => {}
-            outcome => return (outcome, line),
+            outcome => return (outcome, line, sums),
         }
     }
-    (Outcome::Done, line)
-}
-
-// Adds the sums of jobs to these.
-fn add_up(jobs: &[Job], sums: PageSums) -> PageSums
-    ensures { result ≡ saturated_sums (sums_joined sums (total_of_jobs jobs.now)) }
-{
-    let PageSums {
-        mut pages,
-        mut zero,
-        mut items,
-    } = sums;
-    for job in jobs {
-        pages = pages.saturating_add(job.tally.pages);
-        zero = zero.saturating_add(job.tally.zero);
-        items = items.saturating_add(job.tally.items);
-    }
-    PageSums { pages, zero, items }
+    (Outcome::Done, line, sums)
 }
 
 impl<'a, 'e, 'm, 'w, W: World, O: Sink, E: Sink> JobSource<W> for Lister<'a, 'e, 'm, 'w, W, O, E> {
@@ -191,10 +187,12 @@ impl<'a, 'e, 'm, 'w, W: World, O: Sink, E: Sink> JobSource<W> for Lister<'a, 'e,
     fn finish_jobs(&mut self, jobs: &[Job]) -> bool {
         match self.outcome {
             Outcome::Done => {
-                let (outcome, line) = write_jobs(jobs, self.out, self.line, self.err);
+                let (outcome, line, sums) = write_jobs(
+                    jobs, self.out, self.line, self.err, self.sums,
+                );
                 self.outcome = outcome;
                 self.line = line;
-                self.sums = add_up(jobs, self.sums);
+                self.sums = sums;
                 self.outcome.is_done()
             }
             _ => false,

@@ -1,6 +1,7 @@
 //! What a run says of itself.
-ghost use Rattle.std.specs.Prelude.{◌≡◌, ◌≢◌, ◌&&◌, true, false};
+ghost use Rattle.std.specs.Prelude.{◌≡◌, ◌≢◌, true, false};
 ghost use Rattle.aioscan_cmd.specs.Outcomes.{has_totals as totals_known};
+ghost use Rattle.aioscan_cmd.specs.Totals.{end_without_reads};
 
 use heap_scan::PageSums;
 
@@ -79,10 +80,7 @@ pub(crate) struct RunEnd {
 impl RunEnd {
     /// The end of a run that read no block and told nothing.
     pub(crate) fn without_reads(outcome: Outcome) -> RunEnd
-        ensures outcome { result.outcome ≡ outcome }
-        ensures line { result.line ≡ Line.Whole }
-        ensures numbers { (result.numbers.incarnations ≡ 0) × (result.numbers.by_workers ≡ 0)
-            × (result.numbers.by_backends ≡ 0) }
+        ensures { result ≡ end_without_reads outcome }
     {
         RunEnd {
             outcome,
@@ -92,7 +90,11 @@ impl RunEnd {
                 by_backends: 0,
             },
             line: Line::Whole,
-            sums: PageSums::default(),
+            sums: PageSums {
+                pages: 0,
+                zero: 0,
+                items: 0,
+            },
         }
     }
 }
@@ -104,21 +106,8 @@ pub(crate) struct ReportedEnd {
     pub(crate) shows_totals: bool,
 }
 
-impl ReportedEnd {
-    /// The end of a run that was asked for its totals, or was not.
-    pub(crate) fn new(end: RunEnd, stats: bool) -> ReportedEnd
-        ensures end { result.end ≡ end }
-        ensures shows { result.shows_totals ≡ (totals_known end.outcome && stats) }
-    {
-        ReportedEnd {
-            end,
-            shows_totals: has_totals(end.outcome) && stats,
-        }
-    }
-}
-
-// Whether a run was not refused, and found memory.
-fn has_totals(outcome: Outcome) -> bool
+/// Whether a run was not refused, and found memory.
+pub(crate) fn has_totals(outcome: Outcome) -> bool
     ensures { result ≡ totals_known outcome }
 {
     match outcome {

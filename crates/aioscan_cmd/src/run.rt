@@ -13,8 +13,8 @@ ghost use Rattle.aioscan_cmd.specs.Totals.{AreRunNumbers, generated_page_count, 
 
 use crate::error_line::write_end;
 use crate::generated_scan::list_generated;
-use crate::relation_files::list_files;
-use crate::report::{ReportedEnd, RunEnd};
+use crate::report::{ReportedEnd, RunEnd, has_totals};
+use crate::scan::list_files;
 use crate::words::{Command, Refusal, read_command};
 use crate::{Line, Outcome, Report};
 use aio_disk::{Shelf, Sink};
@@ -88,10 +88,19 @@ fn run<S: Shelf, O: Sink, E: Sink, R: Threads + Wait + Sync>(
     match read_command(alloc, words) {
         Ok(command) => {
             let end = run_command(rt, alloc, &command, shelf, out, err);
-            ReportedEnd::new(end, command.stats())
+            ReportedEnd {
+                end,
+                shows_totals: has_totals(end.outcome) && command.stats(),
+            }
         }
-        Err(Refusal::Usage) => ReportedEnd::new(RunEnd::without_reads(Outcome::Usage), false),
-        Err(Refusal::NoMemory) => ReportedEnd::new(RunEnd::without_reads(Outcome::NoMemory), false),
+        Err(Refusal::Usage) => ReportedEnd {
+            end: RunEnd::without_reads(Outcome::Usage),
+            shows_totals: false,
+        },
+        Err(Refusal::NoMemory) => ReportedEnd {
+            end: RunEnd::without_reads(Outcome::NoMemory),
+            shows_totals: false,
+        },
     }
 }
 

@@ -2,17 +2,17 @@
 ghost use Rattle.std.specs.Prelude.{◌≡◌, ◌≢◌, ◌<◌, ◌≤◌, ◌+◌, ◌*◌, ℕ, List, length, sum_by};
 ghost use Rattle.std.specs.Prelude.{None, Some, true, vec_len, vec_capacity};
 ghost use Rattle.std.specs.List.{All};
-ghost use Rattle.aio_disk.specs.Shelf.{shelf_told};
-ghost use Rattle.scan_rounds.specs.OpenedScan.{AreValidScanSettings, required_disks};
+ghost use Rattle.aio_disk.specs.Shelf.{AllThereIfTold, shelf_told};
+ghost use Rattle.scan_rounds.specs.OpenedScan.{required_disks};
 ghost use Rattle.aioscan_cmd.specs.Command.{options_of_settings, command_relations};
 ghost use Rattle.aioscan_cmd.specs.RemainingRequests.{IsResolved, resolved_request_parts};
 ghost use Rattle.aioscan_cmd.specs.RemainingRequests.{resolved_requests, resolved_settings};
 ghost use Rattle.aioscan_cmd.specs.Disks.{IsUnreadDisk};
-ghost use Rattle.aioscan_cmd.specs.Lengths.{HasAllLengths};
-ghost use Rattle.aioscan_cmd.specs.Output.{IsOutput, WriteFaultsCounted, observed_state};
-ghost use Rattle.aioscan_cmd.specs.Output.{command_format};
+ghost use Rattle.aioscan_cmd.specs.Output.{IsOutput, WriteFaultsCounted, command_format};
+ghost use Rattle.aioscan_cmd.specs.Output.{observed_state};
 ghost use Rattle.aioscan_cmd.specs.Run.{IsFileRun};
 ghost use Rattle.aioscan_cmd.specs.Causes.{ScanHasOutcome, HasCauses, CallsInOrder};
+ghost use Rattle.aioscan_cmd.specs.Causes.{DisksWereOpened};
 ghost use Rattle.aioscan_cmd.specs.ErrorLine.{AppendsWarnings, error_stream};
 ghost use Rattle.aioscan_cmd.specs.Sums.{HasSums, HasSumsTold};
 ghost use Rattle.aioscan_cmd.specs.Totals.{AreRunNumbers, AreScanNumbers};
@@ -26,9 +26,8 @@ use crate::report::{Numbers, RunEnd};
 use crate::words::Command;
 use crate::{Line, Outcome};
 use aio_disk::{Disk, OpenFault, Shelf, Sink};
-use heap_scan::PageSums;
 use page_check::World;
-use scan_rounds::{Scan, ScanSettings};
+use scan_rounds::Scan;
 use std::alloc::Global;
 use std::marker::Brand;
 use std::sync::Wait;
@@ -129,76 +128,19 @@ fn open_and_list<W: World + Send + Sync, S: Shelf, O: Sink, E: Sink, R: Threads 
     }
 }
 
-// Opens the other disks, lists what is asked for, and gives all disks back.
-fn run_scan<W: World + Send + Sync, S: Shelf, O: Sink, E: Sink, R: Threads + Wait + Sync>(
-    rt: &R,
-    alloc: Global,
-    asked: ResolvedCommand<'_, '_>,
-    settings: &ScanSettings,
-    first: S::Disk,
-    shelf: &mut S,
-    out: &mut O,
-    err: &mut E,
-) -> RunEnd
-    requires asked { IsResolved asked }
-    requires settings { (settings.now ≡ resolved_settings asked)
-        × AreValidScanSettings settings.now }
-    requires segment { (S.Disk.segment first ≡ asked.segment)
-        × (S.segment shelf.old ≡ asked.segment) }
-    requires told { (S.Disk.told first ≡ W.told)
-        × (shelf_told (S.told shelf.old) asked.relations.now ≡ W.told) }
-    requires relations { (S.Disk.relations first ≡ W.relations)
-        × (W.relations ≡ length asked.relations.now) }
-    requires handles { settings.now.backends * settings.now.handles ≡ W.handles }
-    requires unread { (S.Disk.faults first ≡ 0) × (S.Disk.reads first ≡ 0) }
-    requires lengths { HasAllLengths (S.Disk.told first) asked.segment (length asked.relations.now)
-        asked.lengths.now }
-    ensures ran { AppendsWarnings (IsFileRun (S.Disk.told first) (length asked.entry.relations.now)
-        asked.entry.command.now (observed_state (O.written out.old) (S.counts shelf.old).reads)
-        (observed_state (O.written out.new) (S.counts shelf.new).reads) result.outcome)
-        (error_stream Line.Whole (E.written err.old) (E.faults err.old))
-        (error_stream result.line (E.written err.new) (E.faults err.new)) }
-    ensures causes { HasCauses (S.counts shelf.old) (S.counts shelf.new) (O.faults out.old)
-        (O.faults out.new) result.outcome }
-    ensures order { CallsInOrder (S.counts shelf.old) (S.counts shelf.new) result.outcome }
-    ensures counted { AreRunNumbers None (Some asked.entry.command.now) (S.counts shelf.old)
-        (S.counts shelf.new) result.outcome result.numbers }
-    ensures sums { HasSumsTold (S.Disk.told first) asked.entry.command.now result.outcome
-        result.sums }
-    ensures sure { S.surely_opens shelf.old asked.entry.relations.now ≡ true
-        → result.outcome ≢ Outcome.CannotOpen }
-    ensures told { S.told shelf.new ≡ S.told shelf.old }
-    ensures words { result.outcome ≢ Outcome.Usage }
-{
-    let Ok(mut disks) = Vec::with_capacity(alloc, settings.disk_count()) else {
-        shelf.take_back(first);
-        return RunEnd::without_reads(Outcome::NoMemory);
-    };
-    disks.push_reserved(first);
-    let (disks, end) = open_and_list::<W, S, O, E, R>(rt, alloc, asked, disks, shelf, out, err);
-    take_all_back(shelf, disks);
-    end
-}
-
-/// Takes the lengths, and lists the blocks that the command asks for. The disk goes back to the
-/// shelf.
-pub(crate) fn scan_disk<S: Shelf, O: Sink, E: Sink, R: Threads + Wait + Sync>(
+/// Opens a disk for the relations, takes their lengths, and lists the blocks that the command asks
+/// for. All disks go back to the shelf.
+pub(crate) fn list_files<S: Shelf, O: Sink, E: Sink, R: Threads + Wait + Sync>(
     rt: &R,
     alloc: Global,
     command: &Command<'_>,
-    relations: &Relations,
-    mut disk: S::Disk,
     shelf: &mut S,
     out: &mut O,
     err: &mut E,
 ) -> RunEnd
-    requires relations { relations.now ≡ command_relations command.now }
-    requires told { S.Disk.told disk ≡ shelf_told (S.told shelf.old) relations.now }
-    requires segment { S.Disk.segment disk ≡ S.segment shelf.old }
-    requires disk { S.Disk.relations disk ≡ length relations.now }
-    requires unread { (S.Disk.length_faults disk ≡ 0) × (S.Disk.faults disk ≡ 0)
-        × (S.Disk.reads disk ≡ 0) }
-    ensures ran { AppendsWarnings (IsFileRun (S.Disk.told disk) (length relations.now) command.now
+    ensures ran { AppendsWarnings (IsFileRun (shelf_told (S.told shelf.old) (command_relations
+        command.now))
+        (length (command_relations command.now)) command.now
         (observed_state (O.written out.old) (S.counts shelf.old).reads)
         (observed_state (O.written out.new) (S.counts shelf.new).reads) result.outcome)
         (error_stream Line.Whole (E.written err.old) (E.faults err.old))
@@ -208,26 +150,43 @@ pub(crate) fn scan_disk<S: Shelf, O: Sink, E: Sink, R: Threads + Wait + Sync>(
     ensures order { CallsInOrder (S.counts shelf.old) (S.counts shelf.new) result.outcome }
     ensures counted { AreRunNumbers None (Some command.now)
         (S.counts shelf.old) (S.counts shelf.new) result.outcome result.numbers }
-    ensures sums { HasSumsTold (S.Disk.told disk) command.now result.outcome result.sums }
-    ensures sure { S.surely_opens shelf.old relations.now ≡ true
+    ensures sums { HasSumsTold (shelf_told (S.told shelf.old) (command_relations command.now))
+        command.now
+        result.outcome result.sums }
+    ensures sure { S.surely_opens shelf.old (command_relations command.now) ≡ true
         → result.outcome ≢ Outcome.CannotOpen }
     ensures told { S.told shelf.new ≡ S.told shelf.old }
+    ensures opened { DisksWereOpened result.outcome
+        → AllThereIfTold (S.told shelf.old) (command_relations command.now) }
     ensures words { result.outcome ≢ Outcome.Usage }
 {
-    match take_lengths(alloc, &mut disk, relations.count()) {
-        Ok(lengths) => {
-            let asked = ResolvedCommand {
-                command,
-                relations,
-                lengths: lengths.as_slice(),
-                segment: disk.segment(),
-            };
-            let settings = asked.settings();
-            run_scan::<Brand, S, O, E, R>(rt, alloc, asked, &settings, disk, shelf, out, err)
-        }
+    let Ok(relations) = Relations::new(alloc, command) else {
+        return RunEnd::without_reads(Outcome::NoMemory);
+    };
+    let mut disk = match shelf.open(relations.names()) {
+        Ok(disk) => disk,
+        Err(OpenFault::Device) => return RunEnd::without_reads(Outcome::CannotOpen),
+        Err(OpenFault::Memory) => return RunEnd::without_reads(Outcome::NoMemory),
+    };
+    let lengths = match take_lengths(alloc, &mut disk, relations.count()) {
+        Ok(lengths) => lengths,
         Err(outcome) => {
             shelf.take_back(disk);
-            RunEnd::without_reads(outcome)
+            return RunEnd::without_reads(outcome);
         }
-    }
+    };
+    let asked = ResolvedCommand {
+        command,
+        relations: &relations,
+        lengths: lengths.as_slice(),
+        segment: disk.segment(),
+    };
+    let Ok(mut disks) = Vec::with_capacity(alloc, asked.settings().disk_count()) else {
+        shelf.take_back(disk);
+        return RunEnd::without_reads(Outcome::NoMemory);
+    };
+    disks.push_reserved(disk);
+    let (disks, end) = open_and_list::<Brand, S, O, E, R>(rt, alloc, asked, disks, shelf, out, err);
+    take_all_back(shelf, disks);
+    end
 }

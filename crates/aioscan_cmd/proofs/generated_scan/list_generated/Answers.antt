@@ -1,4 +1,4 @@
-use Rattle.std.proofs.Common.{◌≡◌, ◌∙◌, ap, arith, refl, subst, inl, inr}
+use Rattle.std.proofs.Common.{◌≡◌, ◌∙◌, ap, arith, refl, subst, inl, inr, []}
 use Rattle.std.specs.Prelude.{Some}
 use Rattle.heap_scan.specs.declared.sums.PageSums.{PageSums}
 use Rattle.aio_disk.specs.Counts.{CountRose}
@@ -16,8 +16,8 @@ use Rattle.aioscan_cmd.proofs.generated_scan.list_generated.Goals as goal
 
 pub returns-in_default-clause-ran : goal.returns-in_default-clause-ran
 returns-in_default-clause-ran g c =
-    warns_none _ _ _ _ _ c.without_reads.ensures.line
-    (λ k. ran_generated_without_memory _ c.args.pages _ k _ _ c.without_reads.ensures.outcome refl)
+    rw c.without_reads.ensures
+    (warns_none _ _ (λ k. ran_generated_without_memory _ c.args.pages _ [] refl))
 
 pub returns-then-is_done-clause-ran : goal.returns-then-is_done-clause-ran
 returns-then-is_done-clause-ran g c =
@@ -63,6 +63,6 @@ returns-clause-ran g c =
     ] in record {
       warnings = ran.warnings;
       tells = ran.tells;
-      warnings_hold = λ k. ran_generated_without_memory command.settings.zero c.args.pages
-          (g.O.Sink.written c.args.out.now) k _ ran.warnings memory none;
+      warnings_hold = λ k. rw memory
+          (ran_generated_without_memory command.settings.zero c.args.pages _ ran.warnings none);
     }

@@ -8,8 +8,8 @@ use Rattle.aioscan_cmd.specs.ErrorLine.{AppendsErrorText, error_stream}
 use Rattle.aioscan_cmd.specs.ListerState.{unskipped_parts}
 use Rattle.aioscan_cmd.specs.Output.{IsOutput, WriteFaultsCounted, format_of_options}
 use Rattle.aioscan_cmd.specs.Sums.{HasSums}
-use Rattle.aioscan_cmd.proofs.ListerRoundsCompose.{all_listed, all_written, all_summed}
-use Rattle.aioscan_cmd.proofs.JobSumsAdd.{zero_sums}
+use Rattle.aioscan_cmd.proofs.ListerRoundsCompose.{all_listed, all_written}
+use Rattle.aioscan_cmd.proofs.JobSumsAdd.{summed_told, zero_sums}
 use Rattle.aioscan_cmd.proofs.RemainingRequestsStep.{resolved_blocks}
 use Rattle.aioscan_cmd.proofs.UnskippedBlocksAppend.{resolved_unskipped}
 use Rattle.aioscan_cmd.proofs.in_rounds.list_rounds.Goals as goal
@@ -41,7 +41,7 @@ returns-clause-lists g c =
       warnings = listed.warnings;
       tells = subst Q (sym (c.err-1.given.1 (sym err_loan) ∙ c.end_borrow-2.ensures)) listed.tells;
       warnings_hold = subst P (sym (c.out-1.given.1 (sym loan) ∙ c.end_borrow.ensures))
-          (subst Z options_are listed.warnings_hold);
+          (subst Z options_are listed.warnings_hold.lists);
     }
 
 pub returns-clause-writes : goal.returns-clause-writes
@@ -63,14 +63,16 @@ returns-clause-sums g c = λ done.
     let skips = filter_of_skipping c.args.by_map in
     let kept = unskipped_parts skips (resolved_parts c.args.asked) in
     let sums = c.run-lister.result.sums in
+    let listed = all_listed g.W.World.told g.O.Sink g.E.Sink kept _ c.run-lister.result refl
+    (ap (unskipped_parts skips) c.new-blocks.ensures.all)
+    (zero_sums c.default.result c.default.ensures)
+    c.run-lister.ensures.ran_source.source_follows c.run-lister.ensures.ran_source.over in
     let Z : ListOptions → Type 0 = λ m. HasSums m g.W.World.told (blocks_of_parts kept) sums in
     let B : List Request → Type 0 = λ l. HasSums
     (options_of_settings (resolved_settings c.args.asked)) g.W.World.told l sums in
     subst B (resolved_unskipped skips c.args.asked) (subst Z options_are
-    (all_summed g.W.World.told g.O.Sink g.E.Sink kept _ c.run-lister.result refl
-    (ap (unskipped_parts skips) c.new-blocks.ensures.all)
-    (zero_sums c.default.result c.default.ensures)
-    c.run-lister.ensures.ran_source.source_follows c.run-lister.ensures.ran_source.over done)))
+    (summed_told (options_of_settings c.settings-settings.result) g.W.World.told kept _ _ _ sums _
+    done listed.warnings_hold)))
 
 pub returns-clause-results_bound : goal.returns-clause-results_bound
 returns-clause-results_bound g c =

@@ -1,4 +1,4 @@
-use Rattle.std.proofs.Common.{rules, refl}
+use Rattle.std.proofs.Common.{rules}
 use Rattle.aioscan_cmd.proofs.JobTextOutput.{job_written, job_unwritten, job_out_of_memory}
 use Rattle.aioscan_cmd.proofs.JobTextOutput.{one_unread}
 use Rattle.aioscan_cmd.proofs.JobTextOutput.{stopped_by_job}
@@ -21,10 +21,10 @@ returns-in-Ok-clause-unread g c = one_unread c.args.job.now _ c.end_job.ensures.
 
 pub returns-in-Err-Device-clause-lists : goal.returns-in-Err-Device-clause-lists
 returns-in-Err-Device-clause-lists g c =
-    warns_none _ _ _ _ _ refl (job_unwritten c.args.job.now _ _
+    warns_none _ _ (job_unwritten c.args.job.now _ _
     (search rules) (search rules))
 
 pub returns-in-Err-Memory-clause-lists : goal.returns-in-Err-Memory-clause-lists
 returns-in-Err-Memory-clause-lists g c =
-    warns_none _ _ _ _ _ refl (job_out_of_memory c.args.job.now _ _
+    warns_none _ _ (job_out_of_memory c.args.job.now _ _
     (search rules) (search rules))

@@ -1,15 +1,14 @@
-use Rattle.std.proofs.Common.{◌≤◌, take}
+use Rattle.std.proofs.Common.{◌≤◌}
 use Rattle.aioscan_cmd.specs.ErrorLine.{AppendsWarnings, error_stream}
-use Rattle.aioscan_cmd.specs.Sums.{AllPagesGiven}
 use Rattle.aioscan_cmd.proofs.JobTextsAppend.{FirstListed}
 use Rattle.aioscan_cmd.proofs.lister.write_jobs.Given as goal
 
 abbrev pub invariant-loop-job : goal.invariant-loop-job
 invariant-loop-job g l = record {
   lists : AppendsWarnings
-      (FirstListed l.jobs l.job-index (g.O.Sink.written l.fn.out) (g.O.Sink.written l.out))
+      (FirstListed l.jobs l.job-index (g.O.Sink.written l.fn.out) (g.O.Sink.written l.out)
+      l.fn.sums l.sums)
       (error_stream l.fn.line (g.E.Sink.written l.fn.err) (g.E.Sink.faults l.fn.err))
       (error_stream l.line (g.E.Sink.written l.err) (g.E.Sink.faults l.err));
-  all_pages_given : AllPagesGiven (take l.job-index l.jobs);
   later : g.O.Sink.faults l.fn.out ≤ g.O.Sink.faults l.out;
 }

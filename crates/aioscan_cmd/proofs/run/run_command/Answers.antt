@@ -3,7 +3,7 @@ use Rattle.std.specs.Prelude.{Option, Some}
 use Rattle.aioscan_cmd.specs.Output.{observed_state}
 use Rattle.aioscan_cmd.specs.Run.{IsSourceRun}
 use Rattle.aioscan_cmd.specs.Totals.{AreRunNumbers}
-use Rattle.aioscan_cmd.proofs.GeneratedRunCauses.{generated_apart, generated_causes}
+use Rattle.aioscan_cmd.proofs.GeneratedRuns.{generated_causes, generated_not_refused}
 use Rattle.aioscan_cmd.proofs.run.run_command.Goals as goal
 
 pub returns-in-Some-clause-ran : goal.returns-in-Some-clause-ran
@@ -38,4 +38,5 @@ returns-in-Some-clause-counted g c =
 pub returns-in-Some-clause-words : goal.returns-in-Some-clause-words
 returns-in-Some-clause-words g c =
     let ran = c.list_generated.ensures.ran.warnings_hold 0 in
-    (generated_apart c.list_generated.result.outcome ran.ends).usage
+    let begun = generated_not_refused c.list_generated.result.outcome ran.ends in
+    λ is. absurd (let refused = rw is at begun in cc)

@@ -1,7 +1,7 @@
 use Rattle.std.proofs.Common.{◌∙◌, ap, arith, length, sum_by, []}
 use Rattle.aioscan_cmd.proofs.ScanCountsAtEnd.{no_reads, some_fault, nothing_counted}
-use Rattle.aioscan_cmd.proofs.ScanCountsAtEnd.{nothing_listed}
 use Rattle.aioscan_cmd.proofs.ScanCountsAtEnd.{none_by_workers}
+use Rattle.aioscan_cmd.proofs.OutputsAppend.{lists_nothing}
 use Rattle.aioscan_cmd.proofs.DiskCountsAdd.{workers_read}
 use Rattle.aioscan_cmd.proofs.ErrorTextsAppend.{warns_none}
 use Rattle.aioscan_cmd.proofs.scan.list_disks.Goals as goal
@@ -59,14 +59,11 @@ returns-clause-listed g c =
 
 pub returns-in-Err-clause-listed : goal.returns-in-Err-clause-listed
 returns-in-Err-clause-listed g c =
-    let none = no_reads g.D.Disk g.W.World.told g.W.World.relations c.args.asked.segment
-    c.args.disks.items
-    c.requires.unread in
-    let numbers = c.without_reads.ensures.numbers in (
+    rw c.without_reads.ensures (
       λ _. [],
-      warns_none _ _ _ _ _ c.without_reads.ensures.line
-          (nothing_listed _ g.W.World.told _ _ _ c.without_reads.ensures.outcome),
-      nothing_counted _ _ _ _ _ _
-          (ap (λ disks. sum_by g.D.Disk.reads disks.items) c.in-Err.ensures.disks_returned ∙ none)
-          numbers.0 numbers.1 numbers.2,
+      warns_none _ _ (lists_nothing _ g.W.World.told _ _),
+      nothing_counted _ _ _ _ _
+          (ap (λ disks. sum_by g.D.Disk.reads disks.items) c.in-Err.ensures.disks_returned
+          ∙ no_reads g.D.Disk g.W.World.told g.W.World.relations c.args.asked.segment
+          c.args.disks.items c.requires.unread),
     )

@@ -2,8 +2,7 @@ use Rattle.std.proofs.Common.{◌≡◌, rules, [], subst, false}
 use Rattle.aioscan_cmd.specs.Outcomes.{is_refused}
 use Rattle.aioscan_cmd.specs.declared.report.Outcome.{Outcome}
 use Rattle.aioscan_cmd.proofs.ScanCountsAtEnd.{no_reads, no_faults, nothing_counted}
-use Rattle.aioscan_cmd.proofs.ScanCountsAtEnd.{scanned_nothing}
-use Rattle.aioscan_cmd.proofs.ScanCountsAtEnd.{scan_refused}
+use Rattle.aioscan_cmd.proofs.ScanCountsAtEnd.{scan_refused, scanned_nothing}
 use Rattle.aioscan_cmd.proofs.ErrorTextsAppend.{warns_also, warns_none}
 use Rattle.aioscan_cmd.proofs.scan.open_and_list.Goals as goal
 
@@ -26,25 +25,22 @@ returns-in-Ok-clause-scanned g c =
 pub returns-in-Err-Device-clause-scanned : goal.returns-in-Err-Device-clause-scanned
 returns-in-Err-Device-clause-scanned g c =
     let e = c.open_others.ensures in
-    let numbers = c.without_reads.ensures.numbers in
-    let none = no_reads g.S.Disk.Disk _ _ _ c.open_others.new.disks.items e.unread in (
+    let disks = c.open_others.new.disks.items in
+    let none = no_reads g.S.Disk.Disk _ _ _ disks e.unread in
+    rw c.without_reads.ensures (
       λ _. [],
-      warns_none _ _ _ _ _ c.without_reads.ensures.line
-          (scan_refused _ _ _ _ _ _ _ _ _ c.without_reads.ensures.outcome e.later
-          (e.length_faults, e.faults, e.reads) (search rules)
-          (no_faults g.S.Disk.Disk _ _ _ c.open_others.new.disks.items e.unread)
-          none),
-      nothing_counted _ _ _ _ _ _ none numbers.0 numbers.1 numbers.2,
+      warns_none _ _ (scan_refused _ _ _ _ _ _ _ _ (e.length_faults, e.faults, e.reads)
+          (search rules) (no_faults g.S.Disk.Disk _ _ _ disks e.unread) none),
+      nothing_counted _ _ _ _ _ none,
     )
 
 pub returns-in-Err-Memory-clause-scanned : goal.returns-in-Err-Memory-clause-scanned
 returns-in-Err-Memory-clause-scanned g c =
     let e = c.open_others.ensures in
-    let numbers = c.without_reads-in-Err-Memory.ensures.numbers in
-    let none = no_reads g.S.Disk.Disk _ _ _ c.open_others.new.disks.items e.unread in (
+    rw c.without_reads-in-Err-Memory.ensures (
       λ _. [],
-      warns_none _ _ _ _ _ c.without_reads-in-Err-Memory.ensures.line
-          (scanned_nothing _ _ _ _ _ _ _ _ _ c.without_reads-in-Err-Memory.ensures.outcome e.later
+      warns_none _ _ (scanned_nothing _ _ _ _ _ _ _ _ e.later
           (e.length_faults, e.faults, e.reads)),
-      nothing_counted _ _ _ _ _ _ none numbers.0 numbers.1 numbers.2,
+      nothing_counted _ _ _ _ _
+          (no_reads g.S.Disk.Disk _ _ _ c.open_others.new.disks.items e.unread),
     )

@@ -3,7 +3,7 @@ use Rattle.std.specs.Prelude.{Option}
 use Rattle.aioscan_cmd.specs.Command.{IsBelowIfGiven, number_limit}
 use Rattle.aioscan_cmd.specs.RequestList.{Part, blocks_of_parts}
 use Rattle.aioscan_cmd.proofs.RemainingRequestsStep.{remaining_parts-all, few_requests}
-use Rattle.aioscan_cmd.proofs.RemainingRequestsStep.{few_files, resolved_blocks}
+use Rattle.aioscan_cmd.proofs.RemainingRequestsStep.{file_count, resolved_blocks}
 use Rattle.aioscan_cmd.proofs.cutter.Cutter.new.Goals as goal
 
 pub returns-clause-all : goal.returns-clause-all
@@ -14,7 +14,7 @@ returns-clause-few g c =
     let P : Option ℕ → Type 0 = λ o. IsBelowIfGiven o number_limit in
     let few = few_requests c.args.asked c.requires.asked
     (subst P c.last_block.ensures.block c.last_block.ensures.below)
-    (few_files c.args.asked c.files.result.now c.files.ensures.files c.files.ensures.few) in
+    (omega (arith, file_count c.args.asked _ c.files.ensures.files, c.files.ensures.few)) in
     omega (
       arith,
       few,

@@ -7,4 +7,3 @@ returns-in-Done-clause-follows g c = λ was asked gives_jobs answered.
     round_written g.W.World.told g.O.Sink g.E.Sink was c.args.self.now _ asked c.args.jobs.now
     gives_jobs answered c.in-Done.is refl refl refl refl refl
     c.write_jobs-outcome.ensures.lists c.write_jobs-outcome.ensures.writes
-    c.write_jobs-outcome.ensures.all_pages_given c.add_up-self.ensures
