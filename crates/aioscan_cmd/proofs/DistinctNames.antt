@@ -1,14 +1,12 @@
 -- Distinct names: which there are, one more, and their places.
-use Rattle.std.proofs.Common.{◌≡◌, ℕ, ◌+◌, ◌<◌, ◌≤◌, List, [], ◌∷◌, ◌++◌, length, map}
+use Rattle.std.proofs.Common.{◌≡◌, ℕ, ◌+◌, ◌<◌, ◌≤◌, List, [], ◌∷◌, ◌++◌, length, map, not}
 use Rattle.std.proofs.Common.{get_or, refl, sym, ap, ◌∙◌, subst, arith, Bool, true, false, ◌||◌}
-use Rattle.std.proofs.Common.{not}
 use Rattle.std.proofs.Common.{cond, append-nil}
 use Rattle.std.specs.Prelude.{Option, Some, None, nat_lt, unwrap_or}
-use Rattle.std.specs.List.{position}
+use Rattle.std.specs.List.{position, list_any, filter, position_or_len}
 use Rattle.std.proofs.lemmas.List.{map-append}
 use Rattle.std.proofs.lemmas.Bool.Decides.{nat_tests}
 use Rattle.std.proofs.lemmas.List.Sums.{length-filter, count_by-le-length, prefix_len-le-length}
-use Rattle.std.specs.List.{list_any, filter, position_or_len}
 use Rattle.std.specs.Str.{bytes_eq}
 use Rattle.std.proofs.lemmas.Slice.Eq.{bytes_eq-Decides}
 use Rattle.std.proofs.lemmas.List.Elements.{filter-append}

@@ -7,8 +7,7 @@ use Rattle.aioscan_cmd.specs.ErrorLine.{error_stream}
 use Rattle.aioscan_cmd.specs.declared.report.Line.{Line}
 use Rattle.aioscan_cmd.specs.declared.report.Line.TheVariants.{Whole}
 use Rattle.aioscan_cmd.proofs.SinkTextsAppend.{SinkGrew-append, SinkGrew-nothing}
-use Rattle.aioscan_cmd.proofs.SinkTextsAppend.{SinkGrewByPrefix-append}
-use Rattle.aioscan_cmd.proofs.SinkTextsAppend.{SinkGrewByPrefix-more}
+use Rattle.aioscan_cmd.proofs.SinkTextsAppend.{SinkGrewByPrefix-append, SinkGrewByPrefix-more}
 
 no_front : (xs ys : List ℕ) → xs ++ ys ≡ [] → xs ≡ []
 no_front [] ys none = refl

@@ -1,20 +1,16 @@
 -- FILE words that are listed one after the other.
-use Rattle.std.proofs.Common.{◌≡◌, ℕ, ◌<◌, List, [], ◌∷◌}
-use Rattle.std.proofs.Common.{length}
+use Rattle.std.proofs.Common.{◌≡◌, ℕ, ◌<◌, List, [], ◌∷◌, length}
 use Rattle.std.proofs.Common.{get_or, refl, ap, subst, sym, arith, suc, ◌∙◌, length-append, not}
 use Rattle.std.specs.Prelude.{Option, Some, None}
 use Rattle.std.specs.List.{filter, flat_map}
 use Rattle.std.specs.Str.{bytes_eq}
 use Rattle.std.proofs.lemmas.List.Concat.{flat_map-cons}
 use Rattle.aioscan_cmd.specs.Command.{Command, MapOption, without_duplicates, command_relations}
-use Rattle.aioscan_cmd.specs.Command.{relations_with}
-use Rattle.aioscan_cmd.specs.Command.{relation_number}
-use Rattle.aioscan_cmd.specs.Command.{first_block, asked_count}
+use Rattle.aioscan_cmd.specs.Command.{relations_with, relation_number, first_block, asked_count}
 use Rattle.aioscan_cmd.proofs.DistinctNames.{place_of_name}
 use Rattle.aioscan_cmd.specs.RequestList.{Request, blocks_of_parts, one_file_requests}
 use Rattle.aioscan_cmd.specs.RequestList.{all_file_requests, all_file_parts, one_file_parts}
-use Rattle.aioscan_cmd.specs.RequestList.{Part, range_parts, request_parts}
-use Rattle.aioscan_cmd.specs.RequestList.{with_map_part}
+use Rattle.aioscan_cmd.specs.RequestList.{Part, range_parts, request_parts, with_map_part}
 use Rattle.aioscan_cmd.proofs.PartsOfRequests.{file_blocks}
 
 -- the number of a relation that the words name is one of those that there are

@@ -1,6 +1,5 @@
 -- What is known of one run over contents that are told.
-use Rattle.std.proofs.Common.{◌≡◌, ℕ, List, length, refl, sym, ap, ◌∙◌}
-use Rattle.std.proofs.Common.{subst}
+use Rattle.std.proofs.Common.{◌≡◌, ℕ, List, length, refl, sym, ap, ◌∙◌, subst}
 use Rattle.std.specs.Prelude.{Option, Some, None}
 use Rattle.page_check.specs.Told.{Told, relation_block_count}
 use Rattle.page_check.specs.SynchronousAnswer.{Found, Page as FoundPage, Zeroed, Damaged, Absent}
@@ -12,14 +11,12 @@ use Rattle.heap_scan.specs.Listing.{listing}
 use Rattle.aioscan_cmd.specs.Command.{Command, length_limit, command_relations}
 use Rattle.aioscan_cmd.specs.RequestList.{Request, Part, blocks_of_parts, request}
 use Rattle.aioscan_cmd.specs.RequestList.{request_list, request_parts}
-use Rattle.aioscan_cmd.specs.Output.{ObservedState, ListFormat}
-use Rattle.aioscan_cmd.specs.Output.{command_format}
+use Rattle.aioscan_cmd.specs.Output.{ObservedState, ListFormat, command_format}
 use Rattle.aioscan_cmd.specs.Run.{SynchronousRun, file_run, IsFileRun, IsWarned}
 use Rattle.aioscan_cmd.specs.Run.{RunWrites, outcome_of_found, outcome_of_stop}
 use Rattle.aioscan_cmd.specs.declared.report.Outcome.{Outcome}
-use Rattle.aioscan_cmd.specs.declared.report.Outcome.TheVariants.{Done, Invalid}
+use Rattle.aioscan_cmd.specs.declared.report.Outcome.TheVariants.{Done, Invalid, NoMemory, Missing}
 use Rattle.aioscan_cmd.specs.declared.report.Outcome.TheVariants.{Unread, CannotWrite}
-use Rattle.aioscan_cmd.specs.declared.report.Outcome.TheVariants.{NoMemory, Missing}
 use Rattle.aioscan_cmd.proofs.SinkTextsAppend.{SinkGrew-same}
 use Rattle.aioscan_cmd.proofs.PartsOfRequests.{request_blocks}
 use Rattle.aioscan_cmd.proofs.RunsOverTold.{cut_at, stop_here, text_all, text_begins}

@@ -7,14 +7,11 @@ use Rattle.std.proofs.Math.Nat.{min-eq_left}
 use Rattle.std.proofs.lemmas.List.{take_all}
 use Rattle.std.proofs.lemmas.List.FromFn.{length-map-range_with_len}
 use Rattle.page_check.specs.SynchronousAnswer.{Reader, Found, Page as FoundPage, found_at}
-use Rattle.page_check.specs.SynchronousAnswer.{found_given}
-use Rattle.page_check.specs.SynchronousAnswer.{is_page, readable_pages, first_stop}
-use Rattle.page_check.specs.SynchronousAnswer.{zeroed_if_damaged}
-use Rattle.page_check.specs.SynchronousAnswer.{zeroing}
+use Rattle.page_check.specs.SynchronousAnswer.{found_given, is_page, readable_pages, first_stop}
+use Rattle.page_check.specs.SynchronousAnswer.{zeroed_if_damaged, zeroing}
 use Rattle.page_check.specs.Verdict.{IsValid}
 use Rattle.page_check.proofs.SynchronousReads.{readable_pages-cons, readable_pages-none}
-use Rattle.page_check.proofs.SynchronousReads.{first_stop-cons}
-use Rattle.page_check.proofs.SynchronousReads.{first_stop-none}
+use Rattle.page_check.proofs.SynchronousReads.{first_stop-cons, first_stop-none}
 use Rattle.heap_scan.specs.Job.{block_entry}
 use Rattle.heap_scan.specs.Sums.{FitSums, sums_of}
 use Rattle.heap_scan.specs.Warnings.{warnings_of}

@@ -2,7 +2,7 @@
 use Rattle.std.proofs.Common.{◌≡◌, ◌≢◌, ℕ, zero, suc, ◌+◌, ◌*◌, ◌/◌, ◌%◌, ◌<◌, ◌≤◌, List, ◌++◌}
 use Rattle.std.proofs.Common.{take, drop, length, replicate, refl, ap, ◌∙◌, arith}
 use Rattle.std.proofs.Common.{length-append, Bool, true, false, []}
-use Rattle.std.specs.Prelude.{flat_map, ◌==◌, if◌then◌else◌}
+use Rattle.std.specs.Prelude.{flat_map, ◌==◌, if◌then◌else◌, nat_le}
 use Rattle.std.specs.List.{range_with_len}
 use Rattle.std.proofs.Math.Seq.{drop-append-add}
 use Rattle.std.proofs.lemmas.List.{take_at, length-replicate}
@@ -14,7 +14,6 @@ use Rattle.page_check.specs.LinePointers.{line_pointer_count}
 use Rattle.page_check.specs.declared.verdict.Verdict.{Verdict}
 use Rattle.page_check.specs.declared.verdict.Verdict.TheVariants.{Zero, Sane, Bad}
 use Rattle.page_check.specs.SynchronousAnswer.{Page as FoundPage, found_at, found_by_verdict}
-use Rattle.std.specs.Prelude.{nat_le}
 use Rattle.std.proofs.lemmas.Bool.Decides.{nat_tests}
 use Rattle.aioscan_cmd.specs.GeneratedPages.{generated_page, generated_file, generated_told}
 use Rattle.aioscan_cmd.specs.GeneratedPages.{page_with_items}

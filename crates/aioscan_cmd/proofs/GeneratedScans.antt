@@ -11,8 +11,7 @@ use Rattle.heap_scan.specs.declared.sums.PageSums.{PageSums}
 use Rattle.aio_disk.specs.Counts.{CountRose, ShelfCounts}
 use Rattle.aio_disk.specs.Shelf.{are_there, shelf_told}
 use Rattle.aioscan_cmd.specs.Command.{Command, AsksForGeneratedPages, without_duplicates}
-use Rattle.aioscan_cmd.specs.Command.{options_of_settings}
-use Rattle.aioscan_cmd.specs.Command.{MapOption, command_relations}
+use Rattle.aioscan_cmd.specs.Command.{options_of_settings, MapOption, command_relations}
 use Rattle.aioscan_cmd.specs.Command.{relations_with}
 use Rattle.aioscan_cmd.specs.GeneratedPages.{generated_file_name, generated_shelf_files}
 use Rattle.aioscan_cmd.specs.GeneratedPages.{generated_told}

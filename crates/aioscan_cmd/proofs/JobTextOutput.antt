@@ -32,8 +32,7 @@ use Rattle.aioscan_cmd.specs.declared.report.Outcome.{Outcome}
 use Rattle.aioscan_cmd.specs.declared.report.Outcome.TheVariants.{CannotWrite, NoMemory}
 use Rattle.aioscan_cmd.proofs.BlocksOfOneRelation.{AreOf, job_entries_of_relation}
 use Rattle.aioscan_cmd.proofs.CutsInParts.{cut_alone}
-use Rattle.aioscan_cmd.proofs.SinkTextsAppend.{SinkGrew-same}
-use Rattle.aioscan_cmd.proofs.SinkTextsAppend.{SinkGrewByPrefix-whole}
+use Rattle.aioscan_cmd.proofs.SinkTextsAppend.{SinkGrew-same, SinkGrewByPrefix-whole}
 use Rattle.aioscan_cmd.proofs.OutputsAppend.{no_listing, no_warnings, with_blocks}
 
 -- an entry of blocks of one relation

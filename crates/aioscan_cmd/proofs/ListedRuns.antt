@@ -13,8 +13,7 @@ use Rattle.aioscan_cmd.specs.Output.{ObservedState, observed_state, IsOutput, ma
 use Rattle.aioscan_cmd.specs.Output.{command_format}
 use Rattle.aioscan_cmd.specs.Run.{IsFileRun, EarlierFit, FitsInOrder, lengths_known, limit_known}
 use Rattle.aioscan_cmd.specs.declared.report.Outcome.{Outcome}
-use Rattle.aioscan_cmd.specs.declared.report.Outcome.TheVariants.{Usage, CannotOpen}
-use Rattle.aioscan_cmd.specs.declared.report.Outcome.TheVariants.{NoLength}
+use Rattle.aioscan_cmd.specs.declared.report.Outcome.TheVariants.{Usage, CannotOpen, NoLength}
 use Rattle.aioscan_cmd.specs.declared.report.Outcome.TheVariants.{NoMemory, TooLong}
 use Rattle.aioscan_cmd.proofs.OutputsAppend.{lists_same}
 use Rattle.aioscan_cmd.proofs.FileRequestsAppend.{request_parts-same}

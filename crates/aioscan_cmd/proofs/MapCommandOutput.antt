@@ -1,7 +1,6 @@
 -- What a command with a map asks for, and that it was listed.
 use Rattle.std.proofs.Common.{◌≡◌, ◌≢◌, ℕ, ◌+◌, ◌≤◌, List, [], ◌∷◌, ◌++◌, length, map, refl, sym}
-use Rattle.std.proofs.Common.{ap}
-use Rattle.std.proofs.Common.{◌∙◌, subst, arith, length-append}
+use Rattle.std.proofs.Common.{ap, ◌∙◌, subst, arith, length-append}
 use Rattle.std.specs.Option.{option_map}
 use Rattle.std.specs.Prelude.{Option, Some, None, IfSome, slice_index, slice_index_or, ⊤}
 use Rattle.std.specs.List.{range_with_len}
@@ -19,8 +18,7 @@ use Rattle.scan_rounds.specs.declared.backend.Backend.{Backend}
 use Rattle.scan_rounds.specs.declared.job.Ending.{Ending as JobEnding}
 use Rattle.scan_rounds.specs.declared.job.Ending.TheVariants as ending
 use Rattle.aioscan_cmd.specs.Command.{IsMapOf, MapOption, options_of_settings}
-use Rattle.aioscan_cmd.specs.RemainingRequests.{AsksForMap}
-use Rattle.aioscan_cmd.specs.RemainingRequests.{map_page_count, resolved_request_list}
+use Rattle.aioscan_cmd.specs.RemainingRequests.{AsksForMap, map_page_count, resolved_request_list}
 use Rattle.aioscan_cmd.specs.RemainingRequests.{resolved_parts, resolved_request_parts}
 use Rattle.aioscan_cmd.specs.RemainingRequests.{resolved_requests, resolved_settings}
 use Rattle.aioscan_cmd.specs.ListerState.{outcome_of_ending, unskipped_parts}
@@ -33,8 +31,7 @@ use Rattle.aioscan_cmd.specs.declared.words.map_option.MapOption.{MapOption as M
 use Rattle.aioscan_cmd.specs.declared.report.Outcome.{Outcome}
 use Rattle.aioscan_cmd.specs.declared.report.Outcome.TheVariants.{Done, Unread}
 use Rattle.aioscan_cmd.proofs.MapPagesThenBlocks.{added_known, map_listed, range_count}
-use Rattle.aioscan_cmd.proofs.MapPagesThenBlocks.{rounds_listed, format_with_map}
-use Rattle.aioscan_cmd.proofs.MapPagesThenBlocks.{whole_parts}
+use Rattle.aioscan_cmd.proofs.MapPagesThenBlocks.{rounds_listed, format_with_map, whole_parts}
 use Rattle.aioscan_cmd.proofs.PartsOfRequests.{request_blocks}
 use Rattle.aioscan_cmd.proofs.OutputsAppend.{lists_append, lists_more, lists_same}
 use Rattle.aioscan_cmd.proofs.BlocksOfOneRelation.{AreOf, unskipped_of_relation}

@@ -1,7 +1,6 @@
 -- How much of a map is read.
 use Rattle.std.proofs.Common.{◌≡◌, ℕ, zero, suc, ◌+◌, ◌-◌, ◌≤◌, List, [], ◌∷◌, length, map, max}
-use Rattle.std.proofs.Common.{get_or}
-use Rattle.std.proofs.Common.{refl, sym, ap, ◌∙◌, subst, arith, append-nil, true}
+use Rattle.std.proofs.Common.{get_or, refl, sym, ap, ◌∙◌, subst, arith, append-nil, true}
 use Rattle.std.specs.Prelude.{Option, Some, None, fold, slice_index}
 use Rattle.std.specs.List.{flat_map, range_with_len}
 use Rattle.std.specs.Str.{bytes_eq}
@@ -10,8 +9,7 @@ use Rattle.vis_map.specs.MapRequest.{greatest_of}
 use Rattle.aioscan_cmd.specs.Command.{Command, MapOption, asked_count, first_block}
 use Rattle.aioscan_cmd.specs.Command.{relation_number, command_relations, relations_with}
 use Rattle.aioscan_cmd.specs.RemainingRequests.{IsResolved, file_name_of_place}
-use Rattle.aioscan_cmd.specs.RemainingRequests.{greatest_requested_block}
-use Rattle.aioscan_cmd.specs.RemainingRequests.{resolved_requests}
+use Rattle.aioscan_cmd.specs.RemainingRequests.{greatest_requested_block, resolved_requests}
 use Rattle.aioscan_cmd.specs.RequestList.{Request, block_range, all_file_requests}
 use Rattle.aioscan_cmd.specs.RequestList.{one_file_requests}
 use Rattle.aioscan_cmd.specs.declared.cutter.ResolvedCommand.{ResolvedCommand}

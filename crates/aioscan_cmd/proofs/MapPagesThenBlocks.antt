@@ -7,8 +7,7 @@ use Rattle.std.proofs.lemmas.List.{length-map, take_all}
 use Rattle.std.proofs.lemmas.List.FromFn.{length-range_with_len}
 use Rattle.page_check.specs.Told.{Told}
 use Rattle.page_check.specs.SynchronousAnswer.{Reader, End, found_page, reader_of, zeroing}
-use Rattle.page_check.specs.SynchronousAnswer.{found_at}
-use Rattle.page_check.specs.SynchronousAnswer.{entry_given, readable_pages, read_count}
+use Rattle.page_check.specs.SynchronousAnswer.{found_at, entry_given, readable_pages, read_count}
 use Rattle.page_check.proofs.AnswersOfLists.{all_given, length_whole}
 use Rattle.heap_scan.specs.Job.{IsJobAnswer, block_entry}
 use Rattle.heap_scan.specs.Listing.{listing}

@@ -6,8 +6,7 @@ use Rattle.clap.specs.Words.{Row, Text, all_of}
 use Rattle.vis_map.specs.declared.map.Skip.{Skip}
 use Rattle.aioscan_cmd.specs.Command.{IsMapOf, MapOption}
 use Rattle.aioscan_cmd.specs.Words.{Source, source_files, is_map_of, is_name, parsed_map, named_map}
-use Rattle.aioscan_cmd.specs.Words.{parsed_map_option}
-use Rattle.aioscan_cmd.specs.Words.{skip_of, files_or_generated}
+use Rattle.aioscan_cmd.specs.Words.{parsed_map_option, skip_of, files_or_generated}
 
 -- a command that has a map has one file, whose name is another
 record IsOfOne (words : Option (List Text)) (map : MapOption) : Type 0 where

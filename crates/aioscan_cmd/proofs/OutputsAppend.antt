@@ -23,14 +23,12 @@ use Rattle.aioscan_cmd.specs.RequestList.{Request, Page, Part, blocks_of_parts}
 use Rattle.aioscan_cmd.specs.Outcomes.{outcome_ending}
 use Rattle.aioscan_cmd.specs.Output.{IsOutput, ListFormat, OutputGrew, WriteFaultsCounted}
 use Rattle.aioscan_cmd.specs.declared.report.Outcome.{Outcome}
-use Rattle.aioscan_cmd.specs.declared.report.Outcome.TheVariants.{Done, Invalid}
+use Rattle.aioscan_cmd.specs.declared.report.Outcome.TheVariants.{Done, Invalid, NoMemory, Missing}
 use Rattle.aioscan_cmd.specs.declared.report.Outcome.TheVariants.{Unread, CannotWrite}
-use Rattle.aioscan_cmd.specs.declared.report.Outcome.TheVariants.{NoMemory, Missing}
 use Rattle.aioscan_cmd.proofs.CutsInParts.{cut_behind, cut_more, stopped_by, whole_behind}
 use Rattle.aioscan_cmd.proofs.PartsOfRequests.{blocks-append}
 use Rattle.aioscan_cmd.proofs.SinkTextsAppend.{SinkGrew-nothing, SinkGrew-append, SinkGrew-same}
-use Rattle.aioscan_cmd.proofs.SinkTextsAppend.{SinkGrewByPrefix-nothing}
-use Rattle.aioscan_cmd.proofs.SinkTextsAppend.{SinkGrewByPrefix-append}
+use Rattle.aioscan_cmd.proofs.SinkTextsAppend.{SinkGrewByPrefix-nothing, SinkGrewByPrefix-append}
 
 pub no_listing : (text_of : TextOf) → listing text_of (let none : List Page = [] in none) ≡ []
 unfolding listing

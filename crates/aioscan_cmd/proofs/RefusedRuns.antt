@@ -11,8 +11,7 @@ use Rattle.aioscan_cmd.specs.Output.{ObservedState, command_format}
 use Rattle.aioscan_cmd.specs.Run.{IsFileRun, IsSourceRun, IsCommandRun, EarlierFit, FitsInOrder}
 use Rattle.aioscan_cmd.specs.Run.{lengths_known, limit_known}
 use Rattle.aioscan_cmd.specs.declared.report.Outcome.{Outcome}
-use Rattle.aioscan_cmd.specs.declared.report.Outcome.TheVariants.{CannotOpen}
-use Rattle.aioscan_cmd.specs.declared.report.Outcome.TheVariants.{NoLength}
+use Rattle.aioscan_cmd.specs.declared.report.Outcome.TheVariants.{CannotOpen, NoLength}
 use Rattle.aioscan_cmd.specs.declared.report.Outcome.TheVariants.{NoMemory, TooLong}
 use Rattle.aioscan_cmd.proofs.OutputsAppend.{lists_nothing}
 use Rattle.aioscan_cmd.proofs.GeneratedRuns.{ran_generated_without_memory}

@@ -9,14 +9,12 @@ use Rattle.std.proofs.lemmas.List.{drop_more, drop_all, length-map, get_or-map}
 use Rattle.std.proofs.lemmas.List.Concat.{flat_map-cons}
 use Rattle.heap_scan.specs.Job.{block_entry}
 use Rattle.aioscan_cmd.specs.Command.{Command, IsBelowIfGiven, number_limit, number_limit}
-use Rattle.aioscan_cmd.specs.Command.{command_relations}
-use Rattle.aioscan_cmd.specs.Command.{relation_number, first_block, asked_count}
+use Rattle.aioscan_cmd.specs.Command.{command_relations, relation_number, first_block, asked_count}
 use Rattle.aioscan_cmd.specs.RequestList.{Part, block_range, all_file_requests, all_file_parts}
 use Rattle.aioscan_cmd.specs.RequestList.{blocks_of_parts, one_file_requests, range_parts}
 use Rattle.aioscan_cmd.specs.RemainingRequests.{resolved_requests, resolved_parts}
-use Rattle.aioscan_cmd.specs.RemainingRequests.{resolved_file_parts}
+use Rattle.aioscan_cmd.specs.RemainingRequests.{resolved_file_parts, remaining_parts}
 use Rattle.aioscan_cmd.specs.RemainingRequests.{file_name_of_place, file_range, IsResolved}
-use Rattle.aioscan_cmd.specs.RemainingRequests.{remaining_parts}
 use Rattle.aioscan_cmd.specs.declared.cutter.JobRange.{JobRange}
 use Rattle.aioscan_cmd.specs.declared.cutter.ResolvedCommand.{ResolvedCommand}
 use Rattle.aioscan_cmd.proofs.FileRequestsAppend.{relation_number-below}

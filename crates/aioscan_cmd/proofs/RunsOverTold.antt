@@ -5,8 +5,7 @@ use Rattle.std.specs.Prelude.{Some, slice_get}
 use Rattle.std.proofs.Math.Seq.{take-append_seam}
 use Rattle.std.proofs.lemmas.List.{take-append-le}
 use Rattle.page_check.specs.Told.{Told}
-use Rattle.page_check.specs.SynchronousAnswer.{Reader, zeroing}
-use Rattle.page_check.specs.SynchronousAnswer.{found_at}
+use Rattle.page_check.specs.SynchronousAnswer.{Reader, zeroing, found_at}
 use Rattle.page_check.specs.SynchronousAnswer.{readable_pages, first_stop}
 use Rattle.page_check.proofs.AnswersOfLists.{all_given, first_stop-length}
 use Rattle.heap_scan.specs.Listing.{TextOf, listing}
@@ -16,8 +15,7 @@ use Rattle.aio_disk.specs.Sink.{SinkGrew, SinkGrewByPrefix}
 use Rattle.aioscan_cmd.specs.Outcomes.{is_output_cut_off}
 use Rattle.aioscan_cmd.specs.RequestList.{Request, Page, Part, blocks_of_parts, request}
 use Rattle.aioscan_cmd.specs.Output.{ObservedState, IsOutput, ListFormat, StoppedBehind}
-use Rattle.aioscan_cmd.specs.Run.{SynchronousRun, IsCutAt}
-use Rattle.aioscan_cmd.specs.Run.{IsWarnedUpTo}
+use Rattle.aioscan_cmd.specs.Run.{SynchronousRun, IsCutAt, IsWarnedUpTo}
 use Rattle.aioscan_cmd.specs.declared.report.Outcome.{Outcome}
 use Rattle.aioscan_cmd.proofs.SinkTextsAppend.{SinkGrew-same, SinkGrewByPrefix-same}
 use Rattle.aioscan_cmd.proofs.SinkTextsAppend.{SinkGrewByPrefix-more}

@@ -20,16 +20,14 @@ use Rattle.scan_rounds.proofs.Sums.{sum-none}
 use Rattle.aioscan_cmd.specs.Disks.{IsUnreadDisk}
 use Rattle.aioscan_cmd.specs.Lengths.{HasAllLengths}
 use Rattle.aioscan_cmd.specs.Outcomes.{is_refused}
-use Rattle.aioscan_cmd.specs.Output.{WriteFaultsCounted, observed_state}
-use Rattle.aioscan_cmd.specs.Output.{command_format}
+use Rattle.aioscan_cmd.specs.Output.{WriteFaultsCounted, observed_state, command_format}
 use Rattle.aioscan_cmd.specs.Run.{IsFileRun}
 use Rattle.aioscan_cmd.specs.Causes.{ScanHasOutcome, HasCauses, CallsInOrder}
 use Rattle.aioscan_cmd.specs.Totals.{AreRunNumbers, NumbersAreReads, AreScanNumbers, no_numbers}
 use Rattle.aioscan_cmd.specs.declared.cutter.ResolvedCommand.{ResolvedCommand}
 use Rattle.aioscan_cmd.specs.declared.report.Numbers.{Numbers}
 use Rattle.aioscan_cmd.specs.declared.report.Outcome.{Outcome}
-use Rattle.aioscan_cmd.specs.declared.report.Outcome.TheVariants.{Usage, CannotOpen}
-use Rattle.aioscan_cmd.specs.declared.report.Outcome.TheVariants.{Unread}
+use Rattle.aioscan_cmd.specs.declared.report.Outcome.TheVariants.{Usage, CannotOpen, Unread}
 use Rattle.aioscan_cmd.specs.declared.report.Outcome.TheVariants.{NoMemory}
 use Rattle.aioscan_cmd.proofs.ListedRuns.{ran_listed, ran_on_shelf}
 use Rattle.aioscan_cmd.proofs.RefusedRuns.{ran_without_disk}

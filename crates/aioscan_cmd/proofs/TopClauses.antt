@@ -9,8 +9,7 @@ use Rattle.aioscan_cmd.specs.Outcomes.{is_refused}
 use Rattle.aioscan_cmd.specs.Output.{ObservedState}
 use Rattle.aioscan_cmd.specs.Run.{SynchronousRun, file_run, generated_run, HoldsForRun}
 use Rattle.aioscan_cmd.specs.Run.{HoldsForSource, IsCommandRun, IsSourceRun}
-use Rattle.aioscan_cmd.specs.Run.{IsFileRun, IsGeneratedRun, IsWarned}
-use Rattle.aioscan_cmd.specs.Run.{RunWrites}
+use Rattle.aioscan_cmd.specs.Run.{IsFileRun, IsGeneratedRun, IsWarned, RunWrites}
 use Rattle.aioscan_cmd.specs.Causes.{HasCauses, NamesFirstTooLong, IsComplete}
 use Rattle.aioscan_cmd.specs.declared.report.Outcome.{Outcome}
 use Rattle.aioscan_cmd.specs.declared.report.Outcome.TheVariants.{Usage}

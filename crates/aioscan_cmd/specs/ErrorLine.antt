@@ -13,8 +13,7 @@ use Rattle.aioscan_cmd.specs.declared.report.Line.{Line}
 use Rattle.aioscan_cmd.specs.declared.report.Line.TheVariants.{Whole, Cut, NoMemory as NoRoom}
 use Rattle.aioscan_cmd.specs.declared.report.Numbers.{Numbers}
 use Rattle.aioscan_cmd.specs.declared.report.Outcome.{Outcome}
-use Rattle.aioscan_cmd.specs.declared.report.Outcome.TheVariants.{Invalid}
-use Rattle.aioscan_cmd.specs.declared.report.Outcome.TheVariants.{NoLength, Unread}
+use Rattle.aioscan_cmd.specs.declared.report.Outcome.TheVariants.{Invalid, NoLength, Unread}
 use Rattle.aioscan_cmd.specs.declared.report.Outcome.TheVariants.{Missing, TooLong}
 
 -- the words are a command with `--stats`

@@ -1,7 +1,6 @@
 -- Generated pages: every seventh is all zeros, and the others have 0 to 4 line pointers.
 use Rattle.std.specs.Prelude.{ℕ, ◌+◌, ◌*◌, ◌-◌, ◌/◌, ◌%◌, ◌^◌, ◌==◌, List, [], ◌∷◌, ◌++◌, replicate}
-use Rattle.std.specs.Prelude.{if◌then◌else◌, flat_map}
-use Rattle.std.specs.Prelude.{codes, decimal}
+use Rattle.std.specs.Prelude.{if◌then◌else◌, flat_map, codes, decimal}
 use Rattle.std.specs.List.{range_with_len, concat}
 use Rattle.page_check.specs.Told.{Told, told_in}
 use Rattle.heap_scan.specs.declared.sums.PageSums.{PageSums}

@@ -4,8 +4,7 @@ use Rattle.page_check.specs.Told.{Told, relation_block_count}
 use Rattle.aioscan_cmd.specs.Command.{number_limit}
 use Rattle.aioscan_cmd.specs.Run.{EarlierFit, limit_known}
 use Rattle.aioscan_cmd.specs.declared.report.Outcome.{Outcome}
-use Rattle.aioscan_cmd.specs.declared.report.Outcome.TheVariants.{NoLength}
-use Rattle.aioscan_cmd.specs.declared.report.Outcome.TheVariants.{NoMemory, TooLong}
+use Rattle.aioscan_cmd.specs.declared.report.Outcome.TheVariants.{NoLength, NoMemory, TooLong}
 
 -- the lengths of the first relations, in order, where they are told
 abbrev pub AreToldLengths : Option Told → List ℕ → Type 0

@@ -17,8 +17,7 @@ use Rattle.aioscan_cmd.specs.ErrorLine.{ErrorStream, AppendsWarnings, error_stre
 use Rattle.aioscan_cmd.specs.Sums.{IsSummedOutput}
 use Rattle.aioscan_cmd.specs.declared.lister.Lister.{Lister}
 use Rattle.aioscan_cmd.specs.declared.report.Outcome.{Outcome}
-use Rattle.aioscan_cmd.specs.declared.report.Outcome.TheVariants.{Done, Invalid}
-use Rattle.aioscan_cmd.specs.declared.report.Outcome.TheVariants.{Unread}
+use Rattle.aioscan_cmd.specs.declared.report.Outcome.TheVariants.{Done, Invalid, Unread}
 use Rattle.aioscan_cmd.specs.declared.report.Outcome.TheVariants.{NoMemory, Missing}
 
 -- the blocks that jobs ask for, except those that are left out

@@ -1,7 +1,6 @@
 -- What a run has listed of a list of blocks, whether or not the contents are told.
 use Rattle.std.specs.Prelude.{◌≡◌, ◌≢◌, ◌⊎◌, ◌<◌, ◌≤◌, ◌++◌, ℕ, List, [], length, take, drop}
-use Rattle.std.specs.Prelude.{Option}
-use Rattle.std.specs.Prelude.{slice_get, slice_index_or, Some, None, Bool, ⊤, true, false}
+use Rattle.std.specs.Prelude.{Option, slice_get, slice_index_or, Some, None, Bool, ⊤, true, false}
 use Rattle.page_check.specs.SynchronousAnswer.{found_at, found_page, reader_of, zeroing}
 use Rattle.page_check.specs.Told.{Told}
 use Rattle.heap_scan.specs.Job.{IsJobAnswer}
@@ -13,12 +12,10 @@ use Rattle.scan_rounds.specs.ListOptions.{ListOptions}
 use Rattle.aio_disk.specs.Counts.{CountRose}
 use Rattle.aio_disk.specs.Sink.{SinkGrew, SinkGrewByPrefix}
 use Rattle.aioscan_cmd.specs.Command.{Command}
-use Rattle.aioscan_cmd.specs.RequestList.{Request, Part, Page, blocks_of_parts}
-use Rattle.aioscan_cmd.specs.RequestList.{without_map_pages}
+use Rattle.aioscan_cmd.specs.RequestList.{Request, Part, Page, blocks_of_parts, without_map_pages}
 use Rattle.aioscan_cmd.specs.Outcomes.{is_refused, is_output_cut_off, named_block, outcome_ending}
 use Rattle.aioscan_cmd.specs.declared.report.Outcome.{Outcome}
-use Rattle.aioscan_cmd.specs.declared.report.Outcome.TheVariants.{CannotWrite}
-use Rattle.aioscan_cmd.specs.declared.report.Outcome.TheVariants.{NoMemory}
+use Rattle.aioscan_cmd.specs.declared.report.Outcome.TheVariants.{CannotWrite, NoMemory}
 
 -- the format of a listing: whether damaged pages are given as zeros, and what text a page has
 pub record ListFormat : Type 0 where

@@ -8,9 +8,8 @@ use Rattle.page_check.specs.Told.{Told}
 use Rattle.scan_rounds.specs.declared.settings.ScanSettings.{ScanSettings}
 use Rattle.aioscan_cmd.specs.Command.{IsMapOf, MapOption, number_limit, command_relations}
 use Rattle.aioscan_cmd.specs.Command.{relation_number, first_block, asked_count}
-use Rattle.aioscan_cmd.specs.RequestList.{Request, Part, request_list, request_parts}
+use Rattle.aioscan_cmd.specs.RequestList.{Request, Part, request_list, request_parts, range_parts}
 use Rattle.aioscan_cmd.specs.RequestList.{all_file_requests, all_file_parts, one_file_parts}
-use Rattle.aioscan_cmd.specs.RequestList.{range_parts}
 use Rattle.aioscan_cmd.specs.Output.{map_pages_known}
 use Rattle.aioscan_cmd.specs.declared.cutter.ResolvedCommand.{ResolvedCommand}
 use Rattle.aioscan_cmd.specs.declared.cutter.JobRange.{JobRange}

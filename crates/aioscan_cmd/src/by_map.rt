@@ -3,8 +3,7 @@ ghost use Rattle.std.specs.Prelude.{◌≡◌, ◌<◌, ◌≤◌, ◌+◌, ◌^
 ghost use Rattle.scan_rounds.specs.Rounds.{results_taken_count};
 ghost use Rattle.scan_rounds.specs.Scans.{IsScan, IsSameScan, scan_options};
 ghost use Rattle.aioscan_cmd.specs.Command.{options_of_settings};
-ghost use Rattle.aioscan_cmd.specs.RemainingRequests.{IsResolved};
-ghost use Rattle.aioscan_cmd.specs.RemainingRequests.{resolved_request_list};
+ghost use Rattle.aioscan_cmd.specs.RemainingRequests.{IsResolved, resolved_request_list};
 ghost use Rattle.aioscan_cmd.specs.RemainingRequests.{resolved_request_parts, resolved_requests};
 ghost use Rattle.aioscan_cmd.specs.RemainingRequests.{resolved_settings};
 ghost use Rattle.aioscan_cmd.specs.ErrorLine.{AppendsWarnings, error_stream};

@@ -1,15 +1,13 @@
 //! Cuts the blocks that a command asks for into jobs, without a list of them.
-ghost use Rattle.std.specs.Prelude.{◌≡◌, ◌≤◌, ◌<◌, ◌∷◌, ◌^◌, [], length};
-ghost use Rattle.std.specs.Prelude.{IfSome, IfNone};
+ghost use Rattle.std.specs.Prelude.{◌≡◌, ◌≤◌, ◌<◌, ◌∷◌, ◌^◌, [], length, IfSome, IfNone};
 ghost use Rattle.aioscan_cmd.specs.Command.{number_limit};
 ghost use Rattle.scan_rounds.specs.OpenedScan.{AreValidScanSettings};
 ghost use Rattle.aioscan_cmd.specs.RequestList.{block_range, blocks_of_parts};
 ghost use Rattle.aioscan_cmd.specs.RemainingRequests.{IsResolved, IsFileRange, IsJobRange};
 ghost use Rattle.aioscan_cmd.specs.RemainingRequests.{file_name_of_place, file_range};
-ghost use Rattle.aioscan_cmd.specs.RemainingRequests.{remaining_parts};
+ghost use Rattle.aioscan_cmd.specs.RemainingRequests.{remaining_parts, resolved_settings};
 ghost use Rattle.aioscan_cmd.specs.RemainingRequests.{AsksForMap, greatest_requested_block};
 ghost use Rattle.aioscan_cmd.specs.RemainingRequests.{map_page_count, resolved_parts};
-ghost use Rattle.aioscan_cmd.specs.RemainingRequests.{resolved_settings};
 ghost use Rattle.vis_map.specs.declared.map.Skip.{Skip};
 
 use crate::relations::Relations;

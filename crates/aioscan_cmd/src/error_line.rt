@@ -2,8 +2,7 @@
 ghost use Rattle.std.specs.Prelude.{◌≡◌, ◌≤◌, ◌++◌, IfOk, IfSome, IsNone, string_bytes, true};
 ghost use Rattle.aioscan_cmd.specs.Outcomes.{outcome_line};
 ghost use Rattle.aioscan_cmd.specs.ErrorLine.{IsToldOnErr, HasNumbers, AppendsErrorText};
-ghost use Rattle.aioscan_cmd.specs.ErrorLine.{error_stream};
-ghost use Rattle.aioscan_cmd.specs.ErrorLine.{totals_line};
+ghost use Rattle.aioscan_cmd.specs.ErrorLine.{error_stream, totals_line};
 
 use crate::report::{Numbers, ReportedEnd};
 use crate::{Line, Outcome};

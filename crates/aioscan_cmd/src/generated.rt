@@ -1,8 +1,7 @@
 //! Generated pages, as input that needs no file.
 ghost use Rattle.std.specs.Prelude.{◌≡◌, ◌++◌, ◌<◌, ◌≤◌, OnOk, IfOk, replicate};
 ghost use Rattle.aioscan_cmd.specs.GeneratedPages.{four_bytes, generated_file, generated_header};
-ghost use Rattle.aioscan_cmd.specs.GeneratedPages.{generated_page};
-ghost use Rattle.aioscan_cmd.specs.GeneratedPages.{generated_pointer_bytes};
+ghost use Rattle.aioscan_cmd.specs.GeneratedPages.{generated_page, generated_pointer_bytes};
 ghost use Rattle.aioscan_cmd.specs.GeneratedPages.{page_with_items, two_bytes};
 
 use page_check::Page;

@@ -3,14 +3,11 @@ ghost use Rattle.std.specs.Prelude.{◌≡◌, ◌<◌, ◌≤◌, ◌+◌, map,
 ghost use Rattle.std.specs.Prelude.{string_bytes, codes, true, IfSome, if◌then◌else◌};
 ghost use Rattle.std.specs.Option.{option_map};
 ghost use Rattle.clap.specs.Words.{rows_of, found_of, all_of};
-ghost use Rattle.aioscan_cmd.specs.Command.{number_limit, first_block, asked_count};
-ghost use Rattle.aioscan_cmd.specs.Command.{IsBelowIfGiven};
+ghost use Rattle.aioscan_cmd.specs.Command.{number_limit, first_block, asked_count, IsBelowIfGiven};
 ghost use Rattle.aioscan_cmd.specs.Command.{HasNoRange, AsksForGeneratedPages, IsMapOf};
 ghost use Rattle.aioscan_cmd.specs.Command.{generated_page_limit};
 ghost use Rattle.aioscan_cmd.specs.Words.{parsed_command, command_of, source_files};
-ghost use Rattle.aioscan_cmd.specs.Words.{files_or_generated};
-ghost use Rattle.aioscan_cmd.specs.Words.{NamesSource};
-ghost use Rattle.aioscan_cmd.specs.Words.{map_option_view};
+ghost use Rattle.aioscan_cmd.specs.Words.{files_or_generated, NamesSource, map_option_view};
 ghost use Rattle.scan_rounds.specs.OpenedScan.{AreValidScanSettings};
 
 mod grammar;

@@ -3,9 +3,8 @@ ghost use Rattle.std.specs.Prelude.{◌≡◌, ◌+◌, ◌<◌, ◌≤◌, ◌+
 ghost use Rattle.std.specs.Prelude.{vec_len, vec_capacity};
 ghost use Rattle.std.specs.List.{All};
 ghost use Rattle.scan_rounds.specs.Rounds.{results_taken_count};
-ghost use Rattle.scan_rounds.specs.Scans.{IsScan, IsFinished, HasDisk};
+ghost use Rattle.scan_rounds.specs.Scans.{IsScan, IsFinished, HasDisk, opened_disks};
 ghost use Rattle.scan_rounds.specs.Scans.{actor_of, disk_of, scan_disk_actors, known_lists};
-ghost use Rattle.scan_rounds.specs.Scans.{opened_disks};
 
 use crate::disk_actor::{DiskActor, HasDiskActor};
 use crate::scan::Scan;

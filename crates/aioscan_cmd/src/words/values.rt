@@ -6,10 +6,9 @@ ghost use Rattle.std.specs.Char.{is_ascii_digit};
 ghost use Rattle.std.specs.Option.{option_map};
 ghost use Rattle.clap.specs.Words.{rows_of, found_of, first_of, all_of};
 ghost use Rattle.aioscan_cmd.specs.Words.{is_count as count_test, is_number};
-ghost use Rattle.aioscan_cmd.specs.Words.{number_within as number_read, number_or};
+ghost use Rattle.aioscan_cmd.specs.Words.{number_within as number_read, number_or, parsed_settings};
 ghost use Rattle.aioscan_cmd.specs.Words.{number_if_given, method_of, is_set, is_name};
 ghost use Rattle.aioscan_cmd.specs.Words.{valid_file_names, file_words, NamesFiles};
-ghost use Rattle.aioscan_cmd.specs.Words.{parsed_settings};
 ghost use Rattle.scan_rounds.specs.OpenedScan.{AreValidScanSettings};
 
 use clap::ArgMatches;

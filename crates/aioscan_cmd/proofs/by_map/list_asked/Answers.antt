@@ -9,9 +9,8 @@ use Rattle.aioscan_cmd.specs.RequestList.{block_range}
 use Rattle.aioscan_cmd.specs.Words.{map_option_view}
 use Rattle.aioscan_cmd.specs.declared.report.Outcome.{Outcome}
 use Rattle.aioscan_cmd.proofs.MapCommandOutput.{all_asked, map_added, map_followed, map_part}
-use Rattle.aioscan_cmd.proofs.MapCommandOutput.{map_stopped}
+use Rattle.aioscan_cmd.proofs.MapCommandOutput.{map_stopped, without_map}
 use Rattle.aioscan_cmd.proofs.MapCommandOutput.{as_many, asks_for_map, pages_asked, unread_out}
-use Rattle.aioscan_cmd.proofs.MapCommandOutput.{without_map}
 use Rattle.aioscan_cmd.proofs.MapPagesThenBlocks.{format_with_map}
 use Rattle.aioscan_cmd.proofs.JobTextOutput.{not_write}
 use Rattle.aioscan_cmd.proofs.OutputsAppend.{lists_nothing}

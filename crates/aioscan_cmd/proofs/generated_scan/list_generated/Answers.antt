@@ -8,8 +8,7 @@ use Rattle.aioscan_cmd.specs.GeneratedPages.{summary_line}
 use Rattle.aioscan_cmd.specs.Output.{OutputGrew}
 use Rattle.aioscan_cmd.specs.declared.report.Outcome.TheVariants.{NoMemory}
 use Rattle.aioscan_cmd.proofs.GeneratedScans.{all_listed, listed_sums_generated, generated_contents}
-use Rattle.aioscan_cmd.proofs.GeneratedScans.{generated_there}
-use Rattle.aioscan_cmd.proofs.GeneratedScans.{none_to_warn, one_relation}
+use Rattle.aioscan_cmd.proofs.GeneratedScans.{generated_there, none_to_warn, one_relation}
 use Rattle.aioscan_cmd.proofs.GeneratedRuns.{ran_generated, ran_generated_without_memory}
 use Rattle.aioscan_cmd.proofs.ErrorTextsAppend.{warns_none}
 use Rattle.aioscan_cmd.proofs.generated_scan.list_generated.Goals as goal
