@@ -209,27 +209,32 @@ pub fn check_row<R: AllocGlobal + Threads + Wait + Sync>(
     row: &str,
 ) -> Result<FinishedRun, Fail> {
     let alloc = rt.alloc();
-    let mut fields = [""; 7];
-    for (place, field) in fields.iter_mut().zip(row.split('|')) {
-        *place = field;
-    }
-    let [name, files, line, listed, said, status, reads] = fields;
-    let scene = scene_of(alloc, files)?;
+    let mut fields = row.split('|');
+    let name = fields.next().unwrap_or("");
+    let files = fields.next().unwrap_or("");
+    let line = fields.next().unwrap_or("");
+    let listed = fields.next().unwrap_or("");
+    let said = fields.next().unwrap_or("");
+    let status = fields.next().unwrap_or("");
+    let reads = fields.next().unwrap_or("");
+    let Scene {
+        files,
+        segment,
+        opens,
+        lengths,
+        reads: failing,
+        shorts,
+        cuts,
+    } = scene_of(alloc, files)?;
     let faults = Faults {
-        opens: scene.opens.as_slice(),
-        lengths: scene.lengths.as_slice(),
-        reads: scene.reads.as_slice(),
-        shorts: scene.shorts.as_slice(),
+        opens: opens.as_slice(),
+        lengths: lengths.as_slice(),
+        reads: failing.as_slice(),
+        shorts: shorts.as_slice(),
     };
     let line = format!(in alloc; "{words} {line}")?;
-    let done = run_segmented(
-        rt,
-        scene.files,
-        scene.segment,
-        faults,
-        line.as_str(),
-        (scene.cuts.as_slice(), &[]),
-    )?;
+    let cuts = (cuts.as_slice(), [].as_slice());
+    let done = run_segmented(rt, files, segment, faults, line.as_str(), cuts)?;
     let (text, said) = (listing_of(alloc, listed)?, said_of(alloc, said)?);
     let mut status = status.split_whitespace();
     let status = status.next().unwrap_or("").parse()?;

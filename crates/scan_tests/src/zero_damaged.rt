@@ -28,7 +28,11 @@ fn check_zeroed<R: Abort + AllocGlobal + Threads + Wait + Sync>(
     assert_eq!(rt; outcome.jobs.len(), 2, "{name}");
     for job in outcome.jobs.as_slice() {
         assert_eq!(rt; job.text.as_slice(), text.as_slice(), "{name}");
-        assert_eq!(rt; job.warnings.as_slice(), b"zeroed page 0 12\n".as_slice(), "{name}");
+        assert_eq!(rt;
+            job.warnings.as_slice(),
+            b"zeroed page 0 12\n".as_slice(),
+            "{name}"
+        );
         assert_eq!(rt; job.ending, Ending::Pages, "{name}");
     }
     Ok(())
