@@ -13,10 +13,9 @@ use aio_handle::{Actor, Table};
 use aio_waitref::wait;
 use aio_word::WaitRef;
 use page_check::World;
-use std::alloc::Global;
+use std::alloc::{AllocError, Global};
 use std::marker::Brand;
 use std::sync::Wait;
-use std::test::Fail;
 use std::thread::{Threads, join};
 
 /// Waits for another's I/O, and answers how often its own executor was called.
@@ -67,24 +66,32 @@ fn three_wait<W: World + Send + Sync, T: Threads + Wait + Sync>(
     rt: &T,
     alloc: Global,
     turns: u32,
-) -> Result<(WaitOutcome, (u64, u64)), Fail>
+) -> Result<Option<(WaitOutcome, (u64, u64))>, AllocError>
     requires { W.handles ≡ 8 }
 {
     let (table, mut actors) = Table::<EmptyIo, W>::open(alloc, 2, 4, 3, 0)?;
-    let mut fourth = last_actor(&table, &mut actors).ok_or("no actor")?;
-    let third = last_actor(&table, &mut actors).ok_or("no actor")?;
-    let second = last_actor(&table, &mut actors).ok_or("no actor")?;
-    let mut owner = last_actor(&table, &mut actors).ok_or("no actor")?;
+    let Some(mut fourth) = last_actor(&table, &mut actors) else {
+        return Ok(None);
+    };
+    let Some(third) = last_actor(&table, &mut actors) else {
+        return Ok(None);
+    };
+    let Some(second) = last_actor(&table, &mut actors) else {
+        return Ok(None);
+    };
+    let Some(mut owner) = last_actor(&table, &mut actors) else {
+        return Ok(None);
+    };
     let Some(token) = submit_second(&table, &mut owner) else {
-        return Err(Fail::from("no free handle"));
+        return Ok(None);
     };
     let reference = token.reference();
     let Some(claimed) = claim_io(&table, &mut fourth, reference) else {
-        return Err(Fail::from("the I/O is not claimed"));
+        return Ok(None);
     };
     let moment = Moment::new(3, turns);
     let shared = &table;
-    Ok(join(
+    Ok(Some(join(
         rt,
         || -> WaitOutcome
             requires { IsActorOf shared.now owner × IsInFlight owner.known token
@@ -94,13 +101,15 @@ fn three_wait<W: World + Send + Sync, T: Threads + Wait + Sync>(
             requires { IsActorOf shared.now second × IsActorOf shared.now third
                 × (reference.handle < W.handles) }
         { two_wait(rt, shared, second, third, reference, &moment) },
-    ))
+    )))
 }
 
 #[test]
-fn all_that_rest_on_one_io_return(rt: HostRuntime) -> Result<(), Fail> {
+fn all_that_rest_on_one_io_return(rt: HostRuntime) -> Result<(), AllocError> {
     for turns in 0..100 {
-        let (owner, others) = three_wait::<Brand, _>(&rt, rt.alloc(), 20 * turns)?;
+        let Some((owner, others)) = three_wait::<Brand, _>(&rt, rt.alloc(), 20 * turns)? else {
+            panic!(&rt; "a handle is free")
+        };
         assert!(&rt; owner == SHORT && others == (0, 0));
     }
     Ok(())
