@@ -1,10 +1,10 @@
 //! A stream, and another backend between its answers.
-ghost use Rattle.std.specs.Prelude.{◌≡◌, ◌<◌, IfSome};
+ghost use Rattle.std.specs.Prelude.{◌≡◌, ◌<◌};
 ghost use Rattle.aio_handle.specs.EndStates.{HasNoOwnerTokens};
 ghost use Rattle.aio_handle.specs.ContractViews.{IsActorOf};
 ghost use Rattle.read_stream.specs.Desks.{AreValidSettings};
 
-use crate::helpers::cases::Case;
+use crate::helpers::cases::{Blocks, Case};
 use crate::helpers::counting::CountingSync;
 use crate::helpers::other_backend::read_before;
 use crate::helpers::streams::{Streamed, stream_over, take_answers};
@@ -18,27 +18,26 @@ use std::alloc::{AllocError, Global};
 use std::sync::Wait;
 
 /// What a stream answers over the list, behind a stream over the first list. Behind its first answer
-/// the other backend, where it is given, reads the case's blocks, and submits a read of block 0,
-/// which it leaves unclaimed.
+/// the other backend reads these blocks, and submits a read of block 0, which it leaves unclaimed.
 pub(crate) fn stream_beside<W: World, E: Execute<ReadIo, W>, T: Wait>(
     rt: &T,
     alloc: Global,
     case: &Case<'_>,
     calls: u32,
+    between: &Blocks<'_>,
     pool: &Pool<W>,
     table: &Table<ReadIo, W>,
     actor: &mut Actor<ReadIo, W>,
-    other: Option<Actor<ReadIo, W>>,
+    other: &mut Actor<ReadIo, W>,
     runner: &mut E,
 ) -> Result<Streamed, AllocError>
-    requires table { IsActorOf table.now actor.old }
-    requires other { IfSome other (λ o. IsActorOf table.now o
-        × (o.known.number < table.now.config.backends) × HasNoOwnerTokens o.known) }
+    requires table { IsActorOf table.now actor.old × IsActorOf table.now other.old }
     requires told { (E.told runner.old ≡ W.told) × (E.relations runner.old ≡ W.relations) }
     requires settings { AreValidSettings case.now.settings }
     requires handles { 0 < W.handles }
-    requires backend { actor.old.known.number < table.now.config.backends }
-    requires rest { HasNoOwnerTokens actor.old.known }
+    requires backends { (actor.old.known.number < table.now.config.backends)
+        × (other.old.known.number < table.now.config.backends) }
+    requires rest { HasNoOwnerTokens actor.old.known × HasNoOwnerTokens other.old.known }
     requires relation { case.now.relation < W.relations }
 {
     let first = case.first.list(alloc)?;
@@ -68,10 +67,7 @@ pub(crate) fn stream_beside<W: World, E: Execute<ReadIo, W>, T: Wait>(
         1,
         &mut all,
     );
-    let mut read = Ok(());
-    if let (Some(blocks), Some(mut other)) = (&case.between, other) {
-        read = read_before(rt, alloc, case, blocks, pool, table, &mut other, runner);
-    }
+    let read = read_before(rt, alloc, case, between, pool, table, other, runner);
     let others = take_answers(
         rt,
         table,

@@ -6,7 +6,7 @@ use crate::helpers::answers::Answer;
 use crate::helpers::beside::stream_beside;
 use crate::helpers::cases::{Case, is_in_range};
 use crate::helpers::other_backend::read_before;
-use crate::helpers::streams::Streamed;
+use crate::helpers::streams::{Streamed, two_streams};
 use aio_callback::ReadIo;
 use aio_disk::{Disk, MemDisk, MemShelf, Shelf};
 use aio_handle::Table;
@@ -44,32 +44,45 @@ fn read_all<W: World, D: Disk, T: Wait>(
     };
     let mut streamed = None;
     if let (Some(mut other), Some(mut actor)) = (actors.pop(), actors.pop()) {
-        let mut beside = None;
-        if let Some(blocks) = &case.other {
-            read_before(
+        let ran = match &case.between {
+            Some(blocks) => stream_beside(
                 rt,
                 alloc,
                 case,
+                calls,
                 blocks,
                 &pool,
                 &table,
+                &mut actor,
                 &mut other,
                 &mut runner,
-            )?;
-        } else {
-            beside = Some(other);
-        }
-        streamed = Some(stream_beside(
-            rt,
-            alloc,
-            case,
-            calls,
-            &pool,
-            &table,
-            &mut actor,
-            beside,
-            &mut runner,
-        )?);
+            )?,
+            None => {
+                if let Some(blocks) = &case.other {
+                    read_before(
+                        rt,
+                        alloc,
+                        case,
+                        blocks,
+                        &pool,
+                        &table,
+                        &mut other,
+                        &mut runner,
+                    )?;
+                }
+                two_streams(
+                    rt,
+                    alloc,
+                    case,
+                    calls,
+                    &pool,
+                    &table,
+                    &mut actor,
+                    &mut runner,
+                )?
+            }
+        };
+        streamed = Some(ran);
     }
     let Runner { disk, places: _ } = runner;
     Ok((streamed, disk))

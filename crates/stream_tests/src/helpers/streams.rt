@@ -112,3 +112,29 @@ pub(crate) fn stream_over<W: World, E: Execute<ReadIo, W>, T: Wait>(
         heard: method.heard,
     })
 }
+
+/// What a stream answers over the list, behind a stream over the first list.
+pub(crate) fn two_streams<W: World, E: Execute<ReadIo, W>, T: Wait>(
+    rt: &T,
+    alloc: Global,
+    case: &Case<'_>,
+    calls: u32,
+    pool: &Pool<W>,
+    table: &Table<ReadIo, W>,
+    actor: &mut Actor<ReadIo, W>,
+    runner: &mut E,
+) -> Result<Streamed, AllocError>
+    requires table { IsActorOf table.now actor.old }
+    requires told { (E.told runner.old ≡ W.told) × (E.relations runner.old ≡ W.relations) }
+    requires settings { AreValidSettings case.now.settings }
+    requires handles { 0 < W.handles }
+    requires backend { actor.old.known.number < table.now.config.backends }
+    requires rest { HasNoOwnerTokens actor.old.known }
+    requires relation { case.now.relation < W.relations }
+{
+    let first = case.first.list(alloc)?;
+    let before = first.len().min(1000) as u32;
+    stream_over(rt, alloc, case, before, pool, table, actor, runner, first)?;
+    let list = case.list.list(alloc)?;
+    stream_over(rt, alloc, case, calls, pool, table, actor, runner, list)
+}
