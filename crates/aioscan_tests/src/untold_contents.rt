@@ -2,7 +2,7 @@
 ghost use Rattle.std.specs.Prelude.{None, false};
 
 use aio_disk::{DeviceFault, Disk, MemSink, OpenFault, Shelf};
-use aioscan_cmd::aioscan;
+use aioscan_cmd::{Report, aioscan};
 use aioscan_fixtures::runs::{TestOutcome, empty_lines, words_of};
 use page_check::Page;
 use page_fixtures::pages::{EMPTY, page_of};
@@ -144,32 +144,49 @@ fn long_shelf(alloc: Global, length: u32, seen: u32) -> LongShelf {
     }
 }
 
-// A run over relations of this shelf: what both streams hold, the status, and the shelf.
-fn run_over<R: AllocGlobal + Threads + Wait + Sync>(
+// What a run over them has left.
+#[derive(Drop)]
+struct LongRun {
+    report: Report,
+    out: MemSink,
+    err: MemSink,
+    shelf: LongShelf,
+}
+
+// A run over such relations.
+fn run_long_relations<R: Abort + AllocGlobal + Threads + Wait + Sync>(
+    rt: &R,
+    length: u32,
+    seen: u32,
+    line: &str,
+) -> Result<LongRun, Fail> {
+    run_over(rt, long_shelf(rt.alloc(), length, seen), line)
+}
+
+// A run over relations of this shelf.
+fn run_over<R: Abort + AllocGlobal + Threads + Wait + Sync>(
     rt: &R,
     mut shelf: LongShelf,
     line: &str,
-) -> Result<(MemSink, MemSink, u8, LongShelf), Fail> {
+) -> Result<LongRun, Fail> {
     let alloc = rt.alloc();
     let words = words_of(alloc, line)?;
     let mut out = MemSink::make(alloc, Vec::new(alloc));
     let mut err = MemSink::make(alloc, Vec::new(alloc));
     let report = aioscan(rt, alloc, words.as_slice(), &mut shelf, &mut out, &mut err);
-    Ok((out, err, report.status, shelf))
+    Ok(LongRun {
+        report,
+        out,
+        err,
+        shelf,
+    })
 }
 
-// Runs over it, and compares what is shown.
-fn check_over<R: Abort + AllocGlobal + Threads + Wait + Sync>(
-    rt: &R,
-    shelf: LongShelf,
-    line: &str,
-    wanted: TestOutcome<'_>,
-) -> Result<LongShelf, Fail> {
-    let (out, err, status, shelf) = run_over(rt, shelf, line)?;
-    assert_eq!(rt; out.bytes(), wanted.0.as_bytes(), "{wanted:?}");
-    assert_eq!(rt; err.bytes(), wanted.1.as_bytes(), "{wanted:?}");
-    assert_eq!(rt; status, wanted.2, "{wanted:?}");
-    Ok(shelf)
+// Compares what such a run shows.
+fn check_long_run<R: Abort>(rt: &R, done: &LongRun, wanted: TestOutcome<'_>) {
+    assert_eq!(rt; done.out.bytes(), wanted.0.as_bytes());
+    assert_eq!(rt; done.err.bytes(), wanted.1.as_bytes());
+    assert_eq!(rt; done.report.status, wanted.2);
 }
 
 #[test]
@@ -181,30 +198,42 @@ fn lengths_that_nothing_tells(rt: HostRuntime) -> Result<(), Fail> {
         (0, "", 0, (1, 2, 0)),
     ];
     for (length, said, status, calls) in rows {
-        let shelf = long_shelf(rt.alloc(), length, 0);
-        let shelf = check_over(&rt, shelf, line, ("", said, status))?;
-        let made = (shelf.opens, shelf.lengths, shelf.reads);
-        assert_eq!(rt; made, calls, "{length} blocks");
+        let done = run_long_relations(&rt, length, 0, line)?;
+        check_long_run(&rt, &done, ("", said, status));
+        let shelf = &done.shelf;
+        assert_eq!(rt; (shelf.opens, shelf.lengths, shelf.reads), calls);
     }
     Ok(())
 }
 
 #[test]
 fn fewer_pages_than_its_length(rt: HostRuntime) -> Result<(), Fail> {
-    let rows: [(u32, u32, u32, &[Read]); 3] = [
-        (6, 4, 4, &[(0, 1, 1), (1, 2, 2), (3, 3, 1), (4, 2, 0)]),
-        (8, 7, 4, &[(0, 1, 1), (1, 2, 2), (3, 4, 4), (7, 1, 0)]),
-        (8, 0, 1, &[(0, 1, 0)]),
+    let rows: [(u32, u32, &str, &[Read]); 3] = [
+        (
+            6,
+            4,
+            "no page 0 4\nincarnations 4 workers 0 backends 4\n",
+            &[(0, 1, 1), (1, 2, 2), (3, 3, 1), (4, 2, 0)],
+        ),
+        (
+            8,
+            7,
+            "no page 0 7\nincarnations 4 workers 0 backends 4\n",
+            &[(0, 1, 1), (1, 2, 2), (3, 4, 4), (7, 1, 0)],
+        ),
+        (
+            8,
+            0,
+            "no page 0 0\nincarnations 1 workers 0 backends 1\n",
+            &[(0, 1, 0)],
+        ),
     ];
     let line = "--method sync --backends 1 --stats f";
-    for (length, seen, ios, log) in rows {
-        let alloc = rt.alloc();
-        let text = empty_lines(alloc, 0, seen)?;
-        let mut said = format!(in alloc; "no page 0 {seen}\n")?;
-        writeln!(said, "incarnations {ios} workers 0 backends {ios}")?;
-        let shelf = long_shelf(alloc, length, seen);
-        let shelf = check_over(&rt, shelf, line, (text.as_str(), said.as_str(), 6))?;
-        assert_eq!(&rt; shelf.log.as_slice(), log, "{length} blocks, {seen} seen");
+    for (length, seen, lines, log) in rows {
+        let done = run_long_relations(&rt, length, seen, line)?;
+        let text = empty_lines(rt.alloc(), 0, seen)?;
+        check_long_run(&rt, &done, (text.as_str(), lines, 6));
+        assert_eq!(&rt; done.shelf.log.as_slice(), log);
     }
     Ok(())
 }
@@ -240,10 +269,12 @@ fn a_disk_for_each_backend_and_each_worker_comes_back(rt: HostRuntime) -> Result
             refuses,
             ..long_shelf(rt.alloc(), length, length)
         };
-        let (_, _, ended, shelf) = run_over(&rt, shelf, line)?;
-        let counts = (ended, (shelf.opens, shelf.taken_back));
+        let done = run_over(&rt, shelf, line)?;
         assert_eq!(&rt;
-            counts,
+            (
+                done.report.status,
+                (done.shelf.opens, done.shelf.taken_back)
+            ),
             (status, disks),
             "{line}, {length} blocks, {refuses:?}"
         );

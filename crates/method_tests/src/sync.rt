@@ -4,27 +4,46 @@ ghost use Rattle.aio_handle.specs.ContractViews.{IsActorOf, IsSameActor};
 
 use aio_batch::Batch;
 use aio_callback::{CallbackId, Counts, NoPlaces, ReadIo, laws};
-use aio_disk::{Disk, ReadEntry, Shelf};
+use aio_disk::{Disk, MemDisk, MemShelf, ReadEntry, Script, SteadyDisk, SteadyShelf};
 use aio_handle::{Actor, Record, Table, Take};
 use aio_result::{AioResult, Status};
 use aio_word::Class;
 use method_sync::{Runner, SyncMethod};
 use page_check::World;
-use page_fixtures::files::{Faults, STEADY, one_file, open_disk, shelf_of, steady_shelf};
-use page_fixtures::pages::{EMPTY, bytes_of};
 use std::alloc::{AllocError, Global};
 use std::marker::Brand;
+use std::process::Abort;
 use std::sync::Wait;
 use std::test::Fail;
 
 const IDS: [CallbackId; 3] = [CallbackId::Count, CallbackId::Buffer, CallbackId::File];
 
-/// What the owner of a read has once it took it in: its class, its result, and how many pages of it
-/// are good.
-type Ended = (Class, AioResult, u32);
+/// What the owner of a read has once it took it in.
+#[derive(Clone, Copy, Debug, PartialEq, Eq)]
+struct Ended {
+    class: Class,
+    id: u8,
+    status: Status,
+    error: u32,
+    result: i32,
+    good: u32,
+}
 
 fn taken_in(io: &ReadIo) -> Ended {
-    (io.ended(), io.result(), io.good())
+    let AioResult {
+        id,
+        status,
+        error,
+        result,
+    } = io.result();
+    Ended {
+        class: io.ended(),
+        id,
+        status,
+        error,
+        result,
+        good: io.good(),
+    }
 }
 
 /// Reads four blocks of relation 0 from `first` on through `SyncMethod`, takes the read in, and
@@ -120,26 +139,42 @@ fn read_all<W: World, D: Disk, T: Wait>(
     Ok((all, runner.disk))
 }
 
-/// What comes of a read whose result has these parts, in the order of the fields.
-fn ended(class: Class, id: u8, status: Status, error: u32, number: i32, good: u32) -> Ended {
-    let read = AioResult {
-        id,
-        status,
-        error,
-        result: number,
-    };
-    (class, read, good)
+/// The header of a page without items: lower 24, upper and special 8192, version 4.
+const EMPTY_PAGE: [u8; 24] = [
+    0, 0, 0, 0, 0, 0, 0, 0, 0, 0, 0, 0, 24, 0, 0, 32, 0, 32, 4, 32, 0, 0, 0, 0,
+];
+
+/// A file `f` of so many empty pages.
+fn file_of(alloc: Global, blocks: u32) -> Result<Vec<(String, Vec<u8>)>, Fail> {
+    let mut bytes = Vec::new(alloc);
+    for _ in 0..blocks {
+        bytes.extend_from_slice(&EMPTY_PAGE)?;
+        bytes.extend_from_slice(&[0; 8168])?;
+    }
+    Ok(vec![in alloc; (String::from_str(alloc, "f")?, bytes)]?)
 }
 
-/// Reads over a disk of the shelf, which then goes back to it.
-fn reads_of<S: Shelf, R: AllocGlobal + Wait>(
+fn whole() -> Ended {
+    Ended {
+        class: Class::Whole,
+        id: 0,
+        status: Status::Good,
+        error: 0,
+        result: 4,
+        good: 4,
+    }
+}
+
+/// Reads over a steady disk, which then goes back to its shelf.
+fn steady_reads<R: Abort + AllocGlobal + Wait>(
     rt: &R,
-    shelf: &mut S,
+    shelf: &mut SteadyShelf,
     firsts: &[u32],
 ) -> Result<Vec<Ended>, Fail> {
     let alloc = rt.alloc();
-    let disk = open_disk(alloc, shelf, &["f"])?;
-    let (all, disk) = read_all::<Brand, S::Disk, R>(rt, alloc, disk, firsts)?;
+    let names = vec![in alloc; String::from_str(alloc, "f")?]?;
+    let disk = shelf.open(names.as_slice()).ok().ok_or("no disk")?;
+    let (all, disk) = read_all::<Brand, SteadyDisk, R>(rt, alloc, disk, firsts)?;
     shelf.take_back(disk);
     Ok(all)
 }
@@ -147,16 +182,28 @@ fn reads_of<S: Shelf, R: AllocGlobal + Wait>(
 #[test]
 fn reads_through_the_sync_method_are_logged(rt: HostRuntime) -> Result<(), Fail> {
     let alloc = rt.alloc();
-    let files = one_file(alloc, "f", bytes_of(alloc, &[EMPTY; 10])?)?;
-    let mut shelf = steady_shelf(alloc, files)?;
-    let all = reads_of(&rt, &mut shelf, &[0, 4, 8, 10])?;
-    let whole = ended(Class::Whole, 0, Status::Good, 0, 4, 4);
-    let rest = ended(Class::Short, 1, Status::Partial, 0, 2, 2);
-    let past_the_end = ended(Class::Short, 1, Status::Error, 2, 0, 0);
-    assert_eq!(&rt;
-        all.as_slice(),
-        [whole, whole, rest, past_the_end].as_slice()
-    );
+    let files = file_of(alloc, 10)?;
+    assert!(&rt; aio_disk::have_distinct_names(files.as_slice()));
+    let mut shelf = MemShelf::steady(alloc, files, 10)?;
+    let all = steady_reads(&rt, &mut shelf, &[0, 4, 8, 10])?;
+    let rest = Ended {
+        class: Class::Short,
+        id: 1,
+        status: Status::Partial,
+        error: 0,
+        result: 2,
+        good: 2,
+    };
+    let past_the_end = Ended {
+        class: Class::Short,
+        id: 1,
+        status: Status::Error,
+        error: 2,
+        result: 0,
+        good: 0,
+    };
+    let wanted = [whole(), whole(), rest, past_the_end];
+    assert_eq!(&rt; all.as_slice(), wanted.as_slice());
     let entry = |first, answered| ReadEntry {
         disk: 0,
         relation: 0,
@@ -169,17 +216,41 @@ fn reads_through_the_sync_method_are_logged(rt: HostRuntime) -> Result<(), Fail>
     Ok(())
 }
 
+/// Reads over the first disk of a shelf whose script is this.
+fn scripted_reads<R: Abort + AllocGlobal + Wait>(
+    rt: &R,
+    shelf: &mut MemShelf,
+    firsts: &[u32],
+) -> Result<Vec<Ended>, Fail> {
+    let alloc = rt.alloc();
+    let names = vec![in alloc; String::from_str(alloc, "f")?]?;
+    let disk = shelf.open(names.as_slice()).ok().ok_or("no disk")?;
+    let (all, _) = read_all::<Brand, MemDisk, R>(rt, alloc, disk, firsts)?;
+    Ok(all)
+}
+
 #[test]
 fn the_first_read_fails(rt: HostRuntime) -> Result<(), Fail> {
     let alloc = rt.alloc();
-    let files = one_file(alloc, "f", bytes_of(alloc, &[EMPTY; 4])?)?;
-    let first = Faults {
-        reads: &[(0, 1)],
-        ..STEADY
+    let files = file_of(alloc, 4)?;
+    let script = Script {
+        fail_opens: Vec::new(alloc),
+        fail_lengths: Vec::new(alloc),
+        fail_reads: vec![in alloc; (0u32, 1u64)]?,
+        shorts: Vec::new(alloc),
     };
-    let all = reads_of(&rt, &mut shelf_of(alloc, files, first)?, &[0, 0])?;
-    let failed = ended(Class::Failed, 1, Status::Error, 1, 0, 0);
-    let whole = ended(Class::Whole, 0, Status::Good, 0, 4, 4);
-    assert_eq!(&rt; all.as_slice(), [failed, whole].as_slice());
+    assert!(&rt; aio_disk::have_distinct_names(files.as_slice()));
+    assert!(&rt; script.has_positive_shorts());
+    let mut shelf = MemShelf::make(alloc, files, script, 0)?;
+    let all = scripted_reads(&rt, &mut shelf, &[0, 0])?;
+    let failed = Ended {
+        class: Class::Failed,
+        id: 1,
+        status: Status::Error,
+        error: 1,
+        result: 0,
+        good: 0,
+    };
+    assert_eq!(&rt; all.as_slice(), [failed, whole()].as_slice());
     Ok(())
 }

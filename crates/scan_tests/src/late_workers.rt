@@ -16,7 +16,6 @@ use buf_pool::Pool;
 use method_sync::Runner;
 use method_worker::{QueueSeat, SubmitQueue, WorkerMethod, work};
 use page_check::World;
-use page_fixtures::files::names_of;
 use std::alloc::{AllocError, Global};
 use std::marker::Brand;
 use std::process::Abort;
@@ -203,7 +202,8 @@ fn list_over<S: Shelf, T: Wait>(
 fn a_backend_executes_what_no_worker_takes(rt: HostRuntime) -> Result<(), Fail> {
     let alloc = rt.alloc();
     let mut shelf = pages_shelf(alloc, 100, None, &[])?;
-    let names = names_of(alloc, &["f"])?;
+    let mut names = Vec::new(alloc);
+    names.push(String::from_str(alloc, "f")?)?;
     let (first, second) = (blocks_of(alloc, 0, 64)?, blocks_of(alloc, 64, 100)?);
     let wanted = (first.clone()?, second.clone()?);
     let pages = list_over(&rt, alloc, &mut shelf, names.as_slice(), first, second)?;

@@ -5,9 +5,9 @@ use crate::helpers::opening::{METHODS, USUAL};
 use crate::helpers::rounds::JobResult;
 use aio_disk::MemShelf;
 use page_fixtures::files::{Faults, STEADY, blocks_read, one_file, shelf_of};
-use page_fixtures::pages::{CONTENTS, Parts, bytes_of, numbered_pages};
+use page_fixtures::pages::{CONTENTS, EMPTY, Parts, bytes_of, numbered_pages, page_of, put_bytes};
 use scan_rounds::{Ending, MethodKind, ScanSettings};
-use std::alloc::Global;
+use std::alloc::{AllocError, Global};
 use std::process::Abort;
 use std::sync::Wait;
 use std::test::Fail;
@@ -31,6 +31,20 @@ const BAD: Parts<'static> = &[
     (10, &[8, 0, 24, 0, 0, 32, 0, 32, 4, 32]),
     (CONTENTS, &[0x45, 0x03]),
 ];
+
+// An empty page with this byte.
+fn page_with(alloc: Global, offset: usize, byte: u8) -> Result<Vec<u8>, AllocError> {
+    let mut page = page_of(EMPTY);
+    put_bytes(&mut page, offset, &[byte]);
+    Vec::from_slice(alloc, page.bytes())
+}
+
+// Two pages: with these bits of block 32671, the last of the first page, and of the next block.
+fn two_pages(alloc: Global, last: u8, first: u8) -> Result<Vec<u8>, AllocError> {
+    let mut pages = page_with(alloc, 8191, last << 6)?;
+    pages.extend_from_slice(page_with(alloc, CONTENTS, first)?.as_slice())?;
+    Ok(pages)
+}
 
 // A shelf of a file `f` of 8 empty pages and a map `m`, whose reads fail so: (disk, read).
 fn shelf_with(alloc: Global, map: Vec<u8>, fail_reads: &[(u32, u64)]) -> Result<MemShelf, Fail> {
@@ -216,6 +230,39 @@ fn a_map_ends_before_the_pages_that_it_was_opened_for(rt: HostRuntime) -> Result
             outcome.jobs.as_slice(),
             &[(&[2, 5, 6, 7], Ending::Pages)],
         )?;
+    }
+    Ok(())
+}
+
+// Lists blocks 32671 and 32672 by a map with these bits of theirs. Neither is there, so that the
+// job ends at the first of them that is not left out.
+fn check_bits<R: Abort + AllocGlobal + Threads + Wait + Sync>(
+    rt: &R,
+    name: &str,
+    (last, first): (u8, u8),
+    ending: Ending,
+) -> Result<(), Fail> {
+    let asked = MapScanRequest {
+        pages: 2,
+        blocks: (32671, 2),
+    };
+    let mut shelf = shelf_with(rt.alloc(), two_pages(rt.alloc(), last, first)?, &[])?;
+    let outcome = scan_by_map(rt, &USUAL, &mut shelf, asked, &[Some(Skip::Visible)])?;
+    assert_eq!(rt; outcome.ending, Ending::Pages, "{name}");
+    check_rounds(rt, name, outcome.jobs.as_slice(), &[(&[], ending)])?;
+    check_reads(rt, name, &shelf, 1, &[0, 1])
+}
+
+#[test]
+fn each_block_has_the_bits_of_its_own_page(rt: HostRuntime) -> Result<(), Fail> {
+    let cases = [
+        ("none", (0, 0), Ending::PastEnd(32671)),
+        ("the second block", (0, 1), Ending::PastEnd(32671)),
+        ("the first block", (1, 0), Ending::PastEnd(32672)),
+        ("both", (1, 1), Ending::Pages),
+    ];
+    for (name, bits, ending) in cases {
+        check_bits(&rt, name, bits, ending)?;
     }
     Ok(())
 }

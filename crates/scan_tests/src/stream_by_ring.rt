@@ -14,7 +14,6 @@ use buf_pool::Pool;
 use method_ring::{RingRoom, RingRunner, SimRing};
 use method_worker::{QueueSeat, SubmitQueue, WorkerMethod};
 use page_check::World;
-use page_fixtures::files::open_disk;
 use std::alloc::Global;
 use std::marker::Brand;
 use std::process::Abort;
@@ -86,7 +85,9 @@ fn pages_and_reads<R: Abort + AllocGlobal + Wait>(
     list: Vec<NotedBlock>,
 ) -> Result<(Vec<NotedBlock>, Vec<u32>), Fail> {
     let mut shelf = pages_shelf(rt.alloc(), 5, None, &[])?;
-    let disk = open_disk(rt.alloc(), &mut shelf, &["f"])?;
+    let mut names = Vec::new(rt.alloc());
+    names.push(String::from_str(rt.alloc(), "f")?)?;
+    let disk = shelf.open(names.as_slice()).ok().ok_or("no disk")?;
     let (pages, disk) = pages_by_ring::<Brand, MemDisk, R>(rt, rt.alloc(), disk, list)?;
     shelf.take_back(disk);
     Ok((pages, first_blocks_read(rt.alloc(), &shelf, 0)?))

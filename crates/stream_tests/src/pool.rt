@@ -1,7 +1,8 @@
 //! Blocks that the pool has, or that others read into it.
 
 use crate::helpers::cases::{Blocks, CASE, Case, FULL};
-use crate::helpers::rows::check_cases;
+use crate::helpers::rows::{ROW, Row, check_rows};
+use page_fixtures::files::{Faults, STEADY};
 use read_stream::Settings;
 use std::test::Fail;
 
@@ -13,106 +14,165 @@ const AGAIN: Case<'static> = Case {
     ..CASE
 };
 
-const ROWS: [Case<'static>; 9] = [
-    Case {
+const ROWS: [Row<'static>; 9] = [
+    Row {
         name: "pages come from the pool again",
+        case: AGAIN,
         pages: 4,
-        reads: Some("3+1 4+1 0+1"),
+        reads: Some(&[(3, 1), (4, 1), (0, 1)]),
         taken: Some(3),
-        ..AGAIN
+        ..ROW
     },
-    Case {
+    Row {
         name: "pages of relation 1 come from the pool again",
-        relation: 1,
+        case: Case {
+            relation: 1,
+            ..AGAIN
+        },
         pages: 4,
-        reads: Some("3+1 4+1 0+1"),
+        reads: Some(&[(3, 1), (4, 1), (0, 1)]),
         taken: Some(3),
-        ..AGAIN
+        ..ROW
     },
-    Case {
+    Row {
         name: "a join gives the page that another backend reads",
-        blocks: 3,
-        other: Some(NONE),
-        list: Blocks::From(0, 3),
+        case: Case {
+            blocks: 3,
+            other: Some(NONE),
+            list: Blocks::From(0, 3),
+            ..CASE
+        },
         pages: 3,
-        reads: Some("0+1 1+2"),
+        reads: Some(&[(0, 1), (1, 2)]),
         taken: Some(1),
-        ..CASE
+        ..ROW
     },
-    Case {
+    Row {
         name: "a join waits for the generation of the other backend's read",
-        blocks: 3,
-        handles: 1,
-        other: Some(Blocks::From(2, 1)),
-        list: Blocks::From(0, 3),
+        case: Case {
+            blocks: 3,
+            handles: 1,
+            other: Some(Blocks::From(2, 1)),
+            list: Blocks::From(0, 3),
+            ..CASE
+        },
         pages: 3,
-        reads: Some("2+1 0+1 1+1"),
+        reads: Some(&[(2, 1), (0, 1), (1, 1)]),
         taken: Some(1),
-        ..CASE
+        ..ROW
     },
-    Case {
+    Row {
         name: "a block that another backend reads leaves the distance as it is",
-        blocks: 11,
-        settings: Settings { combine: 4, ..FULL },
-        other: Some(NONE),
-        list: Blocks::EveryOther(6),
+        case: Case {
+            blocks: 11,
+            settings: Settings { combine: 4, ..FULL },
+            other: Some(NONE),
+            list: Blocks::EveryOther(6),
+            ..CASE
+        },
         pages: 6,
-        reads: Some("2+1 4+1 0+1 6+1 8+1 10+1"),
+        reads: Some(&[(2, 1), (4, 1), (0, 1), (6, 1), (8, 1), (10, 1)]),
         taken: Some(5),
-        ..CASE
+        ..ROW
     },
-    Case {
+    Row {
         name: "a page that the pool had is joined where another backend reads it again",
-        blocks: 40,
-        frames: 16,
-        settings: FULL,
-        between: Some(Blocks::From(20, 17)),
-        first: Blocks::From(0, 1),
-        list: Blocks::These(&[(1, 10), (0, 0)]),
+        case: Case {
+            blocks: 40,
+            frames: 16,
+            settings: FULL,
+            between: Some(Blocks::From(20, 17)),
+            first: Blocks::From(0, 1),
+            list: Blocks::These(&[(1, 10), (0, 0)]),
+            ..CASE
+        },
         pages: 2,
-        reads: Some("0+1 1+1 20+16 36+1 0+1"),
+        reads: Some(&[(0, 1), (1, 1), (20, 16), (36, 1), (0, 1)]),
         taken: Some(1),
-        ..CASE
+        ..ROW
     },
-    Case {
+    Row {
         name: "a failed join is read again",
-        blocks: 3,
-        fails: &[(0, 1)],
-        other: Some(NONE),
-        list: Blocks::From(0, 3),
+        case: Case {
+            blocks: 3,
+            faults: Faults {
+                reads: &[(0, 1)],
+                ..STEADY
+            },
+            other: Some(NONE),
+            list: Blocks::From(0, 3),
+            ..CASE
+        },
         pages: 3,
         taken: Some(2),
-        ..CASE
+        ..ROW
     },
-    Case {
+    Row {
         name: "look-ahead over a pool with every other block",
-        blocks: 32,
-        settings: FULL,
-        first: Blocks::EveryOther(16),
-        list: Blocks::From(0, 32),
+        case: Case {
+            blocks: 32,
+            settings: FULL,
+            first: Blocks::EveryOther(16),
+            list: Blocks::From(0, 32),
+            ..CASE
+        },
         pages: 32,
-        reads: Some(EVERY_OTHER),
+        reads: Some(&EVERY_OTHER),
         taken: Some(16),
-        ..CASE
+        ..ROW
     },
-    Case {
+    Row {
         name: "blocks of the pool draw the distance in",
-        blocks: 32,
-        settings: FULL,
-        first: Blocks::From(0, 16),
-        list: Blocks::From(0, 32),
+        case: Case {
+            blocks: 32,
+            settings: FULL,
+            first: Blocks::From(0, 16),
+            list: Blocks::From(0, 32),
+            ..CASE
+        },
         pages: 32,
-        reads: Some("0+16 16+1 17+2 19+4 23+8 31+1"),
-        ..CASE
+        reads: Some(&[(0, 16), (16, 1), (17, 2), (19, 4), (23, 8), (31, 1)]),
+        ..ROW
     },
 ];
 
 // The even blocks one by one, and then the odd ones.
-const EVERY_OTHER: &str =
-    "0+1 2+1 4+1 6+1 8+1 10+1 12+1 14+1 16+1 18+1 20+1 22+1 24+1 26+1 28+1 30+1 \
-     1+1 3+1 5+1 7+1 9+1 11+1 13+1 15+1 17+1 19+1 21+1 23+1 25+1 27+1 29+1 31+1";
+const EVERY_OTHER: [(u32, u32); 32] = [
+    (0, 1),
+    (2, 1),
+    (4, 1),
+    (6, 1),
+    (8, 1),
+    (10, 1),
+    (12, 1),
+    (14, 1),
+    (16, 1),
+    (18, 1),
+    (20, 1),
+    (22, 1),
+    (24, 1),
+    (26, 1),
+    (28, 1),
+    (30, 1),
+    (1, 1),
+    (3, 1),
+    (5, 1),
+    (7, 1),
+    (9, 1),
+    (11, 1),
+    (13, 1),
+    (15, 1),
+    (17, 1),
+    (19, 1),
+    (21, 1),
+    (23, 1),
+    (25, 1),
+    (27, 1),
+    (29, 1),
+    (31, 1),
+];
 
 #[test]
 fn blocks_that_the_pool_has_or_awaits(rt: HostRuntime) -> Result<(), Fail> {
-    check_cases(&rt, ROWS.as_slice())
+    check_rows(&rt, ROWS.as_slice())
 }

@@ -5,6 +5,7 @@ use crate::helpers::answers::Answer;
 use crate::helpers::cases::{Blocks, CASE, Case};
 use crate::helpers::numbers::Numbers;
 use crate::helpers::outcomes::run;
+use page_fixtures::files::{Faults, STEADY};
 use read_stream::Settings;
 use std::alloc::Global;
 use std::process::Abort;
@@ -23,13 +24,22 @@ fn slow(
     for (block, info) in list {
         let (block, info) = (*block, *info);
         if stop.is_none() {
-            let is_damaged = case.damaged == Some(block);
             if block >= case.blocks {
                 stop = Some(Answer::PastEnd(block));
-            } else if is_damaged && !case.settings.zero {
-                stop = Some(Answer::Invalid(block));
+            } else if case.damaged != Some(block) {
+                all.push(Answer::Page {
+                    block,
+                    info,
+                    shown: block,
+                })?;
+            } else if case.settings.zero {
+                all.push(Answer::Zeroed {
+                    block,
+                    info,
+                    zeros: true,
+                })?;
             } else {
-                all.push(Answer::of_block(block, info, is_damaged))?;
+                stop = Some(Answer::Invalid(block));
             }
         }
     }
@@ -117,8 +127,11 @@ fn case_of(drawn: &Drawn) -> Case<'_> {
     Case {
         blocks: drawn.blocks,
         damaged: drawn.damaged,
-        fails: drawn.fail_reads.as_slice(),
-        shorts: drawn.shorts.as_slice(),
+        faults: Faults {
+            reads: drawn.fail_reads.as_slice(),
+            shorts: drawn.shorts.as_slice(),
+            ..STEADY
+        },
         handles: drawn.handles,
         frames: 16,
         settings: drawn.settings,

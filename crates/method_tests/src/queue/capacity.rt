@@ -8,7 +8,6 @@ use method_worker::{Pop, QueueFull, QueueSeat, SubmitQueue};
 use page_check::World;
 use std::alloc::{AllocError, Global};
 use std::marker::Brand;
-use std::process::Abort;
 use std::sync::Wait;
 use std::test::Fail;
 
@@ -29,26 +28,25 @@ fn pop_times<W: World, T: Wait>(
     Ok(())
 }
 
-/// The pops of references of the numbers below 64, in their order, and these behind them.
-fn entries_and(alloc: Global, rest: &[Pop]) -> Result<Vec<Pop>, AllocError> {
-    let mut pops = Vec::new(alloc);
-    for number in 0..64 {
-        pops.push(Pop::Entry(reference(number)))?;
-    }
-    pops.extend_from_slice(rest)?;
-    Ok(pops)
+/// What a queue of one seat answered.
+#[derive(Drop)]
+struct Answers {
+    pushed: u32,
+    refused: Option<QueueFull>,
+    pops: Vec<Pop>,
 }
 
 /// 65 pushes and 65 pops, a pop after a close, one after a reopening, and two after a push and two
 /// closes.
-fn one_seat<W: World, R: Abort + AllocGlobal + Wait>(rt: &R) -> Result<(), Fail>
+fn one_seat<W: World, T: Wait>(rt: &T, alloc: Global) -> Result<Option<Answers>, AllocError>
     requires { W.handles ≡ 7 }
 {
-    let (mut queue, mut seats) = SubmitQueue::<W>::open(rt.alloc(), 1)?;
-    let mut seat = last_seat(&queue, &mut seats).ok_or("no seat")?;
-    let mut pops = Vec::new(rt.alloc());
-    let pushed = push_from(rt, &queue, &mut seat, 0, 65);
-    assert_eq!(rt; pushed, (64, Some(QueueFull(reference(64)))));
+    let (mut queue, mut seats) = SubmitQueue::<W>::open(alloc, 1)?;
+    let Some(mut seat) = last_seat(&queue, &mut seats) else {
+        return Ok(None);
+    };
+    let mut pops = Vec::new(alloc);
+    let (pushed, refused) = push_from(rt, &queue, &mut seat, 0, 65);
     pop_times(rt, &queue, &mut seat, 65, &mut pops)?;
     queue.close(rt, &mut seat);
     pop_times(rt, &queue, &mut seat, 1, &mut pops)?;
@@ -58,15 +56,11 @@ fn one_seat<W: World, R: Abort + AllocGlobal + Wait>(rt: &R) -> Result<(), Fail>
     queue.close(rt, &mut seat);
     queue.close(rt, &mut seat);
     pop_times(rt, &queue, &mut seat, 2, &mut pops)?;
-    let again = Pop::Entry(reference(65));
-    let rest = [Pop::Empty, Pop::Closed, Pop::Empty, again, Pop::Closed];
-    assert_eq!(rt; pops, entries_and(rt.alloc(), &rest)?);
-    Ok(())
-}
-
-#[test]
-fn queue_of_64_entries(rt: HostRuntime) -> Result<(), Fail> {
-    one_seat::<Brand, _>(&rt)
+    Ok(Some(Answers {
+        pushed,
+        refused,
+        pops,
+    }))
 }
 
 /// 64 pushes, two by each of 32 seats: how many were Ok.
@@ -107,21 +101,62 @@ fn pop_five_by_each<W: World, T: Wait>(
 }
 
 /// 64 pushes by the first 32 of 48 seats, one more by the next, and 75 pops by the other 15.
-fn seat_after_seat<W: World, R: Abort + AllocGlobal + Wait>(rt: &R) -> Result<(), Fail>
+fn seat_after_seat<W: World, T: Wait>(rt: &T, alloc: Global) -> Result<Option<Answers>, AllocError>
     requires { W.handles ≡ 7 }
 {
-    let (queue, mut seats) = SubmitQueue::<W>::open(rt.alloc(), 48)?;
-    assert_eq!(rt; push_two_by_each(rt, &queue, &mut seats), 64);
-    let mut seat = last_seat(&queue, &mut seats).ok_or("no seat")?;
+    let (queue, mut seats) = SubmitQueue::<W>::open(alloc, 48)?;
+    let pushed = push_two_by_each(rt, &queue, &mut seats);
+    let Some(mut seat) = last_seat(&queue, &mut seats) else {
+        return Ok(None);
+    };
     let (_, refused) = push_from(rt, &queue, &mut seat, 64, 1);
-    assert_eq!(rt; refused, Some(QueueFull(reference(64))));
-    let mut pops = Vec::new(rt.alloc());
+    let mut pops = Vec::new(alloc);
     pop_five_by_each(rt, &queue, &mut seats, &mut pops)?;
-    assert_eq!(rt; pops, entries_and(rt.alloc(), &[Pop::Empty; 11])?);
+    Ok(Some(Answers {
+        pushed,
+        refused,
+        pops,
+    }))
+}
+
+/// The pops of references of the numbers below 64, in their order.
+fn entries_in_order(alloc: Global) -> Result<Vec<Pop>, AllocError> {
+    let mut pops = Vec::new(alloc);
+    for number in 0..64 {
+        pops.push(Pop::Entry(reference(number)))?;
+    }
+    Ok(pops)
+}
+
+#[test]
+fn queue_of_64_entries(rt: HostRuntime) -> Result<(), Fail> {
+    let Some(answers) = one_seat::<Brand, _>(&rt, rt.alloc())? else {
+        panic!(&rt; "a queue has a seat")
+    };
+    assert_eq!(&rt; answers.pushed, 64);
+    assert_eq!(&rt; answers.refused, Some(QueueFull(reference(64))));
+    let mut wanted = entries_in_order(rt.alloc())?;
+    let rest = [
+        Pop::Empty,
+        Pop::Closed,
+        Pop::Empty,
+        Pop::Entry(reference(65)),
+        Pop::Closed,
+    ];
+    wanted.extend_from_slice(&rest)?;
+    assert_eq!(&rt; answers.pops.as_slice(), wanted.as_slice());
     Ok(())
 }
 
 #[test]
 fn queue_of_64_entries_and_48_seats(rt: HostRuntime) -> Result<(), Fail> {
-    seat_after_seat::<Brand, _>(&rt)
+    let Some(answers) = seat_after_seat::<Brand, _>(&rt, rt.alloc())? else {
+        panic!(&rt; "a queue has 48 seats")
+    };
+    assert_eq!(&rt; answers.pushed, 64);
+    assert_eq!(&rt; answers.refused, Some(QueueFull(reference(64))));
+    let mut wanted = entries_in_order(rt.alloc())?;
+    wanted.extend_from_slice(&[Pop::Empty; 11])?;
+    assert_eq!(&rt; answers.pops.as_slice(), wanted.as_slice());
+    Ok(())
 }

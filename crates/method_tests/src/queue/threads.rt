@@ -8,7 +8,6 @@ use method_worker::{Pop, QueueSeat, SubmitQueue};
 use page_check::World;
 use std::alloc::{AllocError, Global};
 use std::marker::Brand;
-use std::process::Abort;
 use std::sync::Wait;
 use std::test::Fail;
 use std::thread::{Threads, join, yield_now};
@@ -96,28 +95,29 @@ fn two_pop<W: World + Send + Sync, T: Threads + Wait + Sync>(
     Ok((one?, other?))
 }
 
-/// How often each generation stands in the list, of those below 500.
-fn count_each(counts: &mut Vec<u32>, all: &[WaitRef]) {
-    for reference in all {
-        if let Some(count) = counts.get_mut(reference.generation as usize) {
-            *count = count.saturating_add(1);
-        }
-    }
-}
-
-/// Two threads pop what two others push.
-fn four_threads<W: World + Send + Sync, R: Abort + AllocGlobal + Threads + Wait + Sync>(
-    rt: &R,
-) -> Result<(), Fail>
+/// What two threads popped that two others had pushed.
+fn four_threads<W: World + Send + Sync, T: Threads + Wait + Sync>(
+    rt: &T,
+    alloc: Global,
+) -> Result<Option<(Vec<WaitRef>, Vec<WaitRef>)>, AllocError>
     requires { W.handles ≡ 7 }
 {
-    let alloc = rt.alloc();
     let (queue, mut seats) = SubmitQueue::<W>::open(alloc, 5)?;
-    let a = last_seat(&queue, &mut seats).ok_or("no seat")?;
-    let b = last_seat(&queue, &mut seats).ok_or("no seat")?;
-    let c = last_seat(&queue, &mut seats).ok_or("no seat")?;
-    let d = last_seat(&queue, &mut seats).ok_or("no seat")?;
-    let e = last_seat(&queue, &mut seats).ok_or("no seat")?;
+    let Some(a) = last_seat(&queue, &mut seats) else {
+        return Ok(None);
+    };
+    let Some(b) = last_seat(&queue, &mut seats) else {
+        return Ok(None);
+    };
+    let Some(c) = last_seat(&queue, &mut seats) else {
+        return Ok(None);
+    };
+    let Some(d) = last_seat(&queue, &mut seats) else {
+        return Ok(None);
+    };
+    let Some(e) = last_seat(&queue, &mut seats) else {
+        return Ok(None);
+    };
     let shared = &queue;
     let ((), popped) = join(
         rt,
@@ -129,16 +129,31 @@ fn four_threads<W: World + Send + Sync, R: Abort + AllocGlobal + Threads + Wait 
             requires { IsSeatOf shared.now d × IsSeatOf shared.now e }
         { two_pop(rt, alloc, shared, d, e) },
     );
-    let (one, other) = popped?;
-    let mut counts = Vec::from_elem(alloc, 0u32, 500)?;
-    count_each(&mut counts, one.as_slice());
-    count_each(&mut counts, other.as_slice());
-    assert_eq!(rt; counts, Vec::from_elem(alloc, 4u32, 500)?);
-    assert_eq!(rt; one.len().saturating_add(other.len()), 2000);
-    Ok(())
+    Ok(Some(popped?))
+}
+
+/// How often each generation stands in the list, of those below 500.
+fn count_each(counts: &mut Vec<u32>, all: &[WaitRef]) {
+    for reference in all {
+        if reference.generation < 500 {
+            let place = reference.generation as usize;
+            if place < counts.len() {
+                counts[place] = counts[place].saturating_add(1);
+            }
+        }
+    }
 }
 
 #[test]
 fn each_reference_is_popped_as_often_as_pushed(rt: HostRuntime) -> Result<(), Fail> {
-    four_threads::<Brand, _>(&rt)
+    let Some((one, other)) = four_threads::<Brand, _>(&rt, rt.alloc())? else {
+        panic!(&rt; "a queue has its seats")
+    };
+    let mut counts = Vec::from_elem(rt.alloc(), 0u32, 500)?;
+    count_each(&mut counts, one.as_slice());
+    count_each(&mut counts, other.as_slice());
+    let wanted = Vec::from_elem(rt.alloc(), 4u32, 500)?;
+    assert_eq!(&rt; counts.as_slice(), wanted.as_slice());
+    assert_eq!(&rt; one.len() + other.len(), 2000);
+    Ok(())
 }

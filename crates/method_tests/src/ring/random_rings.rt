@@ -1,8 +1,9 @@
 //! Random rings beside a plain list.
 ghost use Rattle.std.specs.Prelude.{◌<◌};
 
-use crate::ring::sim_ring::check_order;
+use crate::ring::sim_ring::picks_and_reads;
 use std::alloc::{AllocError, Global};
+use std::process::Abort;
 use std::test::Fail;
 
 /// A number below `limit` that looks random, and the next state.
@@ -58,16 +59,34 @@ fn plain_order(alloc: Global, order: &[u32], numbers: Vec<u32>) -> Result<Vec<u3
     Ok(taken)
 }
 
+/// Whether a random ring picks and reads as the plain list says. One that does not names itself by
+/// this number.
+fn compare<R: Abort + AllocGlobal>(rt: &R, state: &mut u64, ring: u32) -> Result<(), Fail> {
+    let alloc = rt.alloc();
+    let count = 1 + below(state, 8);
+    let order = random_order(alloc, state)?;
+    let expected = plain_order(alloc, order.as_slice(), all_below(alloc, count)?)?;
+    let Some((picked, read)) = picks_and_reads(rt, order, count)? else {
+        panic!(rt; "ring {ring}: a read is not picked, fails or is left pending")
+    };
+    assert_eq!(rt;
+        picked.as_slice(),
+        expected.as_slice(),
+        "ring {ring}: the picks"
+    );
+    assert_eq!(rt;
+        read.as_slice(),
+        expected.as_slice(),
+        "ring {ring}: the reads"
+    );
+    Ok(())
+}
+
 #[test]
 fn random_rings_complete_as_a_plain_list(rt: HostRuntime) -> Result<(), Fail> {
-    let alloc = rt.alloc();
     let mut state = 1;
-    for _ in 0..2000 {
-        let count = 1 + below(&mut state, 8);
-        let order = random_order(alloc, &mut state)?;
-        let expected = plain_order(alloc, order.as_slice(), all_below(alloc, count)?)?;
-        assert!(&rt; expected.len() <= 8);
-        check_order(&rt, order.as_slice(), expected.as_slice())?;
+    for ring in 0..2000 {
+        compare(&rt, &mut state, ring)?;
     }
     Ok(())
 }

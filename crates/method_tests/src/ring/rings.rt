@@ -6,7 +6,7 @@ ghost use Rattle.method_worker.specs.QueueViews.{IsSeatOf};
 
 use crate::ring::backends::{backends_of, seats_of};
 use crate::ring::reads::{read_and_wait, submit_and_push};
-use crate::ring::sim_ring::zeros_shelf;
+use crate::ring::sim_ring::{blocks_read, disk_of, shelf_of};
 use aio_callback::{NoPlaces, ReadIo};
 use aio_disk::{Disk, SteadyDisk};
 use aio_fixtures::close_with_two;
@@ -14,11 +14,9 @@ use aio_handle::{Actor, Execute, Table};
 use method_ring::{RingRoom, RingRunner, SimRing};
 use method_worker::{QueueSeat, SubmitQueue};
 use page_check::World;
-use page_fixtures::files::{blocks_read, open_disk};
 use read_fixtures::take_and_reclaim;
 use std::alloc::{AllocError, Global};
 use std::marker::Brand;
-use std::process::Abort;
 use std::sync::Wait;
 use std::test::Fail;
 
@@ -94,44 +92,65 @@ fn disk_in<'q, W: World, D: Disk>(runner: RingRunner<'q, SimRing<D>, NoPlaces, W
     ring.into_disk()
 }
 
-/// Two backends with a ring each over these disks, which come back: all five reads are the ring's of
-/// backend 1.
-fn two_backends<W: World, D: Disk, R: Abort + AllocGlobal + Wait>(
-    rt: &R,
+/// How many incarnations there were and how many of them backends have claimed, and the disks.
+#[derive(Drop)]
+struct RingRun<D> {
+    incarnations: u128,
+    by_backends: u128,
+    disks: (D, D),
+}
+
+/// Two backends with a ring each over these disks. None where not all reads were ready.
+fn two_backends<W: World, D: Disk, T: Wait>(
+    rt: &T,
+    alloc: Global,
     first: D,
     second: D,
-) -> Result<(D, D), Fail>
+) -> Result<Option<RingRun<D>>, AllocError>
     requires handles { W.handles ≡ 8 }
     requires second { (D.told second ≡ W.told) × (D.relations second ≡ W.relations) }
     requires some { 0 < W.relations }
 {
-    let alloc = rt.alloc();
     let (table, actors) = Table::<ReadIo, W>::open(alloc, 2, 4, 0, 0)?;
     let (queue, seats) = SubmitQueue::<W>::open(alloc, 3)?;
-    let (mut zero, mut one) = backends_of(&table, actors).ok_or("no backends")?;
-    let (mut seat, idle, busy) = seats_of(&queue, seats).ok_or("no seats")?;
+    let Some((mut zero, mut one)) = backends_of(&table, actors) else {
+        return Ok(None);
+    };
+    let Some((mut seat, idle, busy)) = seats_of(&queue, seats) else {
+        return Ok(None);
+    };
     let idle = runner_over(alloc, &queue, idle, first)?;
     let mut busy = runner_over(alloc, &queue, busy, second)?;
     if !four_and_one(
         rt, alloc, &table, &mut zero, &mut one, &queue, &mut seat, &mut busy,
     ) {
-        panic!(rt; "each read of backend 0 is ready")
+        return Ok(None);
     }
     let totals = close_with_two(alloc, table, zero, one)?;
-    assert_eq!(rt; (totals.incarnations(), totals.by_backends()), (5, 5));
-    Ok((disk_in(idle), disk_in(busy)))
+    Ok(Some(RingRun {
+        incarnations: totals.incarnations(),
+        by_backends: totals.by_backends(),
+        disks: (disk_in(idle), disk_in(busy)),
+    }))
 }
 
 #[test]
 fn one_backend_executes_the_ios_of_another(rt: HostRuntime) -> Result<(), Fail> {
-    let mut shelf = zeros_shelf(rt.alloc())?;
-    let first = open_disk(rt.alloc(), &mut shelf, &["f"])?;
-    let second = open_disk(rt.alloc(), &mut shelf, &["f"])?;
-    let (first, second) = two_backends::<Brand, SteadyDisk, _>(&rt, first, second)?;
+    let alloc = rt.alloc();
+    let mut shelf = shelf_of(&rt, 5)?;
+    let first = disk_of(&rt, &mut shelf)?;
+    let second = disk_of(&rt, &mut shelf)?;
+    let ran = two_backends::<Brand, SteadyDisk, _>(&rt, alloc, first, second)?;
+    let ran = ran.ok_or("each read of backend 0 is ready")?;
+    assert_eq!(&rt; ran.incarnations, 5);
+    assert_eq!(&rt; ran.by_backends, 5);
+    let (first, second) = ran.disks;
     shelf.take_back(first);
     assert_eq!(&rt; shelf.log().len(), 0);
     shelf.take_back(second);
-    let blocks = blocks_read(rt.alloc(), shelf.log(), 0)?;
-    assert_eq!(&rt; blocks.as_slice(), [0u32, 4, 3, 2, 1].as_slice());
+    assert_eq!(&rt;
+        blocks_read(alloc, &shelf)?.as_slice(),
+        [0u32, 4, 3, 2, 1].as_slice()
+    );
     Ok(())
 }

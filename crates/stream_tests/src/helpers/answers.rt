@@ -15,25 +15,6 @@ pub(crate) enum Answer {
     PastEnd(u32),
 }
 
-impl Answer {
-    /// The answer to a block that the file has: its page, or zeros in place of a damaged one.
-    pub(crate) fn of_block(block: u32, info: u32, is_damaged: bool) -> Answer {
-        if is_damaged {
-            Answer::Zeroed {
-                block,
-                info,
-                zeros: true,
-            }
-        } else {
-            Answer::Page {
-                block,
-                info,
-                shown: block,
-            }
-        }
-    }
-}
-
 pub(crate) fn answer_of(next: Next<'_, u32>) -> Answer {
     match next {
         Next::Page(page, block, info) => Answer::Page {

@@ -1,7 +1,7 @@
-//! What a stream reads and how, and what is to come of it.
+//! What a stream reads, and how.
 ghost use Rattle.std.specs.Prelude.{◌≤◌, IsTrue};
 
-use crate::helpers::answers::Answer;
+use page_fixtures::files::{Faults, STEADY};
 use read_stream::Settings;
 use std::alloc::{AllocError, Global};
 
@@ -39,13 +39,10 @@ impl Blocks<'_> {
 /// One stream over one file.
 #[derive(Clone, Copy)]
 pub(crate) struct Case<'a> {
-    pub name: &'a str,
     /// How many blocks the file has, and which of them is damaged.
     pub blocks: u32,
     pub damaged: Option<u32>,
-    /// The reads that fail, each with its disk, and how many pages the first reads give at most.
-    pub fails: &'a [(u32, u64)],
-    pub shorts: &'a [u32],
+    pub faults: Faults<'a>,
     /// The relation that the file is, 0 or 1. The other one has a single page, which is damaged.
     pub relation: u32,
     pub handles: u32,
@@ -59,16 +56,6 @@ pub(crate) struct Case<'a> {
     /// What an earlier stream reads.
     pub first: Blocks<'a>,
     pub list: Blocks<'a>,
-    /// For how many blocks of the list it gives a page, and what it answers from then on.
-    pub pages: u32,
-    pub end: Answer,
-    /// The reads of the disk, each by its first block and how many were asked for, as `0+16`. These
-    /// and what follows are compared where a case says so.
-    pub reads: Option<&'a str>,
-    /// How many I/Os the stream's actor took in.
-    pub taken: Option<u64>,
-    /// Of how many I/Os the method heard.
-    pub heard: Option<u64>,
 }
 
 pub(crate) const SETTINGS: Settings = Settings {
@@ -87,11 +74,9 @@ pub(crate) const FULL: Settings = Settings {
 };
 
 pub(crate) const CASE: Case<'static> = Case {
-    name: "",
     blocks: 0,
     damaged: None,
-    fails: &[],
-    shorts: &[],
+    faults: STEADY,
     relation: 0,
     handles: 16,
     frames: 128,
@@ -100,11 +85,6 @@ pub(crate) const CASE: Case<'static> = Case {
     between: None,
     first: Blocks::These(&[]),
     list: Blocks::These(&[]),
-    pages: 0,
-    end: Answer::End,
-    reads: None,
-    taken: None,
-    heard: None,
 };
 
 /// Whether a table, a pool and a desk may be opened so.

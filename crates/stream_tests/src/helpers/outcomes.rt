@@ -13,7 +13,7 @@ use aio_handle::Table;
 use buf_pool::Pool;
 use method_sync::Runner;
 use page_check::World;
-use page_fixtures::files::{Faults, STEADY, one_file, open_disk, shelf_of};
+use page_fixtures::files::{one_file, open_disk, shelf_of};
 use page_fixtures::pages::numbered_pages;
 use std::alloc::{AllocError, Global};
 use std::marker::Brand;
@@ -107,12 +107,7 @@ fn shelf_over(alloc: Global, case: &Case<'_>) -> Result<MemShelf, Fail> {
     )?;
     let other = numbered_pages(alloc, 1, Some(0))?;
     files.push((String::from_str(alloc, "other")?, other))?;
-    let faults = Faults {
-        reads: case.fails,
-        shorts: case.shorts,
-        ..STEADY
-    };
-    shelf_of(alloc, files, faults)
+    shelf_of(alloc, files, case.faults)
 }
 
 /// Makes so many calls of the case's stream.

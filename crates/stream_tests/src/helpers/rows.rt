@@ -1,56 +1,85 @@
-//! What comes of streams, beside what is to come.
+//! Rows: a stream, and what is to come of it.
 
 use crate::helpers::answers::Answer;
-use crate::helpers::cases::Case;
+use crate::helpers::cases::{CASE, Case};
 use crate::helpers::outcomes::run;
 use std::alloc::Global;
 use std::process::Abort;
 use std::sync::Wait;
 use std::test::Fail;
 
+/// A stream, what it answers, and what becomes of its reads, where a row says so.
+#[derive(Clone, Copy)]
+pub(crate) struct Row<'a> {
+    pub name: &'a str,
+    pub case: Case<'a>,
+    /// For how many blocks of the list it gives a page, and what it answers from then on.
+    pub pages: u32,
+    pub end: Answer,
+    /// The reads of the disk, each with its first block and how many were asked for.
+    pub reads: Option<&'a [(u32, u32)]>,
+    /// How many I/Os the stream's actor took in.
+    pub taken: Option<u64>,
+    /// Of how many I/Os the method heard.
+    pub heard: Option<u64>,
+}
+
+pub(crate) const ROW: Row<'static> = Row {
+    name: "",
+    case: CASE,
+    pages: 0,
+    end: Answer::End,
+    reads: None,
+    taken: None,
+    heard: None,
+};
+
 /// How often an ending is asked for.
 const ENDINGS: u32 = 2;
 
 // The first pages of the list, a damaged one as zeros, and then the ending.
-fn wanted(alloc: Global, case: &Case<'_>) -> Result<Vec<Answer>, Fail> {
-    let list = case.list.list(alloc)?;
+fn wanted(alloc: Global, row: &Row<'_>) -> Result<Vec<Answer>, Fail> {
+    let list = row.case.list.list(alloc)?;
     let mut all = Vec::new(alloc);
-    for (block, info) in list.iter().take(case.pages as usize) {
-        all.push(Answer::of_block(*block, *info, case.damaged == Some(*block)))?;
+    for (block, info) in list.iter().take(row.pages as usize) {
+        let (block, info) = (*block, *info);
+        all.push(if row.case.damaged == Some(block) {
+            Answer::Zeroed {
+                block,
+                info,
+                zeros: true,
+            }
+        } else {
+            Answer::Page {
+                block,
+                info,
+                shown: block,
+            }
+        })?;
     }
     for _ in 0..ENDINGS {
-        all.push(case.end)?;
+        all.push(row.end)?;
     }
     Ok(all)
 }
 
-// The reads as a case has them.
-fn reads_text(alloc: Global, reads: &[(u32, u32)]) -> Result<String, Fail> {
-    let mut text = String::new(alloc);
-    for (first, asked) in reads {
-        let space = if text.is_empty() { "" } else { " " };
-        write!(text, "{space}{first}+{asked}")?;
-    }
-    Ok(text)
-}
-
-/// Compares what comes of each case's stream with what is to come.
-pub(crate) fn check_cases<R: Abort + AllocGlobal + Wait>(
+/// Compares what comes of each row's stream with what is to come.
+pub(crate) fn check_rows<R: Abort + AllocGlobal + Wait>(
     rt: &R,
-    cases: &[Case<'_>],
+    rows: &[Row<'_>],
 ) -> Result<(), Fail> {
-    for case in cases {
-        let name = case.name;
-        let ran = run(rt, case, case.pages.saturating_add(ENDINGS))?;
-        assert_eq!(rt; ran.all, wanted(rt.alloc(), case)?, "{name}");
-        if let Some(reads) = case.reads {
-            let made = reads_text(rt.alloc(), ran.reads.as_slice())?;
-            assert_eq!(rt; made.as_str(), reads, "{name}: reads");
+    for row in rows {
+        let name = row.name;
+        let ran = run(rt, &row.case, row.pages.saturating_add(ENDINGS))?;
+        let all = wanted(rt.alloc(), row)?;
+        assert_eq!(rt; ran.all.as_slice(), all.as_slice(), "{name}");
+        if let Some(reads) = row.reads {
+            assert_eq!(rt; ran.reads.as_slice(), reads, "{name}: reads");
         }
-        if let Some(taken) = case.taken {
+        if let Some(taken) = row.taken {
             assert_eq!(rt; ran.taken, taken, "{name}: I/Os taken in");
         }
-        if let Some(heard) = case.heard {
+        if let Some(heard) = row.heard {
             assert_eq!(rt; ran.heard, heard, "{name}: I/Os of which the method heard");
         }
     }
