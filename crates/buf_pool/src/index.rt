@@ -18,14 +18,9 @@ use crate::descriptor::{Descriptor, Tag};
 use crate::strategy::{Clock, FrameKind, FreeFrames, find_round};
 use crate::table::{TagTable, find};
 use aio_word::WaitRef;
-use circular_buffer::HeapCircularBuffer;
 use page_check::World;
 use std::alloc::{AllocError, Global};
 use std::marker::{Model, PhantomData};
-
-// How many frames the ring of an index has. A part of the pool has at least 16 frames, so that the
-// rings of all parts have at most an eighth of the pool's, as in `GetAccessStrategyWithSize`.
-const RING_FRAMES: usize = 2;
 
 /// What the index has of a tag.
 #[derive(Clone, Copy, Debug, PartialEq, Eq)]
@@ -94,11 +89,7 @@ impl<W: World> PoolIndex<W> {
                 slots: Vec::from_elem(alloc, None, 4 * count)?,
                 left: 4 * count,
             },
-            clock: Clock {
-                used: Vec::from_elem(alloc, false, count)?,
-                hand: 0,
-                ring: HeapCircularBuffer::with_capacity(alloc, RING_FRAMES)?,
-            },
+            clock: Clock::open(alloc, count)?,
             free: FreeFrames { count, start: 0 },
             marker: PhantomData,
         })
@@ -168,14 +159,14 @@ impl<W: World> PoolIndex<W> {
         self.table.add(&self.frames, tag, frame);
     }
 
-    // A frame for a new entry.
-    fn choose_frame(&mut self) -> Option<u32>
+    // A frame for a new entry, which awaits a page by the I/O of the reference.
+    fn choose_frame(&mut self, reference: WaitRef) -> Option<u32>
         ensures frames { self.new ≡ self.old }
         ensures lawful { PoolLawful W.handles self.new }
         ensures found { MatchOption result (IsFull self.old) (λ f. IsVictim self.old f) }
     {
         if self.free.count == 0 {
-            self.clock.victim(&self.frames)
+            self.clock.victim(&self.frames, reference)
         } else {
             find_round(&self.frames, self.free.start, FrameKind::FreeFrame)
         }
@@ -228,7 +219,7 @@ impl<W: World> PoolIndex<W> {
             Look::Busy(holder) => return Begun::Busy(holder),
             Look::Absent => {}
         }
-        let Some(frame) = self.choose_frame() else {
+        let Some(frame) = self.choose_frame(reference) else {
             return Begun::NoRoom;
         };
         self.begin_entry(frame, tag, reference);

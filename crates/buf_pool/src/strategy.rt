@@ -1,11 +1,13 @@
 //! Which frame is taken for a new entry.
-ghost use Rattle.std.specs.Prelude.{◌≡◌, ℕ, ◌+◌, ◌<◌, ◌≤◌, length, true, IfSome, if◌then◌else◌};
+ghost use Rattle.std.specs.Prelude.{◌≡◌, ℕ, ◌+◌, ◌<◌, ◌≤◌, length, true, IfSome, IfOk};
+ghost use Rattle.std.specs.Prelude.{if◌then◌else◌};
 ghost use Rattle.buf_pool.specs.Frames.{descriptor_at, is_free, is_unpinned};
 ghost use Rattle.buf_pool.specs.FrameSearch.{is_of_kind, IsSearchAnswer};
 ghost use Rattle.buf_pool.specs.IndexInvariant.{IsClock};
 
 use crate::descriptor::Descriptor;
-use circular_buffer::HeapCircularBuffer;
+use aio_word::WaitRef;
+use std::alloc::{AllocError, Global};
 
 /// What a search over the frames looks for.
 #[derive(Clone, Copy)]
@@ -71,24 +73,65 @@ impl FreeFrames {
     }
 }
 
+// How many rings an index has.
+const RINGS: usize = 8;
+
+// How many neighbouring handles share a ring: as many as a backend has by default.
+const HANDLES_OF_A_RING: u32 = 16;
+
+/// The frames that reads took last in place of a page, as `BufferAccessStrategy` of `freelist.c`. A
+/// part of the pool has at least 16 frames, so that a ring in each part has at most an eighth of the
+/// pool's, as in `GetAccessStrategyWithSize`.
+#[derive(Clone, Copy)]
+pub(crate) struct Ring {
+    older: Option<u32>,
+    newer: Option<u32>,
+}
+
+impl Ring {
+    // A ring of no frames.
+    fn new() -> Ring {
+        Ring {
+            older: None,
+            newer: None,
+        }
+    }
+
+    // The frame takes the place of the older one.
+    fn push(&mut self, frame: u32) {
+        self.older = self.newer;
+        self.newer = Some(frame);
+    }
+}
+
 /// Which frame is taken where none is free, after `freelist.c`: the hand of the clock sweep, and a
 /// mark of each frame whose page was looked up since the hand passed it, where PostgreSQL counts up
 /// to 5.
 ///
-/// All reads here are bulk reads, so they have a ring: a page that nobody has looked up gives its
-/// frame to the next read. A long scan then leaves the other frames as they are, and its own stay
-/// in the processor's cache.
+/// All reads here are bulk reads, so each backend's have a ring: a page that nobody has looked up
+/// gives its frame to the next read. A long scan then leaves the other frames as they are, and its
+/// own stay in its processor's cache.
 #[derive(Drop)]
 pub(crate) struct Clock {
     pub(crate) used: Vec<bool>,
     pub(crate) hand: usize,
-    /// The frames that reads took last in place of a page, the longest ago first.
-    pub(crate) ring: HeapCircularBuffer<u32>,
+    rings: [Ring; RINGS],
 }
 
 impl Clock {
-    /// Marks the frame, whose page was looked up. A mark that stands is not written again: the frames' marks share
-    /// lines of the processors' caches.
+    /// The clock of so many frames, none of which was looked up.
+    pub(crate) fn open(alloc: Global, frames: usize) -> Result<Clock, AllocError>
+        ensures { IfOk result (λ c. (length c.used.items ≡ frames) × (c.hand ≡ 0)) }
+    {
+        Ok(Clock {
+            used: Vec::from_elem(alloc, false, frames)?,
+            hand: 0,
+            rings: [Ring::new(); RINGS],
+        })
+    }
+
+    /// Marks the frame, whose page was looked up. A mark that stands is not written again: the
+    /// frames' marks share lines of the processors' caches.
     pub(crate) fn touch(&mut self, frame: usize)
         requires { frame < length self.old.used.items }
         ensures size { length self.new.used.items ≡ length self.old.used.items }
@@ -122,16 +165,13 @@ impl Clock {
         None
     }
 
-    // The oldest frame of a full ring, where nobody looked up its page, as `GetBufferFromRing`.
-    fn from_ring(&self, frames: &[Descriptor]) -> Option<u32>
+    // The older frame of a ring, where nobody looked up its page, as `GetBufferFromRing`.
+    fn from_ring(&self, frames: &[Descriptor], older: Option<u32>) -> Option<u32>
         requires clock { IsClock self.now.used.items self.now.hand frames.now }
         ensures found { IfSome result
             (λ f. (f < length frames.now) × (is_unpinned (descriptor_at frames.now f) ≡ true)) }
     {
-        if !self.ring.is_full() {
-            return None;
-        }
-        let frame = *self.ring.front()?;
+        let frame = older?;
         let at = frame as usize;
         if at < frames.len() && frames[at].is_unpinned() && !self.used[at] {
             Some(frame)
@@ -154,19 +194,20 @@ impl Clock {
         find_round(frames, self.hand, FrameKind::UnpinnedFrame)
     }
 
-    /// A frame with a page that has no pin: that of the ring, else that of the sweep, which then
-    /// takes the oldest place of the ring.
-    pub(crate) fn victim(&mut self, frames: &[Descriptor]) -> Option<u32>
+    /// A frame for a read by the I/O of the reference, with a page that has no pin: that of the
+    /// ring of its handle, else that of the sweep, which then takes a place of the ring.
+    pub(crate) fn victim(&mut self, frames: &[Descriptor], reference: WaitRef) -> Option<u32>
         requires clock { IsClock self.old.used.items self.old.hand frames.now }
         requires size { length frames.now ≤ 16384 }
         ensures clock { IsClock self.new.used.items self.new.hand frames.now }
         ensures found { IsSearchAnswer is_unpinned frames.now result }
     {
-        let frame = match self.from_ring(frames) {
+        let ring = (reference.handle / HANDLES_OF_A_RING) as usize % RINGS;
+        let frame = match self.from_ring(frames, self.rings[ring].older) {
             Some(frame) => frame,
             None => self.from_sweep(frames)?,
         };
-        self.ring.push_back(frame);
+        self.rings[ring].push(frame);
         Some(frame)
     }
 }

@@ -138,15 +138,15 @@ fn blocks_replace_each_other(rt: HostRuntime) -> Result<(), AllocError> {
     read_through::<Brand, _>(&rt)
 }
 
-/// Reads blocks of relation 0 one after the other; whether each found a frame.
-fn reads_all<W: World>(index: &mut PoolIndex<W>, first: u32, count: u32) -> bool
-    requires range { 0 < W.handles }
+/// Reads blocks of relation 0 one after the other by the handle; whether each found a frame.
+fn reads_all<W: World>(index: &mut PoolIndex<W>, handle: u32, first: u32, count: u32) -> bool
+    requires range { handle < W.handles }
     requires blocks { first + count < 2 ^ 32 }
 {
     for block in first..first + count {
         let tag = Tag { relation: 0, block };
-        let begun = matches!(index.begin(tag, reference(0)), Begun::Yes(_));
-        if !begun || index.end(tag, reference(0), true).is_none() {
+        let begun = matches!(index.begin(tag, reference(handle)), Begun::Yes(_));
+        if !begun || index.end(tag, reference(handle), true).is_none() {
             return false;
         }
     }
@@ -166,6 +166,13 @@ fn has<W: World>(index: &PoolIndex<W>, block: u32) -> bool {
     matches!(index.look(Tag { relation: 0, block }), Look::Hit(_))
 }
 
+/// Whether the page of each block is there, as the rows have it.
+fn check_pages<W: World, R: Abort>(rt: &R, index: &PoolIndex<W>, rows: &[(u32, bool)]) {
+    for &(block, there) in rows {
+        assert_eq!(rt; has(index, block), there, "block {block}");
+    }
+}
+
 /// Reads 16 blocks and two more, uses these two and block 2, and reads another one. The frames of the
 /// ring are in use, and the hand of the clock has passed blocks 0 and 1. It takes block 3, since
 /// block 2 was used.
@@ -173,14 +180,12 @@ fn replace_three<W: World, R: Abort + AllocGlobal>(rt: &R) -> Result<(), AllocEr
     requires { W.handles ≡ 2 }
 {
     let mut index: PoolIndex<W> = PoolIndex::open(rt.alloc(), 16)?;
-    assert!(rt; reads_all(&mut index, 0, 18));
+    assert!(rt; reads_all(&mut index, 0, 0, 18));
     for block in [16, 17, 2] {
         assert!(rt; uses(&mut index, block), "block {block}");
     }
-    assert!(rt; reads_all(&mut index, 18, 1));
-    for (block, there) in [(0, false), (1, false), (2, true), (3, false)] {
-        assert_eq!(rt; has(&index, block), there, "block {block}");
-    }
+    assert!(rt; reads_all(&mut index, 0, 18, 1));
+    check_pages(rt, &index, &[(0, false), (1, false), (2, true), (3, false)]);
     Ok(())
 }
 
@@ -195,7 +200,7 @@ fn replace_by_ring<W: World, R: Abort + AllocGlobal>(rt: &R) -> Result<(), Alloc
     requires { W.handles ≡ 2 }
 {
     let mut index: PoolIndex<W> = PoolIndex::open(rt.alloc(), 16)?;
-    assert!(rt; reads_all(&mut index, 0, 20));
+    assert!(rt; reads_all(&mut index, 0, 0, 20));
     let rows = [
         (0, false),
         (1, false),
@@ -204,13 +209,39 @@ fn replace_by_ring<W: World, R: Abort + AllocGlobal>(rt: &R) -> Result<(), Alloc
         (18, true),
         (19, true),
     ];
-    for (block, there) in rows {
-        assert_eq!(rt; has(&index, block), there, "block {block}");
-    }
+    check_pages(rt, &index, &rows);
     Ok(())
 }
 
 #[test]
 fn a_page_that_nobody_looks_up_is_the_next_to_go(rt: HostRuntime) -> Result<(), AllocError> {
     replace_by_ring::<Brand, _>(&rt)
+}
+
+/// Reads 16 blocks, and then two by a handle of each of two backends. These take the frames of
+/// blocks 0 to 3. Another read of each backend takes the frame of its own first page.
+fn replace_by_two_rings<W: World, R: Abort + AllocGlobal>(rt: &R) -> Result<(), AllocError>
+    requires { W.handles ≡ 32 }
+{
+    let mut index: PoolIndex<W> = PoolIndex::open(rt.alloc(), 16)?;
+    assert!(rt; reads_all(&mut index, 0, 0, 18));
+    assert!(rt; reads_all(&mut index, 16, 18, 2));
+    check_pages(
+        rt,
+        &index,
+        &[(1, false), (3, false), (4, true), (16, true), (18, true)],
+    );
+    assert!(rt; reads_all(&mut index, 15, 20, 1));
+    assert!(rt; reads_all(&mut index, 31, 21, 1));
+    check_pages(
+        rt,
+        &index,
+        &[(4, true), (16, false), (17, true), (18, false), (19, true)],
+    );
+    Ok(())
+}
+
+#[test]
+fn each_backend_takes_the_frames_of_its_own_ring(rt: HostRuntime) -> Result<(), AllocError> {
+    replace_by_two_rings::<Brand, _>(&rt)
 }

@@ -22,7 +22,6 @@ pub mod WantedBlocks
 pub mod StreamInvariantLaws
 pub mod QueueFront
 pub mod SameQueueKeepsUnderway
-pub mod PlanChangeKeepsUnderway
 pub mod BlockAtHand
 pub mod FreeRecords
 pub mod StartKeepsUnderway

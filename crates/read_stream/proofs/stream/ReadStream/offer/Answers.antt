@@ -5,7 +5,7 @@ use Rattle.read_plan.specs.declared.runs.Run.{Run}
 use Rattle.read_stream.specs.declared.stream.ReadStream.{ReadStream}
 use Rattle.read_stream.specs.WantedBlocks.{pending_blocks}
 use Rattle.read_stream.specs.PagesAtHand.{record_blocks_left}
-use Rattle.read_stream.proofs.PlanChangeKeepsUnderway.{underway_plan}
+use Rattle.read_stream.proofs.SameQueueKeepsUnderway.{underway_plan}
 use Rattle.read_stream.proofs.FreeRecords.{may_start}
 use Rattle.read_stream.proofs.StartKeepsUnderway.{underway_started}
 use Rattle.read_stream.proofs.WantedBlocks.{run_blocks_out, none_out, offer_keeps_blocks}

@@ -7,8 +7,7 @@ use Rattle.read_stream.proofs.ReadsMatchRuns.{reads-later}
 use Rattle.read_stream.proofs.ActorAdvancedLaws.{advanced_taking_up}
 use Rattle.read_stream.proofs.ContextAdvancedLaws.{context_advanced_by}
 use Rattle.read_stream.proofs.SubmitKeepsIssued.{issued-taking-up}
-use Rattle.read_stream.proofs.SameQueueKeepsUnderway.{underway_reads}
-use Rattle.read_stream.proofs.PlanChangeKeepsUnderway.{underway_plan}
+use Rattle.read_stream.proofs.SameQueueKeepsUnderway.{underway_plan, underway_reads}
 use Rattle.read_stream.proofs.stream.ReadStream.wait_for.Goals as goal
 
 pub returns-clause-context_advanced : goal.returns-clause-context_advanced
