@@ -1,5 +1,5 @@
 -- What was made of the parts of a new scan.
-use Rattle.std.proofs.Common.{◌≡◌, ℕ, ◌+◌, ◌-◌, ◌^◌, ◌<◌, ◌≤◌, List, [], length, map, refl, sym, ap}
+use Rattle.std.proofs.Common.{◌≡◌, ℕ, ◌+◌, ◌-◌, ◌^◌, ◌<◌, ◌≤◌, List, [], length, refl, sym, ap}
 use Rattle.std.proofs.Common.{◌∙◌, subst, arith}
 use Rattle.std.specs.Prelude.{Option, IfSome, Bool, vec_capacity, is_some, cond}
 use Rattle.std.specs.List.{All}
@@ -7,26 +7,25 @@ use Rattle.std.specs.Vec.Iter.{into_iter_items}
 use Rattle.page_check.specs.Told.{Told}
 use Rattle.aio_word.specs.declared.Config.{Config}
 use Rattle.aio_handle.specs.ContractViews.{AreNewActors}
-use Rattle.method_worker.specs.QueueViews.{SeatView, IsSeatOf}
+use Rattle.method_worker.specs.QueueViews.{IsSeatOf}
 use Rattle.aio_disk.specs.declared.disk.Disk.{Ghosts as DiskGhosts}
 use Rattle.scan_rounds.specs.ListOptions.{list_options}
 use Rattle.scan_rounds.specs.OpenedScan.{AreValidScanSettings, GivesBackends, GivesWorkers}
 use Rattle.scan_rounds.specs.OpenedScan.{IsDeskFor, IsOpenedScan, config_of, needs_of_method}
 use Rattle.scan_rounds.specs.OpenedScan.{rings_of_settings, seats_of_settings, workers_of_settings}
 use Rattle.scan_rounds.specs.Rings.{IsRingOf}
-use Rattle.scan_rounds.specs.Rounds.{IsLeastRoom, backend_disk_actor, worker_disk_actor}
-use Rattle.scan_rounds.specs.Scans.{IsScan, scan_disk_actors, scan_options, opened_disks}
+use Rattle.scan_rounds.specs.Rounds.{IsLeastRoom}
+use Rattle.scan_rounds.specs.Scans.{IsScan, scan_options, opened_disks}
 use Rattle.scan_rounds.specs.declared.backend.Backend.{Backend}
 use Rattle.scan_rounds.specs.declared.open.Parts.{Parts}
-use Rattle.scan_rounds.specs.declared.ring.IdleRingState.{IdleRingState}
+use Rattle.scan_rounds.specs.declared.worker.Worker.{Worker}
 use Rattle.scan_rounds.specs.declared.scan.Scan.{Scan}
 use Rattle.scan_rounds.specs.declared.settings.ScanSettings.{ScanSettings}
-use Rattle.scan_rounds.proofs.PartsGiven.{desk_in, seat_in, disk_actors_more}
-use Rattle.scan_rounds.proofs.ListFront.{front_all, each_had}
-use Rattle.scan_rounds.proofs.NewDiskActors.{AreFresh, disk_actors_fresh, many_disk_actors}
-use Rattle.scan_rounds.proofs.NewDiskActors.{rooms_of_new, none_taken, paid_of_new, backends_of_new}
+use Rattle.scan_rounds.proofs.PartsGiven.{all_at, some_at, behind, disk_actor_behind}
+use Rattle.scan_rounds.proofs.NewDiskActors.{AreNewDiskActors, new_disk_actor, rooms_of_new}
+use Rattle.scan_rounds.proofs.NewDiskActors.{none_taken, paid_of_new, backends_of_new}
 use Rattle.scan_rounds.proofs.NewDiskActors.{workers_of_new}
-use Rattle.scan_rounds.proofs.SeatsAndRings.{beside_workers, taken_by}
+use Rattle.scan_rounds.proofs.SeatsAndRings.{beside_workers, has_wanted}
 
 same_options : {a b c d : Bool} → a ≡ b → c ≡ d → list_options a c ≡ list_options b d
 same_options same also = rw (same, also) refl
@@ -61,13 +60,22 @@ module _ {W D : Type 0} where
   module _ (settings : ScanSettings) (start : ℕ) (s : Scan W D) (p q r : Parts W D)
       (ranges : AreValidScanSettings settings) (early : start < 2 ^ 58)
       (made : IsMadeOf settings start s p q r) where
-    all_fresh : AreFresh s.shared.table (opened_disks s) (scan_disk_actors s)
-    all_fresh =
-        let P : List D → Type 0 = λ ds. AreFresh s.shared.table ds (scan_disk_actors s) in
-        subst P (sym made.opened)
-        (disk_actors_fresh s.shared.table p r (scan_disk_actors s) made.actors
-        (disk_actors_more p q r (map backend_disk_actor s.backends.items)
-        (map worker_disk_actor s.workers.items) made.backends.disk_actors made.workers.disk_actors))
+    all_new : AreNewDiskActors s.shared.table (opened_disks s) s.backends.items s.workers.items
+    all_new =
+        let bs = s.backends.items in
+        let t = s.shared.table in
+        let count = made.backends_are in
+        let others = made.workers_are in
+        let disks = made.disks_are in
+        let P : List D → Type 0 = λ ds. AreNewDiskActors t ds bs s.workers.items in
+        subst P (sym made.opened) record {
+          of_backends = λ k b lt. new_disk_actor t p k _ made.actors
+              (omega (arith, lt, count, disks)) (made.backends.each k b lt).disk_actor;
+          of_workers = λ k w lt. new_disk_actor t p (length bs + k) _ made.actors
+              (omega (arith, lt, count, others, disks))
+              (disk_actor_behind p q r (length bs) made.backends.left_are.others k (length bs + k)
+              _ refl (made.workers.each k w lt).disk_actor);
+        }
 
     backends_as_said : s.shared.table.config.backends ≡ length s.backends.items
     backends_as_said =
@@ -81,42 +89,44 @@ module _ {W D : Type 0} where
         let each = ap (λ (c : Config). c.per_backend) made.config in
         let range = ranges.handles_in_range.0 in omega (arith, each, range)
 
-    disks_as_many : length (opened_disks s) ≡ length (scan_disk_actors s)
+    disks_as_many : length (opened_disks s) ≡ length s.backends.items + length s.workers.items
     disks_as_many =
-        let many = many_disk_actors s.backends.items s.workers.items in
         let disks = ap length made.opened ∙ made.disks_are in
         let backends = made.backends_are in
-        let workers = made.workers_are in omega (arith, many, disks, backends, workers)
+        let workers = made.workers_are in omega (arith, disks, backends, workers)
 
     all_seats : All (λ (b : Backend W D). IfSome b.seat (IsSeatOf s.shared.queue)) s.backends.items
-        × All (IsSeatOf s.shared.queue) (into_iter_items q.seats)
-    all_seats =
-        let P : List SeatView → Type 0 = λ l. All (IsSeatOf s.shared.queue) l in
-        each_had (λ (b : Backend W D). b.seat) (IsSeatOf s.shared.queue) s.backends.items
-        (into_iter_items q.seats) (subst P made.backends.seats made.seats)
+    all_seats k b lt = some_at (IsSeatOf s.shared.queue) (into_iter_items p.seats) k _ made.seats
+        (made.backends.each k b lt).seat
+
+    worker_seats : All (λ (w : Worker W D). IsSeatOf s.shared.queue w.seat) s.workers.items
+    worker_seats k w lt =
+        let n : ℕ = length s.backends.items in
+        all_at (IsSeatOf s.shared.queue) (into_iter_items p.seats) (n + k) _ made.seats
+        (behind _ _ n k (n + k) _ made.backends.left_are.others.seats refl
+        (made.workers.each k w lt).seat)
 
     all_rings : All (λ (b : Backend W D). IfSome b.ring (IsRingOf s.shared.queue)) s.backends.items
-    all_rings =
-        let P : List (IdleRingState W) → Type 0 = λ l. All (IsRingOf s.shared.queue) l in
-        (each_had (λ (b : Backend W D). b.ring) (IsRingOf s.shared.queue) s.backends.items
-        (into_iter_items q.rings) (subst P made.backends.rings made.rings)).0
+    all_rings k b lt = some_at (IsRingOf s.shared.queue) (into_iter_items p.rings) k _ made.rings
+        (made.backends.each k b lt).ring
 
     all_desks : All (λ (b : Backend W D). IsDeskFor settings b.desk) s.backends.items
-    all_desks = front_all (IsDeskFor settings) desk_in s.backends.items (into_iter_items p.desks)
-        (into_iter_items q.desks) made.backends.desks made.desks
+    all_desks k b lt = all_at (IsDeskFor settings) (into_iter_items p.desks) k _ made.desks
+        (made.backends.each k b lt).desk
 
     all_seated : All (λ (b : Backend W D). is_some b.seat
         ≡ (needs_of_method settings.method).queue) s.backends.items
-    all_seated = taken_by (λ (b : Backend W D). b.seat) s.backends.items _ _
-        (needs_of_method settings.method).queue (workers_of_settings settings) made.backends.seats
-        made.backends.seats_left (rw made.backends_are made.seats_are)
+    all_seated k b lt = has_wanted (into_iter_items p.seats) k _
+        (needs_of_method settings.method).queue settings.backends (workers_of_settings settings)
+        (made.backends.each k b lt).seat (rw (← made.backends_are) lt) made.seats_are
 
     all_ringed : All (λ (b : Backend W D). is_some b.ring
         ≡ (needs_of_method settings.method).rings) s.backends.items
-    all_ringed = taken_by (λ (b : Backend W D). b.ring) s.backends.items _ _
-        (needs_of_method settings.method).rings 0 made.backends.rings made.backends.rings_left
-        (let many = made.backends_are in let none : length s.backends.items + 0
-        ≡ settings.backends = omega arith in rw none made.rings_are)
+    all_ringed k b lt =
+        let none : settings.backends + 0 ≡ settings.backends = omega arith in
+        has_wanted (into_iter_items p.rings) k _ (needs_of_method settings.method).rings
+        settings.backends 0 (made.backends.each k b lt).ring (rw (← made.backends_are) lt)
+        (rw none made.rings_are)
 
     module _ (m : DiskGhosts D) (told : Option Told) (relations : ℕ)
         (tell : All (λ d. (m.told d ≡ told) × (m.relations d ≡ relations)) (opened_disks s)) where
@@ -131,7 +141,7 @@ module _ {W D : Type 0} where
           let others = made.workers_are in
           let range = ranges.backends_in_range.0 in
           let begun : t.config.start ≡ start = ap (λ (c : Config). c.start) made.config in
-          let rooms = rooms_of_new t (opened_disks s) bs ws all_fresh (omega (arith, few, range))
+          let rooms = rooms_of_new t (opened_disks s) bs ws all_new (omega (arith, few, range))
           (omega (arith, backends)) some_handles (omega (arith, begun, early)) in
           let same = ap (λ (n : ℕ). 2 ^ 58 - 1 - n) begun ∙ sym made.room in
           let none = made.unread in
@@ -143,20 +153,18 @@ module _ {W D : Type 0} where
             workers_are = workers;
             some = omega (arith, few, range);
             all_backends = backends_of_new t (opened_disks s)
-                bs ws all_fresh m told relations tell s.shared.queue (omega (arith, backends))
-                (λ k b lt. (all_desks k b lt).free) all_seats.0
+                bs ws all_new m told relations tell s.shared.queue (omega (arith, backends))
+                (λ k b lt. (all_desks k b lt).free) all_seats
                 (λ some k b lt. all_seated k b lt ∙ beside_workers (needs_of_method settings.method).queue
                 (cond (needs_of_method settings.method).workers settings.workers 0)
                 (let runners = ap (λ (c : Config). c.runners) made.config in
                 omega (arith, some, runners))) all_rings;
-            all_workers = workers_of_new t (opened_disks s) bs ws all_fresh m told relations tell
-                s.shared.queue (omega (arith, backends))
-                (front_all (IsSeatOf s.shared.queue) seat_in ws (into_iter_items q.seats)
-                (into_iter_items r.seats) made.workers.seats all_seats.1);
-            counters_are = paid_of_new t (opened_disks s) bs ws all_fresh m told relations
+            all_workers = workers_of_new t (opened_disks s) bs ws all_new m told relations tell
+                s.shared.queue (omega (arith, backends)) worker_seats;
+            counters_are = paid_of_new t (opened_disks s) bs ws all_new m told relations
                 disks_as_many;
             all_have_options = λ k b lt. same_options (all_desks k b lt).streams.zero
-                (made.backends.all_tuples k b lt) ∙ sym made.options_are;
+                (made.backends.each k b lt).tuples_are ∙ sym made.options_are;
             room = subst P same rooms;
             few_unread = omega (arith, none);
             jobs_suffice = omega (arith, jobs, few);
@@ -182,7 +190,7 @@ module _ {W D : Type 0} where
           };
           opened = same;
           no_results = none_taken s.shared.table (opened_disks s) s.backends.items s.workers.items
-              all_fresh;
+              all_new;
           room = made.room;
           unread = made.unread;
           options_are = made.options_are;

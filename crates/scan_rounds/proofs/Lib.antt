@@ -23,7 +23,6 @@ mod ResultsMatchExecutions
 mod DisksCountForActors
 mod TotalsMatchDisks
 mod PartsGiven
-mod ListFront
 mod NewDiskActors
 mod SeatsAndRings
 mod AssembledScan

@@ -1,12 +1,13 @@
 -- New actors with their disks.
-use Rattle.std.proofs.Common.{◌≡◌, ℕ, ◌+◌, ◌-◌, ◌*◌, ◌^◌, ◌<◌, ◌≤◌, List, [], ◌++◌, length, map}
-use Rattle.std.proofs.Common.{refl, sym, ap, ◌∙◌, subst, arith, length-append, zero}
-use Rattle.std.specs.Prelude.{Option, Some, IfSome, is_some, slice_index_or, true}
+use Rattle.std.proofs.Common.{◌≡◌, ℕ, zero, suc, ◌+◌, ◌-◌, ◌*◌, ◌^◌, ◌<◌, ◌≤◌, List, [], ◌∷◌, ◌++◌}
+use Rattle.std.proofs.Common.{length, map, sym, ap, ◌∙◌, subst, arith, length-append}
+use Rattle.std.specs.Prelude.{Option, IfSome, is_some, slice_get, slice_index_or, true}
 use Rattle.std.specs.List.{All, AllZip}
 use Rattle.std.specs.Vec.Iter.{into_iter_items}
 use Rattle.std.proofs.Math.Nat.{mul-lt-mul_of_pos_right, mul-div_cancel}
-use Rattle.std.proofs.lemmas.List.{get_or-append-add, get_or-map, length-map}
+use Rattle.std.proofs.lemmas.List.{length-map}
 use Rattle.std.proofs.lemmas.List.Sums.{sum_by-le}
+use Rattle.std.proofs.lemmas.Option.{get_or_from_slice_get, slice_get-get_or, slice_get_within}
 use Rattle.page_check.specs.Told.{Told}
 use Rattle.aio_word.specs.Events.{handle_count, owner}
 use Rattle.aio_word.specs.Words.{last_generation}
@@ -18,17 +19,16 @@ use Rattle.read_stream.specs.Desks.{IsFreeDesk}
 use Rattle.read_stream.specs.ActorProgress.{local_mark_count}
 use Rattle.aio_disk.specs.declared.disk.Disk.{Ghosts as DiskGhosts}
 use Rattle.scan_rounds.specs.DiskActors.{ActorHasRoom, IsDiskActor, IsBackend, IsWorker}
-use Rattle.scan_rounds.specs.OpenedScan.{GivesDiskActors}
+use Rattle.scan_rounds.specs.OpenedScan.{IsDiskActorOf}
 use Rattle.scan_rounds.specs.Rings.{IsRingOf}
 use Rattle.scan_rounds.specs.Rounds.{IsLeastRoom, backend_disk_actor, worker_disk_actor}
 use Rattle.scan_rounds.specs.Rounds.{results_taken_count}
-use Rattle.scan_rounds.specs.Scans.{DiskCountersFollowMarks, actor_of, disk_of}
+use Rattle.scan_rounds.specs.Scans.{DiskCountersFollowMarks}
 use Rattle.scan_rounds.specs.declared.backend.Backend.{Backend}
 use Rattle.scan_rounds.specs.declared.disk_actor.DiskActor.{DiskActor}
 use Rattle.scan_rounds.specs.declared.open.Parts.{Parts}
 use Rattle.scan_rounds.specs.declared.worker.Worker.{Worker}
-use Rattle.scan_rounds.proofs.PartsGiven.{actors_left, disks_left}
-use Rattle.scan_rounds.proofs.ListFront.{front, one_there}
+use Rattle.scan_rounds.proofs.PartsGiven.{all_at, there}
 use Rattle.scan_rounds.proofs.ListPairs.{zip-each}
 
 abbrev pub fresh : TableView → ℕ → ActorView
@@ -70,50 +70,56 @@ pays_nothing reads faults = record {
 }
 
 module _ {W D : Type 0} where
-  -- they have new actors, in the order of their numbers, and these disks
-  pub record AreFresh (t : TableView) (ds : List D) (hs : List (DiskActor W D)) : Type 0 where
-    pub as_many : length hs ≤ length ds
-    pub actors : (k : ℕ) (h : DiskActor W D) → k < length hs
-        → (slice_index_or hs k h).actor ≡ fresh t k
-    pub disks : (k : ℕ) (o : D) (h : DiskActor W D) → k < length hs
-        → (slice_index_or hs k h).disk ≡ Some (slice_index_or ds k o)
+  -- it has the new actor and the disk of this number
+  pub record IsNewDiskActor (t : TableView) (ds : List D) (k : ℕ) (h : DiskActor W D) : Type 0 where
+    pub actor : h.actor ≡ fresh t k
+    pub disk : slice_get ds k ≡ h.disk
+    pub within : k < length ds
 
-  pub disk_actors_fresh : (t : TableView) (p r : Parts W D) (hs : List (DiskActor W D))
-      → AreNewActors t 0 (into_iter_items p.actors) → GivesDiskActors p r hs
-      → AreFresh t (into_iter_items p.disks) hs
-  disk_actors_fresh t p r hs new g =
-      let actors = actors_left p r hs g in
-      let disks = disks_left p r hs g in
-      let some : D → Option D = λ d. Some d in record {
-        as_many = omega (arith, disks);
-        actors = λ k h lt.
-            (let within : k < length (into_iter_items p.actors) = omega (arith, lt, actors) in
-            let first : 0 + k ≡ k = omega arith in
-            sym (front actor_of hs _ _ k h h.actor g.actors lt) ∙ new k h.actor within
-            ∙ ap (λ (n : ℕ). fresh t n) first);
-        disks = λ k o h lt.
-            (let within : k < length (into_iter_items p.disks) = omega (arith, lt, disks) in
-            sym (front disk_of hs _ _ k h (Some o) g.disks lt)
-            ∙ get_or-map some (into_iter_items p.disks) k o (Some o) within);
+  -- backends have the first numbers, and workers the next
+  pub record AreNewDiskActors (t : TableView) (ds : List D) (bs : List (Backend W D))
+      (ws : List (Worker W D)) : Type 0 where
+    pub of_backends : (k : ℕ) (b : Backend W D) → k < length bs
+        → IsNewDiskActor t ds k (slice_index_or bs k b).disk_actor
+    pub of_workers : (k : ℕ) (w : Worker W D) → k < length ws
+        → IsNewDiskActor t ds (length bs + k) (slice_index_or ws k w).disk_actor
+
+  pub new_disk_actor : (t : TableView) (p : Parts W D) (k : ℕ) (h : DiskActor W D)
+      → AreNewActors t 0 (into_iter_items p.actors) → k < length (into_iter_items p.disks)
+      → IsDiskActorOf p k h → IsNewDiskActor t (into_iter_items p.disks) k h
+  new_disk_actor t p k h new within is =
+      let actors : List ActorView = into_iter_items p.actors in
+      let first : 0 + k ≡ k = omega arith in record {
+        actor = sym (get_or_from_slice_get actors k h.actor h.actor is.actor)
+            ∙ new k h.actor (slice_get_within actors k h.actor is.actor)
+            ∙ ap (λ (n : ℕ). fresh t n) first;
+        disk = is.disk;
+        within = within;
       }
 
-  -- where the actors of backends and of workers are among all
-  at_backend : (bs : List (Backend W D)) (ws : List (Worker W D)) (k : ℕ) (b : Backend W D)
-      → k < length bs → slice_index_or (map backend_disk_actor bs ++ map worker_disk_actor ws)
-      k b.disk_actor ≡ (slice_index_or bs k b).disk_actor
-  at_backend bs ws k b lt = front backend_disk_actor bs _ (map worker_disk_actor ws)
-      k b b.disk_actor refl lt
-
-  at_worker : (bs : List (Backend W D)) (ws : List (Worker W D)) (k : ℕ) (w : Worker W D)
-      → k < length ws
-      → slice_index_or (map backend_disk_actor bs ++ map worker_disk_actor ws) (length bs + k)
-      w.disk_actor ≡ (slice_index_or ws k w).disk_actor
-  at_worker bs ws k w lt =
-      let all : List (DiskActor W D) = map backend_disk_actor bs ++ map worker_disk_actor ws in
-      ap (λ (n : ℕ). slice_index_or all (n + k) w.disk_actor)
-      (sym (length-map bs backend_disk_actor)) ∙ get_or-append-add (map backend_disk_actor bs)
-      (map worker_disk_actor ws) k w.disk_actor ∙ get_or-map worker_disk_actor ws k w w.disk_actor
-      lt
+  -- what holds of each by its number
+  each_disk_actor : (P : ℕ → DiskActor W D → Type 0) (bs : List (Backend W D))
+      (ws : List (Worker W D))
+      → ((k : ℕ) (b : Backend W D) → k < length bs → P k (slice_index_or bs k b).disk_actor)
+      → ((k : ℕ) (w : Worker W D) → k < length ws
+      → P (length bs + k) (slice_index_or ws k w).disk_actor)
+      → (i : ℕ) (h : DiskActor W D) → i < length bs + length ws
+      → P i (slice_index_or (map backend_disk_actor bs ++ map worker_disk_actor ws) i h)
+  each_disk_actor P [] [] f g i h lt = absurd (omega (arith, lt))
+  each_disk_actor P [] (w ∷ ws) f g zero h lt = g 0 w (omega arith)
+  each_disk_actor P [] (w ∷ ws) f g (suc i) h lt =
+      each_disk_actor (λ k. P (suc k)) [] ws (λ k b le. absurd (omega (arith, le)))
+      (λ k v le.
+      (let e : 0 + suc k ≡ suc (0 + k) = omega arith in
+      subst (λ (n : ℕ). P n (slice_index_or ws k v).disk_actor) e (g (suc k) v (omega (arith, le)))))
+      i h (omega (arith, lt))
+  each_disk_actor P (b ∷ bs) ws f g zero h lt = f 0 b (omega arith)
+  each_disk_actor P (b ∷ bs) ws f g (suc i) h lt =
+      each_disk_actor (λ k. P (suc k)) bs ws (λ k c le. f (suc k) c (omega (arith, le)))
+      (λ k v le.
+      (let e : suc (length bs) + k ≡ suc (length bs + k) = omega arith in
+      subst (λ (n : ℕ). P n (slice_index_or ws k v).disk_actor) e (g k v le)))
+      i h (omega (arith, lt))
 
   pub many_disk_actors : (bs : List (Backend W D)) (ws : List (Worker W D))
       → length (map backend_disk_actor bs ++ map worker_disk_actor ws) ≡ length bs + length ws
@@ -123,27 +129,17 @@ module _ {W D : Type 0} where
       let workers = length-map ws worker_disk_actor in omega (arith, both, backends, workers)
 
   module _ (t : TableView) (ds : List D) (bs : List (Backend W D)) (ws : List (Worker W D))
-      (new : AreFresh t ds (map backend_disk_actor bs ++ map worker_disk_actor ws)) where
-    abbrev all : List (DiskActor W D)
-    all = map backend_disk_actor bs ++ map worker_disk_actor ws
-
-    backend_actor : (k : ℕ) (b : Backend W D) → k < length bs
-        → (slice_index_or bs k b).disk_actor.actor ≡ fresh t k
-    backend_actor k b lt =
-        let within : k < length all = let many = many_disk_actors bs ws in
-        omega (arith, lt, many) in
-        ap actor_of (sym (at_backend bs ws k b lt)) ∙ new.actors k b.disk_actor within
-
+      (new : AreNewDiskActors t ds bs ws) where
     -- and none has more
     pub rooms_of_new : 1 ≤ length bs → length bs ≤ t.config.backends → 1 ≤ t.config.per_backend
         → t.config.start < 2 ^ 58 → IsLeastRoom bs (2 ^ 58 - 1 - t.config.start)
     rooms_of_new any few some start = record {
       all_have_room = λ k b lt.
-          room_of_new t k _ (backend_actor k b lt) (omega (arith, lt, few)) some start;
+          room_of_new t k _ (new.of_backends k b lt).actor (omega (arith, lt, few)) some start;
       greatest = λ n rooms.
           (let first : 0 < length bs = omega (arith, any) in
-          let b = one_there bs 0 first in
-          most_of_new t 0 n _ (backend_actor 0 b first) (omega (arith, first, few))
+          let b = (there bs 0 first).0 in
+          most_of_new t 0 n _ (new.of_backends 0 b first).actor (omega (arith, first, few))
           (rooms 0 b first));
     }
 
@@ -151,35 +147,46 @@ module _ {W D : Type 0} where
     none_taken =
         let taken : Backend W D → ℕ = λ b. local_mark_count b.disk_actor.actor.known.marks in
         let least = sum_by-le taken 0 bs (λ k b lt.
-        (let none = ap (λ (x : ActorView). local_mark_count x.known.marks) (backend_actor k b lt) in
+        (let none = ap (λ (x : ActorView). local_mark_count x.known.marks)
+        (new.of_backends k b lt).actor in
         omega (arith, none))) in omega (arith, least)
 
     module _ (m : DiskGhosts D) (told : Option Told) (relations : ℕ) where
-      pub paid_of_new : length ds ≡ length all → AllZip (DiskCountersFollowMarks m) ds all
-      paid_of_new many = zip-each (DiskCountersFollowMarks m) ds all (sym many) (λ i o h lt.
-          (let inside : i < length all = omega (arith, many) in
-          record {
-            disk = slice_index_or ds i o;
-            held = new.disks i o h inside;
-            counters_follow = rw (ap (λ (x : ActorView). x.known.marks) (new.actors i h inside))
-                (pays_nothing _ _);
-          }))
+      paid : (k : ℕ) (h : DiskActor W D) (o : D) → IsNewDiskActor t ds k h
+          → DiskCountersFollowMarks m (slice_index_or ds k o) h
+      paid k h o is = record {
+        disk = slice_index_or ds k o;
+        held = sym is.disk ∙ slice_get-get_or ds k o is.within;
+        counters_follow = rw (ap (λ (x : ActorView). x.known.marks) is.actor) (pays_nothing _ _);
+      }
+
+      pub paid_of_new : length ds ≡ length bs + length ws
+          → AllZip (DiskCountersFollowMarks m) ds
+          (map backend_disk_actor bs ++ map worker_disk_actor ws)
+      paid_of_new many =
+          let all = many_disk_actors bs ws in
+          zip-each (DiskCountersFollowMarks m) ds _ (omega (arith, many, all)) (λ i o h lt.
+          each_disk_actor (λ k x. DiskCountersFollowMarks m (slice_index_or ds k o) x) bs ws
+          (λ k b le. paid k _ o (new.of_backends k b le))
+          (λ k w le. paid (length bs + k) _ o (new.of_workers k w le)) i h
+          (omega (arith, lt, many)))
 
       module _ (tell : All (λ d. (m.told d ≡ told) × (m.relations d ≡ relations)) ds) where
-        disk_actor_at : (k : ℕ) (h : DiskActor W D) → k < length all
-            → IsDiskActor m told relations t (slice_index_or all k h)
-        disk_actor_at k h lt =
-            let within : k < length ds = let few = new.as_many in omega (arith, lt, few) in
-            let o = one_there ds k within in
-            let is = new.actors k h lt in record {
-              disk = slice_index_or ds k o;
-              held = new.disks k o h lt;
-              tells = tell k o within;
-              of = (ap (λ (x : ActorView). x.table) is, ap (λ (x : ActorView). x.known.config) is);
+        disk_actor_of : (k : ℕ) (h : DiskActor W D) → IsNewDiskActor t ds k h
+            → IsDiskActor m told relations t h
+        disk_actor_of k h is =
+            let (disk, at) = there ds k is.within in record {
+              disk = disk;
+              held = sym is.disk ∙ at;
+              tells = all_at (λ d. (m.told d ≡ told) × (m.relations d ≡ relations)) ds k disk tell at;
+              of = (
+                ap (λ (x : ActorView). x.table) is.actor,
+                ap (λ (x : ActorView). x.known.config) is.actor,
+              );
               rest = (
-                ap (λ (x : ActorView). x.known.out) is,
+                ap (λ (x : ActorView). x.known.out) is.actor,
                 λ e.
-                    (let none = ap (λ (x : ActorView). x.known.marks) is in
+                    (let none = ap (λ (x : ActorView). x.known.marks) is.actor in
                     rw none (omega arith)),
               );
             }
@@ -191,13 +198,10 @@ module _ {W D : Type 0} where
             → All (λ (b : Backend W D). IfSome b.ring (IsRingOf q)) bs
             → All (IsBackend m told relations t q) bs
         backends_of_new q few desks seats seated rings k b lt =
-            let within : k < length all = let many = many_disk_actors bs ws in
-            omega (arith, lt, many) in
-            let is = backend_actor k b lt in
+            let is = new.of_backends k b lt in
             let P : ActorView → Type 0 = λ x. x.known.number < x.known.config.backends in record {
-              disk_actor = subst (λ (h : DiskActor W D). IsDiskActor m told relations t h)
-                  (at_backend bs ws k b lt) (disk_actor_at k b.disk_actor within);
-              backend = subst P (sym is) (omega (arith, lt, few));
+              disk_actor = disk_actor_of k _ is;
+              backend = subst P (sym is.actor) (omega (arith, lt, few));
               desk = desks k b lt;
               seat = seats k b lt;
               has_seat = λ some. seated some k b lt;
@@ -208,13 +212,9 @@ module _ {W D : Type 0} where
             → All (λ (w : Worker W D). IsSeatOf q w.seat) ws
             → All (IsWorker m told relations t q) ws
         workers_of_new q enough seats k w lt =
-            let within : length bs + k < length all =
-            let many = many_disk_actors bs ws in omega (arith, lt, many) in
-            let at = at_worker bs ws k w lt in
-            let is = ap actor_of (sym at) ∙ new.actors (length bs + k) w.disk_actor within in
+            let is = new.of_workers k w lt in
             let P : ActorView → Type 0 = λ x. x.known.config.backends ≤ x.known.number in record {
-              disk_actor = subst (λ (h : DiskActor W D). IsDiskActor m told relations t h) at
-                  (disk_actor_at (length bs + k) w.disk_actor within);
-              worker = subst P (sym is) (omega (arith, enough));
+              disk_actor = disk_actor_of (length bs + k) _ is;
+              worker = subst P (sym is.actor) (omega (arith, enough));
               seat = seats k w lt;
             }

@@ -1,9 +1,9 @@
 -- The settings of a scan, and what they make.
-use Rattle.std.specs.Prelude.{◌≡◌, ℕ, ◌≤◌, ◌+◌, ◌*◌, ◌/◌, ◌++◌, List, [], length, map, min, max}
-use Rattle.std.specs.Prelude.{◌-◌, ◌^◌, Option, Some, vec_capacity, option_to_list, Bool, true}
-use Rattle.std.specs.Prelude.{false, cond}
+use Rattle.std.specs.Prelude.{◌≡◌, ℕ, ◌<◌, ◌≤◌, ◌+◌, ◌*◌, ◌/◌, List, [], length, drop, min, max}
+use Rattle.std.specs.Prelude.{◌-◌, ◌^◌, Option, Some, vec_capacity, slice_get, slice_index_or, Bool}
+use Rattle.std.specs.Prelude.{true, false, cond}
 use Rattle.std.specs.Option.{is_some}
-use Rattle.std.specs.List.{All, flat_map}
+use Rattle.std.specs.List.{All}
 use Rattle.std.specs.Vec.Iter.{into_iter_items}
 use Rattle.page_check.specs.Told.{Told}
 use Rattle.aio_word.specs.declared.Config.{Config}
@@ -15,8 +15,8 @@ use Rattle.read_stream.specs.declared.desk.Settings.{Settings}
 use Rattle.aio_disk.specs.declared.disk.Disk.{Ghosts as DiskGhosts}
 use Rattle.scan_rounds.specs.ListOptions.{list_options}
 use Rattle.scan_rounds.specs.Rings.{IsRingOf}
-use Rattle.scan_rounds.specs.Rounds.{backend_disk_actor, worker_disk_actor, results_taken_count}
-use Rattle.scan_rounds.specs.Scans.{IsScan, actor_of, disk_of, scan_options, opened_disks}
+use Rattle.scan_rounds.specs.Rounds.{results_taken_count}
+use Rattle.scan_rounds.specs.Scans.{IsScan, scan_options, opened_disks}
 use Rattle.scan_rounds.specs.declared.backend.Backend.{Backend}
 use Rattle.scan_rounds.specs.declared.disk_actor.DiskActor.{DiskActor}
 use Rattle.scan_rounds.specs.declared.memory.Lists.{Lists}
@@ -119,36 +119,47 @@ module _ {W D : Type 0} where
     pub jobs_suffice : s.backends ≤ length m.jobs.items
     pub lists : HasEmptyLists s.backends (workers_of_settings s) m.lists
 
-  -- the first actors and disks of the parts are those of this list, and these are left
-  pub record GivesDiskActors (p left : Parts W D) (hs : List (DiskActor W D)) : Type 0 where
-    pub actors : into_iter_items p.actors
-        ≡ map actor_of hs ++ into_iter_items left.actors
-    pub disks : map Some (into_iter_items p.disks)
-        ≡ map disk_of hs ++ map Some (into_iter_items left.disks)
+  -- an actor with its disk has those of this number
+  pub record IsDiskActorOf (p : Parts W D) (k : ℕ) (h : DiskActor W D) : Type 0 where
+    pub actor : slice_get (into_iter_items p.actors) k ≡ Some h.actor
+    pub disk : slice_get (into_iter_items p.disks) k ≡ h.disk
 
-  -- the first parts are those of the backends, and these are left
+  -- a backend has the parts of this number: a seat and a ring, where there are so many
+  pub record IsBackendOf (tuples : Bool) (p : Parts W D) (k : ℕ) (b : Backend W D) : Type 0 where
+    pub disk_actor : IsDiskActorOf p k b.disk_actor
+    pub desk : slice_get (into_iter_items p.desks) k ≡ Some b.desk
+    pub seat : slice_get (into_iter_items p.seats) k ≡ b.seat
+    pub ring : slice_get (into_iter_items p.rings) k ≡ b.ring
+    pub tuples_are : b.tuples ≡ tuples
+
+  -- a worker has the parts of this number
+  pub record IsWorkerOf (p : Parts W D) (k : ℕ) (w : Worker W D) : Type 0 where
+    pub disk_actor : IsDiskActorOf p k w.disk_actor
+    pub seat : slice_get (into_iter_items p.seats) k ≡ Some w.seat
+
+  -- behind n actors with their disks and seats these are left
+  pub record IsLeftByWorkers (n : ℕ) (p left : Parts W D) : Type 0 where
+    pub actors : into_iter_items left.actors ≡ drop n (into_iter_items p.actors)
+    pub disks : into_iter_items left.disks ≡ drop n (into_iter_items p.disks)
+    pub seats : into_iter_items left.seats ≡ drop n (into_iter_items p.seats)
+
+  -- and these behind n backends
+  pub record IsLeftByBackends (n : ℕ) (p left : Parts W D) : Type 0 where
+    pub others : IsLeftByWorkers n p left
+    pub desks : into_iter_items left.desks ≡ drop n (into_iter_items p.desks)
+    pub rings : into_iter_items left.rings ≡ drop n (into_iter_items p.rings)
+
+  -- each backend of the list has the parts of its number, and these are left
   pub record GivesBackends (tuples : Bool) (p left : Parts W D) (bs : List (Backend W D))
       : Type 0 where
-    pub disk_actors : GivesDiskActors p left (map backend_disk_actor bs)
-    pub desks : into_iter_items p.desks
-        ≡ map (λ (b : Backend W D). b.desk) bs ++ into_iter_items left.desks
-    pub seats : into_iter_items p.seats
-        ≡ flat_map (λ (b : Backend W D). option_to_list b.seat) bs ++ into_iter_items left.seats
-    pub rings : into_iter_items p.rings
-        ≡ flat_map (λ (b : Backend W D). option_to_list b.ring) bs ++ into_iter_items left.rings
-    pub all_tuples : All (λ (b : Backend W D). b.tuples ≡ tuples) bs
-    -- each takes a seat and a ring, as long as there are some
-    pub seats_left : length (into_iter_items left.seats)
-        ≡ length (into_iter_items p.seats) - length bs
-    pub rings_left : length (into_iter_items left.rings)
-        ≡ length (into_iter_items p.rings) - length bs
+    pub each : (k : ℕ) (b : Backend W D) → k < length bs
+        → IsBackendOf tuples p k (slice_index_or bs k b)
+    pub left_are : IsLeftByBackends (length bs) p left
 
-  -- the first parts are those of the workers, and these are left
+  -- each worker of the list has
   pub record GivesWorkers (p left : Parts W D) (ws : List (Worker W D)) : Type 0 where
-    pub disk_actors : GivesDiskActors p left (map worker_disk_actor ws)
-    pub seats : into_iter_items p.seats
-        ≡ map (λ (w : Worker W D). w.seat) ws ++ into_iter_items left.seats
-    pub desks : left.desks ≡ p.desks
+    pub each : (k : ℕ) (w : Worker W D) → k < length ws → IsWorkerOf p k (slice_index_or ws k w)
+    pub left_are : IsLeftByWorkers (length ws) p left
 
 -- a scan with these settings, just opened over these disks, whose handles begin at this generation
 pub record IsOpenedScan {W D : Type 0} (m : DiskGhosts D) (told : Option Told) (relations : ℕ)

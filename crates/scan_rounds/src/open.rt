@@ -1,11 +1,12 @@
 //! Opens a scan.
-ghost use Rattle.std.specs.Prelude.{◌≡◌, ◌≤◌, ◌<◌, ◌*◌, ◌-◌, ◌^◌, ◌∷◌, [], length, IfErr, IfOk};
-ghost use Rattle.std.specs.Prelude.{vec_capacity};
+ghost use Rattle.std.specs.Prelude.{◌≡◌, ◌≤◌, ◌<◌, ◌*◌, ◌^◌, [], length, drop, IfErr, IfOk};
+ghost use Rattle.std.specs.Prelude.{slice_get, vec_capacity};
 ghost use Rattle.std.specs.List.{All};
 ghost use Rattle.std.specs.Vec.Iter.{into_iter_items};
-ghost use Rattle.scan_rounds.specs.OpenedScan.{AreValidScanSettings, GivesBackends};
-ghost use Rattle.scan_rounds.specs.OpenedScan.{GivesDiskActors, GivesWorkers, IsScanMemory};
-ghost use Rattle.scan_rounds.specs.OpenedScan.{IsOpenedScan, required_disks};
+ghost use Rattle.scan_rounds.specs.OpenedScan.{AreValidScanSettings, GivesBackends, GivesWorkers};
+ghost use Rattle.scan_rounds.specs.OpenedScan.{IsBackendOf, IsDiskActorOf, IsLeftByBackends};
+ghost use Rattle.scan_rounds.specs.OpenedScan.{IsLeftByWorkers, IsOpenedScan, IsScanMemory};
+ghost use Rattle.scan_rounds.specs.OpenedScan.{IsWorkerOf, required_disks};
 
 use crate::backend::Backend;
 use crate::disk_actor::DiskActor;
@@ -37,20 +38,30 @@ struct Parts<W: World, D: Disk> {
     desks: IntoIter<Desk<W, ()>, Global>,
 }
 
+// The next of these, where there is one.
+fn next_of<T>(items: &mut IntoIter<T, Global>) -> Option<T>
+    ensures next { slice_get (into_iter_items items.old) 0 ≡ result }
+    ensures left { into_iter_items items.new ≡ drop 1 (into_iter_items items.old) }
+{
+    items.next()
+}
+
 impl<W: World, D: Disk> Parts<W, D> {
     // The next actor with the next disk.
     fn disk_actor(&mut self) -> DiskActor<W, D>
         requires actor { 1 ≤ length (into_iter_items self.old.actors) }
-        requires disk { 1 ≤ length (into_iter_items self.old.disks) }
-        ensures disk_actors { GivesDiskActors self.old self.new (result ∷ []) }
-        ensures seats { (self.new.seats ≡ self.old.seats) × (self.new.rings ≡ self.old.rings) }
-        ensures desks { self.new.desks ≡ self.old.desks }
+        ensures disk_actor { IsDiskActorOf self.old 0 result }
+        ensures actors { into_iter_items self.new.actors
+            ≡ drop 1 (into_iter_items self.old.actors) }
+        ensures disks { into_iter_items self.new.disks ≡ drop 1 (into_iter_items self.old.disks) }
+        ensures others { (self.new.seats ≡ self.old.seats) × (self.new.rings ≡ self.old.rings)
+            × (self.new.desks ≡ self.old.desks) }
     {
-        let Some(actor) = self.actors.next() else {
+        let Some(actor) = next_of(&mut self.actors) else {
             unreachable!()
         };
         DiskActor {
-            disk: self.disks.next(),
+            disk: next_of(&mut self.disks),
             actor,
         }
     }
@@ -58,19 +69,19 @@ impl<W: World, D: Disk> Parts<W, D> {
     // The next backend. It has a seat if there is one, and a ring if there is one.
     fn backend(&mut self, tuples: bool) -> Backend<W, D>
         requires actor { 1 ≤ length (into_iter_items self.old.actors) }
-        requires disk { 1 ≤ length (into_iter_items self.old.disks) }
         requires desk { 1 ≤ length (into_iter_items self.old.desks) }
-        ensures { GivesBackends tuples self.old self.new (result ∷ []) }
+        ensures backend { IsBackendOf tuples self.old 0 result }
+        ensures left { IsLeftByBackends 1 self.old self.new }
     {
         let disk_actor = self.disk_actor();
-        let Some(desk) = self.desks.next() else {
+        let Some(desk) = next_of(&mut self.desks) else {
             unreachable!()
         };
         Backend {
             disk_actor,
             desk,
-            seat: self.seats.next(),
-            ring: self.rings.next(),
+            seat: next_of(&mut self.seats),
+            ring: next_of(&mut self.rings),
             tuples,
         }
     }
@@ -78,12 +89,12 @@ impl<W: World, D: Disk> Parts<W, D> {
     // The next worker.
     fn worker(&mut self) -> Worker<W, D>
         requires actor { 1 ≤ length (into_iter_items self.old.actors) }
-        requires disk { 1 ≤ length (into_iter_items self.old.disks) }
         requires seat { 1 ≤ length (into_iter_items self.old.seats) }
-        ensures { GivesWorkers self.old self.new (result ∷ []) }
+        ensures worker { IsWorkerOf self.old 0 result }
+        ensures left { IsLeftByWorkers 1 self.old self.new }
     {
         let disk_actor = self.disk_actor();
-        let Some(seat) = self.seats.next() else {
+        let Some(seat) = next_of(&mut self.seats) else {
             unreachable!()
         };
         Worker { disk_actor, seat }
@@ -97,7 +108,6 @@ impl<W: World, D: Disk> Parts<W, D> {
         mut backends: Vec<Backend<W, D>>,
     ) -> Vec<Backend<W, D>>
         requires actors { count ≤ length (into_iter_items self.old.actors) }
-        requires disks { count ≤ length (into_iter_items self.old.disks) }
         requires desks { count ≤ length (into_iter_items self.old.desks) }
         requires empty { (backends.items ≡ []) × (count ≤ vec_capacity backends) }
         ensures made { GivesBackends tuples self.old self.new result.items }
@@ -112,7 +122,6 @@ impl<W: World, D: Disk> Parts<W, D> {
     // So many workers, in this list.
     fn workers(&mut self, count: u32, mut workers: Vec<Worker<W, D>>) -> Vec<Worker<W, D>>
         requires actors { count ≤ length (into_iter_items self.old.actors) }
-        requires disks { count ≤ length (into_iter_items self.old.disks) }
         requires seats { count ≤ length (into_iter_items self.old.seats) }
         requires empty { (workers.items ≡ []) × (count ≤ vec_capacity workers) }
         ensures made { GivesWorkers self.old self.new result.items }

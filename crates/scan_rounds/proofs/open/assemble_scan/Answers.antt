@@ -1,4 +1,4 @@
-use Rattle.std.proofs.Common.{◌≤◌, ◌+◌, ◌-◌, ◌^◌, List, length, refl, sym, subst, ap, ◌∙◌, arith}
+use Rattle.std.proofs.Common.{◌-◌, ◌^◌, List, length, refl, sym, subst, ap, ◌∙◌, arith}
 use Rattle.std.specs.List.{All}
 use Rattle.std.specs.Vec.Iter.{into_iter_items}
 use Rattle.aio_handle.specs.ContractViews.{AreNewActors, ActorView}
@@ -6,37 +6,29 @@ use Rattle.method_worker.specs.QueueViews.{IsSeatOf, SeatView}
 use Rattle.scan_rounds.specs.Rings.{IsRingOf}
 use Rattle.scan_rounds.specs.OpenedScan.{IsDeskFor, needs_of_method}
 use Rattle.scan_rounds.specs.declared.scan.Scan.{Scan}
-use Rattle.scan_rounds.proofs.PartsGiven.{left_of_backends, seats_least}
 use Rattle.scan_rounds.proofs.AssembledScan.{opened_scan}
+use Rattle.scan_rounds.proofs.PartsGiven.{left_by_workers}
 use Rattle.scan_rounds.proofs.SeatsAndRings.{enough_seats}
 use Rattle.scan_rounds.proofs.open.assemble_scan.Goals as goal
 
 pub workers-workers-requires-clause-actors : goal.workers-workers-requires-clause-actors
 workers-workers-requires-clause-actors g c κs within =
-    let left = left_of_backends _ _ _ _ c.backends-backends.ensures.made in
+    let left = (left_by_workers _ _ _ c.backends-backends.ensures.made.left_are.others).0 in
     let all = ap length c.into_iter.ensures.rest ∙ c.requires.memory.actors_are in
     let bs = c.backends-backends.ensures.count in
-    let ws = c.worker_count.ensures in omega (arith, left.0, all, bs, ws)
-
-pub workers-workers-requires-clause-disks : goal.workers-workers-requires-clause-disks
-workers-workers-requires-clause-disks g c κs within =
-    let left = left_of_backends _ _ _ _ c.backends-backends.ensures.made in
-    let all = ap length c.into_iter-2.ensures.rest ∙ c.requires.disks in
-    let bs = c.backends-backends.ensures.count in
-    let ws = c.worker_count.ensures in omega (arith, left.1, all, bs, ws)
+    let ws = c.worker_count.ensures in omega (arith, left, all, bs, ws)
 
 pub workers-workers-requires-clause-seats : goal.workers-workers-requires-clause-seats
 workers-workers-requires-clause-seats g c κs within =
     let most = length (into_iter_items c.into_iter-3.result) in
     let left = length (into_iter_items c.backends-backends.new.self.seats) in
-    let least = seats_least _ _ _ _ c.backends-backends.ensures.made in
+    let behind = (left_by_workers _ _ _ c.backends-backends.ensures.made.left_are.others).1 in
     let all = ap length c.into_iter-3.ensures.rest ∙ c.requires.memory.seats_are in
     let bs = c.backends-backends.ensures.count in
     let ws = c.worker_count.ensures in
-    let few : most ≤ c.args.settings.now.backends + left = omega (arith, least, bs) in
     let needs = needs_of_method c.args.settings.now.method in
     let enough = enough_seats needs.queue needs.workers most c.args.settings.now.backends
-    c.args.settings.now.workers left all few in
+    c.args.settings.now.workers left all (omega (arith, behind, bs)) in
     omega (arith, ws, enough)
 
 pub returns : goal.returns

@@ -1,6 +1,6 @@
 use Rattle.std.proofs.Common.{arith, rules, sym, subst}
 use Rattle.scan_rounds.specs.OpenedScan.{GivesWorkers}
-use Rattle.scan_rounds.proofs.PartsGiven.{left_of_workers, no_workers, workers_among}
+use Rattle.scan_rounds.proofs.PartsGiven.{left_by_workers, no_workers, workers_more}
 use Rattle.scan_rounds.proofs.open.Parts.workers.Goals as goal
 
 pub loop-init : goal.loop-init
@@ -13,23 +13,18 @@ loop-init g c = record {
 
 pub worker-requires-clause-actor : goal.worker-requires-clause-actor
 worker-requires-clause-actor g c =
-    let left = left_of_workers _ _ _ c.loop.invariant.made in
-    omega (arith, left.0, c.requires.actors)
-
-pub worker-requires-clause-disk : goal.worker-requires-clause-disk
-worker-requires-clause-disk g c =
-    let left = left_of_workers _ _ _ c.loop.invariant.made in
-    omega (arith, left.1, c.requires.disks)
+    let left = (left_by_workers _ _ _ c.loop.invariant.made.left_are).0 in
+    omega (arith, left, c.requires.actors)
 
 pub worker-requires-clause-seat : goal.worker-requires-clause-seat
 worker-requires-clause-seat g c =
-    let left = left_of_workers _ _ _ c.loop.invariant.made in
-    omega (arith, left.2, c.requires.seats)
+    let left = (left_by_workers _ _ _ c.loop.invariant.made.left_are).1 in
+    omega (arith, left, c.requires.seats)
 
 pub loop-preserved : goal.loop-preserved
 loop-preserved g c = record {
-  made = workers_among _ _ _ _ _ _ c.push_reserved.ensures.items c.loop.invariant.made
-      c.worker.ensures;
+  made = workers_more _ _ _ _ _ _ c.push_reserved.ensures.items c.loop.invariant.made
+      c.worker.ensures.worker c.worker.ensures.left;
   so_far = search rules;
   capacity = search rules;
 }
