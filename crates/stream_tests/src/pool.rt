@@ -14,7 +14,7 @@ const AGAIN: Case<'static> = Case {
     ..CASE
 };
 
-const ROWS: [Row<'static>; 9] = [
+const ROWS: [Row<'static>; 10] = [
     Row {
         name: "pages come from the pool again",
         case: AGAIN,
@@ -105,6 +105,27 @@ const ROWS: [Row<'static>; 9] = [
         },
         pages: 3,
         taken: Some(2),
+        ..ROW
+    },
+    // Block 0 is at hand, and 10 is read before the other backend reads 5.
+    Row {
+        name: "a batch is submitted before a page of the pool is given",
+        case: Case {
+            blocks: 32,
+            settings: Settings {
+                combine: 4,
+                batch: true,
+                ..FULL
+            },
+            first: Blocks::From(0, 1),
+            between: Some(Blocks::From(5, 1)),
+            list: Blocks::These(&[(0, 0), (10, 0), (20, 0)]),
+            ..CASE
+        },
+        pages: 3,
+        reads: Some(&[(0, 1), (10, 1), (5, 1), (20, 1)]),
+        taken: Some(2),
+        heard: Some(2),
         ..ROW
     },
     Row {

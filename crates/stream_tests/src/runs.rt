@@ -16,7 +16,7 @@ const SIXTY_FOUR: [(u32, u32); 8] = [
     (63, 1),
 ];
 
-const ROWS: [Row<'static>; 7] = [
+const ROWS: [Row<'static>; 8] = [
     Row {
         name: "runs grow with the distance",
         case: Case {
@@ -116,6 +116,25 @@ const ROWS: [Row<'static>; 7] = [
         heard: Some(0),
         ..ROW
     },
+    // Behind block 0 the distance is 2, and then 4: so blocks 1 and 2 are a batch, and 3 to 5.
+    Row {
+        name: "the method hears of each read of a batch, in their order",
+        case: Case {
+            blocks: 6,
+            settings: Settings {
+                combine: 1,
+                batch: true,
+                ..SETTINGS
+            },
+            list: Blocks::From(0, 6),
+            ..CASE
+        },
+        pages: 6,
+        reads: Some(&[(0, 1), (1, 1), (2, 1), (3, 1), (4, 1), (5, 1)]),
+        taken: Some(6),
+        heard: Some(5),
+        ..ROW
+    },
 ];
 
 const ONE_HANDLE: Settings = Settings {
@@ -124,7 +143,7 @@ const ONE_HANDLE: Settings = Settings {
     ..SETTINGS
 };
 
-const MANY: [Row<'static>; 3] = [
+const MANY: [Row<'static>; 4] = [
     Row {
         name: "a stream without free handles goes on",
         case: Case {
@@ -150,6 +169,26 @@ const MANY: [Row<'static>; 3] = [
             ..CASE
         },
         pages: 40,
+        ..ROW
+    },
+    // What is staged when the one handle is out is begun by the method too.
+    Row {
+        name: "a stream without free handles has the method begin its reads",
+        case: Case {
+            blocks: 4,
+            handles: 1,
+            settings: Settings {
+                combine: 1,
+                batch: true,
+                ..SETTINGS
+            },
+            list: Blocks::From(0, 4),
+            ..CASE
+        },
+        pages: 4,
+        reads: Some(&[(0, 1), (1, 1), (2, 1), (3, 1)]),
+        taken: Some(4),
+        heard: Some(3),
         ..ROW
     },
     Row {
