@@ -145,30 +145,3 @@ pub fn check_over<R: AllocGlobal + Threads + Wait + Sync>(
     check_outcome(line, &done, wanted)?;
     Ok(done)
 }
-
-/// The first block of a read, how many blocks were asked for, and how many came.
-pub type Read = (u32, u32, Option<u32>);
-
-// The reads of a run, in their order.
-fn reads_of(alloc: Global, run: &FinishedRun) -> Result<Vec<Read>, Fail> {
-    let mut reads = Vec::new(alloc);
-    for entry in run.shelf.log() {
-        reads.push((entry.first, entry.asked, entry.answered))?;
-    }
-    Ok(reads)
-}
-
-/// Fails where a run made other reads than wanted, and names the row.
-pub fn check_reads(
-    alloc: Global,
-    done: &FinishedRun,
-    name: &str,
-    wanted: &[Read],
-) -> Result<(), Fail> {
-    let reads = reads_of(alloc, done)?;
-    if reads.as_slice() == wanted {
-        return Ok(());
-    }
-    let reads = reads.as_slice();
-    Err(Fail::new(format_args!("{name}: reads {reads:?}, wanted {wanted:?}")))
-}
