@@ -1,8 +1,7 @@
 //! How many I/Os a run counts, by workers and by backends.
-use aioscan_fixtures::runs::{
-    FinishedRun, check_outcome, check_over, empty_file, empty_lines, run_over,
-};
-use page_fixtures::files::{Faults, STEADY};
+use aioscan_fixtures::rows::check_row;
+use aioscan_fixtures::runs::{check_outcome, run_over};
+use page_fixtures::files::STEADY;
 use page_fixtures::pages::{Parts, bytes_of};
 use std::alloc::Global;
 use std::process::Abort;
@@ -10,40 +9,24 @@ use std::sync::Wait;
 use std::test::Fail;
 use std::thread::Threads;
 
-// Compares how many I/Os there were, of workers and of backends.
-fn check_counts<R: Abort>(rt: &R, done: &FinishedRun, line: &str, wanted: (u128, u128, u128)) {
-    let report = &done.report;
-    let counts = (report.incarnations, report.by_workers, report.by_backends);
-    assert_eq!(rt; counts, wanted, "{line}");
-}
-
 #[test]
 fn a_third_read_that_fails(rt: HostRuntime) -> Result<(), Fail> {
-    let alloc = rt.alloc();
-    let faults = Faults {
-        reads: &[(0, 3)],
-        ..STEADY
-    };
-    let text = empty_lines(alloc, 0, 2)?;
-    let lines = "unread page 0 2\nincarnations 3 workers 0 backends 3\n";
-    for line in [
-        "--method sync --backends 1 --combine 1 --handles 1 --stats f",
-        "--method ring --backends 1 --combine 1 --handles 1 --stats f",
+    for row in [
+        "sync | f:5E read=3 | --method sync f | 0/0-1 | unread page 0 2; totals 3 | 3",
+        "ring | f:5E read=3 | --method ring f | 0/0-1 | unread page 0 2; totals 3 | 3",
     ] {
-        let file = empty_file(alloc, 5)?;
-        let done = check_over(&rt, file, faults, line, (text.as_str(), lines, 3))?;
-        check_counts(&rt, &done, line, (3, 0, 3));
+        let words = "--backends 1 --combine 1 --handles 1 --stats";
+        let report = check_row(&rt, words, row)?.report;
+        let counts = (report.incarnations, report.by_workers, report.by_backends);
+        assert_eq!(rt; counts, (3, 0, 3), "{row}");
     }
     Ok(())
 }
 
 #[test]
 fn an_incarnation_for_each_of_512_blocks(rt: HostRuntime) -> Result<(), Fail> {
-    let alloc = rt.alloc();
-    let line = "--workers 1 --backends 2 --handles 64 --concurrency 64 --combine 1 f";
-    let text = empty_lines(alloc, 0, 512)?;
-    let wanted = (text.as_str(), "", 0);
-    let done = check_over(&rt, empty_file(alloc, 512)?, STEADY, line, wanted)?;
+    let words = "--workers 1 --backends 2 --handles 64 --concurrency 64 --combine 1";
+    let done = check_row(&rt, words, "512 blocks | f:512E | f | 0/0-511 | | 0")?;
     assert_eq!(rt; done.report.incarnations, 512);
     Ok(())
 }

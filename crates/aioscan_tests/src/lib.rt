@@ -12,8 +12,6 @@ mod cut_outputs;
 #[cfg(test)]
 mod failing;
 #[cfg(test)]
-mod frames;
-#[cfg(test)]
 mod io_counts;
 #[cfg(test)]
 mod map_words;
@@ -21,8 +19,6 @@ mod map_words;
 mod one_file_runs;
 #[cfg(test)]
 mod reads;
-#[cfg(test)]
-mod refused_lengths;
 #[cfg(test)]
 mod refused_words;
 #[cfg(test)]

@@ -1,154 +1,33 @@
 //! Relations of several segments.
-use aioscan_cmd::Line;
-use aioscan_fixtures::runs::{FinishedRun, check_outcome, empty_file, empty_lines, run_segmented};
-use page_fixtures::files::STEADY;
-use std::alloc::{AllocError, Global};
-use std::process::Abort;
-use std::sync::Wait;
+use aioscan_fixtures::rows::check_rows;
 use std::test::Fail;
-use std::thread::Threads;
 
-// The blocks and the bytes behind them of `f`, `f.1` and so on, and what a run gives: the lines of
-// so many pages, the line on the error stream, the status, and, where they are compared, the first
-// block and the number of blocks of each read.
-#[derive(Clone, Copy)]
-struct Row<'a> {
-    name: &'a str,
-    segment: u32,
-    files: &'a [(usize, usize)],
-    pages: u32,
-    line: &'a str,
-    status: u8,
-    reads: Option<&'a [(u32, u32)]>,
-}
-
-// The files of a relation `f`.
-fn segments(alloc: Global, sizes: &[(usize, usize)]) -> Result<Vec<(String, Vec<u8>)>, AllocError> {
-    let mut files = Vec::new(alloc);
-    for (number, (blocks, more)) in sizes.iter().enumerate() {
-        let mut file = empty_file(alloc, *blocks)?;
-        for _ in 0..*more {
-            file.push(0)?;
-        }
-        let name = if number == 0 {
-            String::from_str(alloc, "f")?
-        } else {
-            format!(in alloc; "f.{number}")?
-        };
-        files.push((name, file))?;
-    }
-    Ok(files)
-}
-
-const ONE_EACH: [(usize, usize); 17] = [(1, 0); 17];
-
-const SIXTEEN: [(usize, usize); 16] = [(1, 0); 16];
-
-const ROWS: [Row<'static>; 6] = [
-    Row {
-        name: "two whole segments and half of one",
-        segment: 4,
-        files: &[(4, 0), (4, 0), (2, 0)],
-        pages: 10,
-        line: "",
-        status: 0,
-        reads: Some(&[(0, 4), (4, 4), (8, 2)]),
-    },
-    Row {
-        name: "a segment behind a short one does not count",
-        segment: 4,
-        files: &[(3, 0), (2, 0)],
-        pages: 3,
-        line: "",
-        status: 0,
-        reads: None,
-    },
-    Row {
-        name: "a part of a block is no block",
-        segment: 4,
-        files: &[(4, 100), (1, 0)],
-        pages: 5,
-        line: "",
-        status: 0,
-        reads: None,
-    },
-    Row {
-        name: "a segment behind a long one does not count",
-        segment: 4,
-        files: &[(5, 0), (2, 0)],
-        pages: 5,
-        line: "",
-        status: 0,
-        reads: Some(&[(0, 4), (4, 1)]),
-    },
-    Row {
-        name: "sixteen segments of one block",
-        segment: 1,
-        files: &SIXTEEN,
-        pages: 16,
-        line: "",
-        status: 0,
-        reads: None,
-    },
-    Row {
-        name: "and one more",
-        segment: 1,
-        files: &ONE_EACH,
-        pages: 0,
-        line: "relation 0 is too long\n",
-        status: 7,
-        reads: None,
-    },
+// A `.` is a part of a block behind the blocks of a segment.
+const ROWS: [&str; 6] = [
+    "two whole segments and half of one | f:4E f.1:4E f.2:2E segment=4 | f | 0/0-9 | | 0 | \
+     0/0+4=4 0/4+4=4 0/8+2=2",
+    "a segment behind a short one does not count | f:3E f.1:2E segment=4 | f | 0/0-2 | | 0",
+    "a part of a block is no block | f:4E. f.1:1E segment=4 | f | 0/0-4 | | 0",
+    "a segment behind a long one does not count | f:5E f.1:2E segment=4 | f | 0/0-4 | | 0 | \
+     0/0+4=4 0/4+1=1",
+    "sixteen segments of one block | f:E f.1:E f.2:E f.3:E f.4:E f.5:E f.6:E f.7:E f.8:E f.9:E \
+     f.10:E f.11:E f.12:E f.13:E f.14:E f.15:E segment=1 | f | 0/0-15 | | 0",
+    "and one more | f:E f.1:E f.2:E f.3:E f.4:E f.5:E f.6:E f.7:E f.8:E f.9:E f.10:E f.11:E f.12:E \
+     f.13:E f.14:E f.15:E f.16:E segment=1 | f | | relation 0 is too long | 7",
 ];
-
-// Runs over the segments of a row, and compares what is shown.
-fn check_row<R: Abort + AllocGlobal + Threads + Wait + Sync>(
-    rt: &R,
-    row: &Row<'_>,
-) -> Result<FinishedRun, Fail> {
-    let files = segments(rt.alloc(), row.files)?;
-    let line = "--method sync --backends 1 --full f";
-    let done = run_segmented(rt, files, row.segment, STEADY, line, (&[], &[]))?;
-    let text = empty_lines(rt.alloc(), 0, row.pages)?;
-    check_outcome(row.name, &done, (text.as_str(), row.line, row.status))?;
-    assert_eq!(rt; done.report.line, Line::Whole, "{}", row.name);
-    Ok(done)
-}
-
-// The first block and the number of blocks of each read.
-fn reads_of(alloc: Global, done: &FinishedRun) -> Result<Vec<(u32, u32)>, AllocError> {
-    let mut reads = Vec::new(alloc);
-    for entry in done.shelf.log() {
-        reads.push((entry.first, entry.asked))?;
-    }
-    Ok(reads)
-}
 
 #[test]
 fn segments_are_read_one_after_the_other(rt: HostRuntime) -> Result<(), Fail> {
-    for row in ROWS {
-        let done = check_row(&rt, &row)?;
-        if let Some(wanted) = row.reads {
-            let reads = reads_of(rt.alloc(), &done)?;
-            assert_eq!(rt; reads.as_slice(), wanted, "{}", row.name);
-        }
-    }
-    Ok(())
+    check_rows(&rt, "--method sync --backends 1 --full", &ROWS)
 }
 
 // `--from` and `--to` go over a segment's border, with either method.
 #[test]
 fn blocks_across_a_border(rt: HostRuntime) -> Result<(), Fail> {
-    let alloc = rt.alloc();
-    let text = empty_lines(alloc, 3, 9)?;
-    for line in [
-        "--method sync --backends 1 --from 3 --to 8 f",
-        "--from 3 --to 8 f",
-        "--full --backends 4 --from 3 --to 8 f",
-    ] {
-        let files = segments(alloc, &[(4, 0), (4, 0), (2, 0)])?;
-        let done = run_segmented(&rt, files, 4, STEADY, line, (&[], &[]))?;
-        check_outcome(line, &done, (text.as_str(), "", 0))?;
-    }
-    Ok(())
+    let rows = [
+        "sync | f:4E f.1:4E f.2:2E segment=4 | --method sync --backends 1 f | 0/3-8 | | 0",
+        "by workers | f:4E f.1:4E f.2:2E segment=4 | f | 0/3-8 | | 0",
+        "at once | f:4E f.1:4E f.2:2E segment=4 | --full --backends 4 f | 0/3-8 | | 0",
+    ];
+    check_rows(&rt, "--from 3 --to 8", &rows)
 }

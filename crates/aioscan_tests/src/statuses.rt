@@ -1,169 +1,41 @@
 //! Each status, by files that are damaged or missing, and opens, lengths and reads that fail.
-use crate::one_file_runs::{E_LINE, expect};
-use aioscan_fixtures::runs::TestOutcome;
-use page_fixtures::files::{Faults, STEADY};
-use page_fixtures::pages::{DAMAGED, EMPTY, Parts};
+use aioscan_fixtures::rows::check_rows;
 use std::test::Fail;
 
-const TWO: &[Parts<'static>] = &[EMPTY, EMPTY];
-
-const THREE: &[Parts<'static>] = &[EMPTY, EMPTY, EMPTY];
-
-const FOUR: &[Parts<'static>] = &[EMPTY, EMPTY, EMPTY, EMPTY];
-
-const BOTH: &str = "page 0 0 lower 24 upper 8192 special 8192 items 0\n\
-     page 0 1 lower 24 upper 8192 special 8192 items 0\n";
-
-const LAST: &str = "page 0 3 lower 24 upper 8192 special 8192 items 0\n";
-
-const AGAIN: &str = "page 0 0 lower 24 upper 8192 special 8192 items 0\n\
-     page 0 0 lower 24 upper 8192 special 8192 items 0\n";
-
-const READ_2: Faults<'static> = Faults {
-    opens: &[],
-    lengths: &[],
-    reads: &[(0, 2)],
-    shorts: &[],
-};
-
-const LENGTH_1: Faults<'static> = Faults {
-    opens: &[],
-    lengths: &[(0, 1)],
-    reads: &[],
-    shorts: &[],
-};
-
-const LENGTH_2: Faults<'static> = Faults {
-    opens: &[],
-    lengths: &[(0, 2)],
-    reads: &[],
-    shorts: &[],
-};
-
-const OPEN_1: Faults<'static> = Faults {
-    opens: &[1],
-    lengths: &[],
-    reads: &[],
-    shorts: &[],
-};
-
-const OPEN_2: Faults<'static> = Faults {
-    opens: &[2],
-    lengths: &[],
-    reads: &[],
-    shorts: &[],
-};
-
-const RUNS: [(
-    &str,
-    &[Parts<'static>],
-    Faults<'static>,
-    &str,
-    TestOutcome<'static>,
-); 14] = [
-    (
-        "a second file that is damaged",
-        TWO,
-        STEADY,
-        "f g",
-        (BOTH, "invalid page 1 0\n", 1),
-    ),
-    (
-        "a read that fails",
-        THREE,
-        READ_2,
-        "--method sync --backends 1 f",
-        (E_LINE, "unread page 0 1\n", 3),
-    ),
-    (
-        "from above to",
-        THREE,
-        STEADY,
-        "--from 2 --to 1 f",
-        ("", "", 0),
-    ),
-    ("a file twice", &[EMPTY], STEADY, "f f", (AGAIN, "", 0)),
-    (
-        "to behind the end",
-        FOUR,
-        STEADY,
-        "--from 3 --to 4 f",
-        (LAST, "no page 0 4\n", 6),
-    ),
-    (
-        "from behind the end",
-        FOUR,
-        STEADY,
-        "--from 4 f",
-        ("", "", 0),
-    ),
-    (
-        "a first length that fails",
-        TWO,
-        LENGTH_1,
-        "f",
-        ("", "no length 0\n", 3),
-    ),
-    (
-        "a second length that fails",
-        TWO,
-        LENGTH_2,
-        "f f g",
-        ("", "no length 1\n", 3),
-    ),
-    (
-        "an open that fails",
-        TWO,
-        OPEN_1,
-        "f",
-        ("", "cannot open\n", 3),
-    ),
-    (
-        "a second disk that cannot be opened",
-        TWO,
-        OPEN_2,
-        "--method sync --backends 2 f",
-        ("", "cannot open\n", 3),
-    ),
-    (
-        "a file that is not there",
-        TWO,
-        STEADY,
-        "h",
-        ("", "cannot open\n", 3),
-    ),
-    (
-        "totals behind an invalid page",
-        &[],
-        STEADY,
-        "--method sync --backends 1 --stats g",
-        (
-            "",
-            "invalid page 0 0\nincarnations 1 workers 0 backends 1\n",
-            1,
-        ),
-    ),
-    (
-        "no totals behind a refusal",
-        TWO,
-        STEADY,
-        "--stats f h",
-        ("", "cannot open\n", 3),
-    ),
-    (
-        "to for each file",
-        TWO,
-        STEADY,
-        "--to 0 f g f",
-        (E_LINE, "invalid page 1 0\n", 1),
-    ),
+// The second file is damaged.
+const ROWS: [&str; 14] = [
+    "a second file that is damaged | f:EE g:D | f g | 0/0-1 | invalid page 1 0 | 1",
+    "a read that fails | f:EEE g:D read=2 | --method sync --backends 1 f | 0/0 | unread page 0 1 | 3",
+    "from above to | f:EEE g:D | --from 2 --to 1 f | | | 0",
+    "a file twice | f:E g:D | f f | 0/0 0/0 | | 0",
+    "to behind the end | f:EEEE g:D | --from 3 --to 4 f | 0/3 | no page 0 4 | 6",
+    "from behind the end | f:EEEE g:D | --from 4 f | | | 0",
+    "a first length that fails | f:EE g:D length=1 | f | | no length 0 | 3",
+    "a second length that fails | f:EE g:D length=2 | f f g | | no length 1 | 3",
+    "an open that fails | f:EE g:D open=1 | f | | cannot open | 3",
+    "a second disk that cannot be opened | f:EE g:D open=2 | --method sync --backends 2 f | | \
+     cannot open | 3",
+    "a file that is not there | f:EE g:D | h | | cannot open | 3",
+    "totals behind an invalid page | f: g:D | --method sync --backends 1 --stats g | | \
+     invalid page 0 0; totals 1 | 1",
+    "no totals behind a refusal | f:EE g:D | --stats f h | | cannot open | 3",
+    "to for each file | f:EE g:D | --to 0 f g f | 0/0 | invalid page 1 0 | 1",
 ];
 
-// The second file is damaged.
 #[test]
 fn every_status(rt: HostRuntime) -> Result<(), Fail> {
-    for (name, pages, faults, line, wanted) in RUNS {
-        expect(&rt, name, (pages, &[DAMAGED]), faults, line, wanted)?;
-    }
-    Ok(())
+    check_rows(&rt, "", &ROWS)
+}
+
+// Lengths that are refused or fail come before the open of a further disk, which fails too.
+const BEFORE_FURTHER_DISKS: [&str; 3] = [
+    "too long | f:E f.1:E f.2:E f.3:E f.4:E f.5:E f.6:E f.7:E f.8:E f.9:E f.10:E f.11:E f.12:E \
+     f.13:E f.14:E f.15:E f.16:E segment=1 open=2 | f | | relation 0 is too long | 7",
+    "no length | f:E segment=1 open=2 length=1 | f | | no length 0 | 3",
+    "neither | f:E segment=1 open=2 | f | | cannot open | 3",
+];
+
+#[test]
+fn lengths_come_before_further_disks(rt: HostRuntime) -> Result<(), Fail> {
+    check_rows(&rt, "--method sync --backends 2", &BEFORE_FURTHER_DISKS)
 }

@@ -153,16 +153,6 @@ struct LongRun {
     shelf: LongShelf,
 }
 
-// A run over such relations.
-fn run_long_relations<R: Abort + AllocGlobal + Threads + Wait + Sync>(
-    rt: &R,
-    length: u32,
-    seen: u32,
-    line: &str,
-) -> Result<LongRun, Fail> {
-    run_over(rt, long_shelf(rt.alloc(), length, seen), line)
-}
-
 // A run over relations of this shelf.
 fn run_over<R: Abort + AllocGlobal + Threads + Wait + Sync>(
     rt: &R,
@@ -184,9 +174,9 @@ fn run_over<R: Abort + AllocGlobal + Threads + Wait + Sync>(
 
 // Compares what such a run shows.
 fn check_long_run<R: Abort>(rt: &R, done: &LongRun, wanted: TestOutcome<'_>) {
-    assert_eq!(rt; done.out.bytes(), wanted.0.as_bytes());
-    assert_eq!(rt; done.err.bytes(), wanted.1.as_bytes());
-    assert_eq!(rt; done.report.status, wanted.2);
+    assert_eq!(rt; done.out.bytes(), wanted.0.as_bytes(), "{wanted:?}");
+    assert_eq!(rt; done.err.bytes(), wanted.1.as_bytes(), "{wanted:?}");
+    assert_eq!(rt; done.report.status, wanted.2, "{wanted:?}");
 }
 
 #[test]
@@ -198,42 +188,33 @@ fn lengths_that_nothing_tells(rt: HostRuntime) -> Result<(), Fail> {
         (0, "", 0, (1, 2, 0)),
     ];
     for (length, said, status, calls) in rows {
-        let done = run_long_relations(&rt, length, 0, line)?;
+        let done = run_over(&rt, long_shelf(rt.alloc(), length, 0), line)?;
         check_long_run(&rt, &done, ("", said, status));
-        let shelf = &done.shelf;
-        assert_eq!(rt; (shelf.opens, shelf.lengths, shelf.reads), calls);
+        let made = (done.shelf.opens, done.shelf.lengths, done.shelf.reads);
+        assert_eq!(rt; made, calls, "{length} blocks");
     }
     Ok(())
 }
 
 #[test]
 fn fewer_pages_than_its_length(rt: HostRuntime) -> Result<(), Fail> {
-    let rows: [(u32, u32, &str, &[Read]); 3] = [
-        (
-            6,
-            4,
-            "no page 0 4\nincarnations 4 workers 0 backends 4\n",
-            &[(0, 1, 1), (1, 2, 2), (3, 3, 1), (4, 2, 0)],
-        ),
-        (
-            8,
-            7,
-            "no page 0 7\nincarnations 4 workers 0 backends 4\n",
-            &[(0, 1, 1), (1, 2, 2), (3, 4, 4), (7, 1, 0)],
-        ),
-        (
-            8,
-            0,
-            "no page 0 0\nincarnations 1 workers 0 backends 1\n",
-            &[(0, 1, 0)],
-        ),
+    let rows: [(u32, u32, u32, &[Read]); 3] = [
+        (6, 4, 4, &[(0, 1, 1), (1, 2, 2), (3, 3, 1), (4, 2, 0)]),
+        (8, 7, 4, &[(0, 1, 1), (1, 2, 2), (3, 4, 4), (7, 1, 0)]),
+        (8, 0, 1, &[(0, 1, 0)]),
     ];
     let line = "--method sync --backends 1 --stats f";
-    for (length, seen, lines, log) in rows {
-        let done = run_long_relations(&rt, length, seen, line)?;
+    for (length, seen, ios, log) in rows {
+        let done = run_over(&rt, long_shelf(rt.alloc(), length, seen), line)?;
         let text = empty_lines(rt.alloc(), 0, seen)?;
-        check_long_run(&rt, &done, (text.as_str(), lines, 6));
-        assert_eq!(&rt; done.shelf.log.as_slice(), log);
+        let mut said = format!(in rt.alloc(); "no page 0 {seen}\n")?;
+        writeln!(said, "incarnations {ios} workers 0 backends {ios}")?;
+        check_long_run(&rt, &done, (text.as_str(), said.as_str(), 6));
+        assert_eq!(&rt;
+            done.shelf.log.as_slice(),
+            log,
+            "{length} blocks, {seen} seen"
+        );
     }
     Ok(())
 }

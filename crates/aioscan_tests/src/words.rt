@@ -1,25 +1,10 @@
 //! Words that are a command, and what they ask for.
-use aioscan_cmd::{Refusal, read_command};
+use aioscan_cmd::{Command, Refusal, read_command};
 use aioscan_fixtures::runs::words_of;
-use scan_rounds::{MethodKind, ScanSettings};
+use scan_rounds::ScanSettings;
 use std::alloc::Global;
 use std::process::Abort;
 use std::test::Fail;
-
-const DEFAULTS: ScanSettings = ScanSettings {
-    method: MethodKind::Worker,
-    workers: 3,
-    backends: 2,
-    combine: 16,
-    concurrency: 16,
-    handles: 16,
-    buffers: 128,
-    batch: false,
-    full: false,
-    segment: 131072,
-    zero: false,
-    tuples: false,
-};
 
 /// The words with a space behind each.
 pub(crate) fn joined(alloc: Global, words: &[&str]) -> Result<String, Fail> {
@@ -41,135 +26,75 @@ pub(crate) fn is_command(alloc: Global, line: &str) -> Result<bool, Fail> {
     }
 }
 
-const EVERY_OPTION: ScanSettings = ScanSettings {
-    method: MethodKind::Sync,
-    workers: 4,
-    backends: 5,
-    combine: 6,
-    concurrency: 7,
-    handles: 8,
-    buffers: 19,
-    batch: true,
-    full: false,
-    segment: 131072,
-    zero: false,
-    tuples: false,
-};
-
-/// A name, the words, the settings, the first block and how many of a file of 10 blocks, and the
-/// files.
-type Row = (
-    &'static str,
-    &'static str,
-    ScanSettings,
-    (u32, u32),
-    &'static str,
-);
-
-const ROWS: [Row; 12] = [
-    ("a file alone", "f", DEFAULTS, (0, 10), "f "),
-    (
-        "--combine=128",
-        "--combine=128 e",
-        ScanSettings {
-            combine: 128,
-            ..DEFAULTS
-        },
-        (0, 10),
-        "e ",
-    ),
-    (
-        "--zero-damaged",
-        "e --zero-damaged",
-        ScanSettings {
-            zero: true,
-            ..DEFAULTS
-        },
-        (0, 10),
-        "e ",
-    ),
-    (
-        "--tuples",
-        "--tuples e",
-        ScanSettings {
-            tuples: true,
-            ..DEFAULTS
-        },
-        (0, 10),
-        "e ",
-    ),
-    (
-        "every option",
-        "--method sync --workers 4 --backends 5 --combine 6 --concurrency 7 \
-         --handles 8 --buffers 19 --from 1 --to 3 --batch f",
-        EVERY_OPTION,
-        (1, 3),
-        "f ",
-    ),
-    (
-        "options between and behind files",
-        "f --full g --to=12 h --from=12",
-        ScanSettings {
-            full: true,
-            ..DEFAULTS
-        },
-        (12, 1),
-        "f g h ",
-    ),
-    ("7 digits", "--from 0000007 f", DEFAULTS, (7, 3), "f "),
-    (
-        "--from above --to",
-        "--from 5 --to 4 f",
-        DEFAULTS,
-        (5, 0),
-        "f ",
-    ),
-    (
-        "--method worker",
-        "--method=worker f",
-        DEFAULTS,
-        (0, 10),
-        "f ",
-    ),
-    (
-        "--method ring",
-        "--method ring f",
-        ScanSettings {
-            method: MethodKind::Ring,
-            ..DEFAULTS
-        },
-        (0, 10),
-        "f ",
-    ),
-    (
-        "words behind --",
-        "f -- --full -x --",
-        DEFAULTS,
-        (0, 10),
-        "f --full -x -- ",
-    ),
-    (
-        "scan, help and - name files",
-        "scan help - f f",
-        DEFAULTS,
-        (0, 10),
-        "scan help - f f ",
-    ),
+/// A name, the words, and what they ask for: the method, how many workers and backends, how many
+/// blocks are combined, how many I/Os a backend has, its handles, the frames, the flags; the first
+/// block and how many of a file of 10 blocks; and the files.
+const ROWS: [&str; 12] = [
+    "a file alone; f; Worker 3 2 16 16 16 128, 0 10, f",
+    "--combine=128; --combine=128 e; Worker 3 2 128 16 16 128, 0 10, e",
+    "--zero-damaged; e --zero-damaged; Worker 3 2 16 16 16 128 zero, 0 10, e",
+    "--tuples; --tuples e; Worker 3 2 16 16 16 128 tuples, 0 10, e",
+    "every option; --method sync --workers 4 --backends 5 --combine 6 --concurrency 7 \
+     --handles 8 --buffers 19 --from 1 --to 3 --batch f; Sync 4 5 6 7 8 19 batch, 1 3, f",
+    "options between and behind files; f --full g --to=12 h --from=12; \
+     Worker 3 2 16 16 16 128 full, 12 1, f g h",
+    "7 digits; --from 0000007 f; Worker 3 2 16 16 16 128, 7 3, f",
+    "--from above --to; --from 5 --to 4 f; Worker 3 2 16 16 16 128, 5 0, f",
+    "--method worker; --method=worker f; Worker 3 2 16 16 16 128, 0 10, f",
+    "--method ring; --method ring f; Ring 3 2 16 16 16 128, 0 10, f",
+    "words behind --; f -- --full -x --; Worker 3 2 16 16 16 128, 0 10, f --full -x --",
+    "scan, help and - name files; scan help - f f; Worker 3 2 16 16 16 128, 0 10, scan help - f f",
 ];
 
-fn check_command<R: Abort + AllocGlobal>(
-    rt: &R,
-    (name, line, settings, blocks, files): Row,
-) -> Result<(), Fail> {
-    let words = words_of(rt.alloc(), line)?;
+// What a command asks for, as a row has it.
+fn command_text(alloc: Global, command: &Command<'_>) -> Result<String, Fail> {
+    let ScanSettings {
+        method,
+        workers,
+        backends,
+        combine,
+        concurrency,
+        handles,
+        buffers,
+        batch,
+        full,
+        segment: _,
+        zero,
+        tuples,
+    } = command.settings();
+    let mut text = format!(in alloc; "{method:?} {workers} {backends} {combine}")?;
+    write!(text, " {concurrency} {handles} {buffers}")?;
+    let flags = [
+        (batch, " batch"),
+        (full, " full"),
+        (zero, " zero"),
+        (tuples, " tuples"),
+    ];
+    for (set, word) in flags {
+        if set {
+            text.push_str(word)?;
+        }
+    }
+    let (first, count) = (command.first_block(), command.asked_count(10));
+    write!(text, ", {first} {count}, ")?;
+    text.push_str(joined(alloc, command.files())?.as_str())?;
+    Ok(text)
+}
+
+fn check_command<R: Abort + AllocGlobal>(rt: &R, row: &str) -> Result<(), Fail> {
+    let mut fields = row.split(';');
+    let name = fields.next().unwrap_or("");
+    let words = words_of(rt.alloc(), fields.next().unwrap_or(""))?;
     let Ok(command) = read_command(rt.alloc(), words.as_slice()) else {
         return Err(Fail::from(name));
     };
-    assert_eq!(rt; command.settings(), settings, "{name}");
-    let asked = (command.first_block(), command.asked_count(10));
-    assert_eq!(rt; asked, blocks, "{name}");
-    let named = joined(rt.alloc(), command.files())?;
-    assert_eq!(rt; named.as_str(), files, "{name}");
+    assert_eq!(rt; command.settings().segment, 131072, "{name}");
+    let text = command_text(rt.alloc(), &command)?;
+    let wanted = fields.next().unwrap_or("");
+    assert!(rt;
+        text.split_whitespace().eq(wanted.split_whitespace()),
+        "{name}: {text}"
+    );
     Ok(())
 }
 

@@ -1,5 +1,5 @@
 //! Random maps and requests, beside a plain lister of the blocks that a map does not mark.
-use crate::map_reads::HEADER;
+use crate::map_runs::HEADER;
 use crate::random_requests::{expect_outcome, line_of, pick, random_block, random_file};
 use crate::settings::random_settings;
 use aioscan_fixtures::plain_lister::{RandomRequest, list_page, reference_run};
