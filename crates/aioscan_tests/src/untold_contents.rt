@@ -172,11 +172,11 @@ fn run_over<R: Abort + AllocGlobal + Threads + Wait + Sync>(
     })
 }
 
-// Compares what such a run shows.
-fn check_long_run<R: Abort>(rt: &R, done: &LongRun, wanted: TestOutcome<'_>) {
-    assert_eq!(rt; done.out.bytes(), wanted.0.as_bytes(), "{wanted:?}");
-    assert_eq!(rt; done.err.bytes(), wanted.1.as_bytes(), "{wanted:?}");
-    assert_eq!(rt; done.report.status, wanted.2, "{wanted:?}");
+// Compares what a run over relations of this length shows.
+fn check_long_run<R: Abort>(rt: &R, length: u32, done: &LongRun, wanted: TestOutcome<'_>) {
+    assert_eq!(rt; done.out.bytes(), wanted.0.as_bytes(), "{length} blocks");
+    assert_eq!(rt; done.err.bytes(), wanted.1.as_bytes(), "{length} blocks");
+    assert_eq!(rt; done.report.status, wanted.2, "{length} blocks");
 }
 
 #[test]
@@ -189,7 +189,7 @@ fn lengths_that_nothing_tells(rt: HostRuntime) -> Result<(), Fail> {
     ];
     for (length, said, status, calls) in rows {
         let done = run_over(&rt, long_shelf(rt.alloc(), length, 0), line)?;
-        check_long_run(&rt, &done, ("", said, status));
+        check_long_run(&rt, length, &done, ("", said, status));
         let made = (done.shelf.opens, done.shelf.lengths, done.shelf.reads);
         assert_eq!(rt; made, calls, "{length} blocks");
     }
@@ -209,7 +209,7 @@ fn fewer_pages_than_its_length(rt: HostRuntime) -> Result<(), Fail> {
         let text = empty_lines(rt.alloc(), 0, seen)?;
         let mut said = format!(in rt.alloc(); "no page 0 {seen}\n")?;
         writeln!(said, "incarnations {ios} workers 0 backends {ios}")?;
-        check_long_run(&rt, &done, (text.as_str(), said.as_str(), 6));
+        check_long_run(&rt, length, &done, (text.as_str(), said.as_str(), 6));
         assert_eq!(&rt;
             done.shelf.log.as_slice(),
             log,
