@@ -121,16 +121,7 @@ row_given b given others k first got n some size none few count blocks gives =
     (run_given b given pages first got n (omega arith) few count (omega arith)
     (row_held k given n got (omega arith) (omega arith)) gives)
 
+-- there is no block of the greatest number
 pub no_block : (bytes : List ℕ) (first : ℕ) → 2 ^ 32 ≤ first + 1 → first < block_count bytes → ⊥
 unfolding block_count
 no_block bytes first last below = omega arith
-
--- there is no block of the greatest number
-pub no_room : (b : Option Source) (first : ℕ) (pages : List (List ℕ)) → 2 ^ 32 ≤ first + 1
-    → IfSome b (λ s. ReadsBlocks s.bytes first 0 pages)
-no_room None first pages last = tt
-no_room (Some s) first pages last = record {
-  within = omega arith;
-  some = λ below. absurd (no_block s.bytes first last below);
-  told_pages = refl;
-}

@@ -44,13 +44,13 @@ pub record SeatCloses (number : ℕ) (s s' : SeatView) : Type 0 where
   pub closes : s'.closes ≡ s.closes ++ number ∷ []
 
 -- the seat's last load read the closing word of a queue that is closed under this number of
--- reopenings, some seat has closed it so, and at a later moment of the call no entry stood there
+-- reopenings, some seat has closed it so, and at a moment of the call no entry stood there
 pub record FoundClosed (handles number word : ℕ) (s : SeatView) : Type 0 where
   pub word_is : word ≡ number * 2 + 1
   pub has_closer : ClosingWordHasCloser (word_notes s.closes s.loads) word
   pub was_empty : WasEmpty handles s
 
--- what a pop tells that has read this closing word before
+-- what a pop tells that reads this closing word
 abbrev pub PopAnswers : ℕ → ℕ → ℕ → SeatView → SeatView → Pop → Type 0
 PopAnswers handles number word s s' (pop.Entry t) = SeatPops (t ∷ []) (word ∷ []) s s'
     × (t.handle < handles)

@@ -156,7 +156,7 @@ module _ {W D : Type 0} where
         → IsBackendOf tuples p k (slice_index_or bs k b)
     pub left_are : IsLeftByBackends (length bs) p left
 
-  -- each worker of the list has
+  -- each worker of the list has the parts of its number, and these are left
   pub record GivesWorkers (p left : Parts W D) (ws : List (Worker W D)) : Type 0 where
     pub each : (k : ℕ) (w : Worker W D) → k < length ws → IsWorkerOf p k (slice_index_or ws k w)
     pub left_are : IsLeftByWorkers (length ws) p left
