@@ -17,7 +17,6 @@ mod QueueClosed
 mod ScanAfterRounds
 mod SharesInParallel
 mod JobsInSequence
-mod ShareSplit
 pub mod ThreadPremises
 mod ResultsMatchExecutions
 mod DisksCountForActors

@@ -1,10 +1,13 @@
--- Backends that turn side by side: what each may do, and what all have done.
-use Rattle.std.proofs.Common.{◌≡◌, ℕ, zero, suc, ◌*◌, ◌<◌, ◌≤◌, List, [], ◌∷◌, ◌++◌, length}
-use Rattle.std.proofs.Common.{arith, cond, length-append, ap, map, refl, subst, sym}
-use Rattle.std.specs.Prelude.{Option, flat_map, slice_index_or, ⊤}
+-- Backends that do their shares side by side: what each half may do, and what both have done.
+use Rattle.std.proofs.Common.{◌≡◌, ℕ, ◌*◌, ◌<◌, ◌≤◌, List, [], ◌∷◌, ◌++◌, length, arith, cond}
+use Rattle.std.proofs.Common.{length-append, ap, refl, subst, sym, ◌∙◌, ◌-◌, ◌+◌}
+use Rattle.std.specs.Prelude.{Option, slice_index_or, slice_set, ⊤}
 use Rattle.std.specs.List.{All}
+use Rattle.std.proofs.lemmas.List.{get_or_append_left, get_or-append-add}
 use Rattle.std.proofs.lemmas.List.Elements.{All-nil, All-cons, All-head, All-tail}
 use Rattle.std.proofs.lemmas.List.Sums.{sum_by-append}
+use mathlib.Core.Logic.{dite}
+use native.Mathlib.Decide.{dec_le}
 use Rattle.page_check.specs.Told.{Told}
 use Rattle.aio_word.specs.Tokens.{failed_result_count}
 use Rattle.aio_handle.specs.ContractViews.{TableView}
@@ -15,12 +18,12 @@ use Rattle.scan_rounds.specs.DiskActors.{IsBackend, ActorHasRoom, BackendAdvance
 use Rattle.scan_rounds.specs.Jobs.{IsNewJob, JobIsListed, entries_of_job, is_unread}
 use Rattle.scan_rounds.specs.ListOptions.{ListOptions}
 use Rattle.scan_rounds.specs.BlockFilter.{BlockFilter}
-use Rattle.scan_rounds.specs.Shares.{SharesAreFilled, Share}
 use Rattle.scan_rounds.specs.Rounds.{AllHaveOptions, AllJobsListed}
 use Rattle.scan_rounds.specs.Turns.{BackendsMayDoJobs, BackendsDidJobs, ListedAlone}
+use Rattle.scan_rounds.specs.Turns.{BackendsMayDoShares, SharesDone}
 use Rattle.scan_rounds.specs.declared.backend.Backend.{Backend}
 use Rattle.scan_rounds.specs.declared.job.Job.{Job}
-use Rattle.scan_rounds.proofs.ListPairs.{zip-append}
+use Rattle.scan_rounds.proofs.ListPairs.{zip-append, zip-length}
 
 pub all_front : {X : Type 0} (P : X → Type 0) (xs ys : List X) → All P (xs ++ ys) → All P xs
 all_front P [] ys all = All-nil P
@@ -31,131 +34,175 @@ pub all_back : {X : Type 0} (P : X → Type 0) (xs ys : List X) → All P (xs ++
 all_back P [] ys all = all
 all_back P (x ∷ xs) ys all = all_back P xs ys (All-tail P x (xs ++ ys) all)
 
+only_one : {X : Type 0} (xs : List X) (d : X) → length xs ≡ 1 → slice_index_or xs 0 d ∷ [] ≡ xs
+only_one (x ∷ []) d one = refl
+only_one [] d one = absurd (omega arith)
+only_one (x ∷ y ∷ xs) d one = absurd (omega arith)
+
+only_set : {X : Type 0} (xs : List X) (y : X) → length xs ≡ 1 → y ∷ [] ≡ slice_set xs 0 y
+only_set (x ∷ []) y one = refl
+only_set [] y one = absurd (omega arith)
+only_set (x ∷ z ∷ xs) y one = absurd (omega arith)
+
 module _ {W D : Type 0} (m : DiskGhosts D) (told : Option Told) (relations : ℕ) (t : TableView)
-    (q : QueueView) where
-  -- what some have done beside others is what all have done
-  brought_together : (block_filter : Option BlockFilter) (most : ℕ)
-      (gs bs cs ds : List (Backend W D)) (xs ys vs ws : List Job)
-      → BackendsDidJobs m told relations t q block_filter most gs cs xs vs
-      → BackendsDidJobs m told relations t q block_filter most bs ds ys ws
-      → BackendsDidJobs m told relations t q block_filter most (gs ++ bs) (cs ++ ds) (xs ++ ys)
-      (vs ++ ws)
-  brought_together block_filter most gs bs cs ds xs ys vs ws one two = record {
-    backends = zip-append (BackendAdvanced m told relations t q most) gs bs cs ds one.backends
-        two.backends;
-    jobs_are = omega (arith, length-append vs ws, length-append xs ys, one.jobs_are, two.jobs_are);
-    results_bound = (let f : Backend W D → ℕ = λ b. local_mark_count b.disk_actor.actor.known.marks in
-        let w : Job → ℕ = λ j. length (entries_of_job block_filter j) in
-        omega (
-          arith,
-          one.results_bound,
-          two.results_bound,
-          sum_by-append f cs ds,
-          sum_by-append f gs bs,
-          sum_by-append w xs ys,
-        ));
-    unread = (let f : Backend W D → ℕ = λ b. failed_result_count b.disk_actor.actor.known.marks in
-        let w : Job → ℕ = λ j. cond (is_unread j.ending) 1 0 in
-        omega (
-          arith,
-          one.unread,
-          two.unread,
-          sum_by-append f cs ds,
-          sum_by-append f gs bs,
-          sum_by-append w vs ws,
-        ));
-    answered = λ how all. zip-append (JobIsListed block_filter how told (λ _. ⊤)) xs ys vs ws
-        (one.answered how (all_front (λ (b : Backend W D). backend_options b ≡ how) gs bs all))
-        (two.answered how (all_back (λ (b : Backend W D). backend_options b ≡ how) gs bs all));
-  }
+    (q : QueueView) (share : ℕ) where
+  -- a backend alone may do its share
+  pub may_alone : (bs : List (Backend W D)) (d : Backend W D) (js : List Job) → length bs ≡ 1
+      → BackendsMayDoShares m told relations t q share bs js
+      → BackendsMayDoJobs m told relations t q share (slice_index_or bs 0 d ∷ []) js
+  may_alone bs d js one may = rw (only_one bs d one) may.may
 
-  -- what each has done of its share is what all have done
-  pub shares_done : (block_filter : Option BlockFilter) (most : ℕ)
-      (shares : List (Share (Backend W D) Job)) → All
-      (λ (s : Share (Backend W D) Job). BackendsDidJobs m told relations t q block_filter most
-      (s.before ∷ []) (s.after ∷ []) s.tasks s.done) shares
-      → BackendsDidJobs m told relations t q block_filter most
-      (map (λ (s : Share (Backend W D) Job). s.before) shares)
-      (map (λ (s : Share (Backend W D) Job). s.after) shares)
-      (flat_map (λ (s : Share (Backend W D) Job). s.tasks) shares)
-      (flat_map (λ (s : Share (Backend W D) Job). s.done) shares)
-  shares_done block_filter most [] all = record {
-    backends = tt;
-    jobs_are = refl;
-    results_bound = omega arith;
-    unread = omega arith;
-    answered = λ how all. tt;
-  }
-  shares_done block_filter most (s ∷ shares) all =
-      let P : Share (Backend W D) Job → Type 0 = λ r. BackendsDidJobs m told relations t q
-      block_filter most (r.before ∷ []) (r.after ∷ []) r.tasks r.done in
-      brought_together block_filter most (s.before ∷ []) _ (s.after ∷ []) _ s.tasks _ s.done _
-      (All-head P s shares all) (shares_done block_filter most shares (All-tail P s shares all))
+  -- and then it has
+  pub alone_done : {block_filter : Option BlockFilter} (bs : List (Backend W D))
+      (d c : Backend W D) (js ks : List Job) → length bs ≡ 1 → length js ≤ share
+      → BackendsDidJobs m told relations t q block_filter (64 * share)
+      (slice_index_or bs 0 d ∷ []) (c ∷ []) js ks
+      → ListedAlone told block_filter (slice_index_or bs 0 d) c js ks
+      → SharesDone m told relations t q block_filter share bs (slice_set bs 0 c) js ks
+  alone_done {block_filter} bs d c js ks one few done alone = rw (sym (only_set bs c one)) (record {
+    done = rw (sym (only_one bs d one)) done;
+    by_place = λ is how all.
+        (let b = slice_index_or bs 0 d in
+        let options : backend_options b ≡ how = All-head (λ (x : Backend W D). backend_options x
+        ≡ how) b [] (subst (λ (l : List (Backend W D)). AllHaveOptions how l) (sym (only_one bs d
+        one)) all) in
+        rw (sym (only_one bs d one)) (subst (λ (n : ListOptions). AllJobsListed block_filter n told
+        (b ∷ []) (c ∷ []) js ks) options (alone (omega arith))));
+  })
 
-  -- one of the backends may do a part of the jobs
-  pub may_share : (share i : ℕ) (b : Backend W D) (bs : List (Backend W D)) (xs js ys ks : List Job)
-      → i < length bs → b ≡ slice_index_or bs i b → ks ≡ xs ++ (js ++ ys)
-      → BackendsMayDoJobs m told relations t q share bs ks
-      → BackendsMayDoJobs m told relations t q share (b ∷ []) js
-  may_share share i b bs xs js ys ks lt is part may = record {
-    backends = one (IsBackend m told relations t q) may.backends;
-    room = one (λ (x : Backend W D). ActorHasRoom (64 * share) x.disk_actor.actor) may.room;
-    fresh = all_front (IsNewJob relations) js ys (all_back (IsNewJob relations) xs (js ++ ys)
-        (subst (All (IsNewJob relations)) part may.fresh));
-  }
-    where
-      one : (P : Backend W D → Type 0) → All P bs → All P (b ∷ [])
-      one P all = All-cons P b [] (subst P (sym is) (all i b lt)) (All-nil P)
-
--- shares of one job at most, one behind the other: each job is its own backend's
-placed : {W D : Type 0} (block_filter : Option BlockFilter) (how : ListOptions)
-    (told : Option Told) (b c : Backend W D) (bs cs : List (Backend W D))
-    (xs vs ys ws : List Job) → length xs ≤ 1 → (length xs < 1 → ys ≡ [])
-    → AllJobsListed block_filter how told (b ∷ []) (c ∷ []) xs vs
-    → AllJobsListed block_filter how told bs cs ys ws
-    → AllJobsListed block_filter how told (b ∷ bs) (c ∷ cs) (xs ++ ys) (vs ++ ws)
-placed block_filter how told b c bs cs (x ∷ []) (v ∷ []) ys ws few full one rest = record {
-  jobs_are = omega (arith, rest.jobs_are);
-  each = elim [
-    | zero ↦ λ d j lt. one.each 0 d j (omega arith)
-    | suc i ↦ λ d j lt. rest.each i d j (omega arith)
-  ];
-}
-placed block_filter how told b c bs cs [] [] ys ws few full one rest =
-    let none = ap length (full (omega arith)) in record {
-      jobs_are = rest.jobs_are;
-      each = λ i d j lt. absurd (omega arith);
+  module _ (bs gs : List (Backend W D)) (xs ys : List Job) where
+    -- so may some of the backends a part of the jobs
+    pub may_front : 1 ≤ length bs → length xs ≤ share * length bs
+        → BackendsMayDoShares m told relations t q share (bs ++ gs) (xs ++ ys)
+        → BackendsMayDoShares m told relations t q share bs xs
+    may_front some fit all = record {
+      some = some;
+      fit = fit;
+      may = record {
+        backends = all_front (IsBackend m told relations t q) bs gs all.may.backends;
+        room = all_front (λ (x : Backend W D). ActorHasRoom (64 * share) x.disk_actor.actor) bs gs
+            all.may.room;
+        fresh = all_front (IsNewJob relations) xs ys all.may.fresh;
+      };
     }
-placed block_filter how told b c bs cs [] (v ∷ vs) ys ws few full one rest =
-    absurd (omega (arith, one.jobs_are))
-placed block_filter how told b c bs cs (x ∷ []) [] ys ws few full one rest =
-    absurd (omega (arith, one.jobs_are))
-placed block_filter how told b c bs cs (x ∷ []) (v ∷ w ∷ vs) ys ws few full one rest =
-    absurd (omega (arith, one.jobs_are))
-placed block_filter how told b c bs cs (x ∷ y ∷ xs) vs ys ws few full one rest =
-    absurd (omega arith)
 
-pub shares_placed : {W D : Type 0} (block_filter : Option BlockFilter) (how : ListOptions)
-    (told : Option Told) (shares : List (Share (Backend W D) Job)) → SharesAreFilled 1 shares
-    → All (λ (s : Share (Backend W D) Job). ListedAlone told block_filter s.before s.after s.tasks
-    s.done) shares
-    → AllHaveOptions how (map (λ (s : Share (Backend W D) Job). s.before) shares)
-    → AllJobsListed block_filter how told (map (λ (s : Share (Backend W D) Job). s.before) shares)
-    (map (λ (s : Share (Backend W D) Job). s.after) shares)
-    (flat_map (λ (s : Share (Backend W D) Job). s.tasks) shares)
-    (flat_map (λ (s : Share (Backend W D) Job). s.done) shares)
-shares_placed block_filter how told [] filled all options = record {
-  jobs_are = refl;
-  each = λ i d j lt. absurd (omega arith);
-}
-shares_placed {W} {D} block_filter how told (s ∷ shares) filled all options =
-    let Own : Share (Backend W D) Job → Type 0 = λ r. ListedAlone told block_filter r.before
-    r.after r.tasks r.done in
-    let Options : Backend W D → Type 0 = λ b. backend_options b ≡ how in
-    let befores = map (λ (r : Share (Backend W D) Job). r.before) shares in
-    let own = subst (λ (n : ListOptions). AllJobsListed block_filter n told (s.before ∷ [])
-    (s.after ∷ []) s.tasks s.done) (All-head Options s.before befores options)
-    (All-head Own s shares all filled.0) in
-    placed block_filter how told s.before s.after _ _ s.tasks s.done _ _ filled.0 filled.1 own
-    (shares_placed block_filter how told shares filled.2 (All-tail Own s shares all)
-    (All-tail Options s.before befores options))
+    pub may_back : 1 ≤ length gs → length ys ≤ share * length gs
+        → BackendsMayDoShares m told relations t q share (bs ++ gs) (xs ++ ys)
+        → BackendsMayDoShares m told relations t q share gs ys
+    may_back some fit all = record {
+      some = some;
+      fit = fit;
+      may = record {
+        backends = all_back (IsBackend m told relations t q) bs gs all.may.backends;
+        room = all_back (λ (x : Backend W D). ActorHasRoom (64 * share) x.disk_actor.actor) bs gs
+            all.may.room;
+        fresh = all_back (IsNewJob relations) xs ys all.may.fresh;
+      };
+    }
+
+    module _ {block_filter : Option BlockFilter} (cs ds : List (Backend W D)) (vs ws : List Job)
+      where
+        -- what some have done beside others is what all have done
+        did_together : (most : ℕ) → BackendsDidJobs m told relations t q block_filter most bs cs xs vs
+            → BackendsDidJobs m told relations t q block_filter most gs ds ys ws
+            → BackendsDidJobs m told relations t q block_filter most (bs ++ gs) (cs ++ ds) (xs ++ ys)
+            (vs ++ ws)
+        did_together most one two = record {
+          backends = zip-append (BackendAdvanced m told relations t q most) bs gs cs ds one.backends
+              two.backends;
+          jobs_are = omega (
+            arith,
+            length-append vs ws,
+            length-append xs ys,
+            one.jobs_are,
+            two.jobs_are,
+          );
+          results_bound = (let f : Backend W D → ℕ =
+              λ b. local_mark_count b.disk_actor.actor.known.marks in
+              let w : Job → ℕ = λ j. length (entries_of_job block_filter j) in
+              omega (
+                arith,
+                one.results_bound,
+                two.results_bound,
+                sum_by-append f cs ds,
+                sum_by-append f bs gs,
+                sum_by-append w xs ys,
+              ));
+          unread = (let f : Backend W D → ℕ =
+              λ b. failed_result_count b.disk_actor.actor.known.marks in
+              let w : Job → ℕ = λ j. cond (is_unread j.ending) 1 0 in
+              omega (
+                arith,
+                one.unread,
+                two.unread,
+                sum_by-append f cs ds,
+                sum_by-append f bs gs,
+                sum_by-append w vs ws,
+              ));
+          answered = λ how all. zip-append (JobIsListed block_filter how told (λ _. ⊤)) xs ys vs ws
+              (one.answered how (all_front (λ (b : Backend W D). backend_options b ≡ how) bs gs all))
+              (two.answered how (all_back (λ (b : Backend W D). backend_options b ≡ how) bs gs all));
+        }
+
+        -- one job for each of the first backends, and then jobs for the others: each is still that of
+        -- the backend at its place
+        placed_together : (how : ListOptions) → length cs ≡ length bs → length xs ≤ length bs
+            → (length xs < length bs → ys ≡ [])
+            → AllJobsListed block_filter how told bs cs xs vs
+            → AllJobsListed block_filter how told gs ds ys ws
+            → AllJobsListed block_filter how told (bs ++ gs) (cs ++ ds) (xs ++ ys) (vs ++ ws)
+        placed_together how many fit full one two = record {
+          jobs_are = omega (
+            arith,
+            length-append vs ws,
+            length-append xs ys,
+            one.jobs_are,
+            two.jobs_are,
+          );
+          each = λ i d j lt.
+              dite (dec_le (length xs) i)
+              (λ behind.
+              (let jobs = length-append xs ys in
+              let as_many : length xs ≡ length bs =
+              dite (dec_le (length bs) (length xs)) (λ le. omega arith)
+              (λ less. (let none = ap length (full (omega arith)) in absurd (omega arith))) in
+              let k : ℕ = i - length xs in
+              let b : i ≡ length bs + k = omega arith in
+              let c : i ≡ length cs + k = omega arith in
+              let x : i ≡ length xs + k = omega arith in
+              let v : i ≡ length vs + k = omega (arith, one.jobs_are) in
+              rw (
+                ap (λ n. slice_index_or (bs ++ gs) n d) b ∙ get_or-append-add bs gs k d,
+                ap (λ n. slice_index_or (cs ++ ds) n d) c ∙ get_or-append-add cs ds k d,
+                ap (λ n. slice_index_or (xs ++ ys) n j) x ∙ get_or-append-add xs ys k j,
+                ap (λ n. slice_index_or (vs ++ ws) n j) v ∙ get_or-append-add vs ws k j,
+              )
+              (two.each k d j (omega arith))))
+              (λ before.
+              (let b : i < length bs = omega arith in
+              rw (
+                get_or_append_left bs gs d i b,
+                get_or_append_left cs ds d i (omega arith),
+                get_or_append_left xs ys j i (omega arith),
+                get_or_append_left vs ws j i (omega (arith, one.jobs_are)),
+              )
+              (one.each i d j (omega arith))));
+        }
+
+        pub done_together : length xs ≤ share * length bs
+            → (length xs < share * length bs → ys ≡ [])
+            → SharesDone m told relations t q block_filter share bs cs xs vs
+            → SharesDone m told relations t q block_filter share gs ds ys ws
+            → SharesDone m told relations t q block_filter share (bs ++ gs) (cs ++ ds) (xs ++ ys)
+            (vs ++ ws)
+        done_together fit full one two = record {
+          done = did_together (64 * share) one.done two.done;
+          by_place = λ is how all.
+              (let size : share * length bs ≡ length bs = ap (λ n. n * length bs) is ∙ omega arith in
+              placed_together how (zip-length _ _ _ one.done.backends) (omega arith)
+              (λ less. full (omega arith))
+              (one.by_place is how (all_front (λ (b : Backend W D). backend_options b ≡ how) bs gs
+              all))
+              (two.by_place is how (all_back (λ (b : Backend W D). backend_options b ≡ how) bs gs
+              all)));
+        }

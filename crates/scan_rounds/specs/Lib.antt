@@ -12,4 +12,3 @@ pub mod OpenedScan
 pub mod Scans
 pub mod Calls
 pub mod Turns
-pub mod Shares

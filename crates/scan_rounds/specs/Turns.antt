@@ -47,6 +47,21 @@ module _ {W D : Type 0} (m : DiskGhosts D) (told : Option Told) (relations : ℕ
     pub answered : (how : ListOptions) → AllHaveOptions how bs
         → AllZip (JobIsListed block_filter how told (λ _. ⊤)) js ks
 
+  -- they may do these jobs, each at most so many neighbouring ones
+  pub record BackendsMayDoShares (share : ℕ) (bs : List (Backend W D)) (js : List Job) : Type 0
+    where
+      pub some : 1 ≤ length bs
+      pub fit : length js ≤ share * length bs
+      pub may : BackendsMayDoJobs share bs js
+
+  -- each has done its share of the jobs. Where that is one job, each is that of the backend at its
+  -- place
+  pub record SharesDone (block_filter : Option BlockFilter) (share : ℕ) (bs cs : List (Backend W D))
+      (js ks : List Job) : Type 0 where
+    pub done : BackendsDidJobs block_filter (64 * share) bs cs js ks
+    pub by_place : share ≡ 1 → (how : ListOptions) → AllHaveOptions how bs
+        → AllJobsListed block_filter how told bs cs js ks
+
 -- a backend that had one of these jobs at most has listed it
 abbrev pub ListedAlone : {W D : Type 0} → Option Told → Option BlockFilter → Backend W D
     → Backend W D → List Job → List Job → Type 0

@@ -48,7 +48,6 @@ mod run;
 mod scan;
 mod settings;
 mod shared;
-mod sharing;
 mod source;
 mod turn;
 mod worker;

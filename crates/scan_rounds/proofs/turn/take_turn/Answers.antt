@@ -10,17 +10,21 @@ use Rattle.scan_rounds.proofs.turn.take_turn.Goals as goal
 pub do_shares-requires-clause-may : goal.do_shares-requires-clause-may
 do_shares-requires-clause-may g c κs within =
     let may = c.requires.may in record {
-      backends = may.ready.backends;
-      room = λ i d lt. fewer (64 * c.args.share) c.args.counts.now.room
-          (slice_index_or c.args.backends.now i d).disk_actor.actor may.room
-          (may.ready.room.all_have_room i d lt);
-      fresh = may.fresh;
+      some = may.ready.some;
+      fit = may.fit;
+      may = record {
+        backends = may.ready.backends;
+        room = λ i d lt. fewer (64 * c.args.share) c.args.counts.now.room
+            (slice_index_or c.args.backends.now i d).disk_actor.actor may.room
+            (may.ready.room.all_have_room i d lt);
+        fresh = may.fresh;
+      };
     }
 
 pub returns : goal.returns
 returns g c =
     let ready = c.requires.may.ready in
-    let done = c.do_shares.ensures.done in
+    let done = c.do_shares.ensures.done.done in
     let least = c.least_room-counts.ensures.least in
     let many = backends_many _ _ _ _ _ _ _ _ done.backends in record {
       ready = record {
@@ -36,7 +40,7 @@ returns g c =
             as_many = zip-length _ _ _ answered;
             each = λ i j lt. zip-at _ _ _ i j j answered lt;
           });
-      by_place = c.do_shares.ensures.by_place;
+      by_place = c.do_shares.ensures.done.by_place;
       room = room_falls _ _ _ _ _ _ _ _ done.backends _ _ ready.backends ready.room least;
       unread = c.count_unread-counts.ensures;
       results_bound = done.results_bound;
