@@ -8,7 +8,7 @@ ghost use Rattle.method_worker.specs.SeatCalls.{RuleAllows, WasFull, SeatPushes,
 ghost use Rattle.method_worker.specs.SeatCalls.{SeatCloses};
 
 use crate::log::{Log, Notes};
-use crate::rule::{PopStep, PushStep, QueuePass, RuledQueue, SeatSplit};
+use crate::rule::{PushStep, QueuePass, RuledQueue, SeatSplit, pop_entry};
 use crate::words::{
     WordSeat, Words, close_under, heard, load_closing, open_under, open_words, ring, sleep,
     split_word_seat, wake_all, wake_one,
@@ -249,10 +249,10 @@ impl<W: World> SubmitQueue<W> {
             × PopAnswers W.handles self.now.reopened word seat.old seat.new result }
     {
         let word = load_closing(&self.words, &mut seat.word_seat);
-        if let Some(reference) = self.entries.pop_as::<PopStep<W>, T>(rt, &mut seat.pass) {
+        if let Some(reference) = pop_entry(rt, &self.entries, &mut seat.pass, &word) {
             return Pop::Entry(reference);
         }
-        if word == self.reopened * 2 + 1 {
+        if word.get() == self.reopened * 2 + 1 {
             return Pop::Closed;
         }
         Pop::Empty

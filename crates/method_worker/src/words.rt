@@ -92,16 +92,35 @@ pub(crate) fn split_word_seat(words: &Words, seat: &mut WordSeat) -> WordSeat
     words.shared.split_seat::<NewSeat>(seat)
 }
 
-/// The closing word.
-pub(crate) fn load_closing(words: &Words, seat: &mut WordSeat) -> u64
+/// A closing word that a seat has read. Only [`load_closing`] makes one.
+#[derive(Drop)]
+pub(crate) struct ClosingWord {
+    word: u64,
+}
+
+impl ClosingWord {
+    pub(crate) fn get(&self) -> u64
+        ensures { result ≡ self.now.word }
+    {
+        self.word
+    }
+}
+
+/// Reads the closing word.
+pub(crate) fn load_closing(words: &Words, seat: &mut WordSeat) -> ClosingWord
     requires same_table { (seat.old.table_id ≡ words.now.shared.table_id)
         × (words.now.shared.table_id.words ≡ 2) }
     ensures same { seat.new.table_id ≡ seat.old.table_id }
     ensures notes_are { seat.new.me
-        ≡ (word_notes seat.old.me.0.closes (seat.old.me.0.loads ++ result ∷ []), seat.old.me.1) }
-    ensures closed { result % 2 ≡ 1 → ClosingWordHasCloser seat.new.me.0 result }
+        ≡ (
+          word_notes seat.old.me.0.closes (seat.old.me.0.loads ++ result.word ∷ []),
+          seat.old.me.1,
+        ) }
+    ensures closed { result.word % 2 ≡ 1 → ClosingWordHasCloser seat.new.me.0 result.word }
 {
-    words.shared.load::<LoadStep>(seat, CLOSING)
+    ClosingWord {
+        word: words.shared.load::<LoadStep>(seat, CLOSING),
+    }
 }
 
 /// Closes under this number of reopenings.
