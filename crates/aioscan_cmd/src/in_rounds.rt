@@ -44,12 +44,12 @@ pub(crate) fn list_rounds<
     out: &mut O,
     err: &mut E,
 ) -> (Outcome, Line, PageSums)
-    requires scan { IsScan D.Disk W.told W.relations scan.old }
+    requires scan { IsScan D.Disk W.World scan.old }
     requires room { 2 ^ 37 ≤ scan.old.room }
     requires asked { IsResolved asked }
     requires options { scan_options scan.old ≡ options_of_settings (resolved_settings asked) }
     requires world { W.relations ≡ length asked.relations.now }
-    ensures scan { IsScan D.Disk W.told W.relations scan.new }
+    ensures scan { IsScan D.Disk W.World scan.new }
     ensures same { IsSameScan scan.old scan.new }
     ensures lists { AppendsWarnings (IsOutput
         (format_of_options (options_of_settings (resolved_settings asked.entry))) W.told

@@ -35,10 +35,10 @@ pub fn take_all<W: World, E: Execute<ReadIo, W>, R: Wait + Print>(
 ) -> io::Result<()>
     requires table { IsActorOf table.now actor.old }
     requires told { (E.told runner.old ≡ W.told) × (E.relations runner.old ≡ W.relations) }
-    requires is_open { IsOpenFor (λ r. r) W.told W.relations W.handles stream.old actor.old }
+    requires is_open { IsOpenFor (λ r. r) W.World stream.old actor.old }
     ensures table { IsActorOf table.now actor.new }
     ensures told { (E.told runner.new ≡ W.told) × (E.relations runner.new ≡ W.relations) }
-    ensures is_open { IsOpenFor (λ r. r) W.told W.relations W.handles stream.new actor.new }
+    ensures is_open { IsOpenFor (λ r. r) W.World stream.new actor.new }
 {
     for _ in 0..11 {
         print_answer(rt, stream.next(rt, table, actor, &mut SyncMethod, runner))?;

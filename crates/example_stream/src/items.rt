@@ -40,12 +40,12 @@ fn count_all<W: World, E: Execute<ReadIo, W>, R: Wait>(
 ) -> (u64, u32)
     requires table { IsActorOf table.now actor.old }
     requires told { (E.told runner.old ≡ W.told) × (E.relations runner.old ≡ W.relations) }
-    requires is_open { IsOpenFor (λ r. r) W.told W.relations W.handles stream.old actor.old }
+    requires is_open { IsOpenFor (λ r. r) W.World stream.old actor.old }
     requires none { (stream_view (λ r. r) stream.old).given ≡ 0 }
     requires few { length (stream_view (λ r. r) stream.old).blocks < 2 ^ 32 }
     ensures same { IsSameActor actor.old actor.new }
     ensures told { (E.told runner.new ≡ W.told) × (E.relations runner.new ≡ W.relations) }
-    ensures is_open { IsOpenFor (λ r. r) W.told W.relations W.handles stream.new actor.new }
+    ensures is_open { IsOpenFor (λ r. r) W.World stream.new actor.new }
     ensures stream { IsSameStream (stream_view (λ r. r) stream.old)
         (stream_view (λ r. r) stream.new) }
     ensures counted { (end : Ending) × StreamCounted W.told (stream_view (λ r. r) stream.old)

@@ -1,9 +1,9 @@
 -- I/Os that are claimed for a group.
-use Rattle.std.proofs.Common.{◌≡◌, ◌≢◌, ℕ, ◌+◌, ◌<◌, ◌≤◌, List, [], ◌∷◌, ◌++◌, length, Option, Some}
+use Rattle.std.proofs.Common.{◌≡◌, ◌≢◌, ℕ, ◌+◌, List, [], ◌∷◌, ◌++◌, length, Some}
 use Rattle.std.proofs.Common.{refl, sym, ap, ◌∙◌, subst, ⊎_elim, arith, append-nil, append_assoc}
 use Rattle.std.proofs.Common.{length-append}
 use Rattle.std.proofs.lemmas.List.{map-append}
-use Rattle.page_check.specs.Told.{Told}
+use Rattle.page_check.specs.declared.world.World.{Ghosts as WorldGhosts}
 use Rattle.aio_word.specs.declared.Known.{Known}
 use Rattle.aio_word.specs.declared.Mark.{Mark}
 use Rattle.aio_word.specs.declared.Word.{Word}
@@ -28,9 +28,9 @@ use Rattle.method_ring.proofs.NumberedLookup.{in-pushed, apart-push, apart-witho
 use Rattle.method_ring.proofs.NumberedLookup.{others-differ}
 
 -- what is held stays held where each token is kept
-pub held-on : (told : Option Told) (relations : ℕ) (p q : Known) (x : ClaimedIo)
-    → ClaimUnchanged x.1.0 p q → IsClaimedIo told relations p x → IsClaimedIo told relations q x
-held-on told relations p q x k h = record {
+pub held-on : {W : Type 0} (world : WorldGhosts W) (p q : Known) (x : ClaimedIo)
+    → ClaimUnchanged x.1.0 p q → IsClaimedIo world p x → IsClaimedIo world q x
+held-on world p q x k h = record {
   claimed = k.claimed h.claimed;
   aim = k.aims (record_aim x.1.1) h.aim;
   label = h.label;
@@ -47,16 +47,16 @@ below-push held x same below y i =
     (in-pushed held x y i)
 
 -- a claim that was won
-pub gathers-won : (told : Option Told) (relations : ℕ) (p q : Known) (held : List ClaimedIo)
+pub gathers-won : {W : Type 0} (world : WorldGhosts W) (p q : Known) (held : List ClaimedIo)
     (t : WaitRef) (c : WaitRef × ReadIoView) → MarksOnceAndSeen (seen_rank p) p.marks → c.0 ≡ t
     → EventMade event.Claim t.handle (unclaimed_word t.generation) (claimed_word t.generation)
     (record_aim c.1) p q
     → IsClaimed q c.0 → IsIn (c.0, record_aim c.1) q.aims
     → c.1.label ≡ bound_label t.handle t.generation
-    → ReadFits told relations c.1 → NumbersBelow (length held) held
-    → AllClaimedIos told relations p held
-    → GathersIos told relations 1 p q held (held ++ (length held, c) ∷ [])
-gathers-won told relations p q held t c keeps same m token aim label fits below holds =
+    → ReadFits world.told world.relations c.1 → NumbersBelow (length held) held
+    → AllClaimedIos world p held
+    → GathersIos world 1 p q held (held ++ (length held, c) ∷ [])
+gathers-won world p q held t c keeps same m token aim label fits below holds =
     let x : ClaimedIo = (length held, c) in record {
       others = x ∷ [];
       at_most = omega arith;
@@ -67,10 +67,10 @@ gathers-won told relations p q held t c keeps same m token aim label fits below 
           (claim-grows t.handle t.generation (record_aim c.1) p q m);
       all_claimed = record {
         each = λ y i. ⊎_elim
-            (λ old. held-on told relations p q y
+            (λ old. held-on world p q y
             (claim-unchanged-by-claim y.1.0 t.handle t.generation (record_aim c.1) p q keeps m)
             (holds.each y old))
-            (λ (e : x ≡ y). subst (λ (z : ClaimedIo). IsClaimedIo told relations q z) e (record {
+            (λ (e : x ≡ y). subst (λ (z : ClaimedIo). IsClaimedIo world q z) e (record {
               claimed = token;
               aim = aim;
               label = label ∙ sym (ap (λ (z : WaitRef). bound_label z.handle z.generation) same);
@@ -83,26 +83,26 @@ gathers-won told relations p q held t c keeps same m token aim label fits below 
     }
 
 -- a claim that was lost
-pub gathers-lost : (told : Option Told) (relations : ℕ) (p q : Known) (held : List ClaimedIo)
+pub gathers-lost : {W : Type 0} (world : WorldGhosts W) (p q : Known) (held : List ClaimedIo)
     (h : ℕ) (w : Word) → WordLoaded h w p q → NumbersBelow (length held) held
-    → AllClaimedIos told relations p held → GathersIos told relations 1 p q held held
-gathers-lost told relations p q held h w l below holds = record {
+    → AllClaimedIos world p held → GathersIos world 1 p q held held
+gathers-lost world p q held h w l below holds = record {
   others = [];
   at_most = omega arith;
   claimed_ios_are = sym (append-nil held);
   numbers = below;
   marks_grow = look-on h w p q l;
   all_claimed = record {
-    each = λ y i. held-on told relations p q y (claim-unchanged-by-look y.1.0 h w p q l)
+    each = λ y i. held-on world p q y (claim-unchanged-by-look y.1.0 h w p q l)
         (holds.each y i);
     references_differ = holds.references_differ;
   };
 }
 
-pub gathers-none : (told : Option Told) (relations : ℕ) (p : Known) (held : List ClaimedIo)
-    → NumbersBelow (length held) held → AllClaimedIos told relations p held
-    → GathersIos told relations 0 p p held held
-gathers-none told relations p held below holds = record {
+pub gathers-none : {W : Type 0} (world : WorldGhosts W) (p : Known) (held : List ClaimedIo)
+    → NumbersBelow (length held) held → AllClaimedIos world p held
+    → GathersIos world 0 p p held held
+gathers-none world p held below holds = record {
   others = [];
   at_most = omega arith;
   claimed_ios_are = sym (append-nil held);
@@ -111,11 +111,11 @@ gathers-none told relations p held below holds = record {
   all_claimed = holds;
 }
 
-pub gathers-then : (told : Option Told) (relations n m : ℕ) (p q r : Known)
-    (held held' held'' : List ClaimedIo) → GathersIos told relations n p q held held'
-    → GathersIos told relations m q r held' held''
-    → GathersIos told relations (n + m) p r held held''
-gathers-then told relations n m p q r held held' held'' a b = record {
+pub gathers-then : {W : Type 0} (world : WorldGhosts W) (n m : ℕ) (p q r : Known)
+    (held held' held'' : List ClaimedIo) → GathersIos world n p q held held'
+    → GathersIos world m q r held' held''
+    → GathersIos world (n + m) p r held held''
+gathers-then world n m p q r held held' held'' a b = record {
   others = a.others ++ b.others;
   at_most = let x = a.at_most in let y = b.at_most in let z = length-append a.others b.others in
       omega arith;
@@ -131,13 +131,13 @@ gathers-then told relations n m p q r held held' held'' a b = record {
 }
 
 -- what is left is held, after one I/O has ended
-pub held-without : (told : Option Told) (relations : ℕ) (p q : Known) (n : ℕ)
+pub held-without : {W : Type 0} (world : WorldGhosts W) (p q : Known) (n : ℕ)
     (held : List ClaimedIo)
     (x : ClaimedIo) → claimed_with_number n held ≡ Some x
-    → ((t : WaitRef) → t ≢ x.1.0 → ClaimUnchanged t p q) → AllClaimedIos told relations p held
-    → AllClaimedIos told relations q (without_claimed n held)
-held-without told relations p q n held x is kept holds = record {
-  each = λ y i. held-on told relations p q y
+    → ((t : WaitRef) → t ≢ x.1.0 → ClaimUnchanged t p q) → AllClaimedIos world p held
+    → AllClaimedIos world q (without_claimed n held)
+held-without world p q n held x is kept holds = record {
+  each = λ y i. held-on world p q y
       (kept y.1.0 (others-differ n held x y holds.references_differ is i))
       (holds.each y (in-without n held y i));
   references_differ = apart-without n held holds.references_differ;

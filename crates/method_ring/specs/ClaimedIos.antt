@@ -1,6 +1,6 @@
 -- The claimed I/Os that are held while their reads are in a ring.
 use Rattle.std.specs.Prelude.{ℕ, ◌≡◌, ◌≢◌, ◌<◌, true, List, [], ◌∷◌, Option, None}
-use Rattle.page_check.specs.Told.{Told}
+use Rattle.page_check.specs.declared.world.World.{Ghosts as WorldGhosts}
 use Rattle.aio_word.specs.declared.Known.{Known}
 use Rattle.aio_word.specs.declared.Mark.{Mark}
 use Rattle.aio_word.specs.declared.WaitRef.{WaitRef}
@@ -49,14 +49,14 @@ ReferencesDiffer [] = Unit {0}
 ReferencesDiffer (x ∷ xs) = ((y : ClaimedIo) → IsIn y xs → y.1.0 ≢ x.1.0) × ReferencesDiffer xs
 
 -- the actor has claimed the incarnation and not executed it, and the record is as the claim gave it
-pub record IsClaimedIo (told : Option Told) (relations : ℕ) (p : Known) (x : ClaimedIo) : Type 0
+pub record IsClaimedIo {W : Type 0} (world : WorldGhosts W) (p : Known) (x : ClaimedIo) : Type 0
   where
     pub claimed : IsClaimed p x.1.0
     pub aim : IsIn (x.1.0, record_aim x.1.1) p.aims
     pub label : x.1.1.label ≡ bound_label x.1.0.handle x.1.0.generation
-    pub fits : ReadFits told relations x.1.1
+    pub fits : ReadFits world.told world.relations x.1.1
 
-pub record AllClaimedIos (told : Option Told) (relations : ℕ) (p : Known) (held : List ClaimedIo)
+pub record AllClaimedIos {W : Type 0} (world : WorldGhosts W) (p : Known) (held : List ClaimedIo)
     : Type 0 where
-  pub each : (x : ClaimedIo) → IsIn x held → IsClaimedIo told relations p x
+  pub each : (x : ClaimedIo) → IsIn x held → IsClaimedIo world p x
   pub references_differ : ReferencesDiffer held

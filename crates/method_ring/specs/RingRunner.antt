@@ -1,6 +1,7 @@
 -- What a runner over a ring does.
 use Rattle.std.specs.Prelude.{ℕ, ◌≡◌, ◌+◌, ◌≤◌, ◌<◌, List, [], ◌∷◌, ◌++◌, map, length, Option}
 use Rattle.std.specs.List.{All}
+use Rattle.page_check.specs.declared.world.World.{Ghosts as WorldGhosts}
 use Rattle.page_check.specs.Told.{Told}
 use Rattle.aio_disk.specs.Counts.{CountRose, count_plus}
 use Rattle.aio_word.specs.declared.Class.{Class}
@@ -50,14 +51,14 @@ abbrev pub read_claim_mark : ReadIoView → Mark
 read_claim_mark r = make_mark (record_reference r) kind.Claimed
 
 -- the actor claimed at most so many further I/Os, in their order, and holds them behind the others
-pub record GathersIos (told : Option Told) (relations : ℕ) (most : ℕ) (p q : Known)
+pub record GathersIos {W : Type 0} (world : WorldGhosts W) (most : ℕ) (p q : Known)
     (held held' : List ClaimedIo) : Type 0 where
   pub others : List ClaimedIo
   pub at_most : length others ≤ most
   pub claimed_ios_are : held' ≡ held ++ others
   pub numbers : NumbersBelow (length held') held'
   pub marks_grow : AppendsMarks p q (group_claims others)
-  pub all_claimed : AllClaimedIos told relations q held'
+  pub all_claimed : AllClaimedIos world q held'
 
 -- the seat popped at most so many references and pushed none, and the actor saw to each: it claimed
 -- the incarnation, or found that it could not be claimed

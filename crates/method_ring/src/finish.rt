@@ -59,7 +59,7 @@ pub(crate) fn finish<W: World, G: Ring, P: Places<W>, T: Wait>(
     requires table { IsActorOf table.now actor.old }
     requires told { (G.told group.old.ring ≡ W.told)
         × (G.relations group.old.ring ≡ W.relations) }
-    requires all_claimed { AllClaimedIos W.told W.relations actor.old.known group.old.claimed_ios }
+    requires all_claimed { AllClaimedIos W.World actor.old.known group.old.claimed_ios }
     ensures empty { group.new.claimed_ios ≡ [] }
     ensures pending { G.pending group.new.ring ≡ [] }
     ensures same { IsSameActor actor.old actor.new }

@@ -28,14 +28,13 @@ fn join<W: World, G: Ring>(
     requires range { reference.handle < W.handles }
     requires room { length group.old.claimed_ios < 8 }
     requires numbers { NumbersBelow (length group.old.claimed_ios) group.old.claimed_ios }
-    requires all_claimed { AllClaimedIos W.told W.relations actor.old.known group.old.claimed_ios }
+    requires all_claimed { AllClaimedIos W.World actor.old.known group.old.claimed_ios }
     ensures same { IsSameActor actor.old actor.new }
     ensures told { (G.told group.new.ring ≡ G.told group.old.ring)
         × (G.relations group.new.ring ≡ G.relations group.old.ring) }
     ensures counts { (G.reads group.new.ring ≡ G.reads group.old.ring)
         × (G.faults group.new.ring ≡ G.faults group.old.ring) }
-    ensures gathers { GathersIos W.told W.relations 1 actor.old.known actor.new.known
-        group.old.claimed_ios
+    ensures gathers { GathersIos W.World 1 actor.old.known actor.new.known group.old.claimed_ios
         group.new.claimed_ios }
     ensures claim_tried { ClaimsOrFindsUnclaimable actor.old.known actor.new.known reference }
 {
@@ -60,15 +59,14 @@ pub(crate) fn gather<W: World, G: Ring, T: Wait>(
         × (G.relations group.old.ring ≡ W.relations) }
     requires one_claimed { length group.old.claimed_ios ≡ 1 }
     requires numbers { NumbersBelow 1 group.old.claimed_ios }
-    requires all_claimed { AllClaimedIos W.told W.relations actor.old.known group.old.claimed_ios }
+    requires all_claimed { AllClaimedIos W.World actor.old.known group.old.claimed_ios }
     ensures seat { IsSameSeat seat.old seat.new }
     ensures same { IsSameActor actor.old actor.new }
     ensures told { (G.told group.new.ring ≡ G.told group.old.ring)
         × (G.relations group.new.ring ≡ G.relations group.old.ring) }
     ensures counts { (G.reads group.new.ring ≡ G.reads group.old.ring)
         × (G.faults group.new.ring ≡ G.faults group.old.ring) }
-    ensures gathers { GathersIos W.told W.relations 7 actor.old.known actor.new.known
-        group.old.claimed_ios
+    ensures gathers { GathersIos W.World 7 actor.old.known actor.new.known group.old.claimed_ios
         group.new.claimed_ios }
     ensures pops { PopsReferences 7 seat.old seat.new actor.old.known actor.new.known }
 {

@@ -1,8 +1,7 @@
 -- Staged tokens that were put into the batch.
-use Rattle.std.proofs.Common.{◌≡◌, ◌≢◌, ℕ, ◌+◌, ◌<◌, List, [], ◌∷◌, ◌++◌, refl, sym, ap}
+use Rattle.std.proofs.Common.{◌≡◌, ◌≢◌, ◌+◌, ◌<◌, List, [], ◌∷◌, ◌++◌, refl, sym, ap}
 use Rattle.std.proofs.Common.{◌∙◌, arith, subst, inl, inr, ⊎_elim, length-append}
-use Rattle.std.specs.Prelude.{Option}
-use Rattle.page_check.specs.Told.{Told}
+use Rattle.page_check.specs.declared.world.World.{Ghosts as WorldGhosts}
 use Rattle.aio_word.specs.declared.Known.{Known}
 use Rattle.aio_word.specs.declared.WaitRef.{WaitRef}
 use Rattle.aio_word.specs.Stands.{IsIn}
@@ -49,13 +48,13 @@ module _ {W : Type 0} (c : Scope W) where
       (λ l. ⊎_elim (λ e. inl e) (λ l'. inr (in-pushed x t r bs fs (inr l'))) l) i
 
   -- a staged token was pushed, and the batch has it
-  pub issued-put : (told : Option Told) (relations : ℕ) (p : Known) (s s' : Reads W)
+  pub issued-put : (world : WorldGhosts W) (p : Known) (s s' : Reads W)
       (x : WaitRef × ReadIoView) → s' ≡ record s { batch = s.batch ++ x ∷ [] }
       → IsStaged p x.0 → IsStreamRecord c x.1 → IsNewIncarnation c x.0
       → ((u : WaitRef × ReadIoView) → IsIn u s.batch → u.0 ≢ x.0)
-      → record_count s < c.total → IssuedExcept (x.0 ∷ []) c told relations p s
-      → Issued c told relations p s'
-  issued-put told relations p s s' x is new aimed fresh apart room k =
+      → record_count s < c.total → IssuedExcept (x.0 ∷ []) c world p s
+      → Issued c world p s'
+  issued-put world p s s' x is new aimed fresh apart room k =
       let more = length-append s.batch (x ∷ []) in
       let most = k.within_most in
       rw is (record {

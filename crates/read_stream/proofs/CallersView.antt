@@ -4,16 +4,17 @@ use Rattle.std.proofs.Common.{refl, subst, sym}
 use Rattle.std.proofs.lemmas.List.{length-map}
 use Rattle.std.specs.Prelude.{Option, IfSome}
 use Rattle.std.specs.declared.snapshot.Snapshot.{Snapshot}
+use Rattle.page_check.specs.declared.world.World.{Ghosts as WorldGhosts}
 use Rattle.page_check.specs.Told.{Told}
 use Rattle.page_check.specs.SynchronousAnswer.{Entry, reader_of}
 use Rattle.page_check.specs.IsAnswer.{IfPage, IsNext, Next as Said, Page as SaidPage}
 use Rattle.page_check.specs.IsAnswer.{Stop as SaidStop}
 use Rattle.aio_handle.specs.ContractViews.{ActorView}
-use Rattle.read_stream.specs.declared.answer.Step.{Step}
-use Rattle.read_stream.specs.declared.answer.Step.TheVariants as step
+use Rattle.read_stream.specs.declared.at_hand.AtHand.{AtHand}
+use Rattle.read_stream.specs.declared.at_hand.AtHand.TheVariants as at_hand
 use Rattle.read_stream.specs.declared.stream.ReadStream.{ReadStream}
-use Rattle.read_stream.specs.StreamAnswers.{IfStopped, IfZeroed, MayBeUnread, stream_entries}
-use Rattle.read_stream.specs.StreamAnswers.{stream_entry, step_answer, step_ending}
+use Rattle.read_stream.specs.AtHand.{answer_at_hand, ending_at_hand}
+use Rattle.read_stream.specs.StreamAnswers.{IfZeroed, MayBeUnread, stream_entries, stream_entry}
 use Rattle.read_stream.specs.StreamState.{IsOpen, entries_at_open, stream_view}
 use Rattle.read_stream.specs.StreamViews.{StreamView, IsActorAsLeft}
 use Rattle.read_stream.specs.StreamViews.{IsSameStream, IsStreamAnswer, stream_after}
@@ -48,16 +49,20 @@ later_by_call {P} s n actor x after =
     subst (λ (z : StreamView P). IsSameStream s z) (sym after) refl
 
 -- an ending is answered again
-pub ending_again : {P : Type 0} (was now : Step P) (relation : ℕ) (page : List ℕ × Bool) (x : Said P)
-    → x ≡ step_answer relation now page → IfStopped was (λ e. now ≡ step.Stop e)
-    → IfSome (step_ending was) (λ e. x ≡ SaidStop e)
-ending_again {P} (step.Stop end) now relation page x answer again =
-    answer ∙ ap (λ (z : Step P). step_answer relation z page) again
-ending_again (step.Page block info) now relation page x answer again = tt
-ending_again step.Start now relation page x answer again = tt
+pub ending_again : {W P : Type 0} (was now : AtHand W P) (relation : ℕ) (x : Said P)
+    → x ≡ answer_at_hand relation now → IfSome (ending_at_hand was) (λ e. now ≡ was)
+    → IfSome (ending_at_hand was) (λ e. x ≡ SaidStop e)
+ending_again {W} {P} (at_hand.Stopped io block why) now relation x answer again =
+    answer ∙ ap (λ (z : AtHand W P). answer_at_hand relation z) again
+ending_again {W} {P} at_hand.Ended now relation x answer again =
+    answer ∙ ap (λ (z : AtHand W P). answer_at_hand relation z) again
+ending_again at_hand.Nothing now relation x answer again = tt
+ending_again (at_hand.Pinned pin a) now relation x answer again = tt
+ending_again (at_hand.Record io a) now relation x answer again = tt
 
 -- a page that is answered is that of a block left
-page_left : {P : Type 0} (told : Option Told) (s : StreamView P) (may : Entry P → Type 0) (x : Said P)
+page_left : {P : Type 0} (told : Option Told) (s : StreamView P) (may : Entry P → Type 0)
+    (x : Said P)
     → IsNext (reader_of s.settings.zero told) may (stream_entries s.relation s.blocks) s.given x
     → IfPage x (λ _. s.given < length s.blocks)
 page_left told s may (SaidPage g) is =
@@ -66,26 +71,26 @@ page_left told s may (SaidPage g) is =
     let many = length-map s.blocks (stream_entry s.relation) in omega arith
 page_left told s may (SaidStop end) is = tt
 
-module _ {W S P : Type 0} (left : S → List (ℕ × P)) (told : Option Told)
-    (relations handles : ℕ) where
+module _ {W S P : Type 0} (left : S → List (ℕ × P)) (world : WorldGhosts W) where
   pub answer_seen : (s m : ReadStream W S P) (noted : Snapshot ActorView) (now : ActorView)
-      (x : Said P) → m ≡ record s { actor_is = noted } → IsOpen left told relations handles m
-      → IsNext (reader_of m.scope.zero told) (MayBeUnread m.scope.was.value now.known)
-      (entries_at_open left told relations handles m) m.given x
+      (x : Said P) → m ≡ record s { actor_is = noted } → IsOpen left world m
+      → IsNext (reader_of m.scope.zero world.told) (MayBeUnread m.scope.was.value now.known)
+      (entries_at_open left world m) m.given x
       → IfZeroed x (s.desk.now.settings.zero ≡ true)
-      → IsStreamAnswer told (stream_view left s) now x
+      → IsStreamAnswer world.told (stream_view left s) now x
   answer_seen s m noted now x same o next zeroed =
       let v : StreamView P = stream_view left s in
-      let settled = subst (λ (z : Bool). IsNext (reader_of z told)
-      (MayBeUnread m.scope.was.value now.known) (entries_at_open left told relations handles m)
+      let settled = subst (λ (z : Bool). IsNext (reader_of z world.told)
+      (MayBeUnread m.scope.was.value now.known) (entries_at_open left world m)
       m.given x) o.between.invariant.set_up.zero next in
-      let here = subst (λ (z : ReadStream W S P). IsNext (reader_of z.desk.now.settings.zero told)
-      (MayBeUnread z.scope.was.value now.known) (entries_at_open left told relations handles z)
+      let here = subst (λ (z : ReadStream W S P). IsNext (reader_of z.desk.now.settings.zero
+      world.told)
+      (MayBeUnread z.scope.was.value now.known) (entries_at_open left world z)
       z.given x) same settled in
       record {
         next = here;
-        valid = next_valid v.settings.zero told (MayBeUnread v.actor_was now.known)
+        valid = next_valid v.settings.zero world.told (MayBeUnread v.actor_was now.known)
             (stream_entries v.relation v.blocks) v.given x here;
         zeroed = zeroed;
-        within = page_left told v (MayBeUnread v.actor_was now.known) x here;
+        within = page_left world.told v (MayBeUnread v.actor_was now.known) x here;
       }

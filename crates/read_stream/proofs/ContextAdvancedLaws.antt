@@ -1,7 +1,6 @@
 -- Calls with the same context, one after the other.
-use Rattle.std.proofs.Common.{◌≡◌, ℕ, ◌<◌, refl, sym, subst, ◌∙◌}
-use Rattle.std.specs.Prelude.{Option}
-use Rattle.page_check.specs.Told.{Told}
+use Rattle.std.proofs.Common.{◌≡◌, ◌<◌, refl, sym, subst, ◌∙◌}
+use Rattle.page_check.specs.declared.world.World.{Ghosts as WorldGhosts}
 use Rattle.aio_handle.specs.ContractViews.{IsActorOf, IsSameActor, ActorView}
 use Rattle.aio_handle.specs.declared.execute.Execute.{Ghosts as ExecuteGhosts}
 use Rattle.aio_batch.specs.declared.method.Method.{Ghosts as MethodGhosts}
@@ -44,10 +43,10 @@ module _ {W M E : Type 0} {execute : ExecuteGhosts E ReadIoView W}
     advanced = call_then a.advanced b.advanced;
   }
 
-  pub valid_context_then : {told : Option Told} {relations : ℕ} {c : Scope W}
-      {x y : IoContext W M E} → IsValidContext execute told relations c x
-      → ContextAdvanced execute by x y → IsValidContext execute told relations c y
-  valid_context_then {told} {relations} {c} {x} {y} h k =
+  pub valid_context_then : {world : WorldGhosts W} {c : Scope W} {x y : IoContext W M E}
+      → IsValidContext execute world c x → ContextAdvanced execute by x y
+      → IsValidContext execute world c y
+  valid_context_then {world} {c} {x} {y} h k =
       let a = k.advanced in record {
         table = subst (λ z. IsActorOf z.now y.actor.now) (sym k.table)
             (a.same.0 ∙ h.table.0, a.same.1 ∙ h.table.1);

@@ -1,26 +1,25 @@
 -- A block is taken from the source and put into the queue.
 use Rattle.std.proofs.Common.{◌≡◌, ℕ, ◌+◌, ◌<◌, List, [], ◌∷◌, ◌++◌, length, map, ap, sym}
 use Rattle.std.proofs.Common.{arith, ◌∙◌, append_assoc, length-append}
-use Rattle.std.specs.Prelude.{Option}
 use Rattle.std.proofs.lemmas.List.{append-nil, map-append}
-use Rattle.page_check.specs.Told.{Told}
+use Rattle.page_check.specs.declared.world.World.{Ghosts as WorldGhosts}
 use Rattle.aio_word.specs.declared.Known.{Known}
 use Rattle.read_stream.specs.declared.queue.QueuedBlock.{QueuedBlock}
 use Rattle.read_stream.specs.declared.stream.ReadStream.{ReadStream}
 use Rattle.read_stream.specs.WantedBlocks.{source_item, block_number, wanted_blocks, pending_blocks}
+use Rattle.read_stream.specs.AtHand.{Front}
 use Rattle.read_stream.specs.StreamState.{UnderwayWith}
 use Rattle.read_stream.specs.Changes.{block_enqueued}
 
-module _ {W S P : Type 0} (left : S → List (ℕ × P)) (told : Option Told)
-    (relations handles : ℕ) where
+module _ {W S P : Type 0} (left : S → List (ℕ × P)) (world : WorldGhosts W) where
   -- the block stands behind
   pub underway_enqueued : (p : Known) (s : ReadStream W S P) (source : S) (a : QueuedBlock P)
-      (hand : List ℕ) → left s.source ≡ source_item a ∷ left source
+      (front : Front) → left s.source ≡ source_item a ∷ left source
       → s.plan.blocks_ahead < s.plan.limit
-      → UnderwayWith left told relations handles hand [] 0 p s
-      → UnderwayWith left told relations handles hand (block_number a ∷ []) 0 p
+      → UnderwayWith left world front [] p s
+      → UnderwayWith left world front (block_number a ∷ []) p
       (block_enqueued (record s { source = source }) a)
-  underway_enqueued p s source a hand first room u =
+  underway_enqueued p s source a front first room u =
       let g = u.running in
       let queue : List (QueuedBlock P) = s.desk.now.queue.items in
       let bs : List ℕ = wanted_blocks s.desk.now.wants.items in
@@ -48,10 +47,10 @@ module _ {W S P : Type 0} (left : S → List (ℕ × P)) (told : Option Told)
           order = record {
             queue_order = map-append block_number queue (a ∷ [])
                 ∙ (ap (λ (z : List ℕ). z ++ block_number a ∷ []) g.order.queue_order
-                ∙ (append_assoc hand (bs ++ (pend ++ [])) (block_number a ∷ [])
-                ∙ (ap (λ (z : List ℕ). hand ++ z)
+                ∙ (append_assoc front.blocks (bs ++ (pend ++ [])) (block_number a ∷ [])
+                ∙ (ap (λ (z : List ℕ). front.blocks ++ z)
                 (append_assoc bs (pend ++ []) (block_number a ∷ []))
-                ∙ ap (λ (z : List ℕ). hand ++ (bs ++ (z ++ block_number a ∷ [])))
+                ∙ ap (λ (z : List ℕ). front.blocks ++ (bs ++ (z ++ block_number a ∷ [])))
                 (append-nil pend))));
             wants = g.order.wants;
           };

@@ -1,7 +1,6 @@
 -- A stream's actor has a free handle where it needs one.
 use Rattle.std.proofs.Common.{◌≡◌, ℕ, ◌<◌, List, [], ◌++◌, sym, ◌∙◌, subst, arith, ⊎_elim}
-use Rattle.page_check.specs.Told.{Told}
-use Rattle.std.specs.Prelude.{Option}
+use Rattle.page_check.specs.declared.world.World.{Ghosts as WorldGhosts}
 use Rattle.aio_word.specs.declared.Config.{Config}
 use Rattle.aio_word.specs.declared.Known.{Known}
 use Rattle.aio_word.specs.declared.WaitRef.{WaitRef}
@@ -15,8 +14,8 @@ use Rattle.read_stream.specs.declared.scope.Scope.{Scope}
 use Rattle.read_stream.specs.StreamIos.{Issued, HasIdleHandle, staged_references, known_at_open}
 use Rattle.read_stream.specs.StreamIos.{ios_started}
 
-module _ {W : Type 0} (c : Scope W) (told : Option Told) (relations : ℕ) (k : Config) (p : Known)
-    (s : Reads W) (same : c.was.value.known.config ≡ k) (i : Issued c told relations p s) where
+module _ {W : Type 0} (c : Scope W) (world : WorldGhosts W) (k : Config) (p : Known)
+    (s : Reads W) (same : c.was.value.known.config ≡ k) (i : Issued c world p s) where
   abbrev room : IsRoom k (known_at_open c) c.most
   room = subst (λ (z : Config). IsRoom z (known_at_open c) c.most) same i.actor.room_was
 

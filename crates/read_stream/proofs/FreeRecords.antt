@@ -4,7 +4,7 @@ use Rattle.std.proofs.Common.{arith, length-append}
 use Rattle.std.specs.Prelude.{Option, Some, None}
 use Rattle.std.proofs.lemmas.List.{length-map}
 use Rattle.std.proofs.lemmas.List.FromFn.{length-range_with_len}
-use Rattle.page_check.specs.Told.{Told}
+use Rattle.page_check.specs.declared.world.World.{Ghosts as WorldGhosts}
 use Rattle.aio_word.specs.declared.Known.{Known}
 use Rattle.aio_word.specs.declared.WaitRef.{WaitRef}
 use Rattle.aio_callback.specs.ReadIoView.{ReadIoView}
@@ -18,8 +18,8 @@ use Rattle.read_stream.specs.declared.stream.ReadStream.{ReadStream}
 use Rattle.read_stream.specs.StreamIos.{ReadsForRuns, InFlightForRuns, record_count, run_of}
 use Rattle.read_stream.specs.StreamIos.{ios_started}
 use Rattle.read_stream.specs.WantedBlocks.{block_number, wanted_runs, pending_blocks}
-use Rattle.read_stream.specs.PagesAtHand.{count_some, record_blocks_left}
-use Rattle.read_stream.specs.StreamState.{Underway, UnderwayWith}
+use Rattle.read_stream.specs.AtHand.{Front, count_some}
+use Rattle.read_stream.specs.StreamState.{UnderwayWith}
 use Rattle.read_stream.proofs.WantedBlocks.{few_in_queue}
 use Rattle.read_stream.proofs.QueueFront.{queue_within_list}
 
@@ -55,43 +55,40 @@ some_pending combine o run e is =
     let m = length-range_with_len run.first run.count in
     let k = is.not_empty in omega arith
 
-module _ {W S P : Type 0} (left : S → List (ℕ × P)) (told : Option Told)
-    (relations handles : ℕ) (p q : Known) (s n : ReadStream W S P) where
-  abbrev rest : List ℕ
-  rest = record_blocks_left s.current s.step
-
+module _ {W S P : Type 0} (left : S → List (ℕ × P)) (world : WorldGhosts W) (p : Known)
+    (s : ReadStream W S P)
+    (front : Front) where
   -- how many blocks of the queue stand where
-  pub few_blocks : (behind : List ℕ)
-      → UnderwayWith left told relations handles rest behind 0 p s
+  pub few_blocks : (behind : List ℕ) → UnderwayWith left world front behind p s
       → (length s.desk.now.wants.items + length (pending_blocks s.plan.pending) + length behind
       ≤ length s.desk.now.queue.items)
       × (length (wanted_runs s.desk.now.wants.items) + length (pending_blocks s.plan.pending)
       + length behind ≤ length s.desk.now.queue.items)
   few_blocks behind u =
-      let few = few_in_queue s.desk.now.settings.combine handles s.desk.now.wants.items
-      (map block_number s.desk.now.queue.items) rest (pending_blocks s.plan.pending) behind
+      let few = few_in_queue s.desk.now.settings.combine world.handles s.desk.now.wants.items
+      (map block_number s.desk.now.queue.items) front.blocks (pending_blocks s.plan.pending) behind
       u.running.order.wants u.running.order.queue_order in
       let n = length-map s.desk.now.queue.items block_number in
       (omega arith, omega arith)
 
   -- one more I/O may be started for a block that is pending or behind
-  pub may_start : (behind : List ℕ)
-      → UnderwayWith left told relations handles rest behind 0 p s
+  pub may_start : (behind : List ℕ) → front.spent ≡ 0
+      → UnderwayWith left world front behind p s
       → 1 ≤ length (pending_blocks s.plan.pending) + length behind
       → (ios_started s.desk.now.reads < s.scope.most)
       × (length s.desk.now.wants.items < s.desk.now.wants.capacity)
-  may_start behind u one =
+  may_start behind none u one =
       let few = few_blocks behind u in
       let c = u.running.ios.few_ios in
       let w = u.running.plan.queue_within_limit in
       let r = u.invariant.set_up.wants in
-      let all = queue_within_list left told relations handles rest behind 0 p s u.running in
+      let all = queue_within_list left world front behind p s u.running in
       let short = u.invariant.set_up.list_within_most in
       (omega arith, omega arith)
 
   -- where the queue is empty no I/O is in progress
-  pub all_idle : Underway left told relations handles p s → s.desk.now.queue.items ≡ []
-      → s.current ≡ None → s.plan.ios_in_progress ≡ 0
+  pub all_idle : UnderwayWith left world front [] p s → s.desk.now.queue.items ≡ []
+      → front.taken ≡ None → s.plan.ios_in_progress ≡ 0
   all_idle u none no_record =
       let few = few_blocks [] u in
       let long : length s.desk.now.queue.items ≡ 0 =
@@ -99,23 +96,21 @@ module _ {W S P : Type 0} (left : S → List (ℕ × P)) (told : Option Told)
       let free = are_free s.scope p s.desk.now.reads (wanted_runs s.desk.now.wants.items)
       u.running.ios.runs
       (omega arith) in
-      let some : count_some s.current ≡ 0 =
+      let some : count_some front.taken ≡ 0 =
       ap (λ (z : Option ReadIoView). count_some z) no_record in
       let all = u.invariant.records.record_total in
       let in_use = u.running.plan.in_use in omega arith
 
-module _ {W S P : Type 0} (left : S → List (ℕ × P)) (told : Option Told)
-    (relations handles : ℕ) (p : Known) (s : ReadStream W S P) where
   -- where nothing is wanted and no record is given, all records are free
-  pub all_free : Underway left told relations handles p s → s.desk.now.wants.items ≡ []
-      → s.current ≡ None → 1 < length s.desk.now.reads.free.items
+  pub all_free : UnderwayWith left world front [] p s → s.desk.now.wants.items ≡ []
+      → front.taken ≡ None → 1 < length s.desk.now.reads.free.items
   all_free u none no_record =
       let zero : length (wanted_runs s.desk.now.wants.items) ≡ 0 =
       ap (λ (z : List Want). length (wanted_runs z)) none in
       let free = are_free s.scope p s.desk.now.reads (wanted_runs s.desk.now.wants.items)
       u.running.ios.runs
       zero in
-      let some : count_some s.current ≡ 0 =
+      let some : count_some front.taken ≡ 0 =
       ap (λ (z : Option ReadIoView). count_some z) no_record in
       let all = u.invariant.records.record_total in
       let total = u.invariant.set_up.scope.1 in

@@ -22,13 +22,13 @@ pub mod WantedBlocks
 pub mod StreamInvariantLaws
 pub mod QueueFront
 pub mod SameQueueKeepsUnderway
-pub mod BlockAtHand
+pub mod BlockInFront
 pub mod FreeRecords
 pub mod StartKeepsUnderway
 pub mod PushWantKeepsUnderway
 pub mod EnqueueKeepsUnderway
 pub mod PopWantKeepsUnderway
-pub mod RecordReachesBlock
+pub mod RecordHoldsBlock
 pub mod PartIsNextAnswer
 pub mod UnreadCauses
 pub mod LaterActorKeepsAnswer

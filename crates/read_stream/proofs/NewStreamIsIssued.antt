@@ -2,7 +2,7 @@
 use Rattle.std.proofs.Common.{◌≡◌, ℕ, ◌^◌, ◌<◌, ◌≤◌, List, [], length, refl, sym, ap}
 use Rattle.std.proofs.Common.{arith, append-nil, inl}
 use Rattle.std.specs.Prelude.{Option, Some, None, IfSome}
-use Rattle.page_check.specs.Told.{Told}
+use Rattle.page_check.specs.declared.world.World.{Ghosts as WorldGhosts}
 use Rattle.page_check.specs.SynchronousAnswer.{Reader}
 use Rattle.aio_word.specs.declared.WaitRef.{WaitRef}
 use Rattle.aio_word.specs.declared.Known.{Known}
@@ -19,11 +19,11 @@ module _ {W : Type 0} where
   abbrev pub reset_reads : Reads W → Reads W
   reset_reads r = record r { taken_in = 0 }
 
-  pub new-stream-issued : (c : Scope W) (told : Option Told) (relations : ℕ) (r : Reads W)
+  pub new-stream-issued : (c : Scope W) (world : WorldGhosts W) (r : Reads W)
       → AllRecordsFree c.combine c.total r → HasNoOwnerTokens (known_at_open c) → c.most < 2 ^ 58
       → IsRoom c.was.value.known.config (known_at_open c) c.most
-      → Issued c told relations (known_at_open c) (reset_reads r)
-  new-stream-issued c told relations r ready rest small room =
+      → Issued c world (known_at_open c) (reset_reads r)
+  new-stream-issued c world r ready rest small room =
       let p : Known = known_at_open c in
       let b : length r.batch ≡ 0 =
       ap (λ (z : List (WaitRef × ReadIoView)). length z) ready.batch in
@@ -46,7 +46,7 @@ module _ {W : Type 0} where
         };
         records = record {
           free = ready.free;
-          ended_records = each-none (λ x. IsTakenIn c told relations p x) r.ended.items ready.ended;
+          ended_records = each-none (λ x. IsTakenIn c world p x) r.ended.items ready.ended;
         };
         tokens = record {
           staged_tokens = rw ready.batch tt;

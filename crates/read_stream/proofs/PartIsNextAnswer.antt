@@ -1,9 +1,9 @@
 -- What a record that was taken in has for a block is what may be answered next.
 use Rattle.std.proofs.Common.{◌≡◌, ℕ, ◌+◌, ◌-◌, Bool, true, false, List, ◌∷◌, drop, refl, sym}
 use Rattle.std.proofs.Common.{subst, arith, ◌∙◌}
-use Rattle.std.specs.Prelude.{Option, Some, IfSome, slice_get}
+use Rattle.std.specs.Prelude.{Some, IfSome, slice_get}
+use Rattle.page_check.specs.declared.world.World.{Ghosts as WorldGhosts}
 use Rattle.page_check.specs.PageBytes.{IsPage}
-use Rattle.page_check.specs.Told.{Told}
 use Rattle.page_check.specs.SynchronousAnswer.{Entry, reader_of, found_at, Damaged, Absent}
 use Rattle.page_check.specs.IsAnswer.{IsNext, Stop as SaidStop}
 use Rattle.aio_word.specs.declared.Class.{Class}
@@ -15,13 +15,14 @@ use Rattle.aio_callback.specs.GoodPages.{IsGivenAs}
 use Rattle.aio_callback.specs.StreamOutcomes.{stream_ids}
 use Rattle.aio_callback.specs.Finishes.{record_reference}
 use Rattle.aio_callback.specs.ReadIoView.{ReadIoView, record_page, record_zeroed}
-use Rattle.read_stream.specs.declared.answer.Ending.{Ending}
-use Rattle.read_stream.specs.declared.answer.Ending.TheVariants as ending
 use Rattle.read_stream.specs.declared.parts.Part.TheVariants as part
+use Rattle.read_stream.specs.declared.parts.Stop.{Stop}
+use Rattle.read_stream.specs.declared.parts.Stop.TheVariants as stop
 use Rattle.read_stream.specs.declared.scope.Scope.{Scope}
-use Rattle.read_stream.specs.StreamAnswers.{stream_entry, stream_entries, synchronous_ending}
+use Rattle.read_stream.specs.StreamAnswers.{stream_entry, stream_entries}
 use Rattle.read_stream.specs.StreamAnswers.{page_answer, IsFailedRead, MayBeUnread}
 use Rattle.read_stream.specs.StreamIos.{IsTakenIn, known_at_open}
+use Rattle.read_stream.specs.AtHand.{stop_ending}
 use Rattle.read_stream.specs.Parts.{CoversBlock, IsValidPart}
 use Rattle.read_stream.specs.ActorProgress.{MarkedSince}
 use Rattle.read_stream.proofs.ListPositions.{here-at, mapped-at}
@@ -36,10 +37,10 @@ ids-apart false true e = absurd (cc)
 ids-apart true false e = absurd (cc)
 
 -- a record of a failed read says so
-pub failed_read : {W : Type 0} (c : Scope W) (told : Option Told) (relations : ℕ) (p : Known)
-    (io : ReadIoView) → IsTakenIn c told relations p io → (b : ℕ) → io.first ≡ b
+pub failed_read : {W : Type 0} (c : Scope W) (world : WorldGhosts W) (p : Known)
+    (io : ReadIoView) → IsTakenIn c world p io → (b : ℕ) → io.first ≡ b
     → io.label.ended ≡ Failed → IsFailedRead c.was.value p c.relation b io
-failed_read c told relations p io taken b first failed = record {
+failed_read c world p io taken b first failed = record {
   relation_is = taken.is_stream_record.relation;
   first = first;
   class_is = failed;
@@ -51,65 +52,54 @@ failed_read c told relations p io taken b first failed = record {
       failed (taken.io_mark_if_alone one);
 }
 
-module _ {W P : Type 0} (c : Scope W) (told : Option Told) (relations : ℕ) (list : List (ℕ × P))
+module _ {W P : Type 0} (c : Scope W) (world : WorldGhosts W) (list : List (ℕ × P))
     (k b : ℕ) (info : P) (rest : List (ℕ × P)) (here : drop k list ≡ (b, info) ∷ rest)
-    (far : ReadableUpTo c.zero told k (stream_entries c.relation list)) (p : Known)
-    (io : ReadIoView) (taken : IsTakenIn c told relations p io) (has : CoversBlock io b) where
+    (far : ReadableUpTo c.zero world.told k (stream_entries c.relation list)) (p : Known)
+    (io : ReadIoView) (taken : IsTakenIn c world p io) (has : CoversBlock io b) where
   abbrev e : Entry P
   e = stream_entry c.relation (b, info)
 
   at : slice_get (stream_entries c.relation list) k ≡ Some e
   at = mapped-at (stream_entry c.relation) list k (b, info) (here-at list k (b, info) rest here)
 
-  given-page : IsValidPart told io b part.Page → IsGivenAs told c.relation b
+  given-page : IsValidPart world.told io b part.Page → IsGivenAs world.told c.relation b
       (record_page io (b - io.first)) (record_zeroed io (b - io.first))
   given-page is =
       let given = (taken.fits.ended taken.has_ended).good (b - io.first) is.0 in
       let (low, below) = has in
       let same : io.first + (b - io.first) ≡ b = omega arith in
-      subst (λ (r : ℕ). IsGivenAs told r b (record_page io (b - io.first))
+      subst (λ (r : ℕ). IsGivenAs world.told r b (record_page io (b - io.first))
       (record_zeroed io (b - io.first))) taken.is_stream_record.relation
-      (subst (λ (n : ℕ). IsGivenAs told io.relation n (record_page io (b - io.first))
+      (subst (λ (n : ℕ). IsGivenAs world.told io.relation n (record_page io (b - io.first))
       (record_zeroed io (b - io.first))) same given)
 
   -- a page of the record
-  pub page_is_next : IsValidPart told io b part.Page
-      → (IsPage (record_page io (b - io.first)) → IsNext (reader_of c.zero told)
+  pub page_is_next : IsValidPart world.told io b part.Page
+      → (IsPage (record_page io (b - io.first)) → IsNext (reader_of c.zero world.told)
       (MayBeUnread c.was.value p) (stream_entries c.relation list)
       k (page_answer c.relation b info (record_page io (b - io.first))
       (record_zeroed io (b - io.first))))
-      × ReadableUpTo c.zero told (k + 1) (stream_entries c.relation list)
+      × ReadableUpTo c.zero world.told (k + 1) (stream_entries c.relation list)
   page_is_next is = next-page c.zero (MayBeUnread c.was.value p) (stream_entries c.relation list) k
-      e at told (record_page io (b - io.first)) (record_zeroed io (b - io.first)) far
+      e at world.told (record_page io (b - io.first)) (record_zeroed io (b - io.first)) far
       (λ z. ids-apart c.zero true (sym taken.is_stream_record.ids ∙ is.1 z)) (given-page is)
 
   maybe-unread : io.first ≡ b → io.label.ended ≡ Failed → MayBeUnread c.was.value p e
-  maybe-unread first failed = (io, failed_read c told relations p io taken b first failed)
+  maybe-unread first failed = (io, failed_read c world p io taken b first failed)
 
   -- what stops the stream at the block
-  pub stop_is_next : (end : Ending) → IsValidPart told io b (part.Stop end)
-      → IsNext (reader_of c.zero told) (MayBeUnread c.was.value p) (stream_entries c.relation list)
-      k (SaidStop (synchronous_ending end))
-  stop_is_next ending.End is = absurd is
-  stop_is_next (ending.Invalid n) is =
-      subst (λ (z : ℕ). IsNext (reader_of c.zero told) (MayBeUnread c.was.value p)
-      (stream_entries c.relation list) k (SaidStop (synchronous_ending (ending.Invalid z))))
-      (sym is.0)
-      (next-invalid c.zero (MayBeUnread c.was.value p) (stream_entries c.relation list) k e at told
-      far (ids-apart c.zero false (sym taken.is_stream_record.ids ∙ is.1))
-      (subst (λ (r : ℕ). IfSome told (λ t. found_at t r b ≡ Damaged))
-      taken.is_stream_record.relation is.2))
-  stop_is_next (ending.Unread n) is =
-      subst (λ (z : ℕ). IsNext (reader_of c.zero told) (MayBeUnread c.was.value p)
-      (stream_entries c.relation list) k (SaidStop (synchronous_ending (ending.Unread z))))
-      (sym is.0)
-      (next-unread c.zero (MayBeUnread c.was.value p) (stream_entries c.relation list) k e at told
-      (maybe-unread is.1 is.2))
-  stop_is_next (ending.PastEnd n) is =
-      subst (λ (z : ℕ). IsNext (reader_of c.zero told) (MayBeUnread c.was.value p)
-      (stream_entries c.relation list) k (SaidStop (synchronous_ending (ending.PastEnd z))))
-      (sym is.0)
-      (next-past-end c.zero (MayBeUnread c.was.value p) (stream_entries c.relation list) k e at told
-      far
-      (subst (λ (r : ℕ). IfSome told (λ t. found_at t r b ≡ Absent)) taken.is_stream_record.relation
-      is.1))
+  pub stop_is_next : (why : Stop) → IsValidPart world.told io b (part.Stop why)
+      → IsNext (reader_of c.zero world.told) (MayBeUnread c.was.value p)
+      (stream_entries c.relation list) k (SaidStop (stop_ending why b))
+  stop_is_next stop.Invalid is =
+      next-invalid c.zero (MayBeUnread c.was.value p) (stream_entries c.relation list) k e at
+      world.told far (ids-apart c.zero false (sym taken.is_stream_record.ids ∙ is.0))
+      (subst (λ (r : ℕ). IfSome world.told (λ t. found_at t r b ≡ Damaged))
+      taken.is_stream_record.relation is.1)
+  stop_is_next stop.Unread is =
+      next-unread c.zero (MayBeUnread c.was.value p) (stream_entries c.relation list) k e at
+      world.told (maybe-unread is.0 is.1)
+  stop_is_next stop.PastEnd is =
+      next-past-end c.zero (MayBeUnread c.was.value p) (stream_entries c.relation list) k e at
+      world.told far (subst (λ (r : ℕ). IfSome world.told (λ t. found_at t r b ≡ Absent))
+      taken.is_stream_record.relation is)

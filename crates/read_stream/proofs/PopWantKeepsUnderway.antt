@@ -1,8 +1,7 @@
 -- What is wanted first is not wanted any more.
 use Rattle.std.proofs.Common.{◌≡◌, ℕ, List, [], ◌∷◌, ◌++◌, drop, ap, sym, subst, inr, ◌∙◌}
 use Rattle.std.proofs.Common.{append_assoc}
-use Rattle.std.specs.Prelude.{Option}
-use Rattle.page_check.specs.Told.{Told}
+use Rattle.page_check.specs.declared.world.World.{Ghosts as WorldGhosts}
 use Rattle.aio_word.specs.declared.Known.{Known}
 use Rattle.aio_word.specs.Stands.{IsIn}
 use Rattle.read_plan.specs.declared.runs.Run.{Run}
@@ -10,17 +9,18 @@ use Rattle.read_stream.specs.declared.queue.Want.{Want}
 use Rattle.read_stream.specs.declared.stream.ReadStream.{ReadStream}
 use Rattle.read_stream.specs.WantedBlocks.{blocks_of_want, runs_of_want, wanted_blocks, wanted_runs}
 use Rattle.read_stream.specs.WantedBlocks.{pending_blocks}
+use Rattle.read_stream.specs.AtHand.{block_front, empty_front}
 use Rattle.read_stream.specs.StreamState.{UnderwayWith}
 use Rattle.read_stream.specs.Changes.{want_popped}
 
-module _ {W S P : Type 0} (left : S → List (ℕ × P)) (told : Option Told)
-    (relations handles : ℕ) where
+module _ {W S P : Type 0} (left : S → List (ℕ × P)) (world : WorldGhosts W) where
   -- its block is at hand
   pub underway_popped : (p : Known) (s : ReadStream W S P) (w : Want) (ws : List Want)
       → s.desk.now.wants.items ≡ w ∷ ws → runs_of_want w ≡ []
-      → UnderwayWith left told relations handles [] [] 0 p s
-      → UnderwayWith left told relations handles (blocks_of_want w) [] 0 p (want_popped s)
-  underway_popped p s w ws first no_run u =
+      → (block : ℕ) → blocks_of_want w ≡ block ∷ []
+      → UnderwayWith left world empty_front [] p s
+      → UnderwayWith left world (block_front block) [] p (want_popped s)
+  underway_popped p s w ws first no_run block one u =
       let g = u.running in
       let rest : drop 1 s.desk.now.wants.items ≡ ws = ap (λ (z : List Want). drop 1 z) first in
       let more : List ℕ = pending_blocks s.plan.pending ++ [] in
@@ -35,8 +35,10 @@ module _ {W S P : Type 0} (left : S → List (ℕ × P)) (told : Option Told)
             queue_order = g.order.queue_order
                 ∙ (ap (λ (z : List Want). wanted_blocks z ++ more) first
                 ∙ (append_assoc (blocks_of_want w) (wanted_blocks ws) more
-                ∙ ap (λ (z : List Want). blocks_of_want w ++ (wanted_blocks z ++ more))
-                (sym rest)));
+                ∙ (ap (λ (z : List Want). blocks_of_want w ++ (wanted_blocks z ++ more))
+                (sym rest)
+                ∙ ap (λ (z : List ℕ). z ++ (wanted_blocks (drop 1 s.desk.now.wants.items) ++ more))
+                one)));
             wants = λ x i. g.order.wants x (subst (λ (z : List Want). IsIn x z) (sym first)
                 (inr (subst (λ (z : List Want). IsIn x z) rest i)));
           };

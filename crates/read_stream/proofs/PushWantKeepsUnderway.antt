@@ -1,29 +1,29 @@
 -- A block is wanted from the pool.
 use Rattle.std.proofs.Common.{◌≡◌, ℕ, List, [], ◌∷◌, ◌++◌, ap, sym, ◌∙◌}
-use Rattle.std.specs.Prelude.{Option, None}
+use Rattle.std.specs.Prelude.{None}
 use Rattle.std.proofs.lemmas.List.{append-nil}
-use Rattle.page_check.specs.Told.{Told}
+use Rattle.page_check.specs.declared.world.World.{Ghosts as WorldGhosts}
 use Rattle.aio_word.specs.declared.Known.{Known}
 use Rattle.read_plan.specs.declared.runs.Run.{Run}
 use Rattle.read_stream.specs.declared.queue.Want.{Want}
 use Rattle.read_stream.specs.declared.stream.ReadStream.{ReadStream}
 use Rattle.read_stream.specs.WantedBlocks.{IsValidWant, blocks_of_want, runs_of_want}
 use Rattle.read_stream.specs.WantedBlocks.{wanted_blocks, wanted_runs}
+use Rattle.read_stream.specs.AtHand.{Front}
 use Rattle.read_stream.specs.StreamState.{UnderwayWith}
 use Rattle.read_stream.specs.Changes.{want_pushed}
 use Rattle.read_stream.proofs.PushedList.{each-pushed}
 use Rattle.read_stream.proofs.StreamInvariantLaws.{plan_agrees_then}
 use Rattle.read_stream.proofs.WantedBlocks.{blocks_pushed, runs_pushed}
 
-module _ {W S P : Type 0} (left : S → List (ℕ × P)) (told : Option Told)
-    (relations handles : ℕ) where
+module _ {W S P : Type 0} (left : S → List (ℕ × P)) (world : WorldGhosts W) where
   -- the block behind is wanted
-  pub underway_pushed : (p : Known) (s : ReadStream W S P) (w : Want) (hand : List ℕ)
+  pub underway_pushed : (p : Known) (s : ReadStream W S P) (w : Want) (front : Front)
       (distance : ℕ) → s.plan.pending ≡ None → runs_of_want w ≡ []
-      → IsValidWant s.desk.now.settings.combine handles w
-      → UnderwayWith left told relations handles hand (blocks_of_want w) 0 p s
-      → UnderwayWith left told relations handles hand [] 0 p (want_pushed s w distance)
-  underway_pushed p s w hand distance none no_run is u =
+      → IsValidWant s.desk.now.settings.combine world.handles w
+      → UnderwayWith left world front (blocks_of_want w) p s
+      → UnderwayWith left world front [] p (want_pushed s w distance)
+  underway_pushed p s w front distance none no_run is u =
       let g = u.running in
       let ws : List Want = s.desk.now.wants.items in
       let runs : wanted_runs (ws ++ w ∷ []) ≡ wanted_runs ws =
@@ -35,9 +35,9 @@ module _ {W S P : Type 0} (left : S → List (ℕ × P)) (told : Option Told)
           position = g.position;
           order = record {
             queue_order = g.order.queue_order ∙ rw (none, blocks_pushed ws w)
-                (ap (λ (z : List ℕ). hand ++ z)
+                (ap (λ (z : List ℕ). front.blocks ++ z)
                 (sym (append-nil (wanted_blocks ws ++ blocks_of_want w))));
-            wants = each-pushed (λ x. IsValidWant s.desk.now.settings.combine handles x) ws w
+            wants = each-pushed (λ x. IsValidWant s.desk.now.settings.combine world.handles x) ws w
                 g.order.wants is;
           };
           ios = record { runs = rw runs g.ios.runs; few_ios = rw runs g.ios.few_ios };

@@ -1,8 +1,8 @@
 -- Records and tokens that move between the caller and the I/Os of a stream.
-use Rattle.std.proofs.Common.{◌≡◌, ℕ, ◌+◌, ◌<◌, ◌≤◌, List, [], ◌∷◌, ◌++◌, length, drop, refl}
+use Rattle.std.proofs.Common.{◌≡◌, ◌+◌, ◌<◌, ◌≤◌, List, [], ◌∷◌, ◌++◌, length, drop, refl}
 use Rattle.std.proofs.Common.{sym, ap, ◌∙◌, arith, subst, inl, inr, ⊎_elim, length-append}
-use Rattle.std.specs.Prelude.{Option, Some, None, slice_get}
-use Rattle.page_check.specs.Told.{Told}
+use Rattle.std.specs.Prelude.{Some, None, slice_get}
+use Rattle.page_check.specs.declared.world.World.{Ghosts as WorldGhosts}
 use Rattle.aio_word.specs.declared.Known.{Known}
 use Rattle.aio_word.specs.declared.WaitRef.{WaitRef}
 use Rattle.aio_word.specs.Stands.{IsIn}
@@ -35,13 +35,13 @@ in-moved : (x t : WaitRef) (bs ts : List WaitRef) → IsIn x (bs ++ (t ∷ ts))
 in-moved x t bs ts i = ⊎_elim (λ l. inr (in-left x bs ts l))
     (λ r. ⊎_elim (λ e. inl e) (λ l. inr (in-right x bs ts l)) r) (in-append x bs (t ∷ ts) i)
 
-module _ {W : Type 0} (c : Scope W) (told : Option Told) (relations : ℕ) (p : Known) (s : Reads W)
+module _ {W : Type 0} (c : Scope W) (world : WorldGhosts W) (p : Known) (s : Reads W)
   where
     -- other records are free, or have ended
     issued-records : (free ended : List ReadIoView)
         → length free + length s.batch + length s.in_flight.items + length ended ≤ c.total
-        → AreStreamRecords c told relations p free ended → Issued c told relations p s
-        → Issued c told relations p (record s {
+        → AreStreamRecords c world p free ended → Issued c world p s
+        → Issued c world p (record s {
           free = buffer free s.free.capacity;
           ended = buffer ended s.ended.capacity;
         })
@@ -56,10 +56,10 @@ module _ {W : Type 0} (c : Scope W) (told : Option Told) (relations : ℕ) (p : 
 
     -- the oldest record that has ended is taken out
     pub less-ended : (r : ReadIoView) → slice_get s.ended.items 0 ≡ Some r
-        → Issued c told relations p s
-        → Issued c told relations p (record s {
+        → Issued c world p s
+        → Issued c world p (record s {
           ended = buffer (drop 1 s.ended.items) s.ended.capacity;
-        }) × IsTakenIn c told relations p r
+        }) × IsTakenIn c world p r
         × (length s.ended.items ≡ length (drop 1 s.ended.items) + 1)
     less-ended r at i =
         let first = first-of s.ended.items r at in
@@ -76,8 +76,8 @@ module _ {W : Type 0} (c : Scope W) (told : Option Told) (relations : ℕ) (p : 
 
     -- the oldest token in flight is taken out
     pub less-in-flight : (t : WaitRef) → slice_get s.in_flight.items 0 ≡ Some t
-        → Issued c told relations p s
-        → HeldByCaller c told relations p (record s {
+        → Issued c world p s
+        → HeldByCaller c world p (record s {
           in_flight = buffer (drop 1 s.in_flight.items) s.in_flight.capacity;
         }) t
     less-in-flight t at i =
@@ -111,23 +111,23 @@ module _ {W : Type 0} (c : Scope W) (told : Option Told) (relations : ℕ) (p : 
         }
 
     -- a record is kept with its pages
-    pub more-ended : (r : ReadIoView) → record_count s < c.total → IsTakenIn c told relations p r
-        → Issued c told relations p s
-        → Issued c told relations p (record s {
+    pub more-ended : (r : ReadIoView) → record_count s < c.total → IsTakenIn c world p r
+        → Issued c world p s
+        → Issued c world p (record s {
           ended = buffer (s.ended.items ++ r ∷ []) s.ended.capacity;
         })
     more-ended r room new i =
         let more = length-append s.ended.items (r ∷ []) in
         issued-records s.free.items (s.ended.items ++ r ∷ []) (omega arith) (record {
           free = i.records.free;
-          ended_records = each-pushed (λ x. IsTakenIn c told relations p x) s.ended.items r
+          ended_records = each-pushed (λ x. IsTakenIn c world p x) s.ended.items r
               i.records.ended_records new;
         }) i
 
     -- a record is free again
     pub more-free : (r : ReadIoView) → record_count s < c.total → length r.pages ≡ c.combine
-        → Issued c told relations p s
-        → Issued c told relations p (record s {
+        → Issued c world p s
+        → Issued c world p (record s {
           free = buffer (r ∷ s.free.items) s.free.capacity;
         })
     more-free r room new i =
@@ -139,8 +139,8 @@ module _ {W : Type 0} (c : Scope W) (told : Option Told) (relations : ℕ) (p : 
 
     -- a free record is taken
     pub less-free : (r : ReadIoView) → slice_get s.free.items 0 ≡ Some r
-        → Issued c told relations p s
-        → Issued c told relations p (record s {
+        → Issued c world p s
+        → Issued c world p (record s {
           free = buffer (drop 1 s.free.items) s.free.capacity;
         }) × (length r.pages ≡ c.combine)
         × (length s.free.items ≡ length (drop 1 s.free.items) + 1)

@@ -1,7 +1,6 @@
 -- A stream that is closed.
 use Rattle.std.proofs.Common.{◌≡◌, ℕ, List, [], ◌++◌, ap, subst, ⊎_elim}
-use Rattle.std.specs.Prelude.{Option}
-use Rattle.page_check.specs.Told.{Told}
+use Rattle.page_check.specs.declared.world.World.{Ghosts as WorldGhosts}
 use Rattle.aio_word.specs.declared.Known.{Known}
 use Rattle.aio_word.specs.declared.WaitRef.{WaitRef}
 use Rattle.aio_word.specs.Stands.{IsIn}
@@ -15,10 +14,10 @@ none-in : {A : Type 0} (x : A) (xs ys : List A) → xs ≡ [] → ys ≡ [] → 
 none-in {A} x xs ys e f i = subst (λ (z : List A). IsIn x ([] ++ z)) f
     (subst (λ (z : List A). IsIn x (z ++ ys)) e i)
 
-pub at-rest : {W : Type 0} (c : Scope W) (told : Option Told) (relations : ℕ) (p : Known)
-    (s : Reads W) (room total : ℕ) → Issued c told relations p s → AllRecordsFree room total s
+pub at-rest : {W : Type 0} (c : Scope W) (world : WorldGhosts W) (p : Known)
+    (s : Reads W) (room total : ℕ) → Issued c world p s → AllRecordsFree room total s
     → HasNoOwnerTokens p
-at-rest c told relations p s room total i r = (
+at-rest c world p s room total i r = (
   i.actor.nothing_handed_out,
   (λ t. ⊎_elim (λ over. over)
       (λ j. absurd (none-in t (staged_references s.batch) s.in_flight.items

@@ -1,8 +1,7 @@
 -- An I/O of a stream that was waited for, taken and reclaimed.
 use Rattle.std.proofs.Common.{◌≡◌, ◌≢◌, ℕ, ◌+◌, ◌*◌, ◌<◌, ◌≤◌, List, [], ◌∷◌, ◌++◌, length, refl}
 use Rattle.std.proofs.Common.{sym, ap, ◌∙◌, arith, append_assoc, subst, inl, inr, ⊎_elim, false}
-use Rattle.std.specs.Prelude.{Option}
-use Rattle.page_check.specs.Told.{Told}
+use Rattle.page_check.specs.declared.world.World.{Ghosts as WorldGhosts}
 use Rattle.aio_word.specs.declared.Class.{Class}
 use Rattle.aio_word.specs.declared.Config.{Config}
 use Rattle.aio_word.specs.declared.Kind.{Kind}
@@ -56,8 +55,10 @@ module _ (p m q : Known) (t : WaitRef) (l : Label) (a b d e : ℕ) (class : Clas
     before = w.result_taken.between
 
     idles : OwnerCountsUnchanged p before
-    idles = owner-counts-then p w.between before (owner-counts-taking-up p w.between a b d e w.execution)
-        (owner-counts-looking t.handle w.result_taken.found w.between before w.result_taken.word_load)
+    idles = owner-counts-then p w.between before (owner-counts-taking-up p w.between a b d e
+        w.execution)
+        (owner-counts-looking t.handle w.result_taken.found w.between before
+        w.result_taken.word_load)
 
     abbrev local-mark : Mark
     local-mark = make_mark t (kind.Local w.result_taken.class)
@@ -168,12 +169,12 @@ module _ (p m q : Known) (t : WaitRef) (l : Label) (a b d e : ℕ) (class : Clas
               let now = r.now in omega arith);
         }
 
-    module _ {W : Type 0} (c : Scope W) (told : Option Told) (relations : ℕ) where
+    module _ {W : Type 0} (c : Scope W) (world : WorldGhosts W) where
       pub settled-issued : (s : Reads W) → MarksOnceAndSeen (seen_rank q) q.marks
           → IsStreamIo c p t
           → ((u : WaitRef) → IsIn u s.in_flight.items → u ≢ t)
-          → IssuedExcept (t ∷ []) c told relations p s
-          → Issued c told relations q (record s { taken_in = s.taken_in + 1 })
+          → IssuedExcept (t ∷ []) c world p s
+          → Issued c world q (record s { taken_in = s.taken_in + 1 })
       settled-issued s keeps stream_ios apart i =
           record {
             room = i.room;
@@ -187,7 +188,7 @@ module _ (p m q : Known) (t : WaitRef) (l : Label) (a b d e : ℕ) (class : Clas
                 marks-both idles.lived h in omega arith)) i.actor;
             records = record {
               free = i.records.free;
-              ended_records = λ x j. taken-grown c told relations p q more x grown
+              ended_records = λ x j. taken-grown c world p q more x grown
                   advanced-settling.aims (i.records.ended_records x j);
             };
             tokens = record {
@@ -213,10 +214,11 @@ module _ (p m q : Known) (t : WaitRef) (l : Label) (a b d e : ℕ) (class : Clas
 
       -- the record, which the owner has settled
       pub settled-reading : (s : Reads W) (x y : ReadIoView) → y ≡ after_local x → x.label ≡ l
-          → IsStreamIo c p t → IssuedExcept (t ∷ []) c told relations p s
-          → ReadFits told relations y → ((aim : List ℕ) → IsIn (t, aim) p.aims → record_aim x ≡ aim)
+          → IsStreamIo c p t → IssuedExcept (t ∷ []) c world p s
+          → ReadFits world.told world.relations y → ((aim : List ℕ) → IsIn (t, aim) p.aims →
+          record_aim x ≡ aim)
           → (actor_count c.was.value.known.config ≡ 1 → HasWholeLife t x.label.ended m)
-          → IsTakenIn c told relations q y
+          → IsTakenIn c world q y
       settled-reading s x y is labelled stream_ios i fits aimed alone =
           let o = w.result_taken in
           let label : x.label ≡ record {

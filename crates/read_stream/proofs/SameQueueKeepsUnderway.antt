@@ -1,7 +1,7 @@
 -- Streams with the same blocks in their queues.
 use Rattle.std.proofs.Common.{[], ◌≡◌, ℕ, ◌+◌, ◌++◌, ◌<◌, ◌∙◌, List, length, ap, arith}
 use Rattle.std.specs.Prelude.{Option}
-use Rattle.page_check.specs.Told.{Told}
+use Rattle.page_check.specs.declared.world.World.{Ghosts as WorldGhosts}
 use Rattle.aio_word.specs.declared.Known.{Known}
 use Rattle.aio_callback.specs.ReadIoView.{ReadIoView}
 use Rattle.circular_buffer.specs.Buffer.{Buffer}
@@ -10,21 +10,23 @@ use Rattle.read_stream.specs.declared.reads.Reads.{Reads}
 use Rattle.read_stream.specs.declared.stream.ReadStream.{ReadStream}
 use Rattle.read_stream.specs.StreamIos.{Issued, ReadsForRuns, record_count, ios_started}
 use Rattle.read_stream.specs.WantedBlocks.{wanted_blocks, wanted_runs, pending_blocks}
+use Rattle.read_stream.specs.AtHand.{Front}
 use Rattle.read_stream.specs.StreamState.{UnderwayWith}
 use Rattle.read_stream.specs.ActorProgress.{ActorAdvanced}
 use Rattle.read_stream.specs.Changes.{with_reads}
 use Rattle.read_stream.proofs.StreamInvariantLaws.{plan_agrees_then, some_taken}
 
-module _ {W S P : Type 0} (left : S → List (ℕ × P)) (told : Option Told)
-    (relations handles : ℕ) (p : Known) (s : ReadStream W S P) where
+module _ {W S P : Type 0} (left : S → List (ℕ × P)) (world : WorldGhosts W) (p : Known)
+    (s : ReadStream W S P) where
   -- another plan, whose pending run has the blocks that were behind
-  pub underway_plan : (distance : ℕ) (pending : Option Run) (hand behind behind' : List ℕ)
-      (spent : ℕ) → pending_blocks s.plan.pending ++ behind ≡ pending_blocks pending ++ behind'
-      → UnderwayWith left told relations handles hand behind spent p s
-      → UnderwayWith left told relations handles hand behind' spent p (record s {
+  pub underway_plan : (distance : ℕ) (pending : Option Run) (front : Front)
+      (behind behind' : List ℕ) → pending_blocks s.plan.pending ++ behind ≡ pending_blocks pending
+      ++ behind'
+      → UnderwayWith left world front behind p s
+      → UnderwayWith left world front behind' p (record s {
         plan = record s.plan { distance = distance; pending = pending };
       })
-  underway_plan distance pending hand behind behind' spent out u =
+  underway_plan distance pending front behind behind' out u =
       let g = u.running in
       record {
         invariant = record { set_up = u.invariant.set_up; records = u.invariant.records };
@@ -32,7 +34,8 @@ module _ {W S P : Type 0} (left : S → List (ℕ × P)) (told : Option Told)
           position = g.position;
           order = record {
             queue_order = g.order.queue_order
-                ∙ ap (λ (z : List ℕ). hand ++ (wanted_blocks s.desk.now.wants.items ++ z)) out;
+                ∙ ap (λ (z : List ℕ). front.blocks ++ (wanted_blocks s.desk.now.wants.items ++ z))
+                out;
             wants = g.order.wants;
           };
           ios = g.ios;
@@ -41,20 +44,20 @@ module _ {W S P : Type 0} (left : S → List (ℕ × P)) (told : Option Told)
         };
       }
 
-module _ {W S P : Type 0} (left : S → List (ℕ × P)) (told : Option Told)
-    (relations handles : ℕ) (p q : Known) (s : ReadStream W S P) (a b d f : ℕ)
+module _ {W S P : Type 0} (left : S → List (ℕ × P)) (world : WorldGhosts W) (p q : Known)
+    (s : ReadStream W S P) (a b d f : ℕ)
     (actor_advanced : ActorAdvanced p q a b d f) where
   -- the actor advanced, and the I/Os with it
-  pub underway_reads : (r : Reads W) (hand behind : List ℕ) (spent : ℕ)
-      → Issued s.scope told relations q r → length r.batch < 32
+  pub underway_reads : (r : Reads W) (front : Front) (behind : List ℕ)
+      → Issued s.scope world q r → length r.batch < 32
       → record_count r ≡ record_count s.desk.now.reads
       → ios_started r ≡ ios_started s.desk.now.reads
       → r.free ≡ s.desk.now.reads.free
       → ((runs : List Run) → ReadsForRuns s.scope p s.desk.now.reads runs
       → ReadsForRuns s.scope q r runs)
-      → UnderwayWith left told relations handles hand behind spent p s
-      → UnderwayWith left told relations handles hand behind spent q (with_reads s r)
-  underway_reads r hand behind spent issued few records started free runs u =
+      → UnderwayWith left world front behind p s
+      → UnderwayWith left world front behind q (with_reads s r)
+  underway_reads r front behind issued few records started free runs u =
       let g = u.running in
       let v = u.invariant.records in
       let long : length r.free.items ≡ length s.desk.now.reads.free.items =
@@ -69,8 +72,7 @@ module _ {W S P : Type 0} (left : S → List (ℕ × P)) (told : Option Told)
           records = record {
             issued = issued;
             batch_within = few;
-            current = some_taken s.scope told relations p q a b d f s.current actor_advanced
-                v.current;
+            taken_in = some_taken s.scope world p q a b d f front.taken actor_advanced v.taken_in;
             record_total = omega arith;
           };
         };
@@ -87,14 +89,14 @@ module _ {W S P : Type 0} (left : S → List (ℕ × P)) (told : Option Told)
       }
 
   -- the same where nothing is staged any more
-  pub underway_submitted : (r : Reads W) → Issued s.scope told relations q r → r.batch ≡ []
+  pub underway_submitted : (r : Reads W) → Issued s.scope world q r → r.batch ≡ []
       → (record_count r ≡ record_count s.desk.now.reads)
       × (ios_started r ≡ ios_started s.desk.now.reads)
       × (r.free ≡ s.desk.now.reads.free)
       → ((runs : List Run) → ReadsForRuns s.scope p s.desk.now.reads runs
       → ReadsForRuns s.scope q r runs)
-      → (hand : List ℕ) → UnderwayWith left told relations handles hand [] 0 p s
-      → UnderwayWith left told relations handles hand [] 0 q (with_reads s r)
-  underway_submitted r issued none all runs hand u =
+      → (front : Front) → UnderwayWith left world front [] p s
+      → UnderwayWith left world front [] q (with_reads s r)
+  underway_submitted r issued none all runs front u =
       let staged : length r.batch ≡ 0 = ap (λ (z : List _). length z) none in
-      underway_reads r hand [] 0 issued (omega arith) all.0 all.1 all.2 runs u
+      underway_reads r front [] issued (omega arith) all.0 all.1 all.2 runs u

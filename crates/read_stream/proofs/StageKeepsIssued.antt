@@ -1,10 +1,10 @@
 -- A new I/O of a stream, from a free handle to a staged token.
 use Rattle.std.proofs.Common.{◌≡◌, ◌≢◌, ℕ, ◌+◌, ◌*◌, ◌<◌, ◌≤◌, ◌⊎◌, List, [], ◌∷◌, ◌++◌, length}
 use Rattle.std.proofs.Common.{refl, ap, ◌∙◌, arith, append_assoc, subst, inl, inr, ⊎_elim}
-use Rattle.std.specs.Prelude.{Option, Some}
+use Rattle.std.specs.Prelude.{Some}
 use mathlib.Core.Logic.{dite}
+use Rattle.page_check.specs.declared.world.World.{Ghosts as WorldGhosts}
 use native.Mathlib.Decide.{ℕ_discrete, dec_le}
-use Rattle.page_check.specs.Told.{Told}
 use Rattle.aio_word.specs.declared.Kind.TheVariants as kind
 use Rattle.aio_word.specs.declared.Known.{Known}
 use Rattle.aio_word.specs.declared.Mark.{Mark}
@@ -37,7 +37,7 @@ use Rattle.read_stream.proofs.TakenInRecordKept.{taken-grown}
 use Rattle.read_stream.proofs.InFlightUnchanged.{stream-ios-kept, stream-io-in}
 use Rattle.read_stream.proofs.BatchPushKeepsIssued.{staged-of}
 
-module _ {W : Type 0} (c : Scope W) (told : Option Told) (relations : ℕ) where
+module _ {W : Type 0} (c : Scope W) (world : WorldGhosts W) where
   none-yet : (p q : Known) (t : WaitRef) → MarksOnceAndSeen (seen_rank p) p.marks
       → EventMade event.HandOut t.handle (idle_word t.generation)
       (handed_out_word t.generation) [] p q
@@ -51,8 +51,8 @@ module _ {W : Type 0} (c : Scope W) (told : Option Told) (relations : ℕ) where
       → MarksOnceAndSeen (seen_rank p) p.marks → MarksOnceAndSeen (seen_rank q) q.marks
       → EventMade event.HandOut t.handle (idle_word t.generation)
       (handed_out_word t.generation) [] p q
-      → q.out ≡ Some t → Issued c told relations p s
-      → HandleHandedOut c told relations p q reads reads faults faults s t
+      → q.out ≡ Some t → Issued c world p s
+      → HandleHandedOut c world p q reads reads faults faults s t
   handed-out-now p q s t reads faults kp kq made out i = record {
     before = p;
     actor_advanced = advanced_nothing p reads faults;
@@ -69,8 +69,8 @@ module _ {W : Type 0} (c : Scope W) (told : Option Told) (relations : ℕ) where
   }
 
   pub handed-out-later : (p m q : Known) (s : Reads W) (t : WaitRef) (a b d a' b' d' : ℕ)
-      → ActorAdvanced p m a b a' b' → HandleHandedOut c told relations m q b d b' d' s t
-      → HandleHandedOut c told relations p q a d a' d' s t
+      → ActorAdvanced p m a b a' b' → HandleHandedOut c world m q b d b' d' s t
+      → HandleHandedOut c world p q a d a' d' s t
   handed-out-later p m q s t a b d a' b' d' w h = record {
     before = h.before;
     actor_advanced = advanced_then p m h.before a b d a' b' d' w h.actor_advanced;
@@ -83,14 +83,14 @@ module _ {W : Type 0} (c : Scope W) (told : Option Told) (relations : ℕ) where
 
   -- how far the actor advanced with it
   pub advanced-handed-out : (p q : Known) (s : Reads W) (t : WaitRef) (a b d e : ℕ)
-      → HandleHandedOut c told relations p q a b d e s t → ActorAdvanced p q a b d e
+      → HandleHandedOut c world p q a b d e s t → ActorAdvanced p q a b d e
   advanced-handed-out p q s t a b d e h = advanced_then p h.before q a b b d e e h.actor_advanced
       (advanced_made event.HandOut t.handle (idle_word t.generation)
       (handed_out_word t.generation) [] h.before q
       b e tt h.hand_out_event)
 
   module _ (p q q1 q2 : Known) (s : Reads W) (t : WaitRef) (a b d e : ℕ)
-      (h : HandleHandedOut c told relations p q a b d e s t)
+      (h : HandleHandedOut c world p q a b d e s t)
       (define : EventMade event.Define t.handle (handed_out_word t.generation)
       (defined_word t.generation) [] q q1)
       (is-defined : IsDefined q1 t)
@@ -215,7 +215,7 @@ module _ {W : Type 0} (c : Scope W) (told : Option Told) (relations : ℕ) where
               (λ j. inr (inr j)) old
 
       pub issued-staged : ios_started s + 1 ≤ c.most
-          → IssuedExcept (t ∷ []) c told relations q2 s
+          → IssuedExcept (t ∷ []) c world q2 s
       issued-staged most =
           let i = h.issued in record {
             room = i.room;
@@ -232,7 +232,7 @@ module _ {W : Type 0} (c : Scope W) (told : Option Told) (relations : ℕ) where
                 (λ k. (let f = same-lives k in omega arith)) i.actor;
             records = record {
               free = i.records.free;
-              ended_records = λ x j. taken-grown c told relations o q2
+              ended_records = λ x j. taken-grown c world o q2
                   (make_mark t kind.Defined ∷ make_mark t kind.Staged ∷ []) x grown
                   (λ e j'. advanced-defined.aims e (aims-handed e j'))
                   (i.records.ended_records x j);

@@ -2,7 +2,7 @@
 use Rattle.std.proofs.Common.{◌≡◌, ℕ, ◌+◌, ◌<◌, List, [], ◌∷◌, ◌++◌, length, ap, sym, arith, ◌∙◌}
 use Rattle.std.proofs.Common.{append_assoc, length-append}
 use Rattle.std.specs.Prelude.{Option}
-use Rattle.page_check.specs.Told.{Told}
+use Rattle.page_check.specs.declared.world.World.{Ghosts as WorldGhosts}
 use Rattle.aio_word.specs.declared.Known.{Known}
 use Rattle.read_plan.specs.Runs.{IsRun, run_blocks}
 use Rattle.read_plan.specs.declared.runs.Run.{Run}
@@ -12,6 +12,7 @@ use Rattle.read_stream.specs.declared.reads.Reads.{Reads}
 use Rattle.read_stream.specs.declared.stream.ReadStream.{ReadStream}
 use Rattle.read_stream.specs.StreamIos.{Issued, ReadsForRuns, record_count, ios_started}
 use Rattle.read_stream.specs.WantedBlocks.{IsValidWant, wanted_blocks, wanted_runs, pending_blocks}
+use Rattle.read_stream.specs.AtHand.{Front}
 use Rattle.read_stream.specs.StreamState.{UnderwayWith}
 use Rattle.read_stream.specs.ActorProgress.{ActorAdvanced}
 use Rattle.read_stream.specs.Changes.{run_started}
@@ -19,25 +20,25 @@ use Rattle.read_stream.proofs.PushedList.{each-pushed}
 use Rattle.read_stream.proofs.StreamInvariantLaws.{plan_agrees_then, some_taken}
 use Rattle.read_stream.proofs.WantedBlocks.{blocks_pushed, runs_pushed}
 
-module _ {W S P : Type 0} (left : S → List (ℕ × P)) (told : Option Told)
-    (relations handles : ℕ) where
+module _ {W S P : Type 0} (left : S → List (ℕ × P)) (world : WorldGhosts W) where
   -- a run was started that was pending, or was handed out by the plan
   pub underway_started : (p q : Known) (s : ReadStream W S P) (a b d f : ℕ) (run : Run)
-      (pending : Option Run) (r : Reads W) (hand behind behind' : List ℕ)
+      (pending : Option Run) (r : Reads W) (front : Front)
+      (behind behind' : List ℕ)
       → ActorAdvanced p q a b d f → IsRun s.desk.now.settings.combine run
       → pending_blocks s.plan.pending ++ behind
       ≡ run_blocks run ++ (pending_blocks pending ++ behind')
-      → Issued s.scope told relations q r → length r.batch < 32
+      → Issued s.scope world q r → length r.batch < 32
       → ((runs : List Run) → ReadsForRuns s.scope p s.desk.now.reads runs
       → ReadsForRuns s.scope q r (runs ++ run ∷ []))
       → length s.desk.now.reads.free.items ≡ length r.free.items + 1
       → record_count r ≡ record_count s.desk.now.reads
       → ios_started r ≡ ios_started s.desk.now.reads + 1
       → 1 < length s.desk.now.reads.free.items
-      → UnderwayWith left told relations handles hand behind 0 p s
-      → UnderwayWith left told relations handles hand behind' 0 q
+      → UnderwayWith left world front behind p s
+      → UnderwayWith left world front behind' q
       (run_started (record s { plan = record s.plan { pending = pending } }) run r)
-  underway_started p q s a b d f run pending r hand behind behind' advanced is out issued few runs
+  underway_started p q s a b d f run pending r front behind behind' advanced is out issued few runs
       free records started spare u =
       let g = u.running in
       let v = u.invariant.records in
@@ -54,7 +55,7 @@ module _ {W S P : Type 0} (left : S → List (ℕ × P)) (told : Option Told)
           records = record {
             issued = issued;
             batch_within = few;
-            current = some_taken s.scope told relations p q a b d f s.current advanced v.current;
+            taken_in = some_taken s.scope world p q a b d f front.taken advanced v.taken_in;
             record_total = omega arith;
           };
         };
@@ -62,10 +63,10 @@ module _ {W S P : Type 0} (left : S → List (ℕ × P)) (told : Option Told)
           position = g.position;
           order = record {
             queue_order = g.order.queue_order
-                ∙ (ap (λ (z : List ℕ). hand ++ (bs ++ z)) out
-                ∙ rw (blocks_pushed ws (want.Run run)) (ap (λ (z : List ℕ). hand ++ z)
+                ∙ (ap (λ (z : List ℕ). front.blocks ++ (bs ++ z)) out
+                ∙ rw (blocks_pushed ws (want.Run run)) (ap (λ (z : List ℕ). front.blocks ++ z)
                 (sym (append_assoc bs (run_blocks run) (pending_blocks pending ++ behind')))));
-            wants = each-pushed (λ w. IsValidWant s.desk.now.settings.combine handles w) ws
+            wants = each-pushed (λ w. IsValidWant s.desk.now.settings.combine world.handles w) ws
                 (want.Run run) g.order.wants is;
           };
           ios = record {

@@ -1,7 +1,7 @@
 -- What of a stream is unchanged where a part of it changes.
 use Rattle.std.proofs.Common.{◌≡◌, ℕ, ◌+◌, ◌<◌, refl, ◌∙◌}
 use Rattle.std.specs.Prelude.{Option, Some, None, IfSome}
-use Rattle.page_check.specs.Told.{Told}
+use Rattle.page_check.specs.declared.world.World.{Ghosts as WorldGhosts}
 use Rattle.aio_word.specs.declared.Known.{Known}
 use Rattle.aio_callback.specs.ReadIoView.{ReadIoView}
 use Rattle.read_plan.specs.Plans.{PlanView}
@@ -30,9 +30,7 @@ same_stream_refl s = record { desk = refl; scope = refl; source_was = refl; sett
 pub consumer_unchanged_refl : {W S P : Type 0} (s : ReadStream W S P) → ConsumerUnchanged s s
 consumer_unchanged_refl s = record {
   same_stream = same_stream_refl s;
-  pin = refl;
-  current = refl;
-  step = refl;
+  at_hand = refl;
   given = refl;
 }
 
@@ -40,18 +38,16 @@ pub consumer_unchanged_then : {W S P : Type 0} (a b d : ReadStream W S P) → Co
     → ConsumerUnchanged b d → ConsumerUnchanged a d
 consumer_unchanged_then a b d x y = record {
   same_stream = same_stream_then a b d x.same_stream y.same_stream;
-  pin = y.pin ∙ x.pin;
-  current = y.current ∙ x.current;
-  step = y.step ∙ x.step;
+  at_hand = y.at_hand ∙ x.at_hand;
   given = y.given ∙ x.given;
 }
 
-pub some_taken : {W : Type 0} (c : Scope W) (told : Option Told) (relations : ℕ) (p q : Known)
+pub some_taken : {W : Type 0} (c : Scope W) (world : WorldGhosts W) (p q : Known)
     (a b d e : ℕ) (r : Option ReadIoView) → ActorAdvanced p q a b d e
-    → IfSome r (IsTakenIn c told relations p) → IfSome r (IsTakenIn c told relations q)
-some_taken c told relations p q a b d e None w k = tt
-some_taken c told relations p q a b d e (Some r) w k =
-    taken-grown c told relations p q w.more r w.marks w.aims k
+    → IfSome r (IsTakenIn c world p) → IfSome r (IsTakenIn c world q)
+some_taken c world p q a b d e None w k = tt
+some_taken c world p q a b d e (Some r) w k =
+    taken-grown c world p q w.more r w.marks w.aims k
 
 -- the plan looks as far ahead as it may, has another pending run, and as many I/Os in progress as
 -- there are records in use

@@ -1,8 +1,8 @@
 -- The state of a stream's I/Os, over the calls of their actor.
 use Rattle.std.proofs.Common.{◌≡◌, ◌≢◌, ℕ, ◌+◌, ◌<◌, ◌≤◌, List, [], ◌∷◌, ◌++◌, length, refl, sym}
 use Rattle.std.proofs.Common.{ap, ◌∙◌, arith, subst, inl, inr, ⊎_elim, length-append}
-use Rattle.std.specs.Prelude.{Option, None}
-use Rattle.page_check.specs.Told.{Told}
+use Rattle.std.specs.Prelude.{None}
+use Rattle.page_check.specs.declared.world.World.{Ghosts as WorldGhosts}
 use Rattle.aio_word.specs.declared.Kind.TheVariants as kind
 use Rattle.aio_word.specs.declared.Known.{Known}
 use Rattle.aio_word.specs.declared.WaitRef.{WaitRef}
@@ -43,20 +43,20 @@ is-none [] le = refl
 is-none (x ∷ xs) le = absurd (omega arith)
 
 module _ {W : Type 0} (c : Scope W) where
-  pub issued-kept : (caller_refs : List WaitRef) (told : Option Told) (relations : ℕ) (p q : Known)
+  pub issued-kept : (caller_refs : List WaitRef) (world : WorldGhosts W) (p q : Known)
       (s : Reads W) → OwnerCountsUnchanged p q → q.out ≡ None
       → ((t : WaitRef) → IsIn t (staged_references s.batch ++ s.in_flight.items)
       → TokenUnchanged t p q)
-      → IssuedExcept caller_refs c told relations p s
-      → IssuedExcept caller_refs c told relations q s
-  issued-kept caller_refs told relations p q s i out kept k = record {
+      → IssuedExcept caller_refs c world p s
+      → IssuedExcept caller_refs c world q s
+  issued-kept caller_refs world p q s i out kept k = record {
     room = k.room;
     count_within = k.count_within;
     within_most = k.within_most;
     actor = stream-actor-kept c p q s.taken_in i out k.actor;
     records = record {
       free = k.records.free;
-      ended_records = λ r j. taken-later c told relations p q r i (k.records.ended_records r j);
+      ended_records = λ r j. taken-later c world p q r i (k.records.ended_records r j);
     };
     tokens = record {
       staged_tokens = staged_tokens-kept p q s.batch
@@ -72,21 +72,21 @@ module _ {W : Type 0} (c : Scope W) where
     };
   }
 
-  pub issued-taking-up : (caller_refs : List WaitRef) (told : Option Told) (relations : ℕ)
+  pub issued-taking-up : (caller_refs : List WaitRef) (world : WorldGhosts W)
       (p q : Known) (s : Reads W) (a b d e : ℕ) → ExecutesAll [] p q a b d e
-      → IssuedExcept caller_refs c told relations p s
-      → IssuedExcept caller_refs c told relations q s
-  issued-taking-up caller_refs told relations p q s a b d e k i =
-      issued-kept caller_refs told relations p q s (owner-counts-taking-up p q a b d e k)
+      → IssuedExcept caller_refs c world p s
+      → IssuedExcept caller_refs c world q s
+  issued-taking-up caller_refs world p q s a b d e k i =
+      issued-kept caller_refs world p q s (owner-counts-taking-up p q a b d e k)
       (k.grows.out ∙ i.actor.nothing_handed_out) (λ t j. unchanged-by-execution t [] p q a b d e k) i
 
   -- one I/O of the batch was submitted, and its token lies with the caller
-  pub issued-lent : (told : Option Told) (relations : ℕ) (p q : Known)
+  pub issued-lent : (world : WorldGhosts W) (p q : Known)
       (s : Reads W) (after : List (WaitRef × ReadIoView)) (t : WaitRef) (a b d e : ℕ)
       → IsNextSubmission record_aim s.batch after t p q a b d e → AreStagedTokens q after
-      → IssuedExcept [] c told relations p s
-      → HeldByCaller c told relations q (record s { batch = after }) t
-  issued-lent told relations p q s after t a b d e n held k =
+      → IssuedExcept [] c world p s
+      → HeldByCaller c world q (record s { batch = after }) t
+  issued-lent world p q s after t a b d e n held k =
       let xs : List (WaitRef × ReadIoView) = n.token ∷ after in
       let was : AreStagedTokens p xs =
       subst (λ (z : List (WaitRef × ReadIoView)). AreStagedTokens p z) n.first k.tokens.staged_tokens in
@@ -118,7 +118,7 @@ module _ {W : Type 0} (c : Scope W) where
           actor = stream-actor-kept c p q s.taken_in i out k.actor;
           records = record {
             free = k.records.free;
-            ended_records = λ r j. taken-later c told relations p q r i
+            ended_records = λ r j. taken-later c world p q r i
                 (k.records.ended_records r j);
           };
           tokens = record {
@@ -155,11 +155,11 @@ module _ {W : Type 0} (c : Scope W) where
       (λ f. in-right x bs (fs ++ t ∷ []) (in-left x fs (t ∷ []) f)) (in-append x bs fs j)) i
 
   -- a token in flight is put behind the others
-  more-in-flight : (told : Option Told) (relations : ℕ) (p : Known) (s : Reads W) (t : WaitRef)
-      → record_count s < c.total → HeldByCaller c told relations p s t
-      → Issued c told relations p
+  more-in-flight : (world : WorldGhosts W) (p : Known) (s : Reads W) (t : WaitRef)
+      → record_count s < c.total → HeldByCaller c world p s t
+      → Issued c world p
       (record s { in_flight = buffer (s.in_flight.items ++ t ∷ []) s.in_flight.capacity })
-  more-in-flight told relations p s t room l =
+  more-in-flight world p s t room l =
       let k = l.issued in
       let more = length-append s.in_flight.items (t ∷ []) in
       record {
@@ -180,20 +180,20 @@ module _ {W : Type 0} (c : Scope W) where
       }
 
   -- one I/O of the batch was submitted, and its token stands behind those in flight
-  pub issued-submitted : (told : Option Told) (relations : ℕ) (p q : Known) (s : Reads W)
+  pub issued-submitted : (world : WorldGhosts W) (p q : Known) (s : Reads W)
       (after : List (WaitRef × ReadIoView)) (t : WaitRef) (a b d e : ℕ)
       → IsNextSubmission record_aim s.batch after t p q a b d e → AreStagedTokens q after
-      → Issued c told relations p s
-      → Issued c told relations q (record s {
+      → Issued c world p s
+      → Issued c world q (record s {
         batch = after;
         in_flight = buffer (s.in_flight.items ++ t ∷ []) s.in_flight.capacity;
       })
-  issued-submitted told relations p q s after t a b d e n held k =
+  issued-submitted world p q s after t a b d e n held k =
       let whole : length s.batch ≡ length (n.token ∷ after) =
       ap (λ (z : List (WaitRef × ReadIoView)). length z) n.first in
       let few = k.count_within in
-      more-in-flight told relations q (record s { batch = after }) t (omega arith)
-      (issued-lent told relations p q s after t a b d e n held k)
+      more-in-flight world q (record s { batch = after }) t (omega arith)
+      (issued-lent world p q s after t a b d e n held k)
 
   -- a batch of one I/O
   pub only-one : (p q : Known) (s s' : Reads W) (x : WaitRef × ReadIoView)
@@ -208,17 +208,17 @@ module _ {W : Type 0} (c : Scope W) where
       (cc, cc)
 
   -- it was submitted, and lies with the caller
-  pub lent-at-once : (told : Option Told) (relations : ℕ) (p q : Known) (s s' : Reads W)
+  pub lent-at-once : (world : WorldGhosts W) (p q : Known) (s s' : Reads W)
       (x : WaitRef × ReadIoView) (after : List (WaitRef × ReadIoView)) (t : WaitRef) (a b d e : ℕ)
       → s' ≡ record s { batch = s.batch ++ x ∷ [] } → IsStaged p x.0 → IsStreamRecord c x.1
       → IsNewIncarnation c x.0 → ((u : WaitRef × ReadIoView) → IsIn u s.batch → u.0 ≢ x.0)
       → record_count s < c.total
-      → IssuedExcept (x.0 ∷ []) c told relations p s
+      → IssuedExcept (x.0 ∷ []) c world p s
       → IsNextSubmission record_aim s'.batch after t p q a b d e → AreStagedTokens q after
-      → HeldByCaller c told relations q (record s' { batch = after }) t
-  lent-at-once told relations p q s s' x after t a b d e is new aimed fresh apart room k n held =
-      issued-lent told relations p q s' after t a b d e n held
-      (issued-put c told relations p s s' x is new aimed fresh apart room k)
+      → HeldByCaller c world q (record s' { batch = after }) t
+  lent-at-once world p q s s' x after t a b d e is new aimed fresh apart room k n held =
+      issued-lent world p q s' after t a b d e n held
+      (issued-put c world p s s' x is new aimed fresh apart room k)
 
   -- and it is to read what its record was aimed at
   pub for-at-once : (p q : Known) (s s' : Reads W) (x : WaitRef × ReadIoView)
@@ -236,10 +236,10 @@ module _ {W : Type 0} (c : Scope W) where
       )
 
   -- where nothing is staged, and the caller's tokens are in flight, all is submitted
-  pub all-submitted : (caller_refs : List WaitRef) (told : Option Told) (relations : ℕ) (p : Known)
-      (s : Reads W) → IssuedExcept caller_refs c told relations p s → s.batch ≡ []
+  pub all-submitted : (caller_refs : List WaitRef) (world : WorldGhosts W) (p : Known)
+      (s : Reads W) → IssuedExcept caller_refs c world p s → s.batch ≡ []
       → ((t : WaitRef) → IsIn t caller_refs → IsStreamIo c p t) → AllSubmitted p
-  all-submitted caller_refs told relations p s k none callers = λ t defined.
+  all-submitted caller_refs world p s k none callers = λ t defined.
       (let in-flight : IsStreamIo c p t → 0 < mark_count t kind.Submitted p.marks
       + mark_count t kind.Reclaimed p.marks =
       λ io. (let since = io.in_flight.since in omega arith) in

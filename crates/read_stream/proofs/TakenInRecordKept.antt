@@ -1,7 +1,6 @@
 -- Records that were taken in, over what the actor does later.
 use Rattle.std.proofs.Common.{◌≡◌, ℕ, List, ◌++◌}
-use Rattle.std.specs.Prelude.{Option}
-use Rattle.page_check.specs.Told.{Told}
+use Rattle.page_check.specs.declared.world.World.{Ghosts as WorldGhosts}
 use Rattle.aio_word.specs.declared.Kind.TheVariants as kind
 use Rattle.aio_word.specs.declared.Known.{Known}
 use Rattle.aio_word.specs.declared.Mark.{Mark}
@@ -16,11 +15,11 @@ use Rattle.read_stream.proofs.ActorAdvancedLaws.{since_grown}
 use Rattle.read_stream.proofs.OwnerCountsKept.{OwnerCountsUnchanged}
 
 module _ {W : Type 0} (c : Scope W) where
-  pub taken-grown : (told : Option Told) (relations : ℕ) (p q : Known) (more : List Mark)
+  pub taken-grown : (world : WorldGhosts W) (p q : Known) (more : List Mark)
       (r : ReadIoView) → q.marks ≡ p.marks ++ more
       → ((e : WaitRef × List ℕ) → IsIn e p.aims → IsIn e q.aims)
-      → IsTakenIn c told relations p r → IsTakenIn c told relations q r
-  taken-grown told relations p q more r grown aims k = record {
+      → IsTakenIn c world p r → IsTakenIn c world q r
+  taken-grown world p q more r grown aims k = record {
     fits = k.fits;
     has_ended = k.has_ended;
     is_stream_record = k.is_stream_record;
@@ -33,7 +32,7 @@ module _ {W : Type 0} (c : Scope W) where
         one);
   }
 
-  pub taken-later : (told : Option Told) (relations : ℕ) (p q : Known) (r : ReadIoView)
-      → OwnerCountsUnchanged p q → IsTakenIn c told relations p r → IsTakenIn c told relations q r
-  taken-later told relations p q r i k =
-      taken-grown told relations p q i.more r i.grown i.aims k
+  pub taken-later : (world : WorldGhosts W) (p q : Known) (r : ReadIoView)
+      → OwnerCountsUnchanged p q → IsTakenIn c world p r → IsTakenIn c world q r
+  taken-later world p q r i k =
+      taken-grown world p q i.more r i.grown i.aims k

@@ -1,9 +1,8 @@
 -- What a step of a stream changes, and what it leaves as it is.
 use Rattle.circular_buffer.specs.Buffer.{buffer}
-use Rattle.std.specs.Prelude.{◌≡◌, ℕ, ◌+◌, ◌-◌, ◌++◌, List, [], ◌∷◌, length, drop, Option}
-use Rattle.aio_callback.specs.ReadIoView.{ReadIoView}
+use Rattle.std.specs.Prelude.{◌≡◌, ℕ, ◌+◌, ◌-◌, ◌++◌, List, [], ◌∷◌, length, drop}
 use Rattle.read_plan.specs.declared.runs.Run.{Run}
-use Rattle.read_stream.specs.declared.answer.Step.TheVariants as step
+use Rattle.read_stream.specs.declared.at_hand.AtHand.{AtHand}
 use Rattle.read_stream.specs.declared.desk.Desk.{Desk}
 use Rattle.read_stream.specs.declared.queue.QueuedBlock.{QueuedBlock}
 use Rattle.read_stream.specs.declared.queue.Want.{Want}
@@ -22,9 +21,7 @@ pub record SameStream {W S P : Type 0} (old new : ReadStream W S P) : Type 0 whe
 -- what looking ahead leaves as it is
 pub record ConsumerUnchanged {W S P : Type 0} (old new : ReadStream W S P) : Type 0 where
   pub same_stream : SameStream old new
-  pub pin : new.pin ≡ old.pin
-  pub current : new.current ≡ old.current
-  pub step : new.step ≡ old.step
+  pub at_hand : new.at_hand ≡ old.at_hand
   pub given : new.given ≡ old.given
 
 -- what serving a block leaves as it is, until the block is given
@@ -32,7 +29,6 @@ pub record LookAheadUnchanged {W S P : Type 0} (old new : ReadStream W S P) : Ty
   pub same_stream : SameStream old new
   pub source : new.source ≡ old.source
   pub queue : new.desk.now.queue ≡ old.desk.now.queue
-  pub step : new.step ≡ old.step
   pub given : new.given ≡ old.given
 
 module _ {W S P : Type 0} (s : ReadStream W S P) where
@@ -62,15 +58,18 @@ module _ {W S P : Type 0} (s : ReadStream W S P) where
     queue = buffer (s.desk.now.queue.items ++ a ∷ []) s.desk.now.queue.capacity;
   })) { plan = record s.plan { blocks_ahead = s.plan.blocks_ahead + 1 } }
 
-  -- the page of the block at the front was given
-  abbrev pub page_given : QueuedBlock P → ReadStream W S P
-  page_given a = record (with_desk (record s.desk.now {
+  -- the page of the block at the front is given
+  abbrev pub page_given : ReadStream W S P
+  page_given = record (with_desk (record s.desk.now {
     queue = buffer (drop 1 s.desk.now.queue.items) s.desk.now.queue.capacity;
   })) {
     plan = record s.plan { blocks_ahead = s.plan.blocks_ahead - 1 };
     given = s.given + 1;
-    step = step.Page a.block a.per_buffer_data;
   }
+
+  -- this is at hand
+  abbrev pub with_at_hand : AtHand W P → ReadStream W S P
+  with_at_hand h = record s { at_hand = h }
 
   -- the run was started, and these are the reads now
   abbrev pub run_started : Run → Reads W → ReadStream W S P
@@ -79,12 +78,9 @@ module _ {W S P : Type 0} (s : ReadStream W S P) where
     reads = r;
   })) { plan = record s.plan { ios_in_progress = s.plan.ios_in_progress + 1 } }
 
-  -- a run was read at once, by the record that is at hand now
-  abbrev pub run_read : Reads W → Option ReadIoView → ℕ → ReadStream W S P
-  run_read r io distance = record (with_reads r) {
-    current = io;
-    plan = record s.plan { distance = distance };
-  }
+  -- a run was read at once
+  abbrev pub run_read : Reads W → ℕ → ReadStream W S P
+  run_read r distance = record (with_reads r) { plan = record s.plan { distance = distance } }
 
 -- the run was started by a free record
 pub record StartsRun {W S P : Type 0} (run : Run) (old new : ReadStream W S P) : Type 0 where
@@ -92,11 +88,3 @@ pub record StartsRun {W S P : Type 0} (run : Run) (old new : ReadStream W S P) :
   pub free : length old.desk.now.reads.free.items ≡ length new.desk.now.reads.free.items + 1
   pub records : record_count new.desk.now.reads ≡ record_count old.desk.now.reads
   pub ios : ios_started new.desk.now.reads ≡ ios_started old.desk.now.reads + 1
-
--- one I/O was made and taken in, by a record that was nowhere before
-pub record ReadsOne {W S P : Type 0} (old new : ReadStream W S P) : Type 0 where
-  pub stream : new ≡ run_read old new.desk.now.reads new.current new.plan.distance
-  pub batch : new.desk.now.reads.batch ≡ []
-  pub free : new.desk.now.reads.free ≡ old.desk.now.reads.free
-  pub records : record_count new.desk.now.reads ≡ record_count old.desk.now.reads
-  pub started : ios_started new.desk.now.reads ≡ ios_started old.desk.now.reads + 1

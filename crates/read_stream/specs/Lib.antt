@@ -5,7 +5,7 @@ pub mod StreamAnswers
 pub mod Parts
 pub mod Desks
 pub mod WantedBlocks
-pub mod PagesAtHand
+pub mod AtHand
 pub mod StreamViews
 pub mod StreamState
 pub mod Changes

@@ -6,24 +6,20 @@ use Rattle.aio_word.specs.declared.Class.TheVariants.{Failed}
 use Rattle.aio_callback.specs.StreamOutcomes.{stream_ids}
 use Rattle.aio_callback.specs.Chain.{good_count}
 use Rattle.aio_callback.specs.ReadIoView.{ReadIoView, record_zeroed}
-use Rattle.read_stream.specs.declared.answer.Ending.TheVariants as ending
 use Rattle.read_stream.specs.declared.parts.Part.{Part}
 use Rattle.read_stream.specs.declared.parts.Part.TheVariants as part
+use Rattle.read_stream.specs.declared.parts.Stop.TheVariants as stop
 
 -- the record was to read the block
 abbrev pub CoversBlock : ReadIoView → ℕ → Type 0
 CoversBlock io block = (io.first ≤ block) × (block - io.first < io.count)
 
--- a page was zeroed, and is not what stops the stream, only where damaged pages are zeroed
+-- the record has this for the block. A page was zeroed only where damaged pages are zeroed
 abbrev pub IsValidPart : Option Told → ReadIoView → ℕ → Part → Type 0
 IsValidPart told io block part.Page = (block - io.first < good_count io.ids io.result)
     × (record_zeroed io (block - io.first) ≡ true → io.ids ≡ stream_ids true)
-IsValidPart told io block part.Rest = io.first < block
-IsValidPart told io block (part.Stop ending.End) = ⊥
-IsValidPart told io block (part.Stop (ending.Invalid b)) =
-    (b ≡ block) × (io.ids ≡ stream_ids false)
+IsValidPart told io block (part.Stop stop.Invalid) = (io.ids ≡ stream_ids false)
     × IfSome told (λ t. found_at t io.relation block ≡ Damaged)
-IsValidPart told io block (part.Stop (ending.Unread b)) =
-    (b ≡ block) × (io.first ≡ block) × (io.label.ended ≡ Failed)
-IsValidPart told io block (part.Stop (ending.PastEnd b)) =
-    (b ≡ block) × IfSome told (λ t. found_at t io.relation block ≡ Absent)
+IsValidPart told io block (part.Stop stop.Unread) = (io.first ≡ block) × (io.label.ended ≡ Failed)
+IsValidPart told io block (part.Stop stop.PastEnd) =
+    IfSome told (λ t. found_at t io.relation block ≡ Absent)

@@ -1,6 +1,6 @@
 -- What a stream answers, in the words of synchronous reads.
-use Rattle.std.specs.Prelude.{◌≡◌, ℕ, Bool, true, false, List, map, ⊤, Option, Some, None}
-use Rattle.page_check.specs.SynchronousAnswer.{Entry, Ending as SaidEnding}
+use Rattle.std.specs.Prelude.{◌≡◌, ℕ, Bool, true, false, List, map, ⊤}
+use Rattle.page_check.specs.SynchronousAnswer.{Entry}
 use Rattle.page_check.specs.SynchronousAnswer.{End as SaidEnd, Invalid as SaidInvalid}
 use Rattle.page_check.specs.SynchronousAnswer.{PastEnd as SaidPastEnd, Unread as SaidUnread}
 use Rattle.page_check.specs.IsAnswer.{Next as Said, Page as SaidPage, Stop as SaidStop}
@@ -14,10 +14,6 @@ use Rattle.aio_word.specs.Stands.{IsIn}
 use Rattle.aio_callback.specs.Finishes.{record_reference}
 use Rattle.read_stream.specs.declared.answer.Next.{Next}
 use Rattle.read_stream.specs.declared.answer.Next.TheVariants as next
-use Rattle.read_stream.specs.declared.answer.Ending.{Ending}
-use Rattle.read_stream.specs.declared.answer.Ending.TheVariants as ending
-use Rattle.read_stream.specs.declared.answer.Step.{Step}
-use Rattle.read_stream.specs.declared.answer.Step.TheVariants as step
 use Rattle.read_stream.specs.ActorProgress.{MarkedSince}
 
 -- a block of the relation, with the caller's data
@@ -27,12 +23,6 @@ stream_entry relation x = record { relation = relation; block = x.0; per_buffer_
 -- the blocks of the relation that a source gives
 abbrev pub stream_entries : {P : Type 0} → ℕ → List (ℕ × P) → List (Entry P)
 stream_entries relation list = map (stream_entry relation) list
-
-abbrev pub synchronous_ending : Ending → SaidEnding
-synchronous_ending ending.End = SaidEnd
-synchronous_ending (ending.Invalid block) = SaidInvalid block
-synchronous_ending (ending.Unread block) = SaidUnread block
-synchronous_ending (ending.PastEnd block) = SaidPastEnd block
 
 -- a read of the stream that began at the block has failed: the actor took its result, which its
 -- list says behind what it had when the stream was opened. In a table of one actor it was this
@@ -81,27 +71,3 @@ module _ {P : Type 0} where
   abbrev pub IfZeroed : Said P → Type 0 → Type 0
   IfZeroed (SaidPage given) holds = given.zeroed ≡ true → holds
   IfZeroed (SaidStop end) holds = ⊤
-
-  -- the answer of the stream's last step, where this is its page, zeroed or not
-  abbrev pub step_answer : ℕ → Step P → List ℕ × Bool → Said P
-  step_answer relation step.Start page = SaidStop SaidEnd
-  step_answer relation (step.Page block info) page = page_answer relation block info page.0 page.1
-  step_answer relation (step.Stop end) page = SaidStop (synchronous_ending end)
-
-  -- how the stream has ended after its last step, if it has
-  abbrev pub step_ending : Step P → Option SaidEnding
-  step_ending step.Start = None
-  step_ending (step.Page block info) = None
-  step_ending (step.Stop end) = Some (synchronous_ending end)
-
-  -- the stream has answered by an ending already, and this is what holds of it
-  abbrev pub IfStopped : Step P → (Ending → Type 0) → Type 0
-  IfStopped (step.Stop end) holds = holds end
-  IfStopped (step.Page block info) holds = ⊤
-  IfStopped step.Start holds = ⊤
-
-  -- the stream has not answered by an ending
-  abbrev pub IfRunning : Step P → Type 0 → Type 0
-  IfRunning (step.Stop end) holds = ⊤
-  IfRunning (step.Page block info) holds = holds
-  IfRunning step.Start holds = holds

@@ -1,7 +1,7 @@
 -- The I/Os of a stream: which token and which record is where.
 use Rattle.std.specs.Prelude.{◌≡◌, ◌≢◌, ℕ, ◌+◌, ◌*◌, ◌^◌, ◌<◌, ◌≤◌, ◌⊎◌, ◌++◌, List, [], ◌∷◌, map}
 use Rattle.std.specs.Prelude.{length, Option, Some, None}
-use Rattle.page_check.specs.Told.{Told}
+use Rattle.page_check.specs.declared.world.World.{Ghosts as WorldGhosts}
 use Rattle.aio_word.specs.declared.Class.TheVariants.{Unended}
 use Rattle.aio_word.specs.declared.Kind.TheVariants as kind
 use Rattle.aio_word.specs.declared.Known.{Known}
@@ -81,9 +81,9 @@ module _ {W : Type 0} (c : Scope W) where
 
   -- the record was read by an I/O of this stream, which the actor took in: its Local mark stands
   -- in the actor's list, and in a table of one actor its Io mark too
-  pub record IsTakenIn (told : Option Told) (relations : ℕ) (p : Known) (r : ReadIoView) : Type 0
+  pub record IsTakenIn (world : WorldGhosts W) (p : Known) (r : ReadIoView) : Type 0
     where
-      pub fits : ReadFits told relations r
+      pub fits : ReadFits world.told world.relations r
       pub has_ended : r.label.ended ≢ Unended
       pub is_stream_record : IsStreamRecord r
       pub was_submitted : IsIn (record_reference r, record_aim r) p.aims
@@ -118,10 +118,10 @@ module _ {W : Type 0} (c : Scope W) where
     pub marks_since_open : (more : List _) × (p.marks ≡ known_at_open.marks ++ more)
 
   -- records that nobody uses, and those that were taken in with their pages
-  pub record AreStreamRecords (told : Option Told) (relations : ℕ) (p : Known)
+  pub record AreStreamRecords (world : WorldGhosts W) (p : Known)
       (unused settled : List ReadIoView) : Type 0 where
     pub free : (r : ReadIoView) → IsIn r unused → length r.pages ≡ c.combine
-    pub ended_records : (r : ReadIoView) → IsIn r settled → IsTakenIn told relations p r
+    pub ended_records : (r : ReadIoView) → IsIn r settled → IsTakenIn world p r
 
   -- the tokens of a stream: those that are staged, and those in flight. Each incarnation that is not
   -- over is one of these, or one of the caller's
@@ -163,33 +163,33 @@ module _ {W : Type 0} where
 
   -- the state of the I/Os of a stream whose actor knows p, except those of these incarnations,
   -- whose tokens the caller holds
-  pub record IssuedExcept (caller_refs : List WaitRef) (c : Scope W) (told : Option Told)
-      (relations : ℕ) (p : Known) (s : Reads W) : Type 0 where
+  pub record IssuedExcept (caller_refs : List WaitRef) (c : Scope W) (world : WorldGhosts W)
+      (p : Known) (s : Reads W) : Type 0 where
     pub room : HasRoom c.total s.free.capacity s.in_flight.capacity s.ended.capacity
     pub count_within : record_count s ≤ c.total
     pub within_most : ios_started s + length caller_refs ≤ c.most
     pub actor : IsStreamActor c s.taken_in p
-    pub records : AreStreamRecords c told relations p s.free.items s.ended.items
+    pub records : AreStreamRecords c world p s.free.items s.ended.items
     pub tokens : AreStreamTokens c p caller_refs s.batch s.in_flight.items
 
   -- the caller holds this I/O in flight, which is none of those here
-  pub record HeldByCaller (c : Scope W) (told : Option Told) (relations : ℕ) (p : Known)
+  pub record HeldByCaller (c : Scope W) (world : WorldGhosts W) (p : Known)
       (s : Reads W) (t : WaitRef) : Type 0 where
-    pub issued : IssuedExcept (t ∷ []) c told relations p s
+    pub issued : IssuedExcept (t ∷ []) c world p s
     pub stream_ios : IsStreamIo c p t
     pub apart : (u : WaitRef) → IsIn u s.in_flight.items → u ≢ t
 
   -- the actor advanced from p, and then, where it knew `before`, handed out the incarnation
-  pub record HandleHandedOut (c : Scope W) (told : Option Told) (relations : ℕ) (p q : Known)
+  pub record HandleHandedOut (c : Scope W) (world : WorldGhosts W) (p q : Known)
       (reads reads' faults faults' : ℕ) (s : Reads W) (t : WaitRef) : Type 0 where
     pub before : Known
     pub actor_advanced : ActorAdvanced p before reads reads' faults faults'
-    pub issued : IssuedExcept [] c told relations before s
+    pub issued : IssuedExcept [] c world before s
     pub hand_out_event : EventMade HandOut t.handle (idle_word t.generation)
         (handed_out_word t.generation) [] before q
     pub token : q.out ≡ Some t
     pub is_new : IsNewIncarnation c t
     pub marks_once : MarksOnceAndSeen (seen_rank q) q.marks
 
-  abbrev pub Issued : Scope W → Option Told → ℕ → Known → Reads W → Type 0
-  Issued c told relations p s = IssuedExcept [] c told relations p s
+  abbrev pub Issued : Scope W → WorldGhosts W → Known → Reads W → Type 0
+  Issued c world p s = IssuedExcept [] c world p s

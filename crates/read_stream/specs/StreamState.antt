@@ -1,6 +1,7 @@
 -- The state of a stream, between its calls and in the middle of one.
 use Rattle.std.specs.Prelude.{◌≡◌, ℕ, ◌+◌, ◌<◌, ◌≤◌, ◌++◌, List, [], length, map, drop, true}
-use Rattle.std.specs.Prelude.{Bool, Option, IfSome, IsSomeAnd, ⊤}
+use Rattle.std.specs.Prelude.{Bool, Option, None, IfSome}
+use Rattle.page_check.specs.declared.world.World.{Ghosts as WorldGhosts}
 use Rattle.page_check.specs.Told.{Told}
 use Rattle.page_check.specs.SynchronousAnswer.{Entry, read_count, reader_of}
 use Rattle.page_check.specs.IsAnswer.{Next as Said, Stop as SaidStop, IsNext}
@@ -10,30 +11,22 @@ use Rattle.aio_handle.specs.ContractViews.{ActorView, IsSameActor}
 use Rattle.aio_callback.specs.ReadIoView.{ReadIoView}
 use Rattle.read_plan.specs.Plans.{PlanView}
 use Rattle.read_plan.specs.declared.runs.Run.{Run}
-use Rattle.read_stream.specs.declared.answer.Ending.{Ending}
-use Rattle.read_stream.specs.declared.answer.Ending.TheVariants as ending
+use Rattle.read_stream.specs.declared.at_hand.AtHand.{AtHand}
+use Rattle.read_stream.specs.declared.at_hand.Held.{Held}
 use Rattle.read_stream.specs.declared.desk.Settings.{Settings}
 use Rattle.read_stream.specs.declared.queue.QueuedBlock.{QueuedBlock}
 use Rattle.read_stream.specs.declared.queue.Want.{Want}
 use Rattle.read_stream.specs.declared.reads.Reads.{Reads}
 use Rattle.read_stream.specs.declared.scope.Scope.{Scope}
 use Rattle.read_stream.specs.declared.stream.ReadStream.{ReadStream}
-use Rattle.read_stream.specs.StreamAnswers.{stream_entries, synchronous_ending, step_ending}
-use Rattle.read_stream.specs.StreamAnswers.{IsFailedRead, MayBeUnread, IfStopped, IfRunning}
+use Rattle.read_stream.specs.StreamAnswers.{stream_entries, MayBeUnread}
 use Rattle.read_stream.specs.StreamViews.{StreamView, IsActorAsLeft, stream_after}
 use Rattle.read_stream.specs.StreamIos.{Issued, ReadsForRuns, IsTakenIn, record_count, ios_started}
 use Rattle.read_stream.specs.Desks.{AreValidSettings}
 use Rattle.read_stream.specs.WantedBlocks.{IsValidWant, source_item, block_number, wanted_blocks}
 use Rattle.read_stream.specs.WantedBlocks.{pending_blocks, wanted_runs}
-use Rattle.read_stream.specs.PagesAtHand.{IsAtHand, LendsCurrentPage, count_some, blocks_at_hand}
-use Rattle.read_stream.specs.PagesAtHand.{spent_ios, record_blocks_left}
-
--- the record of a failed read is kept
-abbrev pub IfUnread : Ending → (ℕ → Type 0) → Type 0
-IfUnread ending.End holds = ⊤
-IfUnread (ending.Invalid block) holds = ⊤
-IfUnread (ending.Unread block) holds = holds block
-IfUnread (ending.PastEnd block) holds = ⊤
+use Rattle.read_stream.specs.AtHand.{Front, count_some, ending_at_hand, front_of, held_front}
+use Rattle.read_stream.specs.AtHand.{held_record, record_of, IsFoundFor, IsHeldFor, IsRightAtHand}
 
 -- what does not change while a stream is open: its list has so many blocks, and its desk has these
 -- settings, and room for so many blocks and wants
@@ -47,13 +40,13 @@ pub record IsSetUp {W : Type 0} (relations : ℕ) (c : Scope W) (blocks : ℕ) (
   pub wants : desk.limit ≤ wants_room
   pub list_within_most : blocks ≤ c.most
 
--- the I/Os of a stream, and all its records: one may be at hand
-pub record HasRecords {W : Type 0} (told : Option Told) (relations : ℕ) (c : Scope W) (p : Known)
-    (reads : Reads W) (at_hand : Option ReadIoView) : Type 0 where
-  pub issued : Issued c told relations p reads
+-- the I/Os of a stream, and all its records: one may be taken out
+pub record HasRecords {W : Type 0} (world : WorldGhosts W) (c : Scope W) (p : Known)
+    (reads : Reads W) (taken : Option ReadIoView) : Type 0 where
+  pub issued : Issued c world p reads
   pub batch_within : length reads.batch < 32
-  pub current : IfSome at_hand (IsTakenIn c told relations p)
-  pub record_total : record_count reads + count_some at_hand ≡ c.total
+  pub taken_in : IfSome taken (IsTakenIn c world p)
+  pub record_total : record_count reads + count_some taken ≡ c.total
 
 -- so many blocks of the list were given: what is left of it is what the stream has taken from its
 -- source, then what the source has left
@@ -101,13 +94,12 @@ stream_view left s = record {
   desk = s.desk.ghost_name;
   settings = s.desk.now.settings;
   given = s.given;
-  ending = step_ending s.step;
+  ending = ending_at_hand s.at_hand;
   actor_was = s.scope.was.value;
   actor_is = s.actor_is.value;
 }
 
-module _ {W S P : Type 0} (left : S → List (ℕ × P)) (told : Option Told)
-    (relations handles : ℕ) where
+module _ {W S P : Type 0} (left : S → List (ℕ × P)) (world : WorldGhosts W) where
   -- the blocks that the source gave when the stream was opened
   abbrev pub list_at_open : ReadStream W S P → List (ℕ × P)
   list_at_open s = left s.source_was.value
@@ -116,34 +108,33 @@ module _ {W S P : Type 0} (left : S → List (ℕ × P)) (told : Option Told)
   entries_at_open s = stream_entries s.scope.relation (list_at_open s)
 
   -- what holds of a stream at any time, whose actor knows p
-  pub record StreamInvariant (p : Known) (s : ReadStream W S P) : Type 0 where
-    pub set_up : IsSetUp relations s.scope (length (list_at_open s)) s.desk.now.settings
-        s.desk.now.queue.capacity s.desk.now.wants.capacity
-    pub records : HasRecords told relations s.scope p s.desk.now.reads s.current
+  pub record StreamInvariant (taken : Option ReadIoView) (p : Known) (s : ReadStream W S P) : Type 0
+    where
+      pub set_up : IsSetUp world.relations s.scope (length (list_at_open s)) s.desk.now.settings
+          s.desk.now.queue.capacity s.desk.now.wants.capacity
+      pub records : HasRecords world s.scope p s.desk.now.reads taken
 
-  -- a stream that has not ended. The blocks that it has taken and not given are those at hand,
+  -- a stream that has not ended. The blocks that it has taken and not given are those in front,
   -- those that are wanted, those of the pending run and those behind
-  pub record IsRunning (hand behind : List ℕ) (spent : ℕ) (p : Known) (s : ReadStream W S P)
-      : Type 0 where
-    pub position : IsPosition told s.scope (list_at_open s) (left s.source) s.over s.given
-        s.desk.now.queue.items
-    pub order : AreOrderedBlocks handles s.desk.now.settings hand behind s.desk.now.queue.items
-        s.desk.now.wants.items s.plan.pending
-    pub ios : AreWantedIos s.scope p s.desk.now.reads s.desk.now.wants.items (s.given + spent)
-    pub plan : PlanAgrees s.plan s.desk.now.settings (length s.desk.now.queue.items) s.scope.total
-        (length s.desk.now.reads.free.items) (count_some s.current)
+  pub record IsRunning (front : Front) (behind : List ℕ) (p : Known) (s : ReadStream W S P) : Type 0
+    where
+      pub position : IsPosition world.told s.scope (list_at_open s) (left s.source) s.over s.given
+          s.desk.now.queue.items
+      pub order : AreOrderedBlocks world.handles s.desk.now.settings front.blocks behind
+          s.desk.now.queue.items s.desk.now.wants.items s.plan.pending
+      pub ios : AreWantedIos s.scope p s.desk.now.reads s.desk.now.wants.items
+          (s.given + front.spent)
+      pub plan : PlanAgrees s.plan s.desk.now.settings (length s.desk.now.queue.items) s.scope.total
+          (length s.desk.now.reads.free.items) (count_some front.taken)
 
   -- between two calls
   pub record IsBetweenCalls (p : Known) (s : ReadStream W S P) : Type 0 where
-    pub invariant : StreamInvariant p s
+    pub invariant : StreamInvariant (record_of s.at_hand) p s
     pub few_ios : ios_started s.desk.now.reads ≤ length (list_at_open s)
-    pub running : IfRunning s.step (IsRunning (record_blocks_left s.current s.step) [] 0 p s)
-    pub lends_page : LendsCurrentPage told s.scope.relation s.pin s.current s.step
-    pub stop_answer : IfStopped s.step (λ e. IsNext (reader_of s.scope.zero told)
-        (MayBeUnread s.scope.was.value p) (entries_at_open s) s.given
-        (SaidStop (synchronous_ending e)))
-    pub unread_record : IfStopped s.step (λ e. IfUnread e (λ b. IsSomeAnd s.current
-        (IsFailedRead s.scope.was.value p s.scope.relation b)))
+    pub running : ending_at_hand s.at_hand ≡ None → IsRunning (front_of s.at_hand) [] p s
+    pub right : IsRightAtHand world.told s.scope.relation s.at_hand
+    pub stop_answer : IfSome (ending_at_hand s.at_hand) (λ e. IsNext (reader_of s.scope.zero
+        world.told) (MayBeUnread s.scope.was.value p) (entries_at_open s) s.given (SaidStop e))
 
   pub record IsOpen (s : ReadStream W S P) : Type 0 where
     pub same : IsSameActor s.scope.was.value s.actor_is.value
@@ -162,16 +153,23 @@ module _ {W S P : Type 0} (left : S → List (ℕ × P)) (told : Option Told)
     pub open_for : IsOpenFor new actor
 
   -- in the middle of a call
-  pub record UnderwayWith (hand behind : List ℕ) (spent : ℕ) (p : Known) (s : ReadStream W S P)
+  pub record UnderwayWith (front : Front) (behind : List ℕ) (p : Known) (s : ReadStream W S P)
       : Type 0 where
-    pub invariant : StreamInvariant p s
-    pub running : IsRunning hand behind spent p s
+    pub invariant : StreamInvariant front.taken p s
+    pub running : IsRunning front behind p s
 
   -- before the block at the front of the queue is served
   abbrev pub Underway : Known → ReadStream W S P → Type 0
-  Underway p s = UnderwayWith (record_blocks_left s.current s.step) [] 0 p s
+  Underway p s = UnderwayWith (front_of s.at_hand) [] p s
 
-  -- the block's page is to be had from the pin or the record
-  pub record BlockIsAtHand (block : ℕ) (p : Known) (s : ReadStream W S P) : Type 0 where
-    pub underway : UnderwayWith (blocks_at_hand s.current block) [] (spent_ios s.current block) p s
-    pub at_hand : IsAtHand told s.scope.relation s.pin s.current block
+  -- the call holds a page of the pool for the block, or a record that was to read it
+  pub record HoldsBlock (block : ℕ) (h : Held W) (p : Known) (s : ReadStream W S P) : Type 0 where
+    pub underway : UnderwayWith (held_front (held_record h) block) [] p s
+    pub is_for : IsHeldFor world.told s.scope.relation block h
+
+  -- the call has found the block's page, or what stops the stream there
+  pub record FindsBlock (asked : QueuedBlock P) (h : AtHand W P) (p : Known) (s : ReadStream W S P)
+      : Type 0 where
+    pub underway : UnderwayWith (held_front (record_of h) asked.block) [] p s
+    pub right : IsRightAtHand world.told s.scope.relation h
+    pub is_for : IsFoundFor asked h

@@ -27,11 +27,10 @@ impl<W: World> Reads<W> {
     ) -> Option<HandedOut<W>>
         requires table { IsActorOf table.now actor.old }
         requires backend { actor.old.known.number < table.now.config.backends }
-        requires issued { Issued scope.now W.told W.relations actor.old.known self.now }
+        requires issued { Issued scope.now W.World actor.old.known self.now }
         ensures same { IsSameActor actor.old actor.new }
-        ensures handle_handed_out { IfSome result (λ t. (reads faults : ℕ)
-            → HandleHandedOut scope.now W.told
-            W.relations actor.old.known actor.new.known reads reads faults faults self.now t) }
+        ensures handle_handed_out { IfSome result (λ t. (reads faults : ℕ) → HandleHandedOut
+            scope.now W.World actor.old.known actor.new.known reads reads faults faults self.now t) }
         ensures none { IfNone result ((actor.new ≡ actor.old)
             × HasNoneFree table.now.config actor.old.known) }
     {
@@ -52,11 +51,11 @@ impl<W: World> Reads<W> {
         scope: &Scope<W>,
         context: &mut IoContext<W, M, E>,
     ) -> HandedOut<W>
-        requires valid_context { IsValidContext E.Execute W.told W.relations scope.now context.old }
-        requires issued { Issued scope.now W.told W.relations context.old.actor.now.known self.old }
+        requires valid_context { IsValidContext E.Execute W.World scope.now context.old }
+        requires issued { Issued scope.now W.World context.old.actor.now.known self.old }
         requires few_ios { ios_started self.old < scope.now.most }
         ensures context_advanced { ContextAdvanced E.Execute M.Method context.old context.new }
-        ensures handle_handed_out { HandleHandedOut scope.now W.told W.relations
+        ensures handle_handed_out { HandleHandedOut scope.now W.World
             context.old.actor.now.known context.new.actor.now.known (E.reads context.old.runner.now)
             (E.reads context.new.runner.now) (E.faults context.old.runner.now)
             (E.faults context.new.runner.now) self.new result }

@@ -4,7 +4,7 @@ ghost use Rattle.std.specs.Prelude.{true, false, ◌⊎◌};
 ghost use Rattle.read_stream.specs.IoContexts.{IsValidContext, ContextAdvanced};
 ghost use Rattle.read_plan.specs.Plans.{IsSoundPlan, MayLookAhead};
 ghost use Rattle.read_stream.specs.WantedBlocks.{IsValidWant, blocks_of_want, runs_of_want};
-ghost use Rattle.read_stream.specs.PagesAtHand.{record_blocks_left};
+ghost use Rattle.read_stream.specs.AtHand.{front_of, record_of};
 ghost use Rattle.read_stream.specs.StreamState.{Underway, UnderwayWith};
 ghost use Rattle.read_stream.specs.Changes.{ConsumerUnchanged, block_enqueued, want_pushed};
 
@@ -29,14 +29,11 @@ impl<'d, 'p, W: World, S: BlockSource<P> + Drop, P: Copy> ReadStream<'d, 'p, W, 
         context: &mut IoContext<W, M, E>,
         block: u32,
     )
-        requires valid_context { IsValidContext E.Execute W.told W.relations self.old.scope
-            context.old }
-        requires underway { UnderwayWith S.left W.told W.relations W.handles (record_blocks_left
-            self.old.current self.old.step) (block ∷ []) 0 context.old.actor.now.known self.old }
+        requires valid_context { IsValidContext E.Execute W.World self.old.scope context.old }
+        requires underway { UnderwayWith S.left W.World (front_of self.old.at_hand) (block ∷ []) context.old.actor.now.known self.old }
         requires free { 1 < length self.old.desk.now.reads.free.items }
         ensures context_advanced { ContextAdvanced E.Execute M.Method context.old context.new }
-        ensures underway { Underway S.left W.told W.relations W.handles context.new.actor.now.known
-            self.new }
+        ensures underway { Underway S.left W.World context.new.actor.now.known self.new }
         ensures consumer_unchanged { ConsumerUnchanged self.old self.new }
         ensures ahead { (self.new.plan.blocks_ahead ≡ self.old.plan.blocks_ahead)
             × (self.new.over ≡ self.old.over) }
@@ -100,17 +97,14 @@ impl<'d, 'p, W: World, S: BlockSource<P> + Drop, P: Copy> ReadStream<'d, 'p, W, 
         context: &mut IoContext<W, M, E>,
         want: Want,
     )
-        requires valid_context { IsValidContext E.Execute W.told W.relations self.old.scope
-            context.old }
-        requires underway { UnderwayWith S.left W.told W.relations W.handles
-            (record_blocks_left self.old.current self.old.step) (blocks_of_want want) 0
-            context.old.actor.now.known self.old }
+        requires valid_context { IsValidContext E.Execute W.World self.old.scope context.old }
+        requires underway { UnderwayWith S.left W.World (front_of self.old.at_hand) (blocks_of_want
+            want) context.old.actor.now.known self.old }
         requires want { IsValidWant self.old.desk.now.settings.combine W.handles want
             × (runs_of_want want ≡ []) × (length (blocks_of_want want) ≡ 1) }
         requires free { 1 < length self.old.desk.now.reads.free.items }
         ensures context_advanced { ContextAdvanced E.Execute M.Method context.old context.new }
-        ensures underway { Underway S.left W.told W.relations W.handles context.new.actor.now.known
-            self.new }
+        ensures underway { Underway S.left W.World context.new.actor.now.known self.new }
         ensures consumer_unchanged { ConsumerUnchanged self.old self.new }
         ensures ahead { (self.new.plan.blocks_ahead ≡ self.old.plan.blocks_ahead)
             × (self.new.over ≡ self.old.over) }
@@ -125,14 +119,11 @@ impl<'d, 'p, W: World, S: BlockSource<P> + Drop, P: Copy> ReadStream<'d, 'p, W, 
         rt: &T,
         context: &mut IoContext<W, M, E>,
     )
-        requires valid_context { IsValidContext E.Execute W.told W.relations self.old.scope
-            context.old }
-        requires underway { Underway S.left W.told W.relations W.handles context.old.actor.now.known
-            self.old }
+        requires valid_context { IsValidContext E.Execute W.World self.old.scope context.old }
+        requires underway { Underway S.left W.World context.old.actor.now.known self.old }
         requires ahead { MayLookAhead self.old.plan × IsSoundPlan self.old.plan }
         ensures context_advanced { ContextAdvanced E.Execute M.Method context.old context.new }
-        ensures underway { Underway S.left W.told W.relations W.handles context.new.actor.now.known
-            self.new }
+        ensures underway { Underway S.left W.World context.new.actor.now.known self.new }
         ensures consumer_unchanged { ConsumerUnchanged self.old self.new }
         ensures progress { IsTrue self.new.over
             ⊎ (self.new.plan.blocks_ahead ≡ self.old.plan.blocks_ahead + 1) }
@@ -166,15 +157,12 @@ impl<'d, 'p, W: World, S: BlockSource<P> + Drop, P: Copy> ReadStream<'d, 'p, W, 
         rt: &T,
         context: &mut IoContext<W, M, E>,
     )
-        requires valid_context { IsValidContext E.Execute W.told W.relations self.old.scope
-            context.old }
-        requires underway { Underway S.left W.told W.relations W.handles context.old.actor.now.known
-            self.old }
+        requires valid_context { IsValidContext E.Execute W.World self.old.scope context.old }
+        requires underway { Underway S.left W.World context.old.actor.now.known self.old }
         ensures context_advanced { ContextAdvanced E.Execute M.Method context.old context.new }
-        ensures underway { Underway S.left W.told W.relations W.handles context.new.actor.now.known
-            self.new }
+        ensures underway { Underway S.left W.World context.new.actor.now.known self.new }
         ensures consumer_unchanged { ConsumerUnchanged self.old self.new }
-        ensures ended { self.new.desk.now.queue.items ≡ [] → self.new.current ≡ None
+        ensures ended { self.new.desk.now.queue.items ≡ [] → record_of self.new.at_hand ≡ None
             → S.left self.new.source ≡ [] }
     {
         while self.wants_more() {

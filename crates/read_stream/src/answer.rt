@@ -18,23 +18,3 @@ pub enum Next<'s, P> {
     /// The relation has no such block.
     PastEnd(u32),
 }
-
-/// How a stream has ended.
-#[derive(Clone, Copy, Debug, PartialEq, Eq)]
-pub enum Ending {
-    End,
-    Invalid(u32),
-    Unread(u32),
-    PastEnd(u32),
-}
-
-/// What the last call found.
-#[derive(Clone, Copy)]
-pub enum Step<P: Copy> {
-    /// Nothing was asked for yet.
-    Start,
-    /// The page of the block is lent.
-    Page(u32, P),
-    /// The stream has ended or failed, and says so from now on.
-    Stop(Ending),
-}

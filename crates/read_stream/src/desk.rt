@@ -3,7 +3,7 @@ ghost use Rattle.std.specs.Prelude.{◌≡◌, ◌≤◌, ◌+◌, IfOk, IfSome,
 ghost use Rattle.read_stream.specs.IoContexts.{IsValidContext, ContextAdvanced};
 ghost use Rattle.read_stream.specs.StreamIos.{Issued, record_count, ios_started};
 ghost use Rattle.read_stream.specs.Desks.{AreValidSettings, IsFreeDesk, desk_settings};
-ghost use Rattle.read_stream.specs.PagesAtHand.{count_some};
+ghost use Rattle.read_stream.specs.AtHand.{count_some};
 
 use crate::io_context::IoContext;
 use crate::queue::{QueuedBlock, Want};
@@ -72,35 +72,33 @@ impl<W: World, P: Copy> Desk<W, P> {
         self.reads.taken_in = 0;
     }
 
-    // A stream has ended: its I/Os are taken in, and `current` is its record besides. The answer is
+    // A stream has ended: its I/Os are taken in, and `taken` is its record besides. The answer is
     // how many were taken in.
     pub(crate) fn end<M: Method<ReadIo, W>, E: Execute<ReadIo, W>, T: Wait>(
         &mut self,
         rt: &T,
         scope: &Scope<W>,
         context: &mut IoContext<W, M, E>,
-        current: Option<ReadIo>,
+        taken: Option<ReadIo>,
     ) -> u64
-        requires valid_context { IsValidContext E.Execute W.told W.relations scope.now context.old }
+        requires valid_context { IsValidContext E.Execute W.World scope.now context.old }
         requires settings { AreValidSettings self.old.settings }
         requires desk { (scope.now.combine ≡ self.old.settings.combine)
             × (scope.now.total ≡ self.old.settings.ios + 1)
             × (self.old.settings.limit ≤ self.old.queue.capacity)
             × (self.old.settings.limit ≤ self.old.wants.capacity) }
-        requires issued { Issued scope.now W.told W.relations context.old.actor.now.known
-            self.old.reads }
-        requires current { IfSome current (λ io. length io.pages ≡ scope.now.combine) }
-        requires all { record_count self.old.reads + count_some current ≡ scope.now.total }
+        requires issued { Issued scope.now W.World context.old.actor.now.known self.old.reads }
+        requires taken { IfSome taken (λ io. length io.pages ≡ scope.now.combine) }
+        requires all { record_count self.old.reads + count_some taken ≡ scope.now.total }
         ensures context_advanced { ContextAdvanced E.Execute M.Method context.old context.new }
-        ensures issued { Issued scope.now W.told W.relations context.new.actor.now.known
-            self.new.reads }
+        ensures issued { Issued scope.now W.World context.new.actor.now.known self.new.reads }
         ensures free { IsFreeDesk self.new × (self.new.settings ≡ self.old.settings) }
         ensures count { (result ≡ self.new.reads.taken_in)
             × (ios_started self.new.reads ≡ ios_started self.old.reads) }
     {
         self.queue.clear();
         self.wants.clear();
-        match current {
+        match taken {
             Some(io) => {
                 self.reads.release(io);
                 self.reads.finish(rt, scope, context)

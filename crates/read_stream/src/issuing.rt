@@ -121,10 +121,10 @@ impl<W: World> Reads<W> {
         context: &mut IoContext<W, M, E>,
         alone: bool,
     )
-        requires valid_context { IsValidContext E.Execute W.told W.relations scope.now context.old }
-        requires issued { Issued scope.now W.told W.relations context.old.actor.now.known self.old }
+        requires valid_context { IsValidContext E.Execute W.World scope.now context.old }
+        requires issued { Issued scope.now W.World context.old.actor.now.known self.old }
         ensures context_advanced { ContextAdvanced E.Execute M.Method context.old context.new }
-        ensures issued { Issued scope.now W.told W.relations context.new.actor.now.known self.new }
+        ensures issued { Issued scope.now W.World context.new.actor.now.known self.new }
         ensures none { self.new.batch ≡ [] }
         ensures all { (record_count self.new ≡ record_count self.old)
             × (ios_started self.new ≡ ios_started self.old) × (self.new.free ≡ self.old.free) }
@@ -154,14 +154,14 @@ impl<W: World> Reads<W> {
         io: ReadIo,
         run: Run,
     ) -> Staged<ReadIo, W>
-        requires valid_context { IsValidContext E.Execute W.told W.relations scope.now context.old }
-        requires issued { Issued scope.now W.told W.relations context.old.actor.now.known self.old }
+        requires valid_context { IsValidContext E.Execute W.World scope.now context.old }
+        requires issued { Issued scope.now W.World context.old.actor.now.known self.old }
         requires relation { scope.now.relation < W.relations }
         requires record { length io.pages ≡ scope.now.combine }
         requires run { IsRun scope.now.combine run }
         requires few_ios { ios_started self.old < scope.now.most }
         ensures context_advanced { ContextAdvanced E.Execute M.Method context.old context.new }
-        ensures issued { IssuedExcept (result.0 ∷ []) scope.now W.told W.relations
+        ensures issued { IssuedExcept (result.0 ∷ []) scope.now W.World
             context.new.actor.now.known self.new }
         ensures token { IsStaged context.new.actor.now.known result.0
             × IsStreamRecord scope.now result.1 × IsNewIncarnation scope.now result.0 }
@@ -202,8 +202,8 @@ impl<W: World> Reads<W> {
         run: Run,
         alone: bool,
     )
-        requires valid_context { IsValidContext E.Execute W.told W.relations scope.now context.old }
-        requires issued { Issued scope.now W.told W.relations context.old.actor.now.known self.old }
+        requires valid_context { IsValidContext E.Execute W.World scope.now context.old }
+        requires issued { Issued scope.now W.World context.old.actor.now.known self.old }
         requires relation { scope.now.relation < W.relations }
         requires few { length self.old.batch < 32 }
         requires room { record_count self.old < scope.now.total }
@@ -211,7 +211,7 @@ impl<W: World> Reads<W> {
         requires run { IsRun scope.now.combine run }
         requires few_ios { ios_started self.old < scope.now.most }
         ensures context_advanced { ContextAdvanced E.Execute M.Method context.old context.new }
-        ensures issued { Issued scope.now W.told W.relations context.new.actor.now.known self.new }
+        ensures issued { Issued scope.now W.World context.new.actor.now.known self.new }
         ensures few { length self.new.batch < 32 }
         ensures all { (record_count self.new ≡ record_count self.old + 1)
             × (ios_started self.new ≡ ios_started self.old + 1) × (self.new.free ≡ self.old.free) }
@@ -236,16 +236,16 @@ impl<W: World> Reads<W> {
         io: ReadIo,
         run: Run,
     ) -> ReadIo
-        requires valid_context { IsValidContext E.Execute W.told W.relations scope.now context.old }
-        requires issued { Issued scope.now W.told W.relations context.old.actor.now.known self.old }
+        requires valid_context { IsValidContext E.Execute W.World scope.now context.old }
+        requires issued { Issued scope.now W.World context.old.actor.now.known self.old }
         requires room { record_count self.old < scope.now.total }
         requires relation { scope.now.relation < W.relations }
         requires record { length io.pages ≡ scope.now.combine }
         requires run { IsRun scope.now.combine run }
         requires few_ios { ios_started self.old < scope.now.most }
         ensures context_advanced { ContextAdvanced E.Execute M.Method context.old context.new }
-        ensures issued { Issued scope.now W.told W.relations context.new.actor.now.known self.new }
-        ensures record { IsTakenIn scope.now W.told W.relations context.new.actor.now.known result }
+        ensures issued { Issued scope.now W.World context.new.actor.now.known self.new }
+        ensures record { IsTakenIn scope.now W.World context.new.actor.now.known result }
         ensures run { (result.first ≡ run.first) × (result.count ≡ run.count) }
         ensures none { self.new.batch ≡ [] }
         ensures all { (record_count self.new ≡ record_count self.old)

@@ -1,54 +1,64 @@
 //! What a record that was taken in has for one of its blocks.
-ghost use Rattle.std.specs.Prelude.{◌≡◌, ◌≢◌, ◌<◌, ◌-◌, Bool};
+ghost use Rattle.std.specs.Prelude.{◌≡◌, ◌≢◌, ◌<◌, ◌-◌, Bool, IfSome, IfNone};
 ghost use Rattle.aio_word.specs.declared.Class.TheVariants.{Unended};
 ghost use Rattle.aio_callback.specs.StreamOutcomes.{stream_ids};
 ghost use Rattle.aio_callback.specs.ReadIoView.{ReadFits};
 ghost use Rattle.read_stream.specs.Parts.{IsValidPart, CoversBlock};
 
-use crate::answer::Ending;
 use aio_callback::{ReadIo, laws};
 use aio_result::Status;
 use page_check::World;
+
+/// Why a stream stops at a block.
+#[derive(Clone, Copy, Debug, PartialEq, Eq)]
+pub enum Stop {
+    /// Its page is not valid.
+    Invalid,
+    /// It could not be read.
+    Unread,
+    /// The relation has no such block.
+    PastEnd,
+}
 
 /// What a record has for a block.
 #[derive(Clone, Copy)]
 pub enum Part {
     /// Its page, or zeros in its place.
     Page,
-    /// Nothing: the read ended before it.
-    Rest,
     /// What stops the stream there.
-    Stop(Ending),
+    Stop(Stop),
 }
 
-/// What the record has for the block, which is one of those that it was to read.
-pub(crate) fn part_of<W: World>(io: &ReadIo, block: u32) -> Part
+/// What the record has for the block, which is one of those that it was to read. Nothing where the
+/// read ended before it.
+pub(crate) fn part_of<W: World>(io: &ReadIo, block: u32) -> Option<Part>
     requires reads_fit { ReadFits W.told W.relations io.now }
     requires has_ended { io.now.label.ended ≢ Unended }
     requires ids { (zero : Bool) × (io.now.ids ≡ stream_ids zero) }
     requires covers_block { CoversBlock io.now block }
-    ensures { IsValidPart W.told io.now block result }
+    ensures part { IfSome result (λ part. IsValidPart W.told io.now block part) }
+    ensures rest { IfNone result (io.now.first < block) }
 {
     laws::stream_records_end_in_six_ways();
     let index = block - io.first();
     let good = io.good();
     if index < good {
-        return Part::Page;
+        return Some(Part::Page);
     }
     let result = io.result();
     if index > good {
-        return Part::Rest;
+        return None;
     }
     match result.status {
         Status::Error => {
             if result.id == 2 {
-                Part::Stop(Ending::Invalid(block))
+                Some(Part::Stop(Stop::Invalid))
             } else if result.error == 1 {
-                Part::Stop(Ending::Unread(block))
+                Some(Part::Stop(Stop::Unread))
             } else {
-                Part::Stop(Ending::PastEnd(block))
+                Some(Part::Stop(Stop::PastEnd))
             }
         }
-        _ => Part::Rest,
+        _ => None,
     }
 }

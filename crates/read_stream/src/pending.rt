@@ -1,13 +1,14 @@
 //! When a stream starts the run that is pending.
-ghost use Rattle.std.specs.Prelude.{◌≡◌, ◌<◌, ◌-◌, ◌^◌, ◌++◌, List, ℕ, [], ◌∷◌, length, IsTrue};
+ghost use Rattle.std.specs.Prelude.{◌≡◌, ◌<◌, ◌-◌, ◌^◌, ◌++◌, List, ℕ, [], ◌∷◌, length, IsTrue, false};
 ghost use Rattle.read_stream.specs.IoContexts.{IsValidContext, ContextAdvanced};
 ghost use Rattle.read_plan.specs.Runs.{IsRun};
 ghost use Rattle.read_plan.specs.declared.runs.Run.{Run};
 ghost use Rattle.read_stream.specs.StreamIos.{Issued, ReadsForRuns, ios_started};
-ghost use Rattle.read_stream.specs.PagesAtHand.{record_blocks_left};
+ghost use Rattle.read_stream.specs.AtHand.{front_of, record_of};
 ghost use Rattle.read_stream.specs.StreamState.{Underway, UnderwayWith};
 ghost use Rattle.read_stream.specs.Changes.{StartsRun, ConsumerUnchanged};
 
+use crate::at_hand::AtHand;
 use crate::io_context::IoContext;
 use crate::queue::Want;
 use crate::ring::push;
@@ -29,9 +30,8 @@ impl<'d, 'p, W: World, S: BlockSource<P> + Drop, P: Copy> ReadStream<'d, 'p, W, 
         context: &mut IoContext<W, M, E>,
         run: Run,
     )
-        requires valid_context { IsValidContext E.Execute W.told W.relations self.old.scope
-            context.old }
-        requires issued { Issued self.old.scope W.told W.relations context.old.actor.now.known
+        requires valid_context { IsValidContext E.Execute W.World self.old.scope context.old }
+        requires issued { Issued self.old.scope W.World context.old.actor.now.known
             self.old.desk.now.reads }
         requires relation { self.old.scope.relation < W.relations }
         requires run { IsRun self.old.scope.combine run }
@@ -41,7 +41,7 @@ impl<'d, 'p, W: World, S: BlockSource<P> + Drop, P: Copy> ReadStream<'d, 'p, W, 
         requires few_ios { ios_started self.old.desk.now.reads < self.old.scope.most }
         requires room { length self.old.desk.now.wants.items < self.old.desk.now.wants.capacity }
         ensures context_advanced { ContextAdvanced E.Execute M.Method context.old context.new }
-        ensures issued { Issued self.old.scope W.told W.relations context.new.actor.now.known
+        ensures issued { Issued self.old.scope W.World context.new.actor.now.known
             self.new.desk.now.reads }
         ensures few { length self.new.desk.now.reads.batch < 32 }
         ensures runs { (runs : List Run) → ReadsForRuns self.old.scope context.old.actor.now.known
@@ -63,7 +63,17 @@ impl<'d, 'p, W: World, S: BlockSource<P> + Drop, P: Copy> ReadStream<'d, 'p, W, 
     // Whether one read, a look or a join is all that is wanted, no page is given, and no further
     // block is taken before that: the stream would wait for it at once.
     pub(crate) fn is_alone(&self) -> bool {
-        self.current.is_none() && self.desk.wants.len() == 1 && !self.wants_more()
+        !self.has_record() && self.desk.wants.len() == 1 && !self.wants_more()
+    }
+
+    // Whether the pages of a record are given.
+    fn has_record(&self) -> bool
+        ensures { record_of self.now.at_hand ≡ None → result ≡ false }
+    {
+        match &self.at_hand {
+            AtHand::Record(_, _) => true,
+            _ => false,
+        }
     }
 
     // Starts the pending run, where there is one. The blocks behind it stay behind.
@@ -72,18 +82,14 @@ impl<'d, 'p, W: World, S: BlockSource<P> + Drop, P: Copy> ReadStream<'d, 'p, W, 
         rt: &T,
         context: &mut IoContext<W, M, E>,
     )
-        requires valid_context { IsValidContext E.Execute W.told W.relations self.old.scope
-            context.old }
-        requires underway { (behind : List ℕ) × UnderwayWith S.left W.told W.relations W.handles
-            (record_blocks_left self.old.current self.old.step) behind 0 context.old.actor.now.known
-            self.old }
+        requires valid_context { IsValidContext E.Execute W.World self.old.scope context.old }
+        requires underway { (behind : List ℕ) × UnderwayWith S.left W.World (front_of
+            self.old.at_hand) behind context.old.actor.now.known self.old }
         requires free { 1 < length self.old.desk.now.reads.free.items }
         ensures context_advanced { ContextAdvanced E.Execute M.Method context.old context.new }
-        ensures underway { (behind : List ℕ) → UnderwayWith S.left W.told W.relations W.handles
-            (record_blocks_left self.old.current self.old.step) behind 0 context.old.actor.now.known
-            self.old → UnderwayWith S.left W.told W.relations W.handles
-            (record_blocks_left self.new.current self.new.step) behind 0 context.new.actor.now.known
-            self.new }
+        ensures underway { (behind : List ℕ) → UnderwayWith S.left W.World (front_of
+            self.old.at_hand) behind context.old.actor.now.known self.old → UnderwayWith S.left
+            W.World (front_of self.new.at_hand) behind context.new.actor.now.known self.new }
         ensures none { self.new.plan.pending ≡ None }
         ensures consumer_unchanged { ConsumerUnchanged self.old self.new }
         ensures ahead { (self.new.plan.blocks_ahead ≡ self.old.plan.blocks_ahead)
@@ -101,14 +107,11 @@ impl<'d, 'p, W: World, S: BlockSource<P> + Drop, P: Copy> ReadStream<'d, 'p, W, 
         rt: &T,
         context: &mut IoContext<W, M, E>,
     )
-        requires valid_context { IsValidContext E.Execute W.told W.relations self.old.scope
-            context.old }
-        requires underway { Underway S.left W.told W.relations W.handles context.old.actor.now.known
-            self.old }
+        requires valid_context { IsValidContext E.Execute W.World self.old.scope context.old }
+        requires underway { Underway S.left W.World context.old.actor.now.known self.old }
         requires free { 1 < length self.old.desk.now.reads.free.items }
         ensures context_advanced { ContextAdvanced E.Execute M.Method context.old context.new }
-        ensures underway { Underway S.left W.told W.relations W.handles context.new.actor.now.known
-            self.new }
+        ensures underway { Underway S.left W.World context.new.actor.now.known self.new }
         ensures consumer_unchanged { ConsumerUnchanged self.old self.new }
         ensures ahead { (self.new.plan.blocks_ahead ≡ self.old.plan.blocks_ahead)
             × (self.new.over ≡ self.old.over) }
@@ -130,10 +133,10 @@ impl<'d, 'p, W: World, S: BlockSource<P> + Drop, P: Copy> ReadStream<'d, 'p, W, 
     // nothing is wanted before it, and fewer I/Os are in use than may be.
     fn may_start_last(&self) -> bool
         ensures free { IsTrue result → 1 < length self.now.desk.now.reads.free.items }
-        ensures alone { self.now.desk.now.wants.items ≡ [] → self.now.current ≡ None
+        ensures alone { self.now.desk.now.wants.items ≡ [] → record_of self.now.at_hand ≡ None
             → 1 < length self.now.desk.now.reads.free.items → IsTrue result }
     {
-        let is_alone = self.desk.wants.is_empty() && self.current.is_none();
+        let is_alone = self.desk.wants.is_empty() && !self.has_record();
         (self.over || is_alone) && self.desk.reads.free.len() > 1
     }
 
@@ -143,15 +146,12 @@ impl<'d, 'p, W: World, S: BlockSource<P> + Drop, P: Copy> ReadStream<'d, 'p, W, 
         rt: &T,
         context: &mut IoContext<W, M, E>,
     )
-        requires valid_context { IsValidContext E.Execute W.told W.relations self.old.scope
-            context.old }
-        requires underway { Underway S.left W.told W.relations W.handles context.old.actor.now.known
-            self.old }
+        requires valid_context { IsValidContext E.Execute W.World self.old.scope context.old }
+        requires underway { Underway S.left W.World context.old.actor.now.known self.old }
         ensures context_advanced { ContextAdvanced E.Execute M.Method context.old context.new }
-        ensures underway { Underway S.left W.told W.relations W.handles context.new.actor.now.known
-            self.new }
+        ensures underway { Underway S.left W.World context.new.actor.now.known self.new }
         ensures consumer_unchanged { ConsumerUnchanged self.old self.new }
-        ensures none { self.new.desk.now.wants.items ≡ [] → self.new.current ≡ None
+        ensures none { self.new.desk.now.wants.items ≡ [] → record_of self.new.at_hand ≡ None
             → self.new.plan.pending ≡ None }
         ensures queue_unchanged { (self.new.desk.now.queue ≡ self.old.desk.now.queue)
             × (self.new.source ≡ self.old.source) }

@@ -1,22 +1,19 @@
 //! How a stream advances.
-ghost use Rattle.std.specs.Prelude.{◌≡◌, ◌≢◌, ◌+◌, ◌-◌, ◌^◌, ◌<◌, [], List, ℕ, IsTrue, slice_get};
+ghost use Rattle.std.specs.Prelude.{◌≡◌, ◌+◌, ◌-◌, ◌^◌, ◌<◌, [], None, IfSome, slice_get};
 ghost use Rattle.page_check.specs.SynchronousAnswer.{reader_of};
 ghost use Rattle.page_check.specs.PageBytes.{IsPage};
 ghost use Rattle.page_check.specs.IsAnswer.{IsNext, IfPage};
 ghost use Rattle.read_stream.specs.IoContexts.{IsValidContext, ContextAdvanced};
 ghost use Rattle.read_stream.specs.StreamAnswers.{stream_entries, MayBeUnread, pages_given};
-ghost use Rattle.read_stream.specs.StreamAnswers.{step_answer, IfStopped, step_ending};
 ghost use Rattle.read_stream.specs.StreamViews.{answered_stop, stream_after};
-ghost use Rattle.read_stream.specs.PagesAtHand.{LendsCurrentPage, HasMoreBlocks};
-ghost use Rattle.read_stream.specs.PagesAtHand.{record_blocks_left, current_page};
+ghost use Rattle.read_stream.specs.AtHand.{Front, HasReturned, answer_at_hand};
+ghost use Rattle.read_stream.specs.AtHand.{ending_at_hand, record_of};
 ghost use Rattle.read_stream.specs.StreamState.{IsBetweenCalls, IsOpen, Underway, stream_view};
 ghost use Rattle.read_stream.specs.StreamState.{UnderwayWith};
 ghost use Rattle.read_stream.specs.Changes.{SameStream, LookAheadUnchanged, page_given};
-ghost use Rattle.read_stream.specs.Changes.{ConsumerUnchanged};
-ghost use Rattle.read_stream.specs.declared.parts.Part.TheVariants.{Page};
-ghost use Rattle.read_stream.specs.declared.answer.Step.TheVariants.{Stop};
+ghost use Rattle.read_stream.specs.Changes.{ConsumerUnchanged, with_at_hand};
 
-use crate::answer::{Ending, Step};
+use crate::at_hand::AtHand;
 use crate::io_context::IoContext;
 use crate::queue::QueuedBlock;
 use crate::stream::ReadStream;
@@ -36,24 +33,22 @@ impl<'d, 'p, W: World, S: BlockSource<P> + Drop, P: Copy> ReadStream<'d, 'p, W, 
         rt: &T,
         context: &mut IoContext<W, M, E>,
     )
-        requires valid_context { IsValidContext E.Execute W.told W.relations self.old.scope
-            context.old }
+        requires valid_context { IsValidContext E.Execute W.World self.old.scope context.old }
         requires actor { context.old.actor.now ≡ self.old.actor_is.value }
-        requires is_open { IsOpen S.left W.told W.relations W.handles self.old }
+        requires is_open { IsOpen S.left W.World self.old }
         ensures context_advanced { ContextAdvanced E.Execute M.Method context.old context.new }
-        ensures answer { IfPage (step_answer self.new.scope.relation self.new.step
-            (current_page self.new)) IsPage → IsNext (reader_of self.old.scope.zero W.told)
+        ensures answer { IfPage (answer_at_hand self.new.scope.relation self.new.at_hand) IsPage
+            → IsNext (reader_of self.old.scope.zero W.told)
             (MayBeUnread self.old.scope.was.value context.new.actor.now.known)
             (stream_entries self.old.scope.relation (S.left self.old.source_was.value))
-            self.old.given (step_answer self.new.scope.relation self.new.step
-            (current_page self.new)) }
-        ensures answer_repeated { IfStopped self.old.step (λ e. self.new.step ≡ Stop e) }
+            self.old.given (answer_at_hand self.new.scope.relation self.new.at_hand) }
+        ensures answer_repeated { IfSome (ending_at_hand self.old.at_hand)
+            (λ e. self.new.at_hand ≡ self.old.at_hand) }
         ensures view { stream_view S.left self.new ≡ stream_after (stream_view S.left self.old)
-            context.new.actor.now (step_answer self.new.scope.relation self.new.step
-            (current_page self.new)) }
-        ensures is_open { IsOpen S.left W.told W.relations W.handles self.new }
+            context.new.actor.now (answer_at_hand self.new.scope.relation self.new.at_hand) }
+        ensures is_open { IsOpen S.left W.World self.new }
     {
-        if let Step::Stop(_) = self.step {
+        if self.at_hand.has_ended() {
             return;
         }
         self.release_page(rt);
@@ -64,55 +59,35 @@ impl<'d, 'p, W: World, S: BlockSource<P> + Drop, P: Copy> ReadStream<'d, 'p, W, 
         self.actor_is = Snapshot::of(context.actor);
     }
 
-    // Releases the page that was lent last. The record of a run whose last page it was is free
-    // again.
+    // Releases the page that was lent last. A record whose last page it was is free again.
     fn release_page<T: Wait>(&mut self, rt: &T)
-        requires between { IsBetweenCalls S.left W.told W.relations W.handles
-            self.old.actor_is.value.known self.old }
-        requires running { IfStopped self.old.step (λ _. ⊥) }
-        ensures underway { Underway S.left W.told W.relations W.handles
-            self.old.actor_is.value.known self.new }
-        ensures has_more_blocks { HasMoreBlocks self.new.current self.new.step }
-        ensures none { self.new.pin ≡ None }
+        requires between { IsBetweenCalls S.left W.World self.old.actor_is.value.known self.old }
+        requires running { ending_at_hand self.old.at_hand ≡ None }
+        ensures underway { Underway S.left W.World self.old.actor_is.value.known self.new }
+        ensures returned { HasReturned self.new.at_hand }
         ensures look_ahead_unchanged { LookAheadUnchanged self.old self.new }
     {
-        if let Some(pin) = mem::replace(&mut self.pin, None) {
-            self.pool.unpin(rt, pin);
-        } else if self.is_record_end() {
-            self.free_current();
+        match mem::replace(&mut self.at_hand, AtHand::Nothing) {
+            AtHand::Pinned(pin, _) => self.pool.unpin(rt, pin),
+            AtHand::Record(io, lent) => {
+                if io.first() + (io.count() - 1) == lent.block {
+                    self.desk.reads.release(io);
+                    self.plan.finished();
+                } else {
+                    self.put(rt, AtHand::Record(io, lent));
+                }
+            }
+            AtHand::Nothing | AtHand::Stopped(_, _, _) | AtHand::Ended => {}
         }
     }
 
-    // Whether the page that was lent last is the last one of its record.
-    fn is_record_end(&self) -> bool
-        requires lends_page { LendsCurrentPage W.told self.now.scope.relation self.now.pin
-            self.now.current self.now.step }
-        requires none { self.now.pin ≡ None }
-        requires running { IfStopped self.now.step (λ _. ⊥) }
-        ensures record_is_read { IsTrue result
-            → (self.now.current ≢ None) × (record_blocks_left self.now.current self.now.step ≡ []) }
-        ensures has_more_blocks { (IsTrue result → ⊥) → HasMoreBlocks self.now.current
-            self.now.step }
+    // Has this at hand.
+    fn put<T: Wait>(&mut self, rt: &T, at_hand: AtHand<'p, W, P>)
+        ensures { self.new ≡ with_at_hand self.old at_hand.entry }
     {
-        match (&self.step, &self.current) {
-            (Step::Page(block, _), Some(io)) => io.first() + (io.count() - 1) == *block,
-            _ => false,
-        }
-    }
-
-    // The record whose pages were given is free again.
-    fn free_current(&mut self)
-        requires underway { UnderwayWith S.left W.told W.relations W.handles [] [] 0
-            self.old.actor_is.value.known self.old }
-        requires some { self.old.current ≢ None }
-        ensures underway { UnderwayWith S.left W.told W.relations W.handles [] [] 0
-            self.old.actor_is.value.known self.new }
-        ensures none { (self.new.current ≡ None) × (self.new.pin ≡ self.old.pin) }
-        ensures look_ahead_unchanged { LookAheadUnchanged self.old self.new }
-    {
-        if let Some(io) = self.current.take() {
-            self.desk.reads.release(io);
-            self.plan.finished();
+        match mem::replace(&mut self.at_hand, at_hand) {
+            AtHand::Pinned(pin, _) => self.pool.unpin(rt, pin),
+            AtHand::Nothing | AtHand::Record(_, _) | AtHand::Stopped(_, _, _) | AtHand::Ended => {}
         }
     }
 
@@ -122,15 +97,13 @@ impl<'d, 'p, W: World, S: BlockSource<P> + Drop, P: Copy> ReadStream<'d, 'p, W, 
         rt: &T,
         context: &mut IoContext<W, M, E>,
     )
-        requires valid_context { IsValidContext E.Execute W.told W.relations self.old.scope
-            context.old }
-        requires underway { (hand : List ℕ) × UnderwayWith S.left W.told W.relations W.handles hand
-            [] 0 context.old.actor.now.known self.old }
+        requires valid_context { IsValidContext E.Execute W.World self.old.scope context.old }
+        requires underway { (front : Front) × UnderwayWith S.left W.World front []
+            context.old.actor.now.known self.old }
         ensures context_advanced { ContextAdvanced E.Execute M.Method context.old context.new }
-        ensures underway { (hand : List ℕ) → UnderwayWith S.left W.told W.relations W.handles hand
-            [] 0 context.old.actor.now.known self.old
-            → UnderwayWith S.left W.told W.relations W.handles hand [] 0 context.new.actor.now.known
-            self.new }
+        ensures underway { (front : Front) → UnderwayWith S.left W.World front []
+            context.old.actor.now.known self.old
+            → UnderwayWith S.left W.World front [] context.new.actor.now.known self.new }
         ensures consumer_unchanged { ConsumerUnchanged self.old self.new }
         ensures look_ahead_unchanged { LookAheadUnchanged self.old self.new }
         ensures wants { self.new.desk.now.wants ≡ self.old.desk.now.wants }
@@ -146,39 +119,37 @@ impl<'d, 'p, W: World, S: BlockSource<P> + Drop, P: Copy> ReadStream<'d, 'p, W, 
         rt: &T,
         context: &mut IoContext<W, M, E>,
     )
-        requires valid_context { IsValidContext E.Execute W.told W.relations self.old.scope
-            context.old }
-        requires underway { Underway S.left W.told W.relations W.handles context.old.actor.now.known
-            self.old }
-        requires has_more_blocks { HasMoreBlocks self.old.current self.old.step }
-        requires none { self.old.pin ≡ None }
-        requires last { self.old.desk.now.wants.items ≡ [] → self.old.current ≡ None
+        requires valid_context { IsValidContext E.Execute W.World self.old.scope context.old }
+        requires underway { Underway S.left W.World context.old.actor.now.known self.old }
+        requires returned { HasReturned self.old.at_hand }
+        requires last { self.old.desk.now.wants.items ≡ [] → record_of self.old.at_hand ≡ None
             → self.old.plan.pending ≡ None }
-        requires ended { self.old.desk.now.queue.items ≡ [] → self.old.current ≡ None
+        requires ended { self.old.desk.now.queue.items ≡ [] → record_of self.old.at_hand ≡ None
             → S.left self.old.source ≡ [] }
         ensures context_advanced { ContextAdvanced E.Execute M.Method context.old context.new }
-        ensures between { IsBetweenCalls S.left W.told W.relations W.handles
-            context.new.actor.now.known self.new }
+        ensures between { IsBetweenCalls S.left W.World context.new.actor.now.known self.new }
         ensures same_stream { SameStream self.old self.new }
-        ensures answer { IfPage (step_answer self.new.scope.relation self.new.step
-            (current_page self.new)) IsPage → IsNext (reader_of self.old.scope.zero W.told)
+        ensures answer { IfPage (answer_at_hand self.new.scope.relation self.new.at_hand) IsPage
+            → IsNext (reader_of self.old.scope.zero W.told)
             (MayBeUnread self.old.scope.was.value context.new.actor.now.known)
             (stream_entries self.old.scope.relation (S.left self.old.source_was.value))
-            self.old.given (step_answer self.new.scope.relation self.new.step
-            (current_page self.new)) }
-        ensures ending { step_ending self.new.step ≡ answered_stop
-            (step_answer self.new.scope.relation self.new.step (current_page self.new)) }
+            self.old.given (answer_at_hand self.new.scope.relation self.new.at_hand) }
+        ensures ending { ending_at_hand self.new.at_hand ≡ answered_stop
+            (answer_at_hand self.new.scope.relation self.new.at_hand) }
         ensures pages_counted { self.new.given ≡ self.old.given + pages_given
-            (step_answer self.new.scope.relation self.new.step (current_page self.new)) }
+            (answer_at_hand self.new.scope.relation self.new.at_hand) }
     {
         let Some(asked) = self.front_block() else {
-            self.step = Step::Stop(Ending::End);
+            self.put(rt, AtHand::Ended);
             return;
         };
-        match self.find(rt, context, asked.block) {
-            Some(ending) => self.step = Step::Stop(ending),
-            None => self.give_page(asked),
+        let at_hand = self.find(rt, context, asked);
+        if at_hand.has_ended() {
+            self.put(rt, at_hand);
+            return;
         }
+        self.count_page();
+        self.put(rt, at_hand);
     }
 
     // The block at the front of the queue.
@@ -188,16 +159,14 @@ impl<'d, 'p, W: World, S: BlockSource<P> + Drop, P: Copy> ReadStream<'d, 'p, W, 
         self.desk.queue.front().copied()
     }
 
-    // Gives the page of the block at the front.
-    fn give_page(&mut self, asked: QueuedBlock<P>)
-        requires front_block { slice_get self.old.desk.now.queue.items 0 ≡ Some asked }
+    // The page of the block at the front is given.
+    fn count_page(&mut self)
         requires ahead { 0 < self.old.plan.blocks_ahead }
         requires given_in_range { self.old.given < 2 ^ 64 - 1 }
-        ensures { self.new ≡ page_given self.old asked }
+        ensures { self.new ≡ page_given self.old }
     {
         let _ = self.desk.queue.pop_front();
         self.plan.given();
         self.given += 1;
-        self.step = Step::Page(asked.block, asked.per_buffer_data);
     }
 }

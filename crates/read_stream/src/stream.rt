@@ -1,32 +1,33 @@
 //! A read stream.
-ghost use Rattle.std.specs.Prelude.{◌≡◌, ◌≢◌, ◌<◌, ◌≤◌, ◌+◌, ℕ, [], length, IfSome, true};
+ghost use Rattle.std.specs.Prelude.{◌≡◌, ◌<◌, ◌≤◌, ◌+◌, ℕ, [], length, IfSome, true};
 ghost use Rattle.std.specs.declared.snapshot.Snapshot.{Snapshot};
 ghost use Rattle.page_check.specs.PageBytes.{IsPage};
 ghost use Rattle.page_check.specs.IsAnswer.{IfPage, Stop as SaidStop};
-ghost use Rattle.aio_word.specs.declared.Class.TheVariants.{Unended};
 ghost use Rattle.aio_word.specs.Events.{lives_ended};
 ghost use Rattle.aio_handle.specs.EndStates.{HasNoOwnerTokens};
 ghost use Rattle.aio_handle.specs.FreeHandles.{IsRoom};
 ghost use Rattle.aio_handle.specs.ContractViews.{ActorView, IsActorOf};
-ghost use Rattle.read_stream.specs.StreamAnswers.{synchronous_answer, step_answer, IfZeroed};
+ghost use Rattle.read_stream.specs.StreamAnswers.{synchronous_answer, IfZeroed};
 ghost use Rattle.read_stream.specs.StreamViews.{answer_of, new_stream, IsStreamAnswer};
 ghost use Rattle.read_stream.specs.StreamViews.{HasNoFailedRead, IsSynchronousAnswer, CallAdvanced};
 ghost use Rattle.read_stream.specs.Desks.{IsFreeDesk, desk_settings};
-ghost use Rattle.read_stream.specs.PagesAtHand.{current_page, HasCurrentPage, page_at, zeroed_at};
+ghost use Rattle.read_stream.specs.AtHand.{answer_at_hand};
 ghost use Rattle.read_stream.specs.StreamState.{IsOpen, IsOpenFor, StreamAnswered, stream_view};
 ghost use Rattle.read_stream.specs.ActorProgress.{local_mark_count};
 
-use crate::answer::{Ending, Next, Step};
+use crate::answer::Next;
+use crate::at_hand::AtHand;
 use crate::desk::Desk;
 use crate::io_context::IoContext;
+use crate::parts::Stop;
 use crate::scope::Scope;
 use aio_batch::Method;
 use aio_callback::ReadIo;
 use aio_handle::{Actor, Execute, Table};
 use block_source::BlockSource;
-use buf_pool::{Pin, Pool};
+use buf_pool::Pool;
+use page_check::World;
 use page_check::laws::a_page_has_8192_bytes;
-use page_check::{Page, World};
 use read_plan::Plan;
 use std::snapshot::Snapshot;
 use std::sync::Wait;
@@ -41,11 +42,7 @@ pub struct ReadStream<'d, 'p, W: World, S: BlockSource<P> + Drop, P: Copy> {
     // The source has given its last block.
     pub(crate) over: bool,
     pub(crate) plan: Plan,
-    // The page that is lent, where it came from the pool.
-    pub(crate) pin: Option<Pin<'p, W>>,
-    // The record whose pages are given, or which has failed.
-    pub(crate) current: Option<ReadIo>,
-    pub(crate) step: Step<P>,
+    pub(crate) at_hand: AtHand<'p, W, P>,
     // How many pages were given.
     pub(crate) given: u64,
     // The source as it was when the stream was opened, and the actor as the last call left it.
@@ -75,7 +72,7 @@ impl<'d, 'p, W: World, S: BlockSource<P> + Drop, P: Copy> ReadStream<'d, 'p, W, 
         requires relation { relation < W.relations }
         ensures stream { stream_view S.left result ≡ new_stream desk.entry.ghost_name
             (desk_settings desk.old) relation (S.left source) actor.now }
-        ensures is_open { IsOpenFor S.left W.told W.relations W.handles result actor.now }
+        ensures is_open { IsOpenFor S.left W.World result actor.now }
     {
         let source_was = Snapshot::of(&source);
         let settings = desk.settings;
@@ -103,9 +100,7 @@ impl<'d, 'p, W: World, S: BlockSource<P> + Drop, P: Copy> ReadStream<'d, 'p, W, 
             source,
             over: false,
             plan,
-            pin: None,
-            current: None,
-            step: Step::Start,
+            at_hand: AtHand::Nothing,
             given: 0,
             source_was,
             actor_is: Snapshot::of(actor),
@@ -128,7 +123,7 @@ impl<'d, 'p, W: World, S: BlockSource<P> + Drop, P: Copy> ReadStream<'d, 'p, W, 
     ) -> Next<'_, P>
         requires table { IsActorOf table.now actor.old }
         requires told { (E.told runner.old ≡ W.told) × (E.relations runner.old ≡ W.relations) }
-        requires is_open { IsOpenFor S.left W.told W.relations W.handles self.old actor.old }
+        requires is_open { IsOpenFor S.left W.World self.old actor.old }
         ensures advanced { CallAdvanced E.Execute M.Method actor.old actor.new runner.old runner.new
             method.old method.new }
         ensures answer { IsStreamAnswer W.told (stream_view S.left self.old) actor.new
@@ -142,7 +137,7 @@ impl<'d, 'p, W: World, S: BlockSource<P> + Drop, P: Copy> ReadStream<'d, 'p, W, 
             (the_row (record { mir = named 0; lft = [] }) (record { mir = named 1; lft = [] })
             W.row S.row P.row W.World)
             self.entry
-            (λ n. StreamAnswered S.left W.told W.relations W.handles self.old n actor.new
+            (λ n. StreamAnswered S.left W.World self.old n actor.new
             (answer_of (stream_view S.left self.old) result))) }
     {
         let mut context = IoContext {
@@ -158,8 +153,8 @@ impl<'d, 'p, W: World, S: BlockSource<P> + Drop, P: Copy> ReadStream<'d, 'p, W, 
 
     // The actor may have looked since the last call.
     fn note_actor(&mut self, actor: &Actor<ReadIo, W>)
-        requires is_open { IsOpenFor S.left W.told W.relations W.handles self.old actor.now }
-        ensures is_open { IsOpen S.left W.told W.relations W.handles self.new }
+        requires is_open { IsOpenFor S.left W.World self.old actor.now }
+        ensures is_open { IsOpen S.left W.World self.new }
         ensures noted { (actor_is : Snapshot ActorView) × (actor_is.value ≡ actor.now)
             × (self.new ≡ record self.old { actor_is = actor_is }) }
     {
@@ -168,54 +163,33 @@ impl<'d, 'p, W: World, S: BlockSource<P> + Drop, P: Copy> ReadStream<'d, 'p, W, 
 
     // The last answer, lent.
     fn answer(&self) -> Next<'_, P>
-        requires is_open { IsOpen S.left W.told W.relations W.handles self.now }
+        requires is_open { IsOpen S.left W.World self.now }
         ensures answer { synchronous_answer self.now.scope.relation result
-            ≡ step_answer self.now.scope.relation self.now.step (current_page self.now) }
+            ≡ answer_at_hand self.now.scope.relation self.now.at_hand }
         ensures page { IfPage (synchronous_answer self.now.scope.relation result) IsPage }
         ensures zeroed { IfZeroed (synchronous_answer self.now.scope.relation result)
             (self.now.scope.zero ≡ true) }
     {
-        match &self.step {
-            Step::Page(block, per_buffer_data) if self.is_zeroed(*block) => {
-                Next::Zeroed(self.page(*block), *block, per_buffer_data)
+        match &self.at_hand {
+            AtHand::Pinned(pin, given) => {
+                let page = pin.page();
+                a_page_has_8192_bytes(page);
+                Next::Page(page, given.block, &given.per_buffer_data)
             }
-            Step::Page(block, per_buffer_data) => {
-                Next::Page(self.page(*block), *block, per_buffer_data)
+            AtHand::Record(io, given) => {
+                let index = given.block - io.first();
+                let page = io.page(index);
+                a_page_has_8192_bytes(page);
+                if io.zeroed(index) {
+                    Next::Zeroed(page, given.block, &given.per_buffer_data)
+                } else {
+                    Next::Page(page, given.block, &given.per_buffer_data)
+                }
             }
-            Step::Start | Step::Stop(Ending::End) => Next::End,
-            Step::Stop(Ending::Invalid(block)) => Next::Invalid(*block),
-            Step::Stop(Ending::Unread(block)) => Next::Unread(*block),
-            Step::Stop(Ending::PastEnd(block)) => Next::PastEnd(*block),
-        }
-    }
-
-    // The page of the block that the last step found.
-    fn page(&self, block: u32) -> &Page
-        requires has_current_page { HasCurrentPage W.told self.now.scope.relation self.now.pin
-            self.now.current block }
-        requires record { IfSome self.now.current (λ io. io.label.ended ≢ Unended) }
-        ensures value { result.now ≡ page_at self.now.pin self.now.current block }
-        ensures bytes { IsPage result.now }
-    {
-        let page = match (&self.pin, &self.current) {
-            (Some(pin), _) => pin.page(),
-            (None, Some(io)) => io.page(block - io.first()),
-            (None, None) => unreachable!(),
-        };
-        a_page_has_8192_bytes(page);
-        page
-    }
-
-    // Whether the page of the block that the last step found was zeroed.
-    fn is_zeroed(&self, block: u32) -> bool
-        requires has_current_page { HasCurrentPage W.told self.now.scope.relation self.now.pin
-            self.now.current block }
-        requires record { IfSome self.now.current (λ io. io.label.ended ≢ Unended) }
-        ensures { result ≡ zeroed_at self.now.pin self.now.current block }
-    {
-        match (&self.pin, &self.current) {
-            (None, Some(io)) => io.zeroed(block - io.first()),
-            _ => false,
+            AtHand::Stopped(_, block, Stop::Invalid) => Next::Invalid(*block),
+            AtHand::Stopped(_, block, Stop::Unread) => Next::Unread(*block),
+            AtHand::Stopped(_, block, Stop::PastEnd) => Next::PastEnd(*block),
+            AtHand::Nothing | AtHand::Ended => Next::End,
         }
     }
 
@@ -231,7 +205,7 @@ impl<'d, 'p, W: World, S: BlockSource<P> + Drop, P: Copy> ReadStream<'d, 'p, W, 
     ) -> (u64, &'d mut Desk<W, P>)
         requires table { IsActorOf table.now actor.old }
         requires told { (E.told runner.old ≡ W.told) × (E.relations runner.old ≡ W.relations) }
-        requires is_open { IsOpenFor S.left W.told W.relations W.handles self actor.old }
+        requires is_open { IsOpenFor S.left W.World self actor.old }
         ensures advanced { CallAdvanced E.Execute M.Method actor.old actor.new runner.old runner.new
             method.old method.new }
         ensures no_owner_tokens { HasNoOwnerTokens actor.new.known }
@@ -253,23 +227,26 @@ impl<'d, 'p, W: World, S: BlockSource<P> + Drop, P: Copy> ReadStream<'d, 'p, W, 
             source: _,
             over: _,
             plan: _,
-            pin,
-            current,
-            step: _,
+            at_hand,
             given: _,
             source_was: _,
             actor_is: _,
         } = stream;
-        if let Some(pin) = pin {
-            pool.unpin(rt, pin);
-        }
+        let record = match at_hand {
+            AtHand::Pinned(pin, _) => {
+                pool.unpin(rt, pin);
+                None
+            }
+            AtHand::Record(io, _) | AtHand::Stopped(io, _, _) => Some(io),
+            AtHand::Nothing | AtHand::Ended => None,
+        };
         let mut context = IoContext {
             table,
             actor,
             method,
             runner,
         };
-        let taken_in = desk.end(rt, &scope, &mut context, current);
+        let taken_in = desk.end(rt, &scope, &mut context, record);
         (taken_in, desk)
     }
 }

@@ -28,13 +28,13 @@ impl<W: World> Reads<W> {
         context: &mut IoContext<W, M, E>,
         token: InFlight<W>,
     ) -> ReadIo
-        requires valid_context { IsValidContext E.Execute W.told W.relations scope.now context.old }
-        requires held_by_caller { HeldByCaller scope.now W.told W.relations
+        requires valid_context { IsValidContext E.Execute W.World scope.now context.old }
+        requires held_by_caller { HeldByCaller scope.now W.World
             context.old.actor.now.known self.old token }
         requires all_submitted { AllSubmitted context.old.actor.now.known }
         ensures context_advanced { ContextAdvanced E.Execute M.Method context.old context.new }
-        ensures issued { Issued scope.now W.told W.relations context.new.actor.now.known self.new }
-        ensures record { IsTakenIn scope.now W.told W.relations context.new.actor.now.known result }
+        ensures issued { Issued scope.now W.World context.new.actor.now.known self.new }
+        ensures record { IsTakenIn scope.now W.World context.new.actor.now.known result }
         ensures aim { (first count : ℕ) → ReadsBlocks scope.now first count
             context.old.actor.now.known token → (result.first ≡ first) × (result.count ≡ count) }
         ensures all { (self.new.free ≡ self.old.free) × (self.new.ended ≡ self.old.ended)
@@ -62,12 +62,12 @@ impl<W: World> Reads<W> {
         scope: &Scope<W>,
         context: &mut IoContext<W, M, E>,
     ) -> Option<ReadIo>
-        requires valid_context { IsValidContext E.Execute W.told W.relations scope.now context.old }
-        requires issued { Issued scope.now W.told W.relations context.old.actor.now.known self.old }
+        requires valid_context { IsValidContext E.Execute W.World scope.now context.old }
+        requires issued { Issued scope.now W.World context.old.actor.now.known self.old }
         requires batch_empty { self.old.batch ≡ [] }
         ensures context_advanced { ContextAdvanced E.Execute M.Method context.old context.new }
-        ensures issued { Issued scope.now W.told W.relations context.new.actor.now.known self.new }
-        ensures some { IfSome result (λ io. IsTakenIn scope.now W.told W.relations
+        ensures issued { Issued scope.now W.World context.new.actor.now.known self.new }
+        ensures some { IfSome result (λ io. IsTakenIn scope.now W.World
             context.new.actor.now.known io × (record_count self.old ≡ record_count self.new + 1)) }
         ensures idle { IfSome result (λ _. HasIdleHandle context.old.table.now.config
             context.new.actor.now.known) }
@@ -94,12 +94,12 @@ impl<W: World> Reads<W> {
         scope: &Scope<W>,
         context: &mut IoContext<W, M, E>,
     ) -> Option<ReadIo>
-        requires valid_context { IsValidContext E.Execute W.told W.relations scope.now context.old }
-        requires issued { Issued scope.now W.told W.relations context.old.actor.now.known self.old }
+        requires valid_context { IsValidContext E.Execute W.World scope.now context.old }
+        requires issued { Issued scope.now W.World context.old.actor.now.known self.old }
         requires batch_empty { self.old.batch ≡ [] }
         ensures context_advanced { ContextAdvanced E.Execute M.Method context.old context.new }
-        ensures issued { Issued scope.now W.told W.relations context.new.actor.now.known self.new }
-        ensures some { IfSome result (λ io. IsTakenIn scope.now W.told W.relations
+        ensures issued { Issued scope.now W.World context.new.actor.now.known self.new }
+        ensures some { IfSome result (λ io. IsTakenIn scope.now W.World
             context.new.actor.now.known io × (record_count self.old ≡ record_count self.new + 1)) }
         ensures none { IfNone result (self.old.in_flight.items ≡ []) }
         ensures all { (self.new.free ≡ self.old.free) × (self.new.batch ≡ self.old.batch)
@@ -126,11 +126,11 @@ impl<W: World> Reads<W> {
         scope: &Scope<W>,
         context: &mut IoContext<W, M, E>,
     )
-        requires valid_context { IsValidContext E.Execute W.told W.relations scope.now context.old }
-        requires issued { Issued scope.now W.told W.relations context.old.actor.now.known self.old }
+        requires valid_context { IsValidContext E.Execute W.World scope.now context.old }
+        requires issued { Issued scope.now W.World context.old.actor.now.known self.old }
         requires batch_empty { self.old.batch ≡ [] }
         ensures context_advanced { ContextAdvanced E.Execute M.Method context.old context.new }
-        ensures issued { Issued scope.now W.told W.relations context.new.actor.now.known self.new }
+        ensures issued { Issued scope.now W.World context.new.actor.now.known self.new }
         ensures all { (record_count self.new ≡ record_count self.old)
             × (ios_started self.new ≡ ios_started self.old) × (self.new.batch ≡ self.old.batch)
             × (self.new.free ≡ self.old.free) }
@@ -152,11 +152,11 @@ impl<W: World> Reads<W> {
         scope: &Scope<W>,
         context: &mut IoContext<W, M, E>,
     ) -> u64
-        requires valid_context { IsValidContext E.Execute W.told W.relations scope.now context.old }
-        requires issued { Issued scope.now W.told W.relations context.old.actor.now.known self.old }
+        requires valid_context { IsValidContext E.Execute W.World scope.now context.old }
+        requires issued { Issued scope.now W.World context.old.actor.now.known self.old }
         requires all { record_count self.old ≡ scope.now.total }
         ensures context_advanced { ContextAdvanced E.Execute M.Method context.old context.new }
-        ensures issued { Issued scope.now W.told W.relations context.new.actor.now.known self.new }
+        ensures issued { Issued scope.now W.World context.new.actor.now.known self.new }
         ensures ready { AllRecordsFree scope.now.combine scope.now.total self.new }
         ensures count { (result ≡ self.new.taken_in)
             × (ios_started self.new ≡ ios_started self.old) }

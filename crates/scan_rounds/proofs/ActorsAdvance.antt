@@ -4,7 +4,7 @@ use Rattle.std.proofs.Common.{arith, append-nil, append_assoc}
 use Rattle.std.specs.Prelude.{Option, Some, ⊤}
 use Rattle.std.specs.List.{All, AllZip}
 use Rattle.std.proofs.lemmas.List.{length-map}
-use Rattle.page_check.specs.Told.{Told}
+use Rattle.page_check.specs.declared.world.World.{Ghosts as WorldGhosts}
 use Rattle.aio_word.specs.declared.Mark.{Mark}
 use Rattle.aio_word.proofs.MoreMarksKeep.{io-more, failed-more}
 use Rattle.aio_handle.specs.Execution.{CountersFollowMarks}
@@ -36,10 +36,10 @@ pays_then r s t f g h ms more a b = record {
 pub some_same : {D : Type 0} (o : Option D) (d e : D) → o ≡ Some d → o ≡ Some e → d ≡ e
 some_same o d e x y = cc
 
-module _ {W D : Type 0} (m : DiskGhosts D) (told : Option Told) (relations : ℕ)
+module _ {W D : Type 0} (m : DiskGhosts D) (world : WorldGhosts W)
     (t : TableView) where
-  pub stays_put : (h : DiskActor W D) → IsDiskActor m told relations t h
-      → DiskActorAdvanced m told relations t h h
+  pub stays_put : (h : DiskActor W D) → IsDiskActor m world t h
+      → DiskActorAdvanced m world t h h
   stays_put h is = record {
     same = (refl, refl, refl);
     more = [];
@@ -54,8 +54,8 @@ module _ {W D : Type 0} (m : DiskGhosts D) (told : Option Told) (relations : ℕ
     };
   }
 
-  pub goes_then : (h k l : DiskActor W D) → DiskActorAdvanced m told relations t h k
-      → DiskActorAdvanced m told relations t k l → DiskActorAdvanced m told relations t h l
+  pub goes_then : (h k l : DiskActor W D) → DiskActorAdvanced m world t h k
+      → DiskActorAdvanced m world t k l → DiskActorAdvanced m world t h l
   goes_then h k l a b =
       let one : a.after ≡ b.before = some_same k.disk a.after b.before a.has_disk b.had_disk in
       record {
@@ -72,15 +72,15 @@ module _ {W D : Type 0} (m : DiskGhosts D) (told : Option Told) (relations : ℕ
       }
 
   pub many_actors : (bs cs : List (Backend W D))
-      → AllZip (DiskActorAdvanced m told relations t) (map backend_disk_actor bs)
+      → AllZip (DiskActorAdvanced m world t) (map backend_disk_actor bs)
       (map backend_disk_actor cs) → length cs ≡ length bs
   many_actors bs cs all =
-      let same = zip-length (DiskActorAdvanced m told relations t) _ _ all in
+      let same = zip-length (DiskActorAdvanced m world t) _ _ all in
       omega (arith, same, length-map cs backend_disk_actor, length-map bs backend_disk_actor)
 
   module _ (q : QueueView) where
-    pub backend_stays : (most : ℕ) (b : Backend W D) → IsBackend m told relations t q b
-        → BackendAdvanced m told relations t q most b b
+    pub backend_stays : (most : ℕ) (b : Backend W D) → IsBackend m world t q b
+        → BackendAdvanced m world t q most b b
     backend_stays most b is = record {
       is = is;
       advanced = stays_put b.disk_actor is.disk_actor;
@@ -90,28 +90,28 @@ module _ {W D : Type 0} (m : DiskGhosts D) (told : Option Told) (relations : ℕ
 
     -- what backends that went on are then
     module _ (most : ℕ) (bs cs : List (Backend W D))
-        (all : AllZip (BackendAdvanced m told relations t q most) bs cs) where
-      pub actors_advanced : AllZip (DiskActorAdvanced m told relations t)
+        (all : AllZip (BackendAdvanced m world t q most) bs cs) where
+      pub actors_advanced : AllZip (DiskActorAdvanced m world t)
           (map backend_disk_actor bs) (map backend_disk_actor cs)
-      actors_advanced = zip-map (BackendAdvanced m told relations t q most)
-          (DiskActorAdvanced m told relations t) backend_disk_actor backend_disk_actor
+      actors_advanced = zip-map (BackendAdvanced m world t q most)
+          (DiskActorAdvanced m world t) backend_disk_actor backend_disk_actor
           (λ b c went. went.advanced) bs cs all
 
-      pub still_backends : All (IsBackend m told relations t q) cs
-      still_backends = zip-all (BackendAdvanced m told relations t q most) (λ b. ⊤)
-          (IsBackend m told relations t q) (λ b c went _. went.is) bs cs all (λ i d lt. tt)
+      pub still_backends : All (IsBackend m world t q) cs
+      still_backends = zip-all (BackendAdvanced m world t q most) (λ b. ⊤)
+          (IsBackend m world t q) (λ b c went _. went.is) bs cs all (λ i d lt. tt)
 
       pub options_kept : (how : ListOptions) → AllHaveOptions how bs → AllHaveOptions how cs
-      options_kept how = zip-all (BackendAdvanced m told relations t q most)
+      options_kept how = zip-all (BackendAdvanced m world t q most)
           (λ (b : Backend W D). backend_options b ≡ how)
           (λ (b : Backend W D). backend_options b ≡ how) (λ b c went is. went.options_same ∙ is) bs cs all
 
       pub backends_many : length cs ≡ length bs
-      backends_many = zip-length (BackendAdvanced m told relations t q most) bs cs all
+      backends_many = zip-length (BackendAdvanced m world t q most) bs cs all
 
-      pub room_falls : (n k : ℕ) → All (IsBackend m told relations t q) bs → IsLeastRoom bs n
+      pub room_falls : (n k : ℕ) → All (IsBackend m world t q) bs → IsLeastRoom bs n
           → IsLeastRoom cs k → n ≤ k + most
       room_falls n k backends before after = left_room most n k bs cs backends_many
-          (λ i d lt. (let went = zip-at (BackendAdvanced m told relations t q most) bs cs i d d all
+          (λ i d lt. (let went = zip-at (BackendAdvanced m world t q most) bs cs i d d all
           lt in (went.advanced.same, (backends i d lt).backend, went.lives_bound)))
           before.all_have_room after

@@ -1,10 +1,10 @@
 -- What was made of the parts of a new scan.
 use Rattle.std.proofs.Common.{◌≡◌, ℕ, ◌+◌, ◌-◌, ◌^◌, ◌<◌, ◌≤◌, List, [], length, refl, sym, ap}
 use Rattle.std.proofs.Common.{◌∙◌, subst, arith}
-use Rattle.std.specs.Prelude.{Option, IfSome, Bool, vec_capacity, is_some, cond}
+use Rattle.std.specs.Prelude.{IfSome, Bool, vec_capacity, is_some, cond}
 use Rattle.std.specs.List.{All}
 use Rattle.std.specs.Vec.Iter.{into_iter_items}
-use Rattle.page_check.specs.Told.{Told}
+use Rattle.page_check.specs.declared.world.World.{Ghosts as WorldGhosts}
 use Rattle.aio_word.specs.declared.Config.{Config}
 use Rattle.aio_handle.specs.ContractViews.{AreNewActors}
 use Rattle.method_worker.specs.QueueViews.{IsSeatOf}
@@ -128,9 +128,10 @@ module _ {W D : Type 0} where
         settings.backends 0 (made.backends.each k b lt).ring (rw (← made.backends_are) lt)
         (rw none made.rings_are)
 
-    module _ (m : DiskGhosts D) (told : Option Told) (relations : ℕ)
-        (tell : All (λ d. (m.told d ≡ told) × (m.relations d ≡ relations)) (opened_disks s)) where
-      is_scan : IsScan m told relations s
+    module _ (m : DiskGhosts D) (world : WorldGhosts W)
+        (tell : All (λ d. (m.told d ≡ world.told) × (m.relations d ≡ world.relations))
+        (opened_disks s)) where
+      is_scan : IsScan m world s
       is_scan =
           let bs = s.backends.items in
           let ws = s.workers.items in
@@ -153,15 +154,16 @@ module _ {W D : Type 0} where
             workers_are = workers;
             some = omega (arith, few, range);
             all_backends = backends_of_new t (opened_disks s)
-                bs ws all_new m told relations tell s.shared.queue (omega (arith, backends))
+                bs ws all_new m world tell s.shared.queue (omega (arith, backends))
                 (λ k b lt. (all_desks k b lt).free) all_seats
-                (λ some k b lt. all_seated k b lt ∙ beside_workers (needs_of_method settings.method).queue
+                (λ some k b lt. all_seated k b lt ∙ beside_workers
+                (needs_of_method settings.method).queue
                 (cond (needs_of_method settings.method).workers settings.workers 0)
                 (let runners = ap (λ (c : Config). c.runners) made.config in
                 omega (arith, some, runners))) all_rings;
-            all_workers = workers_of_new t (opened_disks s) bs ws all_new m told relations tell
+            all_workers = workers_of_new t (opened_disks s) bs ws all_new m world tell
                 s.shared.queue (omega (arith, backends)) worker_seats;
-            counters_are = paid_of_new t (opened_disks s) bs ws all_new m told relations
+            counters_are = paid_of_new t (opened_disks s) bs ws all_new m world
                 disks_as_many;
             all_have_options = λ k b lt. same_options (all_desks k b lt).streams.zero
                 (made.backends.each k b lt).tuples_are ∙ sym made.options_are;
@@ -175,13 +177,14 @@ module _ {W D : Type 0} where
           }
 
     -- stands as it should at its start
-    pub opened_scan : (m : DiskGhosts D) (told : Option Told) (relations : ℕ) (disks : List D)
-        → opened_disks s ≡ disks → All (λ d. (m.told d ≡ told) × (m.relations d ≡ relations)) disks
-        → IsOpenedScan m told relations settings start disks s
-    opened_scan m told relations disks same tell =
-        let P : D → Type 0 = λ d. (m.told d ≡ told) × (m.relations d ≡ relations) in
+    pub opened_scan : (m : DiskGhosts D) (world : WorldGhosts W) (disks : List D)
+        → opened_disks s ≡ disks → All (λ d. (m.told d ≡ world.told) ×
+        (m.relations d ≡ world.relations)) disks
+        → IsOpenedScan m world settings start disks s
+    opened_scan m world disks same tell =
+        let P : D → Type 0 = λ d. (m.told d ≡ world.told) × (m.relations d ≡ world.relations) in
         let Q : List D → Type 0 = λ ds. All P ds in record {
-          is = is_scan m told relations (subst Q (sym same) tell);
+          is = is_scan m world (subst Q (sym same) tell);
           config = made.config;
           set_up = λ k b lt. record {
             streams = (all_desks k b lt).streams;

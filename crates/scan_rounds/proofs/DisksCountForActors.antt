@@ -1,9 +1,9 @@
 -- Disks beside the actors that they serve: what each has counted is what its actor has executed.
 use Rattle.std.proofs.Common.{◌≡◌, ℕ, zero, suc, ◌+◌, ◌<◌, ◌≤◌, List, [], ◌∷◌, drop, map, length}
-use Rattle.std.proofs.Common.{get_or, sum_by, Option, Some, refl, ap, arith}
+use Rattle.std.proofs.Common.{get_or, sum_by, Some, refl, ap, arith}
 use Rattle.std.proofs.lemmas.List.Sums.{sum_by-cons}
 use Rattle.std.specs.List.{All, AllZip}
-use Rattle.page_check.specs.Told.{Told}
+use Rattle.page_check.specs.declared.world.World.{Ghosts as WorldGhosts}
 use Rattle.aio_word.specs.declared.Known.{Known}
 use Rattle.aio_word.specs.Tokens.{io_mark_count, failed_mark_count}
 use Rattle.aio_handle.specs.Execution.{CountersFollowMarks, last_count}
@@ -13,18 +13,18 @@ use Rattle.scan_rounds.specs.DiskActors.{IsDiskActor}
 use Rattle.scan_rounds.specs.Scans.{DiskCountersFollowMarks, disk_of, known_lists}
 use Rattle.scan_rounds.specs.declared.disk_actor.DiskActor.{DiskActor}
 
-module _ {W D : Type 0} (m : DiskGhosts D) (told : Option Told) (relations : ℕ) where
+module _ {W D : Type 0} (m : DiskGhosts D) (world : WorldGhosts W) where
   -- the disks before and after, with the actors that they served, place by place
   pub data CountedBy : List D → List D → List (DiskActor W D) → Type 0 where
     none : CountedBy [] [] []
     more : (o d : D) (h : DiskActor W D) (os ds : List D) (hs : List (DiskActor W D))
         → CountersFollowMarks (m.reads o) (m.reads d) (m.faults o) (m.faults d) h.actor.known.marks
-        → (m.told d ≡ told) × (m.relations d ≡ relations)
+        → (m.told d ≡ world.told) × (m.relations d ≡ world.relations)
         → CountedBy os ds hs → CountedBy (o ∷ os) (d ∷ ds) (h ∷ hs)
 
   pub all-counted : (t : TableView) (os ds : List D) (hs : List (DiskActor W D))
       → map Some ds ≡ map disk_of hs → AllZip (DiskCountersFollowMarks m) os hs
-      → All (IsDiskActor m told relations t) hs → CountedBy os ds hs
+      → All (IsDiskActor m world t) hs → CountedBy os ds hs
   all-counted t [] [] [] are counters_are stand = none
   all-counted t (o ∷ os) (d ∷ ds) (h ∷ hs) are counters_are stand =
       let has : h.disk ≡ Some d = cc in
@@ -47,7 +47,7 @@ module _ {W D : Type 0} (m : DiskGhosts D) (told : Option Told) (relations : ℕ
       let (a, b) = counted-lengths os ds hs p in (omega arith, omega arith)
 
   pub counted-tell : (os ds : List D) (hs : List (DiskActor W D)) → CountedBy os ds hs
-      → All (λ (d : D). (m.told d ≡ told) × (m.relations d ≡ relations)) ds
+      → All (λ (d : D). (m.told d ≡ world.told) × (m.relations d ≡ world.relations)) ds
   counted-tell _ _ _ none k x lt = absurd (omega arith)
   counted-tell _ _ _ (more o d h os ds hs counters_follow tells p) zero x lt = tells
   counted-tell _ _ _ (more o d h os ds hs counters_follow tells p) (suc k) x lt =

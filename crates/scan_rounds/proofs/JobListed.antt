@@ -3,7 +3,7 @@ use Rattle.std.proofs.Common.{◌≡◌, ℕ, suc, ◌≤◌, Bool, false, List,
 use Rattle.std.proofs.Common.{◌∙◌, subst, arith}
 use Rattle.std.specs.Prelude.{Option}
 use Rattle.std.specs.List.{All}
-use Rattle.page_check.specs.Told.{Told}
+use Rattle.page_check.specs.declared.world.World.{Ghosts as WorldGhosts}
 use Rattle.page_check.specs.SynchronousAnswer.{reader_of}
 use Rattle.page_check.specs.IsAnswer.{IsAnswer}
 use Rattle.aio_handle.specs.ContractViews.{TableView}
@@ -35,13 +35,13 @@ none_warned (g ∷ pages) all =
 abbrev ended : Job → Ending → Job
 ended j end = record j { ending = end }
 
-module _ {W D : Type 0} (m : DiskGhosts D) (told : Option Told) (relations : ℕ)
+module _ {W D : Type 0} (m : DiskGhosts D) (world : WorldGhosts W)
     (t : TableView) where
   pub by_text : (block_filter : Option BlockFilter) (tuples : Bool) (h k : DiskActor W D)
       (d e : Desk W (Unit {0})) (b : Blocks) (j l : Job) (end : Ending)
       → entries_of_blocks b ≡ entries_of_job block_filter j → b.count ≤ 64 → l.relation ≡ j.relation
-      → (l.first ≡ j.first) × (l.count ≡ j.count) → ActorReadBlocks m told relations t
-      (JobHasOutput (text_with tuples) l) h k d e b end → ActorListedJob m told relations t
+      → (l.first ≡ j.first) × (l.count ≡ j.count) → ActorReadBlocks m world t
+      (JobHasOutput (text_with tuples) l) h k d e b end → ActorListedJob m world t
       block_filter
       tuples h k d e j (ended l end)
   by_text block_filter tuples h k d e b j l end same few relation blocks read = record {
@@ -57,7 +57,7 @@ module _ {W D : Type 0} (m : DiskGhosts D) (told : Option Told) (relations : ℕ
         text_is = read.given.held.text_is;
         warnings_are = read.given.held.warnings_are;
         sums_are = read.given.held.sums_are;
-        answers = subst (λ (es : List E). IsAnswer (reader_of d.settings.zero told)
+        answers = subst (λ (es : List E). IsAnswer (reader_of d.settings.zero world.told)
             (MayBeUnread h.actor k.actor.known) es
             (record { pages = read.given.pages; endings = endings_of (answered_ending end) })) same
             read.given.answers;

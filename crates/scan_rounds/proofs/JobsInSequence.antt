@@ -9,6 +9,7 @@ use Rattle.std.proofs.lemmas.Grind.{div_ceil_times}
 use Rattle.std.specs.Int.{div_ceil}
 use native.Mathlib.Nat.{mul-le-mul, add-mul}
 use mathlib.Core.Logic.{dite}
+use Rattle.page_check.specs.declared.world.World.{Ghosts as WorldGhosts}
 use native.Mathlib.Decide.{dec_le}
 use Rattle.page_check.specs.SynchronousAnswer.{Entry, reader_of}
 use Rattle.page_check.specs.Told.{Told}
@@ -79,15 +80,15 @@ none_listed b js none few = record {
   each = λ i d j lt. absurd (omega arith);
 }
 
-module _ {W D : Type 0} (m : DiskGhosts D) (told : Option Told) (relations : ℕ) (t : TableView)
+module _ {W D : Type 0} (m : DiskGhosts D) (world : WorldGhosts W) (t : TableView)
     (q : QueueView) where
   -- no job
   pub none_done : {block_filter : Option BlockFilter} (most : ℕ) (b : Backend W D)
-      (js : List Job) → length js ≡ 0 → IsBackend m told relations t q b
-      → BackendsDidJobs m told relations t q block_filter most (b ∷ []) (b ∷ []) js js
+      (js : List Job) → length js ≡ 0 → IsBackend m world t q b
+      → BackendsDidJobs m world t q block_filter most (b ∷ []) (b ∷ []) js js
   none_done most b (j ∷ js) none is = absurd (omega arith)
   none_done most b [] none is = record {
-    backends = (backend_stays m told relations t q most b is, tt);
+    backends = (backend_stays m world t q most b is, tt);
     jobs_are = refl;
     results_bound = omega arith;
     unread = omega arith;
@@ -95,11 +96,11 @@ module _ {W D : Type 0} (m : DiskGhosts D) (told : Option Told) (relations : ℕ
   }
 
   module _ {block_filter : Option BlockFilter} (b c : Backend W D) (j l : Job)
-      (did : BackendDidJob m told relations t q block_filter b j c l) where
+      (did : BackendDidJob m world t q block_filter b j c l) where
     failed_more : (u : Bool) → is_unread l.ending ≡ u
         → failed_result_count b.disk_actor.actor.known.marks + cond u 1 0
         ≤ failed_result_count c.disk_actor.actor.known.marks
-    failed_more true is = unread_counted _ told _ _ _ _ did.listed is
+    failed_more true is = unread_counted _ world.told _ _ _ _ did.listed is
     failed_more false is =
         let went = did.backend.advanced in
         let more = results_more b.disk_actor.actor.known.marks went.more in
@@ -107,7 +108,7 @@ module _ {W D : Type 0} (m : DiskGhosts D) (told : Option Told) (relations : ℕ
 
     -- a job, and none behind it
     pub one_alone : (d : Backend W D) (js ls : List Job) → (length js ≡ 0 → d ≡ c)
-        → length ls ≡ length js → ListedAlone told block_filter b d (j ∷ js) (l ∷ ls)
+        → length ls ≡ length js → ListedAlone world.told block_filter b d (j ∷ js) (l ∷ ls)
     one_alone d js ls unmoved same few = record {
       jobs_are = omega arith;
       each = elim [
@@ -118,8 +119,8 @@ module _ {W D : Type 0} (m : DiskGhosts D) (told : Option Told) (relations : ℕ
 
     -- what is left of the backend's room
     pub may_later : (share : ℕ) (js : List Job) → 1 ≤ share
-        → BackendsMayDoJobs m told relations t q share (b ∷ []) (j ∷ js)
-        → BackendsMayDoJobs m told relations t q (share - 1) (c ∷ []) js
+        → BackendsMayDoJobs m world t q share (b ∷ []) (j ∷ js)
+        → BackendsMayDoJobs m world t q (share - 1) (c ∷ []) js
     may_later share js some may =
         let went = did.backend in
         let room = left_after 64 (64 * (share - 1)) b.disk_actor.actor c.disk_actor.actor
@@ -127,18 +128,18 @@ module _ {W D : Type 0} (m : DiskGhosts D) (told : Option Told) (relations : ℕ
         (fewer (64 + 64 * (share - 1)) (64 * share) b.disk_actor.actor (omega arith)
         (may.room 0 b (omega arith))) went.lives_bound in
         record {
-          backends = All-cons (IsBackend m told relations t q) c [] went.is
-              (All-nil (IsBackend m told relations t q));
+          backends = All-cons (IsBackend m world t q) c [] went.is
+              (All-nil (IsBackend m world t q));
           room = All-cons (λ (x : Backend W D). ActorHasRoom (64 * (share - 1))
               x.disk_actor.actor) c [] room
               (All-nil (λ (x : Backend W D). ActorHasRoom (64 * (share - 1)) x.disk_actor.actor));
-          fresh = All-tail (IsNewJob relations) j js may.fresh;
+          fresh = All-tail (IsNewJob world.relations) j js may.fresh;
         }
 
     -- a job, and then the others
     pub one_then : (less most : ℕ) (d : Backend W D) (js ls : List Job) → less + 64 ≤ most
-        → BackendsDidJobs m told relations t q block_filter less (c ∷ []) (d ∷ []) js ls
-        → BackendsDidJobs m told relations t q block_filter most (b ∷ []) (d ∷ []) (j ∷ js)
+        → BackendsDidJobs m world t q block_filter less (c ∷ []) (d ∷ []) js ls
+        → BackendsDidJobs m world t q block_filter most (b ∷ []) (d ∷ []) (j ∷ js)
         (l ∷ ls)
     one_then less most d js ls enough is =
         let went = did.backend in
@@ -147,7 +148,7 @@ module _ {W D : Type 0} (m : DiskGhosts D) (told : Option Told) (relations : ℕ
           backends = (
             record {
               is = on.is;
-              advanced = goes_then m told relations t _ _ _ went.advanced on.advanced;
+              advanced = goes_then m world t _ _ _ went.advanced on.advanced;
               lives_bound = λ h. (let x = went.lives_bound h in let y = on.lives_bound h in
                   omega arith);
               options_same = on.options_same ∙ went.options_same;
@@ -162,7 +163,7 @@ module _ {W D : Type 0} (m : DiskGhosts D) (told : Option Told) (relations : ℕ
               omega (arith, is.unread, more, sum_by-cons w l ls));
           answered = λ how all.
               (let same = all 0 b (omega arith) in (
-                subst (λ (n : ListOptions). JobIsListed block_filter n told (λ _. ⊤) j l) same
+                subst (λ (n : ListOptions). JobIsListed block_filter n world.told (λ _. ⊤) j l) same
                     (anyway j l did.listed),
                 is.answered how (All-cons (λ (x : Backend W D). backend_options x ≡ how) c []
                     (went.options_same ∙ same)

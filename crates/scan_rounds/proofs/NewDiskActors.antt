@@ -1,14 +1,14 @@
 -- New actors with their disks.
 use Rattle.std.proofs.Common.{◌≡◌, ℕ, zero, suc, ◌+◌, ◌-◌, ◌*◌, ◌^◌, ◌<◌, ◌≤◌, List, [], ◌∷◌, ◌++◌}
 use Rattle.std.proofs.Common.{length, map, sym, ap, ◌∙◌, subst, arith, length-append}
-use Rattle.std.specs.Prelude.{Option, IfSome, is_some, slice_get, slice_index_or, true}
+use Rattle.std.specs.Prelude.{IfSome, is_some, slice_get, slice_index_or, true}
 use Rattle.std.specs.List.{All, AllZip}
 use Rattle.std.specs.Vec.Iter.{into_iter_items}
 use Rattle.std.proofs.Math.Nat.{mul-lt-mul_of_pos_right, mul-div_cancel}
 use Rattle.std.proofs.lemmas.List.{length-map}
 use Rattle.std.proofs.lemmas.List.Sums.{sum_by-le}
 use Rattle.std.proofs.lemmas.Option.{get_or_from_slice_get, slice_get-get_or, slice_get_within}
-use Rattle.page_check.specs.Told.{Told}
+use Rattle.page_check.specs.declared.world.World.{Ghosts as WorldGhosts}
 use Rattle.aio_word.specs.Events.{handle_count, owner}
 use Rattle.aio_word.specs.Words.{last_generation}
 use Rattle.aio_handle.specs.Execution.{CountersFollowMarks}
@@ -151,7 +151,7 @@ module _ {W D : Type 0} where
         (new.of_backends k b lt).actor in
         omega (arith, none))) in omega (arith, least)
 
-    module _ (m : DiskGhosts D) (told : Option Told) (relations : ℕ) where
+    module _ (m : DiskGhosts D) (world : WorldGhosts W) where
       paid : (k : ℕ) (h : DiskActor W D) (o : D) → IsNewDiskActor t ds k h
           → DiskCountersFollowMarks m (slice_index_or ds k o) h
       paid k h o is = record {
@@ -171,50 +171,52 @@ module _ {W D : Type 0} where
           (λ k w le. paid (length bs + k) _ o (new.of_workers k w le)) i h
           (omega (arith, lt, many)))
 
-      module _ (tell : All (λ d. (m.told d ≡ told) × (m.relations d ≡ relations)) ds) where
-        disk_actor_of : (k : ℕ) (h : DiskActor W D) → IsNewDiskActor t ds k h
-            → IsDiskActor m told relations t h
-        disk_actor_of k h is =
-            let (disk, at) = there ds k is.within in record {
-              disk = disk;
-              held = sym is.disk ∙ at;
-              tells = all_at (λ d. (m.told d ≡ told) × (m.relations d ≡ relations)) ds k disk tell at;
-              of = (
-                ap (λ (x : ActorView). x.table) is.actor,
-                ap (λ (x : ActorView). x.known.config) is.actor,
-              );
-              rest = (
-                ap (λ (x : ActorView). x.known.out) is.actor,
-                λ e.
-                    (let none = ap (λ (x : ActorView). x.known.marks) is.actor in
-                    rw none (omega arith)),
-              );
-            }
+      module _ (tell : All (λ d. (m.told d ≡ world.told) × (m.relations d ≡ world.relations)) ds)
+        where
+          disk_actor_of : (k : ℕ) (h : DiskActor W D) → IsNewDiskActor t ds k h
+              → IsDiskActor m world t h
+          disk_actor_of k h is =
+              let (disk, at) = there ds k is.within in record {
+                disk = disk;
+                held = sym is.disk ∙ at;
+                tells = all_at (λ d. (m.told d ≡ world.told) × (m.relations d ≡ world.relations)) ds k
+                    disk tell at;
+                of = (
+                  ap (λ (x : ActorView). x.table) is.actor,
+                  ap (λ (x : ActorView). x.known.config) is.actor,
+                );
+                rest = (
+                  ap (λ (x : ActorView). x.known.out) is.actor,
+                  λ e.
+                      (let none = ap (λ (x : ActorView). x.known.marks) is.actor in
+                      rw none (omega arith)),
+                );
+              }
 
-        pub backends_of_new : (q : QueueView) → length bs ≤ t.config.backends
-            → All (λ (b : Backend W D). IsFreeDesk b.desk) bs
-            → All (λ (b : Backend W D). IfSome b.seat (IsSeatOf q)) bs
-            → (1 ≤ t.config.runners → All (λ (b : Backend W D). is_some b.seat ≡ true) bs)
-            → All (λ (b : Backend W D). IfSome b.ring (IsRingOf q)) bs
-            → All (IsBackend m told relations t q) bs
-        backends_of_new q few desks seats seated rings k b lt =
-            let is = new.of_backends k b lt in
-            let P : ActorView → Type 0 = λ x. x.known.number < x.known.config.backends in record {
-              disk_actor = disk_actor_of k _ is;
-              backend = subst P (sym is.actor) (omega (arith, lt, few));
-              desk = desks k b lt;
-              seat = seats k b lt;
-              has_seat = λ some. seated some k b lt;
-              ring = rings k b lt;
-            }
+          pub backends_of_new : (q : QueueView) → length bs ≤ t.config.backends
+              → All (λ (b : Backend W D). IsFreeDesk b.desk) bs
+              → All (λ (b : Backend W D). IfSome b.seat (IsSeatOf q)) bs
+              → (1 ≤ t.config.runners → All (λ (b : Backend W D). is_some b.seat ≡ true) bs)
+              → All (λ (b : Backend W D). IfSome b.ring (IsRingOf q)) bs
+              → All (IsBackend m world t q) bs
+          backends_of_new q few desks seats seated rings k b lt =
+              let is = new.of_backends k b lt in
+              let P : ActorView → Type 0 = λ x. x.known.number < x.known.config.backends in record {
+                disk_actor = disk_actor_of k _ is;
+                backend = subst P (sym is.actor) (omega (arith, lt, few));
+                desk = desks k b lt;
+                seat = seats k b lt;
+                has_seat = λ some. seated some k b lt;
+                ring = rings k b lt;
+              }
 
-        pub workers_of_new : (q : QueueView) → t.config.backends ≤ length bs
-            → All (λ (w : Worker W D). IsSeatOf q w.seat) ws
-            → All (IsWorker m told relations t q) ws
-        workers_of_new q enough seats k w lt =
-            let is = new.of_workers k w lt in
-            let P : ActorView → Type 0 = λ x. x.known.config.backends ≤ x.known.number in record {
-              disk_actor = disk_actor_of (length bs + k) _ is;
-              worker = subst P (sym is.actor) (omega (arith, enough));
-              seat = seats k w lt;
-            }
+          pub workers_of_new : (q : QueueView) → t.config.backends ≤ length bs
+              → All (λ (w : Worker W D). IsSeatOf q w.seat) ws
+              → All (IsWorker m world t q) ws
+          workers_of_new q enough seats k w lt =
+              let is = new.of_workers k w lt in
+              let P : ActorView → Type 0 = λ x. x.known.config.backends ≤ x.known.number in record {
+                disk_actor = disk_actor_of (length bs + k) _ is;
+                worker = subst P (sym is.actor) (omega (arith, enough));
+                seat = seats k w lt;
+              }

@@ -5,6 +5,7 @@ use Rattle.std.specs.Prelude.{Option, IfSome, is_some, slice_index_or, slice_set
 use Rattle.std.specs.List.{All}
 use Rattle.std.proofs.lemmas.List.{get_or-map, length-map}
 use Rattle.std.proofs.lemmas.List.Elements.{All-set}
+use Rattle.page_check.specs.declared.world.World.{Ghosts as WorldGhosts}
 use Rattle.page_check.specs.Told.{Told}
 use Rattle.aio_handle.specs.ContractViews.{TableView}
 use Rattle.aio_word.specs.Tokens.{failed_result_count}
@@ -97,12 +98,12 @@ module _ {W D : Type 0} where
       ap (λ (h : DiskActor W D). h ∷ map backend_disk_actor bs)
       (same ∙ ap (λ (x : Backend W D). x.disk_actor) is)
 
-module _ {W D : Type 0} (m : DiskGhosts D) (told : Option Told) (relations : ℕ) (t : TableView)
+module _ {W D : Type 0} (m : DiskGhosts D) (world : WorldGhosts W) (t : TableView)
     (q : QueueView) where
   -- its job and its seat are no part of what a backend has counted
   first_stands : (b c : Backend W D) → c.disk_actor ≡ b.disk_actor → c.desk ≡ b.desk
       → c.ring ≡ b.ring → IfSome c.seat (IsSeatOf q) → is_some c.seat ≡ is_some b.seat
-      → IsBackend m told relations t q b → IsBackend m told relations t q c
+      → IsBackend m world t q b → IsBackend m world t q c
   first_stands b c disk_actor desk ring seat kept is = record {
     disk_actor = rw disk_actor is.disk_actor;
     backend = rw disk_actor is.backend;
@@ -114,18 +115,18 @@ module _ {W D : Type 0} (m : DiskGhosts D) (told : Option Told) (relations : ℕ
 
   -- the first of them has closed the queue
   pub first_closed : (bs : List (Backend W D)) (b c : Backend W D) (counts : Counts)
-      → BackendsAreReady m told relations t q bs counts → b ≡ slice_index_or bs 0 b
+      → BackendsAreReady m world t q bs counts → b ≡ slice_index_or bs 0 b
       → c.disk_actor ≡ b.disk_actor → c.desk ≡ b.desk → c.ring ≡ b.ring
       → IfSome c.seat (IsSeatOf q) → is_some c.seat ≡ is_some b.seat
-      → BackendsAreReady m told relations t q (slice_set bs 0 c) counts
+      → BackendsAreReady m world t q (slice_set bs 0 c) counts
   first_closed bs b c counts w is disk_actor desk ring seat kept =
       let cs = slice_set bs 0 c in
       let same = first_actor bs b c is disk_actor in
       let results : failed_results_taken cs ≡ failed_results_taken bs =
       sum_as (λ (h : DiskActor W D). failed_result_count h.actor.known.marks) bs cs same in record {
         some = omega (arith, w.some, many_as bs cs same);
-        backends = All-set (IsBackend m told relations t q) bs 0 c
-            (first_stands b c disk_actor desk ring seat kept (subst (IsBackend m told relations t q) (sym is)
+        backends = All-set (IsBackend m world t q) bs 0 c
+            (first_stands b c disk_actor desk ring seat kept (subst (IsBackend m world t q) (sym is)
             (w.backends 0 b w.some)))
             w.backends;
         room = least_as bs cs counts.room same w.room;
@@ -134,20 +135,20 @@ module _ {W D : Type 0} (m : DiskGhosts D) (told : Option Told) (relations : ℕ
 
   -- after a turn, and after all rounds
   module _ (bs cs ds : List (Backend W D)) (js ks : List Job) (before after : Counts)
-      (same : SameActors cs ds) (ready : BackendsAreReady m told relations t q ds after)
+      (same : SameActors cs ds) (ready : BackendsAreReady m world t q ds after)
       (options : (how : ListOptions) → AllHaveOptions how cs → AllHaveOptions how ds) where
     taken : results_taken_count ds ≡ results_taken_count cs
     taken = sum_as (λ (h : DiskActor W D). local_mark_count h.actor.known.marks) cs ds same
 
     pub turn_closed : {block_filter : Option BlockFilter} {share : ℕ} → length js ≤ length cs
-        → TurnTaken m told relations t q block_filter share bs cs js ks before after
-        → TurnTaken m told relations t q block_filter share bs ds js ks before after
+        → TurnTaken m world t q block_filter share bs cs js ks before after
+        → TurnTaken m world t q block_filter share bs ds js ks before after
     turn_closed few e = record {
       ready = ready;
       actors_advanced = rw same e.actors_advanced;
       all_have_options = λ how all. options how (e.all_have_options how all);
       answered = e.answered;
-      by_place = λ one how all. listed_as _ how told bs cs ds js ks few same
+      by_place = λ one how all. listed_as _ how world.told bs cs ds js ks few same
           (e.by_place one how all);
       room = e.room;
       unread = e.unread;
@@ -155,8 +156,8 @@ module _ {W D : Type 0} (m : DiskGhosts D) (told : Option Told) (relations : ℕ
     }
 
     pub rounds_closed : {A : Type 0} {s : JobSourceGhosts A W} {a b : A}
-        → JobSourceAdvanced m told relations t q s bs cs js ks a b before after
-        → JobSourceAdvanced m told relations t q s bs ds js ks a b before after
+        → JobSourceAdvanced m world t q s bs cs js ks a b before after
+        → JobSourceAdvanced m world t q s bs ds js ks a b before after
     rounds_closed e = record {
       ready = ready;
       backends = many_as cs ds same ∙ e.backends;

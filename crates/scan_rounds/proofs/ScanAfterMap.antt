@@ -1,12 +1,12 @@
 -- A scan whose first backend has read a map.
 use Rattle.std.proofs.Common.{◌≡◌, ℕ, ◌+◌, ◌≤◌, Bool, true, false, cond, List, [], ◌∷◌, length}
 use Rattle.std.proofs.Common.{refl, ap, subst, arith}
-use Rattle.std.specs.Prelude.{Option, None, slice_index_or, slice_set}
+use Rattle.std.specs.Prelude.{None, slice_index_or, slice_set}
 use Rattle.std.specs.List.{All, AllZip}
 use Rattle.std.proofs.lemmas.List.Elements.{All-tail}
 use Rattle.std.proofs.lemmas.List.Sums.{sum_by-cons}
+use Rattle.page_check.specs.declared.world.World.{Ghosts as WorldGhosts}
 use Rattle.page_check.specs.SynchronousAnswer.{reader_of}
-use Rattle.page_check.specs.Told.{Told}
 use Rattle.aio_word.specs.Tokens.{failed_result_count}
 use Rattle.aio_handle.specs.ContractViews.{TableView}
 use Rattle.method_worker.specs.QueueViews.{QueueView}
@@ -32,26 +32,26 @@ use Rattle.read_stream.proofs.UnreadCauses.{results_more}
 use Rattle.scan_rounds.proofs.UnreadLeavesResult.{unread_after}
 
 -- workers that did nothing
-pub workers_stay : {W D : Type 0} (m : DiskGhosts D) (told : Option Told) (relations : ℕ)
+pub workers_stay : {W D : Type 0} (m : DiskGhosts D) (world : WorldGhosts W)
     (t : TableView) (q : QueueView) (ws : List (Worker W D))
-    → All (IsWorker m told relations t q) ws → AllWorkersServed m told relations t q ws ws
-workers_stay m told relations t q ws all = record {
+    → All (IsWorker m world t q) ws → AllWorkersServed m world t q ws ws
+workers_stay m world t q ws all = record {
   as_many = refl;
   each = λ i d lt. record {
     is = all i d lt;
-    advanced = stays_put m told relations t (slice_index_or ws i d).disk_actor
+    advanced = stays_put m world t (slice_index_or ws i d).disk_actor
         (all i d lt).disk_actor;
   };
 }
 
-module _ {W D : Type 0} (m : DiskGhosts D) (told : Option Told) (relations : ℕ) (t : TableView)
+module _ {W D : Type 0} (m : DiskGhosts D) (world : WorldGhosts W) (t : TableView)
     (q : QueueView) where
   -- the first of some backends has read a map
   pub first_read : (bs : List (Backend W D)) (b c : Backend W D) (relation pages : ℕ)
       (found : Map) (warnings : List ℕ) (end : Ending) → 1 ≤ length bs
       → b ≡ slice_index_or bs 0 b
-      → BackendReadMap m told relations t q b c relation pages found warnings end
-      → FirstBackendReadMap m told relations t q bs (slice_set bs 0 c) relation pages found
+      → BackendReadMap m world t q b c relation pages found warnings end
+      → FirstBackendReadMap m world t q bs (slice_set bs 0 c) relation pages found
       warnings end
   first_read [] b c relation pages found warnings end some is read = absurd (omega arith)
   first_read (a ∷ bs) b c relation pages found warnings end some is read = record {
@@ -60,17 +60,17 @@ module _ {W D : Type 0} (m : DiskGhosts D) (told : Option Told) (relations : ℕ
     others = bs;
     backends_were = refl;
     backends_are = refl;
-    read = subst (λ (x : Backend W D). BackendReadMap m told relations t q x c relation pages
+    read = subst (λ (x : Backend W D). BackendReadMap m world t q x c relation pages
         found warnings end) is read;
   }
 
   module _ (bs cs : List (Backend W D)) (relation pages : ℕ) (found : Map) (warnings : List ℕ)
       (end : Ending)
-      (read : FirstBackendReadMap m told relations t q bs cs relation pages found warnings end)
+      (read : FirstBackendReadMap m world t q bs cs relation pages found warnings end)
     where
       -- the first backend went on, and the others stay
-      pub backends_read : All (IsBackend m told relations t q) bs
-          → AllZip (BackendAdvanced m told relations t q 65) bs cs
+      pub backends_read : All (IsBackend m world t q) bs
+          → AllZip (BackendAdvanced m world t q 65) bs cs
       backends_read all = rw (read.backends_were, read.backends_are) (
         record {
           is = read.read.is;
@@ -79,13 +79,13 @@ module _ {W D : Type 0} (m : DiskGhosts D) (told : Option Told) (relations : ℕ
               omega arith);
           options_same = read.read.options_same;
         },
-        zip-itself (BackendAdvanced m told relations t q 65) read.others
-            (λ i d lt. backend_stays m told relations t q 65 _ (others_stand i d lt)),
+        zip-itself (BackendAdvanced m world t q 65) read.others
+            (λ i d lt. backend_stays m world t q 65 _ (others_stand i d lt)),
       )
         where
-          others_stand : All (IsBackend m told relations t q) read.others
-          others_stand = All-tail (IsBackend m told relations t q) read.before read.others
-              (subst (All (IsBackend m told relations t q)) read.backends_were all)
+          others_stand : All (IsBackend m world t q) read.others
+          others_stand = All-tail (IsBackend m world t q) read.before read.others
+              (subst (All (IsBackend m world t q)) read.backends_were all)
 
       pub results_bound : results_taken_count cs ≤ results_taken_count bs + pages
       results_bound = rw (read.backends_were, read.backends_are)
@@ -103,7 +103,7 @@ module _ {W D : Type 0} (m : DiskGhosts D) (told : Option Told) (relations : ℕ
           ≤ failed_result_count read.after.disk_actor.actor.known.marks
       unread_or true is =
           let given = read.read.read.given in
-          unread_after (reader_of read.before.desk.settings.zero told) _ _
+          unread_after (reader_of read.before.desk.settings.zero world.told) _ _
           (entries_of_blocks (map_blocks relation pages)) given.pages end given.answers is
       unread_or false is =
           let went = read.read.read.advanced in
@@ -122,9 +122,10 @@ module _ {W D : Type 0} (m : DiskGhosts D) (told : Option Told) (relations : ℕ
 
       -- and the map has its pages
       pub map_read : (how : ListOptions) → AllHaveOptions how bs
-          → MapPagesConsumed how told bs cs relation pages found warnings end
+          → MapPagesConsumed how world.told bs cs relation pages found warnings end
       map_read how all = rw (read.backends_were, read.backends_are)
-          (λ d. subst (λ (n : ListOptions). PagesConsumed (MapHasPages found warnings) n.zero told
+          (λ d. subst (λ (n : ListOptions). PagesConsumed (MapHasPages found warnings) n.zero
+          world.told
           (MayBeUnread read.before.disk_actor.actor read.after.disk_actor.actor.known)
           (job_entries relation 0 pages) (answered_ending end))
           (subst (AllHaveOptions how) read.backends_were all 0 read.before (omega arith))

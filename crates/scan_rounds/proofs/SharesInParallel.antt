@@ -7,8 +7,8 @@ use Rattle.std.proofs.lemmas.List.{get_or_append_left, get_or-append-add}
 use Rattle.std.proofs.lemmas.List.Elements.{All-nil, All-cons, All-head, All-tail}
 use Rattle.std.proofs.lemmas.List.Sums.{sum_by-append}
 use mathlib.Core.Logic.{dite}
+use Rattle.page_check.specs.declared.world.World.{Ghosts as WorldGhosts}
 use native.Mathlib.Decide.{dec_le}
-use Rattle.page_check.specs.Told.{Told}
 use Rattle.aio_word.specs.Tokens.{failed_result_count}
 use Rattle.aio_handle.specs.ContractViews.{TableView}
 use Rattle.method_worker.specs.QueueViews.{QueueView}
@@ -44,21 +44,21 @@ only_set (x ∷ []) y one = refl
 only_set [] y one = absurd (omega arith)
 only_set (x ∷ z ∷ xs) y one = absurd (omega arith)
 
-module _ {W D : Type 0} (m : DiskGhosts D) (told : Option Told) (relations : ℕ) (t : TableView)
+module _ {W D : Type 0} (m : DiskGhosts D) (world : WorldGhosts W) (t : TableView)
     (q : QueueView) (share : ℕ) where
   -- a backend alone may do its share
   pub may_alone : (bs : List (Backend W D)) (d : Backend W D) (js : List Job) → length bs ≡ 1
-      → BackendsMayDoShares m told relations t q share bs js
-      → BackendsMayDoJobs m told relations t q share (slice_index_or bs 0 d ∷ []) js
+      → BackendsMayDoShares m world t q share bs js
+      → BackendsMayDoJobs m world t q share (slice_index_or bs 0 d ∷ []) js
   may_alone bs d js one may = rw (only_one bs d one) may.may
 
   -- and then it has
   pub alone_done : {block_filter : Option BlockFilter} (bs : List (Backend W D))
       (d c : Backend W D) (js ks : List Job) → length bs ≡ 1 → length js ≤ share
-      → BackendsDidJobs m told relations t q block_filter (64 * share)
+      → BackendsDidJobs m world t q block_filter (64 * share)
       (slice_index_or bs 0 d ∷ []) (c ∷ []) js ks
-      → ListedAlone told block_filter (slice_index_or bs 0 d) c js ks
-      → SharesDone m told relations t q block_filter share bs (slice_set bs 0 c) js ks
+      → ListedAlone world.told block_filter (slice_index_or bs 0 d) c js ks
+      → SharesDone m world t q block_filter share bs (slice_set bs 0 c) js ks
   alone_done {block_filter} bs d c js ks one few done alone = rw (sym (only_set bs c one)) (record {
     done = rw (sym (only_one bs d one)) done;
     by_place = λ is how all.
@@ -66,49 +66,50 @@ module _ {W D : Type 0} (m : DiskGhosts D) (told : Option Told) (relations : ℕ
         let options : backend_options b ≡ how = All-head (λ (x : Backend W D). backend_options x
         ≡ how) b [] (subst (λ (l : List (Backend W D)). AllHaveOptions how l) (sym (only_one bs d
         one)) all) in
-        rw (sym (only_one bs d one)) (subst (λ (n : ListOptions). AllJobsListed block_filter n told
+        rw (sym (only_one bs d one)) (subst (λ (n : ListOptions). AllJobsListed block_filter n
+        world.told
         (b ∷ []) (c ∷ []) js ks) options (alone (omega arith))));
   })
 
   module _ (bs gs : List (Backend W D)) (xs ys : List Job) where
     -- so may some of the backends a part of the jobs
     pub may_front : 1 ≤ length bs → length xs ≤ share * length bs
-        → BackendsMayDoShares m told relations t q share (bs ++ gs) (xs ++ ys)
-        → BackendsMayDoShares m told relations t q share bs xs
+        → BackendsMayDoShares m world t q share (bs ++ gs) (xs ++ ys)
+        → BackendsMayDoShares m world t q share bs xs
     may_front some fit all = record {
       some = some;
       fit = fit;
       may = record {
-        backends = all_front (IsBackend m told relations t q) bs gs all.may.backends;
+        backends = all_front (IsBackend m world t q) bs gs all.may.backends;
         room = all_front (λ (x : Backend W D). ActorHasRoom (64 * share) x.disk_actor.actor) bs gs
             all.may.room;
-        fresh = all_front (IsNewJob relations) xs ys all.may.fresh;
+        fresh = all_front (IsNewJob world.relations) xs ys all.may.fresh;
       };
     }
 
     pub may_back : 1 ≤ length gs → length ys ≤ share * length gs
-        → BackendsMayDoShares m told relations t q share (bs ++ gs) (xs ++ ys)
-        → BackendsMayDoShares m told relations t q share gs ys
+        → BackendsMayDoShares m world t q share (bs ++ gs) (xs ++ ys)
+        → BackendsMayDoShares m world t q share gs ys
     may_back some fit all = record {
       some = some;
       fit = fit;
       may = record {
-        backends = all_back (IsBackend m told relations t q) bs gs all.may.backends;
+        backends = all_back (IsBackend m world t q) bs gs all.may.backends;
         room = all_back (λ (x : Backend W D). ActorHasRoom (64 * share) x.disk_actor.actor) bs gs
             all.may.room;
-        fresh = all_back (IsNewJob relations) xs ys all.may.fresh;
+        fresh = all_back (IsNewJob world.relations) xs ys all.may.fresh;
       };
     }
 
     module _ {block_filter : Option BlockFilter} (cs ds : List (Backend W D)) (vs ws : List Job)
       where
         -- what some have done beside others is what all have done
-        did_together : (most : ℕ) → BackendsDidJobs m told relations t q block_filter most bs cs xs vs
-            → BackendsDidJobs m told relations t q block_filter most gs ds ys ws
-            → BackendsDidJobs m told relations t q block_filter most (bs ++ gs) (cs ++ ds) (xs ++ ys)
+        did_together : (most : ℕ) → BackendsDidJobs m world t q block_filter most bs cs xs vs
+            → BackendsDidJobs m world t q block_filter most gs ds ys ws
+            → BackendsDidJobs m world t q block_filter most (bs ++ gs) (cs ++ ds) (xs ++ ys)
             (vs ++ ws)
         did_together most one two = record {
-          backends = zip-append (BackendAdvanced m told relations t q most) bs gs cs ds one.backends
+          backends = zip-append (BackendAdvanced m world t q most) bs gs cs ds one.backends
               two.backends;
           jobs_are = omega (
             arith,
@@ -139,7 +140,8 @@ module _ {W D : Type 0} (m : DiskGhosts D) (told : Option Told) (relations : ℕ
                 sum_by-append f bs gs,
                 sum_by-append w vs ws,
               ));
-          answered = λ how all. zip-append (JobIsListed block_filter how told (λ _. ⊤)) xs ys vs ws
+          answered = λ how all. zip-append (JobIsListed block_filter how world.told (λ _. ⊤)) xs ys
+              vs ws
               (one.answered how (all_front (λ (b : Backend W D). backend_options b ≡ how) bs gs all))
               (two.answered how (all_back (λ (b : Backend W D). backend_options b ≡ how) bs gs all));
         }
@@ -148,9 +150,9 @@ module _ {W D : Type 0} (m : DiskGhosts D) (told : Option Told) (relations : ℕ
         -- the backend at its place
         placed_together : (how : ListOptions) → length cs ≡ length bs → length xs ≤ length bs
             → (length xs < length bs → ys ≡ [])
-            → AllJobsListed block_filter how told bs cs xs vs
-            → AllJobsListed block_filter how told gs ds ys ws
-            → AllJobsListed block_filter how told (bs ++ gs) (cs ++ ds) (xs ++ ys) (vs ++ ws)
+            → AllJobsListed block_filter how world.told bs cs xs vs
+            → AllJobsListed block_filter how world.told gs ds ys ws
+            → AllJobsListed block_filter how world.told (bs ++ gs) (cs ++ ds) (xs ++ ys) (vs ++ ws)
         placed_together how many fit full one two = record {
           jobs_are = omega (
             arith,
@@ -191,9 +193,9 @@ module _ {W D : Type 0} (m : DiskGhosts D) (told : Option Told) (relations : ℕ
 
         pub done_together : length xs ≤ share * length bs
             → (length xs < share * length bs → ys ≡ [])
-            → SharesDone m told relations t q block_filter share bs cs xs vs
-            → SharesDone m told relations t q block_filter share gs ds ys ws
-            → SharesDone m told relations t q block_filter share (bs ++ gs) (cs ++ ds) (xs ++ ys)
+            → SharesDone m world t q block_filter share bs cs xs vs
+            → SharesDone m world t q block_filter share gs ds ys ws
+            → SharesDone m world t q block_filter share (bs ++ gs) (cs ++ ds) (xs ++ ys)
             (vs ++ ws)
         done_together fit full one two = record {
           done = did_together (64 * share) one.done two.done;

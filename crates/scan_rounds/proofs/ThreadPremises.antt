@@ -1,21 +1,19 @@
 -- What a thread may do, and what that means.
-use Rattle.std.proofs.Common.{ℕ}
-use Rattle.std.specs.Prelude.{Option}
-use Rattle.page_check.specs.Told.{Told}
+use Rattle.page_check.specs.declared.world.World.{Ghosts as WorldGhosts}
 use Rattle.aio_handle.specs.ContractViews.{TableView}
 use Rattle.method_worker.specs.QueueViews.{QueueView}
 use Rattle.aio_disk.specs.declared.disk.Disk.{Ghosts as DiskGhosts}
 use Rattle.scan_rounds.specs.DiskActors.{IsWorker, WorkerMayServe}
 use Rattle.scan_rounds.specs.declared.worker.Worker.{Worker}
 
-module _ {W D : Type 0} (m : DiskGhosts D) (told : Option Told) (relations : ℕ) (t : TableView)
+module _ {W D : Type 0} (m : DiskGhosts D) (world : WorldGhosts W) (t : TableView)
     (q : QueueView) where
-  pub is_worker : (w : Worker W D) → WorkerMayServe m told relations t q w
-      → IsWorker m told relations t q w
+  pub is_worker : (w : Worker W D) → WorkerMayServe m world t q w
+      → IsWorker m world t q w
   unfolding WorkerMayServe
   is_worker w may = may
 
-  pub may_serve : (w : Worker W D) → IsWorker m told relations t q w
-      → WorkerMayServe m told relations t q w
+  pub may_serve : (w : Worker W D) → IsWorker m world t q w
+      → WorkerMayServe m world t q w
   unfolding WorkerMayServe
   may_serve w is = is

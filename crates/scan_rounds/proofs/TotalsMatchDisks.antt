@@ -1,6 +1,6 @@
 -- What the end of the table says of the disks.
 use Rattle.std.proofs.Common.{◌≡◌, ℕ, suc, ◌+◌, ◌<◌, ◌≤◌, cond, nat_lt, List, [], ◌∷◌, ◌++◌, map}
-use Rattle.std.proofs.Common.{drop, length, get_or, sum_by, Option, Some, refl, sym, ap, ◌∙◌, subst}
+use Rattle.std.proofs.Common.{drop, length, get_or, sum_by, Some, refl, sym, ap, ◌∙◌, subst}
 use Rattle.std.proofs.Common.{inl, inr, ⊎_elim, arith}
 use Rattle.std.proofs.lemmas.Bool.Decides.{nat_tests}
 use Rattle.std.proofs.lemmas.List.{length-map, map-append}
@@ -8,7 +8,7 @@ use Rattle.std.proofs.lemmas.List.Elements.{All-append, All-map, All-drop}
 use Rattle.std.proofs.Math.Seq.{drop-append_seam}
 use Rattle.std.proofs.lemmas.List.Sums.{sum_by-cons, sum_by-append}
 use Rattle.std.specs.List.{All}
-use Rattle.page_check.specs.Told.{Told}
+use Rattle.page_check.specs.declared.world.World.{Ghosts as WorldGhosts}
 use Rattle.aio_word.specs.declared.Config.{Config}
 use Rattle.aio_word.specs.declared.Known.{Known}
 use Rattle.aio_word.specs.Stands.{IsIn}
@@ -87,26 +87,26 @@ module _ {W D : Type 0} where
       second ∙ (ap (λ (l : List _). l ++ map f ws)
       (first ∙ ap (λ (l : List _). l ++ map f bs) none) ∙ sym (map-append f bs ws))
 
-module _ {W D : Type 0} (m : DiskGhosts D) (told : Option Told) (relations : ℕ)
+module _ {W D : Type 0} (m : DiskGhosts D) (world : WorldGhosts W)
     (t : TableView) where
-  quiet-all : (hs : List (DiskActor W D)) → All (IsDiskActor m told relations t) hs
+  quiet-all : (hs : List (DiskActor W D)) → All (IsDiskActor m world t) hs
       → NoneHasOwnerTokens (known_lists hs)
   quiet-all [] stand p i = absurd i
   quiet-all (h ∷ hs) stand p i = ⊎_elim
       (λ e. subst HasNoOwnerTokens e (stand 0 h (omega arith)).rest)
       (λ j. quiet-all hs (λ k d lt. stand (suc k) d (omega arith)) p j) i
 
-module _ {W D : Type 0} (m : DiskGhosts D) (told : Option Told) (relations : ℕ) (s : Scan W D)
-    (scan : IsScan m told relations s) where
+module _ {W D : Type 0} (m : DiskGhosts D) (world : WorldGhosts W) (s : Scan W D)
+    (scan : IsScan m world s) where
   pub backends_held : All (λ b. HasDisk b.disk_actor) s.backends.items
   backends_held k d lt = let is = (scan.all_backends k d lt).disk_actor in (is.disk, is.held)
 
   pub workers_held : All (λ w. HasDisk w.disk_actor) s.workers.items
   workers_held k d lt = let is = (scan.all_workers k d lt).disk_actor in (is.disk, is.held)
 
-  all-stand : All (IsDiskActor m told relations s.shared.table) (scan_disk_actors s)
+  all-stand : All (IsDiskActor m world s.shared.table) (scan_disk_actors s)
   all-stand =
-      let P : DiskActor W D → Type 0 = IsDiskActor m told relations s.shared.table in
+      let P : DiskActor W D → Type 0 = IsDiskActor m world s.shared.table in
       All-append P (map backend_disk_actor s.backends.items) (map worker_disk_actor s.workers.items)
       (All-map P backend_disk_actor s.backends.items
       (λ k d lt. (scan.all_backends k d lt).disk_actor))
@@ -118,7 +118,7 @@ module _ {W D : Type 0} (m : DiskGhosts D) (told : Option Told) (relations : ℕ
       (λ k d lt. (all-stand k d lt).of)
 
   pub are_quiet : NoneHasOwnerTokens (known_lists (scan_disk_actors s))
-  are_quiet = quiet-all m told relations s.shared.table (scan_disk_actors s) all-stand
+  are_quiet = quiet-all m world s.shared.table (scan_disk_actors s) all-stand
 
   abbrev config : Config
   config = s.shared.table.config
@@ -218,13 +218,13 @@ module _ {W D : Type 0} (m : DiskGhosts D) (told : Option Told) (relations : ℕ
         scan.backends_are ∙ sym (length-map s.backends.items backend_disk_actor) in
         ap (λ (n : ℕ). drop n (bs ++ ws)) many ∙ drop-append_seam bs ws
 
-    worker-reads : (disks : List D) → CountedBy m told relations (opened_disks s) disks
+    worker-reads : (disks : List D) → CountedBy m world (opened_disks s) disks
         (scan_disk_actors s) → All (λ (d : D). m.reads d < last_count) disks
         → totals.by_runners + sum_by m.reads (drop config.backends (opened_disks s))
         ≡ sum_by m.reads (drop config.backends disks)
     worker-reads disks counted below =
-        let rest = counted-reads m told relations _ _ _
-        (counted-drop m told relations config.backends _ _ _ counted)
+        let rest = counted-reads m world _ _ _
+        (counted-drop m world config.backends _ _ _ counted)
         (All-drop (λ (d : D). m.reads d < last_count) config.backends disks below) in
         let f : DiskActor W D → ℕ = λ h. io_mark_count h.actor.known.marks in
         let last = ap (sum_by f) workers-last
@@ -232,13 +232,13 @@ module _ {W D : Type 0} (m : DiskGhosts D) (told : Option Told) (relations : ℕ
         omega (arith, rest, last, runners-executed)
 
     pub finished : (disks : List D) → map Some disks ≡ map disk_of (scan_disk_actors s)
-        → IsFinished m told relations config s.unread (results_taken_count s.backends.items)
+        → IsFinished m world config s.unread (results_taken_count s.backends.items)
         (opened_disks s) disks parts totals
     finished disks held =
-        let counters_are = all-counted m told relations s.shared.table (opened_disks s) disks
+        let counters_are = all-counted m world s.shared.table (opened_disks s) disks
         (scan_disk_actors s) held scan.counters_are all-stand in
-        let (longs, actors) = counted-lengths m told relations _ _ _ counters_are in
-        let at = counted-at m told relations _ _ _ counters_are in
+        let (longs, actors) = counted-lengths m world _ _ _ counters_are in
+        let at = counted-at m world _ _ _ counters_are in
         let ios = sum-lists (λ (p : Known). io_mark_count p.marks) (scan_disk_actors s) in
         let failures = sum-lists (λ (p : Known). failed_mark_count p.marks) (scan_disk_actors s) in
         let all = all-executed in
@@ -248,9 +248,9 @@ module _ {W D : Type 0} (m : DiskGhosts D) (told : Option Told) (relations : ℕ
           parts_are = length-map (map actor_of (scan_disk_actors s)) actor_known
               ∙ (length-map (scan_disk_actors s) actor_of ∙ actors);
           disks_are = longs;
-          tell = counted-tell m told relations _ _ _ counters_are;
+          tell = counted-tell m world _ _ _ counters_are;
           each_read = λ below.
-              let sum = counted-reads m told relations _ _ _ counters_are below in omega arith;
+              let sum = counted-reads m world _ _ _ counters_are below in omega arith;
           each_worker_read = worker-reads disks counters_are;
           each_taken = all-taken;
           each_own = λ i p d lt below.
@@ -258,7 +258,7 @@ module _ {W D : Type 0} (m : DiskGhosts D) (told : Option Told) (relations : ℕ
           each_fault = λ i p d lt below.
               (let here = (at i p d lt).fault_each below in omega arith);
           each_unread = λ below.
-              let sum = counted-faults m told relations _ _ _ counters_are below in
+              let sum = counted-faults m world _ _ _ counters_are below in
               omega arith;
           no_workers = no-workers-none;
         }

@@ -1,8 +1,8 @@
 -- An actor with its disk, between its calls, and what a round makes of it.
 use Rattle.std.specs.Prelude.{◌≡◌, ℕ, ◌+◌, ◌^◌, ◌<◌, ◌≤◌, ◌++◌, Bool, List, Option, Some, None}
 use Rattle.std.specs.Prelude.{IfSome, is_some, length, true}
+use Rattle.page_check.specs.declared.world.World.{Ghosts as WorldGhosts}
 use Rattle.page_check.specs.SynchronousAnswer.{Entry}
-use Rattle.page_check.specs.Told.{Told}
 use Rattle.aio_word.specs.declared.Mark.{Mark}
 use Rattle.aio_word.specs.Events.{lives_ended}
 use Rattle.aio_handle.specs.EndStates.{HasNoOwnerTokens}
@@ -45,13 +45,13 @@ map_blocks relation pages =
 abbrev pub backend_options : {W D : Type 0} → Backend W D → ListOptions
 backend_options b = list_options b.desk.settings.zero b.tuples
 
-module _ {W D : Type 0} (m : DiskGhosts D) (told : Option Told) (relations : ℕ)
+module _ {W D : Type 0} (m : DiskGhosts D) (world : WorldGhosts W)
     (t : TableView) where
   -- the actor is of the table and has nothing out, and its disk tells the world
   pub record IsDiskActor (h : DiskActor W D) : Type 0 where
     pub disk : D
     pub held : h.disk ≡ Some disk
-    pub tells : (m.told disk ≡ told) × (m.relations disk ≡ relations)
+    pub tells : (m.told disk ≡ world.told) × (m.relations disk ≡ world.relations)
     pub of : IsActorOf t h.actor
     pub rest : HasNoOwnerTokens h.actor.known
 
@@ -74,7 +74,7 @@ module _ {W D : Type 0} (m : DiskGhosts D) (told : Option Told) (relations : ℕ
     pub backend : h.actor.known.number < h.actor.known.config.backends
     pub room : ActorHasRoom b.count h.actor
     pub desk : IsFreeDesk d
-    pub relation_in : b.relation < relations
+    pub relation_in : b.relation < world.relations
     pub within : b.first + b.count ≤ 2 ^ 32
 
   -- it has read them, up to this ending, and this is held of their pages
@@ -88,7 +88,7 @@ module _ {W D : Type 0} (m : DiskGhosts D) (told : Option Told) (relations : ℕ
     pub results_bound : local_mark_count k.actor.known.marks
         ≤ local_mark_count h.actor.known.marks + length (entries_of_blocks b)
     pub desk : IsFreeDesk e × (e.settings.zero ≡ d.settings.zero)
-    pub given : PagesConsumed holds d.settings.zero told (MayBeUnread h.actor k.actor.known)
+    pub given : PagesConsumed holds d.settings.zero world.told (MayBeUnread h.actor k.actor.known)
         (entries_of_blocks b) (answered_ending end)
 
   -- the actor may list the job's blocks at this desk
@@ -97,7 +97,7 @@ module _ {W D : Type 0} (m : DiskGhosts D) (told : Option Told) (relations : ℕ
     pub backend : h.actor.known.number < h.actor.known.config.backends
     pub room : ActorHasRoom 64 h.actor
     pub desk : IsFreeDesk d
-    pub fresh : IsNewJob relations j
+    pub fresh : IsNewJob world.relations j
 
   -- it has listed those that are not left out, with their tuples or without
   pub record ActorListedJob (block_filter : Option BlockFilter) (tuples : Bool) (h k : DiskActor W
@@ -109,7 +109,7 @@ module _ {W D : Type 0} (m : DiskGhosts D) (told : Option Told) (relations : ℕ
     pub results_bound : local_mark_count k.actor.known.marks
         ≤ local_mark_count h.actor.known.marks + length (entries_of_job block_filter j)
     pub desk : IsFreeDesk e × (e.settings.zero ≡ d.settings.zero)
-    pub listed : JobIsListed block_filter (list_options d.settings.zero tuples) told
+    pub listed : JobIsListed block_filter (list_options d.settings.zero tuples) world.told
         (MayBeUnread h.actor k.actor.known) j l
 
   module _ (q : QueueView) where
@@ -149,8 +149,6 @@ module _ {W D : Type 0} (m : DiskGhosts D) (told : Option Told) (relations : ℕ
       pub advanced : DiskActorAdvanced w.disk_actor v.disk_actor
 
 -- as it stands among what a thread is given
-unfoldable pub WorkerMayServe : {W D : Type 0} → DiskGhosts D → Option Told → ℕ → TableView
-    → QueueView
-    → Worker W D
-    → Type 0
-WorkerMayServe m told relations t q w = IsWorker m told relations t q w
+unfoldable pub WorkerMayServe : {W D : Type 0} → DiskGhosts D → WorldGhosts W
+    → TableView → QueueView → Worker W D → Type 0
+WorkerMayServe m world t q w = IsWorker m world t q w

@@ -1,7 +1,7 @@
 -- What a job source wants of the backends, and how far some rounds have gone through it.
 use Rattle.std.specs.Prelude.{◌≡◌, ℕ, ◌+◌, ◌*◌, ◌≤◌, List, length, map, Option}
 use Rattle.std.specs.List.{AllZip}
-use Rattle.page_check.specs.Told.{Told}
+use Rattle.page_check.specs.declared.world.World.{Ghosts as WorldGhosts}
 use Rattle.aio_disk.specs.Counts.{count_plus}
 use Rattle.aio_handle.specs.ContractViews.{TableView}
 use Rattle.method_worker.specs.QueueViews.{QueueView}
@@ -15,13 +15,13 @@ use Rattle.scan_rounds.specs.declared.job.Job.{Job}
 use Rattle.scan_rounds.specs.declared.job_source.JobSource.{Ghosts as JobSourceGhosts}
 use Rattle.scan_rounds.specs.declared.counts.Counts.{Counts}
 
-module _ {W D A : Type 0} (m : DiskGhosts D) (told : Option Told) (relations : ℕ) (t : TableView)
+module _ {W D A : Type 0} (m : DiskGhosts D) (world : WorldGhosts W) (t : TableView)
     (q : QueueView) (s : JobSourceGhosts A W) where
   -- there is a place for a job of each backend, and room for all that the job source wants, without
   -- these blocks
   pub record BackendsMayRunSource (without : Option BlockFilter) (bs : List (Backend W D))
       (jobs : List Job) (job_source : A) (counts : Counts) : Type 0 where
-    pub ready : BackendsAreReady m told relations t q bs counts
+    pub ready : BackendsAreReady m world t q bs counts
     pub places : length bs ≤ length jobs
     pub room : 64 * s.blocks_left job_source ≤ counts.room
     pub all_have_options : AllHaveOptions (s.options job_source) bs
@@ -30,10 +30,10 @@ module _ {W D A : Type 0} (m : DiskGhosts D) (told : Option Told) (relations : �
   -- some rounds have led from the first state of the job source to the second
   pub record JobSourceAdvanced (bs cs : List (Backend W D)) (js ks : List Job) (a b : A)
       (before after : Counts) : Type 0 where
-    pub ready : BackendsAreReady m told relations t q cs after
+    pub ready : BackendsAreReady m world t q cs after
     pub backends : length cs ≡ length bs
     pub places : length ks ≡ length js
-    pub actors_advanced : AllZip (DiskActorAdvanced m told relations t)
+    pub actors_advanced : AllZip (DiskActorAdvanced m world t)
         (map backend_disk_actor bs) (map backend_disk_actor cs)
     pub all_have_options : AllHaveOptions (s.options a) cs
     pub options_are : s.options b ≡ s.options a

@@ -1,11 +1,11 @@
 -- The settings of a scan, and what they make.
 use Rattle.std.specs.Prelude.{◌≡◌, ℕ, ◌<◌, ◌≤◌, ◌+◌, ◌*◌, ◌/◌, List, [], length, drop, min, max}
-use Rattle.std.specs.Prelude.{◌-◌, ◌^◌, Option, Some, vec_capacity, slice_get, slice_index_or, Bool}
+use Rattle.std.specs.Prelude.{◌-◌, ◌^◌, Some, vec_capacity, slice_get, slice_index_or, Bool}
 use Rattle.std.specs.Prelude.{true, false, cond}
 use Rattle.std.specs.Option.{is_some}
 use Rattle.std.specs.List.{All}
 use Rattle.std.specs.Vec.Iter.{into_iter_items}
-use Rattle.page_check.specs.Told.{Told}
+use Rattle.page_check.specs.declared.world.World.{Ghosts as WorldGhosts}
 use Rattle.aio_word.specs.declared.Config.{Config}
 use Rattle.aio_handle.specs.ContractViews.{AreNewActors}
 use Rattle.method_worker.specs.QueueViews.{IsSeatOf}
@@ -162,9 +162,9 @@ module _ {W D : Type 0} where
     pub left_are : IsLeftByWorkers (length ws) p left
 
 -- a scan with these settings, just opened over these disks, whose handles begin at this generation
-pub record IsOpenedScan {W D : Type 0} (m : DiskGhosts D) (told : Option Told) (relations : ℕ)
+pub record IsOpenedScan {W D : Type 0} (m : DiskGhosts D) (world : WorldGhosts W)
     (settings : ScanSettings) (start : ℕ) (disks : List D) (s : Scan W D) : Type 0 where
-  pub is : IsScan m told relations s
+  pub is : IsScan m world s
   pub config : s.shared.table.config ≡ config_of settings start
   pub set_up : All (IsBackendSetUp settings) s.backends.items
   pub opened : opened_disks s ≡ disks

@@ -2,7 +2,7 @@
 use Rattle.std.specs.Prelude.{◌≡◌, ℕ, ◌+◌, ◌*◌, ◌≤◌, List, [], ◌∷◌, ◌++◌, length, map, Option}
 use Rattle.std.specs.Prelude.{IfSome, slice_index_or}
 use Rattle.std.specs.List.{All, AllZip}
-use Rattle.page_check.specs.Told.{Told}
+use Rattle.page_check.specs.declared.world.World.{Ghosts as WorldGhosts}
 use Rattle.aio_disk.specs.Counts.{count_plus}
 use Rattle.aio_handle.specs.ContractViews.{TableView}
 use Rattle.method_worker.specs.QueueViews.{QueueView, SeatView}
@@ -25,13 +25,13 @@ HasClosed q s = (before : List ℕ) × (s.closes ≡ before ++ q.reopened ∷ []
 pub record IsClosedByFirst {W D : Type 0} (q : QueueView) (bs : List (Backend W D)) : Type 0 where
   pub seat : (b : Backend W D) → IfSome (slice_index_or bs 0 b).seat (HasClosed q)
 
-module _ {W D : Type 0} (m : DiskGhosts D) (told : Option Told) (relations : ℕ)
+module _ {W D : Type 0} (m : DiskGhosts D) (world : WorldGhosts W)
     (t : TableView) where
   -- the backends wait for a round, and this is what was counted so far
   pub record BackendsAreReady (q : QueueView) (bs : List (Backend W D)) (counts : Counts) : Type 0
     where
       pub some : 1 ≤ length bs
-      pub backends : All (IsBackend m told relations t q) bs
+      pub backends : All (IsBackend m world t q) bs
       pub room : IsLeastRoom bs counts.room
       -- each job that ended in Unread has left the result of a failed I/O
       pub few_unread : counts.unread ≤ failed_results_taken bs
@@ -42,20 +42,20 @@ module _ {W D : Type 0} (m : DiskGhosts D) (told : Option Told) (relations : ℕ
       (js : List Job) (counts : Counts) : Type 0 where
     pub ready : BackendsAreReady q bs counts
     pub fit : length js ≤ share * length bs
-    pub fresh : All (IsNewJob relations) js
+    pub fresh : All (IsNewJob world.relations) js
     pub room : 64 * share ≤ counts.room
 
   -- it was taken, without the blocks that are left out
   pub record TurnTaken (q : QueueView) (block_filter : Option BlockFilter) (share : ℕ)
       (bs cs : List (Backend W D)) (js ks : List Job) (before after : Counts) : Type 0 where
     pub ready : BackendsAreReady q cs after
-    pub actors_advanced : AllZip (DiskActorAdvanced m told relations t)
+    pub actors_advanced : AllZip (DiskActorAdvanced m world t)
         (map backend_disk_actor bs) (map backend_disk_actor cs)
     pub all_have_options : (how : ListOptions) → AllHaveOptions how bs → AllHaveOptions how cs
     pub answered : (how : ListOptions) → AllHaveOptions how bs
-        → AllJobsAnswered block_filter how told js ks
+        → AllJobsAnswered block_filter how world.told js ks
     pub by_place : share ≡ 1 → (how : ListOptions) → AllHaveOptions how bs
-        → AllJobsListed block_filter how told bs cs js ks
+        → AllJobsListed block_filter how world.told bs cs js ks
     pub room : before.room ≤ after.room + 64 * share
     pub unread : after.unread ≡ count_plus (unread_job_count ks) before.unread
     pub results_bound : results_taken_count cs ≤ results_taken_count bs + count_unskipped block_filter js

@@ -1,6 +1,7 @@
 -- What a round does to all backends, to all workers and to the jobs.
 use Rattle.std.specs.Prelude.{◌≡◌, ℕ, ◌<◌, ◌≤◌, List, ◌∷◌, length, slice_index_or, sum_by, Option}
 use Rattle.std.specs.List.{All}
+use Rattle.page_check.specs.declared.world.World.{Ghosts as WorldGhosts}
 use Rattle.page_check.specs.Told.{Told}
 use Rattle.aio_handle.specs.ContractViews.{TableView}
 use Rattle.heap_scan.specs.Job.{job_entries}
@@ -73,12 +74,12 @@ module _ {W D : Type 0} where
   results_taken_count bs = sum_by
       (λ (b : Backend W D). local_mark_count b.disk_actor.actor.known.marks) bs
 
-module _ {W D : Type 0} (m : DiskGhosts D) (told : Option Told) (relations : ℕ) (t : TableView)
+module _ {W D : Type 0} (m : DiskGhosts D) (world : WorldGhosts W) (t : TableView)
     (q : QueueView) where
   pub record AllWorkersServed (ws vs : List (Worker W D)) : Type 0 where
     pub as_many : length vs ≡ length ws
     pub each : (i : ℕ) (d : Worker W D) → i < length ws
-        → WorkerServed m told relations t q (slice_index_or ws i d) (slice_index_or vs i d)
+        → WorkerServed m world t q (slice_index_or ws i d) (slice_index_or vs i d)
 
   -- the first backend has read a map, and the others are as they were
   pub record FirstBackendReadMap (bs cs : List (Backend W D)) (relation pages : ℕ) (map : Map)
@@ -88,4 +89,4 @@ module _ {W D : Type 0} (m : DiskGhosts D) (told : Option Told) (relations : ℕ
     pub others : List (Backend W D)
     pub backends_were : bs ≡ before ∷ others
     pub backends_are : cs ≡ after ∷ others
-    pub read : BackendReadMap m told relations t q before after relation pages map warnings end
+    pub read : BackendReadMap m world t q before after relation pages map warnings end

@@ -3,7 +3,7 @@ use Rattle.std.specs.Prelude.{◌≡◌, ℕ, ◌+◌, ◌<◌, ◌≤◌, ◌++
 use Rattle.std.specs.Prelude.{Some, vec_capacity, slice_index_or, is_some, true, min, drop, ◌^◌}
 use Rattle.std.specs.Prelude.{◌-◌}
 use Rattle.std.specs.List.{All, AllZip}
-use Rattle.page_check.specs.Told.{Told}
+use Rattle.page_check.specs.declared.world.World.{Ghosts as WorldGhosts}
 use Rattle.aio_word.specs.declared.Config.{Config}
 use Rattle.aio_word.specs.declared.Known.{Known}
 use Rattle.aio_word.specs.Tokens.{io_mark_count, failed_mark_count}
@@ -59,14 +59,14 @@ pub record DiskCountersFollowMarks {W D : Type 0} (m : DiskGhosts D) (opened : D
       (m.faults disk)
       h.actor.known.marks
 
-module _ {W D : Type 0} (m : DiskGhosts D) (told : Option Told) (relations : ℕ) where
+module _ {W D : Type 0} (m : DiskGhosts D) (world : WorldGhosts W) where
   pub record IsScan (s : Scan W D) : Type 0 where
     pub backends_are : s.shared.table.config.backends ≡ length s.backends.items
     pub workers_are : s.shared.table.config.runners ≡ length s.workers.items
     pub some : 1 ≤ length s.backends.items
-    pub all_backends : All (IsBackend m told relations s.shared.table s.shared.queue)
+    pub all_backends : All (IsBackend m world s.shared.table s.shared.queue)
         s.backends.items
-    pub all_workers : All (IsWorker m told relations s.shared.table s.shared.queue)
+    pub all_workers : All (IsWorker m world s.shared.table s.shared.queue)
         s.workers.items
     -- each disk has counted what its actor has executed since the scan was opened
     pub counters_are : AllZip (DiskCountersFollowMarks m) (opened_disks s) (scan_disk_actors s)
@@ -81,7 +81,7 @@ module _ {W D : Type 0} (m : DiskGhosts D) (told : Option Told) (relations : ℕ
     pub actors_fit : length s.backends.items + length s.workers.items ≤ vec_capacity s.actors
     pub disks_fit : length s.backends.items + length s.workers.items ≤ vec_capacity s.disks
 
-module _ {D : Type 0} (m : DiskGhosts D) (told : Option Told) (relations : ℕ) where
+module _ {W D : Type 0} (m : DiskGhosts D) (world : WorldGhosts W) where
   -- the numbers of the end, for disks that were so when the scan was opened, and are so now, and
   -- for the lists of their actors, in the same order
   pub record IsFinished (c : Config) (unread taken : ℕ) (opened disks : List D)
@@ -89,7 +89,7 @@ module _ {D : Type 0} (m : DiskGhosts D) (told : Option Told) (relations : ℕ) 
     pub totals_are : AreTotals c parts totals
     pub parts_are : length parts ≡ length disks
     pub disks_are : length disks ≡ length opened
-    pub tell : All (λ d. (m.told d ≡ told) × (m.relations d ≡ relations)) disks
+    pub tell : All (λ d. (m.told d ≡ world.told) × (m.relations d ≡ world.relations)) disks
     -- each incarnation was one read
     pub each_read : All (λ d. m.reads d < last_count) disks
         → totals.incarnations + sum_by m.reads opened ≡ sum_by m.reads disks

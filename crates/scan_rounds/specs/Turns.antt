@@ -2,6 +2,7 @@
 -- other.
 use Rattle.std.specs.Prelude.{◌≡◌, ℕ, ◌+◌, ◌*◌, ◌≤◌, List, [], ◌∷◌, length, ⊤, Option}
 use Rattle.std.specs.List.{All, AllZip}
+use Rattle.page_check.specs.declared.world.World.{Ghosts as WorldGhosts}
 use Rattle.page_check.specs.Told.{Told}
 use Rattle.aio_handle.specs.ContractViews.{TableView}
 use Rattle.method_worker.specs.QueueViews.{QueueView}
@@ -18,34 +19,34 @@ use Rattle.scan_rounds.specs.BlockFilter.{BlockFilter}
 use Rattle.scan_rounds.specs.declared.backend.Backend.{Backend}
 use Rattle.scan_rounds.specs.declared.job.Job.{Job}
 
-module _ {W D : Type 0} (m : DiskGhosts D) (told : Option Told) (relations : ℕ) (t : TableView)
+module _ {W D : Type 0} (m : DiskGhosts D) (world : WorldGhosts W) (t : TableView)
     (q : QueueView) where
   -- a backend that was given this job, and what has become of both
   pub record BackendDidJob (block_filter : Option BlockFilter) (b : Backend W D) (j : Job)
       (f : Backend W D) (l : Job) : Type 0 where
-    pub backend : BackendAdvanced m told relations t q 64 b f
+    pub backend : BackendAdvanced m world t q 64 b f
     pub results_bound : local_mark_count f.disk_actor.actor.known.marks
         ≤ local_mark_count b.disk_actor.actor.known.marks + length (entries_of_job block_filter j)
-    pub listed : JobIsListed block_filter (backend_options b) told
+    pub listed : JobIsListed block_filter (backend_options b) world.told
         (MayBeUnread b.disk_actor.actor f.disk_actor.actor.known) j l
 
   -- each of these backends may do so many of these jobs
   pub record BackendsMayDoJobs (share : ℕ) (bs : List (Backend W D)) (js : List Job) : Type 0
     where
-      pub backends : All (IsBackend m told relations t q) bs
+      pub backends : All (IsBackend m world t q) bs
       pub room : AllBackendsHaveRoom (64 * share) bs
-      pub fresh : All (IsNewJob relations) js
+      pub fresh : All (IsNewJob world.relations) js
 
   -- the backends have done the jobs, without the blocks that are left out; each handle has had at
   -- most so many lives more
   pub record BackendsDidJobs (block_filter : Option BlockFilter) (most : ℕ)
       (bs cs : List (Backend W D)) (js ks : List Job) : Type 0 where
-    pub backends : AllZip (BackendAdvanced m told relations t q most) bs cs
+    pub backends : AllZip (BackendAdvanced m world t q most) bs cs
     pub jobs_are : length ks ≡ length js
     pub results_bound : results_taken_count cs ≤ results_taken_count bs + count_unskipped block_filter js
     pub unread : failed_results_taken bs + unread_job_count ks ≤ failed_results_taken cs
     pub answered : (how : ListOptions) → AllHaveOptions how bs
-        → AllZip (JobIsListed block_filter how told (λ _. ⊤)) js ks
+        → AllZip (JobIsListed block_filter how world.told (λ _. ⊤)) js ks
 
   -- they may do these jobs, each at most so many neighbouring ones
   pub record BackendsMayDoShares (share : ℕ) (bs : List (Backend W D)) (js : List Job) : Type 0
@@ -60,7 +61,7 @@ module _ {W D : Type 0} (m : DiskGhosts D) (told : Option Told) (relations : ℕ
       (js ks : List Job) : Type 0 where
     pub done : BackendsDidJobs block_filter (64 * share) bs cs js ks
     pub by_place : share ≡ 1 → (how : ListOptions) → AllHaveOptions how bs
-        → AllJobsListed block_filter how told bs cs js ks
+        → AllJobsListed block_filter how world.told bs cs js ks
 
 -- a backend that had one of these jobs at most has listed it
 abbrev pub ListedAlone : {W D : Type 0} → Option Told → Option BlockFilter → Backend W D

@@ -51,11 +51,10 @@ impl<W: World, D: Disk> Backend<W, D> {
         by_map: Option<MapFilter<'_>>,
         job: &mut Job,
     )
-        requires is { IsBackend D.Disk W.told W.relations shared.now.table shared.now.queue
-            self.old }
+        requires is { IsBackend D.Disk W.World shared.now.table shared.now.queue self.old }
         requires room { ActorHasRoom 64 self.old.disk_actor.actor }
         requires fresh { IsNewJob W.relations job.old }
-        ensures did_job { BackendDidJob D.Disk W.told W.relations shared.now.table shared.now.queue
+        ensures did_job { BackendDidJob D.Disk W.World shared.now.table shared.now.queue
             (filter_of_skipping by_map.entry) self.old job.old self.new job.new }
     {
         let Backend {
@@ -96,12 +95,11 @@ impl<W: World, D: Disk> Backend<W, D> {
         map: &mut VisMap,
         warnings: &mut Vec<u8>,
     ) -> Ending
-        requires is { IsBackend D.Disk W.told W.relations shared.now.table shared.now.queue
-            self.old }
+        requires is { IsBackend D.Disk W.World shared.now.table shared.now.queue self.old }
         requires room { ActorHasRoom 65 self.old.disk_actor.actor }
         requires relation { relation < W.relations }
         requires none { (map.old.added ≡ []) × (warnings.old.items ≡ []) }
-        ensures read { BackendReadMap D.Disk W.told W.relations shared.now.table shared.now.queue
+        ensures read { BackendReadMap D.Disk W.World shared.now.table shared.now.queue
             self.old self.new relation map.old.pages map.new warnings.new.items result }
         ensures pages { map.new.pages ≡ map.old.pages }
     {

@@ -24,9 +24,8 @@ use std::thread::Threads;
 
 // Lets a worker serve the queue.
 fn serve_one<W: World, D: Disk, R: Wait>(rt: &R, shared: &SharedState<W>, worker: &mut Worker<W, D>)
-    requires may { WorkerMayServe D.Disk W.told W.relations shared.now.table shared.now.queue
-        worker.old }
-    ensures workers_served { WorkerServed D.Disk W.told W.relations shared.now.table
+    requires may { WorkerMayServe D.Disk W.World shared.now.table shared.now.queue worker.old }
+    ensures workers_served { WorkerServed D.Disk W.World shared.now.table
         shared.now.queue worker.old worker.new }
 {
     worker.run(rt, shared);
@@ -38,9 +37,9 @@ fn run_workers<W: World + Send + Sync, D: Disk, R: Threads + Wait + Sync>(
     shared: &SharedState<W>,
     workers: &mut [Worker<W, D>],
 )
-    requires may { All (WorkerMayServe D.Disk W.told W.relations shared.now.table shared.now.queue)
+    requires may { All (WorkerMayServe D.Disk W.World shared.now.table shared.now.queue)
         workers.old }
-    ensures workers_served { AllWorkersServed D.Disk W.told W.relations shared.now.table
+    ensures workers_served { AllWorkersServed D.Disk W.World shared.now.table
         shared.now.queue workers.old workers.new }
 {
     thread::for_each_mut(
@@ -48,9 +47,8 @@ fn run_workers<W: World + Send + Sync, D: Disk, R: Threads + Wait + Sync>(
         workers,
         32,
         &|_, worker: &mut Worker<W, D>|
-            requires { WorkerMayServe D.Disk W.told W.relations shared.now.table shared.now.queue
-                worker.old }
-            ensures { WorkerServed D.Disk W.told W.relations shared.entry.now.table
+            requires { WorkerMayServe D.Disk W.World shared.now.table shared.now.queue worker.old }
+            ensures { WorkerServed D.Disk W.World shared.entry.now.table
                 shared.entry.now.queue worker.old worker.new }
         { serve_one(rt, shared, worker) },
     );
@@ -75,33 +73,32 @@ pub(crate) fn run_beside<
     job_source: &'a mut A,
     counts: &'a mut Counts,
 )
-    requires serve { All (WorkerMayServe D.Disk W.told W.relations shared.now.table
+    requires serve { All (WorkerMayServe D.Disk W.World shared.now.table
         shared.now.queue) workers.old }
-    requires may { BackendsMayRunSource D.Disk W.told W.relations shared.now.table shared.now.queue
+    requires may { BackendsMayRunSource D.Disk W.World shared.now.table shared.now.queue
         A.JobSource (filter_of_skipping by_map) backends.old jobs.old job_source.old counts.old }
-    ensures workers_served { AllWorkersServed D.Disk W.told W.relations shared.now.table
+    ensures workers_served { AllWorkersServed D.Disk W.World shared.now.table
         shared.now.queue workers.old workers.new }
-    ensures advanced { JobSourceAdvanced D.Disk W.told W.relations shared.now.table shared.now.queue
+    ensures advanced { JobSourceAdvanced D.Disk W.World shared.now.table shared.now.queue
         A.JobSource backends.old backends.new jobs.old jobs.new job_source.old job_source.new
         counts.old counts.new }
     ensures over { A.is_over job_source.new }
     ensures closed { IsClosedByFirst shared.now.queue backends.new }
 {
     let mut serve = ||
-        requires { IsSync R.row × All (WorkerMayServe D.Disk W.told W.relations shared.now.table
+        requires { IsSync R.row × All (WorkerMayServe D.Disk W.World shared.now.table
             shared.now.queue) workers.now }
-        ensures { AllWorkersServed D.Disk W.told W.relations shared.entry.now.table
+        ensures { AllWorkersServed D.Disk W.World shared.entry.now.table
             shared.entry.now.queue workers.entry.now workers.exit.now }
     { run_workers(rt, shared, workers) };
     let mut rounds = ||
-        requires { IsSync R.row × BackendsMayRunSource D.Disk W.told W.relations
+        requires { IsSync R.row × BackendsMayRunSource D.Disk W.World
             shared.now.table shared.now.queue A.JobSource (filter_of_skipping by_map) backends.now
             jobs.now job_source.now counts.now }
-        ensures { JobSourceAdvanced D.Disk W.told W.relations shared.entry.now.table
-            shared.entry.now.queue A.JobSource backends.entry.now backends.exit.now jobs.entry.now
-            jobs.exit.now job_source.entry.now job_source.exit.now counts.entry.now counts.exit.now
-            × A.is_over job_source.exit.now
-            × IsClosedByFirst shared.entry.now.queue backends.exit.now }
+        ensures { JobSourceAdvanced D.Disk W.World shared.entry.now.table shared.entry.now.queue
+            A.JobSource backends.entry.now backends.exit.now jobs.entry.now jobs.exit.now
+            job_source.entry.now job_source.exit.now counts.entry.now counts.exit.now × A.is_over
+            job_source.exit.now × IsClosedByFirst shared.entry.now.queue backends.exit.now }
     { all_rounds(rt, shared, by_map, backends, jobs, job_source, counts) };
     thread::join_mut(rt, &mut serve, &mut rounds);
 }
@@ -116,27 +113,26 @@ pub(crate) fn round_beside<'a, W: World + Send + Sync, D: Disk, R: Threads + Wai
     jobs: &'a mut [Job],
     counts: &'a mut Counts,
 )
-    requires serve { All (WorkerMayServe D.Disk W.told W.relations shared.now.table
+    requires serve { All (WorkerMayServe D.Disk W.World shared.now.table
         shared.now.queue) workers.old }
-    requires may { BackendsMayTakeTurn D.Disk W.told W.relations shared.now.table shared.now.queue 1
+    requires may { BackendsMayTakeTurn D.Disk W.World shared.now.table shared.now.queue 1
         backends.old jobs.old counts.old }
-    ensures workers_served { AllWorkersServed D.Disk W.told W.relations shared.now.table
+    ensures workers_served { AllWorkersServed D.Disk W.World shared.now.table
         shared.now.queue workers.old workers.new }
-    ensures taken { TurnTaken D.Disk W.told W.relations shared.now.table shared.now.queue
-        (filter_of_skipping by_map.entry) 1 backends.old backends.new jobs.old jobs.new counts.old
-        counts.new }
+    ensures taken { TurnTaken D.Disk W.World shared.now.table shared.now.queue (filter_of_skipping
+        by_map.entry) 1 backends.old backends.new jobs.old jobs.new counts.old counts.new }
     ensures closed { IsClosedByFirst shared.now.queue backends.new }
 {
     let mut serve = ||
-        requires { IsSync R.row × All (WorkerMayServe D.Disk W.told W.relations shared.now.table
+        requires { IsSync R.row × All (WorkerMayServe D.Disk W.World shared.now.table
             shared.now.queue) workers.now }
-        ensures { AllWorkersServed D.Disk W.told W.relations shared.entry.now.table
+        ensures { AllWorkersServed D.Disk W.World shared.entry.now.table
             shared.entry.now.queue workers.entry.now workers.exit.now }
     { run_workers(rt, shared, workers) };
     let mut round = ||
-        requires { IsSync R.row × BackendsMayTakeTurn D.Disk W.told W.relations shared.now.table
+        requires { IsSync R.row × BackendsMayTakeTurn D.Disk W.World shared.now.table
             shared.now.queue 1 backends.now jobs.now counts.now }
-        ensures { TurnTaken D.Disk W.told W.relations shared.entry.now.table
+        ensures { TurnTaken D.Disk W.World shared.entry.now.table
             shared.entry.now.queue (filter_of_skipping by_map.entry) 1 backends.entry.now
             backends.exit.now jobs.entry.now jobs.exit.now counts.entry.now counts.exit.now
             × IsClosedByFirst shared.entry.now.queue backends.exit.now }

@@ -28,13 +28,13 @@ fn read_by_first<W: World, D: Disk, R: Wait>(
     map: &mut VisMap,
     warnings: &mut Vec<u8>,
 ) -> Ending
-    requires backends { All (IsBackend D.Disk W.told W.relations shared.now.table shared.now.queue)
+    requires backends { All (IsBackend D.Disk W.World shared.now.table shared.now.queue)
         backends.old }
     requires some { 1 ≤ length backends.old }
     requires room { AllBackendsHaveRoom 65 backends.old }
     requires relation { relation < W.relations }
     requires none { (map.old.added ≡ []) × (warnings.old.items ≡ []) }
-    ensures read { FirstBackendReadMap D.Disk W.told W.relations shared.now.table shared.now.queue
+    ensures read { FirstBackendReadMap D.Disk W.World shared.now.table shared.now.queue
         backends.old backends.new relation map.old.pages map.new warnings.new.items result }
     ensures pages { map.new.pages ≡ map.old.pages }
 {
@@ -53,9 +53,8 @@ impl<W: World, D: Disk> Scan<W, D> {
         map: &mut VisMap,
         warnings: &mut Vec<u8>,
     ) -> Ending
-        requires may { ScanMayReadMap D.Disk W.told W.relations relation self.old map.old
-            warnings.old.items }
-        ensures map_read { ScanReadMap D.Disk W.told W.relations relation self.old self.new map.old
+        requires may { ScanMayReadMap D.Disk W.World relation self.old map.old warnings.old.items }
+        ensures map_read { ScanReadMap D.Disk W.World relation self.old self.new map.old
             map.new warnings.new.items result }
     {
         let Scan {
@@ -80,9 +79,8 @@ impl<W: World + Send + Sync, D: Disk> Scan<W, D> {
     /// Where no thread can be made the parts run one after the other, the backends first, each of
     /// which executes what no worker has claimed.
     pub fn round<R: Threads + Wait + Sync>(&mut self, rt: &R, jobs: &mut [Job])
-        requires may { ScanMayMakeRound D.Disk W.told W.relations self.old jobs.old }
-        ensures made_round { ScanMadeRound D.Disk W.told W.relations None self.old self.new jobs.old
-            jobs.new }
+        requires may { ScanMayMakeRound D.Disk W.World self.old jobs.old }
+        ensures made_round { ScanMadeRound D.Disk W.World None self.old self.new jobs.old jobs.new }
     {
         self.round_by(rt, None, jobs);
     }
@@ -95,8 +93,8 @@ impl<W: World + Send + Sync, D: Disk> Scan<W, D> {
         map: &VisMap,
         skip: Skip,
     )
-        requires may { ScanMayMakeRound D.Disk W.told W.relations self.old jobs.old }
-        ensures made_round { ScanMadeRound D.Disk W.told W.relations (map_filter map.now skip) self.old
+        requires may { ScanMayMakeRound D.Disk W.World self.old jobs.old }
+        ensures made_round { ScanMadeRound D.Disk W.World (map_filter map.now skip) self.old
             self.new jobs.old jobs.new }
     {
         self.round_by(rt, Some(MapFilter { map, skip }), jobs);

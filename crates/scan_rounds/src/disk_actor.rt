@@ -61,11 +61,10 @@ impl<W: World, D: Disk> DiskActor<W, D> {
         blocks: Blocks<'_>,
         consumer: &mut C,
     ) -> Ending
-        requires may { ActorMayRead D.Disk W.told W.relations shared.now.table self.old desk.old
-            blocks }
+        requires may { ActorMayRead D.Disk W.World shared.now.table self.old desk.old blocks }
         requires few { blocks.count ≤ C.most consumer.old }
         requires held { C.holds consumer.old [] }
-        ensures read { ActorReadBlocks D.Disk W.told W.relations shared.now.table
+        ensures read { ActorReadBlocks D.Disk W.World shared.now.table
             (C.holds consumer.new) self.old self.new desk.old desk.new blocks.entry result }
         ensures stands_on { M.stands_on method.new ≡ M.stands_on method.old }
         ensures kept { C.kept consumer.new ≡ C.kept consumer.old }
@@ -103,13 +102,12 @@ impl<W: World, D: Disk> DiskActor<W, D> {
         blocks: Blocks<'_>,
         consumer: &mut C,
     ) -> (IdleRingState<W>, Ending)
-        requires may { ActorMayRead D.Disk W.told W.relations shared.now.table self.old desk.old
-            blocks }
+        requires may { ActorMayRead D.Disk W.World shared.now.table self.old desk.old blocks }
         requires few { blocks.count ≤ C.most consumer.old }
         requires held { C.holds consumer.old [] }
         requires ring { IsRingOf shared.now.queue ring }
         requires brand { L.queue ≡ Some shared.now.queue }
-        ensures read { ActorReadBlocks D.Disk W.told W.relations shared.now.table
+        ensures read { ActorReadBlocks D.Disk W.World shared.now.table
             (C.holds consumer.new) self.old self.new desk.old desk.new blocks.entry result.1 }
         ensures ring { IsRingOf shared.now.queue result.0 }
         ensures stands_on { M.stands_on method.new ≡ M.stands_on method.old }
@@ -152,12 +150,11 @@ impl<W: World, D: Disk> DiskActor<W, D> {
         blocks: Blocks<'_>,
         consumer: &mut C,
     ) -> Ending
-        requires may { ActorMayRead D.Disk W.told W.relations shared.now.table self.old desk.old
-            blocks }
+        requires may { ActorMayRead D.Disk W.World shared.now.table self.old desk.old blocks }
         requires few { blocks.count ≤ C.most consumer.old }
         requires held { C.holds consumer.old [] }
         requires ring { IfSome ring.old (IsRingOf shared.now.queue) }
-        ensures read { ActorReadBlocks D.Disk W.told W.relations shared.now.table
+        ensures read { ActorReadBlocks D.Disk W.World shared.now.table
             (C.holds consumer.new) self.old self.new desk.old desk.new blocks.entry result }
         ensures ring { IfSome ring.new (IsRingOf shared.now.queue) }
         ensures stands_on { M.stands_on method.new ≡ M.stands_on method.old }
@@ -187,12 +184,10 @@ impl<W: World, D: Disk> DiskActor<W, D> {
         tuples: bool,
         by_map: Option<MapFilter<'_>>,
     )
-        requires may { ActorMayList D.Disk W.told W.relations shared.now.table self.old desk.old
-            job.old }
+        requires may { ActorMayList D.Disk W.World shared.now.table self.old desk.old job.old }
         requires ring { IfSome ring.old (IsRingOf shared.now.queue) }
-        ensures listed { ActorListedJob D.Disk W.told W.relations shared.now.table
-            (filter_of_skipping by_map.entry) tuples self.old self.new desk.old desk.new job.old
-            job.new }
+        ensures listed { ActorListedJob D.Disk W.World shared.now.table (filter_of_skipping
+            by_map.entry) tuples self.old self.new desk.old desk.new job.old job.new }
         ensures ring { IfSome ring.new (IsRingOf shared.now.queue) }
         ensures stands_on { M.stands_on method.new ≡ M.stands_on method.old }
     {
@@ -220,11 +215,11 @@ impl<W: World, D: Disk> DiskActor<W, D> {
         map: &mut VisMap,
         warnings: &mut Vec<u8>,
     ) -> Ending
-        requires may { ActorMayRead D.Disk W.told W.relations shared.now.table self.old desk.old
+        requires may { ActorMayRead D.Disk W.World shared.now.table self.old desk.old
             (map_blocks relation pages) }
         requires pages { pages ≡ map.old.pages }
         requires none { (map.old.added ≡ []) × (warnings.old.items ≡ []) }
-        ensures read { ActorReadBlocks D.Disk W.told W.relations shared.now.table
+        ensures read { ActorReadBlocks D.Disk W.World shared.now.table
             (MapHasPages map.new warnings.new.items) self.old self.new desk.old desk.new
             (map_blocks relation pages) result }
         ensures pages { map.new.pages ≡ map.old.pages }
@@ -252,10 +247,10 @@ impl<W: World, D: Disk> DiskActor<W, D> {
         queue: &SubmitQueue<W>,
         seat: &mut QueueSeat,
     )
-        requires disk_actor { IsDiskActor D.Disk W.told W.relations table.now self.old }
+        requires disk_actor { IsDiskActor D.Disk W.World table.now self.old }
         requires seat { IsSeatOf queue.now seat.old }
-        ensures disk_actor { IsDiskActor D.Disk W.told W.relations table.now self.new }
-        ensures advanced { DiskActorAdvanced D.Disk W.told W.relations table.now self.old self.new }
+        ensures disk_actor { IsDiskActor D.Disk W.World table.now self.new }
+        ensures advanced { DiskActorAdvanced D.Disk W.World table.now self.old self.new }
         ensures seat { IsSeatOf queue.now seat.new }
     {
         let Some(disk) = self.disk.take() else {

@@ -63,8 +63,8 @@ impl<W: World, D: Disk> Scan<W, D> {
     /// Closes the table. The disks come back in the order in which they were handed in. It takes
     /// no memory.
     pub fn finish(self) -> (Totals, Vec<D>)
-        requires scan { IsScan D.Disk W.told W.relations self }
-        ensures finished { IsFinished D.Disk W.told W.relations self.shared.table.config self.unread
+        requires scan { IsScan D.Disk W.World self }
+        ensures finished { IsFinished D.Disk W.World self.shared.table.config self.unread
             (results_taken_count self.backends.items) (opened_disks self) result.1.items
             (known_lists (scan_disk_actors self)) result.0 }
         ensures disks { map Some result.1.items ≡ map disk_of (scan_disk_actors self) }

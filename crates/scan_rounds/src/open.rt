@@ -146,7 +146,7 @@ fn assemble_scan<W: World, D: Disk>(
     requires memory { IsScanMemory settings.now start memory }
     requires disks { length disks.items ≡ required_disks settings.now }
     requires tell { All (λ d. (D.told d ≡ W.told) × (D.relations d ≡ W.relations)) disks.items }
-    ensures { IsOpenedScan D.Disk W.told W.relations settings.now start disks.items result }
+    ensures { IsOpenedScan D.Disk W.World settings.now start disks.items result }
 {
     let opened = Snapshot::of(&disks);
     let lists = memory.lists;
@@ -184,8 +184,7 @@ impl<W: World, D: Disk> Scan<W, D> {
         requires tell { All (λ d. (D.told d ≡ W.told) × (D.relations d ≡ W.relations)) disks.items }
         requires segments { All (λ d. D.segment d ≡ settings.now.segment) disks.items }
         requires handles { settings.now.backends * settings.now.handles ≡ W.handles }
-        ensures opened { IfOk result (IsOpenedScan D.Disk W.told W.relations settings.now 0
-            disks.items) }
+        ensures opened { IfOk result (IsOpenedScan D.Disk W.World settings.now 0 disks.items) }
         ensures disks_returned { IfErr result (λ d. d ≡ disks) }
     {
         Scan::open_at(alloc, settings, disks, 0)
@@ -205,8 +204,7 @@ impl<W: World, D: Disk> Scan<W, D> {
         requires segments { All (λ d. D.segment d ≡ settings.now.segment) disks.items }
         requires handles { settings.now.backends * settings.now.handles ≡ W.handles }
         requires start { start < 2 ^ 58 }
-        ensures opened { IfOk result (IsOpenedScan D.Disk W.told W.relations settings.now start
-            disks.items) }
+        ensures opened { IfOk result (IsOpenedScan D.Disk W.World settings.now start disks.items) }
         ensures disks_returned { IfErr result (λ d. d ≡ disks) }
     {
         match Memory::open(alloc, settings, start) {

@@ -46,7 +46,7 @@ fn take_all<
 ) -> Ending
     requires table { IsActorOf table.now actor.old }
     requires told { (E.told runner.old ≡ W.told) × (E.relations runner.old ≡ W.relations) }
-    requires is_open { IsOpenFor S.left W.told W.relations W.handles stream.old actor.old }
+    requires is_open { IsOpenFor S.left W.World stream.old actor.old }
     requires relation { (stream_view S.left stream.old).relation ≡ relation }
     requires none { (stream_view S.left stream.old).given ≡ 0 }
     requires few { length (stream_view S.left stream.old).blocks ≤ C.most consumer.old }
@@ -59,7 +59,7 @@ fn take_all<
         (stream_entries relation (stream_view S.left stream.old).blocks) (answered_ending result) }
     ensures kept { C.kept consumer.new ≡ C.kept consumer.old }
     ensures stream { IsSameStream (stream_view S.left stream.old) (stream_view S.left stream.new) }
-    ensures is_open { IsOpenFor S.left W.told W.relations W.handles stream.new actor.new }
+    ensures is_open { IsOpenFor S.left W.World stream.new actor.new }
 {
     loop {
         let answer = stream.next(rt, table, actor, method, runner);

@@ -29,9 +29,9 @@ fn next_turn<W: World + Send + Sync, D: Disk, R: Threads + Wait + Sync, A: JobSo
     job_source: &mut A,
     counts: &mut Counts,
 ) -> bool
-    requires may { BackendsMayRunSource D.Disk W.told W.relations shared.now.table shared.now.queue
+    requires may { BackendsMayRunSource D.Disk W.World shared.now.table shared.now.queue
         A.JobSource (filter_of_skipping by_map) backends.old jobs.old job_source.old counts.old }
-    ensures advanced { JobSourceAdvanced D.Disk W.told W.relations shared.now.table shared.now.queue
+    ensures advanced { JobSourceAdvanced D.Disk W.World shared.now.table shared.now.queue
         A.JobSource backends.old backends.new jobs.old jobs.new job_source.old job_source.new
         counts.old counts.new }
     ensures over { result ≡ false → A.is_over job_source.new }
@@ -54,9 +54,9 @@ fn close_queue<W: World, D: Disk, R: Wait>(
     backends: &mut [Backend<W, D>],
     counts: Counts,
 )
-    requires ready { BackendsAreReady D.Disk W.told W.relations shared.now.table shared.now.queue
+    requires ready { BackendsAreReady D.Disk W.World shared.now.table shared.now.queue
         backends.old counts }
-    ensures ready { BackendsAreReady D.Disk W.told W.relations shared.now.table shared.now.queue
+    ensures ready { BackendsAreReady D.Disk W.World shared.now.table shared.now.queue
         backends.new counts }
     ensures disk_actors { map backend_disk_actor backends.new
         ≡ map backend_disk_actor backends.old }
@@ -76,11 +76,10 @@ pub(crate) fn make_round<W: World + Send + Sync, D: Disk, R: Threads + Wait + Sy
     jobs: &mut [Job],
     counts: &mut Counts,
 )
-    requires may { BackendsMayTakeTurn D.Disk W.told W.relations shared.now.table shared.now.queue 1
+    requires may { BackendsMayTakeTurn D.Disk W.World shared.now.table shared.now.queue 1
         backends.old jobs.old counts.old }
-    ensures taken { TurnTaken D.Disk W.told W.relations shared.now.table shared.now.queue
-        (filter_of_skipping by_map.entry) 1 backends.old backends.new jobs.old jobs.new counts.old
-        counts.new }
+    ensures taken { TurnTaken D.Disk W.World shared.now.table shared.now.queue (filter_of_skipping
+        by_map.entry) 1 backends.old backends.new jobs.old jobs.new counts.old counts.new }
     ensures closed { IsClosedByFirst shared.now.queue backends.new }
 {
     take_turn(rt, shared, by_map, 1, backends, jobs, counts);
@@ -103,9 +102,9 @@ pub(crate) fn all_rounds<
     job_source: &mut A,
     counts: &mut Counts,
 )
-    requires may { BackendsMayRunSource D.Disk W.told W.relations shared.now.table shared.now.queue
+    requires may { BackendsMayRunSource D.Disk W.World shared.now.table shared.now.queue
         A.JobSource (filter_of_skipping by_map) backends.old jobs.old job_source.old counts.old }
-    ensures advanced { JobSourceAdvanced D.Disk W.told W.relations shared.now.table shared.now.queue
+    ensures advanced { JobSourceAdvanced D.Disk W.World shared.now.table shared.now.queue
         A.JobSource backends.old backends.new jobs.old jobs.new job_source.old job_source.new
         counts.old counts.new }
     ensures over { A.is_over job_source.new }

@@ -43,8 +43,8 @@ impl<W: World + Send + Sync, D: Disk> Scan<W, D> {
         by_map: Option<MapFilter<'_>>,
         jobs: &mut [Job],
     )
-        requires may { ScanMayMakeRound D.Disk W.told W.relations self.old jobs.old }
-        ensures made_round { ScanMadeRound D.Disk W.told W.relations
+        requires may { ScanMayMakeRound D.Disk W.World self.old jobs.old }
+        ensures made_round { ScanMadeRound D.Disk W.World
             (filter_of_skipping by_map.entry) self.old self.new jobs.old jobs.new }
     {
         let Scan {
@@ -77,9 +77,9 @@ impl<W: World + Send + Sync, D: Disk> Scan<W, D> {
         by_map: Option<MapFilter<'_>>,
         mut job_source: A,
     ) -> A
-        requires may { ScanMayRunSource D.Disk W.told W.relations A.JobSource
+        requires may { ScanMayRunSource D.Disk W.World A.JobSource
             (filter_of_skipping by_map) self.old job_source }
-        ensures ran_source { ScanRanSource D.Disk W.told W.relations A.JobSource self.old self.new
+        ensures ran_source { ScanRanSource D.Disk W.World A.JobSource self.old self.new
             job_source result }
     {
         let Scan {

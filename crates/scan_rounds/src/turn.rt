@@ -28,10 +28,10 @@ fn do_jobs<W: World, D: Disk, R: Wait>(
     backend: &mut Backend<W, D>,
     jobs: &mut [Job],
 )
-    requires may { BackendsMayDoJobs D.Disk W.told W.relations shared.now.table shared.now.queue
+    requires may { BackendsMayDoJobs D.Disk W.World shared.now.table shared.now.queue
         share (backend.old ∷ []) jobs.old }
     requires few { length jobs.old ≤ share }
-    ensures done { BackendsDidJobs D.Disk W.told W.relations shared.now.table shared.now.queue
+    ensures done { BackendsDidJobs D.Disk W.World shared.now.table shared.now.queue
         (filter_of_skipping by_map.entry) (64 * share) (backend.old ∷ []) (backend.new ∷ [])
         jobs.old jobs.new }
     ensures alone { ListedAlone W.told (filter_of_skipping by_map.entry) backend.old backend.new
@@ -55,10 +55,10 @@ fn do_shares<W: World + Send + Sync, D: Disk, R: Threads + Wait + Sync>(
     backends: &mut [Backend<W, D>],
     jobs: &mut [Job],
 )
-    requires may { BackendsMayDoShares D.Disk W.told W.relations shared.now.table shared.now.queue
+    requires may { BackendsMayDoShares D.Disk W.World shared.now.table shared.now.queue
         share.now backends.old jobs.old }
-    ensures done { SharesDone D.Disk W.told W.relations shared.now.table shared.now.queue
-        (filter_of_skipping by_map.entry.now) share.now backends.old backends.new jobs.old jobs.new }
+    ensures done { SharesDone D.Disk W.World shared.now.table shared.now.queue (filter_of_skipping
+        by_map.entry.now) share.now backends.old backends.new jobs.old jobs.new }
 {
     if backends.len() == 1 {
         do_jobs(rt, shared, *by_map, *share, &mut backends[0], jobs);
@@ -85,28 +85,28 @@ fn do_halves<'a, W: World + Send + Sync, D: Disk, R: Threads + Wait + Sync>(
     others: &'a mut [Backend<W, D>],
     rest: &'a mut [Job],
 )
-    requires first { BackendsMayDoShares D.Disk W.told W.relations shared.now.table shared.now.queue
+    requires first { BackendsMayDoShares D.Disk W.World shared.now.table shared.now.queue
         share.now first.old front.old }
-    requires others { BackendsMayDoShares D.Disk W.told W.relations shared.now.table
+    requires others { BackendsMayDoShares D.Disk W.World shared.now.table
         shared.now.queue share.now others.old rest.old }
-    ensures first { SharesDone D.Disk W.told W.relations shared.now.table shared.now.queue
+    ensures first { SharesDone D.Disk W.World shared.now.table shared.now.queue
         (filter_of_skipping by_map.entry.now) share.now first.old first.new front.old front.new }
-    ensures others { SharesDone D.Disk W.told W.relations shared.now.table shared.now.queue
+    ensures others { SharesDone D.Disk W.World shared.now.table shared.now.queue
         (filter_of_skipping by_map.entry.now) share.now others.old others.new rest.old rest.new }
 {
     let mut own = ||
-        requires { IsSync R.row × BackendsMayDoShares D.Disk W.told W.relations shared.now.table
+        requires { IsSync R.row × BackendsMayDoShares D.Disk W.World shared.now.table
             shared.now.queue share.now first.now front.now }
-        ensures { SharesDone D.Disk W.told W.relations shared.entry.now.table
-            shared.entry.now.queue (filter_of_skipping by_map.entry.now) share.entry.now first.entry.now
-            first.exit.now front.entry.now front.exit.now }
+        ensures { SharesDone D.Disk W.World shared.entry.now.table shared.entry.now.queue
+            (filter_of_skipping by_map.entry.now) share.entry.now first.entry.now first.exit.now
+            front.entry.now front.exit.now }
     { do_shares(rt, shared, by_map, share, first, front) };
     let mut beside = ||
-        requires { IsSync R.row × BackendsMayDoShares D.Disk W.told W.relations shared.now.table
+        requires { IsSync R.row × BackendsMayDoShares D.Disk W.World shared.now.table
             shared.now.queue share.now others.now rest.now }
-        ensures { SharesDone D.Disk W.told W.relations shared.entry.now.table
-            shared.entry.now.queue (filter_of_skipping by_map.entry.now) share.entry.now others.entry.now
-            others.exit.now rest.entry.now rest.exit.now }
+        ensures { SharesDone D.Disk W.World shared.entry.now.table shared.entry.now.queue
+            (filter_of_skipping by_map.entry.now) share.entry.now others.entry.now others.exit.now
+            rest.entry.now rest.exit.now }
     { do_shares(rt, shared, by_map, share, others, rest) };
     thread::join_mut(rt, &mut own, &mut beside);
 }
@@ -122,11 +122,10 @@ pub(crate) fn take_turn<W: World + Send + Sync, D: Disk, R: Threads + Wait + Syn
     jobs: &mut [Job],
     counts: &mut Counts,
 )
-    requires may { BackendsMayTakeTurn D.Disk W.told W.relations shared.now.table shared.now.queue
+    requires may { BackendsMayTakeTurn D.Disk W.World shared.now.table shared.now.queue
         share backends.old jobs.old counts.old }
-    ensures { TurnTaken D.Disk W.told W.relations shared.now.table shared.now.queue
-        (filter_of_skipping by_map.entry) share backends.old backends.new jobs.old jobs.new
-        counts.old counts.new }
+    ensures { TurnTaken D.Disk W.World shared.now.table shared.now.queue (filter_of_skipping
+        by_map.entry) share backends.old backends.new jobs.old jobs.new counts.old counts.new }
 {
     do_shares(rt, shared, &by_map, &share, backends, jobs);
     counts.room = least_room(backends);

@@ -28,9 +28,8 @@ impl<W: World, D: Disk> HasDiskActor<W, D> for Worker<W, D> {
 impl<W: World, D: Disk> Worker<W, D> {
     /// Executes what the queue hands out, until it is closed and empty.
     pub(crate) fn run<T: Wait>(&mut self, rt: &T, shared: &SharedState<W>)
-        requires { IsWorker D.Disk W.told W.relations shared.now.table shared.now.queue self.old }
-        ensures { WorkerServed D.Disk W.told W.relations shared.now.table shared.now.queue self.old
-            self.new }
+        requires { IsWorker D.Disk W.World shared.now.table shared.now.queue self.old }
+        ensures { WorkerServed D.Disk W.World shared.now.table shared.now.queue self.old self.new }
     {
         self.disk_actor.serve(
             rt,

@@ -47,11 +47,11 @@ fn round_by_map<W: World + Send + Sync, D: Disk, R: Threads + Wait + Sync>(
     skip: Option<Skip>,
     jobs: &mut [Job],
 )
-    requires scan { IsScan D.Disk W.told W.relations scan.old }
+    requires scan { IsScan D.Disk W.World scan.old }
     requires few { (1 ≤ length jobs.old) × (length jobs.old ≤ length scan.old.backends.items) }
     requires fresh { All (IsNewJob W.relations) jobs.old }
     requires room { 64 ≤ scan.old.room }
-    ensures scan { IsScan D.Disk W.told W.relations scan.new }
+    ensures scan { IsScan D.Disk W.World scan.new }
 {
     match skip {
         Some(skip) => scan.round_filtered(rt, jobs, map, skip),
@@ -68,9 +68,9 @@ fn list_round<W: World + Send + Sync, D: Disk, R: Threads + Wait + Sync>(
     blocks: Blocks,
     skip: Option<Skip>,
 ) -> Result<JobResult, Fail>
-    requires scan { IsScan D.Disk W.told W.relations scan.old }
+    requires scan { IsScan D.Disk W.World scan.old }
     requires two { W.relations ≡ 2 }
-    ensures scan { IsScan D.Disk W.told W.relations scan.new }
+    ensures scan { IsScan D.Disk W.World scan.new }
 {
     let (first, count) = blocks;
     if count < 1 || count > 64 || first > 100000 || scan.room() < 64 || scan.backend_count() < 1 {
@@ -104,9 +104,9 @@ fn list_rounds<W: World + Send + Sync, D: Disk, R: Threads + Wait + Sync>(
     blocks: Blocks,
     rounds: &[Option<Skip>],
 ) -> Result<Vec<JobResult>, Fail>
-    requires scan { IsScan D.Disk W.told W.relations scan.old }
+    requires scan { IsScan D.Disk W.World scan.old }
     requires two { W.relations ≡ 2 }
-    ensures scan { IsScan D.Disk W.told W.relations scan.new }
+    ensures scan { IsScan D.Disk W.World scan.new }
 {
     let mut all = Vec::new(alloc);
     for skip in rounds {
@@ -123,9 +123,9 @@ fn read_and_list<W: World + Send + Sync, D: Disk, R: Threads + Wait + Sync>(
     asked: MapScanRequest,
     rounds: &[Option<Skip>],
 ) -> Result<MapScanResult, Fail>
-    requires scan { IsScan D.Disk W.told W.relations scan.old }
+    requires scan { IsScan D.Disk W.World scan.old }
     requires two { W.relations ≡ 2 }
-    ensures scan { IsScan D.Disk W.told W.relations scan.new }
+    ensures scan { IsScan D.Disk W.World scan.new }
 {
     if asked.pages > 65 || scan.room() < 65 {
         return Err(Fail::from("no map"));

@@ -106,7 +106,7 @@ pub(crate) fn open_scan<W: World, D: Disk>(
     requires segments { All (λ d. D.segment d ≡ settings.now.segment) disks.items }
     requires handles { settings.now.backends * settings.now.handles ≡ W.handles }
     requires start { IfSome start (λ s. s < 2 ^ 58) }
-    ensures { IfOk result (λ s. IsScan D.Disk W.told W.relations s) }
+    ensures { IfOk result (λ s. IsScan D.Disk W.World s) }
 {
     let opened = match start {
         Some(start) => Scan::open_at(alloc, settings, disks, start),

@@ -76,9 +76,9 @@ fn list_round<W: World + Send + Sync, D: Disk, R: Threads + Wait + Sync>(
     round: &[Blocks],
     all: &mut Vec<JobResult>,
 ) -> Result<(), Fail>
-    requires scan { IsScan D.Disk W.told W.relations scan.old }
+    requires scan { IsScan D.Disk W.World scan.old }
     requires one { W.relations ≡ 1 }
-    ensures scan { IsScan D.Disk W.told W.relations scan.new }
+    ensures scan { IsScan D.Disk W.World scan.new }
 {
     let mut jobs = jobs_for(alloc, round)?;
     if jobs.is_empty() || jobs.len() > scan.backend_count() || scan.room() < 64 {
@@ -111,9 +111,9 @@ fn list_rounds<W: World + Send + Sync, D: Disk, R: Threads + Wait + Sync>(
     rounds: &[Vec<Blocks>],
     all: &mut Vec<JobResult>,
 ) -> Result<(), Fail>
-    requires scan { IsScan D.Disk W.told W.relations scan.old }
+    requires scan { IsScan D.Disk W.World scan.old }
     requires one { W.relations ≡ 1 }
-    ensures scan { IsScan D.Disk W.told W.relations scan.new }
+    ensures scan { IsScan D.Disk W.World scan.new }
 {
     for round in rounds {
         list_round(rt, alloc, scan, round.as_slice(), all)?;

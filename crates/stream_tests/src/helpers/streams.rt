@@ -37,11 +37,11 @@ pub(crate) fn take_answers<W: World, E: Execute<ReadIo, W>, T: Wait>(
 ) -> Result<(), AllocError>
     requires table { IsActorOf table.now actor.old }
     requires told { (E.told runner.old ≡ W.told) × (E.relations runner.old ≡ W.relations) }
-    requires is_open { IsOpenFor (λ r. r) W.told W.relations W.handles stream.old actor.old }
+    requires is_open { IsOpenFor (λ r. r) W.World stream.old actor.old }
     requires handles { 0 < W.handles }
     ensures same { IsSameActor actor.old actor.new }
     ensures told { (E.told runner.new ≡ W.told) × (E.relations runner.new ≡ W.relations) }
-    ensures is_open { IsOpenFor (λ r. r) W.told W.relations W.handles stream.new actor.new }
+    ensures is_open { IsOpenFor (λ r. r) W.World stream.new actor.new }
 {
     for _ in 0..calls {
         all.push(answer_of(stream.next(rt, table, actor, method, runner)))?;

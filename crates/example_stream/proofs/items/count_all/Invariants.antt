@@ -11,7 +11,7 @@ invariant-loop-more g l = record {
   told : (g.E.Execute.told l.runner ≡ g.W.World.told)
       × (g.E.Execute.relations l.runner ≡ g.W.World.relations);
   same : IsSameActor l.fn.actor l.actor;
-  is_open : IsOpenFor (λ r. r) g.W.World.told g.W.World.relations g.W.World.handles l.stream
+  is_open : IsOpenFor (λ r. r) g.W.World l.stream
       l.actor;
   stream : IsSameStream (stream_view (λ r. r) l.fn.stream) (stream_view (λ r. r) l.stream);
   given : (stream_view (λ r. r) l.stream).given ≡ l.pages;

@@ -72,8 +72,8 @@ loop-claimed-preserved g c =
       same = (same.0 ∙ i.same.0, same.1 ∙ i.same.1, same.2 ∙ i.same.2);
       told = told.0 ∙ i.told;
       relations = told.1 ∙ i.relations;
-      holds = subst (λ (hs : List ClaimedIo). AllClaimedIos g.W.World.told g.W.World.relations q hs)
-          (sym k.others) (held-without g.W.World.told g.W.World.relations p q k.user
+      holds = subst (λ (hs : List ClaimedIo). AllClaimedIos g.W.World q hs)
+          (sym k.others) (held-without g.W.World p q k.user
           c.loop-claimed.group.claimed_ios k.from k.was_claimed
           (λ t ne. c.complete.ensures.other_claims_unchanged t (λ e. ne (e ∙ k.reference_is)))
           i.holds);

@@ -10,7 +10,7 @@ invariant-loop-claimed g l = record {
   same : IsSameActor l.fn.actor l.actor;
   told : g.G.Ring.told l.group.ring ≡ g.G.Ring.told l.fn.group.ring;
   relations : g.G.Ring.relations l.group.ring ≡ g.G.Ring.relations l.fn.group.ring;
-  holds : AllClaimedIos g.W.World.told g.W.World.relations l.actor.known l.group.claimed_ios;
+  holds : AllClaimedIos g.W.World l.actor.known l.group.claimed_ios;
   finishes : CompletesGroup g.W.World.told l.fn.group.claimed_ios l.group.claimed_ios
       l.fn.actor.known l.actor.known
       (g.P.Places.finished l.fn.places) (g.P.Places.finished l.places)

@@ -16,7 +16,7 @@ loop-popped-init g c = record {
   relations = refl;
   reads = refl;
   faults = refl;
-  gathers = gathers-none g.W.World.told g.W.World.relations c.args.actor.now.known
+  gathers = gathers-none g.W.World c.args.actor.now.known
       c.args.group.now.claimed_ios
       (subst (λ (n : ℕ). NumbersBelow n c.args.group.now.claimed_ios) (sym c.requires.one_claimed)
       c.requires.numbers)
@@ -45,7 +45,7 @@ loop-popped-preserved g c =
       relations = told.1 ∙ i.relations;
       reads = counts.0 ∙ i.reads;
       faults = counts.1 ∙ i.faults;
-      gathers = gathers-then g.W.World.told g.W.World.relations c.loop-popped.popped 1 p q r
+      gathers = gathers-then g.W.World c.loop-popped.popped 1 p q r
           c.args.group.now.claimed_ios c.loop-popped.group.claimed_ios c.join.new.group.claimed_ios
           i.gathers now;
       pops = pops-one c.loop-popped.popped word c.in-Entry.reference

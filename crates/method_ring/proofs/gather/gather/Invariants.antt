@@ -14,7 +14,7 @@ invariant-loop-popped g l = record {
   relations : g.G.Ring.relations l.group.ring ≡ g.G.Ring.relations l.fn.group.ring;
   reads : g.G.Ring.reads l.group.ring ≡ g.G.Ring.reads l.fn.group.ring;
   faults : g.G.Ring.faults l.group.ring ≡ g.G.Ring.faults l.fn.group.ring;
-  gathers : GathersIos g.W.World.told g.W.World.relations l.popped l.fn.actor.known l.actor.known
+  gathers : GathersIos g.W.World l.popped l.fn.actor.known l.actor.known
       l.fn.group.claimed_ios l.group.claimed_ios;
   pops : PopsReferences l.popped l.fn.seat l.seat l.fn.actor.known l.actor.known;
 }

@@ -1,12 +1,12 @@
-use Rattle.std.proofs.Common.{◌≡◌, ◌-◌, arith, refl, sym, ◌∙◌, ap}
+use Rattle.std.proofs.Common.{◌≡◌, ◌-◌, arith, sym, ◌∙◌, ap}
 use Rattle.aio_result.specs.declared.AioResult.{AioResult}
 use Rattle.aio_callback.specs.ReadIoView.{ReadIoView}
 use Rattle.aio_callback.specs.StreamOutcomes.{stream_ids}
 use Rattle.read_stream.proofs.PartCases.{ids_zero, part_rest, part_invalid, part_unread, part_past}
 use Rattle.read_stream.proofs.parts.part_of.Goals as goal
 
-pub returns-then-index-good : goal.returns-then-index-good
-returns-then-index-good g c =
+pub returns-then-index-good-clause-part : goal.returns-then-index-good-clause-part
+returns-then-index-good-clause-part g c =
     let io : ReadIoView = c.args.io.now in
     let law = c.stream_records_end_in_six_ways.ensures in
     let (zero, ids) = c.requires.ids in
@@ -19,8 +19,8 @@ returns-then-index-good g c =
           c.requires.has_ended off (c.args.block - io.first)),
     )
 
-pub returns-then-result-eq2 : goal.returns-then-result-eq2
-returns-then-result-eq2 g c =
+pub returns-then-result-eq2-clause-part : goal.returns-then-result-eq2-clause-part
+returns-then-result-eq2-clause-part g c =
     let io : ReadIoView = c.args.io.now in
     let law = c.stream_records_end_in_six_ways.ensures in
     let (zero, ids) = c.requires.ids in
@@ -37,10 +37,10 @@ returns-then-result-eq2 g c =
     let both = part_invalid zero g.W.World.told io c.args.block c.requires.covers_block case
     (omega arith)
     (ap (λ (z : AioResult). z.status) (sym is) ∙ c.in-Error.is) (omega arith) in
-    (refl, ids ∙ ap stream_ids both.0, both.1)
+    (ids ∙ ap stream_ids both.0, both.1)
 
-pub returns-then-result-eq1 : goal.returns-then-result-eq1
-returns-then-result-eq1 g c =
+pub returns-then-result-eq1-clause-part : goal.returns-then-result-eq1-clause-part
+returns-then-result-eq1-clause-part g c =
     let io : ReadIoView = c.args.io.now in
     let law = c.stream_records_end_in_six_ways.ensures in
     let (zero, ids) = c.requires.ids in
@@ -60,10 +60,10 @@ returns-then-result-eq1 g c =
     (omega arith)
     (ap (λ (z : AioResult). z.status) (sym is) ∙ c.in-Error.is) (λ e. two (id ∙ e))
     (omega arith) in
-    (refl, both.0, both.1)
+    both
 
-pub returns-else-result-eq1 : goal.returns-else-result-eq1
-returns-else-result-eq1 g c =
+pub returns-else-result-eq1-clause-part : goal.returns-else-result-eq1-clause-part
+returns-else-result-eq1-clause-part g c =
     let io : ReadIoView = c.args.io.now in
     let law = c.stream_records_end_in_six_ways.ensures in
     let (zero, ids) = c.requires.ids in
@@ -78,15 +78,13 @@ returns-else-result-eq1 g c =
     let two = c.if-result-eq2.false in
     let one = c.if-result-eq1.false in
     let below = c.if-index-good.false in
-    let above = c.if-index-good-2.false in (
-      refl,
-      part_past zero g.W.World.told io c.args.block c.requires.covers_block case (omega arith)
-          (ap (λ (z : AioResult). z.status) (sym is) ∙ c.in-Error.is) (λ e. two (id ∙ e))
-          (λ e. one (er ∙ e)),
-    )
+    let above = c.if-index-good-2.false in
+    part_past zero g.W.World.told io c.args.block c.requires.covers_block case (omega arith)
+    (ap (λ (z : AioResult). z.status) (sym is) ∙ c.in-Error.is) (λ e. two (id ∙ e))
+    (λ e. one (er ∙ e))
 
-pub returns-in_default : goal.returns-in_default
-returns-in_default g c =
+pub returns-in_default-clause-rest : goal.returns-in_default-clause-rest
+returns-in_default-clause-rest g c =
     let io : ReadIoView = c.args.io.now in
     let law = c.stream_records_end_in_six_ways.ensures in
     let (zero, ids) = c.requires.ids in

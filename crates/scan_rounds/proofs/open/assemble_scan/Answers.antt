@@ -76,4 +76,4 @@ returns g c =
       actors_fit = memory.lists.actors_fit;
       disks_fit = memory.lists.disks_fit;
     }
-    _ _ _ c.args.disks.items opened c.requires.tell
+    _ _ c.args.disks.items opened c.requires.tell

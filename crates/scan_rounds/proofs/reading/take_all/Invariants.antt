@@ -13,8 +13,7 @@ invariant-loop-ending g l = record {
       × (g.E.Execute.relations l.runner ≡ g.W.World.relations);
   advanced : CallAdvanced g.E.Execute g.M.Method l.fn.actor l.actor l.fn.runner l.runner
       l.fn.method l.method;
-  is_open : IsOpenFor g.S.BlockSource.left g.W.World.told g.W.World.relations
-      g.W.World.handles l.stream l.actor;
+  is_open : IsOpenFor g.S.BlockSource.left g.W.World l.stream l.actor;
   stream : IsSameStream (stream_view g.S.BlockSource.left l.fn.stream)
       (stream_view g.S.BlockSource.left l.stream);
   most : g.C.Consumer.most l.consumer ≡ g.C.Consumer.most l.fn.consumer;

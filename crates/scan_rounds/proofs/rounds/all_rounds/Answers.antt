@@ -33,7 +33,7 @@ loop-backends-preserved g c = record {
 pub returns-then-not-next_turn-clause-advanced : goal.returns-then-not-next_turn-clause-advanced
 returns-then-not-next_turn-clause-advanced g c =
     let closed = c.close_queue.ensures in
-    rounds_closed _ _ _ _ _ _ _ _ _ _ _ _ closed.disk_actors closed.ready closed.options
+    rounds_closed _ _ _ _ _ _ _ _ _ _ _ closed.disk_actors closed.ready closed.options
     (rounds_then g.met.A.JobSource.follows_on c.loop-backends.invariant.advanced
     c.next_turn.ensures.advanced (search rules))
 

@@ -4,7 +4,7 @@ use Rattle.scan_rounds.proofs.rounds.all_rounds.Given as goal
 
 abbrev pub invariant-loop-backends : goal.invariant-loop-backends
 invariant-loop-backends g l = record {
-  advanced : JobSourceAdvanced g.D.Disk g.W.World.told g.W.World.relations l.shared.table
+  advanced : JobSourceAdvanced g.D.Disk g.W.World l.shared.table
       l.shared.queue g.A.JobSource l.fn.backends l.backends l.fn.jobs l.jobs l.fn.job_source
       l.job_source l.fn.counts l.counts;
   many : (1 ≤ l.many) × (l.many ≤ length l.jobs) × (length l.backends ≤ l.many);

@@ -9,7 +9,7 @@ use Rattle.scan_rounds.proofs.rounds.close_queue.Goals as goal
 pub returns-clause-ready : goal.returns-clause-ready
 returns-clause-ready g c =
     let r = c.close.ensures.rest in
-    first_closed _ _ _ _ _ c.args.backends.now _ c.close.new.self c.args.counts
+    first_closed _ _ _ _ c.args.backends.now _ c.close.new.self c.args.counts
     c.requires.ready (get_or_default _ 0 _ _ c.requires.ready.some) r.0 r.1 r.3
     c.close.ensures.seat c.close.ensures.seat_kept
 

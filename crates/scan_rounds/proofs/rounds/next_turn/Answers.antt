@@ -44,7 +44,7 @@ returns-clause-advanced g c =
     c.split_at_mut-front.result.0.now) may.filter_is in
     record {
       ready = e.ready;
-      backends = many_actors _ _ _ _ _ _ e.actors_advanced;
+      backends = many_actors _ _ _ _ _ e.actors_advanced;
       places = search rules;
       actors_advanced = e.actors_advanced;
       all_have_options = e.all_have_options _ may.all_have_options;

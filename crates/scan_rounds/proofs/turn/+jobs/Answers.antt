@@ -17,7 +17,7 @@ list-requires-clause-room g t c κs within =
 pub do_jobs-requires-clause-may : goal.do_jobs-requires-clause-may
 do_jobs-requires-clause-may g t c κs within =
     let both = c.in-Some.ensures.cases in
-    may_later _ _ _ _ _ c.args.backend.now c.list.new.self c.in-Some.job.now c.list.new.job
+    may_later _ _ _ _ c.args.backend.now c.list.new.self c.in-Some.job.now c.list.new.job
     c.list.ensures.did_job c.args.share c.in-Some.later.now
     (omega (arith, both.1, c.requires.few)) (rw (sym both.0) c.requires.may)
 
@@ -26,17 +26,17 @@ returns-in-Some g t c =
     let both = c.in-Some.ensures.cases in
     let own = c.args.backend.now in
     let did = c.list.ensures.did_job in record {
-      done = rw both.0 (one_then _ _ _ _ _ own _ _ _ did (64 * (c.args.share - 1))
+      done = rw both.0 (one_then _ _ _ _ own _ _ _ did (64 * (c.args.share - 1))
           (64 * c.args.share) _ _ _ (omega (arith, both.1, c.requires.few))
           c.do_jobs.ensures.done);
-      alone = rw both.0 (one_alone _ _ _ _ _ own _ _ _ did _ _ _ c.do_jobs.ensures.backend_same
+      alone = rw both.0 (one_alone _ _ _ _ own _ _ _ did _ _ _ c.do_jobs.ensures.backend_same
           c.do_jobs.ensures.done.jobs_are);
       backend_same = λ none. absurd (omega (arith, both.1));
     }
 
 pub returns-in_default : goal.returns-in_default
 returns-in_default g t c = record {
-  done = none_done _ _ _ _ _ (64 * c.args.share) c.args.backend.now c.args.jobs.now
+  done = none_done _ _ _ _ (64 * c.args.share) c.args.backend.now c.args.jobs.now
       c.in_default.ensures.cases (c.requires.may.backends 0 c.args.backend.now (omega arith));
   alone = none_listed c.args.backend.now c.args.jobs.now c.in_default.ensures.cases;
   backend_same = λ none. refl;

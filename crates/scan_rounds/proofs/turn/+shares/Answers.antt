@@ -7,14 +7,14 @@ use Rattle.scan_rounds.proofs.turn.+shares.Goals as goal
 
 pub do_shares-do_jobs-requires-clause-may : goal.do_shares-do_jobs-requires-clause-may
 do_shares-do_jobs-requires-clause-may g t c κs within =
-    may_alone _ _ _ _ _ c.args.share.now c.args.backends.now _ c.args.jobs.now c.if-backends-eq1.true
+    may_alone _ _ _ _ c.args.share.now c.args.backends.now _ c.args.jobs.now c.if-backends-eq1.true
     c.requires.may
 
 pub do_shares-returns-then-backends-eq1 : goal.do_shares-returns-then-backends-eq1
 do_shares-returns-then-backends-eq1 g t c =
     let may = c.requires.may in
     let same = ap (λ (n : ℕ). c.args.share.now * n) c.if-backends-eq1.true in record {
-      done = alone_done _ _ _ _ _ c.args.share.now c.args.backends.now _ _ c.args.jobs.now _
+      done = alone_done _ _ _ _ c.args.share.now c.args.backends.now _ _ c.args.jobs.now _
           c.if-backends-eq1.true (omega (arith, may.fit)) c.do_jobs.ensures.done
           c.do_jobs.ensures.alone;
     }
@@ -23,7 +23,7 @@ pub do_shares-do_halves-requires-clause-first : goal.do_shares-do_halves-require
 do_shares-do_halves-requires-clause-first g t c κs within =
     let backends = c.split_at_mut-first.result in
     let jobs = c.split_at_mut-front.result in
-    may_front _ _ _ _ _ c.args.share.now backends.0.now backends.1.now jobs.0.now jobs.1.now
+    may_front _ _ _ _ c.args.share.now backends.0.now backends.1.now jobs.0.now jobs.1.now
     (grind arith) (grind arith)
     (rw (sym c.split_at_mut-first.ensures.value, sym c.split_at_mut-front.ensures.value)
     c.requires.may)
@@ -33,7 +33,7 @@ do_shares-do_halves-requires-clause-others g t c κs within =
     let backends = c.split_at_mut-first.result in
     let jobs = c.split_at_mut-front.result in
     let both = mul-add c.args.share.now (length backends.0.now) (length backends.1.now) in
-    may_back _ _ _ _ _ c.args.share.now backends.0.now backends.1.now jobs.0.now jobs.1.now
+    may_back _ _ _ _ c.args.share.now backends.0.now backends.1.now jobs.0.now jobs.1.now
     (grind arith) (grind arith)
     (rw (sym c.split_at_mut-first.ensures.value, sym c.split_at_mut-front.ensures.value)
     c.requires.may)
@@ -41,7 +41,7 @@ do_shares-do_halves-requires-clause-others g t c κs within =
 pub do_shares-returns : goal.do_shares-returns
 do_shares-returns g t c = record {
   done = rw (c.split_at_mut-first.ensures.value, c.split_at_mut-front.ensures.value)
-      (done_together _ _ _ _ _ c.args.share.now _ _ _ _ _ _ _ _ (grind arith)
+      (done_together _ _ _ _ c.args.share.now _ _ _ _ _ _ _ _ (grind arith)
       (λ less. nil_from_length c.split_at_mut-front.result.1.now (grind arith))
       c.do_halves.ensures.first c.do_halves.ensures.others);
 }

@@ -26,22 +26,22 @@ returns g c =
     let ready = c.requires.may.ready in
     let done = c.do_shares.ensures.done.done in
     let least = c.least_room-counts.ensures.least in
-    let many = backends_many _ _ _ _ _ _ _ _ done.backends in record {
+    let many = backends_many _ _ _ _ _ _ _ done.backends in record {
       ready = record {
         some = omega (arith, many, ready.some);
-        backends = still_backends _ _ _ _ _ _ _ _ done.backends;
+        backends = still_backends _ _ _ _ _ _ _ done.backends;
         room = least;
         few_unread = raised_within _ _ _ _ _ c.count_unread-counts.ensures ready.few_unread done.unread;
       };
-      actors_advanced = actors_advanced _ _ _ _ _ _ _ _ done.backends;
-      all_have_options = options_kept _ _ _ _ _ _ _ _ done.backends;
+      actors_advanced = actors_advanced _ _ _ _ _ _ _ done.backends;
+      all_have_options = options_kept _ _ _ _ _ _ _ done.backends;
       answered = λ how all.
           (let answered = done.answered how all in record {
             as_many = zip-length _ _ _ answered;
             each = λ i j lt. zip-at _ _ _ i j j answered lt;
           });
       by_place = c.do_shares.ensures.done.by_place;
-      room = room_falls _ _ _ _ _ _ _ _ done.backends _ _ ready.backends ready.room least;
+      room = room_falls _ _ _ _ _ _ _ done.backends _ _ ready.backends ready.room least;
       unread = c.count_unread-counts.ensures;
       results_bound = done.results_bound;
     }

@@ -1,6 +1,6 @@
-use Rattle.std.proofs.Common.{◌≡◌, ◌∷◌, subst, ap, arith, length}
+use Rattle.std.proofs.Common.{◌≡◌, subst, ap, arith, length}
 use Rattle.std.specs.Prelude.{Some, IfSome}
-use Rattle.read_stream.specs.PagesAtHand.{count_some}
+use Rattle.read_stream.specs.AtHand.{count_some}
 use Rattle.aio_callback.specs.ReadIoView.{ReadIoView}
 use Rattle.read_stream.specs.declared.reads.Reads.{Reads}
 use Rattle.read_stream.proofs.QueueMovesKeepIssued.{more-free}
@@ -12,10 +12,10 @@ finish-requires-clause-issued g c =
     let s : Reads W = c.args.self.now.reads in
     let io : ReadIoView = c.in-Some.io in
     let all = c.requires.all in
-    let now : c.args.current ≡ Some io = c.in-Some.is in
-    let one : count_some c.args.current ≡ 1 = ap (λ z. count_some z) now in
+    let now : c.args.taken ≡ Some io = c.in-Some.is in
+    let one : count_some c.args.taken ≡ 1 = ap (λ z. count_some z) now in
     let fits : length io.pages ≡ c.args.scope.now.combine =
     subst (λ z. IfSome z (λ x. length x.pages ≡ c.args.scope.now.combine)) now
-    c.requires.current in
-    rw c.release.ensures (more-free c.args.scope.now g.W.World.told g.W.World.relations
+    c.requires.taken in
+    rw c.release.ensures (more-free c.args.scope.now g.W.World
     c.args.context.now.actor.now.known s io (omega arith) fits c.requires.issued)

@@ -15,15 +15,15 @@ pub returns-in-Some-clause-handle_handed_out : goal.returns-in-Some-clause-handl
 returns-in-Some-clause-handle_handed_out g c = c.in-Some.ensures.handle_handed_out _ _
 
 pub submit-requires-clause-issued : goal.submit-requires-clause-issued
-submit-requires-clause-issued g c = subst (λ (z : ActorView). Issued c.args.scope.now g.W.World.told
-    g.W.World.relations z.known c.args.self.now) (sym c.in_default.ensures.none.0) c.requires.issued
+submit-requires-clause-issued g c = subst (λ (z : ActorView). Issued c.args.scope.now g.W.World
+    z.known c.args.self.now) (sym c.in_default.ensures.none.0) c.requires.issued
 
 pub returns-clause-handle_handed_out : goal.returns-clause-handle_handed_out
 returns-clause-handle_handed_out g c =
     let p : Known = c.args.context.now.actor.now.known in
     let q : Known = c.submit.new.context.actor.now.known in
     let r : Known = c.take_in.new.context.actor.now.known in
-    handed-out-later c.args.scope.now g.W.World.told g.W.World.relations p r
+    handed-out-later c.args.scope.now g.W.World p r
     c.hand_out-2.new.actor.known c.take_in.new.self c.in-Some-hand_out.token _ _ _ _ _ _
     (advanced_then p q r _ _ _ _ _ _
     (advanced-from c.hand_out.new.actor.known p q _ _ _ _
@@ -36,7 +36,7 @@ pub returns-in-Some-clause-runs : goal.returns-in-Some-clause-runs
 returns-in-Some-clause-runs g c = λ runs. reads-later c.args.scope.now
     c.args.context.now.actor.now.known c.hand_out.new.actor.known c.args.self.now c.args.self.now
     runs
-    (advanced-handed-out c.args.scope.now g.W.World.told g.W.World.relations
+    (advanced-handed-out c.args.scope.now g.W.World
     c.args.context.now.actor.now.known
     c.hand_out.new.actor.known c.args.self.now c.in-Some.token 0 0 0 0
     (c.in-Some.ensures.handle_handed_out 0 0)).aims refl refl refl
@@ -48,7 +48,7 @@ unreachable-requires g c =
     let few = c.requires.few_ios in
     let table = c.take_in.ensures.context_advanced.table in
     let same = table ∙ c.submit.ensures.context_advanced.table in
-    handle_is_free c.args.scope.now g.W.World.told g.W.World.relations _
+    handle_is_free c.args.scope.now g.W.World _
     c.take_in.new.context.actor.now.known
     c.take_in.new.self (c.requires.valid_context.scope.1 ∙ sym (ap (λ z. z.now.config) same))
     c.take_in.ensures.issued (omega arith)
@@ -60,7 +60,7 @@ returns-clause-runs g c = λ runs f.
     (let r : Known = c.take_in.new.context.actor.now.known in
     let q : Known = c.hand_out-2.new.actor.known in
     reads-later c.args.scope.now r q c.take_in.new.self c.take_in.new.self runs
-    (advanced-handed-out c.args.scope.now g.W.World.told g.W.World.relations r q c.take_in.new.self
+    (advanced-handed-out c.args.scope.now g.W.World r q c.take_in.new.self
     c.in-Some-hand_out.token 0 0 0 0 (c.in-Some-hand_out.ensures.handle_handed_out 0 0)).aims refl
     refl refl
     (c.take_in.ensures.runs runs (c.submit.ensures.runs runs
@@ -72,7 +72,7 @@ returns-in-Some-clause-context_advanced g c =
     let x : IoContext g.row.W.Denot g.row.M.Denot g.row.E.Denot = c.args.context.now in
     context_advanced_by x c.hand_out.new.actor x.method.now x.runner.now c.hand_out.ensures.same
     (refl, refl)
-    (advanced-handed-out c.args.scope.now g.W.World.told g.W.World.relations x.actor.now.known
+    (advanced-handed-out c.args.scope.now g.W.World x.actor.now.known
     c.hand_out.new.actor.known c.args.self.now c.in-Some.token _ _ _ _
     (c.in-Some.ensures.handle_handed_out _ _)) refl
 
@@ -83,7 +83,7 @@ returns-clause-context_advanced g c =
     context_advanced_then
     (context_advanced_by y c.hand_out-2.new.actor y.method.now y.runner.now
     c.hand_out-2.ensures.same (refl, refl)
-    (advanced-handed-out c.args.scope.now g.W.World.told g.W.World.relations y.actor.now.known
+    (advanced-handed-out c.args.scope.now g.W.World y.actor.now.known
     c.hand_out-2.new.actor.known c.take_in.new.self c.in-Some-hand_out.token _ _ _ _
     (c.in-Some-hand_out.ensures.handle_handed_out _ _)) refl)
     (context_advanced_then c.take_in.ensures.context_advanced

@@ -35,7 +35,7 @@ loop-io-preserved g c =
       handed = valid_context_then inv.handed c.in-Some.ensures.context_advanced;
       context_advanced = context_advanced_then c.in-Some.ensures.context_advanced
           inv.context_advanced;
-      issued = rw is (more-free c.args.scope.now g.W.World.told g.W.World.relations
+      issued = rw is (more-free c.args.scope.now g.W.World
           c.oldest_record.new.context.actor.now.known s io (omega arith)
           some.0.is_stream_record.room c.in-Some.ensures.issued);
       records = ap (λ (z : Reads W). record_count z) is ∙ (omega arith);

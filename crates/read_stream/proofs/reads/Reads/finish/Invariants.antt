@@ -5,10 +5,10 @@ use Rattle.read_stream.proofs.reads.Reads.finish.Given as goal
 
 abbrev pub invariant-loop-io : goal.invariant-loop-io
 invariant-loop-io g l = record {
-  handed : IsValidContext g.E.Execute g.W.World.told g.W.World.relations
+  handed : IsValidContext g.E.Execute g.W.World
       l.scope l.context;
   context_advanced : ContextAdvanced g.E.Execute g.M.Method l.fn.context l.context;
-  issued : Issued l.scope g.W.World.told g.W.World.relations l.context.actor.now.known l.self;
+  issued : Issued l.scope g.W.World l.context.actor.now.known l.self;
   records : record_count l.self ≡ l.scope.total;
   started : ios_started l.self ≡ ios_started l.fn.self;
   batch : l.self.batch ≡ [];

@@ -1,4 +1,4 @@
-use Rattle.std.proofs.Common.{arith, [], sym, ap, ◌∙◌, drop, refl}
+use Rattle.std.proofs.Common.{arith, sym, ap, ◌∙◌, drop, refl}
 use Rattle.aio_callback.specs.ReadIoView.{ReadIoView}
 use Rattle.circular_buffer.specs.Buffer.{Buffer}
 use Rattle.read_stream.specs.declared.reads.Reads.{Reads}
@@ -14,13 +14,13 @@ settle_oldest-requires-clause-issued g c =
 
 pub returns-in-Some-clause-issued : goal.returns-in-Some-clause-issued
 returns-in-Some-clause-issued g c = rw c.pop_front.ensures.items
-    (less-ended c.args.scope.now g.W.World.told g.W.World.relations
+    (less-ended c.args.scope.now g.W.World
     c.args.context.now.actor.now.known c.args.self.now c.in-Some.io
     (sym c.pop_front.ensures.value ∙ c.in-Some.is) c.requires.issued).0
 
 pub returns-in-Some-clause-some : goal.returns-in-Some-clause-some
 returns-in-Some-clause-some g c =
-    let l = less-ended c.args.scope.now g.W.World.told g.W.World.relations
+    let l = less-ended c.args.scope.now g.W.World
     c.args.context.now.actor.now.known c.args.self.now c.in-Some.io
     (sym c.pop_front.ensures.value ∙ c.in-Some.is) c.requires.issued in
     let one = l.2 in

@@ -15,7 +15,7 @@ settle-requires-clause-held_by_caller g c =
     let all = c.stage-token.ensures.all.0 in
     let before = c.submit.ensures.all.0 in
     let room = c.requires.room in
-    lent-at-once c.args.scope.now g.W.World.told g.W.World.relations
+    lent-at-once c.args.scope.now g.W.World
     c.stage-token.new.context.actor.now.known c.submit_next.new.actor.known c.stage-token.new.self
     c.put.new.self c.stage-token.result c.submit_next.new.self c.in-Some.token _ _ _ _
     c.put.ensures token.0 token.1 token.2 c.stage-token.ensures.apart (omega arith)
@@ -27,7 +27,7 @@ settle-requires-clause-all_submitted g c =
     let none : length c.submit.new.self.batch ≡ 0 =
     ap (λ (z : List (WaitRef × ReadIoView)). length z) c.submit.ensures.none in
     let held = settle-requires-clause-held_by_caller g c in
-    all-submitted c.args.scope.now (c.in-Some.token ∷ []) g.W.World.told g.W.World.relations
+    all-submitted c.args.scope.now (c.in-Some.token ∷ []) g.W.World
     c.submit_next.new.actor.known _ held.issued
     (only-one c.args.scope.now _ _ c.stage-token.new.self c.put.new.self c.stage-token.result
     c.submit_next.new.self c.in-Some.token _ _ _ _ (omega arith) c.put.ensures

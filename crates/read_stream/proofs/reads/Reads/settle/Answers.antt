@@ -41,15 +41,15 @@ returns g c =
           (ends.same.0 ∙ waits.same.0, ends.same.1 ∙ waits.same.1, ends.same.2 ∙ waits.same.2)
           waits.told advanced refl;
       issued = settled-issued p m q t x.label _ _ _ _ ends.event.0 waits.result_taken reclaims
-          c.args.scope.now g.W.World.told g.W.World.relations s c.has_seen_its_marks.ensures
+          c.args.scope.now g.W.World s c.has_seen_its_marks.ensures
           held.stream_ios held.apart held.issued;
       «record» = settled-reading p m q t x.label _ _ _ _ ends.event.0 waits.result_taken reclaims
-          c.args.scope.now g.W.World.told g.W.World.relations s x y is refl held.stream_ios
+          c.args.scope.now g.W.World s x y is refl held.stream_ios
           held.issued fits waits.record.1
           (λ one. rw (← waits.token.0) (waits.sole_actor
           (rw (← c.requires.valid_context.scope.1) one)));
       aim = λ first count for_it. settled-for p m q t x.label _ _ _ _ ends.event.0
-          waits.result_taken reclaims c.args.scope.now g.W.World.told g.W.World.relations x y
+          waits.result_taken reclaims c.args.scope.now g.W.World x y
           first count is waits.record.1 for_it;
       all = search rules;
       idle = idle-now p m q t x.label _ _ _ _ ends.event.0 waits.result_taken reclaims

@@ -12,13 +12,13 @@ use Rattle.read_stream.proofs.reads.Reads.settle_oldest.Goals as goal
 
 pub settle-requires-clause-held_by_caller : goal.settle-requires-clause-held_by_caller
 settle-requires-clause-held_by_caller g c = rw c.pop_front.ensures.items
-    (less-in-flight c.args.scope.now g.W.World.told g.W.World.relations
+    (less-in-flight c.args.scope.now g.W.World
     c.args.context.now.actor.now.known c.args.self.now c.in-Some.token
     (sym c.pop_front.ensures.value ∙ c.in-Some.is) c.requires.issued)
 
 pub settle-requires-clause-all_submitted : goal.settle-requires-clause-all_submitted
 settle-requires-clause-all_submitted g c =
-    all-submitted c.args.scope.now [] g.W.World.told g.W.World.relations
+    all-submitted c.args.scope.now [] g.W.World
     c.args.context.now.actor.now.known c.args.self.now c.requires.issued c.requires.batch_empty
     (λ t i. absurd i)
 

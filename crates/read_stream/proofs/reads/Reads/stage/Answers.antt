@@ -1,4 +1,4 @@
-use Rattle.std.proofs.Common.{rules, ◌≡◌, ◌+◌, ◌≤◌, [], ◌∷◌, subst, ap, ◌∙◌, arith, refl}
+use Rattle.std.proofs.Common.{rules, ◌≡◌, [], subst, ap, ◌∙◌, arith, refl}
 use Rattle.aio_word.specs.declared.Known.{Known}
 use Rattle.aio_word.specs.declared.WaitRef.{WaitRef}
 use Rattle.aio_word.specs.declared.Step.TheVariants.{Stage}
@@ -50,21 +50,21 @@ returns g c =
             staged.same.2 ∙ (defined.same.2 ∙ before.advanced.same.2),
           );
           told = before.advanced.told;
-          actor_advanced = advanced-staged c.args.scope.now g.W.World.told g.W.World.relations p q
+          actor_advanced = advanced-staged c.args.scope.now g.W.World p q
               q1 q2 s t _ _ _ _ acquired.handle_handed_out defined.event is-defined stages;
           stands_on = before.advanced.stands_on;
         };
       };
-      issued = rw same (issued-staged c.args.scope.now g.W.World.told g.W.World.relations p q q1 q2
+      issued = rw same (issued-staged c.args.scope.now g.W.World p q q1 q2
           s t _ _ _ _ acquired.handle_handed_out defined.event is-defined stages (omega arith));
       token = (staged.token.1, aimed, rw same acquired.handle_handed_out.is_new);
       run = (first, count);
-      apart = λ u i x. staged-apart c.args.scope.now g.W.World.told g.W.World.relations p q q1 q2 s
+      apart = λ u i x. staged-apart c.args.scope.now g.W.World p q q1 q2 s
           t _ _ _ _ acquired.handle_handed_out defined.event is-defined stages u i (x ∙ same);
       all = search rules;
       batch = search rules;
       runs = λ runs f. reads-later c.args.scope.now q q2 s s runs
-          (advanced-defined c.args.scope.now g.W.World.told g.W.World.relations p q q1 q2 s t
+          (advanced-defined c.args.scope.now g.W.World p q q1 q2 s t
           _ _ _ _ acquired.handle_handed_out defined.event is-defined stages).aims refl refl refl
           (acquired.runs runs f);
     }

@@ -9,7 +9,7 @@ submit-requires-clause-issued g c =
     let token = c.stage-token.ensures.token in
     let all = c.stage-token.ensures.all.0 in
     let room = c.requires.room in
-    issued-put c.args.scope.now g.W.World.told g.W.World.relations
+    issued-put c.args.scope.now g.W.World
     c.stage-token.new.context.actor.now.known c.stage-token.new.self c.put.new.self
     c.stage-token.result c.put.ensures token.0 token.1 token.2 c.stage-token.ensures.apart
     (omega arith) c.stage-token.ensures.issued
@@ -25,7 +25,7 @@ returns-else-len-eq-MOST_STAGED-clause-issued g c =
     let token = c.stage-token.ensures.token in
     let all = c.stage-token.ensures.all.0 in
     let room = c.requires.room in
-    issued-put c.args.scope.now g.W.World.told g.W.World.relations
+    issued-put c.args.scope.now g.W.World
     c.stage-token.new.context.actor.now.known c.stage-token.new.self c.put.new.self
     c.stage-token.result c.put.ensures token.0 token.1 token.2 c.stage-token.ensures.apart
     (omega arith) c.stage-token.ensures.issued

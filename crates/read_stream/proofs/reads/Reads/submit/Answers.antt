@@ -90,7 +90,7 @@ loop-token-preserved g c =
     record {
       handed = valid_context_then c.requires.valid_context context_advanced;
       context_advanced = context_advanced;
-      issued = rw items (issued-submitted c.args.scope.now g.W.World.told g.W.World.relations p q
+      issued = rw items (issued-submitted c.args.scope.now g.W.World p q
           s after t _ _ _ _ n c.pop_submitted.ensures.tokens inv.issued);
       records = (let k = inv.records in omega arith);
       started = (let k = inv.started in omega arith);
@@ -117,7 +117,7 @@ returns-clause-context_advanced g c =
 pub returns-clause-issued : goal.returns-clause-issued
 returns-clause-issued g c =
     let none = c.in_default.ensures.none in
-    rw none.1 (issued-taking-up c.args.scope.now [] g.W.World.told g.W.World.relations
+    rw none.1 (issued-taking-up c.args.scope.now [] g.W.World
     c.pop_submitted.new.actor.known c.begin.new.context.actor.now.known c.loop-token.self _ _ _ _
     c.begin.ensures.marks (rw none.2 c.loop-token.invariant.issued))
 

@@ -7,10 +7,10 @@ use Rattle.read_stream.proofs.reads.Reads.submit.Given as goal
 
 abbrev pub invariant-loop-token : goal.invariant-loop-token
 invariant-loop-token g l = record {
-  handed : IsValidContext g.E.Execute g.W.World.told g.W.World.relations
+  handed : IsValidContext g.E.Execute g.W.World
       l.scope l.context;
   context_advanced : ContextAdvanced g.E.Execute g.M.Method l.initial.context l.context;
-  issued : Issued l.scope g.W.World.told g.W.World.relations l.context.actor.now.known l.self;
+  issued : Issued l.scope g.W.World l.context.actor.now.known l.self;
   records : record_count l.self ≡ record_count l.initial.self;
   started : ios_started l.self ≡ ios_started l.initial.self;
   free : l.self.free ≡ l.initial.self.free;

@@ -19,7 +19,7 @@ pub returns-in-Some-clause-issued : goal.returns-in-Some-clause-issued
 returns-in-Some-clause-issued g c =
     let a = c.in-Some.ensures.some.1 in
     let d = c.requires.issued.count_within in
-    rw c.push.ensures (more-ended c.args.scope.now g.W.World.told g.W.World.relations
+    rw c.push.ensures (more-ended c.args.scope.now g.W.World
     c.settle_oldest.new.context.actor.now.known c.settle_oldest.new.self c.in-Some.io (omega arith)
     c.in-Some.ensures.some.0 c.in-Some.ensures.issued)
 
@@ -35,7 +35,7 @@ pub returns-in-None-clause-idle : goal.returns-in-None-clause-idle
 returns-in-None-clause-idle g c =
     subst (λ (z : ActorView). HasIdleHandle c.args.context.now.table.now.config z.known)
     (sym c.in-None.ensures.same_state.1)
-    (idle-at-rest c.args.scope.now g.W.World.told g.W.World.relations _
+    (idle-at-rest c.args.scope.now g.W.World _
     c.args.context.now.actor.now.known c.args.self.now c.requires.valid_context.scope.1
     c.requires.issued
     c.requires.valid_context.backend c.requires.batch_empty c.in-None.ensures.none)

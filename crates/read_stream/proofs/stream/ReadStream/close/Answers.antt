@@ -6,7 +6,7 @@ use Rattle.read_stream.proofs.stream.ReadStream.close.Goals as goal
 
 pub returns-clause-no_owner_tokens : goal.returns-clause-no_owner_tokens
 returns-clause-no_owner_tokens g c =
-    let rest = at-rest c.note_actor.new.self.scope g.W.World.told g.W.World.relations
+    let rest = at-rest c.note_actor.new.self.scope g.W.World
     c.end-taken_in.new.context.actor.now.known c.end-taken_in.new.self.reads _ _
     c.end-taken_in.ensures.issued c.end-taken_in.ensures.free.0.ready in
     let none = rest.0 in (

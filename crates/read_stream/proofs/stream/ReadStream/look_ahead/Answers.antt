@@ -4,6 +4,7 @@ use Rattle.aio_word.specs.declared.Known.{Known}
 use Rattle.read_stream.specs.declared.queue.QueuedBlock.{QueuedBlock}
 use Rattle.read_stream.specs.declared.stream.ReadStream.{ReadStream}
 use Rattle.read_stream.specs.IoContexts.{IsValidContext}
+use Rattle.read_stream.specs.AtHand.{front_of}
 use Rattle.read_stream.proofs.ContextAdvancedLaws.{valid_context_then, context_advanced_refl}
 use Rattle.read_stream.proofs.ContextAdvancedLaws.{context_advanced_then}
 use Rattle.read_stream.proofs.FreeRecords.{all_idle}
@@ -51,9 +52,10 @@ returns-clause-ended g c = λ none no_record.
     let p : Known = c.loop-self.context.actor.now.known in
     let u = c.loop-self.invariant.underway in
     let not = c.loop-self-test.false in
-    u.running.position.none_left_if_over (c.wants_more.ensures.idle (λ (t : c.wants_more.result ≡ true). cc)
+    u.running.position.none_left_if_over (c.wants_more.ensures.idle
+    (λ (t : c.wants_more.result ≡ true). cc)
     (u.running.plan.ahead ∙ ap (λ (z : List (QueuedBlock g.row.P.Denot)). length z) none)
-    (all_idle g.S.BlockSource.left g.W.World.told g.W.World.relations g.W.World.handles p p s s u
+    (all_idle g.S.BlockSource.left g.W.World p s (front_of s.at_hand) u
     none no_record))
 
 pub loop-self-preserved : goal.loop-self-preserved
@@ -62,8 +64,8 @@ loop-self-preserved g c =
     let consumer_unchanged = c.take_next.ensures.consumer_unchanged in
     let handed = valid_context_then inv.handed c.take_next.ensures.context_advanced in
     record {
-      handed = subst (λ z. IsValidContext g.E.Execute g.W.World.told
-          g.W.World.relations z c.take_next.new.context) (sym consumer_unchanged.same_stream.scope)
+      handed = subst (λ z. IsValidContext g.E.Execute g.W.World z c.take_next.new.context)
+          (sym consumer_unchanged.same_stream.scope)
           handed;
       context_advanced = context_advanced_then c.take_next.ensures.context_advanced
           inv.context_advanced;

@@ -6,10 +6,10 @@ use Rattle.read_stream.proofs.stream.ReadStream.look_ahead.Given as goal
 
 abbrev pub invariant-loop-self : goal.invariant-loop-self
 invariant-loop-self g l = record {
-  handed : IsValidContext g.E.Execute g.W.World.told g.W.World.relations
+  handed : IsValidContext g.E.Execute g.W.World
       l.self.scope l.context;
   context_advanced : ContextAdvanced g.E.Execute g.M.Method l.initial.context l.context;
-  underway : Underway g.S.BlockSource.left g.W.World.told g.W.World.relations g.W.World.handles
+  underway : Underway g.S.BlockSource.left g.W.World
       l.context.actor.now.known l.self;
   consumer_unchanged : ConsumerUnchanged l.initial.self l.self;
 }

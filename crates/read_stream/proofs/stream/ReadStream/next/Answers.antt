@@ -1,12 +1,12 @@
 use Rattle.std.proofs.Common.{◌≡◌, ℕ, true, Bool, rules, refl, sym, ap, subst, ◌∙◌}
+use Rattle.std.specs.Prelude.{IfSome}
 use Rattle.page_check.specs.PageBytes.{IsPage}
 use Rattle.page_check.specs.IsAnswer.{IfPage, Next as Said}
 use Rattle.aio_handle.specs.ContractViews.{ActorView}
 use Rattle.read_stream.specs.declared.stream.ReadStream.{ReadStream}
-use Rattle.read_stream.specs.PagesAtHand.{current_page}
-use Rattle.read_stream.specs.declared.answer.Step.{Step}
-use Rattle.read_stream.specs.declared.answer.Step.TheVariants as step
-use Rattle.read_stream.specs.StreamAnswers.{IfStopped, IfZeroed, step_answer, synchronous_answer}
+use Rattle.read_stream.specs.declared.at_hand.AtHand.{AtHand}
+use Rattle.read_stream.specs.AtHand.{answer_at_hand, ending_at_hand}
+use Rattle.read_stream.specs.StreamAnswers.{IfZeroed, synchronous_answer}
 use Rattle.read_stream.specs.StreamState.{StreamAnswered, stream_view}
 use Rattle.read_stream.specs.StreamViews.{StreamView, IsStreamAnswer, stream_after}
 use Rattle.read_stream.proofs.CallersView.{answer_seen, as_left, ending_again}
@@ -22,7 +22,7 @@ returns g c =
     let m : State = c.note_actor.new.self in
     let n : State = c.advance.new.self in
     let actor : ActorView = c.advance.new.context.actor.now in
-    let x : Said P = step_answer n.scope.relation n.step (current_page n) in
+    let x : Said P = answer_at_hand n.scope.relation n.at_hand in
     let y : Said P = synchronous_answer s.scope.relation c.answer.result in
     let noted = c.note_actor.ensures.noted in
     let after : view n ≡ stream_after (view s) actor x =
@@ -38,7 +38,7 @@ returns g c =
     (subst (λ (z : Said P). IfZeroed z (n.scope.zero ≡ true)) c.answer.ensures.answer
     c.answer.ensures.zeroed) in
     let seen : IsStreamAnswer g.W.World.told (view s) actor x =
-    answer_seen g.S.BlockSource.left g.W.World.told g.W.World.relations g.W.World.handles s m
+    answer_seen g.S.BlockSource.left g.W.World s m
     noted.0 actor x noted.2 c.note_actor.ensures.is_open
     (c.advance.ensures.answer (subst (λ (z : Said P). IfPage z IsPage) c.answer.ensures.answer
     c.answer.ensures.page)) zeroed in
@@ -46,7 +46,7 @@ returns g c =
     λ now last. subst (λ (z : ActorView). IsStreamAnswer g.W.World.told (view s) z y) (sym last)
     (subst (λ (z : Said P). IsStreamAnswer g.W.World.told (view s) actor z) (sym answered) seen) in
     let follows : (now : ActorView) → now ≡ actor
-    → StreamAnswered g.S.BlockSource.left g.W.World.told g.W.World.relations g.W.World.handles s n
+    → StreamAnswered g.S.BlockSource.left g.W.World s n
     now y =
     λ now last. record {
       view = after ∙ (ap (λ (z : ActorView). stream_after (view s) z x) (sym last)
@@ -62,9 +62,9 @@ returns g c =
         advanced = search rules;
         answer = found _ (search rules);
         complete = λ none. synchronous g.W.World.told (view s) _ y none (found _ (search rules));
-        answer_repeated = ending_again s.step n.step n.scope.relation (current_page n) y answered
-            (subst (λ (z : Step P). IfStopped z (λ e. n.step ≡ step.Stop e))
-            (ap (λ (z : State). z.step) noted.2) c.advance.ensures.answer_repeated);
+        answer_repeated = ending_again s.at_hand n.at_hand n.scope.relation y answered
+            (subst (λ (z : AtHand g.row.W.Denot P). IfSome (ending_at_hand z) (λ e. n.at_hand ≡ z))
+            (ap (λ (z : State). z.at_hand) noted.2) c.advance.ensures.answer_repeated);
         after = tt;
       },
     )

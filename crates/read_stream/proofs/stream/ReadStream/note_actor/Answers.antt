@@ -3,6 +3,6 @@ use Rattle.read_stream.proofs.stream.ReadStream.note_actor.Goals as goal
 
 pub returns-clause-is_open : goal.returns-clause-is_open
 returns-clause-is_open g c =
-    open_looked g.S.BlockSource.left g.W.World.told g.W.World.relations g.W.World.handles
+    open_looked g.S.BlockSource.left g.W.World
     c.args.self.now c.args.actor.now c.of.result c.requires.is_open.as_left c.of.ensures
     c.requires.is_open.is_open

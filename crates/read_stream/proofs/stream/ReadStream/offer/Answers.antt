@@ -1,10 +1,10 @@
-use Rattle.std.proofs.Common.{◌++◌, ℕ, List, [], ◌∷◌, ap, arith, sym, ◌∙◌}
+use Rattle.std.proofs.Common.{◌++◌, ℕ, List, [], ◌∷◌, refl, ap, arith, sym, ◌∙◌}
 use Rattle.std.specs.Prelude.{Option}
 use Rattle.read_plan.specs.declared.runs.Offer.{Offer}
 use Rattle.read_plan.specs.declared.runs.Run.{Run}
 use Rattle.read_stream.specs.declared.stream.ReadStream.{ReadStream}
 use Rattle.read_stream.specs.WantedBlocks.{pending_blocks}
-use Rattle.read_stream.specs.PagesAtHand.{record_blocks_left}
+use Rattle.read_stream.specs.AtHand.{front_of}
 use Rattle.read_stream.proofs.SameQueueKeepsUnderway.{underway_plan}
 use Rattle.read_stream.proofs.FreeRecords.{may_start}
 use Rattle.read_stream.proofs.StartKeepsUnderway.{underway_started}
@@ -13,17 +13,13 @@ use Rattle.read_stream.proofs.stream.ReadStream.offer.Goals as goal
 
 pub start-requires-clause-few_ios : goal.start-requires-clause-few_ios
 start-requires-clause-few_ios g c =
-    (may_start g.S.BlockSource.left g.W.World.told g.W.World.relations g.W.World.handles
-    c.args.context.now.actor.now.known c.args.context.now.actor.now.known c.args.self.now
-    c.args.self.now
-    (c.args.block ∷ []) c.requires.underway (omega arith)).0
+    (may_start g.S.BlockSource.left g.W.World c.args.context.now.actor.now.known c.args.self.now
+    (front_of c.args.self.now.at_hand) (c.args.block ∷ []) refl c.requires.underway (omega arith)).0
 
 pub start-requires-clause-room : goal.start-requires-clause-room
 start-requires-clause-room g c =
-    (may_start g.S.BlockSource.left g.W.World.told g.W.World.relations g.W.World.handles
-    c.args.context.now.actor.now.known c.args.context.now.actor.now.known c.args.self.now
-    c.args.self.now
-    (c.args.block ∷ []) c.requires.underway (omega arith)).1
+    (may_start g.S.BlockSource.left g.W.World c.args.context.now.actor.now.known c.args.self.now
+    (front_of c.args.self.now.at_hand) (c.args.block ∷ []) refl c.requires.underway (omega arith)).1
 
 pub returns-in-Flush-clause-underway : goal.returns-in-Flush-clause-underway
 returns-in-Flush-clause-underway g c =
@@ -32,9 +28,9 @@ returns-in-Flush-clause-underway g c =
     let run : Run = c.in-Flush.run' in
     let starts = c.start.ensures.starts_run in
     rw (starts.stream, c.offer.ensures.rest)
-    (underway_started g.S.BlockSource.left g.W.World.told g.W.World.relations g.W.World.handles
+    (underway_started g.S.BlockSource.left g.W.World
     c.args.context.now.actor.now.known c.start.new.context.actor.now.known s _ _ _ _ run pending
-    c.start.new.self.desk.now.reads (record_blocks_left s.current s.step) (c.args.block ∷ []) []
+    c.start.new.self.desk.now.reads (front_of s.at_hand) (c.args.block ∷ []) []
     c.start.ensures.context_advanced.advanced.actor_advanced
     (rw (sym c.requires.underway.running.plan.combine) c.in-Flush.ensures.flushed)
     (offer_keeps_blocks s.plan.combine s.plan.segment c.args.block s.plan.pending pending
@@ -48,9 +44,9 @@ start_whole-requires-clause-underway g c =
     let s : ReadStream g.row.W.Denot g.row.S.Denot g.row.P.Denot = c.args.self.now in
     let pending : Option Run = c.offer.new.self.pending in
     rw c.offer.ensures.rest
-    (underway_plan g.S.BlockSource.left g.W.World.told g.W.World.relations g.W.World.handles
+    (underway_plan g.S.BlockSource.left g.W.World
     c.args.context.now.actor.now.known s s.plan.distance pending
-    (record_blocks_left s.current s.step) (c.args.block ∷ []) [] 0
+    (front_of s.at_hand) (c.args.block ∷ []) []
     (offer_keeps_blocks s.plan.combine s.plan.segment c.args.block s.plan.pending pending
     c.offer.result c.offer.ensures.answer
     ∙ ap (λ (z : List ℕ). z ++ (pending_blocks pending ++ []))

@@ -1,4 +1,4 @@
-use Rattle.std.proofs.Common.{◌≡◌, ◌<◌, ◌+◌, ℕ, length, [], ◌++◌, List, refl, sym, ap, ◌∙◌, arith}
+use Rattle.std.proofs.Common.{◌≡◌, ◌+◌, length, List, refl, sym, ap, ◌∙◌, arith}
 use Rattle.aio_handle.specs.ContractViews.{ActorView}
 use Rattle.aio_callback.specs.ReadIoView.{ReadIoView}
 use Rattle.read_stream.proofs.CallersView.{as_left}
@@ -63,16 +63,16 @@ returns-clause-is_open g c =
               list_within_most = omega arith;
             };
             records = record {
-              issued = rw (now ∙ sym was) (new-stream-issued scope g.W.World.told
-                  g.W.World.relations d.reads ready (rw was c.requires.no_owner_tokens) small
+              issued = rw (now ∙ sym was) (new-stream-issued scope g.W.World d.reads ready
+                  (rw was c.requires.no_owner_tokens) small
                   (rw was c.room.ensures));
               batch_within = omega arith;
-              current = tt;
+              taken_in = tt;
               record_total = omega arith;
             };
           };
           few_ios = omega arith;
-          running = record {
+          running = λ _. record {
             position = record {
               given_within = omega arith;
               readable = none-given (reader_of d.settings.zero g.W.World.told) _;
@@ -99,9 +99,8 @@ returns-clause-is_open g c =
               limit = refl;
             };
           };
-          lends_page = (refl, refl);
+          right = tt;
           stop_answer = tt;
-          unread_record = tt;
         };
       };
       as_left = as_left c.of-2.result.value a now;

@@ -1,4 +1,5 @@
 use Rattle.std.proofs.Common.{[]}
+use Rattle.read_stream.specs.AtHand.{front_of}
 use Rattle.read_stream.proofs.FreeRecords.{all_free}
 use Rattle.read_stream.proofs.stream.ReadStream.start_last.Goals as goal
 
@@ -12,6 +13,6 @@ returns-then-may_start_last-clause-underway g c =
 pub returns-else-may_start_last-clause-none : goal.returns-else-may_start_last-clause-none
 returns-else-may_start_last-clause-none g c = λ none no_record.
     let may = c.may_start_last.ensures.alone none no_record
-    (all_free g.S.BlockSource.left g.W.World.told g.W.World.relations g.W.World.handles
-    c.args.context.now.actor.now.known c.args.self.now c.requires.underway none no_record) in
+    (all_free g.S.BlockSource.left g.W.World c.args.context.now.actor.now.known c.args.self.now
+    (front_of c.args.self.now.at_hand) c.requires.underway none no_record) in
     let not = c.if-may_start_last.false in absurd (cc)

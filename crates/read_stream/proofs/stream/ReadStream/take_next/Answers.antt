@@ -1,7 +1,7 @@
 use Rattle.std.proofs.Common.{arith}
 use Rattle.read_stream.specs.declared.queue.QueuedBlock.{QueuedBlock}
 use Rattle.read_stream.specs.declared.stream.ReadStream.{ReadStream}
-use Rattle.read_stream.specs.PagesAtHand.{record_blocks_left}
+use Rattle.read_stream.specs.AtHand.{front_of}
 use Rattle.read_stream.proofs.EnqueueKeepsUnderway.{underway_enqueued}
 use Rattle.read_stream.proofs.stream.ReadStream.take_next.Goals as goal
 
@@ -15,8 +15,8 @@ offer-requires-clause-underway g c =
     let near = c.requires.ahead.0.0 in
     let far = c.requires.ahead.1.distance in
     rw c.enqueue.ensures
-    (underway_enqueued g.S.BlockSource.left g.W.World.told g.W.World.relations g.W.World.handles
-    c.args.context.now.actor.now.known s c.next.new.self a (record_blocks_left s.current s.step)
+    (underway_enqueued g.S.BlockSource.left g.W.World
+    c.args.context.now.actor.now.known s c.next.new.self a (front_of s.at_hand)
     c.in-Some.ensures.first (omega arith) c.requires.underway)
 
 pub look_for-requires-clause-underway : goal.look_for-requires-clause-underway
@@ -29,6 +29,6 @@ look_for-requires-clause-underway g c =
     let near = c.requires.ahead.0.0 in
     let far = c.requires.ahead.1.distance in
     rw (c.enqueue.ensures, c.in-Some-want.ensures.1)
-    (underway_enqueued g.S.BlockSource.left g.W.World.told g.W.World.relations g.W.World.handles
-    c.args.context.now.actor.now.known s c.next.new.self a (record_blocks_left s.current s.step)
+    (underway_enqueued g.S.BlockSource.left g.W.World
+    c.args.context.now.actor.now.known s c.next.new.self a (front_of s.at_hand)
     c.in-Some.ensures.first (omega arith) c.requires.underway)

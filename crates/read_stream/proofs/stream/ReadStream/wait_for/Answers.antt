@@ -18,17 +18,17 @@ returns-clause-context_advanced g c =
     (advanced_taking_up x.actor.now.known c.wait.new.actor.known _ _ _ _ c.wait.ensures.marks) refl
 
 pub returns-clause-underway : goal.returns-clause-underway
-returns-clause-underway g c = λ hand v.
+returns-clause-underway g c = λ front v.
     let n : ReadStream g.row.W.Denot g.row.S.Denot g.row.P.Denot = c.args.self.now in
     let reads : Reads g.row.W.Denot = n.desk.now.reads in
     let p : Known = c.args.context.now.actor.now.known in
     let q : Known = c.wait.new.actor.known in
     let actor_advanced = advanced_taking_up p q _ _ _ _ c.wait.ensures.marks in
     rw c.waited.ensures
-    (underway_plan g.S.BlockSource.left g.W.World.told g.W.World.relations g.W.World.handles q n _
-    n.plan.pending hand [] [] 0 refl
-    (underway_reads g.S.BlockSource.left g.W.World.told g.W.World.relations g.W.World.handles p q n
-    _ _ _ _ actor_advanced reads hand [] 0
-    (issued-taking-up n.scope [] g.W.World.told g.W.World.relations p q reads _ _ _ _
+    (underway_plan g.S.BlockSource.left g.W.World q n _
+    n.plan.pending front [] [] refl
+    (underway_reads g.S.BlockSource.left g.W.World p q n
+    _ _ _ _ actor_advanced reads front []
+    (issued-taking-up n.scope [] g.W.World p q reads _ _ _ _
     c.wait.ensures.marks v.invariant.records.issued) v.invariant.records.batch_within refl refl refl
     (λ runs a. reads-later n.scope p q reads reads runs actor_advanced.aims refl refl refl a) v))

@@ -13,7 +13,7 @@ pub returns-clause-listed : goal.returns-clause-listed
 returns-clause-listed g c =
     let kept = c.read-ending.ensures.kept in
     let job = c.job-1.given.1 (ap (λ k. k.0) (sym kept)) ∙ c.end_borrow.ensures in
-    rw job (by_text _ _ _ _ _ _ _ _ _ _ _ _ c.read-ending.new.consumer.job.now
+    rw job (by_text _ _ _ _ _ _ _ _ _ _ _ c.read-ending.new.consumer.job.now
     c.read-ending.result refl c.requires.may.fresh.few.1 (ap (λ k. k.2) kept)
     (ap (λ k. k.3) kept, ap (λ k. k.4) kept)
     (rw (ap (λ k. k.1) (sym kept)) c.read-ending.ensures.read))

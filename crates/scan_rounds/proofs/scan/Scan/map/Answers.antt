@@ -26,31 +26,31 @@ returns g c =
     let s = c.args.self.now in
     let own : c.as_mut_slice-backends.result.now ≡ s.backends.items = search rules in
     let after = c.read_by_first-ending.new in
-    let read : FirstBackendReadMap g.D.Disk g.W.World.told g.W.World.relations s.shared.table
+    let read : FirstBackendReadMap g.D.Disk g.W.World s.shared.table
     s.shared.queue s.backends.items after.backends c.args.relation c.args.map.now.pages after.map
     after.warnings.items c.read_by_first-ending.result =
     rw (sym own) c.read_by_first-ending.ensures.read in
     let least = c.least_room.ensures.least in
-    let went = backends_read _ _ _ _ _ _ _ _ _ _ _ _ read scan.all_backends in
+    let went = backends_read _ _ _ _ _ _ _ _ _ _ _ read scan.all_backends in
     let many : length after.backends ≡ length s.backends.items =
-    backends_many _ _ _ _ _ _ _ _ went in
-    let ready : BackendsAreReady g.D.Disk g.W.World.told g.W.World.relations s.shared.table
+    backends_many _ _ _ _ _ _ _ went in
+    let ready : BackendsAreReady g.D.Disk g.W.World s.shared.table
     s.shared.queue after.backends
     (record { room = c.least_room.result; unread = c.count_one.result }) = record {
       some = omega (arith, many, scan.some);
-      backends = still_backends _ _ _ _ _ _ _ _ went;
+      backends = still_backends _ _ _ _ _ _ _ went;
       room = least;
       few_unread = raised_within _ _ _ _ _ c.count_one.ensures scan.few_unread
-          (results_read _ _ _ _ _ _ _ _ _ _ _ _ read);
+          (results_read _ _ _ _ _ _ _ _ _ _ _ read);
     } in
     let backends = with_items_is s.backends after.backends
     (omega (arith, many, ap length own, c.as_mut_slice-backends.ensures.len)) in
     record {
       map_read = record {
-        scan = scan_again _ _ _ s _ s.backends.items s.workers.items scan refl refl refl
-            (rw backends ready) (workers_stay _ _ _ _ _ _ scan.all_workers)
-            (rw backends (actors_advanced _ _ _ _ _ _ _ _ went))
-            (rw backends (options_kept _ _ _ _ _ _ _ _ went _ scan.all_have_options))
+        scan = scan_again _ _ s _ s.backends.items s.workers.items scan refl refl refl
+            (rw backends ready) (workers_stay _ _ _ _ _ scan.all_workers)
+            (rw backends (actors_advanced _ _ _ _ _ _ _ went))
+            (rw backends (options_kept _ _ _ _ _ _ _ went _ scan.all_have_options))
             (rw backends many) refl refl refl refl;
         same = record {
           config = refl;
@@ -58,10 +58,10 @@ returns g c =
           opened = refl;
           options_same = refl;
         };
-        read = rw backends (map_read _ _ _ _ _ _ _ _ _ _ _ _ read _ scan.all_have_options);
+        read = rw backends (map_read _ _ _ _ _ _ _ _ _ _ _ read _ scan.all_have_options);
         pages = c.read_by_first-ending.ensures.pages;
-        room = room_falls _ _ _ _ _ _ _ _ went _ _ scan.all_backends scan.room least;
+        room = room_falls _ _ _ _ _ _ _ went _ _ scan.all_backends scan.room least;
         unread = c.count_one.ensures;
-        results_bound = rw backends (results_bound _ _ _ _ _ _ _ _ _ _ _ _ read);
+        results_bound = rw backends (results_bound _ _ _ _ _ _ _ _ _ _ _ read);
       };
     }

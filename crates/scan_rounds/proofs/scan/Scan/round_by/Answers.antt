@@ -11,7 +11,7 @@ use Rattle.scan_rounds.proofs.scan.Scan.round_by.Goals as goal
 pub round_beside-requires-clause-serve : goal.round_beside-requires-clause-serve
 round_beside-requires-clause-serve g c κs within =
     let q = c.reopen_queue.ensures.queue in
-    serving_in _ _ _ c.args.self.now _ _ _ c.requires.may.scan c.reopen_queue.ensures.table q.0 q.1
+    serving_in _ _ c.args.self.now _ _ _ c.requires.may.scan c.reopen_queue.ensures.table q.0 q.1
     (search rules)
 
 pub round_beside-requires-clause-may : goal.round_beside-requires-clause-may
@@ -21,7 +21,7 @@ round_beside-requires-clause-may g c κs within =
     let same : c.reopen_queue.new.backends ≡ c.args.self.now.backends.items = search rules in
     let many = ap length same in
     record {
-      ready = waiting_in _ _ _ c.args.self.now _ _ _ may.scan r.table r.queue.0 r.queue.1
+      ready = waiting_in _ _ c.args.self.now _ _ _ may.scan r.table r.queue.0 r.queue.1
           (search rules);
       fit = omega (arith, may.few.1, many);
       fresh = may.fresh;
@@ -36,7 +36,7 @@ returns g c =
     let a = e.taken in
     let own : c.as_mut_slice-backends.result.now ≡ c.args.self.now.backends.items = search rules in
     let same : c.reopen_queue.new.backends ≡ c.args.self.now.backends.items = search rules in
-    let as_many = many_actors _ _ _ _ _ _ a.actors_advanced in
+    let as_many = many_actors _ _ _ _ _ a.actors_advanced in
     let many = as_many ∙ ap length same in
     let options : AllHaveOptions (scan_options c.args.self.now) c.reopen_queue.new.backends =
     rw same may.scan.all_have_options in
@@ -47,7 +47,7 @@ returns g c =
     (omega (arith, e.workers_served.as_many, c.as_mut_slice-workers.ensures.len)) in
     record {
       made_round = record {
-        scan = scan_again _ _ _ c.args.self.now _ c.reopen_queue.new.backends
+        scan = scan_again _ _ c.args.self.now _ c.reopen_queue.new.backends
             c.as_mut_slice-workers.result.now may.scan r.table same (search rules)
             (rw backends a.ready) (rw workers e.workers_served) (rw backends a.actors_advanced)
             (rw backends (a.all_have_options _ options)) (rw backends as_many) refl refl refl refl;

@@ -9,7 +9,7 @@ use Rattle.scan_rounds.proofs.scan.Scan.run.Goals as goal
 pub run_beside-requires-clause-serve : goal.run_beside-requires-clause-serve
 run_beside-requires-clause-serve g c κs within =
     let q = c.reopen_queue.ensures.queue in
-    serving_in _ _ _ c.args.self.now _ _ _ c.requires.may.scan c.reopen_queue.ensures.table q.0 q.1
+    serving_in _ _ c.args.self.now _ _ _ c.requires.may.scan c.reopen_queue.ensures.table q.0 q.1
     (search rules)
 
 pub run_beside-requires-clause-may : goal.run_beside-requires-clause-may
@@ -18,7 +18,7 @@ run_beside-requires-clause-may g c κs within =
     let r = c.reopen_queue.ensures in
     let same : c.reopen_queue.new.backends ≡ c.args.self.now.backends.items = search rules in
     record {
-      ready = waiting_in _ _ _ c.args.self.now _ _ _ may.scan r.table r.queue.0 r.queue.1
+      ready = waiting_in _ _ c.args.self.now _ _ _ may.scan r.table r.queue.0 r.queue.1
           (search rules);
       places = search rules;
       room = may.room;
@@ -45,7 +45,7 @@ returns g c =
     let places : length c.run_beside.new.jobs ≡ length c.args.self.now.jobs.items = search rules in
     record {
       ran_source = record {
-        scan = scan_again _ _ _ c.args.self.now _ c.reopen_queue.new.backends
+        scan = scan_again _ _ c.args.self.now _ c.reopen_queue.new.backends
             c.as_mut_slice-workers.result.now may.scan r.table same (search rules)
             (rw backends a.ready) (rw workers e.workers_served) (rw backends a.actors_advanced)
             (rw backends (subst (λ how. AllHaveOptions how c.run_beside.new.backends)

@@ -10,6 +10,6 @@ invariant-loop g l = record {
   told : (g.E.Execute.told l.runner ≡ g.W.World.told)
       × (g.E.Execute.relations l.runner ≡ g.W.World.relations);
   stands_on : g.M.Method.stands_on l.method ≡ g.M.Method.stands_on l.fn.method;
-  is_open : IsOpenFor (λ r. r) g.W.World.told g.W.World.relations g.W.World.handles l.stream
+  is_open : IsOpenFor (λ r. r) g.W.World l.stream
       l.actor;
 }

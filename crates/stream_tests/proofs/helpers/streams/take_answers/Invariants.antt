@@ -9,6 +9,6 @@ invariant-loop g l = record {
   of : IsActorOf l.table l.actor;
   told : (g.E.Execute.told l.runner ≡ g.W.World.told)
       × (g.E.Execute.relations l.runner ≡ g.W.World.relations);
-  is_open : IsOpenFor (λ r. r) g.W.World.told g.W.World.relations g.W.World.handles l.stream
+  is_open : IsOpenFor (λ r. r) g.W.World l.stream
       l.actor;
 }

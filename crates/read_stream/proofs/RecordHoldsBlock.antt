@@ -1,15 +1,16 @@
 -- A record is taken in that has the block at the front.
-use Rattle.std.proofs.Common.{◌≡◌, ℕ, ◌+◌, ◌-◌, ◌<◌, ◌≤◌, List, [], ◌∷◌, ◌++◌, length, map, drop}
+use Rattle.std.proofs.Common.{◌≡◌, ℕ, ◌+◌, ◌-◌, ◌<◌, ◌≤◌, List, [], ◌++◌, length, map, drop}
 use Rattle.std.proofs.Common.{ap, arith, inl, inr, refl, ◌∙◌, append_assoc}
-use Rattle.std.specs.Prelude.{Option, Some, None, slice_get}
+use Rattle.std.specs.Prelude.{Some, slice_get}
 use Rattle.std.specs.List.{range_with_len}
-use Rattle.page_check.specs.Told.{Told}
+use Rattle.page_check.specs.declared.world.World.{Ghosts as WorldGhosts}
 use Rattle.aio_word.specs.declared.Known.{Known}
 use Rattle.aio_word.specs.Stands.{IsIn}
 use Rattle.aio_callback.specs.ReadIoView.{ReadIoView}
 use Rattle.circular_buffer.specs.Buffer.{Buffer}
 use Rattle.read_plan.specs.Runs.{IsRun, run_blocks}
 use Rattle.read_plan.specs.declared.runs.Run.{Run}
+use Rattle.read_stream.specs.declared.at_hand.Held.TheVariants as held
 use Rattle.read_stream.specs.declared.queue.Want.{Want}
 use Rattle.read_stream.specs.declared.queue.Want.TheVariants as want
 use Rattle.read_stream.specs.declared.reads.Reads.{Reads}
@@ -18,64 +19,62 @@ use Rattle.read_stream.specs.StreamIos.{Issued, ReadsForRuns, IsTakenIn, record_
 use Rattle.read_stream.specs.StreamIos.{run_of}
 use Rattle.read_stream.specs.WantedBlocks.{IsValidWant, block_number, wanted_blocks, wanted_runs}
 use Rattle.read_stream.specs.WantedBlocks.{pending_blocks}
-use Rattle.read_stream.specs.PagesAtHand.{record_blocks_from, count_some, spent_ios}
-use Rattle.read_stream.specs.StreamState.{BlockIsAtHand, UnderwayWith}
+use Rattle.read_stream.specs.AtHand.{Front, empty_front, held_spent, record_blocks_from}
+use Rattle.read_stream.specs.StreamState.{HoldsBlock, UnderwayWith}
 use Rattle.read_stream.specs.Changes.{run_read, with_wants}
 use Rattle.read_stream.specs.Parts.{CoversBlock}
 use Rattle.read_stream.proofs.StreamInvariantLaws.{plan_agrees_then}
 use Rattle.read_stream.proofs.QueueFront.{front_is, range_first}
 use Rattle.read_stream.proofs.QueueMovesKeepIssued.{first-of}
 
-module _ {W S P : Type 0} (left : S → List (ℕ × P)) (told : Option Told)
-    (relations handles : ℕ) (p q : Known) (s : ReadStream W S P) (io : ReadIoView) (r : Reads W)
-    (block distance : ℕ) (no_pin : s.pin ≡ None) (taken : IsTakenIn s.scope told relations q io)
-    (issued : Issued s.scope told relations q r) (few : length r.batch < 32) where
+module _ {W S P : Type 0} (left : S → List (ℕ × P)) (world : WorldGhosts W) (p q : Known)
+    (s : ReadStream W S P) (io : ReadIoView) (r : Reads W) (block distance : ℕ)
+    (taken : IsTakenIn s.scope world q io) (issued : Issued s.scope world q r)
+    (few : length r.batch < 32) where
   -- a record was taken in that has the block, and these wants are left
-  reaches_record : (ws : List Want) (ios : ℕ) (hand : List ℕ) (spent : ℕ)
-      → UnderwayWith left told relations handles hand [] spent p s → CoversBlock io block
-      → record_count r + 1 ≡ s.scope.total
+  holds_record : (front : Front) (ws : List Want) (ios : ℕ) → UnderwayWith left world front [] p s
+      → CoversBlock io block → record_count r + 1 ≡ s.scope.total
       → map block_number s.desk.now.queue.items ≡ record_blocks_from io block
       ++ (wanted_blocks ws ++ (pending_blocks s.plan.pending ++ []))
-      → ((w : Want) → IsIn w ws → IsValidWant s.desk.now.settings.combine handles w)
+      → ((w : Want) → IsIn w ws → IsValidWant s.desk.now.settings.combine world.handles w)
       → ReadsForRuns s.scope q r (wanted_runs ws)
-      → ios_started r ≤ s.given + spent_ios (Some io) block + length (wanted_runs ws)
+      → ios_started r ≤ s.given + held_spent (Some io) block + length (wanted_runs ws)
       → ios + length r.free.items ≡ s.scope.total
-      → BlockIsAtHand left told relations handles block q
+      → HoldsBlock left world block (held.Record io) q
       (run_read (record (with_wants s ws) { plan = record s.plan { ios_in_progress = ios } }) r
-      (Some io) distance)
-  reaches_record ws ios hand spent u has records front wants runs few_ios in_use = record {
+      distance)
+  holds_record front ws ios u has records first wants runs few_ios in_use = record {
     underway = record {
       invariant = record {
         set_up = u.invariant.set_up;
         records = record {
           issued = issued;
           batch_within = few;
-          current = taken;
+          taken_in = taken;
           record_total = records;
         };
       };
       running = record {
         position = u.running.position;
-        order = record { queue_order = front; wants = wants };
+        order = record { queue_order = first; wants = wants };
         ios = record { runs = runs; few_ios = few_ios };
         plan = plan_agrees_then s.plan s.desk.now.settings _ _ _ _ u.running.plan distance
             s.plan.pending ios _ _ in_use (omega arith);
       };
     };
-    at_hand = rw no_pin has;
+    is_for = has;
   }
 
   -- the oldest run was taken in, whose first block is the one at the front
-  pub reaches_run : (run : Run) → s.current ≡ None
-      → slice_get s.desk.now.wants.items 0 ≡ Some (want.Run run)
+  pub holds_run : (run : Run) → slice_get s.desk.now.wants.items 0 ≡ Some (want.Run run)
       → slice_get (map block_number s.desk.now.queue.items) 0 ≡ Some block
-      → UnderwayWith left told relations handles [] [] 0 p s → run_of io ≡ run
+      → UnderwayWith left world empty_front [] p s → run_of io ≡ run
       → record_count s.desk.now.reads ≡ record_count r + 1
       → ios_started r ≡ ios_started s.desk.now.reads → r.free ≡ s.desk.now.reads.free
       → ReadsForRuns s.scope q r (wanted_runs (drop 1 s.desk.now.wants.items))
-      → BlockIsAtHand left told relations handles block q
-      (run_read (with_wants s (drop 1 s.desk.now.wants.items)) r (Some io) distance)
-  reaches_run run none wanted at u for records started free runs =
+      → HoldsBlock left world block (held.Record io) q
+      (run_read (with_wants s (drop 1 s.desk.now.wants.items)) r distance)
+  holds_run run wanted at u for records started free runs =
       let g = u.running in
       let ws : List Want = drop 1 s.desk.now.wants.items in
       let first = first-of s.desk.now.wants.items (want.Run run) wanted in
@@ -97,29 +96,26 @@ module _ {W S P : Type 0} (left : S → List (ℕ × P)) (told : Option Told)
       ap (λ (z : List Want). length (wanted_runs z)) first ∙ omega arith in
       let many : length r.free.items ≡ length s.desk.now.reads.free.items =
       ap (λ (z : Buffer ReadIoView). length z.items) free in
-      let no-record : count_some s.current ≡ 0 =
-      ap (λ (z : Option ReadIoView). count_some z) none in
       let total = u.invariant.records.record_total in
       let few_ios = g.ios.few_ios in
       let in_use = g.plan.in_use in
-      reaches_record ws s.plan.ios_in_progress [] 0 u (omega arith, omega arith) (omega arith)
+      holds_record empty_front ws s.plan.ios_in_progress u (omega arith, omega arith) (omega arith)
       (front ∙ rw (begins, from) refl)
       (λ w i. g.order.wants w (rw first (inr i))) runs (omega arith) (omega arith)
 
-  -- the run at hand was read at once, by a record that was nowhere before
-  pub reaches_read : (run : Run) (ios : ℕ) (hand : List ℕ)
-      → UnderwayWith left told relations handles hand [] 0 p s → run.first ≡ block
-      → 1 ≤ run.count → run_blocks run ≡ hand → (io.first ≡ run.first) × (io.count ≡ run.count)
-      → record_count r + 1 ≡ s.scope.total
+  -- the run in front was read at once, by a record that was nowhere before
+  pub holds_read : (front : Front) (run : Run) (ios : ℕ) → UnderwayWith left world front [] p s
+      → front.spent ≡ 0 → run.first ≡ block → 1 ≤ run.count → run_blocks run ≡ front.blocks
+      → (io.first ≡ run.first) × (io.count ≡ run.count) → record_count r + 1 ≡ s.scope.total
       → ios_started r ≡ ios_started s.desk.now.reads + 1
       → ios + length r.free.items ≡ s.scope.total
       → ReadsForRuns s.scope q r (wanted_runs s.desk.now.wants.items)
-      → BlockIsAtHand left told relations handles block q
-      (run_read (record s { plan = record s.plan { ios_in_progress = ios } }) r (Some io) distance)
-  reaches_read run ios hand u begins some whole is records started in_use runs =
+      → HoldsBlock left world block (held.Record io) q
+      (run_read (record s { plan = record s.plan { ios_in_progress = ios } }) r distance)
+  holds_read front run ios u unspent begins some whole is records started in_use runs =
       let g = u.running in
       let (first, count) = is in
       let from : run.count ≡ io.first + io.count - block = omega arith in
       let few_ios = g.ios.few_ios in
-      reaches_record s.desk.now.wants.items ios hand 0 u (omega arith, omega arith) records
+      holds_record front s.desk.now.wants.items ios u (omega arith, omega arith) records
       (g.order.queue_order ∙ rw (← whole, begins, from) refl) g.order.wants runs (omega arith) in_use
