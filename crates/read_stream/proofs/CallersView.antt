@@ -1,8 +1,8 @@
 -- What the inside of a stream answers, as its callers see it.
-use Rattle.std.proofs.Common.{◌≡◌, ◌<◌, ◌∙◌, ℕ, List, [], true, Bool, ap, append-nil, arith, length}
+use Rattle.std.proofs.Common.{◌≡◌, ◌<◌, ℕ, List, [], true, Bool, ap, append-nil, arith, length}
 use Rattle.std.proofs.Common.{refl, subst, sym}
 use Rattle.std.proofs.lemmas.List.{length-map}
-use Rattle.std.specs.Prelude.{Option, IfSome}
+use Rattle.std.specs.Prelude.{Option, IfSome, slice_get}
 use Rattle.std.specs.declared.snapshot.Snapshot.{Snapshot}
 use Rattle.page_check.specs.declared.world.World.{Ghosts as WorldGhosts}
 use Rattle.page_check.specs.Told.{Told}
@@ -13,9 +13,11 @@ use Rattle.aio_handle.specs.ContractViews.{ActorView}
 use Rattle.read_stream.specs.declared.at_hand.AtHand.{AtHand}
 use Rattle.read_stream.specs.declared.at_hand.AtHand.TheVariants as at_hand
 use Rattle.read_stream.specs.declared.stream.ReadStream.{ReadStream}
-use Rattle.read_stream.specs.AtHand.{answer_at_hand, ending_at_hand}
+use Rattle.read_stream.specs.declared.queue.QueuedBlock.{QueuedBlock}
+use Rattle.read_stream.specs.declared.reads.EndedRead.{EndedRead}
+use Rattle.read_stream.specs.AtHand.{answer_with, ending_at_hand}
 use Rattle.read_stream.specs.StreamAnswers.{IfZeroed, MayBeUnread, stream_entries, stream_entry}
-use Rattle.read_stream.specs.StreamState.{IsOpen, entries_at_open, stream_view}
+use Rattle.read_stream.specs.StreamState.{IsOpen, answer_at_hand, entries_at_open, stream_view}
 use Rattle.read_stream.specs.StreamViews.{StreamView, IsActorAsLeft}
 use Rattle.read_stream.specs.StreamViews.{IsSameStream, IsStreamAnswer, stream_after}
 use Rattle.read_stream.proofs.AnswerPages.{next_valid, page_within}
@@ -48,17 +50,25 @@ pub later_by_call : {P : Type 0} (s n : StreamView P) (actor : ActorView) (x : S
 later_by_call {P} s n actor x after =
     subst (λ (z : StreamView P). IsSameStream s z) (sym after) refl
 
+ending-said : {W P : Type 0} (was now : AtHand W) (relation : ℕ) (asked : Option (QueuedBlock P))
+    (oldest : Option EndedRead) → IfSome (ending_at_hand was) (λ e. now ≡ was)
+    → IfSome (ending_at_hand was) (λ e. answer_with relation now asked oldest ≡ SaidStop e)
+ending-said {W} (at_hand.Stopped block why) now relation asked oldest again =
+    ap (λ (z : AtHand W). answer_with relation z asked oldest) again
+ending-said {W} at_hand.Ended now relation asked oldest again =
+    ap (λ (z : AtHand W). answer_with relation z asked oldest) again
+ending-said at_hand.Nothing now relation asked oldest again = tt
+ending-said (at_hand.Pinned pin) now relation asked oldest again = tt
+ending-said at_hand.Lent now relation asked oldest again = tt
+
 -- an ending is answered again
-pub ending_again : {W P : Type 0} (was now : AtHand W P) (relation : ℕ) (x : Said P)
-    → x ≡ answer_at_hand relation now → IfSome (ending_at_hand was) (λ e. now ≡ was)
+pub ending_again : {W S P : Type 0} (was : AtHand W) (n : ReadStream W S P) (x : Said P)
+    → x ≡ answer_at_hand n → IfSome (ending_at_hand was) (λ e. n.at_hand ≡ was)
     → IfSome (ending_at_hand was) (λ e. x ≡ SaidStop e)
-ending_again {W} {P} (at_hand.Stopped io block why) now relation x answer again =
-    answer ∙ ap (λ (z : AtHand W P). answer_at_hand relation z) again
-ending_again {W} {P} at_hand.Ended now relation x answer again =
-    answer ∙ ap (λ (z : AtHand W P). answer_at_hand relation z) again
-ending_again at_hand.Nothing now relation x answer again = tt
-ending_again (at_hand.Pinned pin a) now relation x answer again = tt
-ending_again (at_hand.Record io a) now relation x answer again = tt
+ending_again {W} {S} {P} was n x answer again =
+    subst (λ (z : Said P). IfSome (ending_at_hand was) (λ e. z ≡ SaidStop e)) (sym answer)
+    (ending-said was n.at_hand n.scope.relation (slice_get n.desk.now.blocks.queue.items 0)
+    (slice_get n.desk.now.reads.ended.items 0) again)
 
 -- a page that is answered is that of a block left
 page_left : {P : Type 0} (told : Option Told) (s : StreamView P) (may : Entry P → Type 0)
@@ -75,18 +85,18 @@ module _ {W S P : Type 0} (left : S → List (ℕ × P)) (world : WorldGhosts W)
   pub answer_seen : (s m : ReadStream W S P) (noted : Snapshot ActorView) (now : ActorView)
       (x : Said P) → m ≡ record s { actor_is = noted } → IsOpen left world m
       → IsNext (reader_of m.scope.zero world.told) (MayBeUnread m.scope.was.value now.known)
-      (entries_at_open left world m) m.given x
+      (entries_at_open left world m) (stream_view left m).given x
       → IfZeroed x (s.desk.now.settings.zero ≡ true)
       → IsStreamAnswer world.told (stream_view left s) now x
   answer_seen s m noted now x same o next zeroed =
       let v : StreamView P = stream_view left s in
       let settled = subst (λ (z : Bool). IsNext (reader_of z world.told)
       (MayBeUnread m.scope.was.value now.known) (entries_at_open left world m)
-      m.given x) o.between.invariant.set_up.zero next in
+      (stream_view left m).given x) o.between.invariant.set_up.zero next in
       let here = subst (λ (z : ReadStream W S P). IsNext (reader_of z.desk.now.settings.zero
       world.told)
       (MayBeUnread z.scope.was.value now.known) (entries_at_open left world z)
-      z.given x) same settled in
+      (stream_view left z).given x) same settled in
       record {
         next = here;
         valid = next_valid v.settings.zero world.told (MayBeUnread v.actor_was now.known)

@@ -1,134 +1,139 @@
--- The page that a stream gives is the next answer.
-use Rattle.std.proofs.Common.{◌≡◌, ℕ, ◌+◌, ◌-◌, ◌≤◌, List, [], ◌∷◌, ◌++◌, length, map, drop, false}
-use Rattle.std.proofs.Common.{ap, sym, arith, ◌∙◌}
-use Rattle.std.specs.Prelude.{None, Some, IfSome, slice_get}
+-- What a stream has at hand is the next answer.
+use Rattle.std.proofs.Common.{◌≡◌, ℕ, ◌+◌, ◌-◌, List, [], ◌∷◌, ◌++◌, map, drop, true, false, refl}
+use Rattle.std.proofs.Common.{subst, arith}
+use Rattle.std.specs.Prelude.{None, Option, IfSome, is_some, slice_get}
 use Rattle.page_check.specs.declared.world.World.{Ghosts as WorldGhosts}
 use Rattle.page_check.specs.PageBytes.{IsPage}
-use Rattle.page_check.specs.SynchronousAnswer.{read_count, reader_of}
-use Rattle.page_check.specs.IsAnswer.{IfPage, IsNext}
+use Rattle.page_check.specs.Told.{Told}
+use Rattle.page_check.specs.IsAnswer.{IfPage, Next as Said, Stop as SaidStop}
 use Rattle.aio_word.specs.declared.Known.{Known}
+use Rattle.aio_callback.specs.GoodPages.{IsGood}
+use Rattle.aio_callback.specs.ReadIoView.{record_page, record_zeroed}
 use Rattle.buf_pool.specs.LookupAnswers.{pinned_page}
 use Rattle.read_stream.specs.declared.at_hand.AtHand.{AtHand}
 use Rattle.read_stream.specs.declared.at_hand.AtHand.TheVariants as at_hand
+use Rattle.read_stream.specs.declared.parts.Part.TheVariants as part
 use Rattle.read_stream.specs.declared.queue.QueuedBlock.{QueuedBlock}
+use Rattle.read_stream.specs.declared.reads.EndedRead.{EndedRead}
 use Rattle.read_stream.specs.declared.stream.ReadStream.{ReadStream}
-use Rattle.read_stream.specs.StreamAnswers.{stream_entry, stream_entries, MayBeUnread}
-use Rattle.read_stream.specs.WantedBlocks.{source_item, block_number, wanted_blocks, pending_blocks}
-use Rattle.read_stream.specs.AtHand.{answer_at_hand, blocks_left, ending_at_hand, front_of}
-use Rattle.read_stream.specs.AtHand.{held_front, record_of}
-use Rattle.read_stream.specs.StreamState.{FindsBlock, IsBetweenCalls, IsRunning}
-use Rattle.read_stream.specs.Changes.{page_given, with_at_hand}
+use Rattle.read_stream.specs.StreamAnswers.{stream_entry, page_answer, pages_given, MayBeUnread}
+use Rattle.read_stream.specs.StreamViews.{answered_stop}
+use Rattle.read_stream.specs.QueuedBlocks.{HasInFront, source_item}
+use Rattle.read_stream.specs.AtHand.{HasAnswer, IsNextOfOldest, IsRightAtHand, answer_with}
+use Rattle.read_stream.specs.AtHand.{ending_at_hand, lent_count}
+use Rattle.read_stream.specs.StreamState.{HasRecords, IsBetweenCalls, answer_at_hand}
+use Rattle.read_stream.specs.StreamState.{entries_at_open, list_at_open}
 use Rattle.read_stream.proofs.PartIsNextAnswer.{page_is_next}
-use Rattle.read_stream.proofs.ListPositions.{below-at, here-at, mapped-at, rest-at}
-use Rattle.read_stream.proofs.QueueMovesKeepIssued.{first-of}
-use Rattle.read_stream.proofs.NextAnswerCases.{next-page}
-use Rattle.read_stream.proofs.BlockInFront.{found_blocks, spent_once}
-use Rattle.read_stream.proofs.QueueFront.{ios_within_list}
-use Rattle.read_stream.proofs.StopIsNextAnswer.{left-of}
-
-tails : (xs ys : List ℕ) (a b : ℕ) → a ∷ xs ≡ b ∷ ys → xs ≡ ys
-tails xs ys a b e = ap (λ (z : List ℕ). drop 1 z) e
+use Rattle.read_stream.proofs.ListPositions.{here-at, mapped-at}
+use Rattle.read_stream.proofs.NextAnswerCases.{ReadableUpTo, next-page}
+use Rattle.read_stream.proofs.StopIsNextAnswer.{HasPosition, MayAnswer, left_of, oldest_taken}
 
 module _ {W S P : Type 0} (left : S → List (ℕ × P)) (world : WorldGhosts W) (p : Known)
-    (s : ReadStream W S P) (a : QueuedBlock P) where
-  abbrev rest : List (QueuedBlock P)
-  rest = drop 1 s.desk.now.queue.items
+    (s : ReadStream W S P) where
+  abbrev queue : List (QueuedBlock P)
+  queue = s.desk.now.blocks.queue.items
 
-  abbrev more : List (ℕ × P)
-  more = map source_item rest ++ left s.source
+  abbrev rest : List (ℕ × P)
+  rest = map source_item (drop 1 queue) ++ left s.source
 
-  abbrev is_next : AtHand W P → Type 0
-  is_next h = IfPage (answer_at_hand s.scope.relation h) IsPage
-      → IsNext (reader_of s.scope.zero world.told) (MayBeUnread s.scope.was.value p)
-      (stream_entries s.scope.relation (left s.source_was.value)) s.given
-      (answer_at_hand s.scope.relation h)
+  -- what would be answered with this at hand
+  abbrev said : AtHand W → Said P
+  said h = answer_with s.scope.relation h (slice_get queue 0)
+      (slice_get s.desk.now.reads.ended.items 0)
 
-  abbrev is_readable : ℕ → Type 0
-  is_readable k = IfSome (reader_of s.scope.zero world.told) (λ f. k
-      ≤ read_count f (stream_entries s.scope.relation (left s.source_was.value)))
+  abbrev IsRight : AtHand W → Type 0
+  IsRight h = IsRightAtHand world.told s.scope.relation s.desk.now.reads.ended.items queue h
 
-  -- the page that was found is what may be answered next
-  next-shown : (h : AtHand W P) → FindsBlock left world a h p s
-      → drop s.given (left s.source_was.value) ≡ source_item a ∷ more → ending_at_hand h ≡ None
-      → is_next h × is_readable (s.given + 1)
-  next-shown (at_hand.Pinned pin b) f here going =
-      rw f.is_for
-      (next-page s.scope.zero (MayBeUnread s.scope.was.value p)
-      (stream_entries s.scope.relation (left s.source_was.value)) s.given
-      (stream_entry s.scope.relation (source_item a))
-      (mapped-at (stream_entry s.scope.relation) (left s.source_was.value) s.given (source_item a)
-      (here-at (left s.source_was.value) s.given (source_item a) more here))
-      world.told (pinned_page pin) false f.underway.running.position.readable
-      (λ never. absurd (cc)) (rw f.is_for at f.right))
-  next-shown (at_hand.Record io b) f here going =
-      rw f.is_for
-      (page_is_next s.scope world (left s.source_was.value) s.given a.block
-      a.per_buffer_data more here f.underway.running.position.readable p io
-      f.underway.invariant.records.taken_in (rw f.is_for at f.right.0) (rw f.is_for at f.right.1))
-  next-shown (at_hand.Stopped io block why) f here going = absurd (cc)
-  next-shown at_hand.Nothing f here going = absurd f.is_for
-  next-shown at_hand.Ended f here going = absurd f.is_for
+  -- an answer that gives a page may be answered, and the blocks up to it can be read
+  abbrev IsNextPage : Said P → Type 0
+  IsNextPage x = (IfPage x IsPage → MayAnswer left world p s x)
+      × ReadableUpTo s.scope.zero world.told (s.given + 1) (entries_at_open left world s)
 
-  -- the page of the block at the front was given
-  module _ (h : AtHand W P) (first : slice_get s.desk.now.queue.items 0 ≡ Some a)
-      (f : FindsBlock left world a h p s) (going : ending_at_hand h ≡ None) where
-    here : drop s.given (left s.source_was.value) ≡ source_item a ∷ more
-    here = left-of left world p s (held_front (record_of h) a.block) [] a first f.underway.running
+  pinned-next : (page : List ℕ) (block : ℕ) (f : HasInFront queue block [])
+      → IsGood world.told s.scope.relation block page → HasPosition left world s
+      → IsNextPage (page_answer s.scope.relation block f.asked.per_buffer_data page false)
+  pinned-next page block f good at =
+      let item : ℕ × P = (block, f.asked.per_buffer_data) in
+      next-page s.scope.zero (MayBeUnread s.scope.was.value p) (entries_at_open left world s)
+      s.given (stream_entry s.scope.relation item)
+      (mapped-at (stream_entry s.scope.relation) (list_at_open left world s) s.given item
+      (here-at (list_at_open left world s) s.given item rest
+      (left_of left world s block [] f at)))
+      world.told page false at.readable (λ never. absurd (cc)) good
 
-    pub given_next : is_next h
-    given_next = (next-shown h f here going).0
+  lent-next : (block : ℕ)
+      (o : IsNextOfOldest world.told s.desk.now.reads.ended.items queue block part.Page)
+      → HasRecords world s.scope p s.desk.now.reads → HasPosition left world s
+      → IsNextPage (page_answer s.scope.relation block o.in_front.asked.per_buffer_data
+      (record_page o.oldest.io o.oldest.given) (record_zeroed o.oldest.io o.oldest.given))
+  lent-next block o records at =
+      let io = o.oldest.io in
+      let is_block = o.is_block in
+      let place : block - io.first ≡ o.oldest.given = omega arith in
+      subst (λ (k : ℕ). IsNextPage (page_answer s.scope.relation block
+      o.in_front.asked.per_buffer_data (record_page io k) (record_zeroed io k))) place
+      (page_is_next s.scope world (list_at_open left world s) s.given block
+      o.in_front.asked.per_buffer_data rest
+      (left_of left world s block (block ∷ []) o.in_front at) at.readable p io
+      (oldest_taken left world p s block part.Page records o) o.covers o.part)
 
-    -- the blocks in front but for the first are those behind the page
-    order-then : map block_number rest ≡ blocks_left h
-        ++ (wanted_blocks s.desk.now.wants.items ++ (pending_blocks s.plan.pending ++ []))
-    order-then =
-        let wanted : List ℕ = wanted_blocks s.desk.now.wants.items
-        ++ (pending_blocks s.plan.pending ++ []) in
-        tails (map block_number rest) (blocks_left h ++ wanted) a.block a.block
-        (ap (λ (z : List (QueuedBlock P)). map block_number z)
-        (sym (first-of s.desk.now.queue.items a first))
-        ∙ (f.underway.running.order.queue_order ∙ ap (λ (z : List ℕ). z ++ wanted)
-        (found_blocks world.told s.scope.relation a h f.right f.is_for going)))
+  page-shown : (h : AtHand W) → IsRight h → ending_at_hand h ≡ None → HasAnswer h
+      → HasRecords world s.scope p s.desk.now.reads → HasPosition left world s
+      → IsNextPage (said h)
+  page-shown at_hand.Nothing right going has records at = absurd has
+  page-shown (at_hand.Pinned pin) (block, f, good) going has records at =
+      rw (f.first, f.is_block) (pinned-next (pinned_page pin) block f good at)
+  page-shown at_hand.Lent (block, o) going has records at =
+      rw (o.in_front.first, o.first, o.in_front.is_block) (lent-next block o records at)
+  page-shown (at_hand.Stopped block why) right going has records at = absurd (cc)
+  page-shown at_hand.Ended right going has records at = absurd (cc)
 
-    running-then : IsRunning left world (front_of h) [] p (with_at_hand (page_given s) h)
-    running-then =
-        let g = f.underway.running in
-        let long : length s.desk.now.queue.items ≡ length (a ∷ rest) =
-        ap (λ (z : List (QueuedBlock P)). length z) (first-of s.desk.now.queue.items a first) in
-        let below = below-at (left s.source_was.value) s.given (source_item a) more here in
-        let spent = spent_once (record_of h) a.block in
-        let few = g.ios.few_ios in
-        let ahead = g.plan.ahead in
-        let within = g.plan.queue_within_limit in
-        record {
-          position = record {
-            given_within = omega arith;
-            readable = (next-shown h f here going).1;
-            blocks = sym (rest-at (left s.source_was.value) s.given (source_item a) more here);
-            none_left_if_over = g.position.none_left_if_over;
-          };
-          order = record { queue_order = order-then; wants = g.order.wants };
-          ios = record { runs = g.ios.runs; few_ios = omega arith };
-          plan = record {
-            ahead = omega arith;
-            queue_within_limit = omega arith;
-            in_use = g.plan.in_use;
-            spare_record = g.plan.spare_record;
-            combine = g.plan.combine;
-            max_ios = g.plan.max_ios;
-            limit = g.plan.limit;
-          };
-        }
+  -- the page at hand is what may be answered next
+  pub page_answered : IsRight s.at_hand → ending_at_hand s.at_hand ≡ None → HasAnswer s.at_hand
+      → HasRecords world s.scope p s.desk.now.reads → HasPosition left world s
+      → IsNextPage (answer_at_hand s)
+  page_answered = page-shown s.at_hand
 
-    pub given_between : IsBetweenCalls left world p (with_at_hand (page_given s) h)
-    given_between = record {
-      invariant = record {
-        set_up = f.underway.invariant.set_up;
-        records = f.underway.invariant.records;
-      };
-      few_ios = let z = ios_within_list left world (front_of h) [] p (with_at_hand (page_given s) h)
-          running-then in omega arith;
-      running = λ _. running-then;
-      right = f.right;
-      stop_answer = rw going tt;
-    }
+  shown : (h : AtHand W) → IsRight h → (ending_at_hand h ≡ None → HasPosition left world s)
+      → IfSome (ending_at_hand h) (λ e. MayAnswer left world p s (SaidStop e)) → HasAnswer h
+      → HasRecords world s.scope p s.desk.now.reads → IfPage (said h) IsPage
+      → MayAnswer left world p s (said h)
+  shown at_hand.Nothing right at stop has records is = absurd has
+  shown (at_hand.Pinned pin) right at stop has records is =
+      (page-shown (at_hand.Pinned pin) right refl has records (at refl)).0 is
+  shown at_hand.Lent right at stop has records is =
+      (page-shown at_hand.Lent right refl has records (at refl)).0 is
+  shown (at_hand.Stopped block why) right at stop has records is = stop
+  shown at_hand.Ended right at stop has records is = stop
+
+  -- what is at hand between two calls is what may be answered next
+  pub between_answered : IsBetweenCalls left world p s → HasAnswer s.at_hand
+      → IfPage (answer_at_hand s) IsPage → MayAnswer left world p s (answer_at_hand s)
+  between_answered b has is = shown s.at_hand b.right (λ going. (b.running going).position)
+      b.stop_answer has b.invariant.records is
+
+-- the answer gives as many pages as are lent, and ends as the stream has ended
+abbrev pub SaysAtHand : {W P : Type 0} → AtHand W → Said P → Type 0
+SaysAtHand h x = (pages_given x ≡ lent_count h) × (ending_at_hand h ≡ answered_stop x)
+
+module _ {W P : Type 0} where
+  pub pages_answered : (told : Option Told) (relation : ℕ) (ended : List EndedRead)
+      (queue : List (QueuedBlock P)) (h : AtHand W) → IsRightAtHand told relation ended queue h
+      → HasAnswer h
+      → SaysAtHand h (answer_with relation h (slice_get queue 0) (slice_get ended 0))
+  pages_answered told relation ended queue at_hand.Nothing right has = absurd has
+  pages_answered told relation ended queue (at_hand.Pinned pin) (block, f, good) has =
+      rw f.first (refl, refl)
+  pages_answered told relation ended queue at_hand.Lent (block, o) has =
+      rw (o.in_front.first, o.first) (refl, refl)
+  pages_answered told relation ended queue (at_hand.Stopped block why) right has = (refl, refl)
+  pages_answered told relation ended queue at_hand.Ended right has = (refl, refl)
+
+-- where the stream has ended, something was answered, and no page is lent
+pub ended_answers : {W : Type 0} (h : AtHand W) → true ≡ is_some (ending_at_hand h)
+    → HasAnswer h × (lent_count h ≡ 0)
+ended_answers at_hand.Nothing ended = absurd (cc)
+ended_answers (at_hand.Pinned pin) ended = absurd (cc)
+ended_answers at_hand.Lent ended = absurd (cc)
+ended_answers (at_hand.Stopped block why) ended = (tt, refl)
+ended_answers at_hand.Ended ended = (tt, refl)

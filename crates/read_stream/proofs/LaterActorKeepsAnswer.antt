@@ -1,5 +1,5 @@
 -- A stream whose actor has advanced, and the answers that it keeps.
-use Rattle.std.proofs.Common.{refl, ◌≡◌, ◌+◌, ℕ, List, [], subst, ap, sym, ◌∙◌, arith}
+use Rattle.std.proofs.Common.{refl, ◌≡◌, ℕ, List, [], subst, ap, sym, ◌∙◌, arith}
 use Rattle.std.specs.Prelude.{Option, Some, None, IfSome}
 use Rattle.std.specs.declared.snapshot.Snapshot.{Snapshot}
 use Rattle.page_check.specs.declared.world.World.{Ghosts as WorldGhosts}
@@ -10,22 +10,22 @@ use Rattle.aio_handle.specs.ContractViews.{ActorView, IsSameActor}
 use Rattle.page_check.specs.SynchronousAnswer.{Ending, reader_of}
 use Rattle.page_check.specs.IsAnswer.{IsNext, Next as Said, Stop as SaidStop}
 use Rattle.aio_word.specs.declared.Known.{Known}
+use Rattle.read_stream.specs.declared.at_hand.AtHand.{AtHand}
 use Rattle.read_stream.specs.declared.reads.Reads.{Reads}
 use Rattle.read_stream.specs.declared.scope.Scope.{Scope}
 use Rattle.read_stream.specs.declared.stream.ReadStream.{ReadStream}
 use Rattle.read_stream.specs.StreamAnswers.{stream_entries, pages_given, MayBeUnread}
 use Rattle.read_stream.specs.StreamViews.{answered_stop, stream_after, IsActorAsLeft}
 use Rattle.read_stream.specs.StreamIos.{Issued}
-use Rattle.read_stream.specs.WantedBlocks.{wanted_runs}
 use Rattle.read_stream.specs.ActorProgress.{ActorAdvanced}
-use Rattle.read_stream.specs.AtHand.{ending_at_hand, record_of}
+use Rattle.read_stream.specs.AtHand.{ending_at_hand, lent_count}
 use Rattle.read_stream.specs.StreamState.{IsBetweenCalls, IsOpen}
 use Rattle.read_stream.specs.StreamState.{entries_at_open, stream_view}
-use Rattle.read_stream.specs.Changes.{SameStream}
+use Rattle.read_stream.specs.Changes.{IsSameReading, with_at_hand}
 use Rattle.read_stream.proofs.ActorAdvancedLaws.{advanced_taking_up}
 use Rattle.read_stream.proofs.ReadsMatchRuns.{reads-later}
 use Rattle.read_stream.proofs.SubmitKeepsIssued.{issued-taking-up}
-use Rattle.read_stream.proofs.StreamInvariantLaws.{same_stream_refl, some_taken}
+use Rattle.read_stream.proofs.StreamInvariantLaws.{same_reading_refl}
 use Rattle.read_stream.proofs.UnreadCauses.{may_later, next_wider}
 
 -- an actor that has only looked has advanced by nothing
@@ -42,17 +42,24 @@ some-wider : (o : Option Ending) (A B : Ending → Type 0) → ((e : Ending) →
 some-wider None A B f is = tt
 some-wider (Some e) A B f is = f e is
 
+-- a stream reads the same, whatever it has at hand
+pub found_kept : {W S P : Type 0} (s t n : ReadStream W S P) (h : AtHand W) → IsSameReading s t
+    → n ≡ with_at_hand t h → IsSameReading s n
+found_kept {W} {S} {P} s t n h k is =
+    subst (λ (z : ReadStream W S P). IsSameReading s z) (sym is)
+    (record { desk = k.desk; scope = k.scope; source_was = k.source_was; settings = k.settings })
+
 module _ {W S P : Type 0} (left : S → List (ℕ × P)) (world : WorldGhosts W) where
-  -- the same answer of the same stream
-  pub next_answer_kept : (q : Known) (s n : ReadStream W S P) (x : Said P) → SameStream s n
-      → n.given ≡ s.given
+  -- the same answer of the same stream, behind so many pages
+  pub next_answer_kept : (q : Known) (s n : ReadStream W S P) (given : ℕ) (x : Said P)
+      → IsSameReading s n → n.given ≡ given
       → IsNext (reader_of n.scope.zero world.told) (MayBeUnread n.scope.was.value q)
       (stream_entries n.scope.relation (left n.source_was.value)) n.given x
       → IsNext (reader_of s.scope.zero world.told) (MayBeUnread s.scope.was.value q)
-      (stream_entries s.scope.relation (left s.source_was.value)) s.given x
-  next_answer_kept q s n x k given is =
+      (stream_entries s.scope.relation (left s.source_was.value)) given x
+  next_answer_kept q s n given x k so_many is =
       subst (λ (z : ℕ). IsNext (reader_of s.scope.zero world.told) (MayBeUnread s.scope.was.value q)
-      (stream_entries s.scope.relation (left s.source_was.value)) z x) given
+      (stream_entries s.scope.relation (left s.source_was.value)) z x) so_many
       (subst (λ z. IsNext (reader_of s.scope.zero world.told) (MayBeUnread s.scope.was.value q)
       (stream_entries s.scope.relation (left z.value)) n.given x) k.source_was
       (subst (λ (z : Scope W). IsNext (reader_of z.zero world.told) (MayBeUnread z.was.value q)
@@ -68,8 +75,8 @@ module _ {W S P : Type 0} (left : S → List (ℕ × P)) (world : WorldGhosts W)
         few_ios = b.few_ios;
         running = λ going. (let g = b.running going in record {
           position = g.position;
-          order = g.order;
-          ios = g.ios;
+          reads = g.reads;
+          wants = g.wants;
           plan = g.plan;
         });
         right = b.right;
@@ -78,12 +85,14 @@ module _ {W S P : Type 0} (left : S → List (ℕ × P)) (world : WorldGhosts W)
 
   -- the stream after a call, as its callers see it
   pub same_view : (s n : ReadStream W S P) (actor_is : Snapshot ActorView) (actor : ActorView)
-      (answer : Said P) → SameStream s n → n.given ≡ s.given + pages_given answer
+      (answer : Said P) → IsSameReading s n → n.given ≡ (stream_view left s).given
+      → pages_given answer ≡ lent_count n.at_hand
       → ending_at_hand n.at_hand ≡ answered_stop answer → actor_is.value ≡ actor
       → stream_view left (record n { actor_is = actor_is })
       ≡ stream_after (stream_view left s) actor answer
-  same_view s n actor_is actor answer k given ending is = rw (
+  same_view s n actor_is actor answer k given pages ending is = rw (
     given,
+    sym pages,
     ending,
     is,
     k.desk,
@@ -94,7 +103,7 @@ module _ {W S P : Type 0} (left : S → List (ℕ × P)) (world : WorldGhosts W)
 
   -- the stream is open after a call that left its actor so
   pub open_after : (s n : ReadStream W S P) (now : ActorView) (noted : Snapshot ActorView)
-      → SameStream s n → IsSameActor s.actor_is.value now
+      → IsSameReading s n → IsSameActor s.actor_is.value now
       → IsBetweenCalls left world now.known n → noted.value ≡ now
       → IsOpen left world s
       → IsOpen left world (record n { actor_is = noted })
@@ -133,19 +142,19 @@ module _ {W S P : Type 0} (left : S → List (ℕ × P)) (world : WorldGhosts W)
           records = record {
             issued = issued;
             batch_within = v.batch_within;
-            taken_in = some_taken s.scope world p q 0 0 0 0 (record_of s.at_hand) w v.taken_in;
             record_total = v.record_total;
           };
         };
         few_ios = b.few_ios;
         running = λ going. (let g = b.running going in record {
           position = g.position;
-          order = g.order;
-          ios = record {
-            runs = reads-later s.scope p q reads reads (wanted_runs s.desk.now.wants.items)
-                w.aims refl refl refl g.ios.runs;
-            few_ios = g.ios.few_ios;
+          reads = record {
+            runs = g.reads.runs;
+            reads_for = reads-later s.scope p q reads reads s.given g.reads.runs w.aims refl refl
+                refl refl g.reads.reads_for;
+            in_order = g.reads.in_order;
           };
+          wants = g.wants;
           plan = g.plan;
         });
         right = b.right;
@@ -159,6 +168,6 @@ module _ {W S P : Type 0} (left : S → List (ℕ × P)) (world : WorldGhosts W)
       → IsActorAsLeft s.actor_is.value now → noted.value ≡ now
       → IsOpen left world s
       → IsOpen left world (record s { actor_is = noted })
-  open_looked s now noted a is o = open_after s s now noted (same_stream_refl s)
+  open_looked s now noted a is o = open_after s s now noted (same_reading_refl s)
       (a.0, a.1.config, a.1.number)
       (between_looked s.actor_is.value.known now.known s a.1 o.between) is o

@@ -9,6 +9,7 @@ use Rattle.aio_word.specs.declared.Known.{Known}
 use Rattle.aio_handle.specs.FreeHandles.{IsRoom}
 use Rattle.aio_handle.specs.EndStates.{HasNoOwnerTokens}
 use Rattle.aio_callback.specs.ReadIoView.{ReadIoView}
+use Rattle.read_stream.specs.declared.reads.EndedRead.{EndedRead}
 use Rattle.read_stream.specs.declared.reads.Reads.{Reads}
 use Rattle.read_stream.specs.declared.scope.Scope.{Scope}
 use Rattle.read_stream.specs.StreamIos.{Issued, AllRecordsFree, IsStreamRecord, IsNewIncarnation}
@@ -29,7 +30,7 @@ module _ {W : Type 0} where
       ap (λ (z : List (WaitRef × ReadIoView)). length z) ready.batch in
       let f : length r.in_flight.items ≡ 0 =
       ap (λ (z : List WaitRef). length z) ready.in_flight in
-      let e : length r.ended.items ≡ 0 = ap (λ (z : List ReadIoView). length z) ready.ended in
+      let e : length r.ended.items ≡ 0 = ap (λ (z : List EndedRead). length z) ready.ended in
       record {
         room = ready.has_room;
         count_within = let n = ready.free_count in omega arith;
@@ -46,7 +47,7 @@ module _ {W : Type 0} where
         };
         records = record {
           free = ready.free;
-          ended_records = each-none (λ x. IsTakenIn c world p x) r.ended.items ready.ended;
+          ended_records = each-none (λ x. IsTakenIn c world p x.io) r.ended.items ready.ended;
         };
         tokens = record {
           staged_tokens = rw ready.batch tt;

@@ -9,6 +9,7 @@ use Rattle.aio_word.specs.Stands.{IsIn}
 use Rattle.aio_word.proofs.ReplacedElement.{in-append, in-left, in-right}
 use Rattle.aio_callback.specs.ReadIoView.{ReadIoView}
 use Rattle.circular_buffer.specs.Buffer.{Buffer, buffer}
+use Rattle.read_stream.specs.declared.reads.EndedRead.{EndedRead}
 use Rattle.read_stream.specs.declared.reads.Reads.{Reads}
 use Rattle.read_stream.specs.declared.scope.Scope.{Scope}
 use Rattle.read_stream.specs.StreamIos.{Issued, HeldByCaller, AllStreamIos, AreStreamRecords}
@@ -38,7 +39,7 @@ in-moved x t bs ts i = ⊎_elim (λ l. inr (in-left x bs ts l))
 module _ {W : Type 0} (c : Scope W) (world : WorldGhosts W) (p : Known) (s : Reads W)
   where
     -- other records are free, or have ended
-    issued-records : (free ended : List ReadIoView)
+    pub issued-records : (free : List ReadIoView) (ended : List EndedRead)
         → length free + length s.batch + length s.in_flight.items + length ended ≤ c.total
         → AreStreamRecords c world p free ended → Issued c world p s
         → Issued c world p (record s {
@@ -54,17 +55,17 @@ module _ {W : Type 0} (c : Scope W) (world : WorldGhosts W) (p : Known) (s : Rea
       tokens = i.tokens;
     }
 
-    -- the oldest record that has ended is taken out
-    pub less-ended : (r : ReadIoView) → slice_get s.ended.items 0 ≡ Some r
+    -- the oldest read that has ended is taken out
+    pub less-ended : (r : EndedRead) → slice_get s.ended.items 0 ≡ Some r
         → Issued c world p s
         → Issued c world p (record s {
           ended = buffer (drop 1 s.ended.items) s.ended.capacity;
-        }) × IsTakenIn c world p r
+        }) × IsTakenIn c world p r.io
         × (length s.ended.items ≡ length (drop 1 s.ended.items) + 1)
     less-ended r at i =
         let first = first-of s.ended.items r at in
         let whole : length s.ended.items ≡ length (r ∷ drop 1 s.ended.items) =
-        ap (λ (z : List ReadIoView). length z) first in
+        ap (λ (z : List EndedRead). length z) first in
         let few = i.count_within in (
           issued-records s.free.items (drop 1 s.ended.items) (omega arith) (record {
             free = i.records.free;
@@ -111,7 +112,7 @@ module _ {W : Type 0} (c : Scope W) (world : WorldGhosts W) (p : Known) (s : Rea
         }
 
     -- a record is kept with its pages
-    pub more-ended : (r : ReadIoView) → record_count s < c.total → IsTakenIn c world p r
+    pub more-ended : (r : EndedRead) → record_count s < c.total → IsTakenIn c world p r.io
         → Issued c world p s
         → Issued c world p (record s {
           ended = buffer (s.ended.items ++ r ∷ []) s.ended.capacity;
@@ -120,8 +121,22 @@ module _ {W : Type 0} (c : Scope W) (world : WorldGhosts W) (p : Known) (s : Rea
         let more = length-append s.ended.items (r ∷ []) in
         issued-records s.free.items (s.ended.items ++ r ∷ []) (omega arith) (record {
           free = i.records.free;
-          ended_records = each-pushed (λ x. IsTakenIn c world p x) s.ended.items r
+          ended_records = each-pushed (λ x. IsTakenIn c world p x.io) s.ended.items r
               i.records.ended_records new;
+        }) i
+
+    -- a record that was read at once is kept before the others
+    pub front-ended : (r : EndedRead) → record_count s < c.total → IsTakenIn c world p r.io
+        → Issued c world p s
+        → Issued c world p (record s {
+          ended = buffer (r ∷ s.ended.items) s.ended.capacity;
+        })
+    front-ended r room new i =
+        issued-records s.free.items (r ∷ s.ended.items) (omega arith) (record {
+          free = i.records.free;
+          ended_records = λ x j. ⊎_elim
+              (λ is. subst (λ (z : EndedRead). IsTakenIn c world p z.io) is new)
+              (λ behind. i.records.ended_records x behind) j;
         }) i
 
     -- a record is free again

@@ -188,7 +188,7 @@ module _ (p m q : Known) (t : WaitRef) (l : Label) (a b d e : ℕ) (class : Clas
                 marks-both idles.lived h in omega arith)) i.actor;
             records = record {
               free = i.records.free;
-              ended_records = λ x j. taken-grown c world p q more x grown
+              ended_records = λ x j. taken-grown c world p q more x.io grown
                   advanced-settling.aims (i.records.ended_records x j);
             };
             tokens = record {

@@ -233,7 +233,7 @@ module _ {W : Type 0} (c : Scope W) (world : WorldGhosts W) where
             records = record {
               free = i.records.free;
               ended_records = λ x j. taken-grown c world o q2
-                  (make_mark t kind.Defined ∷ make_mark t kind.Staged ∷ []) x grown
+                  (make_mark t kind.Defined ∷ make_mark t kind.Staged ∷ []) x.io grown
                   (λ e j'. advanced-defined.aims e (aims-handed e j'))
                   (i.records.ended_records x j);
             };

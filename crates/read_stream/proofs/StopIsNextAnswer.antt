@@ -1,119 +1,82 @@
 -- A stream stops.
 use Rattle.std.proofs.Common.{◌≡◌, ℕ, List, [], ◌∷◌, ◌++◌, map, drop, sym, ap, subst, arith, ◌∙◌}
-use Rattle.std.proofs.Common.{true}
-use Rattle.std.specs.Prelude.{Some, None, is_some, slice_get}
+use Rattle.std.proofs.Common.{inl, refl}
+use Rattle.std.specs.Prelude.{Some, slice_get}
 use Rattle.std.proofs.lemmas.List.{length-map}
 use Rattle.page_check.specs.declared.world.World.{Ghosts as WorldGhosts}
 use Rattle.page_check.specs.SynchronousAnswer.{reader_of, End}
-use Rattle.page_check.specs.IsAnswer.{IsNext, Stop as SaidStop}
+use Rattle.page_check.specs.IsAnswer.{IsNext, Next as Said, Stop as SaidStop}
 use Rattle.aio_word.specs.declared.Known.{Known}
-use Rattle.aio_callback.specs.ReadIoView.{ReadIoView}
-use Rattle.read_stream.specs.declared.at_hand.AtHand.{AtHand}
-use Rattle.read_stream.specs.declared.at_hand.AtHand.TheVariants as at_hand
+use Rattle.aio_word.specs.Stands.{IsIn}
+use Rattle.read_stream.specs.declared.parts.Part.{Part}
 use Rattle.read_stream.specs.declared.parts.Part.TheVariants as part
 use Rattle.read_stream.specs.declared.parts.Stop.{Stop}
 use Rattle.read_stream.specs.declared.queue.QueuedBlock.{QueuedBlock}
 use Rattle.read_stream.specs.declared.stream.ReadStream.{ReadStream}
-use Rattle.read_stream.specs.StreamAnswers.{stream_entry, stream_entries, MayBeUnread}
-use Rattle.read_stream.specs.WantedBlocks.{source_item}
-use Rattle.read_stream.specs.AtHand.{Front, answer_at_hand, ending_at_hand, held_front}
-use Rattle.read_stream.specs.AtHand.{stop_ending}
-use Rattle.read_stream.specs.StreamState.{FindsBlock, IsBetweenCalls, IsRunning, UnderwayWith}
-use Rattle.read_stream.specs.Changes.{with_at_hand}
-use Rattle.read_stream.specs.Parts.{CoversBlock, IsValidPart}
+use Rattle.read_stream.specs.StreamAnswers.{stream_entry, MayBeUnread}
+use Rattle.read_stream.specs.StreamIos.{IsTakenIn}
+use Rattle.read_stream.specs.QueuedBlocks.{HasInFront, source_item}
+use Rattle.read_stream.specs.AtHand.{IsNextOfOldest, stop_ending}
+use Rattle.read_stream.specs.StreamState.{HasRecords, IsPosition, entries_at_open, list_at_open}
 use Rattle.read_stream.proofs.PartIsNextAnswer.{stop_is_next}
 use Rattle.read_stream.proofs.ListPositions.{none-at}
 use Rattle.read_stream.proofs.QueueMovesKeepIssued.{first-of}
 use Rattle.read_stream.proofs.NextAnswerCases.{next-end}
-use Rattle.read_stream.proofs.QueueFront.{ios_within_list}
-use Rattle.read_stream.proofs.BlockInFront.{spent_in_front}
+
+-- the first of a list is in it
+pub first-in : {X : Type 0} (xs : List X) (x : X) → slice_get xs 0 ≡ Some x → IsIn x xs
+first-in {X} xs x e = subst (λ (z : List X). IsIn x z) (sym (first-of xs x e)) (inl refl)
 
 module _ {W S P : Type 0} (left : S → List (ℕ × P)) (world : WorldGhosts W) where
-  -- the blocks that are left of the list
-  pub left-of : (p : Known) (s : ReadStream W S P) (front : Front) (behind : List ℕ)
-      (a : QueuedBlock P) → slice_get s.desk.now.queue.items 0 ≡ Some a
-      → IsRunning left world front behind p s
-      → drop s.given (left s.source_was.value)
-      ≡ source_item a ∷ (map source_item (drop 1 s.desk.now.queue.items) ++ left s.source)
-  left-of p s front behind a first g =
-      sym g.position.blocks ∙ ap (λ (z : List (QueuedBlock P)). map source_item z ++ left s.source)
-      (first-of s.desk.now.queue.items a first)
+  -- the stream's place in its list
+  abbrev pub HasPosition : ReadStream W S P → Type 0
+  HasPosition s = IsPosition world.told s.scope (list_at_open left world s) (left s.source)
+      s.desk.now.blocks.over s.given s.desk.now.blocks.queue.items
 
-  -- the record has what stops the stream at the block
-  stops_at : (p : Known) (s : ReadStream W S P) (a : QueuedBlock P) (io : ReadIoView)
-      (block : ℕ) (why : Stop) → slice_get s.desk.now.queue.items 0 ≡ Some a
-      → FindsBlock left world a (at_hand.Stopped io block why) p s
-      → IsNext (reader_of s.scope.zero world.told) (MayBeUnread s.scope.was.value p)
-      (stream_entries s.scope.relation (left s.source_was.value)) s.given
-      (SaidStop (stop_ending why block))
-      × IsBetweenCalls left world p (with_at_hand s (at_hand.Stopped io block why))
-  stops_at p s a io block why first f =
-      let u = f.underway in
-      let front : Front = held_front (Some io) a.block in
-      let has = subst (λ (z : ℕ). CoversBlock io z) f.is_for f.right.0 in
-      let few = ios_within_list left world front [] p s u.running in
-      let most = spent_in_front (Some io) a.block has in
-      let next : IsNext (reader_of s.scope.zero world.told) (MayBeUnread s.scope.was.value p)
-      (stream_entries s.scope.relation (left s.source_was.value)) s.given
-      (SaidStop (stop_ending why block)) = rw f.is_for
-      (stop_is_next s.scope world (left s.source_was.value) s.given a.block
-      a.per_buffer_data (map source_item (drop 1 s.desk.now.queue.items) ++ left s.source)
-      (left-of p s front [] a first u.running) u.running.position.readable p io
-      u.invariant.records.taken_in has why
-      (subst (λ (z : ℕ). IsValidPart world.told io z (part.Stop why)) f.is_for f.right.1)) in (
-        next,
-        record {
-          invariant = record { set_up = u.invariant.set_up; records = u.invariant.records };
-          few_ios = omega arith;
-          running = λ going. absurd (cc);
-          right = f.right;
-          stop_answer = next;
-        },
-      )
+  -- this may be answered behind the pages that were given back
+  abbrev pub MayAnswer : Known → ReadStream W S P → Said P → Type 0
+  MayAnswer p s x = IsNext (reader_of s.scope.zero world.told) (MayBeUnread s.scope.was.value p)
+      (entries_at_open left world s) s.given x
 
-  -- what was found stops the stream
-  pub stops_found : (p : Known) (s : ReadStream W S P) (a : QueuedBlock P) (h : AtHand W P)
-      → slice_get s.desk.now.queue.items 0 ≡ Some a → FindsBlock left world a h p s
-      → is_some (ending_at_hand h) ≡ true
-      → IsNext (reader_of s.scope.zero world.told) (MayBeUnread s.scope.was.value p)
-      (stream_entries s.scope.relation (left s.source_was.value)) s.given
-      (answer_at_hand s.scope.relation h) × IsBetweenCalls left world p (with_at_hand s h)
-  stops_found p s a (at_hand.Stopped io block why) first f some =
-      stops_at p s a io block why first f
-  stops_found p s a (at_hand.Pinned pin b) first f some = absurd (cc)
-  stops_found p s a (at_hand.Record io b) first f some = absurd (cc)
-  stops_found p s a at_hand.Nothing first f some = absurd f.is_for
-  stops_found p s a at_hand.Ended first f some = absurd f.is_for
+  -- the blocks of the list that are left, of which this one stands in front
+  pub left_of : (s : ReadStream W S P) (block : ℕ) (read : List ℕ)
+      → (f : HasInFront s.desk.now.blocks.queue.items block read) → HasPosition s
+      → drop s.given (list_at_open left world s) ≡ (block, f.asked.per_buffer_data)
+      ∷ (map source_item (drop 1 s.desk.now.blocks.queue.items) ++ left s.source)
+  left_of s block read f at =
+      let rest : List (ℕ × P) =
+      map source_item (drop 1 s.desk.now.blocks.queue.items) ++ left s.source in
+      sym at.blocks ∙ (ap (λ (z : List (QueuedBlock P)). map source_item z ++ left s.source)
+      (first-of s.desk.now.blocks.queue.items f.asked f.first)
+      ∙ ap (λ (z : ℕ). (z, f.asked.per_buffer_data) ∷ rest) f.is_block)
+
+  -- the record of the oldest read was taken in
+  pub oldest_taken : (p : Known) (s : ReadStream W S P) (block : ℕ) (has : Part)
+      → HasRecords world s.scope p s.desk.now.reads
+      → (o : IsNextOfOldest world.told s.desk.now.reads.ended.items s.desk.now.blocks.queue.items
+      block has) → IsTakenIn s.scope world p o.oldest.io
+  oldest_taken p s block has records o = records.issued.records.ended_records o.oldest
+      (first-in s.desk.now.reads.ended.items o.oldest o.first)
+
+  -- the oldest read has what stops the stream at the block
+  pub stop_answered : (p : Known) (s : ReadStream W S P) (block : ℕ) (why : Stop)
+      → IsNextOfOldest world.told s.desk.now.reads.ended.items s.desk.now.blocks.queue.items block
+      (part.Stop why) → HasRecords world s.scope p s.desk.now.reads → HasPosition s
+      → MayAnswer p s (SaidStop (stop_ending why block))
+  stop_answered p s block why o records at =
+      stop_is_next s.scope world (list_at_open left world s) s.given block
+      o.in_front.asked.per_buffer_data
+      (map source_item (drop 1 s.desk.now.blocks.queue.items) ++ left s.source)
+      (left_of s block (block ∷ []) o.in_front at) at.readable p o.oldest.io
+      (oldest_taken p s block (part.Stop why) records o) o.covers why o.part
 
   -- no block is left
-  pub ended : (p : Known) (s : ReadStream W S P) (front : Front) → front.spent ≡ 0
-      → front.taken ≡ None → s.desk.now.queue.items ≡ [] → left s.source ≡ []
-      → UnderwayWith left world front [] p s
-      → IsNext (reader_of s.scope.zero world.told) (MayBeUnread s.scope.was.value p)
-      (stream_entries s.scope.relation (left s.source_was.value)) s.given (SaidStop End)
-      × IsBetweenCalls left world p (with_at_hand s at_hand.Ended)
-  ended p s front unspent no_record none empty u =
-      let g = u.running in
-      let all = none-at (left s.source_was.value) s.given
-      (sym g.position.blocks ∙ (ap (λ (z : List (QueuedBlock P)). map source_item z ++ left
-      s.source) none
-      ∙ empty)) in
-      let n = length-map (left s.source_was.value) (stream_entry s.scope.relation) in
-      let few = g.position.given_within in
-      let ios = ios_within_list left world front [] p s g in
-      let next = next-end s.scope.zero (MayBeUnread s.scope.was.value p)
-      (stream_entries s.scope.relation (left s.source_was.value)) s.given world.told
-      g.position.readable
-      (omega arith) in (
-        next,
-        record {
-          invariant = record {
-            set_up = u.invariant.set_up;
-            records = rw no_record at u.invariant.records;
-          };
-          few_ios = omega arith;
-          running = λ going. absurd (cc);
-          right = tt;
-          stop_answer = next;
-        },
-      )
+  pub end_answered : (p : Known) (s : ReadStream W S P) → s.desk.now.blocks.queue.items ≡ []
+      → left s.source ≡ [] → HasPosition s → MayAnswer p s (SaidStop End)
+  end_answered p s none empty at =
+      let all = none-at (list_at_open left world s) s.given (sym at.blocks
+      ∙ (ap (λ (z : List (QueuedBlock P)). map source_item z ++ left s.source) none ∙ empty)) in
+      let n = length-map (list_at_open left world s) (stream_entry s.scope.relation) in
+      let few = at.given_within in
+      next-end s.scope.zero (MayBeUnread s.scope.was.value p) (entries_at_open left world s)
+      s.given world.told at.readable (omega arith)

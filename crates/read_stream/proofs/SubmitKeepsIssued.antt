@@ -18,7 +18,8 @@ use Rattle.aio_batch.specs.StagedTokens.{AreStagedTokens}
 use Rattle.aio_batch.specs.NextSubmission.{IsNextSubmission}
 use Rattle.aio_batch.proofs.StagedTokensKept.{staged_tokens-kept, submission-keeps}
 use Rattle.aio_callback.specs.ReadIoView.{ReadIoView, record_aim}
-use Rattle.circular_buffer.specs.Buffer.{buffer}
+use Rattle.circular_buffer.specs.Buffer.{Buffer, buffer}
+use Rattle.read_stream.specs.declared.reads.EndedRead.{EndedRead}
 use Rattle.read_stream.specs.declared.reads.Reads.{Reads}
 use Rattle.read_stream.specs.declared.scope.Scope.{Scope}
 use Rattle.read_stream.specs.ActorProgress.{AllSubmitted}
@@ -56,7 +57,7 @@ module _ {W : Type 0} (c : Scope W) where
     actor = stream-actor-kept c p q s.taken_in i out k.actor;
     records = record {
       free = k.records.free;
-      ended_records = λ r j. taken-later c world p q r i (k.records.ended_records r j);
+      ended_records = λ r j. taken-later c world p q r.io i (k.records.ended_records r j);
     };
     tokens = record {
       staged_tokens = staged_tokens-kept p q s.batch
@@ -118,7 +119,7 @@ module _ {W : Type 0} (c : Scope W) where
           actor = stream-actor-kept c p q s.taken_in i out k.actor;
           records = record {
             free = k.records.free;
-            ended_records = λ r j. taken-later c world p q r i
+            ended_records = λ r j. taken-later c world p q r.io i
                 (k.records.ended_records r j);
           };
           tokens = record {
@@ -219,6 +220,24 @@ module _ {W : Type 0} (c : Scope W) where
   lent-at-once world p q s s' x after t a b d e is new aimed fresh apart room k n held =
       issued-lent world p q s' after t a b d e n held
       (issued-put c world p s s' x is new aimed fresh apart room k)
+
+  -- it was settled, and its record lies with the caller
+  pub counted-at-once : (s s' s'' : Reads W) (x : WaitRef × ReadIoView)
+      (after : List (WaitRef × ReadIoView)) → length s.batch ≤ 0
+      → s' ≡ record s { batch = s.batch ++ x ∷ [] } → after ≡ [] → s''.free ≡ s'.free
+      → s''.ended ≡ s'.ended → s''.in_flight ≡ s'.in_flight → s''.batch ≡ after
+      → record_count s'' ≡ record_count s
+  counted-at-once s s' s'' x after none is gone free ended in_flight batch =
+      let f : length s''.free.items ≡ length s.free.items =
+      ap (λ (z : Buffer ReadIoView). length z.items) (free ∙ ap (λ (z : Reads W). z.free) is) in
+      let e : length s''.ended.items ≡ length s.ended.items =
+      ap (λ (z : Buffer EndedRead). length z.items) (ended ∙ ap (λ (z : Reads W). z.ended) is) in
+      let i : length s''.in_flight.items ≡ length s.in_flight.items =
+      ap (λ (z : Buffer WaitRef). length z.items)
+      (in_flight ∙ ap (λ (z : Reads W). z.in_flight) is) in
+      let b : length s''.batch ≡ 0 =
+      ap (λ (z : List (WaitRef × ReadIoView)). length z) (batch ∙ gone) in
+      omega arith
 
   -- and it is to read what its record was aimed at
   pub for-at-once : (p q : Known) (s s' : Reads W) (x : WaitRef × ReadIoView)

@@ -1,5 +1,6 @@
 -- The settings of a desk, and a desk that serves no stream.
-use Rattle.std.specs.Prelude.{◌≡◌, ◌+◌, ◌≤◌, []}
+use Rattle.std.specs.Prelude.{◌≡◌, ◌+◌, ◌≤◌, [], false}
+use Rattle.read_plan.specs.Plans.{PlanView, new_plan}
 use Rattle.read_stream.specs.declared.desk.Desk.{Desk}
 use Rattle.read_stream.specs.declared.desk.Settings.{Settings}
 use Rattle.read_stream.specs.StreamIos.{AllRecordsFree}
@@ -15,11 +16,20 @@ pub record AreValidSettings (s : Settings) : Type 0 where
 pub record IsFreeDesk {W P : Type 0} (d : Desk W P) : Type 0 where
   pub settings : AreValidSettings d.settings
   pub ready : AllRecordsFree d.settings.combine (d.settings.ios + 1) d.reads
-  pub queue : d.queue.items ≡ []
-  pub wants : d.wants.items ≡ []
-  pub most_blocks : d.settings.limit ≤ d.queue.capacity
-  pub most_wants : d.settings.limit ≤ d.wants.capacity
+  pub queue : d.blocks.queue.items ≡ []
+  pub most_blocks : d.settings.limit ≤ d.blocks.queue.capacity
 
 -- the settings with which it was opened
 abbrev pub desk_settings : {W P : Type 0} → Desk W P → Settings
 desk_settings d = d.settings
+
+-- the plan of a new stream
+abbrev pub plan_of_settings : Settings → PlanView
+plan_of_settings s = new_plan s.combine s.ios s.limit s.full s.segment
+
+-- a new stream begins, which has made no I/O
+abbrev pub desk_begun : {W P : Type 0} → Desk W P → Desk W P
+desk_begun d = record d {
+  blocks = record d.blocks { plan = plan_of_settings d.settings; over = false };
+  reads = record d.reads { taken_in = 0 };
+}

@@ -4,7 +4,7 @@ pub mod StreamIos
 pub mod StreamAnswers
 pub mod Parts
 pub mod Desks
-pub mod WantedBlocks
+pub mod QueuedBlocks
 pub mod AtHand
 pub mod StreamViews
 pub mod StreamState

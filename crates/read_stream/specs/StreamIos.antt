@@ -1,6 +1,7 @@
 -- The I/Os of a stream: which token and which record is where.
 use Rattle.std.specs.Prelude.{◌≡◌, ◌≢◌, ℕ, ◌+◌, ◌*◌, ◌^◌, ◌<◌, ◌≤◌, ◌⊎◌, ◌++◌, List, [], ◌∷◌, map}
-use Rattle.std.specs.Prelude.{length, Option, Some, None}
+use Rattle.std.specs.Prelude.{length, drop, take, slice_get, ◌-◌, Some, None}
+use Rattle.circular_buffer.specs.Buffer.{buffer}
 use Rattle.page_check.specs.declared.world.World.{Ghosts as WorldGhosts}
 use Rattle.aio_word.specs.declared.Class.TheVariants.{Unended}
 use Rattle.aio_word.specs.declared.Kind.TheVariants as kind
@@ -16,6 +17,7 @@ use Rattle.aio_callback.specs.ReadIoView.{ReadIoView, ReadFits, record_aim}
 use Rattle.aio_callback.specs.Finishes.{record_reference}
 use Rattle.aio_callback.specs.StreamOutcomes.{stream_ids}
 use Rattle.read_plan.specs.declared.runs.Run.{Run}
+use Rattle.read_stream.specs.declared.reads.EndedRead.{EndedRead}
 use Rattle.read_stream.specs.declared.reads.Reads.{Reads}
 use Rattle.read_stream.specs.declared.scope.Scope.{Scope}
 use Rattle.aio_word.specs.declared.Step.TheVariants.{HandOut}
@@ -33,10 +35,19 @@ staged_references (x ∷ xs) = x.0 ∷ staged_references xs
 abbrev pub run_of : ReadIoView → Run
 run_of r = record { first = r.first; count = r.count }
 
--- the record is one that was to read the run
-abbrev pub IsRecordForRun : Run → Option ReadIoView → Type 0
-IsRecordForRun run None = ⊥
-IsRecordForRun run (Some r) = run_of r ≡ run
+-- the blocks of a read whose pages were not given
+abbrev pub left_run : EndedRead → Run
+left_run e = record { first = e.io.first + e.given; count = e.io.count - e.given }
+
+-- how many of the reads have given no page
+abbrev pub ungiven_count : List EndedRead → ℕ
+ungiven_count [] = 0
+ungiven_count (e ∷ es) = (1 - e.given) + ungiven_count es
+
+-- one page more of the oldest read was given
+abbrev pub first_given : List EndedRead → List EndedRead
+first_given [] = []
+first_given (e ∷ es) = record e { given = e.given + 1 } ∷ es
 
 -- one of the actor's handles is in the middle of no life
 pub record HasIdleHandle (k : Config) (p : Known) : Type 0 where
@@ -119,9 +130,9 @@ module _ {W : Type 0} (c : Scope W) where
 
   -- records that nobody uses, and those that were taken in with their pages
   pub record AreStreamRecords (world : WorldGhosts W) (p : Known)
-      (unused settled : List ReadIoView) : Type 0 where
+      (unused : List ReadIoView) (settled : List EndedRead) : Type 0 where
     pub free : (r : ReadIoView) → IsIn r unused → length r.pages ≡ c.combine
-    pub ended_records : (r : ReadIoView) → IsIn r settled → IsTakenIn world p r
+    pub ended_records : (e : EndedRead) → IsIn e settled → IsTakenIn world p e.io
 
   -- the tokens of a stream: those that are staged, and those in flight. Each incarnation that is not
   -- over is one of these, or one of the caller's
@@ -145,12 +156,39 @@ module _ {W : Type 0} where
   abbrev pub ios_started : Reads W → ℕ
   ios_started s = s.taken_in + length s.batch + length s.in_flight.items
 
-  -- the I/Os that were started and not given, the oldest first, are to read these runs
-  pub record ReadsForRuns (c : Scope W) (p : Known) (s : Reads W) (runs : List Run) : Type 0 where
+  -- the reads that were started, the oldest first, have these runs left. Each I/O that was taken in
+  -- has given a page, which is one of so many, or its read has given none
+  pub record ReadsForRuns (c : Scope W) (p : Known) (s : Reads W) (given : ℕ) (runs : List Run)
+      : Type 0 where
     pub runs_in_flight : List Run
     pub stream_ios : InFlightForRuns c p s.in_flight.items runs_in_flight
-    pub in_order : runs ≡ map run_of s.ended.items ++ runs_in_flight
+    pub in_order : runs ≡ map left_run s.ended.items ++ runs_in_flight
         ++ map (λ x. run_of x.1) s.batch
+    pub not_empty : (run : Run) → IsIn run runs → 1 ≤ run.count
+    pub few_ios : s.taken_in ≤ given + ungiven_count s.ended.items
+
+  -- the same reads, later
+  pub record SameReads (c : Scope W) (p q : Known) (s s' : Reads W) : Type 0 where
+    pub free : s'.free ≡ s.free
+    pub records : record_count s' ≡ record_count s
+    pub started : ios_started s' ≡ ios_started s
+    pub runs : (given : ℕ) (runs : List Run) → ReadsForRuns c p s given runs
+        → ReadsForRuns c q s' given runs
+
+  -- a read was taken in
+  abbrev pub HasEndedRead : Reads W → Type 0
+  HasEndedRead s = (oldest : EndedRead) × (slice_get s.ended.items 0 ≡ Some oldest)
+
+  -- one page more of the oldest read was given
+  abbrev pub oldest_given : Reads W → Reads W
+  oldest_given s = record s { ended = buffer (first_given s.ended.items) s.ended.capacity }
+
+  -- the record of the oldest read is free
+  abbrev pub oldest_freed : Reads W → Reads W
+  oldest_freed s = record s {
+    free = buffer (map (λ e. e.io) (take 1 s.ended.items) ++ s.free.items) s.free.capacity;
+    ended = buffer (drop 1 s.ended.items) s.ended.capacity;
+  }
 
   -- all records lie here, and nothing is under way
   pub record AllRecordsFree (room total : ℕ) (s : Reads W) : Type 0 where

@@ -3,9 +3,7 @@ ghost use Rattle.std.specs.Prelude.{◌≡◌, ◌≤◌, ◌<◌, length, IfSom
 ghost use Rattle.aio_handle.specs.FreeHandles.{HasNoneFree};
 ghost use Rattle.aio_handle.specs.ContractViews.{IsActorOf, IsSameActor};
 ghost use Rattle.read_stream.specs.IoContexts.{IsValidContext, ContextAdvanced};
-ghost use Rattle.read_plan.specs.declared.runs.Run.{Run};
-ghost use Rattle.read_stream.specs.StreamIos.{Issued, HandleHandedOut, ReadsForRuns, record_count};
-ghost use Rattle.read_stream.specs.StreamIos.{ios_started};
+ghost use Rattle.read_stream.specs.StreamIos.{Issued, HandleHandedOut, SameReads, ios_started};
 
 use crate::io_context::IoContext;
 use crate::reads::Reads;
@@ -59,11 +57,9 @@ impl<W: World> Reads<W> {
             context.old.actor.now.known context.new.actor.now.known (E.reads context.old.runner.now)
             (E.reads context.new.runner.now) (E.faults context.old.runner.now)
             (E.faults context.new.runner.now) self.new result }
-        ensures all { (record_count self.new ≡ record_count self.old)
-            × (ios_started self.new ≡ ios_started self.old) × (self.new.free ≡ self.old.free) }
+        ensures same { SameReads scope.now context.old.actor.now.known
+            context.new.actor.now.known self.old self.new }
         ensures batch { length self.new.batch ≤ length self.old.batch }
-        ensures runs { (runs : List Run) → ReadsForRuns scope.now context.old.actor.now.known
-            self.old runs → ReadsForRuns scope.now context.new.actor.now.known self.new runs }
     {
         if let Some(token) = self.hand_out(scope, context.table, context.actor) {
             return token;

@@ -1,12 +1,12 @@
 //! The memory of a stream.
-ghost use Rattle.std.specs.Prelude.{◌≡◌, ◌≤◌, ◌+◌, IfOk, IfSome, length};
+ghost use Rattle.std.specs.Prelude.{◌≡◌, ◌≤◌, ◌+◌, IfOk};
 ghost use Rattle.read_stream.specs.IoContexts.{IsValidContext, ContextAdvanced};
 ghost use Rattle.read_stream.specs.StreamIos.{Issued, record_count, ios_started};
-ghost use Rattle.read_stream.specs.Desks.{AreValidSettings, IsFreeDesk, desk_settings};
-ghost use Rattle.read_stream.specs.AtHand.{count_some};
+ghost use Rattle.read_stream.specs.Desks.{AreValidSettings, IsFreeDesk, desk_begun, desk_settings};
+ghost use Rattle.read_stream.specs.Desks.{plan_of_settings};
 
+use crate::blocks::Blocks;
 use crate::io_context::IoContext;
-use crate::queue::{QueuedBlock, Want};
 use crate::reads::Reads;
 use crate::scope::Scope;
 use aio_batch::Method;
@@ -14,6 +14,7 @@ use aio_callback::ReadIo;
 use aio_handle::Execute;
 use circular_buffer::HeapCircularBuffer;
 use page_check::World;
+use read_plan::Plan;
 use std::alloc::{AllocError, Global};
 use std::sync::Wait;
 
@@ -36,15 +37,22 @@ pub struct Settings {
     pub zero: bool,
 }
 
-/// The memory of one stream after the other: records, the queue and the batch.
+/// The memory of one stream after the other: the half that asks, and the half that reads.
 #[derive(Drop)]
 pub struct Desk<W: World, P: Copy> {
     pub(crate) settings: Settings,
-    // The blocks that were taken from the source and not given.
-    pub(crate) queue: HeapCircularBuffer<QueuedBlock<P>>,
-    // How they are to be had, but for those at hand and those of the pending run.
-    pub(crate) wants: HeapCircularBuffer<Want>,
+    pub(crate) blocks: Blocks<P>,
     pub(crate) reads: Reads<W>,
+}
+
+impl Settings {
+    // A plan for a new stream.
+    fn plan(&self) -> Plan
+        requires { AreValidSettings self.now }
+        ensures { result ≡ plan_of_settings self.now }
+    {
+        Plan::new(self.combine, self.ios, self.limit, self.full, self.segment)
+    }
 }
 
 impl<W: World, P: Copy> Desk<W, P> {
@@ -57,53 +65,46 @@ impl<W: World, P: Copy> Desk<W, P> {
     {
         Ok(Desk {
             settings: *settings,
-            queue: HeapCircularBuffer::with_capacity(alloc, settings.limit as usize)?,
-            wants: HeapCircularBuffer::with_capacity(alloc, settings.limit as usize)?,
+            blocks: Blocks {
+                queue: HeapCircularBuffer::with_capacity(alloc, settings.limit as usize)?,
+                plan: settings.plan(),
+                over: false,
+            },
             reads: Reads::make(alloc, settings.ios + 1, settings.combine)?,
         })
     }
 
     // For a new stream: it has made no I/O yet.
     pub(crate) fn begin(&mut self)
-        ensures { self.new ≡ record self.old {
-          reads = record self.old.reads { taken_in = 0 };
-        } }
+        requires { AreValidSettings self.old.settings }
+        ensures { self.new ≡ desk_begun self.old }
     {
+        self.blocks.plan = self.settings.plan();
+        self.blocks.over = false;
         self.reads.taken_in = 0;
     }
 
-    // A stream has ended: its I/Os are taken in, and `taken` is its record besides. The answer is
-    // how many were taken in.
+    // A stream has ended: its I/Os are taken in. The answer is how many were taken in.
     pub(crate) fn end<M: Method<ReadIo, W>, E: Execute<ReadIo, W>, T: Wait>(
         &mut self,
         rt: &T,
         scope: &Scope<W>,
         context: &mut IoContext<W, M, E>,
-        taken: Option<ReadIo>,
     ) -> u64
         requires valid_context { IsValidContext E.Execute W.World scope.now context.old }
         requires settings { AreValidSettings self.old.settings }
         requires desk { (scope.now.combine ≡ self.old.settings.combine)
             × (scope.now.total ≡ self.old.settings.ios + 1)
-            × (self.old.settings.limit ≤ self.old.queue.capacity)
-            × (self.old.settings.limit ≤ self.old.wants.capacity) }
+            × (self.old.settings.limit ≤ self.old.blocks.queue.capacity) }
         requires issued { Issued scope.now W.World context.old.actor.now.known self.old.reads }
-        requires taken { IfSome taken (λ io. length io.pages ≡ scope.now.combine) }
-        requires all { record_count self.old.reads + count_some taken ≡ scope.now.total }
+        requires all { record_count self.old.reads ≡ scope.now.total }
         ensures context_advanced { ContextAdvanced E.Execute M.Method context.old context.new }
         ensures issued { Issued scope.now W.World context.new.actor.now.known self.new.reads }
         ensures free { IsFreeDesk self.new × (self.new.settings ≡ self.old.settings) }
         ensures count { (result ≡ self.new.reads.taken_in)
             × (ios_started self.new.reads ≡ ios_started self.old.reads) }
     {
-        self.queue.clear();
-        self.wants.clear();
-        match taken {
-            Some(io) => {
-                self.reads.release(io);
-                self.reads.finish(rt, scope, context)
-            }
-            None => self.reads.finish(rt, scope, context),
-        }
+        self.blocks.queue.clear();
+        self.reads.finish(rt, scope, context)
     }
 }

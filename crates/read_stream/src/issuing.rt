@@ -1,5 +1,6 @@
 //! The calls that start a stream's I/Os.
-ghost use Rattle.std.specs.Prelude.{◌≡◌, ◌≤◌, ◌<◌, ◌+◌, ◌^◌, [], ◌∷◌, ◌++◌, length, List};
+ghost use Rattle.std.specs.Prelude.{◌≡◌, ◌≤◌, ◌<◌, ◌+◌, ◌^◌, [], ◌∷◌, ◌++◌, length, List, ℕ};
+ghost use Rattle.std.specs.Prelude.{slice_get, Some};
 ghost use Rattle.std.specs.List.{All};
 ghost use Rattle.aio_word.specs.declared.WaitRef.{WaitRef};
 ghost use Rattle.aio_word.specs.Stands.{IsIn};
@@ -11,13 +12,14 @@ ghost use Rattle.aio_callback.specs.ReadIoView.{ReadIoView, with_aim};
 ghost use Rattle.aio_callback.specs.StreamOutcomes.{stream_ids};
 ghost use Rattle.read_plan.specs.declared.runs.Run.{Run};
 ghost use Rattle.read_plan.specs.Runs.{IsRun};
+ghost use Rattle.read_stream.specs.declared.reads.EndedRead.{EndedRead};
 ghost use Rattle.read_stream.specs.StreamIos.{Issued, IssuedExcept, IsStreamRecord};
-ghost use Rattle.read_stream.specs.StreamIos.{IsNewIncarnation, IsTakenIn, ReadsForRuns};
+ghost use Rattle.read_stream.specs.StreamIos.{IsNewIncarnation, ReadsForRuns, SameReads};
 ghost use Rattle.read_stream.specs.StreamIos.{record_count, ios_started};
 
 use crate::io_context::IoContext;
-use crate::reads::Reads;
-use crate::ring::push;
+use crate::reads::{EndedRead, Reads};
+use crate::ring::{push, push_front};
 use crate::scope::Scope;
 use aio_batch::Method;
 use aio_callback::{CallbackId, ReadIo};
@@ -126,10 +128,8 @@ impl<W: World> Reads<W> {
         ensures context_advanced { ContextAdvanced E.Execute M.Method context.old context.new }
         ensures issued { Issued scope.now W.World context.new.actor.now.known self.new }
         ensures none { self.new.batch ≡ [] }
-        ensures all { (record_count self.new ≡ record_count self.old)
-            × (ios_started self.new ≡ ios_started self.old) × (self.new.free ≡ self.old.free) }
-        ensures runs { (runs : List Run) → ReadsForRuns scope.now context.old.actor.now.known
-            self.old runs → ReadsForRuns scope.now context.new.actor.now.known self.new runs }
+        ensures same { SameReads scope.now context.old.actor.now.known
+            context.new.actor.now.known self.old self.new }
     {
         if self.batch.len() == 0 {
             return;
@@ -167,11 +167,9 @@ impl<W: World> Reads<W> {
             × IsStreamRecord scope.now result.1 × IsNewIncarnation scope.now result.0 }
         ensures run { (result.1.first ≡ run.first) × (result.1.count ≡ run.count) }
         ensures apart { (u : WaitRef × ReadIoView) → IsIn u self.new.batch → (u.0 ≡ result.0 → ⊥) }
-        ensures all { (record_count self.new ≡ record_count self.old)
-            × (ios_started self.new ≡ ios_started self.old) × (self.new.free ≡ self.old.free) }
+        ensures same { SameReads scope.now context.old.actor.now.known
+            context.new.actor.now.known self.old self.new }
         ensures batch { length self.new.batch ≤ length self.old.batch }
-        ensures runs { (runs : List Run) → ReadsForRuns scope.now context.old.actor.now.known
-            self.old runs → ReadsForRuns scope.now context.new.actor.now.known self.new runs }
     {
         let token = self.acquire(rt, scope, context);
         let io = aim_record(io, scope.relation, run, scope.zero);
@@ -215,9 +213,9 @@ impl<W: World> Reads<W> {
         ensures few { length self.new.batch < 32 }
         ensures all { (record_count self.new ≡ record_count self.old + 1)
             × (ios_started self.new ≡ ios_started self.old + 1) × (self.new.free ≡ self.old.free) }
-        ensures runs { (runs : List Run) → ReadsForRuns scope.now context.old.actor.now.known
-            self.old runs
-            → ReadsForRuns scope.now context.new.actor.now.known self.new (runs ++ run ∷ []) }
+        ensures runs { (given : ℕ) (runs : List Run) → ReadsForRuns scope.now
+            context.old.actor.now.known self.old given runs → ReadsForRuns scope.now
+            context.new.actor.now.known self.new given (runs ++ run ∷ []) }
     {
         let token = self.stage(rt, scope, pool, context, io, run);
         self.put(token);
@@ -226,7 +224,7 @@ impl<W: World> Reads<W> {
         }
     }
 
-    /// Reads the run by the record, at once and by this thread.
+    /// Reads the run by the record, at once and by this thread, and has it before the other reads.
     pub fn read<M: Method<ReadIo, W>, E: Execute<ReadIo, W>, T: Wait>(
         &mut self,
         rt: &T,
@@ -235,7 +233,7 @@ impl<W: World> Reads<W> {
         context: &mut IoContext<W, M, E>,
         io: ReadIo,
         run: Run,
-    ) -> ReadIo
+    )
         requires valid_context { IsValidContext E.Execute W.World scope.now context.old }
         requires issued { Issued scope.now W.World context.old.actor.now.known self.old }
         requires room { record_count self.old < scope.now.total }
@@ -245,13 +243,14 @@ impl<W: World> Reads<W> {
         requires few_ios { ios_started self.old < scope.now.most }
         ensures context_advanced { ContextAdvanced E.Execute M.Method context.old context.new }
         ensures issued { Issued scope.now W.World context.new.actor.now.known self.new }
-        ensures record { IsTakenIn scope.now W.World context.new.actor.now.known result }
-        ensures run { (result.first ≡ run.first) × (result.count ≡ run.count) }
         ensures none { self.new.batch ≡ [] }
-        ensures all { (record_count self.new ≡ record_count self.old)
+        ensures all { (record_count self.new ≡ record_count self.old + 1)
             × (ios_started self.new ≡ ios_started self.old + 1) × (self.new.free ≡ self.old.free) }
-        ensures runs { (runs : List Run) → ReadsForRuns scope.now context.old.actor.now.known
-            self.old runs → ReadsForRuns scope.now context.new.actor.now.known self.new runs }
+        ensures runs { (given : ℕ) (runs : List Run) → ReadsForRuns scope.now
+            context.old.actor.now.known self.old given runs → ReadsForRuns scope.now
+            context.new.actor.now.known self.new given (run ∷ runs) }
+        ensures oldest { (oldest : EndedRead) × (slice_get self.new.ended.items 0 ≡ Some oldest)
+            × (oldest.given ≡ 0) }
     {
         self.submit(rt, scope, context, false);
         let token = self.stage(rt, scope, pool, context, io, run);
@@ -263,6 +262,7 @@ impl<W: World> Reads<W> {
         else {
             unreachable!()
         };
-        self.settle(rt, scope, context, token)
+        let io = self.settle(rt, scope, context, token);
+        push_front(&mut self.ended, EndedRead { io, given: 0 });
     }
 }

@@ -19,20 +19,20 @@
 #![tactic(auto)]
 
 mod acquiring;
-mod ahead;
+mod advance;
 mod answer;
 mod at_hand;
+mod blocks;
 mod desk;
-mod fetch;
+mod front;
 mod io_context;
 mod issuing;
+mod look_ahead;
 mod parts;
-mod pending;
 mod queue;
 mod reads;
 mod ring;
 mod scope;
-mod serve;
 mod stream;
 mod taking_in;
 

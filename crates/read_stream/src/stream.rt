@@ -11,8 +11,8 @@ ghost use Rattle.read_stream.specs.StreamAnswers.{synchronous_answer, IfZeroed};
 ghost use Rattle.read_stream.specs.StreamViews.{answer_of, new_stream, IsStreamAnswer};
 ghost use Rattle.read_stream.specs.StreamViews.{HasNoFailedRead, IsSynchronousAnswer, CallAdvanced};
 ghost use Rattle.read_stream.specs.Desks.{IsFreeDesk, desk_settings};
-ghost use Rattle.read_stream.specs.AtHand.{answer_at_hand};
-ghost use Rattle.read_stream.specs.StreamState.{IsOpen, IsOpenFor, StreamAnswered, stream_view};
+ghost use Rattle.read_stream.specs.StreamState.{IsOpen, IsOpenFor, StreamAnswered, answer_at_hand};
+ghost use Rattle.read_stream.specs.StreamState.{stream_view};
 ghost use Rattle.read_stream.specs.ActorProgress.{local_mark_count};
 
 use crate::answer::Next;
@@ -28,7 +28,6 @@ use block_source::BlockSource;
 use buf_pool::Pool;
 use page_check::World;
 use page_check::laws::a_page_has_8192_bytes;
-use read_plan::Plan;
 use std::snapshot::Snapshot;
 use std::sync::Wait;
 
@@ -39,11 +38,8 @@ pub struct ReadStream<'d, 'p, W: World, S: BlockSource<P> + Drop, P: Copy> {
     pub(crate) pool: &'p Pool<W>,
     pub(crate) scope: Scope<W>,
     pub(crate) source: S,
-    // The source has given its last block.
-    pub(crate) over: bool,
-    pub(crate) plan: Plan,
-    pub(crate) at_hand: AtHand<'p, W, P>,
-    // How many pages were given.
+    pub(crate) at_hand: AtHand<'p, W>,
+    // How many pages were given back.
     pub(crate) given: u64,
     // The source as it was when the stream was opened, and the actor as the last call left it.
     pub(crate) source_was: Snapshot<S>,
@@ -85,21 +81,12 @@ impl<'d, 'p, W: World, S: BlockSource<P> + Drop, P: Copy> ReadStream<'d, 'p, W, 
             most: actor.room(),
             was: Snapshot::of(actor),
         };
-        let plan = Plan::new(
-            settings.combine,
-            settings.ios,
-            settings.limit,
-            settings.full,
-            settings.segment,
-        );
         desk.begin();
         ReadStream {
             desk,
             pool,
             scope,
             source,
-            over: false,
-            plan,
             at_hand: AtHand::Nothing,
             given: 0,
             source_was,
@@ -165,30 +152,32 @@ impl<'d, 'p, W: World, S: BlockSource<P> + Drop, P: Copy> ReadStream<'d, 'p, W, 
     fn answer(&self) -> Next<'_, P>
         requires is_open { IsOpen S.left W.World self.now }
         ensures answer { synchronous_answer self.now.scope.relation result
-            ≡ answer_at_hand self.now.scope.relation self.now.at_hand }
+            ≡ answer_at_hand self.now }
         ensures page { IfPage (synchronous_answer self.now.scope.relation result) IsPage }
         ensures zeroed { IfZeroed (synchronous_answer self.now.scope.relation result)
             (self.now.scope.zero ≡ true) }
     {
         match &self.at_hand {
-            AtHand::Pinned(pin, given) => {
+            AtHand::Pinned(pin) => {
+                let asked = self.desk.blocks.lent_block();
                 let page = pin.page();
                 a_page_has_8192_bytes(page);
-                Next::Page(page, given.block, &given.per_buffer_data)
+                Next::Page(page, asked.block, &asked.per_buffer_data)
             }
-            AtHand::Record(io, given) => {
-                let index = given.block - io.first();
-                let page = io.page(index);
+            AtHand::Lent => {
+                let asked = self.desk.blocks.lent_block();
+                let oldest = self.desk.reads.oldest();
+                let page = oldest.io.page(oldest.given);
                 a_page_has_8192_bytes(page);
-                if io.zeroed(index) {
-                    Next::Zeroed(page, given.block, &given.per_buffer_data)
+                if oldest.io.zeroed(oldest.given) {
+                    Next::Zeroed(page, asked.block, &asked.per_buffer_data)
                 } else {
-                    Next::Page(page, given.block, &given.per_buffer_data)
+                    Next::Page(page, asked.block, &asked.per_buffer_data)
                 }
             }
-            AtHand::Stopped(_, block, Stop::Invalid) => Next::Invalid(*block),
-            AtHand::Stopped(_, block, Stop::Unread) => Next::Unread(*block),
-            AtHand::Stopped(_, block, Stop::PastEnd) => Next::PastEnd(*block),
+            AtHand::Stopped(block, Stop::Invalid) => Next::Invalid(*block),
+            AtHand::Stopped(block, Stop::Unread) => Next::Unread(*block),
+            AtHand::Stopped(block, Stop::PastEnd) => Next::PastEnd(*block),
             AtHand::Nothing | AtHand::Ended => Next::End,
         }
     }
@@ -225,28 +214,22 @@ impl<'d, 'p, W: World, S: BlockSource<P> + Drop, P: Copy> ReadStream<'d, 'p, W, 
             pool,
             scope,
             source: _,
-            over: _,
-            plan: _,
             at_hand,
             given: _,
             source_was: _,
             actor_is: _,
         } = stream;
-        let record = match at_hand {
-            AtHand::Pinned(pin, _) => {
-                pool.unpin(rt, pin);
-                None
-            }
-            AtHand::Record(io, _) | AtHand::Stopped(io, _, _) => Some(io),
-            AtHand::Nothing | AtHand::Ended => None,
-        };
+        match at_hand {
+            AtHand::Pinned(pin) => pool.unpin(rt, pin),
+            AtHand::Nothing | AtHand::Lent | AtHand::Stopped(_, _) | AtHand::Ended => {}
+        }
         let mut context = IoContext {
             table,
             actor,
             method,
             runner,
         };
-        let taken_in = desk.end(rt, &scope, &mut context, record);
+        let taken_in = desk.end(rt, &scope, &mut context);
         (taken_in, desk)
     }
 }

@@ -4,12 +4,12 @@ ghost use Rattle.read_stream.specs.ActorProgress.{AllSubmitted};
 ghost use Rattle.read_stream.specs.IoContexts.{IsValidContext, ContextAdvanced};
 ghost use Rattle.read_plan.specs.declared.runs.Run.{Run};
 ghost use Rattle.read_stream.specs.StreamIos.{Issued, HeldByCaller, IsTakenIn, HasIdleHandle};
-ghost use Rattle.read_stream.specs.StreamIos.{AllRecordsFree, IsRecordForRun, run_of};
+ghost use Rattle.read_stream.specs.StreamIos.{AllRecordsFree, SameReads, run_of};
 ghost use Rattle.read_stream.specs.StreamIos.{ReadsForRuns, InFlightForRuns, ReadsBlocks};
 ghost use Rattle.read_stream.specs.StreamIos.{record_count, ios_started};
 
 use crate::io_context::IoContext;
-use crate::reads::Reads;
+use crate::reads::{EndedRead, Reads};
 use crate::ring::push;
 use crate::scope::Scope;
 use aio_batch::Method;
@@ -41,8 +41,9 @@ impl<W: World> Reads<W> {
             × (self.new.in_flight ≡ self.old.in_flight) × (self.new.batch ≡ self.old.batch)
             × (self.new.taken_in ≡ self.old.taken_in + 1) }
         ensures idle { HasIdleHandle context.old.table.now.config context.new.actor.now.known }
-        ensures runs { (runs : List Run) → ReadsForRuns scope.now context.old.actor.now.known
-            self.old runs → ReadsForRuns scope.now context.new.actor.now.known self.new runs }
+        ensures runs { (given : ℕ) (runs : List Run) → ReadsForRuns scope.now
+            context.old.actor.now.known self.old given runs → ReadsForRuns scope.now
+            context.new.actor.now.known self.new (given + 1) runs }
     {
         let mut local = wait_own(rt, context.table, context.actor, token, context.runner);
         local
@@ -87,8 +88,54 @@ impl<W: World> Reads<W> {
         }
     }
 
-    /// The oldest read that has ended or was submitted, taken in.
-    pub fn oldest_record<M: Method<ReadIo, W>, E: Execute<ReadIo, W>, T: Wait>(
+    // Takes the oldest I/O in flight in, and keeps its record with its pages. One of the handles is
+    // in the middle of no life then.
+    pub(crate) fn take_in<M: Method<ReadIo, W>, E: Execute<ReadIo, W>, T: Wait>(
+        &mut self,
+        rt: &T,
+        scope: &Scope<W>,
+        context: &mut IoContext<W, M, E>,
+    )
+        requires valid_context { IsValidContext E.Execute W.World scope.now context.old }
+        requires issued { Issued scope.now W.World context.old.actor.now.known self.old }
+        requires batch_empty { self.old.batch ≡ [] }
+        ensures context_advanced { ContextAdvanced E.Execute M.Method context.old context.new }
+        ensures issued { Issued scope.now W.World context.new.actor.now.known self.new }
+        ensures same { SameReads scope.now context.old.actor.now.known
+            context.new.actor.now.known self.old self.new }
+        ensures batch { self.new.batch ≡ self.old.batch }
+        ensures idle { HasIdleHandle context.old.table.now.config context.new.actor.now.known }
+        ensures taken { self.new.ended.items ≡ [] → self.new.in_flight.items ≡ [] }
+    {
+        if let Some(io) = self.settle_oldest(rt, scope, context) {
+            push(&mut self.ended, EndedRead { io, given: 0 });
+        }
+    }
+
+    // Has the oldest read taken in, if there is one.
+    pub(crate) fn take_up<M: Method<ReadIo, W>, E: Execute<ReadIo, W>, T: Wait>(
+        &mut self,
+        rt: &T,
+        scope: &Scope<W>,
+        context: &mut IoContext<W, M, E>,
+    )
+        requires valid_context { IsValidContext E.Execute W.World scope.now context.old }
+        requires issued { Issued scope.now W.World context.old.actor.now.known self.old }
+        requires batch_empty { self.old.batch ≡ [] }
+        ensures context_advanced { ContextAdvanced E.Execute M.Method context.old context.new }
+        ensures issued { Issued scope.now W.World context.new.actor.now.known self.new }
+        ensures same { SameReads scope.now context.old.actor.now.known
+            context.new.actor.now.known self.old self.new }
+        ensures batch { self.new.batch ≡ self.old.batch }
+        ensures taken { self.new.ended.items ≡ [] → self.new.in_flight.items ≡ [] }
+    {
+        if self.ended.is_empty() {
+            self.take_in(rt, scope, context);
+        }
+    }
+
+    // The oldest read that has ended or was submitted, taken in.
+    fn take_oldest<M: Method<ReadIo, W>, E: Execute<ReadIo, W>, T: Wait>(
         &mut self,
         rt: &T,
         scope: &Scope<W>,
@@ -107,40 +154,10 @@ impl<W: World> Reads<W> {
         ensures same_state { IfNone result ((self.old.ended.items ≡ [])
             × (record_count self.new ≡ record_count self.old)
             × (self.new.in_flight ≡ self.old.in_flight)) }
-        ensures runs { (run : Run) (runs : List Run)
-            → ReadsForRuns scope.now context.old.actor.now.known self.old (run ∷ runs)
-            → IsRecordForRun run result × ReadsForRuns scope.now context.new.actor.now.known
-            self.new runs }
     {
         match self.ended.pop_front() {
-            Some(io) => Some(io),
+            Some(oldest) => Some(oldest.io),
             None => self.settle_oldest(rt, scope, context),
-        }
-    }
-
-    // Takes the oldest I/O in flight in, and keeps its record with its pages. One of the handles is
-    // in the middle of no life then.
-    pub(crate) fn take_in<M: Method<ReadIo, W>, E: Execute<ReadIo, W>, T: Wait>(
-        &mut self,
-        rt: &T,
-        scope: &Scope<W>,
-        context: &mut IoContext<W, M, E>,
-    )
-        requires valid_context { IsValidContext E.Execute W.World scope.now context.old }
-        requires issued { Issued scope.now W.World context.old.actor.now.known self.old }
-        requires batch_empty { self.old.batch ≡ [] }
-        ensures context_advanced { ContextAdvanced E.Execute M.Method context.old context.new }
-        ensures issued { Issued scope.now W.World context.new.actor.now.known self.new }
-        ensures all { (record_count self.new ≡ record_count self.old)
-            × (ios_started self.new ≡ ios_started self.old) × (self.new.batch ≡ self.old.batch)
-            × (self.new.free ≡ self.old.free) }
-        ensures idle { HasIdleHandle context.old.table.now.config context.new.actor.now.known }
-        ensures runs { (runs : List Run) → ReadsForRuns scope.now context.old.actor.now.known
-            self.old runs → ReadsForRuns scope.now context.new.actor.now.known self.new runs }
-    {
-        match self.settle_oldest(rt, scope, context) {
-            Some(io) => push(&mut self.ended, io),
-            None => {}
         }
     }
 
@@ -162,7 +179,7 @@ impl<W: World> Reads<W> {
             × (ios_started self.new ≡ ios_started self.old) }
     {
         self.submit(rt, scope, context, false);
-        while let Some(io) = self.oldest_record(rt, scope, context) {
+        while let Some(io) = self.take_oldest(rt, scope, context) {
             self.release(io);
         }
         self.taken_in

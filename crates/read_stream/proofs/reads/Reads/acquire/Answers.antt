@@ -2,11 +2,13 @@ use Rattle.std.proofs.Common.{subst, sym, ap, refl, arith, ◌∙◌}
 use Rattle.aio_word.specs.declared.Known.{Known}
 use Rattle.aio_handle.specs.ContractViews.{ActorView}
 use Rattle.read_stream.specs.declared.io_context.IoContext.{IoContext}
-use Rattle.read_stream.specs.StreamIos.{Issued, ReadsForRuns, HasIdleHandle}
+use Rattle.read_stream.specs.declared.reads.Reads.{Reads}
+use Rattle.read_stream.specs.declared.scope.Scope.{Scope}
+use Rattle.read_stream.specs.StreamIos.{Issued, SameReads, HasIdleHandle}
 use Rattle.read_stream.specs.ActorProgress.{ActorAdvanced}
 use Rattle.read_stream.proofs.ActorAdvancedLaws.{advanced_nothing, advanced_then, advanced-from}
 use Rattle.read_stream.proofs.ContextAdvancedLaws.{context_advanced_by, context_advanced_then}
-use Rattle.read_stream.proofs.ReadsMatchRuns.{reads-later}
+use Rattle.read_stream.proofs.ReadsMatchRuns.{same_reads_later, same_reads_then}
 use Rattle.read_stream.proofs.FreeHandleExists.{handle_is_free}
 use Rattle.read_stream.proofs.StageKeepsIssued.{handed-out-later, advanced-handed-out}
 use Rattle.read_stream.proofs.reads.Reads.acquire.Goals as goal
@@ -32,19 +34,17 @@ returns-clause-handle_handed_out g c =
     c.take_in.ensures.context_advanced.advanced.actor_advanced)
     (c.in-Some-hand_out.ensures.handle_handed_out _ _)
 
-pub returns-in-Some-clause-runs : goal.returns-in-Some-clause-runs
-returns-in-Some-clause-runs g c = λ runs. reads-later c.args.scope.now
-    c.args.context.now.actor.now.known c.hand_out.new.actor.known c.args.self.now c.args.self.now
-    runs
-    (advanced-handed-out c.args.scope.now g.W.World
-    c.args.context.now.actor.now.known
+pub returns-in-Some-clause-same : goal.returns-in-Some-clause-same
+returns-in-Some-clause-same g c = same_reads_later c.args.scope.now
+    c.args.context.now.actor.now.known c.hand_out.new.actor.known c.args.self.now
+    (advanced-handed-out c.args.scope.now g.W.World c.args.context.now.actor.now.known
     c.hand_out.new.actor.known c.args.self.now c.in-Some.token 0 0 0 0
-    (c.in-Some.ensures.handle_handed_out 0 0)).aims refl refl refl
+    (c.in-Some.ensures.handle_handed_out 0 0)).aims
 
 pub unreachable-requires : goal.unreachable-requires
 unreachable-requires g c =
-    let first = c.submit.ensures.all.1 in
-    let then = c.take_in.ensures.all.1 in
+    let first = c.submit.ensures.same.started in
+    let then = c.take_in.ensures.same.started in
     let few = c.requires.few_ios in
     let table = c.take_in.ensures.context_advanced.table in
     let same = table ∙ c.submit.ensures.context_advanced.table in
@@ -55,17 +55,23 @@ unreachable-requires g c =
     (subst (λ z. HasIdleHandle z.now.config c.take_in.new.context.actor.now.known) (sym table)
     c.take_in.ensures.idle) c.in-None.ensures.none.1
 
-pub returns-clause-runs : goal.returns-clause-runs
-returns-clause-runs g c = λ runs f.
-    (let r : Known = c.take_in.new.context.actor.now.known in
+pub returns-clause-same : goal.returns-clause-same
+returns-clause-same g c =
+    let scope : Scope g.row.W.Denot = c.args.scope.now in
+    let s : Reads g.row.W.Denot = c.args.self.now in
+    let s' : Reads g.row.W.Denot = c.submit.new.self in
+    let s'' : Reads g.row.W.Denot = c.take_in.new.self in
+    let p : Known = c.args.context.now.actor.now.known in
+    let m : Known = c.submit.new.context.actor.now.known in
+    let r : Known = c.take_in.new.context.actor.now.known in
     let q : Known = c.hand_out-2.new.actor.known in
-    reads-later c.args.scope.now r q c.take_in.new.self c.take_in.new.self runs
-    (advanced-handed-out c.args.scope.now g.W.World r q c.take_in.new.self
-    c.in-Some-hand_out.token 0 0 0 0 (c.in-Some-hand_out.ensures.handle_handed_out 0 0)).aims refl
-    refl refl
-    (c.take_in.ensures.runs runs (c.submit.ensures.runs runs
-    (subst (λ (z : ActorView). ReadsForRuns c.args.scope.now z.known c.args.self.now runs)
-    (sym c.in_default.ensures.none.0) f))))
+    let submitted : SameReads scope p m s s' =
+    subst (λ (z : ActorView). SameReads scope z.known m s s') c.in_default.ensures.none.0
+    c.submit.ensures.same in
+    same_reads_then scope p r q s s'' s''
+    (same_reads_then scope p m r s s' s'' submitted c.take_in.ensures.same)
+    (same_reads_later scope r q s'' (advanced-handed-out scope g.W.World r q s''
+    c.in-Some-hand_out.token 0 0 0 0 (c.in-Some-hand_out.ensures.handle_handed_out 0 0)).aims)
 
 pub returns-in-Some-clause-context_advanced : goal.returns-in-Some-clause-context_advanced
 returns-in-Some-clause-context_advanced g c =

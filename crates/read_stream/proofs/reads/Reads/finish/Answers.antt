@@ -2,6 +2,7 @@ use Rattle.std.proofs.Common.{◌≡◌, [], ◌∷◌, List, ap, ◌∙◌, ari
 use Rattle.aio_word.specs.declared.WaitRef.{WaitRef}
 use Rattle.aio_callback.specs.ReadIoView.{ReadIoView}
 use Rattle.circular_buffer.specs.Buffer.{Buffer, buffer}
+use Rattle.read_stream.specs.declared.reads.EndedRead.{EndedRead}
 use Rattle.read_stream.specs.declared.reads.Reads.{Reads}
 use Rattle.read_stream.specs.StreamIos.{record_count, ios_started}
 use Rattle.read_stream.proofs.ContextAdvancedLaws.{valid_context_then, context_advanced_then}
@@ -19,7 +20,7 @@ release-requires g c =
 pub loop-io-preserved : goal.loop-io-preserved
 loop-io-preserved g c =
     let W : Type 0 = g.row.W.Denot in
-    let s : Reads W = c.oldest_record.new.self in
+    let s : Reads W = c.take_oldest.new.self in
     let io : ReadIoView = c.in-Some.io in
     let inv = c.loop-io.invariant in
     let some = c.in-Some.ensures.some in
@@ -36,7 +37,7 @@ loop-io-preserved g c =
       context_advanced = context_advanced_then c.in-Some.ensures.context_advanced
           inv.context_advanced;
       issued = rw is (more-free c.args.scope.now g.W.World
-          c.oldest_record.new.context.actor.now.known s io (omega arith)
+          c.take_oldest.new.context.actor.now.known s io (omega arith)
           some.0.is_stream_record.room c.in-Some.ensures.issued);
       records = ap (λ (z : Reads W). record_count z) is ∙ (omega arith);
       started = ap (λ (z : Reads W). ios_started z) is ∙ (same ∙ was);
@@ -50,7 +51,7 @@ returns-clause-context_advanced g c =
 pub returns-clause-ready : goal.returns-clause-ready
 returns-clause-ready g c =
     let W : Type 0 = g.row.W.Denot in
-    let s : Reads W = c.oldest_record.new.self in
+    let s : Reads W = c.take_oldest.new.self in
     let o : Reads W = c.loop-io.self in
     let issued = c.in_default.ensures.issued in
     let state = c.in_default.ensures.same_state in
@@ -64,7 +65,7 @@ returns-clause-ready g c =
     let f : length s.in_flight.items ≡ 0 = ap (λ (z : List WaitRef). length z) in_flight in
     let f' : length o.in_flight.items ≡ 0 =
     ap (λ (z : List WaitRef). length z) c.in_default.ensures.none in
-    let e' : length o.ended.items ≡ 0 = ap (λ (z : List ReadIoView). length z) state.0 in
+    let e' : length o.ended.items ≡ 0 = ap (λ (z : List EndedRead). length z) state.0 in
     let free : length s.free.items ≡ length o.free.items =
     ap (λ (z : Buffer ReadIoView). length z.items) rest.0 in
     let total = c.loop-io.invariant.records in

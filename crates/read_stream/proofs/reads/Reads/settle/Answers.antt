@@ -6,7 +6,7 @@ use Rattle.aio_handle.specs.LifeWords.{taken_word, idle_word}
 use Rattle.aio_handle.specs.CallEvents.{EventMade}
 use Rattle.aio_callback.specs.ReadIoView.{ReadIoView, ReadFits, after_local}
 use Rattle.read_stream.specs.declared.reads.Reads.{Reads}
-use Rattle.read_stream.proofs.ReadsMatchRuns.{reads-later}
+use Rattle.read_stream.proofs.ReadsMatchRuns.{reads-settled}
 use Rattle.read_stream.proofs.ReclaimKeepsIssued.{settled-issued, settled-reading, settled-for}
 use Rattle.read_stream.proofs.ReclaimKeepsIssued.{advanced-settling, idle-now}
 use Rattle.read_stream.proofs.ContextAdvancedLaws.{context_advanced_by}
@@ -56,5 +56,5 @@ returns g c =
           c.args.context.now.table.now.config
           (ends.same.1 ∙ (waits.same.1 ∙ c.requires.valid_context.table.1))
           c.has_seen_its_marks.ensures;
-      runs = λ runs. reads-later c.args.scope.now p q s _ runs advanced.aims refl refl refl;
+      runs = λ given runs. reads-settled c.args.scope.now p q s _ given runs advanced.aims refl;
     }

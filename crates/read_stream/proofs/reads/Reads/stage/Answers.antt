@@ -1,4 +1,4 @@
-use Rattle.std.proofs.Common.{rules, ◌≡◌, [], subst, ap, ◌∙◌, arith, refl}
+use Rattle.std.proofs.Common.{rules, ◌≡◌, [], subst, ap, ◌∙◌, arith}
 use Rattle.aio_word.specs.declared.Known.{Known}
 use Rattle.aio_word.specs.declared.WaitRef.{WaitRef}
 use Rattle.aio_word.specs.declared.Step.TheVariants.{Stage}
@@ -7,7 +7,7 @@ use Rattle.aio_handle.specs.LifeWords.{defined_word, staged_word}
 use Rattle.aio_handle.specs.CallEvents.{EventMade}
 use Rattle.aio_callback.specs.ReadIoView.{ReadIoView, record_aim}
 use Rattle.read_stream.specs.declared.reads.Reads.{Reads}
-use Rattle.read_stream.proofs.ReadsMatchRuns.{reads-later}
+use Rattle.read_stream.proofs.ReadsMatchRuns.{same_reads_later, same_reads_then}
 use Rattle.read_stream.proofs.StageKeepsIssued.{advanced-staged, advanced-defined, issued-staged}
 use Rattle.read_stream.proofs.StageKeepsIssued.{staged-apart, aimed-as}
 use Rattle.read_stream.proofs.reads.Reads.stage.Goals as goal
@@ -35,7 +35,7 @@ returns g c =
     ap (λ (z : WaitRef × ReadIoView). record_aim z.1) staged.token.0 ∙ defined.token.1 in
     let (aimed, first, count) = aimed-as c.args.scope.now c.args.io c.aim_record-io.result c.stage.result.1
     c.args.run.first c.args.run.count c.aim_record-io.ensures c.requires.record aim in
-    let started = acquired.all.1 in
+    let started = acquired.same.started in
     let allowed = c.requires.few_ios in
     record {
       context_advanced = record {
@@ -61,10 +61,9 @@ returns g c =
       run = (first, count);
       apart = λ u i x. staged-apart c.args.scope.now g.W.World p q q1 q2 s
           t _ _ _ _ acquired.handle_handed_out defined.event is-defined stages u i (x ∙ same);
-      all = search rules;
       batch = search rules;
-      runs = λ runs f. reads-later c.args.scope.now q q2 s s runs
+      same = same_reads_then c.args.scope.now p q q2 c.args.self.now s s acquired.same
+          (same_reads_later c.args.scope.now q q2 s
           (advanced-defined c.args.scope.now g.W.World p q q1 q2 s t
-          _ _ _ _ acquired.handle_handed_out defined.event is-defined stages).aims refl refl refl
-          (acquired.runs runs f);
+          _ _ _ _ acquired.handle_handed_out defined.event is-defined stages).aims);
     }

@@ -7,7 +7,7 @@ use Rattle.read_stream.proofs.reads.Reads.start.Goals as goal
 pub submit-requires-clause-issued : goal.submit-requires-clause-issued
 submit-requires-clause-issued g c =
     let token = c.stage-token.ensures.token in
-    let all = c.stage-token.ensures.all.0 in
+    let all = c.stage-token.ensures.same.records in
     let room = c.requires.room in
     issued-put c.args.scope.now g.W.World
     c.stage-token.new.context.actor.now.known c.stage-token.new.self c.put.new.self
@@ -23,7 +23,7 @@ pub returns-else-len-eq-MOST_STAGED-clause-issued :
     goal.returns-else-len-eq-MOST_STAGED-clause-issued
 returns-else-len-eq-MOST_STAGED-clause-issued g c =
     let token = c.stage-token.ensures.token in
-    let all = c.stage-token.ensures.all.0 in
+    let all = c.stage-token.ensures.same.records in
     let room = c.requires.room in
     issued-put c.args.scope.now g.W.World
     c.stage-token.new.context.actor.now.known c.stage-token.new.self c.put.new.self
@@ -31,13 +31,16 @@ returns-else-len-eq-MOST_STAGED-clause-issued g c =
     (omega arith) c.stage-token.ensures.issued
 
 pub returns-then-not-scope-clause-runs : goal.returns-then-not-scope-clause-runs
-returns-then-not-scope-clause-runs g c = λ runs f. c.submit.ensures.runs (runs ++ c.args.run ∷ [])
+returns-then-not-scope-clause-runs g c = λ given runs f.
+    c.submit.ensures.same.runs given (runs ++ c.args.run ∷ [])
     (reads-pushed c.args.scope.now c.stage-token.new.context.actor.now.known c.stage-token.new.self
-    c.put.new.self c.stage-token.result c.args.run runs c.put.ensures c.stage-token.ensures.run
-    (c.stage-token.ensures.runs runs f))
+    c.put.new.self c.stage-token.result c.args.run given runs c.put.ensures
+    c.stage-token.ensures.run c.requires.run.not_empty
+    (c.stage-token.ensures.same.runs given runs f))
 
 pub returns-else-len-eq-MOST_STAGED-clause-runs : goal.returns-else-len-eq-MOST_STAGED-clause-runs
-returns-else-len-eq-MOST_STAGED-clause-runs g c = λ runs f.
+returns-else-len-eq-MOST_STAGED-clause-runs g c = λ given runs f.
     reads-pushed c.args.scope.now c.stage-token.new.context.actor.now.known c.stage-token.new.self
-    c.put.new.self c.stage-token.result c.args.run runs c.put.ensures c.stage-token.ensures.run
-    (c.stage-token.ensures.runs runs f)
+    c.put.new.self c.stage-token.result c.args.run given runs c.put.ensures
+    c.stage-token.ensures.run c.requires.run.not_empty
+    (c.stage-token.ensures.same.runs given runs f)

@@ -17,6 +17,7 @@ use Rattle.read_stream.proofs.ActorAdvancedLaws.{advanced_submitting}
 use Rattle.read_stream.proofs.ContextAdvancedLaws.{valid_context_then, context_advanced_then}
 use Rattle.read_stream.proofs.ContextAdvancedLaws.{context_advanced_by, context_advanced_refl}
 use Rattle.read_stream.proofs.ReadsMatchRuns.{reads-later, reads-submitted}
+use Rattle.read_stream.proofs.ReadsMatchRuns.{same_reads_refl}
 use Rattle.read_stream.proofs.SubmitKeepsIssued.{issued-submitted, issued-taking-up}
 use Rattle.read_stream.proofs.reads.Reads.submit.Goals as goal
 
@@ -28,7 +29,7 @@ loop-token-init g c = record {
   records = refl;
   started = refl;
   free = refl;
-  runs = λ runs f. f;
+  runs = λ given runs f. f;
   size = refl;
   few = (let held = c.len.ensures.held in let room = c.len.ensures.room in omega arith);
   range = λ k d less. absurd (omega (arith, less));
@@ -95,8 +96,9 @@ loop-token-preserved g c =
       records = (let k = inv.records in omega arith);
       started = (let k = inv.started in omega arith);
       free = inv.free;
-      runs = λ runs f. rw items (reads-submitted c.args.scope.now p q s after t _ _ _ _ runs n
-          actor_advanced (λ x j. (inv.issued.tokens.staged_ios x j).0) (inv.runs runs f));
+      runs = λ given runs f. rw items (reads-submitted c.args.scope.now p q s after t _ _ _ _ given
+          runs n actor_advanced (λ x j. (inv.issued.tokens.staged_ios x j).0)
+          (inv.runs given runs f));
       size = length-set c.loop-token.references c.loop-token.submitted c.reference.result ∙ inv.size;
       few = (let k = inv.few in omega arith);
       range = rw (take_more_set c.loop-token.references c.loop-token.submitted c.reference.result
@@ -121,11 +123,20 @@ returns-clause-issued g c =
     c.pop_submitted.new.actor.known c.begin.new.context.actor.now.known c.loop-token.self _ _ _ _
     c.begin.ensures.marks (rw none.2 c.loop-token.invariant.issued))
 
-pub returns-clause-runs : goal.returns-clause-runs
-returns-clause-runs g c runs f =
+pub returns-clause-same : goal.returns-clause-same
+returns-clause-same g c =
     let none = c.in_default.ensures.none in
-    reads-later c.args.scope.now c.loop-token.context.actor.now.known
-    c.begin.new.context.actor.now.known c.loop-token.self _ runs
-    (λ x i. c.begin.ensures.marks.grows.aims x
-    (subst (λ (z : ActorView). IsIn x z.known.aims) (sym none.2) i)) refl refl none.1
-    (c.loop-token.invariant.runs runs f)
+    let inv = c.loop-token.invariant in
+    record {
+      free = inv.free;
+      records = search rules;
+      started = search rules;
+      runs = λ given runs f. reads-later c.args.scope.now c.loop-token.context.actor.now.known
+          c.begin.new.context.actor.now.known c.loop-token.self _ given runs
+          (λ x i. c.begin.ensures.marks.grows.aims x
+          (subst (λ (z : ActorView). IsIn x z.known.aims) (sym none.2) i)) refl refl none.1 refl
+          (inv.runs given runs f);
+    }
+
+pub returns-then-len-eq0-clause-same : goal.returns-then-len-eq0-clause-same
+returns-then-len-eq0-clause-same g c = same_reads_refl c.args.scope.now _ c.args.self.now

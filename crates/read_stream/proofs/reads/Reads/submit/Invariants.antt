@@ -1,4 +1,4 @@
-use Rattle.std.proofs.Common.{◌≡◌, ◌+◌, ◌≤◌, ◌<◌, length, List, take}
+use Rattle.std.proofs.Common.{◌≡◌, ℕ, ◌+◌, ◌≤◌, ◌<◌, length, List, take}
 use Rattle.std.specs.List.{All}
 use Rattle.read_plan.specs.declared.runs.Run.{Run}
 use Rattle.read_stream.specs.IoContexts.{IsValidContext, ContextAdvanced}
@@ -14,8 +14,8 @@ invariant-loop-token g l = record {
   records : record_count l.self ≡ record_count l.initial.self;
   started : ios_started l.self ≡ ios_started l.initial.self;
   free : l.self.free ≡ l.initial.self.free;
-  runs : (runs : List Run) → ReadsForRuns l.scope l.initial.context.actor.now.known l.initial.self
-      runs → ReadsForRuns l.scope l.context.actor.now.known l.self runs;
+  runs : (given : ℕ) (runs : List Run) → ReadsForRuns l.scope l.initial.context.actor.now.known
+      l.initial.self given runs → ReadsForRuns l.scope l.context.actor.now.known l.self given runs;
   size : length l.references ≡ 32;
   few : l.submitted + length l.self.batch ≤ 32;
   range : All (λ t. t.handle < g.W.World.handles) (take l.submitted l.references);

@@ -5,9 +5,9 @@ use Rattle.page_check.specs.IsAnswer.{IfPage, Next as Said}
 use Rattle.aio_handle.specs.ContractViews.{ActorView}
 use Rattle.read_stream.specs.declared.stream.ReadStream.{ReadStream}
 use Rattle.read_stream.specs.declared.at_hand.AtHand.{AtHand}
-use Rattle.read_stream.specs.AtHand.{answer_at_hand, ending_at_hand}
+use Rattle.read_stream.specs.AtHand.{ending_at_hand}
 use Rattle.read_stream.specs.StreamAnswers.{IfZeroed, synchronous_answer}
-use Rattle.read_stream.specs.StreamState.{StreamAnswered, stream_view}
+use Rattle.read_stream.specs.StreamState.{StreamAnswered, answer_at_hand, stream_view}
 use Rattle.read_stream.specs.StreamViews.{StreamView, IsStreamAnswer, stream_after}
 use Rattle.read_stream.proofs.CallersView.{answer_seen, as_left, ending_again}
 use Rattle.read_stream.proofs.UnreadCauses.{synchronous}
@@ -22,7 +22,7 @@ returns g c =
     let m : State = c.note_actor.new.self in
     let n : State = c.advance.new.self in
     let actor : ActorView = c.advance.new.context.actor.now in
-    let x : Said P = answer_at_hand n.scope.relation n.at_hand in
+    let x : Said P = answer_at_hand n in
     let y : Said P = synchronous_answer s.scope.relation c.answer.result in
     let noted = c.note_actor.ensures.noted in
     let after : view n ≡ stream_after (view s) actor x =
@@ -62,8 +62,8 @@ returns g c =
         advanced = search rules;
         answer = found _ (search rules);
         complete = λ none. synchronous g.W.World.told (view s) _ y none (found _ (search rules));
-        answer_repeated = ending_again s.at_hand n.at_hand n.scope.relation y answered
-            (subst (λ (z : AtHand g.row.W.Denot P). IfSome (ending_at_hand z) (λ e. n.at_hand ≡ z))
+        answer_repeated = ending_again s.at_hand n y answered
+            (subst (λ (z : AtHand g.row.W.Denot). IfSome (ending_at_hand z) (λ e. n.at_hand ≡ z))
             (ap (λ (z : State). z.at_hand) noted.2) c.advance.ensures.answer_repeated);
         after = tt;
       },

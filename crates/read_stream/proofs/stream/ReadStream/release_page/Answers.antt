@@ -1,53 +1,52 @@
-use Rattle.std.proofs.Common.{refl, sym, arith, ◌∙◌}
-use Rattle.read_stream.specs.declared.at_hand.AtHand.TheVariants as at_hand
-use Rattle.read_stream.specs.declared.stream.ReadStream.{ReadStream}
-use Rattle.read_stream.specs.AtHand.{IsRightAtHand}
-use Rattle.read_stream.specs.Changes.{with_at_hand}
-use Rattle.read_stream.proofs.FreeRecordKeepsUnderway.{underway_returned, underway_freed}
+use Rattle.std.proofs.Common.{ap, sym, ◌∙◌, arith, ◌≡◌}
+use Rattle.read_stream.proofs.PageGivenBack.{last_returned, lent_left, more_returned}
+use Rattle.read_stream.proofs.PageGivenBack.{nothing_lent, nothing_returned, pinned_returned}
+use Rattle.read_stream.specs.declared.at_hand.AtHand.{AtHand}
+use Rattle.read_stream.specs.AtHand.{lent_count}
 use Rattle.read_stream.proofs.stream.ReadStream.release_page.Goals as goal
 
+pub release_page-requires : goal.release_page-requires
+release_page-requires g c = λ e at.
+    let few = c.has_one_page_left.ensures.few e at in
+    let left = lent_left g.S.BlockSource.left g.W.World c.args.self.now.actor_is.value.known
+    c.args.self.now c.requires.between (sym c.replace.ensures.value ∙ c.in-Lent.is) e
+    (rw c.release_front-in-Lent.ensures at at) in
+    omega arith
+
 pub returns-in-Pinned-clause-underway : goal.returns-in-Pinned-clause-underway
-returns-in-Pinned-clause-underway g c =
-    let s : ReadStream g.row.W.Denot g.row.S.Denot g.row.P.Denot = c.args.self.now in
-    rw c.replace.ensures.after
-    (underway_returned g.S.BlockSource.left g.W.World s.actor_is.value.known s
-    (at_hand.Pinned c.in-Pinned.pin c.in-Pinned.field-1) at_hand.Nothing c.requires.between
-    (sym c.replace.ensures.value ∙ c.in-Pinned.is) refl)
+returns-in-Pinned-clause-underway g c = rw c.release_front.ensures
+    (pinned_returned g.S.BlockSource.left g.W.World c.args.self.now.actor_is.value.known
+    c.args.self.now c.requires.between c.in-Pinned.pin c.replace.new.dest
+    (sym c.replace.ensures.value ∙ c.in-Pinned.is))
 
-pub returns-then-first-count-clause-underway : goal.returns-then-first-count-clause-underway
-returns-then-first-count-clause-underway g c =
-    let s : ReadStream g.row.W.Denot g.row.S.Denot g.row.P.Denot = c.args.self.now in
-    let n : ReadStream g.row.W.Denot g.row.S.Denot g.row.P.Denot = with_at_hand s at_hand.Nothing in
-    let now = sym c.replace.ensures.value ∙ c.in-Record.is in
-    let right : IsRightAtHand {W = g.row.W.Denot} g.W.World.told s.scope.relation
-    (at_hand.Record c.in-Record.io c.in-Record.lent) = rw now at c.requires.between.right in
-    let (low, below) = right.0 in
-    let count = c.count.ensures.value in
-    let first = c.first.ensures in
-    let last = c.if-first-count.true in
-    rw (c.release.ensures, c.finished.ensures, c.replace.ensures.after)
-    (underway_freed g.S.BlockSource.left g.W.World s.actor_is.value.known n c.in-Record.io
-    c.in-Record.lent (omega arith)
-    (underway_returned g.S.BlockSource.left g.W.World s.actor_is.value.known s
-    (at_hand.Record c.in-Record.io c.in-Record.lent) at_hand.Nothing c.requires.between now refl))
+pub returns-then-has_one_page_left-clause-underway : goal.returns-then-has_one_page_left-clause-underway
+returns-then-has_one_page_left-clause-underway g c =
+    rw (c.finished.ensures, c.free_oldest.ensures, c.release_front-in-Lent.ensures)
+    (last_returned g.S.BlockSource.left g.W.World c.args.self.now.actor_is.value.known
+    c.args.self.now c.requires.between c.replace.new.dest
+    (sym c.replace.ensures.value ∙ c.in-Lent.is)
+    (λ e at. (c.has_one_page_left.ensures.last e (rw c.release_front-in-Lent.ensures at)).0
+    c.if-has_one_page_left.true))
 
-pub returns-else-first-count-clause-underway : goal.returns-else-first-count-clause-underway
-returns-else-first-count-clause-underway g c =
-    let s : ReadStream g.row.W.Denot g.row.S.Denot g.row.P.Denot = c.args.self.now in
-    rw c.put.ensures
-    (underway_returned g.S.BlockSource.left g.W.World s.actor_is.value.known s
-    (at_hand.Record c.in-Record.io c.in-Record.lent)
-    (at_hand.Record c.in-Record.io c.in-Record.lent) c.requires.between
-    (sym c.replace.ensures.value ∙ c.in-Record.is) refl)
+pub returns-else-has_one_page_left-clause-underway : goal.returns-else-has_one_page_left-clause-underway
+returns-else-has_one_page_left-clause-underway g c =
+    rw (c.release_page.ensures, c.release_front-in-Lent.ensures)
+    (more_returned g.S.BlockSource.left g.W.World c.args.self.now.actor_is.value.known
+    c.args.self.now c.requires.between c.replace.new.dest
+    (sym c.replace.ensures.value ∙ c.in-Lent.is)
+    (λ e at last. (let is = (c.has_one_page_left.ensures.last e (rw c.release_front-in-Lent.ensures at)).1 last in
+    let not = c.if-has_one_page_left.false in absurd (cc))))
 
-pub returns-else-first-count-clause-returned : goal.returns-else-first-count-clause-returned
-returns-else-first-count-clause-returned g c =
-    let s : ReadStream g.row.W.Denot g.row.S.Denot g.row.P.Denot = c.args.self.now in
-    let now = sym c.replace.ensures.value ∙ c.in-Record.is in
-    let right : IsRightAtHand {W = g.row.W.Denot} g.W.World.told s.scope.relation
-    (at_hand.Record c.in-Record.io c.in-Record.lent) = rw now at c.requires.between.right in
-    let (low, below) = right.0 in
-    let count = c.count.ensures.value in
-    let first = c.first.ensures in
-    let last = c.if-first-count.false in
-    rw c.put.ensures (low, omega arith)
+pub returns-in-Nothing-clause-underway : goal.returns-in-Nothing-clause-underway
+returns-in-Nothing-clause-underway g c =
+    nothing_returned g.S.BlockSource.left g.W.World c.args.self.now.actor_is.value.known
+    c.args.self.now c.requires.between c.replace.new.dest
+    (nothing_lent c.args.self.now.at_hand c.replace.result c.replace.ensures.value
+    c.requires.running c.in-Nothing.is)
+
+pub returns-in-Nothing-clause-given : goal.returns-in-Nothing-clause-given
+returns-in-Nothing-clause-given g c =
+    let none : lent_count c.args.self.now.at_hand ≡ 0 =
+    ap (λ (z : AtHand g.row.W.Denot). lent_count z)
+    (nothing_lent c.args.self.now.at_hand c.replace.result c.replace.ensures.value
+    c.requires.running c.in-Nothing.is) in omega arith

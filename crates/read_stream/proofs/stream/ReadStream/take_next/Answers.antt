@@ -1,34 +1,21 @@
-use Rattle.std.proofs.Common.{arith}
-use Rattle.read_stream.specs.declared.queue.QueuedBlock.{QueuedBlock}
-use Rattle.read_stream.specs.declared.stream.ReadStream.{ReadStream}
-use Rattle.read_stream.specs.AtHand.{front_of}
-use Rattle.read_stream.proofs.EnqueueKeepsUnderway.{underway_enqueued}
+use Rattle.std.proofs.Common.{arith, rules}
+use Rattle.std.specs.Prelude.{Some, None}
+use Rattle.read_stream.proofs.UnderwayLaws.{underway_taken}
 use Rattle.read_stream.proofs.stream.ReadStream.take_next.Goals as goal
 
-pub offer-requires-clause-underway : goal.offer-requires-clause-underway
-offer-requires-clause-underway g c =
-    let s : ReadStream g.row.W.Denot g.row.S.Denot g.row.P.Denot = c.args.self.now in
-    let a : QueuedBlock g.row.P.Denot = record {
-      block = c.in-Some.taken.0;
-      per_buffer_data = c.in-Some.taken.1;
-    } in
-    let near = c.requires.ahead.0.0 in
-    let far = c.requires.ahead.1.distance in
-    rw c.enqueue.ensures
-    (underway_enqueued g.S.BlockSource.left g.W.World
-    c.args.context.now.actor.now.known s c.next.new.self a (front_of s.at_hand)
-    c.in-Some.ensures.first (omega arith) c.requires.underway)
+pub start-requires-clause-underway : goal.start-requires-clause-underway
+start-requires-clause-underway g c =
+    let near = c.requires.may_take.ahead.0 in
+    let far = c.requires.may_take.sound.distance.1 in
+    underway_taken g.S.BlockSource.left g.W.World c.args.context.now.actor.now.known
+    c.args.self.now c.next.new.self c.in-Some.block c.in-Some.per_buffer_data c.take-run.new.self
+    (Some c.in-Some-run.run') c.in-Some.ensures.first (search rules) (omega arith)
+    c.requires.underway
 
-pub look_for-requires-clause-underway : goal.look_for-requires-clause-underway
-look_for-requires-clause-underway g c =
-    let s : ReadStream g.row.W.Denot g.row.S.Denot g.row.P.Denot = c.args.self.now in
-    let a : QueuedBlock g.row.P.Denot = record {
-      block = c.in-Some.taken.0;
-      per_buffer_data = c.in-Some.taken.1;
-    } in
-    let near = c.requires.ahead.0.0 in
-    let far = c.requires.ahead.1.distance in
-    rw (c.enqueue.ensures, c.in-Some-want.ensures.1)
-    (underway_enqueued g.S.BlockSource.left g.W.World
-    c.args.context.now.actor.now.known s c.next.new.self a (front_of s.at_hand)
-    c.in-Some.ensures.first (omega arith) c.requires.underway)
+pub returns-in_default-run-clause-underway : goal.returns-in_default-run-clause-underway
+returns-in_default-run-clause-underway g c =
+    let near = c.requires.may_take.ahead.0 in
+    let far = c.requires.may_take.sound.distance.1 in
+    underway_taken g.S.BlockSource.left g.W.World c.args.context.now.actor.now.known
+    c.args.self.now c.next.new.self c.in-Some.block c.in-Some.per_buffer_data c.take-run.new.self
+    None c.in-Some.ensures.first (search rules) (omega arith) c.requires.underway
