@@ -1,7 +1,7 @@
 -- Rounds that have listed what was asked for.
 use Rattle.std.proofs.Common.{◌≡◌, ◌≢◌, ℕ, List, [], ◌++◌, refl, sym, ap, ◌∙◌, subst, arith}
 use Rattle.std.proofs.Common.{append_assoc, append-nil, inl, inr, ◌⊎◌, ⊎_elim}
-use Rattle.std.specs.Prelude.{Option}
+use Rattle.std.specs.Prelude.{Option, None}
 use Rattle.page_check.specs.Told.{Told}
 use Rattle.aio_disk.specs.declared.sink.Sink.{Ghosts as SinkGhosts}
 use Rattle.scan_rounds.specs.ListOptions.{ListOptions}
@@ -56,6 +56,37 @@ module _ {W O E : Type 0} (told : Option Told) (out : SinkGhosts O) (err : SinkG
       ap (λ (l : Line). error_stream l (err.written was.err.now) (err.faults was.err.now))
       (sym gives_jobs.line)
       ∙ ap (λ (e : E). error_stream old.line (err.written e) (err.faults e)) (sym gives_jobs.err)
+
+  -- jobs were put, and no block of theirs is to be listed any more
+  pub listing_kept : (s t : Lister W O E) (asked : List Job) → CutsOffJobs s asked t
+      → (t.outcome ≡ Done → s.blocks ≡ t.blocks) → Goes s t
+  listing_kept s t asked gives same = (
+    gives.loans.0,
+    gives.loans.1,
+    λ skips m all before faults_before errors_before so_far.
+        (let P : Outcome → PageSums → O → ErrorStream → Type 0 = λ x sums o e.
+        AppendsWarnings (IsSummedOutput (format_of_options m) told so_far.asked before
+        (out.written o) x no_sums sums) errors_before e in
+        let Q : Outcome → Type 0 = λ x. P x s.sums s.out.now (errors s) in
+        let R : PageSums → Type 0 = λ sums. P t.outcome sums s.out.now (errors s) in
+        let S : O → Type 0 = λ o. P t.outcome t.sums o (errors s) in
+        let T : ErrorStream → Type 0 = λ e. P t.outcome t.sums t.out.now e in
+        let V : O → Type 0 = λ o. WriteFaultsCounted faults_before (out.faults o) s.outcome in
+        let U : Outcome → Type 0 =
+        λ x. WriteFaultsCounted faults_before (out.faults t.out.now) x in
+        record {
+          asked = so_far.asked;
+          rest = so_far.rest;
+          cut = so_far.cut;
+          left = λ done. so_far.left (sym gives.outcome ∙ done)
+              ∙ ap (unskipped_parts skips) (same done);
+          options_are = gives.options_same ∙ so_far.options_are;
+          filter_is = gives.filter_same ∙ so_far.filter_is;
+          lists = subst T (same_errors s asked t gives) (subst S (sym gives.out)
+              (subst R (sym gives.sums) (subst Q (sym gives.outcome) so_far.lists)));
+          writes = subst U (sym gives.outcome) (subst V (sym gives.out) so_far.writes);
+        }),
+  )
 
   -- the jobs that were put have been written
   pub round_written : (was old new : Lister W O E) (asked jobs : List Job)
@@ -113,6 +144,55 @@ module _ {W O E : Type 0} (told : Option Told) (out : SinkGhosts O) (err : SinkG
                   new.sums v w before_it (now_it skips m told asked here)) first lists;
               writes = written_then _ _ _ _ was_written.later writes;
             }),
+      )
+
+  -- they were written while others were out: those are out still
+  pub round_written_before : (was between old new : Lister W O E) (asked later jobs : List Job)
+      → CutsOffJobs was asked between → CutsOffJobs between later old
+      → AllJobsAnswered (lister_filter old) (lister_options old) told asked jobs
+      → old.outcome ≡ Done → new.blocks ≡ old.blocks → lister_options new ≡ lister_options old
+      → lister_filter new ≡ lister_filter old
+      → new.out.ghost_name ≡ old.out.ghost_name
+      → new.err.ghost_name ≡ old.err.ghost_name
+      → AppendsWarnings (AllJobTextsWritten jobs (out.written old.out.now) (out.written new.out.now)
+      new.outcome old.sums new.sums)
+      (errors old) (errors new)
+      → WriteFaultsCounted (out.faults old.out.now) (out.faults new.out.now) new.outcome
+      → (next : Lister W O E) × Goes was next × CutsOffJobs next later new
+  round_written_before was between old new asked later jobs first second answered done blocks options
+      filter loan err_loan lists writes =
+      let next : Lister W O E = record new { blocks = between.blocks } in
+      let A : Option BlockFilter → Type 0 =
+      λ x. AllJobsAnswered x (lister_options between) told asked jobs in
+      let B : ListOptions → Type 0 = λ x. AllJobsAnswered (lister_filter old) x told asked jobs in
+      let P : O → PageSums → ErrorStream → Type 0 = λ o sums e.
+      AppendsWarnings (AllJobTextsWritten jobs (out.written o) (out.written new.out.now)
+      new.outcome sums new.sums) e (errors new) in
+      let Q : O → Type 0 = λ o. P o old.sums (errors old) in
+      let R : PageSums → Type 0 = λ sums. P between.out.now sums (errors old) in
+      let S : ErrorStream → Type 0 = λ e. P between.out.now between.sums e in
+      let V : O → Type 0 =
+      λ o. WriteFaultsCounted (out.faults o) (out.faults new.out.now) new.outcome in (
+        next,
+        round_written was between next asked jobs first
+            (subst A second.filter_same (subst B second.options_same answered))
+            (sym second.outcome ∙ done) refl (options ∙ second.options_same)
+            (filter ∙ second.filter_same) (loan ∙ second.loans.0) (err_loan ∙ second.loans.1)
+            (subst S (sym (same_errors between later old second))
+            (subst R second.sums (subst Q second.out lists)))
+            (subst V second.out writes),
+        record {
+          loans = (refl, refl);
+          out = refl;
+          err = refl;
+          line = refl;
+          options_same = refl;
+          filter_same = refl;
+          outcome = refl;
+          sums = refl;
+          cut = second.cut ∙ ap (λ (l : List Part). unskipped_job_parts None later ++ l)
+              (sym blocks);
+        },
       )
 
   -- from the first round to the last

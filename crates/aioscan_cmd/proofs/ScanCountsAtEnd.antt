@@ -27,7 +27,7 @@ use Rattle.aioscan_cmd.specs.Totals.{AreRunNumbers, NumbersAreReads, AreScanNumb
 use Rattle.aioscan_cmd.specs.declared.cutter.ResolvedCommand.{ResolvedCommand}
 use Rattle.aioscan_cmd.specs.declared.report.Numbers.{Numbers}
 use Rattle.aioscan_cmd.specs.declared.report.Outcome.{Outcome}
-use Rattle.aioscan_cmd.specs.declared.report.Outcome.TheVariants.{Usage, CannotOpen, Unread}
+use Rattle.aioscan_cmd.specs.declared.report.Outcome.TheVariants.{Usage, CannotOpen}
 use Rattle.aioscan_cmd.specs.declared.report.Outcome.TheVariants.{NoMemory}
 use Rattle.aioscan_cmd.proofs.ListedRuns.{ran_listed, ran_on_shelf}
 use Rattle.aioscan_cmd.proofs.RefusedRuns.{ran_without_disk}

@@ -199,6 +199,18 @@ impl<'a, 'e, 'm, 'w, W: World, O: Sink, E: Sink> JobSource<W> for Lister<'a, 'e,
         }
     }
 
+    ghost giving_none = { λ a. record {
+      loans = (refl, refl);
+      out = refl;
+      err = refl;
+      line = refl;
+      options_same = refl;
+      filter_same = refl;
+      outcome = refl;
+      sums = refl;
+      cut = refl;
+    } };
+
     ghost follows_itself = { λ a. (refl, refl, λ skips m all before faults errors was. was) };
 
     ghost follows_on = { λ a b c first second. (

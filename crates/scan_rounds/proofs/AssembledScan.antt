@@ -1,6 +1,6 @@
 -- What was made of the parts of a new scan.
 use Rattle.std.proofs.Common.{◌≡◌, ℕ, ◌+◌, ◌-◌, ◌^◌, ◌<◌, ◌≤◌, List, [], length, refl, sym, ap}
-use Rattle.std.proofs.Common.{◌∙◌, subst, arith}
+use Rattle.std.proofs.Common.{◌∙◌, ◌*◌, subst, arith}
 use Rattle.std.specs.Prelude.{IfSome, Bool, vec_capacity, is_some, cond}
 use Rattle.std.specs.List.{All}
 use Rattle.std.specs.Vec.Iter.{into_iter_items}
@@ -48,7 +48,7 @@ module _ {W D : Type 0} where
     pub backends_are : length s.backends.items ≡ settings.backends
     pub workers : GivesWorkers q r s.workers.items
     pub workers_are : length s.workers.items ≡ workers_of_settings settings
-    pub jobs_suffice : settings.backends ≤ length s.jobs.items
+    pub jobs_suffice : 2 * settings.backends ≤ length s.jobs.items
     pub room : s.room ≡ 2 ^ 58 - 1 - start
     pub unread : s.unread ≡ 0
     pub options_are : scan_options s ≡ list_options settings.zero settings.tuples

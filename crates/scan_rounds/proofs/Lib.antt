@@ -12,11 +12,11 @@ mod ListPairs
 mod ActorsAdvance
 mod CountRaised
 pub mod Sums
-mod RoundsCompose
 mod QueueClosed
 mod ScanAfterRounds
 mod SharesInParallel
 mod JobsInSequence
+mod RoundsCompose
 pub mod ThreadPremises
 mod ResultsMatchExecutions
 mod DisksCountForActors

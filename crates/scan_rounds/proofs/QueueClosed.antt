@@ -16,7 +16,7 @@ use Rattle.aio_disk.specs.declared.disk.Disk.{Ghosts as DiskGhosts}
 use Rattle.scan_rounds.specs.BlockFilter.{BlockFilter}
 use Rattle.scan_rounds.specs.DiskActors.{ActorHasRoom, IsBackend, backend_options}
 use Rattle.scan_rounds.specs.Jobs.{JobIsListed}
-use Rattle.scan_rounds.specs.JobSources.{JobSourceAdvanced}
+use Rattle.scan_rounds.specs.JobSources.{RoundsCounted}
 use Rattle.scan_rounds.specs.ListOptions.{ListOptions, list_options}
 use Rattle.scan_rounds.specs.Progress.{BackendsAreReady, TurnTaken}
 use Rattle.scan_rounds.specs.Rounds.{AllHaveOptions, AllJobsListed, IsLeastRoom, backend_disk_actor}
@@ -155,10 +155,10 @@ module _ {W D : Type 0} (m : DiskGhosts D) (world : WorldGhosts W) (t : TableVie
       results_bound = omega (arith, taken, e.results_bound);
     }
 
-    pub rounds_closed : {A : Type 0} {s : JobSourceGhosts A W} {a b : A}
-        → JobSourceAdvanced m world t q s bs cs js ks a b before after
-        → JobSourceAdvanced m world t q s bs ds js ks a b before after
-    rounds_closed e = record {
+    pub rounds_closed : {A : Type 0} {s : JobSourceGhosts A W} {a b : A} (out out' : ℕ)
+        → RoundsCounted m world t q s bs cs js ks a b before after out out'
+        → RoundsCounted m world t q s bs ds js ks a b before after out out'
+    rounds_closed out out' e = record {
       ready = ready;
       backends = many_as cs ds same ∙ e.backends;
       places = e.places;
@@ -166,7 +166,6 @@ module _ {W D : Type 0} (m : DiskGhosts D) (world : WorldGhosts W) (t : TableVie
       all_have_options = options _ e.all_have_options;
       options_are = e.options_are;
       filter_is = e.filter_is;
-      source_follows = e.source_follows;
       room = e.room;
       results_bound = omega (arith, taken, e.results_bound);
       more = e.more;

@@ -1,5 +1,5 @@
 //! Backends and workers side by side, in threads of their own: all rounds of a run, or one.
-ghost use Rattle.std.specs.Prelude.{◌<◌, ◌+◌, Option};
+ghost use Rattle.std.specs.Prelude.{◌≤◌, ◌+◌, ◌*◌, length};
 ghost use Rattle.std.specs.List.{All};
 ghost use Rattle.std.specs.Thread.{IsSync};
 ghost use Rattle.scan_rounds.specs.JobSources.{JobSourceAdvanced, BackendsMayRunSource};
@@ -77,6 +77,7 @@ pub(crate) fn run_beside<
         shared.now.queue) workers.old }
     requires may { BackendsMayRunSource D.Disk W.World shared.now.table shared.now.queue
         A.JobSource (filter_of_skipping by_map) backends.old jobs.old job_source.old counts.old }
+    requires places { 2 * length backends.old ≤ length jobs.old }
     ensures workers_served { AllWorkersServed D.Disk W.World shared.now.table
         shared.now.queue workers.old workers.new }
     ensures advanced { JobSourceAdvanced D.Disk W.World shared.now.table shared.now.queue
@@ -94,7 +95,7 @@ pub(crate) fn run_beside<
     let mut rounds = ||
         requires { IsSync R.row × BackendsMayRunSource D.Disk W.World
             shared.now.table shared.now.queue A.JobSource (filter_of_skipping by_map) backends.now
-            jobs.now job_source.now counts.now }
+            jobs.now job_source.now counts.now × (2 * length backends.now ≤ length jobs.now) }
         ensures { JobSourceAdvanced D.Disk W.World shared.entry.now.table shared.entry.now.queue
             A.JobSource backends.entry.now backends.exit.now jobs.entry.now jobs.exit.now
             job_source.entry.now job_source.exit.now counts.entry.now counts.exit.now × A.is_over

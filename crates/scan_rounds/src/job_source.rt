@@ -1,5 +1,5 @@
 //! What a run of several rounds lists, and what becomes of it.
-ghost use Rattle.std.specs.Prelude.{◌≡◌, ◌≤◌, ◌<◌, ◌+◌, ℕ, List, Option, length, take, false};
+ghost use Rattle.std.specs.Prelude.{◌≡◌, ◌≤◌, ◌<◌, ◌+◌, ℕ, List, [], Option, length, take, false};
 ghost use Rattle.std.specs.List.{All};
 ghost use Rattle.scan_rounds.specs.ListOptions.{ListOptions};
 ghost use Rattle.scan_rounds.specs.Jobs.{IsNewJob, AllJobsAnswered, job_block_count};
@@ -49,20 +49,33 @@ pub trait JobSource<W: World>: Drop {
         ensures block_filter { block_filter self.new ≡ block_filter self.old }
         ensures options { options self.new ≡ options self.old }
         ensures gives_jobs { gives_jobs self.old (take result jobs.new) self.new }
-        ensures none { result ≡ 0 → follows self.old self.new × is_over self.new };
+        ensures none { result ≡ 0 → follows self.old self.new × is_over self.new
+            × ((was : Self) (asked : List Job) → gives_jobs was asked self.old
+            → gives_jobs was asked self.new) };
 
-    /// Takes back the jobs that it gave last, each with its text and its ending. Whether there is
-    /// to be another round.
+    /// Takes back the jobs that it gave first of those that are out, each with its text and its
+    /// ending. Those that it gave after them may still be out. Whether there is to be another round:
+    /// where not, what is out is listed in vain.
     fn finish_jobs(&mut self, jobs: &[Job]) -> bool
         ensures follows { (was : Self) (asked : List Job) → gives_jobs was asked self.old
             → AllJobsAnswered (block_filter self.old) (options self.old) W.told asked jobs.now
             → follows was self.new }
+        ensures others_out { (was between : Self) (asked later : List Job)
+            → gives_jobs was asked between → gives_jobs between later self.old
+            → AllJobsAnswered (block_filter self.old) (options self.old) W.told asked jobs.now
+            → (next : Self) × follows was next × gives_jobs next later self.new }
         ensures left { blocks_left self.new ≤ blocks_left self.old }
         ensures unskipped { unskipped_left self.new ≤ unskipped_left self.old }
         ensures block_filter { block_filter self.new ≡ block_filter self.old }
         ensures options { options self.new ≡ options self.old }
         ensures unread { unread self.new ≤ unread self.old + unread_job_count jobs.now }
-        ensures over { result ≡ false → is_over self.new };
+        ensures over { result ≡ false → is_over self.new }
+        ensures over_then { is_over self.old → is_over self.new }
+        ensures in_vain { result ≡ false → (next : Self) (later : List Job)
+            → gives_jobs next later self.new → follows next self.new };
+
+    /// To give no job changes nothing.
+    ghost giving_none: { (a : Self) → gives_jobs a [] a };
 
     /// No round leads back to the same state.
     ghost follows_itself: { (a : Self) → follows a a };

@@ -26,7 +26,7 @@ use std::alloc::{AllocError, Global};
 
 /// How many jobs a backend does in one turn at most. Making a thread and waiting for it takes some
 /// 100 microseconds, and a job some 200; the text of each is kept until the turn is over.
-const TURN_JOBS: u32 = 4;
+const TURN_JOBS: u32 = 8;
 
 /// The lists of a scan, all empty.
 #[derive(Drop)]
@@ -126,16 +126,16 @@ fn open_rings<W: World>(
     Ok(rings)
 }
 
-// How many jobs there are for the turns of a run. A backend alone makes no thread for a turn, so
-// longer turns would save it nothing.
+// How many jobs there are for two turns of a run: one is listed while the text of the other is
+// written. A backend alone makes no thread for a turn, so longer turns would save it nothing.
 fn job_count(settings: &ScanSettings) -> u32
     requires { AreValidScanSettings settings.now }
-    ensures { settings.now.backends ≤ result }
+    ensures { 2 * settings.now.backends ≤ result }
 {
     if settings.backends == 1 {
-        1
+        2
     } else {
-        settings.backends * TURN_JOBS
+        2 * TURN_JOBS * settings.backends
     }
 }
 

@@ -69,8 +69,9 @@ impl<W: World + Send + Sync, D: Disk> Scan<W, D> {
 
     /// All rounds of a job source, until it is over, without the blocks that the map marks, where
     /// there is one. They are made in turns: the first is one round, and a later one as many as
-    /// four, of which each backend does neighbouring jobs in one thread, one of them in the
-    /// caller's. The workers live from the first turn to the last. It may wait.
+    /// eight, of which each backend does neighbouring jobs in a thread of its own. Beside each turn
+    /// the caller's thread has the job source take back the jobs of the one before. The workers
+    /// live from the first turn to the last. It may wait.
     pub fn run<R: Threads + Wait + Sync, A: JobSource<W>>(
         &mut self,
         rt: &R,

@@ -72,8 +72,9 @@ fn do_shares<W: World + Send + Sync, D: Disk, R: Threads + Wait + Sync>(
     do_halves(rt, shared, &*by_map, share, first, front, others, rest);
 }
 
-// Some backends beside the others. What the closures hold has one lifetime, since the borrow checker
-// takes no two in closures that name the same `W`.
+// Some backends beside the others. Where these have nothing to do, no thread is made for them. What
+// the closures hold has one lifetime, since the borrow checker takes no two in closures that name
+// the same `W`.
 #[cycle(shares)]
 fn do_halves<'a, W: World + Send + Sync, D: Disk, R: Threads + Wait + Sync>(
     rt: &'a R,
@@ -94,6 +95,11 @@ fn do_halves<'a, W: World + Send + Sync, D: Disk, R: Threads + Wait + Sync>(
     ensures others { SharesDone D.Disk W.World shared.now.table shared.now.queue
         (filter_of_skipping by_map.entry.now) share.now others.old others.new rest.old rest.new }
 {
+    if rest.is_empty() {
+        do_shares(rt, shared, by_map, share, first, front);
+        do_shares(rt, shared, by_map, share, others, rest);
+        return;
+    }
     let mut own = ||
         requires { IsSync R.row × BackendsMayDoShares D.Disk W.World shared.now.table
             shared.now.queue share.now first.now front.now }

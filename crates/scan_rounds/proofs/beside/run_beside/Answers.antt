@@ -8,7 +8,7 @@ join_mut-requires-after_bounds g c κs within = let bounds = c.type_bounds in (
     (search sendable, search sendable, search sendable, search sendable),
   ),
   (
-    (search sendable, c.requires.may),
+    (search sendable, c.requires.may, c.requires.places),
     (search sendable, search sendable, search sendable, search sendable),
   ),
 )

@@ -1,20 +1,28 @@
-use Rattle.std.proofs.Common.{rules, refl, arith, ◌∙◌}
+use Rattle.std.proofs.Common.{rules, ◌≡◌, refl, arith, subst, ◌∙◌, take}
+use Rattle.scan_rounds.specs.Jobs.{unread_job_count}
+use Rattle.scan_rounds.specs.JobSources.{RoundsCounted}
 use Rattle.scan_rounds.proofs.QueueClosed.{rounds_closed}
-use Rattle.scan_rounds.proofs.RoundsCompose.{no_rounds, rounds_then}
+use Rattle.scan_rounds.proofs.RoundsCompose.{no_rounds, nothing_out, rounds_then}
 use Rattle.scan_rounds.proofs.rounds.all_rounds.Goals as goal
 
-pub loop-backends-init : goal.loop-backends-init
-loop-backends-init g c =
+pub loop-count-init : goal.loop-count-init
+loop-count-init g c =
     let may = c.requires.may in
+    let a = g.met.A.JobSource in
     record {
-      advanced = no_rounds may.ready may.all_have_options refl (omega arith) (omega arith)
-          (omega arith) refl refl (g.met.A.JobSource.follows_itself c.args.job_source.now);
-      many = (may.ready.some, may.places, omega arith);
+      counted = no_rounds 0 0 may.ready may.all_have_options refl (omega arith) (omega arith)
+          (omega arith) refl refl;
+      lists = (
+        c.args.job_source.now,
+        a.follows_itself c.args.job_source.now,
+        nothing_out _ _ _ _ (a.giving_none c.args.job_source.now),
+      );
+      many = search rules;
     }
 
-pub next_turn-requires-clause-may : goal.next_turn-requires-clause-may
-next_turn-requires-clause-may g c κs within =
-    let i = c.loop-backends.invariant.advanced in
+pub turn_in_places-count-requires-clause-may : goal.turn_in_places-count-requires-clause-may
+turn_in_places-count-requires-clause-may g c κs within =
+    let i = c.loop-count.invariant.counted in
     record {
       ready = i.ready;
       places = search rules;
@@ -23,22 +31,35 @@ next_turn-requires-clause-may g c κs within =
       filter_is = i.filter_is ∙ c.requires.may.filter_is;
     }
 
-pub loop-backends-preserved : goal.loop-backends-preserved
-loop-backends-preserved g c = record {
-  advanced = rounds_then g.met.A.JobSource.follows_on c.loop-backends.invariant.advanced
-      c.next_turn.ensures.advanced (search rules);
-  many = search rules;
-}
+pub loop-count-preserved : goal.loop-count-preserved
+loop-count-preserved g c =
+    let made = c.turn_in_places-count.ensures.made in
+    let (next, led, listed) = c.loop-count.invariant.lists in
+    let went = made.lists (search rules) next listed in
+    record {
+      counted = rounds_then _ _ _ c.loop-count.invariant.counted made.counted made.counted.places;
+      lists = (went.0, g.met.A.JobSource.follows_on _ _ _ led went.1, went.2);
+      many = search rules;
+    }
 
-pub returns-then-not-next_turn-clause-advanced : goal.returns-then-not-next_turn-clause-advanced
-returns-then-not-next_turn-clause-advanced g c =
+pub returns-then-count-eq0-clause-advanced : goal.returns-then-count-eq0-clause-advanced
+returns-then-count-eq0-clause-advanced g c =
+    let made = c.turn_in_places-count.ensures.made in
+    let zero : c.turn_in_places-count.result ≡ 0 = search rules in
+    let (next, led, listed) = c.loop-count.invariant.lists in
+    let jobs = c.turn_in_places-count.new.jobs in
+    let source = c.turn_in_places-count.new.job_source in
     let closed = c.close_queue.ensures in
-    rounds_closed _ _ _ _ _ _ _ _ _ _ _ closed.disk_actors closed.ready closed.options
-    (rounds_then g.met.A.JobSource.follows_on c.loop-backends.invariant.advanced
-    c.next_turn.ensures.advanced (search rules))
+    let counted = subst (λ n. RoundsCounted g.D.Disk g.W.World c.args.shared.now.table
+    c.args.shared.now.queue g.A.JobSource c.args.backends.now c.turn_in_places-count.new.backends
+    c.args.jobs.now jobs c.args.job_source.now source c.args.counts.now
+    c.turn_in_places-count.new.counts 0 (unread_job_count (take n jobs))) zero
+    (rounds_then _ _ _ c.loop-count.invariant.counted made.counted made.counted.places) in
+    record {
+      counted = rounds_closed _ _ _ _ _ _ _ _ _ _ _ closed.disk_actors closed.ready closed.options
+          0 0 counted;
+      source_follows = g.met.A.JobSource.follows_on _ _ _ led ((made.over zero).1 next listed);
+    }
 
-pub returns-then-not-next_turn-clause-over : goal.returns-then-not-next_turn-clause-over
-returns-then-not-next_turn-clause-over g c = c.next_turn.ensures.over (search rules)
-
-pub loop-backends-smaller : goal.loop-backends-smaller
-loop-backends-smaller g c = c.next_turn.ensures.fewer_left (search rules)
+pub loop-count-smaller : goal.loop-count-smaller
+loop-count-smaller g c = c.turn_in_places-count.ensures.made.fewer_left (search rules)

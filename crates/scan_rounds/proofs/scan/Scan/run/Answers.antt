@@ -31,7 +31,7 @@ returns g c =
     let may = c.requires.may in
     let r = c.reopen_queue.ensures in
     let e = c.run_beside.ensures in
-    let a = e.advanced in
+    let a = e.advanced.counted in
     let own : c.as_mut_slice-backends.result.now ≡ c.args.self.now.backends.items = search rules in
     let same : c.reopen_queue.new.backends ≡ c.args.self.now.backends.items = search rules in
     let many = a.backends ∙ ap length same in
@@ -60,14 +60,14 @@ returns g c =
         reopened = subst (λ bs. IsOpenedAgain bs c.args.self.now.shared.queue
             c.reopen_queue.new.shared.queue) own r.reopened;
         closed = rw backends e.closed;
-        source_follows = a.source_follows;
+        source_follows = e.advanced.source_follows;
         over = e.over;
         options_are = a.options_are;
         filter_is = a.filter_is;
         room = a.room;
         more = a.more;
         unread_raised = a.unread_raised;
-        unread_enough = a.unread_enough;
+        unread_enough = omega (arith, a.unread_enough);
         results_bound = rw backends (omega (arith, a.results_bound, before));
       };
     }
