@@ -52,7 +52,7 @@ module _ {W : Type 0} (c : Scope W) where
       (x : WaitRef × ReadIoView) → s' ≡ record s { batch = s.batch ++ x ∷ [] }
       → IsStaged p x.0 → IsStreamRecord c x.1 → IsNewIncarnation c x.0
       → ((u : WaitRef × ReadIoView) → IsIn u s.batch → u.0 ≢ x.0)
-      → record_count s < c.total → IssuedExcept (x.0 ∷ []) c world p s
+      → record_count s < c.total.value → IssuedExcept (x.0 ∷ []) c world p s
       → Issued c world p s'
   issued-put world p s s' x is new aimed fresh apart room k =
       let more = length-append s.batch (x ∷ []) in

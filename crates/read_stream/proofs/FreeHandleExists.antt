@@ -16,8 +16,8 @@ use Rattle.read_stream.specs.StreamIos.{ios_started}
 
 module _ {W : Type 0} (c : Scope W) (world : WorldGhosts W) (k : Config) (p : Known)
     (s : Reads W) (same : c.was.value.known.config ≡ k) (i : Issued c world p s) where
-  abbrev room : IsRoom k (known_at_open c) c.most
-  room = subst (λ (z : Config). IsRoom z (known_at_open c) c.most) same i.actor.room_was
+  abbrev room : IsRoom k (known_at_open c) c.most.value
+  room = subst (λ (z : Config). IsRoom z (known_at_open c) c.most.value) same i.actor.room_was
 
   -- with no I/O staged or in flight, each handle is in the middle of no life
   pub idle-at-rest : p.number < k.backends → s.batch ≡ [] → s.in_flight.items ≡ []
@@ -40,7 +40,7 @@ module _ {W : Type 0} (c : Scope W) (world : WorldGhosts W) (k : Config) (p : Kn
       }
 
   -- fewer lives ended than each handle could have: so one that is idle is free
-  pub handle_is_free : ios_started s < c.most → HasIdleHandle k p → HasNoneFree k p → ⊥
+  pub handle_is_free : ios_started s < c.most.value → HasIdleHandle k p → HasNoneFree k p → ⊥
   handle_is_free few idle none =
       let left = room.for_each idle.handle idle.in_range (sym i.actor.number ∙ idle.is_own) in
       let lived = i.actor.lives_bound idle.handle in

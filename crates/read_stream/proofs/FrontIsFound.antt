@@ -17,6 +17,7 @@ use Rattle.read_stream.specs.AtHand.{IsNextOfOldest}
 use Rattle.read_stream.specs.StreamIos.{left_run, ios_started}
 use Rattle.read_stream.specs.StreamState.{IsBetweenCalls, IsReadInFront, IsRunning, Underway}
 use Rattle.read_stream.specs.Changes.{with_at_hand}
+use Rattle.read_stream.specs.StreamState.{returned_count}
 use Rattle.read_stream.proofs.FrontOfQueue.{front_is_next}
 use Rattle.read_stream.proofs.OldestRead.{few_started, oldest_is_first}
 use Rattle.read_stream.proofs.StopIsNextAnswer.{end_answered, stop_answered}
@@ -28,7 +29,7 @@ module _ {W S P : Type 0} (left : S → List (ℕ × P)) (world : WorldGhosts W)
   pub ios_within_list : (spare : ℕ) → IsRunning left world None spare p s
       → ios_started s.desk.now.reads ≤ length (left s.source_was.value)
   ios_within_list spare g =
-      let few = few_started s.scope p s.desk.now.reads s.given g.reads.runs g.reads.reads_for in
+      let few = few_started s.scope p s.desk.now.reads _ g.reads.runs g.reads.reads_for in
       let runs = few_reads left world None spare p s g in
       let queue = queue_within_list left world None spare p s g in omega arith
 
@@ -40,7 +41,7 @@ module _ {W S P : Type 0} (left : S → List (ℕ × P)) (world : WorldGhosts W)
   next_of_oldest block has f is =
       let g = f.underway.running in
       let (e, at) = f.has_ended in
-      let (others, runs_are, some) = oldest_is_first s.scope p s.desk.now.reads s.given g.reads.runs
+      let (others, runs_are, some) = oldest_is_first s.scope p s.desk.now.reads _ g.reads.runs
       g.reads.reads_for e at in
       let here = front_is_next left world _ p s g block f.in_front (left_run e) others runs_are some
       in

@@ -26,8 +26,9 @@ use Rattle.read_stream.specs.QueuedBlocks.{HasInFront, IsValidWant, block_read, 
 use Rattle.read_stream.specs.QueuedBlocks.{pending_blocks, read_blocks}
 use Rattle.read_stream.specs.StreamIos.{HasEndedRead, Issued, ReadsForRuns, SameReads, left_run}
 use Rattle.read_stream.specs.StreamIos.{ios_started, record_count}
-use Rattle.read_stream.specs.StreamState.{IsFrontStarted, IsReadInFront, Underway}
+use Rattle.read_stream.specs.StreamState.{IsFrontStarted, IsPosition, IsReadInFront, Underway}
 use Rattle.read_stream.specs.Changes.{with_halves}
+use Rattle.read_stream.specs.StreamState.{returned_count}
 use Rattle.read_stream.proofs.FrontOfQueue.{front_is_read, front_items}
 use Rattle.read_stream.proofs.FrontOfQueue.{front_long, front_read_blocks, front_read_long}
 use Rattle.read_stream.proofs.FrontOfQueue.{reads_then}
@@ -82,7 +83,7 @@ module _ {W S P : Type 0} (left : S → List (ℕ × P)) (world : WorldGhosts W)
   oldest_facts block f e at =
       let u = f.underway in
       let g = u.running in
-      let (others, is, some) = oldest_is_first s.scope p s.desk.now.reads s.given g.reads.runs
+      let (others, is, some) = oldest_is_first s.scope p s.desk.now.reads _ g.reads.runs
       g.reads.reads_for e at in
       let taken = u.invariant.records.issued.records.ended_records e
       (first-in s.desk.now.reads.ended.items e at) in
@@ -96,7 +97,7 @@ module _ {W S P : Type 0} (left : S → List (ℕ × P)) (world : WorldGhosts W)
       let g = u.running in
       let pend : Option Run = s.desk.now.blocks.plan.pending in
       let reads : List ℕ = flat_map run_blocks g.reads.runs in
-      let count = reads_count s.scope p s.desk.now.reads s.given g.reads.runs g.reads.reads_for in
+      let count = reads_count s.scope p s.desk.now.reads _ g.reads.runs g.reads.reads_for in
       let total = u.invariant.records.record_total in
       let ios = u.invariant.set_up.scope.1 in
       let idle = started block f (omega arith) in
@@ -146,13 +147,13 @@ module _ {W S P : Type 0} (left : S → List (ℕ × P)) (world : WorldGhosts W)
   -- one more I/O may be made for the block at the front, which is not read
   pub may_read_alone : (block : ℕ) → Underway left world p s
       → HasInFront s.desk.now.blocks.queue.items block []
-      → ios_started s.desk.now.reads < s.scope.most
+      → ios_started s.desk.now.reads < s.scope.most.value
   may_read_alone block u f =
       let g = u.running in
       let queue : List (QueuedBlock P) = s.desk.now.blocks.queue.items in
       let reads : List ℕ = flat_map run_blocks g.reads.runs in
       let pend : List ℕ = pending_blocks s.desk.now.blocks.plan.pending in
-      let few = few_started s.scope p s.desk.now.reads s.given g.reads.runs g.reads.reads_for in
+      let few = few_started s.scope p s.desk.now.reads _ g.reads.runs g.reads.reads_for in
       let long : length (read_blocks (drop 1 queue)) ≡ length (reads ++ pend) =
       ap (λ (z : List ℕ). length z) (sym (reads_then queue block [] f) ∙ g.reads.in_order) in
       let parts = length-append reads pend in
@@ -166,11 +167,11 @@ module _ {W S P : Type 0} (left : S → List (ℕ × P)) (world : WorldGhosts W)
   -- one more I/O may be made for the rest of the oldest read, which has given a page
   pub may_read_rest : (block : ℕ) → IsReadInFront left world block p s → (e : EndedRead)
       → slice_get s.desk.now.reads.ended.items 0 ≡ Some e → 0 < e.given
-      → ios_started s.desk.now.reads < s.scope.most
+      → ios_started s.desk.now.reads < s.scope.most.value
   may_read_rest block f e at some =
       let u = f.underway in
       let g = u.running in
-      let few = few_with_oldest s.scope p s.desk.now.reads s.given g.reads.runs g.reads.reads_for e
+      let few = few_with_oldest s.scope p s.desk.now.reads _ g.reads.runs g.reads.reads_for e
       at some in
       let queue = few_reads left world None _ p s g in
       let all = queue_within_list left world None _ p s g in
@@ -195,10 +196,10 @@ module _ {W S P : Type 0} (left : S → List (ℕ × P)) (world : WorldGhosts W)
       let g = u.running in
       let a = g.reads.reads_for in
       let pl : PlanView = s.desk.now.blocks.plan in
-      let (others, is, _) = oldest_is_first s.scope p s.desk.now.reads s.given g.reads.runs a e at in
-      let now = reads s.given others
-      (reads_popped s.scope p s.desk.now.reads s.given g.reads.runs a e at others is some) in
-      let left_is = oldest_left s.scope q r s.given (left_run e) others now e' at' in
+      let (others, is, _) = oldest_is_first s.scope p s.desk.now.reads _ g.reads.runs a e at in
+      let now = reads _ others
+      (reads_popped s.scope p s.desk.now.reads _ g.reads.runs a e at others is some) in
+      let left_is = oldest_left s.scope q r _ (left_run e) others now e' at' in
       let last : last_page r.ended.items ≡ last_page s.desk.now.reads.ended.items =
       last_of r.ended.items e' at' ∙ (ap (λ (z : Run). 1 - (z.count - 1)) left_is
       ∙ sym (last_of s.desk.now.reads.ended.items e at)) in
@@ -252,12 +253,14 @@ module _ {W S P : Type 0} (left : S → List (ℕ × P)) (world : WorldGhosts W)
       let g = u.running in
       let queue : List (QueuedBlock P) = s.desk.now.blocks.queue.items in
       let pl : PlanView = s.desk.now.blocks.plan in
-      let now = reads s.given g.reads.runs g.reads.reads_for in
-      let left_is = oldest_left s.scope q r s.given (one_block block) g.reads.runs now e at in
+      let long = front_read_long queue block [] f in
+      let count : returned_count left (with_halves s (block_read s.desk.now.blocks) r)
+      ≡ returned_count left s = omega arith in
+      let now = reads _ g.reads.runs g.reads.reads_for in
+      let left_is = oldest_left s.scope q r _ (one_block block) g.reads.runs now e at in
       let last : last_page r.ended.items ≡ 1 =
       last_of r.ended.items e at ∙ ap (λ (z : Run). 1 - (z.count - 1)) left_is in
       let in_use = g.plan.in_use in
-      let long = front_read_long queue block [] f in
       let ahead = g.plan.ahead in
       let within = g.plan.queue_within_limit in
       record {
@@ -271,16 +274,18 @@ module _ {W S P : Type 0} (left : S → List (ℕ × P)) (world : WorldGhosts W)
             };
           };
           running = record {
-            position = record {
-              given_within = g.position.given_within;
-              readable = g.position.readable;
-              blocks = ap (λ (z : List (ℕ × P)). z ++ left s.source)
-                  (front_items queue block [] f) ∙ g.position.blocks;
-              none_left_if_over = g.position.none_left_if_over;
-            };
+            position = subst (λ (n : ℕ). IsPosition world.told s.scope (left s.source_was.value)
+                (left s.source) s.desk.now.blocks.over n (front_read queue)) (sym count) (record {
+                  given_within = g.position.given_within;
+                  readable = g.position.readable;
+                  blocks = ap (λ (z : List (ℕ × P)). z ++ left s.source)
+                      (front_items queue block [] f) ∙ g.position.blocks;
+                  none_left_if_over = g.position.none_left_if_over;
+                });
             reads = record {
               runs = one_block block ∷ g.reads.runs;
-              reads_for = now;
+              reads_for = subst (λ (n : ℕ). ReadsForRuns s.scope q r n
+                  (one_block block ∷ g.reads.runs)) (sym count) now;
               in_order = front_read_blocks queue block [] f ∙ ap (λ (z : List ℕ). block ∷ z)
                   (sym (reads_then queue block [] f) ∙ g.reads.in_order);
             };

@@ -24,6 +24,7 @@ use Rattle.read_stream.specs.AtHand.{ending_at_hand, lent_count}
 use Rattle.read_stream.specs.StreamState.{HasRecords, IsBetweenCalls, answer_at_hand}
 use Rattle.read_stream.specs.StreamState.{entries_at_open, list_at_open}
 use Rattle.read_stream.proofs.PartIsNextAnswer.{page_is_next}
+use Rattle.read_stream.specs.StreamState.{returned_count}
 use Rattle.read_stream.proofs.ListPositions.{here-at, mapped-at}
 use Rattle.read_stream.proofs.NextAnswerCases.{ReadableUpTo, next-page}
 use Rattle.read_stream.proofs.StopIsNextAnswer.{HasPosition, MayAnswer, left_of, oldest_taken}
@@ -47,7 +48,8 @@ module _ {W S P : Type 0} (left : S → List (ℕ × P)) (world : WorldGhosts W)
   -- an answer that gives a page may be answered, and the blocks up to it can be read
   abbrev IsNextPage : Said P → Type 0
   IsNextPage x = (IfPage x IsPage → MayAnswer left world p s x)
-      × ReadableUpTo s.scope.zero world.told (s.given + 1) (entries_at_open left world s)
+      × ReadableUpTo s.scope.zero world.told (returned_count left s + 1)
+      (entries_at_open left world s)
 
   pinned-next : (page : List ℕ) (block : ℕ) (f : HasInFront queue block [])
       → IsGood world.told s.scope.relation block page → HasPosition left world s
@@ -55,9 +57,9 @@ module _ {W S P : Type 0} (left : S → List (ℕ × P)) (world : WorldGhosts W)
   pinned-next page block f good at =
       let item : ℕ × P = (block, f.asked.per_buffer_data) in
       next-page s.scope.zero (MayBeUnread s.scope.was.value p) (entries_at_open left world s)
-      s.given (stream_entry s.scope.relation item)
-      (mapped-at (stream_entry s.scope.relation) (list_at_open left world s) s.given item
-      (here-at (list_at_open left world s) s.given item rest
+      (returned_count left s) (stream_entry s.scope.relation item)
+      (mapped-at (stream_entry s.scope.relation) (list_at_open left world s) _ item
+      (here-at (list_at_open left world s) _ item rest
       (left_of left world s block [] f at)))
       world.told page false at.readable (λ never. absurd (cc)) good
 
@@ -72,7 +74,7 @@ module _ {W S P : Type 0} (left : S → List (ℕ × P)) (world : WorldGhosts W)
       let place : block - io.first ≡ o.oldest.given = omega arith in
       subst (λ (k : ℕ). IsNextPage (page_answer s.scope.relation block
       o.in_front.asked.per_buffer_data (record_page io k) (record_zeroed io k))) place
-      (page_is_next s.scope world (list_at_open left world s) s.given block
+      (page_is_next s.scope world (list_at_open left world s) (returned_count left s) block
       o.in_front.asked.per_buffer_data rest
       (left_of left world s block (block ∷ []) o.in_front at) at.readable p io
       (oldest_taken left world p s block part.Page records o) o.covers o.part)

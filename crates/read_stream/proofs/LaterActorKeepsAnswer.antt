@@ -22,6 +22,7 @@ use Rattle.read_stream.specs.AtHand.{ending_at_hand, lent_count}
 use Rattle.read_stream.specs.StreamState.{IsBetweenCalls, IsOpen}
 use Rattle.read_stream.specs.StreamState.{entries_at_open, stream_view}
 use Rattle.read_stream.specs.Changes.{IsSameReading, with_at_hand}
+use Rattle.read_stream.specs.StreamState.{returned_count}
 use Rattle.read_stream.proofs.ActorAdvancedLaws.{advanced_taking_up}
 use Rattle.read_stream.proofs.ReadsMatchRuns.{reads-later}
 use Rattle.read_stream.proofs.SubmitKeepsIssued.{issued-taking-up}
@@ -52,18 +53,18 @@ found_kept {W} {S} {P} s t n h k is =
 module _ {W S P : Type 0} (left : S → List (ℕ × P)) (world : WorldGhosts W) where
   -- the same answer of the same stream, behind so many pages
   pub next_answer_kept : (q : Known) (s n : ReadStream W S P) (given : ℕ) (x : Said P)
-      → IsSameReading s n → n.given ≡ given
+      → IsSameReading s n → returned_count left n ≡ given
       → IsNext (reader_of n.scope.zero world.told) (MayBeUnread n.scope.was.value q)
-      (stream_entries n.scope.relation (left n.source_was.value)) n.given x
+      (stream_entries n.scope.relation (left n.source_was.value)) (returned_count left n) x
       → IsNext (reader_of s.scope.zero world.told) (MayBeUnread s.scope.was.value q)
       (stream_entries s.scope.relation (left s.source_was.value)) given x
   next_answer_kept q s n given x k so_many is =
       subst (λ (z : ℕ). IsNext (reader_of s.scope.zero world.told) (MayBeUnread s.scope.was.value q)
       (stream_entries s.scope.relation (left s.source_was.value)) z x) so_many
       (subst (λ z. IsNext (reader_of s.scope.zero world.told) (MayBeUnread s.scope.was.value q)
-      (stream_entries s.scope.relation (left z.value)) n.given x) k.source_was
+      (stream_entries s.scope.relation (left z.value)) (returned_count left n) x) k.source_was
       (subst (λ (z : Scope W). IsNext (reader_of z.zero world.told) (MayBeUnread z.was.value q)
-      (stream_entries z.relation (left n.source_was.value)) n.given x) k.scope is))
+      (stream_entries z.relation (left n.source_was.value)) (returned_count left n) x) k.scope is))
 
   -- the stream keeps what its actor knows
   pub between_known : (p : Known) (s : ReadStream W S P) (actor : Snapshot ActorView)
@@ -85,7 +86,7 @@ module _ {W S P : Type 0} (left : S → List (ℕ × P)) (world : WorldGhosts W)
 
   -- the stream after a call, as its callers see it
   pub same_view : (s n : ReadStream W S P) (actor_is : Snapshot ActorView) (actor : ActorView)
-      (answer : Said P) → IsSameReading s n → n.given ≡ (stream_view left s).given
+      (answer : Said P) → IsSameReading s n → returned_count left n ≡ (stream_view left s).given
       → pages_given answer ≡ lent_count n.at_hand
       → ending_at_hand n.at_hand ≡ answered_stop answer → actor_is.value ≡ actor
       → stream_view left (record n { actor_is = actor_is })
@@ -150,7 +151,7 @@ module _ {W S P : Type 0} (left : S → List (ℕ × P)) (world : WorldGhosts W)
           position = g.position;
           reads = record {
             runs = g.reads.runs;
-            reads_for = reads-later s.scope p q reads reads s.given g.reads.runs w.aims refl refl
+            reads_for = reads-later s.scope p q reads reads _ g.reads.runs w.aims refl refl
                 refl refl g.reads.reads_for;
             in_order = g.reads.in_order;
           };
@@ -160,7 +161,7 @@ module _ {W S P : Type 0} (left : S → List (ℕ × P)) (world : WorldGhosts W)
         right = b.right;
         stop_answer = some-wider (ending_at_hand s.at_hand) _ _
             (λ e is. next_wider (reader_of s.scope.zero world.told) (MayBeUnread was p)
-            (MayBeUnread was q) (entries_at_open left world s) s.given (SaidStop e)
+            (MayBeUnread was q) (entries_at_open left world s) (returned_count left s) (SaidStop e)
             (may_later was p q 0 0 0 0 w) is) b.stop_answer;
       }
 

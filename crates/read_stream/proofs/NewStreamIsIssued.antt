@@ -21,8 +21,9 @@ module _ {W : Type 0} where
   reset_reads r = record r { taken_in = 0 }
 
   pub new-stream-issued : (c : Scope W) (world : WorldGhosts W) (r : Reads W)
-      → AllRecordsFree c.combine c.total r → HasNoOwnerTokens (known_at_open c) → c.most < 2 ^ 58
-      → IsRoom c.was.value.known.config (known_at_open c) c.most
+      → AllRecordsFree c.combine c.total.value r → HasNoOwnerTokens (known_at_open c)
+      → c.most.value < 2 ^ 58
+      → IsRoom c.was.value.known.config (known_at_open c) c.most.value
       → Issued c world (known_at_open c) (reset_reads r)
   new-stream-issued c world r ready rest small room =
       let p : Known = known_at_open c in

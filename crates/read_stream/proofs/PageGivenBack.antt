@@ -12,6 +12,7 @@ use Rattle.read_plan.specs.declared.runs.Run.{Run}
 use Rattle.buf_pool.specs.declared.pin.Pin.{Pin}
 use Rattle.read_stream.specs.declared.at_hand.AtHand.{AtHand}
 use Rattle.read_stream.specs.declared.at_hand.AtHand.TheVariants as at_hand
+use Rattle.read_stream.specs.declared.blocks.Blocks.{Blocks}
 use Rattle.read_stream.specs.declared.queue.QueuedBlock.{QueuedBlock}
 use Rattle.read_stream.specs.declared.reads.EndedRead.{EndedRead}
 use Rattle.read_stream.specs.declared.reads.Reads.{Reads}
@@ -22,8 +23,9 @@ use Rattle.read_stream.specs.AtHand.{HasAnswer, IsRightAtHand, ending_at_hand, l
 use Rattle.read_stream.specs.AtHand.{spare_at_hand, stop_ending}
 use Rattle.read_stream.specs.declared.parts.Stop.{Stop}
 use Rattle.read_stream.specs.StreamIos.{ReadsForRuns, left_run, oldest_freed, oldest_given}
-use Rattle.read_stream.specs.StreamState.{HasRecords, IsBetweenCalls, UnderwayWith}
+use Rattle.read_stream.specs.StreamState.{HasRecords, IsBetweenCalls, IsPosition, UnderwayWith}
 use Rattle.read_stream.specs.Changes.{page_given, with_halves}
+use Rattle.read_stream.specs.StreamState.{returned_count}
 use Rattle.read_stream.proofs.FrontOfQueue.{front_long, reads_behind, reads_then}
 use Rattle.read_stream.proofs.GivenPageIsNextAnswer.{page_answered}
 use Rattle.read_stream.proofs.ListPositions.{below-at, rest-at}
@@ -31,6 +33,7 @@ use Rattle.read_stream.proofs.OldestRead.{issued_freed, issued_given, oldest_is_
 use Rattle.read_stream.proofs.OldestRead.{reads_freed, reads_given}
 use Rattle.read_stream.proofs.QueueMovesKeepIssued.{first-of}
 use Rattle.read_stream.proofs.StopIsNextAnswer.{left_of}
+use Rattle.read_stream.proofs.UnderwayLaws.{list_in_parts}
 
 -- more pages were given
 more_given : {W : Type 0} (c : Scope W) (p : Known) (s : Reads W) (given : ℕ) (runs : List Run)
@@ -50,12 +53,22 @@ module _ {W S P : Type 0} (left : S → List (ℕ × P)) (world : WorldGhosts W)
   abbrev queue : List (QueuedBlock P)
   queue = s.desk.now.blocks.queue.items
 
+  -- one page more was given back
+  one_returned : (k : AtHand W) (b' : Blocks P) (r : Reads W) → b'.queue.items ≡ queue
+      → returned_count left (page_given (with_halves (record s { at_hand = k }) b' r))
+      ≡ returned_count left s + 1
+  one_returned k b' r same =
+      let parts = list_in_parts left world None _ p s (b.running going) in
+      let long = front_long queue block read f in
+      let rest : length (drop 1 b'.queue.items) ≡ length (drop 1 queue) =
+      ap (λ (z : List (QueuedBlock P)). length (drop 1 z)) same in omega arith
+
   -- the block leaves the queue, and these are the reads and the I/Os in progress then
   returned_with : (k : AtHand W) (r : Reads W) (ios : ℕ) (runs : List Run)
-      → HasRecords world s.scope p r → ReadsForRuns s.scope p r (s.given + 1) runs
+      → HasRecords world s.scope p r → ReadsForRuns s.scope p r (returned_count left s + 1) runs
       → read_blocks (drop 1 queue)
       ≡ flat_map run_blocks runs ++ pending_blocks s.desk.now.blocks.plan.pending
-      → ios + length r.free.items ≡ s.scope.total → 0 < length r.free.items
+      → ios + length r.free.items ≡ s.scope.total.value → 0 < length r.free.items
       → UnderwayWith left world None 0 p (page_given (with_halves (record s { at_hand = k })
       (record s.desk.now.blocks {
         plan = record s.desk.now.blocks.plan { ios_in_progress = ios };
@@ -64,23 +77,28 @@ module _ {W S P : Type 0} (left : S → List (ℕ × P)) (world : WorldGhosts W)
       let g = b.running going in
       let here = left_of left world s block read f g.position in
       let more : List (ℕ × P) = map source_item (drop 1 queue) ++ left s.source in
-      let below = below-at (left s.source_was.value) s.given (block, f.asked.per_buffer_data) more
-      here in
+      let below = below-at (left s.source_was.value) _ (block, f.asked.per_buffer_data) more here in
       let long = front_long queue block read f in
       let ahead = g.plan.ahead in
       let within = g.plan.queue_within_limit in
+      let count = one_returned k s.desk.now.blocks r refl in
       record {
         invariant = record { set_up = b.invariant.set_up; records = records };
         running = record {
-          position = record {
-            given_within = omega arith;
-            readable = (page_answered left world p s b.right going has b.invariant.records
-                g.position).1;
-            blocks = sym (rest-at (left s.source_was.value) s.given
-                (block, f.asked.per_buffer_data) more here);
-            none_left_if_over = g.position.none_left_if_over;
+          position = subst (λ (n : ℕ). IsPosition world.told s.scope (left s.source_was.value)
+              (left s.source) s.desk.now.blocks.over n (drop 1 queue)) (sym count) (record {
+                given_within = omega arith;
+                readable = (page_answered left world p s b.right going has b.invariant.records
+                    g.position).1;
+                blocks = sym (rest-at (left s.source_was.value) _
+                    (block, f.asked.per_buffer_data) more here);
+                none_left_if_over = g.position.none_left_if_over;
+              });
+          reads = record {
+            runs = runs;
+            reads_for = subst (λ (n : ℕ). ReadsForRuns s.scope p r n runs) (sym count) reads;
+            in_order = order;
           };
-          reads = record { runs = runs; reads_for = reads; in_order = order };
           wants = λ a i. g.wants a (subst (λ (z : List (QueuedBlock P)). IsIn a z)
               (sym (first-of queue f.asked f.first)) (inr i));
           plan = record {
@@ -141,7 +159,7 @@ module _ {W S P : Type 0} (left : S → List (ℕ × P)) (world : WorldGhosts W)
       ap (λ (z : AtHand W). spare_at_hand z ended) now in
       returned_with left world p s b going (rw now tt) block [] f k s.desk.now.reads
       s.desk.now.blocks.plan.ios_in_progress g.reads.runs b.invariant.records
-      (more_given s.scope p s.desk.now.reads s.given g.reads.runs g.reads.reads_for)
+      (more_given s.scope p s.desk.now.reads _ g.reads.runs g.reads.reads_for)
       (sym (reads_then s.desk.now.blocks.queue.items block [] f) ∙ g.reads.in_order) g.plan.in_use
       (omega arith)
 
@@ -161,7 +179,7 @@ module _ {W S P : Type 0} (left : S → List (ℕ × P)) (world : WorldGhosts W)
       let e : EndedRead = o.oldest in
       let g = b.running going in
       let a = g.reads.reads_for in
-      let (others, runs_are, some) = oldest_is_first s.scope p reads s.given g.reads.runs a e o.first
+      let (others, runs_are, some) = oldest_is_first s.scope p reads _ g.reads.runs a e o.first
       in
       let last = is_last e o.first in
       let none : (left_run e).count - 1 ≡ 0 = omega arith in
@@ -178,7 +196,7 @@ module _ {W S P : Type 0} (left : S → List (ℕ × P)) (world : WorldGhosts W)
         batch_within = b.invariant.records.batch_within;
         record_total = records ∙ total;
       })
-      (reads_freed s.scope p reads s.given g.reads.runs a e o.first others runs_are)
+      (reads_freed s.scope p reads _ g.reads.runs a e o.first others runs_are)
       (reads_behind left world _ p s g block o.in_front (left_run e) others runs_are some
       ∙ ap (λ (z : ℕ). range_with_len ((left_run e).first + 1) z ++ (flat_map run_blocks others
       ++ pending_blocks s.desk.now.blocks.plan.pending)) none)
@@ -196,7 +214,7 @@ module _ {W S P : Type 0} (left : S → List (ℕ × P)) (world : WorldGhosts W)
       let e : EndedRead = o.oldest in
       let g = b.running going in
       let a = g.reads.reads_for in
-      let (others, runs_are, some) = oldest_is_first s.scope p reads s.given g.reads.runs a e o.first
+      let (others, runs_are, some) = oldest_is_first s.scope p reads _ g.reads.runs a e o.first
       in
       let more = not_last e o.first in
       let two : 2 ≤ (left_run e).count = omega arith in
@@ -215,7 +233,7 @@ module _ {W S P : Type 0} (left : S → List (ℕ × P)) (world : WorldGhosts W)
         batch_within = b.invariant.records.batch_within;
         record_total = records ∙ total;
       })
-      (reads_given s.scope p reads s.given g.reads.runs a e o.first others runs_are two)
+      (reads_given s.scope p reads _ g.reads.runs a e o.first others runs_are two)
       (reads_behind left world _ p s g block o.in_front (left_run e) others runs_are some
       ∙ sym (append_assoc (run_blocks next) (flat_map run_blocks others)
       (pending_blocks s.desk.now.blocks.plan.pending)))

@@ -40,7 +40,7 @@ module _ {W : Type 0} (c : Scope W) (world : WorldGhosts W) (p : Known) (s : Rea
   where
     -- other records are free, or have ended
     pub issued-records : (free : List ReadIoView) (ended : List EndedRead)
-        → length free + length s.batch + length s.in_flight.items + length ended ≤ c.total
+        → length free + length s.batch + length s.in_flight.items + length ended ≤ c.total.value
         → AreStreamRecords c world p free ended → Issued c world p s
         → Issued c world p (record s {
           free = buffer free s.free.capacity;
@@ -112,7 +112,7 @@ module _ {W : Type 0} (c : Scope W) (world : WorldGhosts W) (p : Known) (s : Rea
         }
 
     -- a record is kept with its pages
-    pub more-ended : (r : EndedRead) → record_count s < c.total → IsTakenIn c world p r.io
+    pub more-ended : (r : EndedRead) → record_count s < c.total.value → IsTakenIn c world p r.io
         → Issued c world p s
         → Issued c world p (record s {
           ended = buffer (s.ended.items ++ r ∷ []) s.ended.capacity;
@@ -126,7 +126,7 @@ module _ {W : Type 0} (c : Scope W) (world : WorldGhosts W) (p : Known) (s : Rea
         }) i
 
     -- a record that was read at once is kept before the others
-    pub front-ended : (r : EndedRead) → record_count s < c.total → IsTakenIn c world p r.io
+    pub front-ended : (r : EndedRead) → record_count s < c.total.value → IsTakenIn c world p r.io
         → Issued c world p s
         → Issued c world p (record s {
           ended = buffer (r ∷ s.ended.items) s.ended.capacity;
@@ -140,7 +140,7 @@ module _ {W : Type 0} (c : Scope W) (world : WorldGhosts W) (p : Known) (s : Rea
         }) i
 
     -- a record is free again
-    pub more-free : (r : ReadIoView) → record_count s < c.total → length r.pages ≡ c.combine
+    pub more-free : (r : ReadIoView) → record_count s < c.total.value → length r.pages ≡ c.combine
         → Issued c world p s
         → Issued c world p (record s {
           free = buffer (r ∷ s.free.items) s.free.capacity;

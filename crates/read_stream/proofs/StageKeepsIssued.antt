@@ -214,7 +214,7 @@ module _ {W : Type 0} (c : Scope W) (world : WorldGhosts W) where
               (λ over. let f = same-defined x ne in let g = same-reclaimed x in inl (omega arith))
               (λ j. inr (inr j)) old
 
-      pub issued-staged : ios_started s + 1 ≤ c.most
+      pub issued-staged : ios_started s + 1 ≤ c.most.value
           → IssuedExcept (t ∷ []) c world q2 s
       issued-staged most =
           let i = h.issued in record {

@@ -19,6 +19,7 @@ use Rattle.read_stream.specs.QueuedBlocks.{HasInFront, source_item}
 use Rattle.read_stream.specs.AtHand.{IsNextOfOldest, stop_ending}
 use Rattle.read_stream.specs.StreamState.{HasRecords, IsPosition, entries_at_open, list_at_open}
 use Rattle.read_stream.proofs.PartIsNextAnswer.{stop_is_next}
+use Rattle.read_stream.specs.StreamState.{returned_count}
 use Rattle.read_stream.proofs.ListPositions.{none-at}
 use Rattle.read_stream.proofs.QueueMovesKeepIssued.{first-of}
 use Rattle.read_stream.proofs.NextAnswerCases.{next-end}
@@ -31,17 +32,17 @@ module _ {W S P : Type 0} (left : S → List (ℕ × P)) (world : WorldGhosts W)
   -- the stream's place in its list
   abbrev pub HasPosition : ReadStream W S P → Type 0
   HasPosition s = IsPosition world.told s.scope (list_at_open left world s) (left s.source)
-      s.desk.now.blocks.over s.given s.desk.now.blocks.queue.items
+      s.desk.now.blocks.over (returned_count left s) s.desk.now.blocks.queue.items
 
   -- this may be answered behind the pages that were given back
   abbrev pub MayAnswer : Known → ReadStream W S P → Said P → Type 0
   MayAnswer p s x = IsNext (reader_of s.scope.zero world.told) (MayBeUnread s.scope.was.value p)
-      (entries_at_open left world s) s.given x
+      (entries_at_open left world s) (returned_count left s) x
 
   -- the blocks of the list that are left, of which this one stands in front
   pub left_of : (s : ReadStream W S P) (block : ℕ) (read : List ℕ)
       → (f : HasInFront s.desk.now.blocks.queue.items block read) → HasPosition s
-      → drop s.given (list_at_open left world s) ≡ (block, f.asked.per_buffer_data)
+      → drop (returned_count left s) (list_at_open left world s) ≡ (block, f.asked.per_buffer_data)
       ∷ (map source_item (drop 1 s.desk.now.blocks.queue.items) ++ left s.source)
   left_of s block read f at =
       let rest : List (ℕ × P) =
@@ -64,7 +65,7 @@ module _ {W S P : Type 0} (left : S → List (ℕ × P)) (world : WorldGhosts W)
       (part.Stop why) → HasRecords world s.scope p s.desk.now.reads → HasPosition s
       → MayAnswer p s (SaidStop (stop_ending why block))
   stop_answered p s block why o records at =
-      stop_is_next s.scope world (list_at_open left world s) s.given block
+      stop_is_next s.scope world (list_at_open left world s) (returned_count left s) block
       o.in_front.asked.per_buffer_data
       (map source_item (drop 1 s.desk.now.blocks.queue.items) ++ left s.source)
       (left_of s block (block ∷ []) o.in_front at) at.readable p o.oldest.io
@@ -74,9 +75,9 @@ module _ {W S P : Type 0} (left : S → List (ℕ × P)) (world : WorldGhosts W)
   pub end_answered : (p : Known) (s : ReadStream W S P) → s.desk.now.blocks.queue.items ≡ []
       → left s.source ≡ [] → HasPosition s → MayAnswer p s (SaidStop End)
   end_answered p s none empty at =
-      let all = none-at (list_at_open left world s) s.given (sym at.blocks
+      let all = none-at (list_at_open left world s) (returned_count left s) (sym at.blocks
       ∙ (ap (λ (z : List (QueuedBlock P)). map source_item z ++ left s.source) none ∙ empty)) in
       let n = length-map (list_at_open left world s) (stream_entry s.scope.relation) in
       let few = at.given_within in
       next-end s.scope.zero (MayBeUnread s.scope.was.value p) (entries_at_open left world s)
-      s.given world.told at.readable (omega arith)
+      (returned_count left s) world.told at.readable (omega arith)

@@ -1,5 +1,5 @@
 -- What of a stream is unchanged where a part of it changes.
-use Rattle.std.proofs.Common.{◌≡◌, ℕ, ◌+◌, ◌<◌, refl, ◌∙◌}
+use Rattle.std.proofs.Common.{◌≡◌, ℕ, ◌+◌, ◌<◌, List, refl, ◌∙◌}
 use Rattle.std.specs.Prelude.{Option}
 use Rattle.read_plan.specs.Plans.{PlanView}
 use Rattle.read_plan.specs.declared.runs.Run.{Run}
@@ -20,15 +20,16 @@ same_reading_then a b d x y = record {
 pub same_reading_refl : {W S P : Type 0} (s : ReadStream W S P) → IsSameReading s s
 same_reading_refl s = record { desk = refl; scope = refl; source_was = refl; settings = refl }
 
-pub same_stream_then : {W S P : Type 0} (a b d : ReadStream W S P) → SameStream a b → SameStream b d
-    → SameStream a d
-same_stream_then a b d x y = record {
+pub same_stream_then : {W S P : Type 0} (left : S → List (ℕ × P)) (a b d : ReadStream W S P)
+    → SameStream left a b → SameStream left b d → SameStream left a d
+same_stream_then left a b d x y = record {
   reading = same_reading_then a b d x.reading y.reading;
   given = y.given ∙ x.given;
 }
 
-pub same_stream_refl : {W S P : Type 0} (s : ReadStream W S P) → SameStream s s
-same_stream_refl s = record { reading = same_reading_refl s; given = refl }
+pub same_stream_refl : {W S P : Type 0} (left : S → List (ℕ × P)) (s : ReadStream W S P)
+    → SameStream left s s
+same_stream_refl left s = record { reading = same_reading_refl s; given = refl }
 
 -- the plan looks as far ahead as it may, has another pending run, and as many I/Os in progress as
 -- there are records in use

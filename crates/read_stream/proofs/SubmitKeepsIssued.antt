@@ -157,7 +157,7 @@ module _ {W : Type 0} (c : Scope W) where
 
   -- a token in flight is put behind the others
   more-in-flight : (world : WorldGhosts W) (p : Known) (s : Reads W) (t : WaitRef)
-      → record_count s < c.total → HeldByCaller c world p s t
+      → record_count s < c.total.value → HeldByCaller c world p s t
       → Issued c world p
       (record s { in_flight = buffer (s.in_flight.items ++ t ∷ []) s.in_flight.capacity })
   more-in-flight world p s t room l =
@@ -213,7 +213,7 @@ module _ {W : Type 0} (c : Scope W) where
       (x : WaitRef × ReadIoView) (after : List (WaitRef × ReadIoView)) (t : WaitRef) (a b d e : ℕ)
       → s' ≡ record s { batch = s.batch ++ x ∷ [] } → IsStaged p x.0 → IsStreamRecord c x.1
       → IsNewIncarnation c x.0 → ((u : WaitRef × ReadIoView) → IsIn u s.batch → u.0 ≢ x.0)
-      → record_count s < c.total
+      → record_count s < c.total.value
       → IssuedExcept (x.0 ∷ []) c world p s
       → IsNextSubmission record_aim s'.batch after t p q a b d e → AreStagedTokens q after
       → HeldByCaller c world q (record s' { batch = after }) t

@@ -1,6 +1,6 @@
 -- A stream in the middle of a call, and what its steps leave of it.
 use Rattle.std.proofs.Common.{◌≡◌, ℕ, ◌+◌, ◌<◌, ◌≤◌, List, [], ◌∷◌, ◌++◌, length, map, drop}
-use Rattle.std.proofs.Common.{sym, ap, arith, ◌∙◌, append_assoc, length-append}
+use Rattle.std.proofs.Common.{sym, ap, arith, ◌∙◌, append_assoc, length-append, subst}
 use Rattle.std.specs.Prelude.{Option, Some, None}
 use Rattle.std.specs.List.{flat_map}
 use Rattle.std.proofs.lemmas.List.{map-append, length-map, length-drop, flat_map_more}
@@ -19,27 +19,36 @@ use Rattle.read_stream.specs.declared.stream.ReadStream.{ReadStream}
 use Rattle.read_stream.specs.QueuedBlocks.{BlockTaken, IsValidWant, pending_blocks, read_block}
 use Rattle.read_stream.specs.QueuedBlocks.{read_blocks, source_item}
 use Rattle.read_stream.specs.StreamIos.{Issued, ReadsForRuns, SameReads, record_count, ios_started}
-use Rattle.read_stream.specs.StreamState.{IsRunning, UnderwayWith}
+use Rattle.read_stream.specs.StreamState.{IsPosition, IsRunning, UnderwayWith}
 use Rattle.read_stream.specs.Changes.{with_halves}
+use Rattle.read_stream.specs.StreamState.{returned_count}
 use Rattle.read_stream.proofs.OldestRead.{few_started, reads_count}
 use Rattle.read_stream.proofs.PushedList.{each-pushed}
 use Rattle.read_stream.proofs.QueuedBlocks.{few_read, few_runs, read_blocks_pushed}
 use Rattle.read_stream.proofs.StreamInvariantLaws.{plan_agrees_then}
 
 module _ {W S P : Type 0} (left : S → List (ℕ × P)) (world : WorldGhosts W) where
-  -- what was given back and what is in the queue are blocks of the list
-  pub queue_within_list : (starting : Option Run) (spare : ℕ) (p : Known) (s : ReadStream W S P)
+  -- the list is what was given back, what is in the queue, and what the source has left
+  pub list_in_parts : (starting : Option Run) (spare : ℕ) (p : Known) (s : ReadStream W S P)
       → IsRunning left world starting spare p s
-      → s.given + length s.desk.now.blocks.queue.items ≤ length (left s.source_was.value)
-  queue_within_list starting spare p s g =
+      → returned_count left s + (length s.desk.now.blocks.queue.items + length (left s.source))
+      ≡ length (left s.source_was.value)
+  list_in_parts starting spare p s g =
       let queue : List (QueuedBlock P) = s.desk.now.blocks.queue.items in
       let all : length (map source_item queue ++ left s.source)
-      ≡ length (drop s.given (left s.source_was.value)) =
+      ≡ length (drop (returned_count left s) (left s.source_was.value)) =
       ap (λ (z : List (ℕ × P)). length z) g.position.blocks in
       let parts = length-append (map source_item queue) (left s.source) in
       let n = length-map queue source_item in
-      let rest = length-drop s.given (left s.source_was.value) in
+      let rest = length-drop (returned_count left s) (left s.source_was.value) in
       let few = g.position.given_within in omega arith
+
+  pub queue_within_list : (starting : Option Run) (spare : ℕ) (p : Known) (s : ReadStream W S P)
+      → IsRunning left world starting spare p s
+      → returned_count left s + length s.desk.now.blocks.queue.items
+      ≤ length (left s.source_was.value)
+  queue_within_list starting spare p s g =
+      let parts = list_in_parts starting spare p s g in omega arith
 
   -- the queue has a block for each read that was started, and for each block that is to be started
   -- or is pending
@@ -90,7 +99,7 @@ module _ {W S P : Type 0} (left : S → List (ℕ × P)) (world : WorldGhosts W)
           position = g.position;
           reads = record {
             runs = g.reads.runs;
-            reads_for = same.runs s.given g.reads.runs g.reads.reads_for;
+            reads_for = same.runs _ g.reads.runs g.reads.reads_for;
             in_order = g.reads.in_order;
           };
           wants = g.wants;
@@ -98,6 +107,20 @@ module _ {W S P : Type 0} (left : S → List (ℕ × P)) (world : WorldGhosts W)
               pl.ios_in_progress _ _ (omega arith) (omega arith);
         };
       }
+
+  -- a block was taken from the source, and no page was given back
+  pub taken_returned : (s : ReadStream W S P) (source : S) (block : ℕ) (info : P) (b : Blocks P)
+      (run : Option Run) → left s.source ≡ (block, info) ∷ left source
+      → BlockTaken world.handles block info s.desk.now.blocks b run
+      → returned_count left (with_halves (record s { source = source }) b s.desk.now.reads)
+      ≡ returned_count left s
+  taken_returned s source block info b run first t =
+      let queue : List (QueuedBlock P) = s.desk.now.blocks.queue.items in
+      let one : length (left s.source) ≡ length ((block, info) ∷ left source) =
+      ap (λ (z : List (ℕ × P)). length z) first in
+      let pushed : length b.queue.items ≡ length (queue ++ t.asked ∷ []) =
+      ap (λ (z : Buffer (QueuedBlock P)). length z.items) t.queue in
+      let more = length-append queue (t.asked ∷ []) in omega arith
 
   -- a block was taken from the source
   pub underway_taken : (p : Known) (s : ReadStream W S P) (source : S) (block : ℕ) (info : P)
@@ -123,6 +146,9 @@ module _ {W S P : Type 0} (left : S → List (ℕ × P)) (world : WorldGhosts W)
       ap (λ (z : Buffer (QueuedBlock P)). z.items) t.queue in
       let ahead = g.plan.ahead in
       let limit = g.plan.limit in
+      let count = taken_returned s source block info b run first t in
+      let at-count = subst (λ (n : ℕ). IsPosition world.told s.scope (left s.source_was.value)
+      (left source) b.over n b.queue.items) (sym count) in
       record {
         invariant = record {
           set_up = record {
@@ -136,7 +162,7 @@ module _ {W S P : Type 0} (left : S → List (ℕ × P)) (world : WorldGhosts W)
           records = u.invariant.records;
         };
         running = record {
-          position = record {
+          position = at-count (record {
             given_within = g.position.given_within;
             readable = g.position.readable;
             blocks = rw items (ap (λ (z : List (ℕ × P)). z ++ left source)
@@ -147,10 +173,11 @@ module _ {W S P : Type 0} (left : S → List (ℕ × P)) (world : WorldGhosts W)
             none_left_if_over = rw t.over (λ o. absurd (let none : length (left s.source) ≡ 0 =
                 ap (λ (z : List (ℕ × P)). length z) (g.position.none_left_if_over o) in
                 omega arith));
-          };
+          });
           reads = record {
             runs = g.reads.runs;
-            reads_for = g.reads.reads_for;
+            reads_for = subst (λ (n : ℕ). ReadsForRuns s.scope p s.desk.now.reads n g.reads.runs)
+                (sym count) g.reads.reads_for;
             in_order = rw items (read_blocks_pushed queue a
                 ∙ (ap (λ (z : List ℕ). z ++ read_block a.block a.want) g.reads.in_order
                 ∙ (append_assoc runs (pending_blocks was) (read_block a.block a.want)
@@ -203,7 +230,7 @@ module _ {W S P : Type 0} (left : S → List (ℕ × P)) (world : WorldGhosts W)
           position = g.position;
           reads = record {
             runs = runs ++ run ∷ [];
-            reads_for = reads s.given runs g.reads.reads_for;
+            reads_for = reads _ runs g.reads.reads_for;
             in_order = g.reads.in_order
                 ∙ (sym (append_assoc (flat_map run_blocks runs) (run_blocks run) pend)
                 ∙ ap (λ (z : List ℕ). z ++ pend) (flat_map_more run_blocks [] runs run));
@@ -217,12 +244,12 @@ module _ {W S P : Type 0} (left : S → List (ℕ × P)) (world : WorldGhosts W)
   -- where a run is to be started, fewer I/Os were started than may be made
   pub may_start : (p : Known) (s : ReadStream W S P) (run : Run) → 1 ≤ run.count
       → UnderwayWith left world (Some run) 0 p s
-      → ios_started s.desk.now.reads < s.scope.most
+      → ios_started s.desk.now.reads < s.scope.most.value
   may_start p s run some u =
       let g = u.running in
       let few = few_reads (Some run) 0 p s g in
       let within = queue_within_list (Some run) 0 p s g in
-      let started = few_started s.scope p s.desk.now.reads s.given g.reads.runs g.reads.reads_for in
+      let started = few_started s.scope p s.desk.now.reads _ g.reads.runs g.reads.reads_for in
       let long = length-range_with_len run.first run.count in
       let most = u.invariant.set_up.list_within_most in omega arith
 
@@ -234,6 +261,6 @@ module _ {W S P : Type 0} (left : S → List (ℕ × P)) (world : WorldGhosts W)
       let empty : length s.desk.now.blocks.queue.items ≡ 0 =
       ap (λ (z : List (QueuedBlock P)). length z) none in
       let few = few_reads None 0 p s g in
-      let count = reads_count s.scope p s.desk.now.reads s.given g.reads.runs g.reads.reads_for in
+      let count = reads_count s.scope p s.desk.now.reads _ g.reads.runs g.reads.reads_for in
       let total = u.invariant.records.record_total in
       let in_use = g.plan.in_use in omega arith

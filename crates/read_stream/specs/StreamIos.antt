@@ -121,9 +121,9 @@ module _ {W : Type 0} (c : Scope W) where
     pub number : p.number ≡ known_at_open.number
     pub config : p.config ≡ known_at_open.config
     pub nothing_handed_out : p.out ≡ None
-    pub most_in_range : c.most < 2 ^ 58
+    pub most_in_range : c.most.value < 2 ^ 58
     -- no more I/Os than each handle could have lives when the stream was opened
-    pub room_was : IsRoom c.was.value.known.config known_at_open c.most
+    pub room_was : IsRoom c.was.value.known.config known_at_open c.most.value
     pub taken_in_count : local_mark_count p.marks ≡ local_mark_count known_at_open.marks + taken_in
     pub lives_bound : (h : ℕ) → lives_ended h p.marks ≤ lives_ended h known_at_open.marks + taken_in
     pub marks_since_open : (more : List _) × (p.marks ≡ known_at_open.marks ++ more)
@@ -203,9 +203,9 @@ module _ {W : Type 0} where
   -- whose tokens the caller holds
   pub record IssuedExcept (caller_refs : List WaitRef) (c : Scope W) (world : WorldGhosts W)
       (p : Known) (s : Reads W) : Type 0 where
-    pub room : HasRoom c.total s.free.capacity s.in_flight.capacity s.ended.capacity
-    pub count_within : record_count s ≤ c.total
-    pub within_most : ios_started s + length caller_refs ≤ c.most
+    pub room : HasRoom c.total.value s.free.capacity s.in_flight.capacity s.ended.capacity
+    pub count_within : record_count s ≤ c.total.value
+    pub within_most : ios_started s + length caller_refs ≤ c.most.value
     pub actor : IsStreamActor c s.taken_in p
     pub records : AreStreamRecords c world p s.free.items s.ended.items
     pub tokens : AreStreamTokens c p caller_refs s.batch s.in_flight.items

@@ -1,6 +1,6 @@
 -- The state of a stream, between its calls and in the middle of one.
-use Rattle.std.specs.Prelude.{◌≡◌, ℕ, ◌+◌, ◌<◌, ◌≤◌, ◌++◌, List, [], ◌∷◌, length, map, drop, true}
-use Rattle.std.specs.Prelude.{Bool, Option, None, IfSome, slice_get}
+use Rattle.std.specs.Prelude.{◌≡◌, ℕ, ◌+◌, ◌-◌, ◌<◌, ◌≤◌, ◌++◌, List, [], ◌∷◌, length, map, drop}
+use Rattle.std.specs.Prelude.{true, Bool, Option, None, IfSome, slice_get}
 use Rattle.std.specs.List.{flat_map}
 use Rattle.page_check.specs.declared.world.World.{Ghosts as WorldGhosts}
 use Rattle.page_check.specs.Told.{Told}
@@ -33,17 +33,17 @@ pub record IsSetUp {W : Type 0} (relations : ℕ) (c : Scope W) (blocks : ℕ) (
     (queue_room : ℕ) : Type 0 where
   pub relation_in_range : c.relation < relations
   pub settings : AreValidSettings desk
-  pub scope : (c.combine ≡ desk.combine) × (c.total ≡ desk.ios + 1)
+  pub scope : (c.combine ≡ desk.combine) × (c.total.value ≡ desk.ios + 1)
   pub zero : c.zero ≡ desk.zero
   pub queue : desk.limit ≤ queue_room
-  pub list_within_most : blocks ≤ c.most
+  pub list_within_most : blocks ≤ c.most.value
 
 -- the I/Os of a stream, and all its records
 pub record HasRecords {W : Type 0} (world : WorldGhosts W) (c : Scope W) (p : Known)
     (reads : Reads W) : Type 0 where
   pub issued : Issued c world p reads
   pub batch_within : length reads.batch < 32
-  pub record_total : record_count reads ≡ c.total
+  pub record_total : record_count reads ≡ c.total.value
 
 -- so many blocks of the list were given back: what is left of it is what the stream has taken from
 -- its source, then what the source has left
@@ -81,6 +81,12 @@ abbrev pub answer_at_hand : {W S P : Type 0} → ReadStream W S P → Said P
 answer_at_hand s = answer_with s.scope.relation s.at_hand (slice_get s.desk.now.blocks.queue.items 0)
     (slice_get s.desk.now.reads.ended.items 0)
 
+-- how many pages were given back: those of the blocks of the list that are neither in the queue nor
+-- left with the source
+abbrev pub returned_count : {W S P : Type 0} → (S → List (ℕ × P)) → ReadStream W S P → ℕ
+returned_count left s = length (left s.source_was.value)
+    - (length s.desk.now.blocks.queue.items + length (left s.source))
+
 -- a stream as its callers see it
 abbrev pub stream_view : {W S P : Type 0} → (S → List (ℕ × P)) → ReadStream W S P → StreamView P
 stream_view left s = record {
@@ -88,7 +94,7 @@ stream_view left s = record {
   blocks = left s.source_was.value;
   desk = s.desk.ghost_name;
   settings = s.desk.now.settings;
-  given = s.given + lent_count s.at_hand;
+  given = returned_count left s + lent_count s.at_hand;
   ending = ending_at_hand s.at_hand;
   actor_was = s.scope.was.value;
   actor_is = s.actor_is.value;
@@ -112,13 +118,13 @@ module _ {W S P : Type 0} (left : S → List (ℕ × P)) (world : WorldGhosts W)
   pub record IsRunning (starting : Option Run) (spare : ℕ) (p : Known) (s : ReadStream W S P)
       : Type 0 where
     pub position : IsPosition world.told s.scope (list_at_open s) (left s.source)
-        s.desk.now.blocks.over s.given s.desk.now.blocks.queue.items
-    pub reads : AreReadBlocks s.scope p s.desk.now.reads s.given s.desk.now.blocks.queue.items
-        starting s.desk.now.blocks.plan.pending
+        s.desk.now.blocks.over (returned_count left s) s.desk.now.blocks.queue.items
+    pub reads : AreReadBlocks s.scope p s.desk.now.reads (returned_count left s)
+        s.desk.now.blocks.queue.items starting s.desk.now.blocks.plan.pending
     pub wants : (a : QueuedBlock P) → IsIn a s.desk.now.blocks.queue.items
         → IsValidWant world.handles a.want
     pub plan : PlanAgrees s.desk.now.blocks.plan s.desk.now.settings
-        (length s.desk.now.blocks.queue.items) s.scope.total
+        (length s.desk.now.blocks.queue.items) s.scope.total.value
         (length s.desk.now.reads.free.items) spare
 
   -- between two calls
@@ -130,7 +136,8 @@ module _ {W S P : Type 0} (left : S → List (ℕ × P)) (world : WorldGhosts W)
     pub right : IsRightAtHand world.told s.scope.relation s.desk.now.reads.ended.items
         s.desk.now.blocks.queue.items s.at_hand
     pub stop_answer : IfSome (ending_at_hand s.at_hand) (λ e. IsNext (reader_of s.scope.zero
-        world.told) (MayBeUnread s.scope.was.value p) (entries_at_open s) s.given (SaidStop e))
+        world.told) (MayBeUnread s.scope.was.value p) (entries_at_open s) (returned_count left s)
+        (SaidStop e))
 
   pub record IsOpen (s : ReadStream W S P) : Type 0 where
     pub same : IsSameActor s.scope.was.value s.actor_is.value

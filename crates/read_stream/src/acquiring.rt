@@ -51,7 +51,7 @@ impl<W: World> Reads<W> {
     ) -> HandedOut<W>
         requires valid_context { IsValidContext E.Execute W.World scope.now context.old }
         requires issued { Issued scope.now W.World context.old.actor.now.known self.old }
-        requires few_ios { ios_started self.old < scope.now.most }
+        requires few_ios { ios_started self.old < scope.now.most.value }
         ensures context_advanced { ContextAdvanced E.Execute M.Method context.old context.new }
         ensures handle_handed_out { HandleHandedOut scope.now W.World
             context.old.actor.now.known context.new.actor.now.known (E.reads context.old.runner.now)

@@ -8,7 +8,7 @@ ghost use Rattle.read_stream.specs.StreamAnswers.{stream_entries, MayBeUnread};
 ghost use Rattle.read_stream.specs.StreamViews.{stream_after};
 ghost use Rattle.read_stream.specs.AtHand.{ending_at_hand, lent_count};
 ghost use Rattle.read_stream.specs.StreamState.{IsBetweenCalls, IsOpen, Underway, answer_at_hand};
-ghost use Rattle.read_stream.specs.StreamState.{stream_view};
+ghost use Rattle.read_stream.specs.StreamState.{returned_count, stream_view};
 ghost use Rattle.read_stream.specs.Changes.{IsSameReading, SameStream, page_given, with_at_hand};
 
 use crate::at_hand::AtHand;
@@ -63,7 +63,8 @@ impl<'d, 'p, W: World, S: BlockSource<P> + Drop, P: Copy> ReadStream<'d, 'p, W, 
         requires running { ending_at_hand self.old.at_hand ≡ None }
         ensures underway { Underway S.left W.World self.old.actor_is.value.known self.new }
         ensures same { IsSameReading self.old self.new }
-        ensures given { self.new.given ≡ self.old.given + lent_count self.old.at_hand }
+        ensures given { returned_count S.left self.new
+            ≡ returned_count S.left self.old + lent_count self.old.at_hand }
     {
         match mem::replace(&mut self.at_hand, AtHand::Nothing) {
             AtHand::Pinned(pin) => {
@@ -86,11 +87,9 @@ impl<'d, 'p, W: World, S: BlockSource<P> + Drop, P: Copy> ReadStream<'d, 'p, W, 
     // The page of the block at the front is given back.
     fn release_front(&mut self)
         requires ahead { 0 < self.old.desk.now.blocks.plan.blocks_ahead }
-        requires given_in_range { self.old.given < 2 ^ 64 - 1 }
         ensures { self.new ≡ page_given self.old }
     {
         self.desk.blocks.release_front();
-        self.given += 1;
     }
 
     // Has this at hand.

@@ -94,10 +94,10 @@ impl<W: World, P: Copy> Desk<W, P> {
         requires valid_context { IsValidContext E.Execute W.World scope.now context.old }
         requires settings { AreValidSettings self.old.settings }
         requires desk { (scope.now.combine ≡ self.old.settings.combine)
-            × (scope.now.total ≡ self.old.settings.ios + 1)
+            × (scope.now.total.value ≡ self.old.settings.ios + 1)
             × (self.old.settings.limit ≤ self.old.blocks.queue.capacity) }
         requires issued { Issued scope.now W.World context.old.actor.now.known self.old.reads }
-        requires all { record_count self.old.reads ≡ scope.now.total }
+        requires all { record_count self.old.reads ≡ scope.now.total.value }
         ensures context_advanced { ContextAdvanced E.Execute M.Method context.old context.new }
         ensures issued { Issued scope.now W.World context.new.actor.now.known self.new.reads }
         ensures free { IsFreeDesk self.new × (self.new.settings ≡ self.old.settings) }

@@ -42,7 +42,7 @@ impl<'d, 'p, W: World, S: BlockSource<P> + Drop, P: Copy> ReadStream<'d, 'p, W, 
         ensures context_advanced { ContextAdvanced E.Execute M.Method context.old context.new }
         ensures between { IsBetweenCalls S.left W.World context.new.actor.now.known
             (with_at_hand self.new result) }
-        ensures same_stream { SameStream self.old self.new }
+        ensures same_stream { SameStream S.left self.old self.new }
         ensures has_answer { HasAnswer result }
     {
         let Some(asked) = self.desk.blocks.front() else {
@@ -69,7 +69,7 @@ impl<'d, 'p, W: World, S: BlockSource<P> + Drop, P: Copy> ReadStream<'d, 'p, W, 
         ensures context_advanced { ContextAdvanced E.Execute M.Method context.old context.new }
         ensures between { IsBetweenCalls S.left W.World context.new.actor.now.known
             (with_at_hand self.new result) }
-        ensures same_stream { SameStream self.old self.new }
+        ensures same_stream { SameStream S.left self.old self.new }
         ensures has_answer { HasAnswer result }
     {
         if self.desk.reads.has_given() {
@@ -92,7 +92,7 @@ impl<'d, 'p, W: World, S: BlockSource<P> + Drop, P: Copy> ReadStream<'d, 'p, W, 
         requires front { HasInFront self.old.desk.now.blocks.queue.items block (block ∷ []) }
         ensures context_advanced { ContextAdvanced E.Execute M.Method context.old context.new }
         ensures underway { Underway S.left W.World context.new.actor.now.known self.new }
-        ensures same_stream { SameStream self.old self.new }
+        ensures same_stream { SameStream S.left self.old self.new }
         ensures queue { self.new.desk.now.blocks.queue ≡ self.old.desk.now.blocks.queue }
         ensures oldest { HasEndedRead self.new.desk.now.reads }
     {
@@ -113,7 +113,7 @@ impl<'d, 'p, W: World, S: BlockSource<P> + Drop, P: Copy> ReadStream<'d, 'p, W, 
         ensures context_advanced { ContextAdvanced E.Execute M.Method context.old context.new }
         ensures between { IsBetweenCalls S.left W.World context.new.actor.now.known
             (with_at_hand self.new result) }
-        ensures same_stream { SameStream self.old self.new }
+        ensures same_stream { SameStream S.left self.old self.new }
         ensures has_answer { HasAnswer result }
     {
         match self.part(rt, context, block) {
@@ -134,7 +134,7 @@ impl<'d, 'p, W: World, S: BlockSource<P> + Drop, P: Copy> ReadStream<'d, 'p, W, 
         requires in_front { IsReadInFront S.left W.World block context.old.actor.now.known self.old }
         ensures context_advanced { ContextAdvanced E.Execute M.Method context.old context.new }
         ensures in_front { IsReadInFront S.left W.World block context.new.actor.now.known self.new }
-        ensures same_stream { SameStream self.old self.new }
+        ensures same_stream { SameStream S.left self.old self.new }
         ensures part { IsPartOfOldest W.told self.new.desk.now.reads result }
     {
         if let Some(part) = self.desk.reads.part() {
@@ -160,7 +160,7 @@ impl<'d, 'p, W: World, S: BlockSource<P> + Drop, P: Copy> ReadStream<'d, 'p, W, 
             → slice_get self.old.desk.now.reads.ended.items 0 ≡ Some oldest → 0 < oldest.given }
         ensures context_advanced { ContextAdvanced E.Execute M.Method context.old context.new }
         ensures in_front { IsReadInFront S.left W.World block context.new.actor.now.known self.new }
-        ensures same_stream { SameStream self.old self.new }
+        ensures same_stream { SameStream S.left self.old self.new }
         ensures none_given { (oldest : EndedRead)
             → slice_get self.new.desk.now.reads.ended.items 0 ≡ Some oldest → oldest.given ≡ 0 }
     {
@@ -187,7 +187,7 @@ impl<'d, 'p, W: World, S: BlockSource<P> + Drop, P: Copy> ReadStream<'d, 'p, W, 
         ensures context_advanced { ContextAdvanced E.Execute M.Method context.old context.new }
         ensures between { IsBetweenCalls S.left W.World context.new.actor.now.known
             (with_at_hand self.new result) }
-        ensures same_stream { SameStream self.old self.new }
+        ensures same_stream { SameStream S.left self.old self.new }
         ensures has_answer { HasAnswer result }
     {
         match self.pool.lookup(rt, self.tag(block)) {
@@ -212,7 +212,7 @@ impl<'d, 'p, W: World, S: BlockSource<P> + Drop, P: Copy> ReadStream<'d, 'p, W, 
         ensures context_advanced { ContextAdvanced E.Execute M.Method context.old context.new }
         ensures between { IsBetweenCalls S.left W.World context.new.actor.now.known
             (with_at_hand self.new result) }
-        ensures same_stream { SameStream self.old self.new }
+        ensures same_stream { SameStream S.left self.old self.new }
         ensures has_answer { HasAnswer result }
     {
         self.submit(rt, context);
@@ -236,7 +236,7 @@ impl<'d, 'p, W: World, S: BlockSource<P> + Drop, P: Copy> ReadStream<'d, 'p, W, 
         requires range { reference.handle < W.handles }
         ensures context_advanced { ContextAdvanced E.Execute M.Method context.old context.new }
         ensures underway { Underway S.left W.World context.new.actor.now.known self.new }
-        ensures same_stream { SameStream self.old self.new }
+        ensures same_stream { SameStream S.left self.old self.new }
         ensures queue { self.new.desk.now.blocks.queue ≡ self.old.desk.now.blocks.queue }
         ensures done { HasSeenDone context.new.actor.now.known reference }
     {
@@ -266,7 +266,7 @@ impl<'d, 'p, W: World, S: BlockSource<P> + Drop, P: Copy> ReadStream<'d, 'p, W, 
         ensures context_advanced { ContextAdvanced E.Execute M.Method context.old context.new }
         ensures between { IsBetweenCalls S.left W.World context.new.actor.now.known
             (with_at_hand self.new result) }
-        ensures same_stream { SameStream self.old self.new }
+        ensures same_stream { SameStream S.left self.old self.new }
         ensures has_answer { HasAnswer result }
     {
         let Some(io) = self.desk.reads.free.pop_front() else {

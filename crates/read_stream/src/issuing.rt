@@ -159,7 +159,7 @@ impl<W: World> Reads<W> {
         requires relation { scope.now.relation < W.relations }
         requires record { length io.pages ≡ scope.now.combine }
         requires run { IsRun scope.now.combine run }
-        requires few_ios { ios_started self.old < scope.now.most }
+        requires few_ios { ios_started self.old < scope.now.most.value }
         ensures context_advanced { ContextAdvanced E.Execute M.Method context.old context.new }
         ensures issued { IssuedExcept (result.0 ∷ []) scope.now W.World
             context.new.actor.now.known self.new }
@@ -204,10 +204,10 @@ impl<W: World> Reads<W> {
         requires issued { Issued scope.now W.World context.old.actor.now.known self.old }
         requires relation { scope.now.relation < W.relations }
         requires few { length self.old.batch < 32 }
-        requires room { record_count self.old < scope.now.total }
+        requires room { record_count self.old < scope.now.total.value }
         requires record { length io.pages ≡ scope.now.combine }
         requires run { IsRun scope.now.combine run }
-        requires few_ios { ios_started self.old < scope.now.most }
+        requires few_ios { ios_started self.old < scope.now.most.value }
         ensures context_advanced { ContextAdvanced E.Execute M.Method context.old context.new }
         ensures issued { Issued scope.now W.World context.new.actor.now.known self.new }
         ensures few { length self.new.batch < 32 }
@@ -236,11 +236,11 @@ impl<W: World> Reads<W> {
     )
         requires valid_context { IsValidContext E.Execute W.World scope.now context.old }
         requires issued { Issued scope.now W.World context.old.actor.now.known self.old }
-        requires room { record_count self.old < scope.now.total }
+        requires room { record_count self.old < scope.now.total.value }
         requires relation { scope.now.relation < W.relations }
         requires record { length io.pages ≡ scope.now.combine }
         requires run { IsRun scope.now.combine run }
-        requires few_ios { ios_started self.old < scope.now.most }
+        requires few_ios { ios_started self.old < scope.now.most.value }
         ensures context_advanced { ContextAdvanced E.Execute M.Method context.old context.new }
         ensures issued { Issued scope.now W.World context.new.actor.now.known self.new }
         ensures none { self.new.batch ≡ [] }

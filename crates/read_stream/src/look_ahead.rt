@@ -27,7 +27,7 @@ impl<'d, 'p, W: World, S: BlockSource<P> + Drop, P: Copy> ReadStream<'d, 'p, W, 
         requires underway { Underway S.left W.World context.old.actor.now.known self.old }
         ensures context_advanced { ContextAdvanced E.Execute M.Method context.old context.new }
         ensures underway { Underway S.left W.World context.new.actor.now.known self.new }
-        ensures same_stream { SameStream self.old self.new }
+        ensures same_stream { SameStream S.left self.old self.new }
         ensures ended { self.new.desk.now.blocks.queue.items ≡ [] → S.left self.new.source ≡ [] }
     {
         while self.desk.blocks.wants_more() {
@@ -47,7 +47,7 @@ impl<'d, 'p, W: World, S: BlockSource<P> + Drop, P: Copy> ReadStream<'d, 'p, W, 
         requires may_take { MayTake self.old.desk.now.blocks }
         ensures context_advanced { ContextAdvanced E.Execute M.Method context.old context.new }
         ensures underway { Underway S.left W.World context.new.actor.now.known self.new }
-        ensures same_stream { SameStream self.old self.new }
+        ensures same_stream { SameStream S.left self.old self.new }
         ensures progress { IsTrue self.new.desk.now.blocks.over
             ⊎ (self.new.desk.now.blocks.plan.blocks_ahead
             ≡ self.old.desk.now.blocks.plan.blocks_ahead + 1) }
@@ -82,7 +82,7 @@ impl<'d, 'p, W: World, S: BlockSource<P> + Drop, P: Copy> ReadStream<'d, 'p, W, 
         requires free { 1 < length self.old.desk.now.reads.free.items }
         ensures context_advanced { ContextAdvanced E.Execute M.Method context.old context.new }
         ensures underway { Underway S.left W.World context.new.actor.now.known self.new }
-        ensures same_stream { SameStream self.old self.new }
+        ensures same_stream { SameStream S.left self.old self.new }
         ensures blocks { self.new.desk.now.blocks ≡ record self.old.desk.now.blocks {
           plan = record self.old.desk.now.blocks.plan {
             ios_in_progress = self.old.desk.now.blocks.plan.ios_in_progress + 1;
@@ -118,7 +118,7 @@ impl<'d, 'p, W: World, S: BlockSource<P> + Drop, P: Copy> ReadStream<'d, 'p, W, 
         requires underway { Underway S.left W.World context.old.actor.now.known self.old }
         ensures context_advanced { ContextAdvanced E.Execute M.Method context.old context.new }
         ensures underway { Underway S.left W.World context.new.actor.now.known self.new }
-        ensures same_stream { SameStream self.old self.new }
+        ensures same_stream { SameStream S.left self.old self.new }
         ensures blocks { (self.new.desk.now.blocks ≡ self.old.desk.now.blocks)
             × (self.new.source ≡ self.old.source) }
         ensures batch_empty { self.new.desk.now.reads.batch ≡ [] }
@@ -139,7 +139,7 @@ impl<'d, 'p, W: World, S: BlockSource<P> + Drop, P: Copy> ReadStream<'d, 'p, W, 
         requires underway { Underway S.left W.World context.old.actor.now.known self.old }
         ensures context_advanced { ContextAdvanced E.Execute M.Method context.old context.new }
         ensures underway { Underway S.left W.World context.new.actor.now.known self.new }
-        ensures same_stream { SameStream self.old self.new }
+        ensures same_stream { SameStream S.left self.old self.new }
         ensures started { IsFrontStarted self.new }
         ensures queue { (self.new.desk.now.blocks.queue ≡ self.old.desk.now.blocks.queue)
             × (self.new.source ≡ self.old.source) }

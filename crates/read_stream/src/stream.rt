@@ -39,8 +39,6 @@ pub struct ReadStream<'d, 'p, W: World, S: BlockSource<P> + Drop, P: Copy> {
     pub(crate) scope: Scope<W>,
     pub(crate) source: S,
     pub(crate) at_hand: AtHand<'p, W>,
-    // How many pages were given back.
-    pub(crate) given: u64,
     // The source as it was when the stream was opened, and the actor as the last call left it.
     pub(crate) source_was: Snapshot<S>,
     pub(crate) actor_is: Snapshot<Actor<ReadIo, W>>,
@@ -72,13 +70,15 @@ impl<'d, 'p, W: World, S: BlockSource<P> + Drop, P: Copy> ReadStream<'d, 'p, W, 
     {
         let source_was = Snapshot::of(&source);
         let settings = desk.settings;
+        let total = Snapshot::of(&(settings.ios + 1));
+        let most = Snapshot::of(&actor.room());
         let scope = Scope {
             relation,
             combine: settings.combine,
-            total: settings.ios + 1,
             batched: settings.batch,
             zero: settings.zero,
-            most: actor.room(),
+            total,
+            most,
             was: Snapshot::of(actor),
         };
         desk.begin();
@@ -88,7 +88,6 @@ impl<'d, 'p, W: World, S: BlockSource<P> + Drop, P: Copy> ReadStream<'d, 'p, W, 
             scope,
             source,
             at_hand: AtHand::Nothing,
-            given: 0,
             source_was,
             actor_is: Snapshot::of(actor),
         }
@@ -100,6 +99,9 @@ impl<'d, 'p, W: World, S: BlockSource<P> + Drop, P: Copy> ReadStream<'d, 'p, W, 
     /// it, `PastEnd` where the relation has no such block. It may wait.
     ///
     /// Between two calls the actor makes no I/O of its own and executes none. It may look.
+    ///
+    /// The clause `after` speaks of the moment when the lent page is given back, which `Rests` names:
+    /// the stream is then as `StreamAnswered` says, open and with what was answered counted.
     pub fn next<M: Method<ReadIo, W>, E: Execute<ReadIo, W>, T: Wait>(
         &mut self,
         rt: &T,
@@ -215,7 +217,6 @@ impl<'d, 'p, W: World, S: BlockSource<P> + Drop, P: Copy> ReadStream<'d, 'p, W, 
             scope,
             source: _,
             at_hand,
-            given: _,
             source_was: _,
             actor_is: _,
         } = stream;

@@ -171,10 +171,10 @@ impl<W: World> Reads<W> {
     ) -> u64
         requires valid_context { IsValidContext E.Execute W.World scope.now context.old }
         requires issued { Issued scope.now W.World context.old.actor.now.known self.old }
-        requires all { record_count self.old ≡ scope.now.total }
+        requires all { record_count self.old ≡ scope.now.total.value }
         ensures context_advanced { ContextAdvanced E.Execute M.Method context.old context.new }
         ensures issued { Issued scope.now W.World context.new.actor.now.known self.new }
-        ensures ready { AllRecordsFree scope.now.combine scope.now.total self.new }
+        ensures ready { AllRecordsFree scope.now.combine scope.now.total.value self.new }
         ensures count { (result ≡ self.new.taken_in)
             × (ios_started self.new ≡ ios_started self.old) }
     {

@@ -9,7 +9,7 @@ invariant-loop-io g l = record {
       l.scope l.context;
   context_advanced : ContextAdvanced g.E.Execute g.M.Method l.fn.context l.context;
   issued : Issued l.scope g.W.World l.context.actor.now.known l.self;
-  records : record_count l.self ≡ l.scope.total;
+  records : record_count l.self ≡ l.scope.total.value;
   started : ios_started l.self ≡ ios_started l.fn.self;
   batch : l.self.batch ≡ [];
 }

@@ -1,9 +1,9 @@
-use Rattle.std.proofs.Common.{rules, ◌≡◌, ◌+◌, ap, arith, subst, sym, ◌∙◌}
+use Rattle.std.proofs.Common.{rules, ◌≡◌, ◌+◌, ℕ, List, ap, arith, subst, sym, ◌∙◌}
 use Rattle.page_check.specs.IsAnswer.{Next as Said}
 use Rattle.aio_handle.specs.ContractViews.{ActorView, IsSameActor}
 use Rattle.read_stream.specs.declared.stream.ReadStream.{ReadStream}
 use Rattle.read_stream.specs.AtHand.{HasAnswer, lent_count}
-use Rattle.read_stream.specs.StreamState.{IsBetweenCalls, answer_at_hand}
+use Rattle.read_stream.specs.StreamState.{IsBetweenCalls, answer_at_hand, returned_count}
 use Rattle.read_stream.specs.Changes.{IsSameReading, SameStream}
 use Rattle.read_stream.proofs.LaterActorKeepsAnswer.{found_kept, next_answer_kept, open_after}
 use Rattle.read_stream.proofs.LaterActorKeepsAnswer.{same_view}
@@ -24,7 +24,8 @@ returns-then-has_ended-clause-answer g c =
     subst (λ (z : ActorView). IsBetweenCalls g.S.BlockSource.left g.W.World z.known s)
     (sym c.requires.actor) c.requires.is_open.between in
     λ bytes. next_answer_kept g.S.BlockSource.left g.W.World actor.known s s
-    (s.given + lent_count s.at_hand) (answer_at_hand s) (same_reading_refl s) (omega arith)
+    (returned_count g.S.BlockSource.left s + lent_count s.at_hand) (answer_at_hand s)
+    (same_reading_refl s) (omega arith)
     (between_answered g.S.BlockSource.left g.W.World actor.known s between ended.0 bytes)
 
 pub returns : goal.returns
@@ -39,14 +40,17 @@ returns g c =
     let n : State = c.put.new.self in
     let actor : ActorView = c.find-at_hand.new.context.actor.now in
     let x : Said g.row.P.Denot = answer_at_hand n in
-    let later : SameStream r t = same_stream_then r l t c.look_ahead.ensures.same_stream
-    (same_stream_then l b t c.submit.ensures.same_stream
-    (same_stream_then b f t c.start_last.ensures.same_stream c.find-at_hand.ensures.same_stream)) in
+    let left : g.row.S.Denot → List (ℕ × g.row.P.Denot) = g.S.BlockSource.left in
+    let later : SameStream left r t = same_stream_then left r l t c.look_ahead.ensures.same_stream
+    (same_stream_then left l b t c.submit.ensures.same_stream
+    (same_stream_then left b f t c.start_last.ensures.same_stream
+    c.find-at_hand.ensures.same_stream)) in
     let same : IsSameReading s n =
     found_kept s t n c.find-at_hand.result
     (same_reading_then s r t c.release_page.ensures.same later.reading) c.put.ensures in
-    let given : n.given ≡ s.given + lent_count s.at_hand =
-    ap (λ (z : State). z.given) c.put.ensures ∙ (later.given ∙ c.release_page.ensures.given) in
+    let given : returned_count left n ≡ returned_count left s + lent_count s.at_hand =
+    ap (λ (z : State). returned_count left z) c.put.ensures
+    ∙ (later.given ∙ c.release_page.ensures.given) in
     let between : IsBetweenCalls g.S.BlockSource.left g.W.World actor.known n =
     subst (λ (z : State). IsBetweenCalls g.S.BlockSource.left g.W.World actor.known z)
     (sym c.put.ensures) c.find-at_hand.ensures.between in
@@ -61,7 +65,7 @@ returns g c =
     record {
       context_advanced = context;
       answer = λ bytes. next_answer_kept g.S.BlockSource.left g.W.World actor.known s n
-          (s.given + lent_count s.at_hand) x same given
+          (returned_count left s + lent_count s.at_hand) x same given
           (between_answered g.S.BlockSource.left g.W.World actor.known n between has bytes);
       answer_repeated = search rules;
       view = same_view g.S.BlockSource.left g.W.World s n c.of.result actor x same given says.0

@@ -13,7 +13,7 @@ loop-self-init g c = record {
   valid_context = c.requires.valid_context;
   context_advanced = context_advanced_refl c.args.context.now;
   underway = c.requires.underway;
-  same_stream = same_stream_refl c.args.self.now;
+  same_stream = same_stream_refl g.S.BlockSource.left c.args.self.now;
 }
 
 pub loop-self-preserved : goal.loop-self-preserved
@@ -26,8 +26,8 @@ loop-self-preserved g c =
           (valid_context_then inv.valid_context done.context_advanced);
       context_advanced = context_advanced_then done.context_advanced inv.context_advanced;
       underway = done.underway;
-      same_stream = same_stream_then c.args.self.now c.loop-self.self c.take_next.new.self
-          inv.same_stream done.same_stream;
+      same_stream = same_stream_then g.S.BlockSource.left c.args.self.now c.loop-self.self
+          c.take_next.new.self inv.same_stream done.same_stream;
     }
 
 pub returns-clause-ended : goal.returns-clause-ended

@@ -9,7 +9,7 @@ invariant-loop-self g l = record {
   valid_context : IsValidContext g.E.Execute g.W.World l.self.scope l.context;
   context_advanced : ContextAdvanced g.E.Execute g.M.Method l.initial.context l.context;
   underway : Underway g.S.BlockSource.left g.W.World l.context.actor.now.known l.self;
-  same_stream : SameStream l.initial.self l.self;
+  same_stream : SameStream g.S.BlockSource.left l.initial.self l.self;
 }
 
 abbrev pub decreases-loop-self : goal.decreases-loop-self

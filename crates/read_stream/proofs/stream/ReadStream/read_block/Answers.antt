@@ -1,11 +1,14 @@
-use Rattle.std.proofs.Common.{◌≡◌, List, length, drop, ap, sym, arith, ◌∙◌, refl}
+use Rattle.std.proofs.Common.{◌≡◌, List, [], length, drop, ap, sym, arith, ◌∙◌, refl}
 use Rattle.circular_buffer.specs.Buffer.{Buffer}
 use Rattle.aio_callback.specs.ReadIoView.{ReadIoView}
 use Rattle.aio_word.specs.declared.Known.{Known}
+use Rattle.read_stream.specs.declared.blocks.Blocks.{Blocks}
 use Rattle.read_stream.specs.declared.reads.Reads.{Reads}
 use Rattle.read_stream.specs.declared.stream.ReadStream.{ReadStream}
 use Rattle.read_stream.proofs.ContextAdvancedLaws.{context_advanced_then}
 use Rattle.read_stream.proofs.FrontIsRead.{alone_read, may_read_alone}
+use Rattle.read_stream.proofs.FrontOfQueue.{front_read_long}
+use Rattle.read_stream.proofs.StreamInvariantLaws.{same_stream_then}
 use Rattle.read_stream.proofs.QueueMovesKeepIssued.{less-free}
 use Rattle.read_stream.proofs.ReadsMatchRuns.{reads-later}
 use Rattle.read_stream.proofs.stream.ReadStream.read_block.Goals as goal
@@ -47,3 +50,14 @@ lend-requires-clause-in_front g c =
 pub returns-clause-context_advanced : goal.returns-clause-context_advanced
 returns-clause-context_advanced g c =
     context_advanced_then c.lend.ensures.context_advanced c.read.ensures.context_advanced
+
+pub returns-clause-same_stream : goal.returns-clause-same_stream
+returns-clause-same_stream g c =
+    let s : ReadStream g.row.W.Denot g.row.S.Denot g.row.P.Denot = c.args.self.now in
+    let long : length c.read_front.new.self.queue.items ≡ length s.desk.now.blocks.queue.items =
+    ap (λ (z : Blocks g.row.P.Denot). length z.queue.items) c.read_front.ensures
+    ∙ front_read_long s.desk.now.blocks.queue.items c.args.block [] c.requires.front in
+    same_stream_then g.S.BlockSource.left s _ _ (record {
+      reading = record { desk = refl; scope = refl; source_was = refl; settings = refl };
+      given = omega arith;
+    }) c.lend.ensures.same_stream
