@@ -22,6 +22,7 @@ mod log;
 mod method;
 mod queue;
 mod rule;
+mod sleepers;
 mod words;
 mod worker;
 

@@ -9,8 +9,9 @@ ghost use Rattle.method_worker.specs.SeatCalls.{SeatCloses};
 
 use crate::log::{Log, Notes};
 use crate::rule::{PushStep, QueuePass, RuledQueue, SeatSplit, pop_entry};
+use crate::sleepers::Sleepers;
 use crate::words::{
-    WordSeat, Words, close_under, heard, load_closing, open_under, open_words, ring, sleep,
+    WordSeat, Words, close_under, heard, load_closing, open_under, open_words, ring,
     split_word_seat, wake_all, wake_one,
 };
 use aio_word::WaitRef;
@@ -18,7 +19,6 @@ use page_check::World;
 use std::alloc::{AllocError, Global};
 use std::marker::Model;
 use std::sync::Wait;
-use std::sync::atomic::{AtomicU64, Ordering};
 
 /// How many references the queue has room for.
 const ROOM: usize = 64;
@@ -49,8 +49,7 @@ pub struct SubmitQueue<W: World> {
     entries: RuledQueue<W>,
     words: Words,
     reopened: u64,
-    // How many workers are about to sleep on the bell, or asleep.
-    sleepers: AtomicU64,
+    sleepers: Sleepers,
 }
 
 impl<W: World> Model for SubmitQueue<W> {
@@ -108,7 +107,7 @@ impl<W: World> SubmitQueue<W> {
             entries,
             words,
             reopened: 0,
-            sleepers: AtomicU64::new(0),
+            sleepers: Sleepers::new(),
         };
         let mut first = QueueSeat { pass, word_seat };
         for _ in 1..seats {
@@ -227,8 +226,8 @@ impl<W: World> SubmitQueue<W> {
         requires queue { IsSeatOf self.now seat.old }
         ensures seat { seat.new ≡ seat.old }
     {
-        ring(&self.words, &mut seat.word_seat);
-        if self.sleepers.load(Ordering::SeqCst) == 0 {
+        let ring = ring(&self.words, &mut seat.word_seat);
+        if self.sleepers.are_none(&ring) {
             return;
         }
         if all {
@@ -280,7 +279,7 @@ impl<W: World> SubmitQueue<W> {
         if self.reopened < LAST_REOPENING {
             self.reopened += 1;
         }
-        open_under(&self.words, &mut seat.word_seat, self.reopened);
+        open_under(&mut self.words, &mut seat.word_seat, self.reopened);
     }
 
     /// The bell, which each push and each close raises.
@@ -288,12 +287,8 @@ impl<W: World> SubmitQueue<W> {
         heard(&self.words)
     }
 
-    // Sleeps until a push or a close since this bell was read, or a wake for no reason. Who sleeps
-    // is counted before the bell is looked at for the last time, and the bell is raised before the
-    // count is read: so either the count shows the sleeper or it does not sleep.
+    /// Sleeps until a push or a close since this bell was read, or a wake for no reason.
     pub(crate) fn rest<T: Wait>(&self, rt: &T, bell: u64) {
-        self.sleepers.fetch_add(1, Ordering::SeqCst);
-        sleep(rt, &self.words, bell);
-        self.sleepers.fetch_sub(1, Ordering::SeqCst);
+        self.sleepers.sleep(rt, &self.words, bell);
     }
 }

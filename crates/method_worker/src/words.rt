@@ -28,7 +28,7 @@ impl TableRule<(), Notes, ()> for ClosingRule {
 }
 
 /// A load notes what it found.
-pub(crate) struct LoadStep;
+struct LoadStep;
 
 impl Play<(), Notes> for LoadStep {
     ghost use Rattle.std.specs.Prelude.{◌≡◌, ◌++◌, ◌∷◌, [], ◌%◌};
@@ -39,7 +39,7 @@ impl Play<(), Notes> for LoadStep {
 }
 
 /// A close notes its number, and writes an odd word.
-pub(crate) struct CloseStep;
+struct CloseStep;
 
 impl Play<(), Notes> for CloseStep {
     ghost use Rattle.std.specs.Prelude.{◌≡◌, ◌++◌, ◌∷◌, [], ◌/◌, ◌%◌};
@@ -50,7 +50,7 @@ impl Play<(), Notes> for CloseStep {
 }
 
 /// A reopening and a ring of the bell note nothing.
-pub(crate) struct SilentStep;
+struct SilentStep;
 
 impl Play<(), Notes> for SilentStep {
     ghost use Rattle.std.specs.Prelude.{◌≡◌};
@@ -137,23 +137,30 @@ pub(crate) fn close_under(words: &Words, seat: &mut WordSeat, number: u64)
         .fetch_max::<CloseStep>(seat, CLOSING, number * 2 + 1);
 }
 
-/// Opens under this number of reopenings.
-pub(crate) fn open_under(words: &Words, seat: &mut WordSeat, number: u64)
-    requires same_table { (seat.old.table_id ≡ words.now.shared.table_id)
-        × (words.now.shared.table_id.words ≡ 2) }
+/// Opens under this number of reopenings. Only who has the words alone may do so: else a push or a
+/// pop could open a queue that another has closed.
+pub(crate) fn open_under(words: &mut Words, seat: &mut WordSeat, number: u64)
+    requires same_table { (seat.old.table_id ≡ words.old.shared.table_id)
+        × (words.old.shared.table_id.words ≡ 2) }
     requires few { number < 2 ^ 63 }
     ensures same { (seat.new.table_id ≡ seat.old.table_id) × (seat.new.me ≡ seat.old.me) }
+    ensures words { words.new ≡ words.old }
 {
     words.shared.store::<SilentStep>(seat, CLOSING, number * 2);
 }
 
+/// The bell was raised by this thread. Only [`ring`] makes one.
+#[derive(Drop)]
+pub(crate) struct BellRing(());
+
 /// Raises the bell, wrapping.
-pub(crate) fn ring(words: &Words, seat: &mut WordSeat)
+pub(crate) fn ring(words: &Words, seat: &mut WordSeat) -> BellRing
     requires same_table { (seat.old.table_id ≡ words.now.shared.table_id)
         × (words.now.shared.table_id.words ≡ 2) }
     ensures same { (seat.new.table_id ≡ seat.old.table_id) × (seat.new.me ≡ seat.old.me) }
 {
     words.shared.fetch_add::<SilentStep>(seat, BELL, 1);
+    BellRing(())
 }
 
 /// The bell.
