@@ -9,7 +9,7 @@ use std::test::Fail;
 
 const ZEROING: Settings = Settings { zero: true, ..FULL };
 
-const DAMAGED: [Row<'static>; 5] = [
+const DAMAGED: [Row<'static>; 6] = [
     Row {
         name: "full look-ahead stops at a bad page",
         case: Case {
@@ -82,6 +82,21 @@ const DAMAGED: [Row<'static>; 5] = [
         },
         pages: 16,
         reads: Some(&[(0, 16), (1, 15), (3, 13), (7, 9)]),
+        ..ROW
+    },
+    Row {
+        name: "the rest of a short read draws the distance out",
+        case: Case {
+            blocks: 12,
+            faults: Faults {
+                shorts: &[1, 1],
+                ..STEADY
+            },
+            list: Blocks::From(0, 12),
+            ..CASE
+        },
+        pages: 12,
+        reads: Some(&[(0, 1), (1, 2), (2, 1), (3, 8), (11, 1)]),
         ..ROW
     },
 ];

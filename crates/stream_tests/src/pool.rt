@@ -14,7 +14,7 @@ const AGAIN: Case<'static> = Case {
     ..CASE
 };
 
-const ROWS: [Row<'static>; 10] = [
+const ROWS: [Row<'static>; 12] = [
     Row {
         name: "pages come from the pool again",
         case: AGAIN,
@@ -105,6 +105,39 @@ const ROWS: [Row<'static>; 10] = [
         },
         pages: 3,
         taken: Some(2),
+        ..ROW
+    },
+    // The other backend's read of block 0 fails, and so does not draw the distance out alone.
+    Row {
+        name: "a block that is read alone draws the distance out",
+        case: Case {
+            blocks: 12,
+            faults: Faults {
+                reads: &[(0, 1)],
+                ..STEADY
+            },
+            other: Some(NONE),
+            list: Blocks::From(0, 12),
+            ..CASE
+        },
+        pages: 12,
+        reads: Some(&[(0, 1), (0, 1), (1, 4), (5, 7)]),
+        taken: Some(3),
+        ..ROW
+    },
+    Row {
+        name: "a run is started where the pool has the next block",
+        case: Case {
+            blocks: 6,
+            settings: Settings { limit: 4, ..FULL },
+            first: Blocks::These(&[(2, 0), (3, 0), (5, 0)]),
+            list: Blocks::These(&[(5, 0), (0, 0), (2, 0), (3, 0)]),
+            ..CASE
+        },
+        pages: 4,
+        reads: Some(&[(2, 2), (5, 1), (0, 1)]),
+        taken: Some(1),
+        heard: Some(1),
         ..ROW
     },
     // Block 0 is at hand, and 10 is read before the other backend reads 5.

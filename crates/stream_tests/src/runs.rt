@@ -2,6 +2,7 @@
 
 use crate::helpers::cases::{Blocks, CASE, Case, FULL, SETTINGS};
 use crate::helpers::rows::{ROW, Row, check_rows};
+use page_fixtures::files::{Faults, STEADY};
 use read_stream::Settings;
 use std::test::Fail;
 
@@ -16,7 +17,7 @@ const SIXTY_FOUR: [(u32, u32); 8] = [
     (63, 1),
 ];
 
-const ROWS: [Row<'static>; 8] = [
+const ROWS: [Row<'static>; 9] = [
     Row {
         name: "runs grow with the distance",
         case: Case {
@@ -114,6 +115,28 @@ const ROWS: [Row<'static>; 8] = [
         },
         pages: 2,
         heard: Some(0),
+        ..ROW
+    },
+    Row {
+        name: "the method hears of what is staged before the rest of a short read",
+        case: Case {
+            blocks: 6,
+            faults: Faults {
+                shorts: &[1],
+                ..STEADY
+            },
+            settings: Settings {
+                combine: 4,
+                batch: true,
+                ..FULL
+            },
+            list: Blocks::From(0, 6),
+            ..CASE
+        },
+        pages: 6,
+        reads: Some(&[(0, 4), (4, 2), (1, 3)]),
+        taken: Some(3),
+        heard: Some(1),
         ..ROW
     },
     // Behind block 0 the distance is 2, and then 4: so blocks 1 and 2 are a batch, and 3 to 5.

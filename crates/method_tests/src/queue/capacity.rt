@@ -36,8 +36,8 @@ struct Answers {
     pops: Vec<Pop>,
 }
 
-/// 65 pushes and 65 pops, a pop after a close, one after a reopening, and two after a push and two
-/// closes.
+/// 65 pushes and 65 pops, a pop after a close, one after a reopening, two after a push and two
+/// closes, and two after a push to the closed queue.
 fn one_seat<W: World, T: Wait>(rt: &T, alloc: Global) -> Result<Option<Answers>, AllocError>
     requires { W.handles ≡ 7 }
 {
@@ -55,6 +55,8 @@ fn one_seat<W: World, T: Wait>(rt: &T, alloc: Global) -> Result<Option<Answers>,
     push_from(rt, &queue, &mut seat, 65, 1);
     queue.close(rt, &mut seat);
     queue.close(rt, &mut seat);
+    pop_times(rt, &queue, &mut seat, 2, &mut pops)?;
+    push_from(rt, &queue, &mut seat, 66, 1);
     pop_times(rt, &queue, &mut seat, 2, &mut pops)?;
     Ok(Some(Answers {
         pushed,
@@ -141,6 +143,8 @@ fn queue_of_64_entries(rt: HostRuntime) -> Result<(), Fail> {
         Pop::Closed,
         Pop::Empty,
         Pop::Entry(reference(65)),
+        Pop::Closed,
+        Pop::Entry(reference(66)),
         Pop::Closed,
     ];
     wanted.extend_from_slice(&rest)?;
