@@ -14,7 +14,7 @@ const AGAIN: Case<'static> = Case {
     ..CASE
 };
 
-const ROWS: [Row<'static>; 12] = [
+const ROWS: [Row<'static>; 8] = [
     Row {
         name: "pages come from the pool again",
         case: AGAIN,
@@ -62,20 +62,6 @@ const ROWS: [Row<'static>; 12] = [
         ..ROW
     },
     Row {
-        name: "a block that another backend reads leaves the distance as it is",
-        case: Case {
-            blocks: 11,
-            settings: Settings { combine: 4, ..FULL },
-            other: Some(NONE),
-            list: Blocks::EveryOther(6),
-            ..CASE
-        },
-        pages: 6,
-        reads: Some(&[(2, 1), (4, 1), (0, 1), (6, 1), (8, 1), (10, 1)]),
-        taken: Some(5),
-        ..ROW
-    },
-    Row {
         name: "a page that the pool had is joined where another backend reads it again",
         case: Case {
             blocks: 40,
@@ -105,24 +91,6 @@ const ROWS: [Row<'static>; 12] = [
         },
         pages: 3,
         taken: Some(2),
-        ..ROW
-    },
-    // The other backend's read of block 0 fails, and so does not draw the distance out alone.
-    Row {
-        name: "a block that is read alone draws the distance out",
-        case: Case {
-            blocks: 12,
-            faults: Faults {
-                reads: &[(0, 1)],
-                ..STEADY
-            },
-            other: Some(NONE),
-            list: Blocks::From(0, 12),
-            ..CASE
-        },
-        pages: 12,
-        reads: Some(&[(0, 1), (0, 1), (1, 4), (5, 7)]),
-        taken: Some(3),
         ..ROW
     },
     Row {
@@ -159,6 +127,42 @@ const ROWS: [Row<'static>; 12] = [
         reads: Some(&[(0, 1), (10, 1), (5, 1), (20, 1)]),
         taken: Some(2),
         heard: Some(2),
+        ..ROW
+    },
+];
+
+// How far the stream looks ahead where it finds blocks in the pool, or others read them.
+const DISTANCES: [Row<'static>; 4] = [
+    Row {
+        name: "a block that another backend reads leaves the distance as it is",
+        case: Case {
+            blocks: 11,
+            settings: Settings { combine: 4, ..FULL },
+            other: Some(NONE),
+            list: Blocks::EveryOther(6),
+            ..CASE
+        },
+        pages: 6,
+        reads: Some(&[(2, 1), (4, 1), (0, 1), (6, 1), (8, 1), (10, 1)]),
+        taken: Some(5),
+        ..ROW
+    },
+    // The other backend's read of block 0 fails, and so does not draw the distance out alone.
+    Row {
+        name: "a block that is read alone draws the distance out",
+        case: Case {
+            blocks: 12,
+            faults: Faults {
+                reads: &[(0, 1)],
+                ..STEADY
+            },
+            other: Some(NONE),
+            list: Blocks::From(0, 12),
+            ..CASE
+        },
+        pages: 12,
+        reads: Some(&[(0, 1), (0, 1), (1, 4), (5, 7)]),
+        taken: Some(3),
         ..ROW
     },
     Row {
@@ -229,4 +233,9 @@ const EVERY_OTHER: [(u32, u32); 32] = [
 #[test]
 fn blocks_that_the_pool_has_or_awaits(rt: HostRuntime) -> Result<(), Fail> {
     check_rows(&rt, ROWS.as_slice())
+}
+
+#[test]
+fn distances_beside_the_pool(rt: HostRuntime) -> Result<(), Fail> {
+    check_rows(&rt, DISTANCES.as_slice())
 }

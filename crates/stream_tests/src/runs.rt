@@ -166,7 +166,7 @@ const ONE_HANDLE: Settings = Settings {
     ..SETTINGS
 };
 
-const MANY: [Row<'static>; 4] = [
+const MANY: [Row<'static>; 5] = [
     Row {
         name: "a stream without free handles goes on",
         case: Case {
@@ -212,6 +212,26 @@ const MANY: [Row<'static>; 4] = [
         reads: Some(&[(0, 1), (1, 1), (2, 1), (3, 1)]),
         taken: Some(4),
         heard: Some(3),
+        ..ROW
+    },
+    // The second call takes blocks 4 and 5, and finds block 1 in the first read.
+    Row {
+        name: "the method hears of what is staged when the stream is closed",
+        case: Case {
+            blocks: 6,
+            settings: Settings {
+                combine: 4,
+                batch: true,
+                ..FULL
+            },
+            list: Blocks::From(0, 6),
+            ..CASE
+        },
+        pages: 6,
+        calls: Some(2),
+        reads: Some(&[(0, 4), (4, 2)]),
+        taken: Some(2),
+        heard: Some(1),
         ..ROW
     },
     Row {
