@@ -17,6 +17,18 @@ const SIXTY_FOUR: [(u32, u32); 8] = [
     (63, 1),
 ];
 
+// Blocks 0 to 3 in one run, and then 4 and 5 in another, in batches.
+const TWO_RUNS: Case<'static> = Case {
+    blocks: 6,
+    settings: Settings {
+        combine: 4,
+        batch: true,
+        ..FULL
+    },
+    list: Blocks::From(0, 6),
+    ..CASE
+};
+
 const ROWS: [Row<'static>; 9] = [
     Row {
         name: "runs grow with the distance",
@@ -120,18 +132,11 @@ const ROWS: [Row<'static>; 9] = [
     Row {
         name: "the method hears of what is staged before the rest of a short read",
         case: Case {
-            blocks: 6,
             faults: Faults {
                 shorts: &[1],
                 ..STEADY
             },
-            settings: Settings {
-                combine: 4,
-                batch: true,
-                ..FULL
-            },
-            list: Blocks::From(0, 6),
-            ..CASE
+            ..TWO_RUNS
         },
         pages: 6,
         reads: Some(&[(0, 4), (4, 2), (1, 3)]),
@@ -217,16 +222,7 @@ const MANY: [Row<'static>; 5] = [
     // The second call takes blocks 4 and 5, and finds block 1 in the first read.
     Row {
         name: "the method hears of what is staged when the stream is closed",
-        case: Case {
-            blocks: 6,
-            settings: Settings {
-                combine: 4,
-                batch: true,
-                ..FULL
-            },
-            list: Blocks::From(0, 6),
-            ..CASE
-        },
+        case: TWO_RUNS,
         pages: 6,
         calls: Some(2),
         reads: Some(&[(0, 4), (4, 2)]),
