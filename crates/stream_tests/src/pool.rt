@@ -147,7 +147,7 @@ const DISTANCES: [Row<'static>; 4] = [
         taken: Some(5),
         ..ROW
     },
-    // The other backend's read of block 0 fails, and so does not draw the distance out alone.
+    // The wait for the other backend's read draws it out once, and the read alone once more.
     Row {
         name: "a block that is read alone draws the distance out",
         case: Case {
