@@ -1,10 +1,12 @@
 -- What a worker does with the references that it pops.
-use Rattle.std.specs.Prelude.{◌≡◌, ℕ, ◌⊎◌, Bool, true, false, List, [], ◌∷◌}
+use Rattle.std.specs.Prelude.{◌≡◌, ℕ, ◌⊎◌, List, [], ◌∷◌}
 use Rattle.aio_word.specs.declared.Known.{Known}
 use Rattle.aio_word.specs.declared.WaitRef.{WaitRef}
 use Rattle.aio_handle.specs.ClaimAttempt.{ClaimWon, ClaimLost}
 use Rattle.method_worker.specs.QueueViews.{SeatView}
 use Rattle.method_worker.specs.SeatCalls.{SeatPops, FoundClosed}
+use Rattle.method_worker.specs.declared.worker.Step.{Step}
+use Rattle.method_worker.specs.declared.worker.Step.TheVariants as step
 
 -- a moment of a worker: its seat, and what its actor knows
 pub record WorkerState : Type 0 where
@@ -29,27 +31,33 @@ PopsAndExecutes m m' = (t : WaitRef) × (word : ℕ) × SeatPops (t ∷ []) (wor
 abbrev pub FindsNoEntry : WorkerState → WorkerState → ℕ → Type 0
 FindsNoEntry m m' word = SeatPops [] (word ∷ []) m.seat m'.seat × (m'.known ≡ m.known)
 
--- one turn: where there may be more, it tried one reference or found none; else it found the queue
--- empty and closed
-abbrev pub WorkerStep : ℕ → ℕ → WorkerState → WorkerState → Bool → Type 0
-WorkerStep handles number m m' true = PopsAndExecutes m m' ⊎ ((word : ℕ) × FindsNoEntry m m' word)
-WorkerStep handles number m m' false = (word : ℕ) × FindsNoEntry m m' word
+-- a turn after which the worker goes on: it tried one reference, or found none
+abbrev pub WorkerGoesOn : WorkerState → WorkerState → Type 0
+WorkerGoesOn m m' = PopsAndExecutes m m' ⊎ ((word : ℕ) × FindsNoEntry m m' word)
+
+-- the last turn: it found the queue empty and closed
+abbrev pub WorkerStops : ℕ → ℕ → WorkerState → WorkerState → Type 0
+WorkerStops handles number m m' = (word : ℕ) × FindsNoEntry m m' word
     × FoundClosed handles number word m'.seat
 
--- turns after which there may be more, from one moment to another: each begins where the one before
--- it ended; the beginnings of all but the first, the last of them in front
-abbrev pub StepSequence : ℕ → ℕ → List WorkerState → WorkerState → WorkerState → Type 0
-StepSequence handles number [] m m' = WorkerStep handles number m m' true
-StepSequence handles number (k ∷ before) m m' = StepSequence handles number before m k
-    × WorkerStep handles number k m' true
+-- what a turn did, by its answer
+abbrev pub WorkerStep : ℕ → ℕ → WorkerState → WorkerState → Step → Type 0
+WorkerStep handles number m m' step.Tried = PopsAndExecutes m m'
+WorkerStep handles number m m' (step.Rested slept) = (word : ℕ) × FindsNoEntry m m' word
+WorkerStep handles number m m' step.Closed = WorkerStops handles number m m'
+
+-- turns after which the worker went on, from one moment to another: each begins where the one
+-- before it ended; the beginnings of all but the first, the last of them in front
+abbrev pub StepSequence : List WorkerState → WorkerState → WorkerState → Type 0
+StepSequence [] m m' = WorkerGoesOn m m'
+StepSequence (k ∷ before) m m' = StepSequence before m k × WorkerGoesOn k m'
 
 -- from one moment to another the worker made such turns, or none
-abbrev pub WorkerAdvanced : ℕ → ℕ → WorkerState → WorkerState → Type 0
-WorkerAdvanced handles number m m' = (m' ≡ m)
-    ⊎ ((turns : List WorkerState) × StepSequence handles number turns m m')
+abbrev pub WorkerAdvanced : WorkerState → WorkerState → Type 0
+WorkerAdvanced m m' = (m' ≡ m) ⊎ ((turns : List WorkerState) × StepSequence turns m m')
 
 -- the worker made turns, and in the last one found the queue empty and closed
 pub record WorksUntilClosed (handles : ℕ) (number : ℕ) (m m' : WorkerState) : Type 0 where
   pub last_state : WorkerState
-  pub steps_before : WorkerAdvanced handles number m last_state
-  pub found_closed : WorkerStep handles number last_state m' false
+  pub steps_before : WorkerAdvanced m last_state
+  pub found_closed : WorkerStops handles number last_state m'

@@ -9,7 +9,7 @@ ghost use Rattle.method_worker.specs.SeatCalls.{SeatCloses};
 
 use crate::log::{Log, Notes};
 use crate::rule::{PushStep, QueuePass, RuledQueue, SeatSplit, pop_entry};
-use crate::sleepers::Sleepers;
+use crate::sleepers::{Sleepers, Slept};
 use crate::words::{
     WordSeat, Words, close_under, heard, load_closing, open_under, open_words, ring,
     split_word_seat, wake_all, wake_one,
@@ -288,7 +288,7 @@ impl<W: World> SubmitQueue<W> {
     }
 
     /// Sleeps until a push or a close since this bell was read, or a wake for no reason.
-    pub(crate) fn rest<T: Wait>(&self, rt: &T, bell: u64) {
-        self.sleepers.sleep(rt, &self.words, bell);
+    pub(crate) fn rest<T: Wait>(&self, rt: &T, bell: u64) -> Slept {
+        self.sleepers.sleep(rt, &self.words, bell)
     }
 }

@@ -15,6 +15,12 @@ pub(crate) struct Sleepers {
     count: AtomicU64,
 }
 
+/// A sleep that has ended. Only [`Sleepers::sleep`] makes one.
+#[derive(Drop)]
+pub(crate) struct Slept {
+    _private: (),
+}
+
 impl Sleepers {
     pub(crate) fn new() -> Sleepers {
         Sleepers {
@@ -28,11 +34,12 @@ impl Sleepers {
     }
 
     /// Sleeps until the bell is no longer this one, or a wake.
-    pub(crate) fn sleep<T: Wait>(&self, rt: &T, words: &Words, bell: u64)
+    pub(crate) fn sleep<T: Wait>(&self, rt: &T, words: &Words, bell: u64) -> Slept
         requires { words.now.shared.table_id.words ≡ 2 }
     {
         self.count.fetch_add(1, Ordering::SeqCst);
         sleep(rt, words, bell);
         self.count.fetch_sub(1, Ordering::SeqCst);
+        Slept { _private: () }
     }
 }

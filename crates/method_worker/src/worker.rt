@@ -6,13 +6,25 @@ ghost use Rattle.method_worker.specs.QueueViews.{IsSeatOf, IsSameSeat};
 ghost use Rattle.method_worker.specs.WorkerSteps.{WorkerStep, WorksUntilClosed, worker_state};
 
 use crate::queue::{Pop, QueueSeat, SubmitQueue};
+use crate::sleepers::Slept;
 use aio_callback::ReadIo;
 use aio_handle::{Actor, Execute, Table};
 use page_check::World;
 use std::sync::Wait;
 
+/// What a worker did in one turn.
+#[derive(Drop)]
+enum Step {
+    /// It popped an entry and tried it.
+    Tried,
+    /// It found the queue empty and open, and slept.
+    Rested(Slept),
+    /// It found the queue empty and closed.
+    Closed,
+}
+
 /// One turn of a worker: it pops once, and sees to the entry, or sleeps where the queue is empty
-/// and open. The answer is whether there may be more: false where the queue is empty and closed.
+/// and open.
 fn turn<W: World, E: Execute<ReadIo, W>, T: Wait>(
     rt: &T,
     queue: &SubmitQueue<W>,
@@ -20,7 +32,7 @@ fn turn<W: World, E: Execute<ReadIo, W>, T: Wait>(
     table: &Table<ReadIo, W>,
     actor: &mut Actor<ReadIo, W>,
     runner: &mut E,
-) -> bool
+) -> Step
     requires queue { IsSeatOf queue.now seat.old }
     requires table { IsActorOf table.now actor.old }
     requires told { (E.told runner.old ≡ W.told) × (E.relations runner.old ≡ W.relations) }
@@ -38,13 +50,10 @@ fn turn<W: World, E: Execute<ReadIo, W>, T: Wait>(
     match queue.pop(rt, seat) {
         Pop::Entry(reference) => {
             table.try_execute(rt, actor, reference, runner);
-            return true;
+            Step::Tried
         }
-        Pop::Empty => {
-            queue.rest(rt, bell);
-            return true;
-        }
-        Pop::Closed => return false,
+        Pop::Empty => Step::Rested(queue.rest(rt, bell)),
+        Pop::Closed => Step::Closed,
     }
 }
 
@@ -75,7 +84,7 @@ pub fn work<W: World, E: Execute<ReadIo, W>, T: Wait>(
         (worker_state seat.new actor.new.known) }
 {
     for _ in rt.forever() {
-        if !turn(rt, queue, seat, table, actor, runner) {
+        if let Step::Closed = turn(rt, queue, seat, table, actor, runner) {
             return;
         }
     }

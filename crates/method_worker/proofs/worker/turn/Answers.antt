@@ -1,12 +1,11 @@
-use Rattle.std.proofs.Common.{refl, inl, inr}
+use Rattle.std.proofs.Common.{refl}
 use Rattle.method_worker.proofs.WorkerStepsInOrder.{tries-of}
 use Rattle.method_worker.proofs.worker.turn.Goals as goal
 
 pub returns-in-Entry-clause-worker_step : goal.returns-in-Entry-clause-worker_step
 returns-in-Entry-clause-worker_step g c =
     let (word, rest) = c.in-Entry.ensures.pop_answers in
-    let tried = c.try_execute.ensures in
-    inl (
+    let tried = c.try_execute.ensures in (
       c.in-Entry.reference,
       word,
       rest.0,
@@ -17,4 +16,4 @@ returns-in-Entry-clause-worker_step g c =
 pub returns-in-Empty-clause-worker_step : goal.returns-in-Empty-clause-worker_step
 returns-in-Empty-clause-worker_step g c =
     let (word, rest) = c.in-Empty.ensures.pop_answers in
-    inr (word, (rest.0, refl))
+    (word, (rest.0, refl))

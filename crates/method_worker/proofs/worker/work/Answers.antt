@@ -44,14 +44,14 @@ loop-init g c = record {
   works = inl refl;
 }
 
-pub returns-then-not-turn-clause-marks : goal.returns-then-not-turn-clause-marks
-returns-then-not-turn-clause-marks g c =
+pub returns-in-Closed-clause-marks : goal.returns-in-Closed-clause-marks
+returns-in-Closed-clause-marks g c =
     executes_then c.args.actor.now.known c.loop.actor.known c.turn.new.actor.known _ _ _ _ _ _
     c.loop.invariant.takes c.turn.ensures.marks
 
-pub returns-then-not-turn-clause-works_until_closed
-    : goal.returns-then-not-turn-clause-works_until_closed
-returns-then-not-turn-clause-works_until_closed g c =
+pub returns-in-Closed-clause-works_until_closed
+    : goal.returns-in-Closed-clause-works_until_closed
+returns-in-Closed-clause-works_until_closed g c =
     turns-last g.W.World.handles c.args.queue.now.reopened
     (worker_state c.args.seat.now c.args.actor.now.known)
     (worker_state c.loop.seat c.loop.actor.known)

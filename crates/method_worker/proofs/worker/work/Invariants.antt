@@ -18,7 +18,6 @@ invariant-loop g l = record {
   takes : ExecutesAll [] l.fn.actor.known l.actor.known (g.E.Execute.reads l.fn.runner)
       (g.E.Execute.reads l.runner)
       (g.E.Execute.faults l.fn.runner) (g.E.Execute.faults l.runner);
-  works : WorkerAdvanced g.W.World.handles l.queue.reopened (worker_state l.fn.seat
-      l.fn.actor.known)
+  works : WorkerAdvanced (worker_state l.fn.seat l.fn.actor.known)
       (worker_state l.seat l.actor.known);
 }
