@@ -1,0 +1,4 @@
+mod SlotRuleLemmas
+pub mod ClientStepsKeepRule
+pub mod ServerStepsKeepRule
+pub mod SeatsKnowState

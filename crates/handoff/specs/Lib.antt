@@ -1,0 +1,3 @@
+pub mod SlotRule
+pub mod SlotSteps
+pub mod HandoffViews
