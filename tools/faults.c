@@ -3,15 +3,18 @@
 // tools/fault_runs and tools/bench build and use it.
 //
 // FAULT_KIND  what the call is: open, status (statx), length (lseek), read (pread), out, err
-//             (write to the two standard streams), memory (malloc, realloc), thread (clone3)
+//             (write to the two standard streams), memory (malloc, realloc), thread
+//             (pthread_create)
 // FAULT_AT    which call of that kind, from 1; 0 for none
 // FAULT_HOW   fail, full (the system's want of memory), short, interrupted
+// FAULT_LATER whether all later calls of that kind fail too
 // FAULT_COUNT a file that gets the number of calls of that kind, as the machine keeps a long
 // FAULT_WAIT  how many microseconds each pread sleeps first
 #define _GNU_SOURCE
 #include <dlfcn.h>
 #include <errno.h>
 #include <fcntl.h>
+#include <pthread.h>
 #include <stdarg.h>
 #include <stdatomic.h>
 #include <stdlib.h>
@@ -25,6 +28,7 @@
 
 static atomic_long own_calls, *calls = &own_calls;
 static long fault_at = -1, wait_for;
+static int fault_later;
 static const char *fault_kind = "", *fault_how = "";
 
 // The count lies in a file, since a program may end without running what is registered for its end.
@@ -41,6 +45,7 @@ __attribute__((constructor)) static void read_settings(void) {
   if (getenv("FAULT_KIND")) fault_kind = getenv("FAULT_KIND");
   fault_how = getenv("FAULT_HOW") ? getenv("FAULT_HOW") : "fail";
   fault_at = at ? atol(at) : 0;
+  fault_later = getenv("FAULT_LATER") != NULL;
   // A sleep may else last 50 microseconds longer than it should. New threads have this from here.
   if (wait) wait_for = 1000 * atol(wait), prctl(PR_SET_TIMERSLACK, 1);
 }
@@ -48,7 +53,8 @@ __attribute__((constructor)) static void read_settings(void) {
 // Whether this call of the kind is the one.
 static int is_hit(const char *kind) {
   if (fault_at < 0 || strcmp(kind, fault_kind)) return 0;
-  return atomic_fetch_add(calls, 1) + 1 == fault_at;
+  long call = atomic_fetch_add(calls, 1) + 1;
+  return call == fault_at || (fault_later && fault_at > 0 && call > fault_at);
 }
 
 static int is_how(const char *how) { return !strcmp(fault_how, how); }
@@ -95,6 +101,11 @@ ssize_t write(int file, const void *bytes, size_t count) {
     count = count / 2 + 1;
   }
   return REAL(ssize_t, "write", int, const void *, size_t)(file, bytes, count);
+}
+
+int pthread_create(pthread_t *made, const pthread_attr_t *how, void *(*work)(void *), void *with) {
+  if (is_hit("thread")) return EAGAIN;
+  return REAL(int, "pthread_create", pthread_t *, const pthread_attr_t *, void *(*)(void *), void *)(made, how, work, with);
 }
 
 void *malloc(size_t size) {

@@ -14,8 +14,8 @@ use Rattle.aioscan_cmd.specs.ListerState.{AllJobTextsWritten, ListerIsOver}
 use Rattle.aioscan_cmd.specs.ListerState.{unskipped_job_parts, unskipped_parts}
 use Rattle.aioscan_cmd.specs.ListerState.{CutsOffJobs, ListerListedParts, PreservesListing}
 use Rattle.aioscan_cmd.specs.ListerState.{lister_error_stream, lister_options, lister_filter}
-use Rattle.aioscan_cmd.specs.ErrorLine.{ErrorStream, AppendsWarnings, error_stream}
-use Rattle.aioscan_cmd.specs.declared.report.Line.{Line}
+use Rattle.aioscan_cmd.specs.ListerLaws.{parts_before_rest, same_errors}
+use Rattle.aioscan_cmd.specs.ErrorLine.{ErrorStream, AppendsWarnings}
 use Rattle.aioscan_cmd.specs.declared.lister.Lister.{Lister}
 use Rattle.aioscan_cmd.specs.declared.report.Outcome.{Outcome}
 use Rattle.aioscan_cmd.specs.declared.report.Outcome.TheVariants.{Done}
@@ -37,6 +37,37 @@ nothing_written faults o done = record {
   cannot_write = λ is. absurd (cc);
 }
 
+module _ {W O E : Type 0} where
+  -- of jobs that were cut off, the first were before the others
+  pub cuts_before : (was old : Lister W O E) (asked later : List Job)
+      → CutsOffJobs was (asked ++ later) old
+      → (between : Lister W O E) × CutsOffJobs was asked between × CutsOffJobs between later old
+  cuts_before was old asked later gives = (
+    record old { blocks = unskipped_job_parts None later ++ old.blocks },
+    record {
+      loans = gives.loans;
+      out = gives.out;
+      err = gives.err;
+      line = gives.line;
+      options_same = gives.options_same;
+      filter_same = gives.filter_same;
+      outcome = gives.outcome;
+      sums = gives.sums;
+      cut = gives.cut ∙ parts_before_rest asked later old.blocks;
+    },
+    record {
+      loans = (refl, refl);
+      out = refl;
+      err = refl;
+      line = refl;
+      options_same = refl;
+      filter_same = refl;
+      outcome = refl;
+      sums = refl;
+      cut = refl;
+    },
+  )
+
 module _ {W O E : Type 0} (told : Option Told) (out : SinkGhosts O) (err : SinkGhosts E) where
   abbrev Goes : Lister W O E → Lister W O E → Type 0
   Goes s t = PreservesListing told out err s t
@@ -49,106 +80,9 @@ module _ {W O E : Type 0} (told : Option Told) (out : SinkGhosts O) (err : SinkG
   abbrev errors : Lister W O E → ErrorStream
   errors l = lister_error_stream told out err l
 
-  -- jobs that were put leave the error stream as it was
-  same_errors : (was : Lister W O E) (asked : List Job) (old : Lister W O E)
-      → CutsOffJobs was asked old → errors was ≡ errors old
-  same_errors was asked old gives_jobs =
-      ap (λ (l : Line). error_stream l (err.written was.err.now) (err.faults was.err.now))
-      (sym gives_jobs.line)
-      ∙ ap (λ (e : E). error_stream old.line (err.written e) (err.faults e)) (sym gives_jobs.err)
-
-  -- jobs were put, and no block of theirs is to be listed any more
-  pub listing_kept : (s t : Lister W O E) (asked : List Job) → CutsOffJobs s asked t
-      → (t.outcome ≡ Done → s.blocks ≡ t.blocks) → Goes s t
-  listing_kept s t asked gives same = (
-    gives.loans.0,
-    gives.loans.1,
-    λ skips m all before faults_before errors_before so_far.
-        (let P : Outcome → PageSums → O → ErrorStream → Type 0 = λ x sums o e.
-        AppendsWarnings (IsSummedOutput (format_of_options m) told so_far.asked before
-        (out.written o) x no_sums sums) errors_before e in
-        let Q : Outcome → Type 0 = λ x. P x s.sums s.out.now (errors s) in
-        let R : PageSums → Type 0 = λ sums. P t.outcome sums s.out.now (errors s) in
-        let S : O → Type 0 = λ o. P t.outcome t.sums o (errors s) in
-        let T : ErrorStream → Type 0 = λ e. P t.outcome t.sums t.out.now e in
-        let V : O → Type 0 = λ o. WriteFaultsCounted faults_before (out.faults o) s.outcome in
-        let U : Outcome → Type 0 =
-        λ x. WriteFaultsCounted faults_before (out.faults t.out.now) x in
-        record {
-          asked = so_far.asked;
-          rest = so_far.rest;
-          cut = so_far.cut;
-          left = λ done. so_far.left (sym gives.outcome ∙ done)
-              ∙ ap (unskipped_parts skips) (same done);
-          options_are = gives.options_same ∙ so_far.options_are;
-          filter_is = gives.filter_same ∙ so_far.filter_is;
-          lists = subst T (same_errors s asked t gives) (subst S (sym gives.out)
-              (subst R (sym gives.sums) (subst Q (sym gives.outcome) so_far.lists)));
-          writes = subst U (sym gives.outcome) (subst V (sym gives.out) so_far.writes);
-        }),
-  )
-
-  -- the jobs that were put have been written
-  pub round_written : (was old new : Lister W O E) (asked jobs : List Job)
-      → CutsOffJobs was asked old
-      → AllJobsAnswered (lister_filter old) (lister_options old) told asked jobs → old.outcome
-      ≡ Done
-      → new.blocks ≡ old.blocks → lister_options new ≡ lister_options old
-      → lister_filter new ≡ lister_filter old
-      → new.out.ghost_name ≡ old.out.ghost_name
-      → new.err.ghost_name ≡ old.err.ghost_name
-      → AppendsWarnings (AllJobTextsWritten jobs (out.written old.out.now) (out.written new.out.now)
-      new.outcome old.sums new.sums)
-      (errors old) (errors new)
-      → WriteFaultsCounted (out.faults old.out.now) (out.faults new.out.now) new.outcome
-      → Goes was new
-  round_written was old new asked jobs gives_jobs answered done same options_are_same filter_is_same
-      loan err_loan lists writes = (
-        loan ∙ gives_jobs.loans.0,
-        err_loan ∙ gives_jobs.loans.1,
-        λ skips m all before faults_before errors_before so_far.
-            (let was_done : was.outcome ≡ Done = sym gives_jobs.outcome ∙ done in
-            let options_are : lister_options old ≡ m = gives_jobs.options_same
-            ∙ so_far.options_are in
-            let filter_is : lister_filter old ≡ skips = gives_jobs.filter_same ∙ so_far.filter_is in
-            let A : ListOptions → Type 0 = λ x. AllJobsAnswered skips x told asked jobs in
-            let B : Option BlockFilter → Type 0 = λ x. AllJobsAnswered x (lister_options old)
-            told asked jobs in
-            let here = subst A options_are (subst B filter_is answered) in
-            let P : Outcome → PageSums → O → ErrorStream → Type 0 = λ x sums o e.
-            AppendsWarnings (IsSummedOutput (format_of_options m) told so_far.asked before
-            (out.written o) x no_sums sums) errors_before e in
-            let Q : Outcome → Type 0 = λ x. P x was.sums was.out.now (errors was) in
-            let R : PageSums → Type 0 = λ sums. P Done sums was.out.now (errors was) in
-            let S : O → Type 0 = λ o. P Done old.sums o (errors was) in
-            let T : ErrorStream → Type 0 = λ e. P Done old.sums old.out.now e in
-            let V : O → Type 0 = λ o. WriteFaultsCounted faults_before (out.faults o) was.outcome in
-            let first = subst T (same_errors was asked old gives_jobs)
-            (subst S (sym gives_jobs.out) (subst R (sym gives_jobs.sums)
-            (subst Q was_done so_far.lists))) in
-            let was_written = subst V (sym gives_jobs.out) so_far.writes in record {
-              asked = so_far.asked ++ unskipped_job_parts skips asked;
-              rest = unskipped_parts skips old.blocks;
-              cut = so_far.cut
-                  ∙ ap (λ (l : List Part). so_far.asked ++ l) (so_far.left was_done
-                  ∙ unskipped_after_cut skips asked was.blocks old.blocks gives_jobs.cut)
-                  ∙ sym (append_assoc so_far.asked (unskipped_job_parts skips asked)
-                  (unskipped_parts skips old.blocks));
-              left = λ _. ap (unskipped_parts skips) (sym same);
-              options_are = options_are_same ∙ options_are;
-              filter_is = filter_is_same ∙ filter_is;
-              lists = warns_then _ _ _ _ _ _
-                  (λ v w before_it now_it. summed_append (format_of_options m) told so_far.asked
-                  (unskipped_job_parts skips asked) before
-                  (out.written old.out.now) (out.written new.out.now) new.outcome no_sums old.sums
-                  new.sums v w before_it (now_it skips m told asked here)) first lists;
-              writes = written_then _ _ _ _ was_written.later writes;
-            }),
-      )
-
-  -- they were written while others were out: those are out still
-  pub round_written_before : (was between old new : Lister W O E) (asked later jobs : List Job)
-      → CutsOffJobs was asked between → CutsOffJobs between later old
+  -- the first of the jobs that were put have been written: the others are out still
+  pub round_written : (was old new : Lister W O E) (asked later jobs : List Job)
+      → CutsOffJobs was (asked ++ later) old
       → AllJobsAnswered (lister_filter old) (lister_options old) told asked jobs
       → old.outcome ≡ Done → new.blocks ≡ old.blocks → lister_options new ≡ lister_options old
       → lister_filter new ≡ lister_filter old
@@ -159,28 +93,52 @@ module _ {W O E : Type 0} (told : Option Told) (out : SinkGhosts O) (err : SinkG
       (errors old) (errors new)
       → WriteFaultsCounted (out.faults old.out.now) (out.faults new.out.now) new.outcome
       → (next : Lister W O E) × Goes was next × CutsOffJobs next later new
-  round_written_before was between old new asked later jobs first second answered done blocks options
-      filter loan err_loan lists writes =
-      let next : Lister W O E = record new { blocks = between.blocks } in
-      let A : Option BlockFilter → Type 0 =
-      λ x. AllJobsAnswered x (lister_options between) told asked jobs in
-      let B : ListOptions → Type 0 = λ x. AllJobsAnswered (lister_filter old) x told asked jobs in
-      let P : O → PageSums → ErrorStream → Type 0 = λ o sums e.
-      AppendsWarnings (AllJobTextsWritten jobs (out.written o) (out.written new.out.now)
-      new.outcome sums new.sums) e (errors new) in
-      let Q : O → Type 0 = λ o. P o old.sums (errors old) in
-      let R : PageSums → Type 0 = λ sums. P between.out.now sums (errors old) in
-      let S : ErrorStream → Type 0 = λ e. P between.out.now between.sums e in
-      let V : O → Type 0 =
-      λ o. WriteFaultsCounted (out.faults o) (out.faults new.out.now) new.outcome in (
-        next,
-        round_written was between next asked jobs first
-            (subst A second.filter_same (subst B second.options_same answered))
-            (sym second.outcome ∙ done) refl (options ∙ second.options_same)
-            (filter ∙ second.filter_same) (loan ∙ second.loans.0) (err_loan ∙ second.loans.1)
-            (subst S (sym (same_errors between later old second))
-            (subst R second.sums (subst Q second.out lists)))
-            (subst V second.out writes),
+  round_written was old new asked later jobs gives answered done blocks options filter loan err_loan
+      lists writes =
+      let rest : List Part = unskipped_job_parts None later ++ old.blocks in (
+        record new { blocks = rest },
+        (
+          loan ∙ gives.loans.0,
+          err_loan ∙ gives.loans.1,
+          λ skips m all before faults_before errors_before so_far.
+              (let was_done : was.outcome ≡ Done = sym gives.outcome ∙ done in
+              let options_are : lister_options old ≡ m = gives.options_same ∙ so_far.options_are in
+              let filter_is : lister_filter old ≡ skips = gives.filter_same ∙ so_far.filter_is in
+              let A : ListOptions → Type 0 = λ x. AllJobsAnswered skips x told asked jobs in
+              let B : Option BlockFilter → Type 0 = λ x. AllJobsAnswered x (lister_options old)
+              told asked jobs in
+              let here = subst A options_are (subst B filter_is answered) in
+              let P : Outcome → PageSums → O → ErrorStream → Type 0 = λ x sums o e.
+              AppendsWarnings (IsSummedOutput (format_of_options m) told so_far.asked before
+              (out.written o) x no_sums sums) errors_before e in
+              let Q : Outcome → Type 0 = λ x. P x was.sums was.out.now (errors was) in
+              let R : PageSums → Type 0 = λ sums. P Done sums was.out.now (errors was) in
+              let S : O → Type 0 = λ o. P Done old.sums o (errors was) in
+              let T : ErrorStream → Type 0 = λ e. P Done old.sums old.out.now e in
+              let V : O → Type 0 =
+              λ o. WriteFaultsCounted faults_before (out.faults o) was.outcome in
+              let first = subst T (same_errors told out err was (asked ++ later) old gives)
+              (subst S (sym gives.out) (subst R (sym gives.sums) (subst Q was_done so_far.lists))) in
+              let was_written = subst V (sym gives.out) so_far.writes in record {
+                asked = so_far.asked ++ unskipped_job_parts skips asked;
+                rest = unskipped_parts skips rest;
+                cut = so_far.cut
+                    ∙ ap (λ (l : List Part). so_far.asked ++ l) (so_far.left was_done
+                    ∙ unskipped_after_cut skips asked was.blocks rest (gives.cut
+                    ∙ parts_before_rest asked later old.blocks))
+                    ∙ sym (append_assoc so_far.asked (unskipped_job_parts skips asked)
+                    (unskipped_parts skips rest));
+                left = λ _. refl;
+                options_are = options ∙ options_are;
+                filter_is = filter ∙ filter_is;
+                lists = warns_then _ _ _ _ _ _
+                    (λ v w before_it now_it. summed_append (format_of_options m) told so_far.asked
+                    (unskipped_job_parts skips asked) before
+                    (out.written old.out.now) (out.written new.out.now) new.outcome no_sums old.sums
+                    new.sums v w before_it (now_it skips m told asked here)) first lists;
+                writes = written_then _ _ _ _ was_written.later writes;
+              }),
+        ),
         record {
           loans = (refl, refl);
           out = refl;
@@ -190,8 +148,7 @@ module _ {W O E : Type 0} (told : Option Told) (out : SinkGhosts O) (err : SinkG
           filter_same = refl;
           outcome = refl;
           sums = refl;
-          cut = second.cut ∙ ap (λ (l : List Part). unskipped_job_parts None later ++ l)
-              (sym blocks);
+          cut = ap (λ (l : List Part). unskipped_job_parts None later ++ l) (sym blocks);
         },
       )
 

@@ -12,5 +12,6 @@ pub mod Lengths
 pub mod RemainingRequests
 pub mod Sums
 pub mod ListerState
+pub mod ListerLaws
 pub mod Disks
 pub mod Totals

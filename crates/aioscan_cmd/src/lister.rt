@@ -159,6 +159,7 @@ impl<'a, 'e, 'm, 'w, W: World, O: Sink, E: Sink> JobSource<W> for Lister<'a, 'e,
     ghost use Rattle.aioscan_cmd.specs.RequestList.{blocks_of_parts};
     ghost use Rattle.aioscan_cmd.specs.ListerState.{unread_count, lister_options, lister_filter};
     ghost use Rattle.aioscan_cmd.specs.ListerState.{ListerIsOver, CutsOffJobs, PreservesListing};
+    ghost use Rattle.aioscan_cmd.specs.ListerLaws.{cuts_then, none_put};
 
     ghost blocks_left = { λ l. length (blocks_of_parts l.blocks) };
 
@@ -210,6 +211,10 @@ impl<'a, 'e, 'm, 'w, W: World, O: Sink, E: Sink> JobSource<W> for Lister<'a, 'e,
       sums = refl;
       cut = refl;
     } };
+
+    ghost giving_more = { cuts_then };
+
+    ghost giving_none_follows = { none_put W.told O.Sink E.Sink };
 
     ghost follows_itself = { λ a. (refl, refl, λ skips m all before faults errors was. was) };
 

@@ -87,16 +87,16 @@ const ROWS: [Row; 7] = [
         reads: 9,
         by_workers: 8,
     },
-    // With one backend a turn is one job, here of one relation.
+    // With one backend a share is one job, here of one relation.
     Row {
-        name: "three workers in each of eight turns",
+        name: "three workers for each of eight jobs",
         line: "--workers 3 --backends 1 --combine 1 a b c d e f g h",
         size: (8, 6),
         from: 3,
         reads: 3,
         by_workers: 16,
     },
-    // In the second turn each backend has a second job, for which it needs its seat of the queue.
+    // In the second round each backend has a second job, for which it needs its seat of the queue.
     Row {
         name: "two backends that hand their second jobs' reads to six workers",
         line: "--workers 6 --backends 2 --combine 1 a b c d e f",
@@ -105,7 +105,7 @@ const ROWS: [Row; 7] = [
         reads: 3,
         by_workers: 12,
     },
-    // With four backends the first turn has four jobs, and the second has eight.
+    // With four backends the first round of shares has four jobs, and the second has eight.
     Row {
         name: "four backends",
         line: "--method sync --backends 4 f",
@@ -115,7 +115,7 @@ const ROWS: [Row; 7] = [
         by_workers: 0,
     },
     Row {
-        name: "four backends in the second turn",
+        name: "four backends in the second round",
         line: "--method sync --backends 4 f",
         size: (1, 1024),
         from: 256,

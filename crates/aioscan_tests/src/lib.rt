@@ -24,6 +24,8 @@ mod refused_words;
 #[cfg(test)]
 mod segments;
 #[cfg(test)]
+mod shares_out;
+#[cfg(test)]
 mod statuses;
 #[cfg(test)]
 mod untold_contents;

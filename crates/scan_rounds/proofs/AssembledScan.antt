@@ -1,6 +1,6 @@
 -- What was made of the parts of a new scan.
 use Rattle.std.proofs.Common.{◌≡◌, ℕ, ◌+◌, ◌-◌, ◌^◌, ◌<◌, ◌≤◌, List, [], length, refl, sym, ap}
-use Rattle.std.proofs.Common.{◌∙◌, ◌*◌, subst, arith}
+use Rattle.std.proofs.Common.{◌∙◌, subst, arith}
 use Rattle.std.specs.Prelude.{IfSome, Bool, vec_capacity, is_some, cond}
 use Rattle.std.specs.List.{All}
 use Rattle.std.specs.Vec.Iter.{into_iter_items}
@@ -48,7 +48,6 @@ module _ {W D : Type 0} where
     pub backends_are : length s.backends.items ≡ settings.backends
     pub workers : GivesWorkers q r s.workers.items
     pub workers_are : length s.workers.items ≡ workers_of_settings settings
-    pub jobs_suffice : 2 * settings.backends ≤ length s.jobs.items
     pub room : s.room ≡ 2 ^ 58 - 1 - start
     pub unread : s.unread ≡ 0
     pub options_are : scan_options s ≡ list_options settings.zero settings.tuples
@@ -146,7 +145,6 @@ module _ {W D : Type 0} where
           (omega (arith, backends)) some_handles (omega (arith, begun, early)) in
           let same = ap (λ (n : ℕ). 2 ^ 58 - 1 - n) begun ∙ sym made.room in
           let none = made.unread in
-          let jobs = made.jobs_suffice in
           let actors = made.actors_fit.1 in
           let disks = made.disks_fit.1 in
           let P : ℕ → Type 0 = λ n. IsLeastRoom bs n in record {
@@ -169,7 +167,6 @@ module _ {W D : Type 0} where
                 (made.backends.each k b lt).tuples_are ∙ sym made.options_are;
             room = subst P same rooms;
             few_unread = omega (arith, none);
-            jobs_suffice = omega (arith, jobs, few);
             no_actors = made.actors_fit.0;
             no_disks = made.disks_fit.0;
             actors_fit = omega (arith, actors, few, others);

@@ -5,6 +5,7 @@ mod ConsumerProgress
 mod OutputOfPages
 mod MapPages
 pub mod JobListed
+mod JobsRefused
 mod WorkerAtRest
 mod UnreadLeavesResult
 mod LeastRoom
@@ -14,9 +15,13 @@ mod CountRaised
 pub mod Sums
 mod QueueClosed
 mod ScanAfterRounds
+mod SharesListed
+mod SharesExchange
+mod SharesCompose
 mod SharesInParallel
+mod SharesOfClients
+mod SharesGathered
 mod JobsInSequence
-mod RoundsCompose
 pub mod ThreadPremises
 mod ResultsMatchExecutions
 mod DisksCountForActors
@@ -27,3 +32,6 @@ mod SeatsAndRings
 mod AssembledScan
 mod ScanAfterMap
 pub mod ReadMaps
+mod SharesBegun
+mod BackendsRun
+mod ScanAfterRun

@@ -1,9 +1,10 @@
 -- What holds between two lists, place by place.
 use Rattle.std.proofs.Common.{◌≡◌, ℕ, zero, suc, ◌<◌, List, [], ◌∷◌, ◌++◌, length, map, refl, ap}
-use Rattle.std.proofs.Common.{arith}
+use Rattle.std.proofs.Common.{arith, subst, ◌≤◌, sum_by}
 use Rattle.std.specs.Prelude.{slice_index_or}
 use Rattle.std.specs.List.{All, AllZip}
 use Rattle.std.proofs.lemmas.List.Elements.{All-nil, All-cons, All-head, All-tail}
+use Rattle.std.proofs.lemmas.List.Sums.{sum_by-cons}
 
 module _ {A B : Type 0} (R : A → B → Type 0) where
   pub zip-length : (xs : List A) (ys : List B) → AllZip R xs ys → length ys ≡ length xs
@@ -68,8 +69,63 @@ module _ {A B : Type 0} (R : A → B → Type 0) where
   zip-then S T then [] [] (z ∷ zs) one two = absurd two
   zip-then S T then (x ∷ xs) (y ∷ ys) [] one two = absurd two
 
+  -- the first two, and those behind
+  pub zip-split : (x : A) (xs us : List A) (y : B) (ys vs : List B) → us ≡ x ∷ xs → vs ≡ y ∷ ys
+      → AllZip R us vs → R x y × AllZip R xs ys
+  zip-split x xs us y ys vs one two all = subst (λ (l : List B). AllZip R (x ∷ xs) l) two
+      (subst (λ (l : List A). AllZip R l vs) one all)
+
+  -- what stands beside the first, and beside those behind
+  pub zip-beside : (x : A) (xs : List A) (ys : List B) → AllZip R (x ∷ xs) ys
+      → (y : B) × (rest : List B) × (ys ≡ y ∷ rest) × R x y × AllZip R xs rest
+  zip-beside x xs (y ∷ ys) all = (y, ys, refl, all.0, all.1)
+  zip-beside x xs [] all = absurd all
+
+  -- the two the other way round
+  pub zip-flip : (xs : List A) (ys : List B) → AllZip R xs ys → AllZip (λ y x. R x y) ys xs
+  zip-flip [] [] all = tt
+  zip-flip (x ∷ xs) (y ∷ ys) all = (all.0, zip-flip xs ys all.1)
+  zip-flip [] (y ∷ ys) all = absurd all
+  zip-flip (x ∷ xs) [] all = absurd all
+
+  -- what holds of a second list that was made of another
+  pub zip-made : {X : Type 0} (g : X → B) (xs : List A) (zs : List X)
+      → AllZip (λ x z. R x (g z)) xs zs → AllZip R xs (map g zs)
+  zip-made g [] [] all = tt
+  zip-made g (x ∷ xs) (z ∷ zs) all = (all.0, zip-made g xs zs all.1)
+  zip-made g [] (z ∷ zs) all = absurd all
+  zip-made g (x ∷ xs) [] all = absurd all
+
+  pub zip-unmade : {X : Type 0} (g : X → B) (xs : List A) (zs : List X)
+      → AllZip R xs (map g zs) → AllZip (λ x z. R x (g z)) xs zs
+  zip-unmade g [] [] all = tt
+  zip-unmade g (x ∷ xs) (z ∷ zs) all = (all.0, zip-unmade g xs zs all.1)
+  zip-unmade g [] (z ∷ zs) all = absurd all
+  zip-unmade g (x ∷ xs) [] all = absurd all
+
+  -- a sum over the second list, and one over the first
+  pub zip-sum : (f : A → ℕ) (g : B → ℕ) → ((x : A) (y : B) → R x y → g y ≤ f x) → (xs : List A)
+      (ys : List B) → AllZip R xs ys → sum_by g ys ≤ sum_by f xs
+  zip-sum f g less [] [] all = omega arith
+  zip-sum f g less (x ∷ xs) (y ∷ ys) all = omega (
+    arith,
+    less x y all.0,
+    zip-sum f g less xs ys all.1,
+    sum_by-cons f x xs,
+    sum_by-cons g y ys,
+  )
+  zip-sum f g less [] (y ∷ ys) all = absurd all
+  zip-sum f g less (x ∷ xs) [] all = absurd all
+
 pub zip-itself : {A : Type 0} (R : A → A → Type 0) (xs : List A) → All (λ x. R x x) xs
     → AllZip R xs xs
 zip-itself R [] all = tt
 zip-itself R (x ∷ xs) all =
     (All-head (λ y. R y y) x xs all, zip-itself R xs (All-tail (λ y. R y y) x xs all))
+
+-- the first, and those behind
+pub all_split : {A : Type 0} (x : A) (xs us : List A) → us ≡ x ∷ xs → (P : A → Type 0) → All P us
+    → P x × All P xs
+all_split x xs us is P all =
+    let both = subst (λ (l : List _). All P l) is all in
+    (All-head P x xs both, All-tail P x xs both)

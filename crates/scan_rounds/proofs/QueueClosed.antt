@@ -16,7 +16,6 @@ use Rattle.aio_disk.specs.declared.disk.Disk.{Ghosts as DiskGhosts}
 use Rattle.scan_rounds.specs.BlockFilter.{BlockFilter}
 use Rattle.scan_rounds.specs.DiskActors.{ActorHasRoom, IsBackend, backend_options}
 use Rattle.scan_rounds.specs.Jobs.{JobIsListed}
-use Rattle.scan_rounds.specs.JobSources.{RoundsCounted}
 use Rattle.scan_rounds.specs.ListOptions.{ListOptions, list_options}
 use Rattle.scan_rounds.specs.Progress.{BackendsAreReady, TurnTaken}
 use Rattle.scan_rounds.specs.Rounds.{AllHaveOptions, AllJobsListed, IsLeastRoom, backend_disk_actor}
@@ -26,15 +25,14 @@ use Rattle.scan_rounds.specs.declared.backend.Backend.{Backend}
 use Rattle.scan_rounds.specs.declared.counts.Counts.{Counts}
 use Rattle.scan_rounds.specs.declared.disk_actor.DiskActor.{DiskActor}
 use Rattle.scan_rounds.specs.declared.job.Job.{Job}
-use Rattle.scan_rounds.specs.declared.job_source.JobSource.{Ghosts as JobSourceGhosts}
 use Rattle.scan_rounds.proofs.Sums.{sum-mapped}
 
 -- backends with the same actors and disks
 module _ {W D : Type 0} where
-  abbrev SameActors : List (Backend W D) → List (Backend W D) → Type 0
+  abbrev pub SameActors : List (Backend W D) → List (Backend W D) → Type 0
   SameActors cs ds = map backend_disk_actor ds ≡ map backend_disk_actor cs
 
-  many_as : (cs ds : List (Backend W D)) → SameActors cs ds → length ds ≡ length cs
+  pub many_as : (cs ds : List (Backend W D)) → SameActors cs ds → length ds ≡ length cs
   many_as cs ds same = sym (length-map ds backend_disk_actor)
       ∙ (ap length same ∙ length-map cs backend_disk_actor)
 
@@ -46,13 +44,13 @@ module _ {W D : Type 0} where
       ∙ (ap (λ (hs : List (DiskActor W D)). slice_index_or hs i d.disk_actor) (sym same)
       ∙ get_or-map backend_disk_actor ds i d d.disk_actor inside)
 
-  sum_as : (f : DiskActor W D → ℕ) (cs ds : List (Backend W D)) → SameActors cs ds
+  pub sum_as : (f : DiskActor W D → ℕ) (cs ds : List (Backend W D)) → SameActors cs ds
       → sum_by (λ (b : Backend W D). f b.disk_actor) ds
       ≡ sum_by (λ (b : Backend W D). f b.disk_actor) cs
   sum_as f cs ds same = sym (sum-mapped f backend_disk_actor ds)
       ∙ (ap (sum_by f) same ∙ sum-mapped f backend_disk_actor cs)
 
-  all_as : (P : DiskActor W D → Type 0) (cs ds : List (Backend W D)) → SameActors cs ds
+  pub all_as : (P : DiskActor W D → Type 0) (cs ds : List (Backend W D)) → SameActors cs ds
       → All (λ (b : Backend W D). P b.disk_actor) cs
       → All (λ (b : Backend W D). P b.disk_actor) ds
   all_as P cs ds same all i d lt =
@@ -114,26 +112,30 @@ module _ {W D : Type 0} (m : DiskGhosts D) (world : WorldGhosts W) (t : TableVie
   }
 
   -- the first of them has closed the queue
-  pub first_closed : (bs : List (Backend W D)) (b c : Backend W D) (counts : Counts)
-      → BackendsAreReady m world t q bs counts → b ≡ slice_index_or bs 0 b
-      → c.disk_actor ≡ b.disk_actor → c.desk ≡ b.desk → c.ring ≡ b.ring
-      → IfSome c.seat (IsSeatOf q) → is_some c.seat ≡ is_some b.seat
-      → BackendsAreReady m world t q (slice_set bs 0 c) counts
-  first_closed bs b c counts w is disk_actor desk ring seat kept =
-      let cs = slice_set bs 0 c in
-      let same = first_actor bs b c is disk_actor in
-      let results : failed_results_taken cs ≡ failed_results_taken bs =
-      sum_as (λ (h : DiskActor W D). failed_result_count h.actor.known.marks) bs cs same in record {
-        some = omega (arith, w.some, many_as bs cs same);
-        backends = All-set (IsBackend m world t q) bs 0 c
-            (first_stands b c disk_actor desk ring seat kept (subst (IsBackend m world t q) (sym is)
-            (w.backends 0 b w.some)))
-            w.backends;
-        room = least_as bs cs counts.room same w.room;
-        few_unread = omega (arith, w.few_unread, results);
-      }
+  module _ (bs : List (Backend W D)) (b c : Backend W D) (some : 1 ≤ length bs)
+      (all : All (IsBackend m world t q) bs) (is : b ≡ slice_index_or bs 0 b)
+      (disk_actor : c.disk_actor ≡ b.disk_actor) (desk : c.desk ≡ b.desk) (ring : c.ring ≡ b.ring)
+      (seat : IfSome c.seat (IsSeatOf q)) (kept : is_some c.seat ≡ is_some b.seat) where
+    pub all_stand : All (IsBackend m world t q) (slice_set bs 0 c)
+    all_stand = All-set (IsBackend m world t q) bs 0 c
+        (first_stands b c disk_actor desk ring seat kept
+        (subst (IsBackend m world t q) (sym is) (all 0 b some)))
+        all
 
-  -- after a turn, and after all rounds
+    pub first_closed : (counts : Counts) → BackendsAreReady m world t q bs counts
+        → BackendsAreReady m world t q (slice_set bs 0 c) counts
+    first_closed counts w =
+        let cs = slice_set bs 0 c in
+        let same = first_actor bs b c is disk_actor in
+        let results : failed_results_taken cs ≡ failed_results_taken bs =
+        sum_as (λ (h : DiskActor W D). failed_result_count h.actor.known.marks) bs cs same in record {
+          some = omega (arith, w.some, many_as bs cs same);
+          backends = all_stand;
+          room = least_as bs cs counts.room same w.room;
+          few_unread = omega (arith, w.few_unread, results);
+        }
+
+  -- after a turn
   module _ (bs cs ds : List (Backend W D)) (js ks : List Job) (before after : Counts)
       (same : SameActors cs ds) (ready : BackendsAreReady m world t q ds after)
       (options : (how : ListOptions) → AllHaveOptions how cs → AllHaveOptions how ds) where
@@ -153,22 +155,4 @@ module _ {W D : Type 0} (m : DiskGhosts D) (world : WorldGhosts W) (t : TableVie
       room = e.room;
       unread = e.unread;
       results_bound = omega (arith, taken, e.results_bound);
-    }
-
-    pub rounds_closed : {A : Type 0} {s : JobSourceGhosts A W} {a b : A} (out out' : ℕ)
-        → RoundsCounted m world t q s bs cs js ks a b before after out out'
-        → RoundsCounted m world t q s bs ds js ks a b before after out out'
-    rounds_closed out out' e = record {
-      ready = ready;
-      backends = many_as cs ds same ∙ e.backends;
-      places = e.places;
-      actors_advanced = rw same e.actors_advanced;
-      all_have_options = options _ e.all_have_options;
-      options_are = e.options_are;
-      filter_is = e.filter_is;
-      room = e.room;
-      results_bound = omega (arith, taken, e.results_bound);
-      more = e.more;
-      unread_raised = e.unread_raised;
-      unread_enough = e.unread_enough;
     }

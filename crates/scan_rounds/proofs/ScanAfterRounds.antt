@@ -118,11 +118,10 @@ module _ {W D : Type 0} (m : DiskGhosts D) (world : WorldGhosts W) where
       → AllWorkersServed m world s'.shared.table s'.shared.queue ws s'.workers.items
       → AllZip (DiskActorAdvanced m world s'.shared.table) (map backend_disk_actor bs)
       (map backend_disk_actor s'.backends.items) → AllHaveOptions (scan_options s')
-      s'.backends.items → length s'.backends.items ≡ length bs
-      → length s'.jobs.items ≡ length s.jobs.items → s'.opened ≡ s.opened → s'.actors ≡ s.actors
-      → s'.disks ≡ s.disks → IsScan m world s'
-  scan_again s s' bs ws is table begun served waiting workers_served advanced options many jobs
-      opened actors disks =
+      s'.backends.items → length s'.backends.items ≡ length bs → s'.opened ≡ s.opened
+      → s'.actors ≡ s.actors → s'.disks ≡ s.disks → IsScan m world s'
+  scan_again s s' bs ws is table begun served waiting workers_served advanced options many opened
+      actors disks =
       let b = ap length begun in
       let w = ap length served in
       record {
@@ -143,7 +142,6 @@ module _ {W D : Type 0} (m : DiskGhosts D) (world : WorldGhosts W) where
         all_have_options = options;
         room = waiting.room;
         few_unread = waiting.few_unread;
-        jobs_suffice = omega (arith, is.jobs_suffice);
         no_actors = rw actors is.no_actors;
         no_disks = rw disks is.no_disks;
         actors_fit = rw actors (omega (arith, workers_served.as_many, is.actors_fit));

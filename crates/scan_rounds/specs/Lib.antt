@@ -7,8 +7,10 @@ pub mod Rings
 pub mod DiskActors
 pub mod Rounds
 pub mod Progress
-pub mod JobSources
 pub mod OpenedScan
 pub mod Scans
 pub mod Calls
 pub mod Turns
+pub mod Shares
+pub mod Exchanges
+pub mod RunLeads

@@ -116,7 +116,6 @@ module _ {W D : Type 0} where
     pub rings : All (IsRingOf m.shared.queue) m.rings.items
     pub desks_are : length m.desks.items ≡ s.backends
     pub desks : All (IsDeskFor s) m.desks.items
-    pub jobs_suffice : 2 * s.backends ≤ length m.jobs.items
     pub lists : HasEmptyLists s.backends (workers_of_settings s) m.lists
 
   -- an actor with its disk has those of this number

@@ -1,7 +1,7 @@
 -- A scan between its rounds, and what its end tells.
 use Rattle.std.specs.Prelude.{◌≡◌, ℕ, ◌+◌, ◌<◌, ◌≤◌, ◌++◌, List, [], length, map, sum_by, Option}
 use Rattle.std.specs.Prelude.{Some, vec_capacity, slice_index_or, is_some, true, min, drop, ◌^◌}
-use Rattle.std.specs.Prelude.{◌-◌, ◌*◌}
+use Rattle.std.specs.Prelude.{◌-◌}
 use Rattle.std.specs.List.{All, AllZip}
 use Rattle.page_check.specs.declared.world.World.{Ghosts as WorldGhosts}
 use Rattle.aio_word.specs.declared.Config.{Config}
@@ -74,7 +74,6 @@ module _ {W D : Type 0} (m : DiskGhosts D) (world : WorldGhosts W) where
     pub room : IsLeastRoom s.backends.items s.room
     -- each job that ended in Unread has left the result of a failed I/O
     pub few_unread : s.unread ≤ failed_results_taken s.backends.items
-    pub jobs_suffice : 2 * length s.backends.items ≤ length s.jobs.items
     -- there is room for all actors and all disks at the end
     pub no_actors : s.actors.items ≡ []
     pub no_disks : s.disks.items ≡ []

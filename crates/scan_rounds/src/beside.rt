@@ -1,19 +1,24 @@
-//! Backends and workers side by side, in threads of their own: all rounds of a run, or one.
-ghost use Rattle.std.specs.Prelude.{◌≤◌, ◌+◌, ◌*◌, length};
+//! Backends and workers side by side, in threads of their own: a run, or one round.
+ghost use Rattle.std.specs.Prelude.{◌<◌, vec_capacity};
 ghost use Rattle.std.specs.List.{All};
 ghost use Rattle.std.specs.Thread.{IsSync};
-ghost use Rattle.scan_rounds.specs.JobSources.{JobSourceAdvanced, BackendsMayRunSource};
 ghost use Rattle.scan_rounds.specs.DiskActors.{WorkerMayServe, WorkerServed};
 ghost use Rattle.scan_rounds.specs.Progress.{BackendsMayTakeTurn, IsClosedByFirst, TurnTaken};
 ghost use Rattle.scan_rounds.specs.Rounds.{AllWorkersServed};
 ghost use Rattle.scan_rounds.specs.BlockFilter.{filter_of_skipping};
+ghost use Rattle.scan_rounds.specs.RunLeads.{MayLeadRun, RunLed};
+ghost use Rattle.scan_rounds.specs.Shares.{AreTermsOf};
 
 use crate::backend::Backend;
 use crate::counts::Counts;
+use crate::exchange::RunProgress;
 use crate::job::Job;
 use crate::job_source::JobSource;
+use crate::lead::lead_run;
 use crate::map_filter::MapFilter;
-use crate::rounds::{all_rounds, make_round};
+use crate::rounds::make_round;
+use crate::servers::serve_all;
+use crate::share::{ShareClient, ShareHandoff};
 use crate::shared::SharedState;
 use crate::worker::Worker;
 use aio_disk::Disk;
@@ -31,12 +36,14 @@ fn serve_one<W: World, D: Disk, R: Wait>(rt: &R, shared: &SharedState<W>, worker
     worker.run(rt, shared);
 }
 
-// Each worker serves the queue in a thread of its own, until it is closed and empty.
-fn run_workers<W: World + Send + Sync, D: Disk, R: Threads + Wait + Sync>(
+/// Each worker serves the queue until it is closed and empty, in at most so many threads.
+pub(crate) fn run_workers<W: World + Send + Sync, D: Disk, R: Threads + Wait + Sync>(
     rt: &R,
     shared: &SharedState<W>,
     workers: &mut [Worker<W, D>],
+    threads: usize,
 )
+    requires threads { 0 < threads }
     requires may { All (WorkerMayServe D.Disk W.World shared.now.table shared.now.queue)
         workers.old }
     ensures workers_served { AllWorkersServed D.Disk W.World shared.now.table
@@ -45,7 +52,7 @@ fn run_workers<W: World + Send + Sync, D: Disk, R: Threads + Wait + Sync>(
     thread::for_each_mut(
         rt,
         workers,
-        32,
+        threads,
         &|_, worker: &mut Worker<W, D>|
             requires { WorkerMayServe D.Disk W.World shared.now.table shared.now.queue worker.old }
             ensures { WorkerServed D.Disk W.World shared.entry.now.table
@@ -54,10 +61,9 @@ fn run_workers<W: World + Send + Sync, D: Disk, R: Threads + Wait + Sync>(
     );
 }
 
-/// All rounds beside the workers. Where no thread can be made, `join_mut` calls its first closure
-/// last: so the workers stand first, and then find the queue closed. What the closures hold has one
-/// lifetime, since the borrow checker takes no two in closures that name the same `W`.
-pub(crate) fn run_beside<
+// The run beside the servers of its shares. What the closures hold has one lifetime, since the
+// borrow checker takes no two in closures that name the same `W`.
+fn lead_beside_servers<
     'a,
     W: World + Send + Sync,
     D: Disk,
@@ -66,42 +72,160 @@ pub(crate) fn run_beside<
 >(
     rt: &'a R,
     shared: &'a SharedState<W>,
-    by_map: Option<MapFilter<'a>>,
-    workers: &'a mut [Worker<W, D>],
-    backends: &'a mut [Backend<W, D>],
-    jobs: &'a mut [Job],
+    by_map: &'a Option<MapFilter<'a>>,
+    handoffs: &'a [ShareHandoff<W, D>],
+    clients: &'a mut [ShareClient<W, D>],
+    spare: &'a mut Vec<Job>,
     job_source: &'a mut A,
-    counts: &'a mut Counts,
+    progress: &'a mut RunProgress,
+    backends: &'a mut Vec<Backend<W, D>>,
+)
+    requires may { MayLeadRun D.Disk W.World A.JobSource shared.now (filter_of_skipping by_map.now)
+        handoffs.now clients.old spare.old.items job_source.old backends.old.items
+        (vec_capacity backends.old) }
+    ensures led { RunLed D.Disk W.World A.JobSource shared.now.table shared.now.queue clients.old
+        backends.new.items job_source.old job_source.new progress.old progress.new }
+{
+    let mut serve = ||
+        requires { IsSync R.row × All (λ h. AreTermsOf h.key shared.now
+            (filter_of_skipping by_map.now)) handoffs.now }
+    { serve_all(rt, shared, by_map, handoffs) };
+    let mut lead = ||
+        requires { IsSync R.row × MayLeadRun D.Disk W.World A.JobSource shared.now
+            (filter_of_skipping by_map.now) handoffs.now clients.now spare.now.items job_source.now
+            backends.now.items (vec_capacity backends.now) }
+        ensures { RunLed D.Disk W.World A.JobSource shared.entry.now.table
+            shared.entry.now.queue clients.entry.now backends.exit.now.items job_source.entry.now
+            job_source.exit.now progress.entry.now progress.exit.now }
+    {
+        lead_run(
+            rt, shared, *by_map, handoffs, clients, spare, job_source, progress, backends,
+        )
+    };
+    thread::join_mut(rt, &mut serve, &mut lead);
+}
+
+// The run with the servers of its shares. A backend alone has none: the caller's thread lists its
+// shares, since nobody else takes them.
+fn lead_with_servers<W: World + Send + Sync, D: Disk, R: Threads + Wait + Sync, A: JobSource<W>>(
+    rt: &R,
+    shared: &SharedState<W>,
+    by_map: Option<MapFilter<'_>>,
+    handoffs: &[ShareHandoff<W, D>],
+    clients: &mut [ShareClient<W, D>],
+    spare: &mut Vec<Job>,
+    job_source: &mut A,
+    progress: &mut RunProgress,
+    backends: &mut Vec<Backend<W, D>>,
+)
+    requires may { MayLeadRun D.Disk W.World A.JobSource shared.now (filter_of_skipping by_map)
+        handoffs.now clients.old spare.old.items job_source.old backends.old.items
+        (vec_capacity backends.old) }
+    ensures led { RunLed D.Disk W.World A.JobSource shared.now.table shared.now.queue clients.old
+        backends.new.items job_source.old job_source.new progress.old progress.new }
+{
+    if handoffs.len() == 1 {
+        lead_run(
+            rt, shared, by_map, handoffs, clients, spare, job_source, progress, backends,
+        );
+        return;
+    }
+    // The filter is lent again, for as long as the closures are.
+    lead_beside_servers(
+        rt, shared, &by_map, handoffs, clients, spare, job_source, progress, backends,
+    );
+}
+
+// The run beside the workers. Where no thread can be made, `join_mut` calls its first closure
+// last: so the workers stand first, and then find the queue closed, as servers find their handoffs
+// closed. What the closures hold has one lifetime, since the borrow checker takes no two in
+// closures that name the same `W`.
+fn lead_beside_workers<
+    'a,
+    W: World + Send + Sync,
+    D: Disk,
+    R: Threads + Wait + Sync,
+    A: JobSource<W>,
+>(
+    rt: &'a R,
+    shared: &'a SharedState<W>,
+    by_map: &'a Option<MapFilter<'a>>,
+    workers: &'a mut [Worker<W, D>],
+    handoffs: &'a [ShareHandoff<W, D>],
+    clients: &'a mut [ShareClient<W, D>],
+    spare: &'a mut Vec<Job>,
+    job_source: &'a mut A,
+    progress: &'a mut RunProgress,
+    backends: &'a mut Vec<Backend<W, D>>,
 )
     requires serve { All (WorkerMayServe D.Disk W.World shared.now.table
         shared.now.queue) workers.old }
-    requires may { BackendsMayRunSource D.Disk W.World shared.now.table shared.now.queue
-        A.JobSource (filter_of_skipping by_map) backends.old jobs.old job_source.old counts.old }
-    requires places { 2 * length backends.old ≤ length jobs.old }
+    requires may { MayLeadRun D.Disk W.World A.JobSource shared.now (filter_of_skipping by_map.now)
+        handoffs.now clients.old spare.old.items job_source.old backends.old.items
+        (vec_capacity backends.old) }
     ensures workers_served { AllWorkersServed D.Disk W.World shared.now.table
         shared.now.queue workers.old workers.new }
-    ensures advanced { JobSourceAdvanced D.Disk W.World shared.now.table shared.now.queue
-        A.JobSource backends.old backends.new jobs.old jobs.new job_source.old job_source.new
-        counts.old counts.new }
-    ensures over { A.is_over job_source.new }
-    ensures closed { IsClosedByFirst shared.now.queue backends.new }
+    ensures led { RunLed D.Disk W.World A.JobSource shared.now.table shared.now.queue clients.old
+        backends.new.items job_source.old job_source.new progress.old progress.new }
 {
     let mut serve = ||
         requires { IsSync R.row × All (WorkerMayServe D.Disk W.World shared.now.table
             shared.now.queue) workers.now }
         ensures { AllWorkersServed D.Disk W.World shared.entry.now.table
             shared.entry.now.queue workers.entry.now workers.exit.now }
-    { run_workers(rt, shared, workers) };
-    let mut rounds = ||
-        requires { IsSync R.row × BackendsMayRunSource D.Disk W.World
-            shared.now.table shared.now.queue A.JobSource (filter_of_skipping by_map) backends.now
-            jobs.now job_source.now counts.now × (2 * length backends.now ≤ length jobs.now) }
-        ensures { JobSourceAdvanced D.Disk W.World shared.entry.now.table shared.entry.now.queue
-            A.JobSource backends.entry.now backends.exit.now jobs.entry.now jobs.exit.now
-            job_source.entry.now job_source.exit.now counts.entry.now counts.exit.now × A.is_over
-            job_source.exit.now × IsClosedByFirst shared.entry.now.queue backends.exit.now }
-    { all_rounds(rt, shared, by_map, backends, jobs, job_source, counts) };
-    thread::join_mut(rt, &mut serve, &mut rounds);
+    { run_workers(rt, shared, workers, 32) };
+    let mut lead = ||
+        requires { IsSync R.row × MayLeadRun D.Disk W.World A.JobSource shared.now
+            (filter_of_skipping by_map.now) handoffs.now clients.now spare.now.items job_source.now
+            backends.now.items (vec_capacity backends.now) }
+        ensures { RunLed D.Disk W.World A.JobSource shared.entry.now.table
+            shared.entry.now.queue clients.entry.now backends.exit.now.items job_source.entry.now
+            job_source.exit.now progress.entry.now progress.exit.now }
+    {
+        lead_with_servers(
+            rt, shared, *by_map, handoffs, clients, spare, job_source, progress, backends,
+        )
+    };
+    thread::join_mut(rt, &mut serve, &mut lead);
+}
+
+/// The run beside the workers, where there are some.
+pub(crate) fn run_beside<
+    W: World + Send + Sync,
+    D: Disk,
+    R: Threads + Wait + Sync,
+    A: JobSource<W>,
+>(
+    rt: &R,
+    shared: &SharedState<W>,
+    by_map: Option<MapFilter<'_>>,
+    workers: &mut [Worker<W, D>],
+    handoffs: &[ShareHandoff<W, D>],
+    clients: &mut [ShareClient<W, D>],
+    spare: &mut Vec<Job>,
+    job_source: &mut A,
+    progress: &mut RunProgress,
+    backends: &mut Vec<Backend<W, D>>,
+)
+    requires serve { All (WorkerMayServe D.Disk W.World shared.now.table
+        shared.now.queue) workers.old }
+    requires may { MayLeadRun D.Disk W.World A.JobSource shared.now (filter_of_skipping by_map)
+        handoffs.now clients.old spare.old.items job_source.old backends.old.items
+        (vec_capacity backends.old) }
+    ensures workers_served { AllWorkersServed D.Disk W.World shared.now.table
+        shared.now.queue workers.old workers.new }
+    ensures led { RunLed D.Disk W.World A.JobSource shared.now.table shared.now.queue clients.old
+        backends.new.items job_source.old job_source.new progress.old progress.new }
+{
+    if workers.is_empty() {
+        lead_with_servers(
+            rt, shared, by_map, handoffs, clients, spare, job_source, progress, backends,
+        );
+        return;
+    }
+    lead_beside_workers(
+        rt, shared, &by_map, workers, handoffs, clients, spare, job_source, progress, backends,
+    );
 }
 
 /// One round beside the workers, which stand first as in `run_beside`.
@@ -129,7 +253,7 @@ pub(crate) fn round_beside<'a, W: World + Send + Sync, D: Disk, R: Threads + Wai
             shared.now.queue) workers.now }
         ensures { AllWorkersServed D.Disk W.World shared.entry.now.table
             shared.entry.now.queue workers.entry.now workers.exit.now }
-    { run_workers(rt, shared, workers) };
+    { run_workers(rt, shared, workers, 32) };
     let mut round = ||
         requires { IsSync R.row × BackendsMayTakeTurn D.Disk W.World shared.now.table
             shared.now.queue 1 backends.now jobs.now counts.now }

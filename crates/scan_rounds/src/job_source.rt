@@ -1,5 +1,5 @@
-//! What a run of several rounds lists, and what becomes of it.
-ghost use Rattle.std.specs.Prelude.{◌≡◌, ◌≤◌, ◌<◌, ◌+◌, ℕ, List, [], Option, length, take, false};
+//! What a run lists, and what becomes of it.
+ghost use Rattle.std.specs.Prelude.{◌≡◌, ◌≤◌, ◌<◌, ◌+◌, ◌++◌, ℕ, List, [], Option, length, take, false};
 ghost use Rattle.std.specs.List.{All};
 ghost use Rattle.scan_rounds.specs.ListOptions.{ListOptions};
 ghost use Rattle.scan_rounds.specs.Jobs.{IsNewJob, AllJobsAnswered, job_block_count};
@@ -10,7 +10,7 @@ ghost use Rattle.scan_rounds.specs.declared.job.Job.{Job};
 use crate::job::Job;
 use page_check::World;
 
-/// Gives the jobs of a run, round by round, and takes them back when they have ended.
+/// Gives the jobs of a run, some at a time, and takes them back when they have ended.
 pub trait JobSource<W: World>: Drop {
     /// How many more blocks it asks for at most.
     ghost blocks_left: { Self → ℕ };
@@ -27,13 +27,13 @@ pub trait JobSource<W: World>: Drop {
     /// In the first state it puts these jobs, and is then in the second.
     ghost gives_jobs: { Self → List Job → Self → Type 0 };
 
-    /// Some rounds have led from the first state to the second.
+    /// Some jobs have led from the first state to the second: they were given and taken back.
     ghost follows: { Self → Self → Type 0 };
 
     /// With which options it takes blocks to be listed.
     ghost options: { Self → ListOptions };
 
-    /// It wants no further round.
+    /// It wants no further jobs.
     ghost is_over: { Self → Type 0 };
 
     /// Gives the next jobs into the first places: the answer is how many, 0 where there are none.
@@ -49,19 +49,14 @@ pub trait JobSource<W: World>: Drop {
         ensures block_filter { block_filter self.new ≡ block_filter self.old }
         ensures options { options self.new ≡ options self.old }
         ensures gives_jobs { gives_jobs self.old (take result jobs.new) self.new }
-        ensures none { result ≡ 0 → follows self.old self.new × is_over self.new
-            × ((was : Self) (asked : List Job) → gives_jobs was asked self.old
-            → gives_jobs was asked self.new) };
+        ensures over { result ≡ 0 → is_over self.new };
 
     /// Takes back the jobs that it gave first of those that are out, each with its text and its
-    /// ending. Those that it gave after them may still be out. Whether there is to be another round:
+    /// ending. Those that it gave after them may still be out. Whether it takes back these too:
     /// where not, what is out is listed in vain.
     fn finish_jobs(&mut self, jobs: &[Job]) -> bool
-        ensures follows { (was : Self) (asked : List Job) → gives_jobs was asked self.old
-            → AllJobsAnswered (block_filter self.old) (options self.old) W.told asked jobs.now
-            → follows was self.new }
-        ensures others_out { (was between : Self) (asked later : List Job)
-            → gives_jobs was asked between → gives_jobs between later self.old
+        ensures follows { (was : Self) (asked later : List Job)
+            → gives_jobs was (asked ++ later) self.old
             → AllJobsAnswered (block_filter self.old) (options self.old) W.told asked jobs.now
             → (next : Self) × follows was next × gives_jobs next later self.new }
         ensures left { blocks_left self.new ≤ blocks_left self.old }
@@ -77,9 +72,16 @@ pub trait JobSource<W: World>: Drop {
     /// To give no job changes nothing.
     ghost giving_none: { (a : Self) → gives_jobs a [] a };
 
-    /// No round leads back to the same state.
+    /// Jobs, and then further ones.
+    ghost giving_more: { (a b c : Self) (asked later : List Job) → gives_jobs a asked b
+        → gives_jobs b later c → gives_jobs a (asked ++ later) c };
+
+    /// Where no job was given, none has led on.
+    ghost giving_none_follows: { (a b : Self) → gives_jobs a [] b → follows a b };
+
+    /// No job leads back to the same state.
     ghost follows_itself: { (a : Self) → follows a a };
 
-    /// Rounds, and then further ones.
+    /// Some jobs, and then further ones.
     ghost follows_on: { (a b c : Self) → follows a b → follows b c → follows a c };
 }

@@ -5,9 +5,8 @@
 //! to one [`Job`] for each backend: each reads its blocks through a read stream, appends the text
 //! of their pages, with their tuples where the settings say so, and counts them. With
 //! `MethodKind::Sync` each backend executes its own I/Os; with `MethodKind::Worker` the workers do,
-//! and a backend executes what no worker has claimed when it would wait for it. [`Scan::run`] makes
-//! all rounds of a [`JobSource`], several of them in one turn of the backends' threads, with
-//! workers that live from the first to the last. [`Scan::finish`] closes the table, and gives the
+//! and a backend executes what no worker has claimed when it would wait for it. [`Scan::run`] lists
+//! all jobs of a [`JobSource`], by threads that live from the first job to the last. [`Scan::finish`] closes the table, and gives the
 //! disks back.
 //!
 //! With `MethodKind::Ring` it is a [`RingScan`], which has no workers: a backend that would wait
@@ -31,9 +30,11 @@ mod calls;
 mod consumer;
 mod counts;
 mod disk_actor;
+mod exchange;
 mod finish;
 mod job;
 mod job_source;
+mod lead;
 mod lent;
 mod listing;
 mod loan;
@@ -45,8 +46,12 @@ mod reading;
 mod ring;
 mod rounds;
 mod run;
+mod run_memory;
+mod run_shares;
 mod scan;
+mod servers;
 mod settings;
+mod share;
 mod shared;
 mod source;
 mod turn;

@@ -10,7 +10,6 @@ ghost use Rattle.scan_rounds.specs.OpenedScan.{workers_of_settings};
 ghost use Rattle.scan_rounds.specs.Rings.{IsRingOf};
 
 use crate::backend::Backend;
-use crate::job::Job;
 use crate::ring::IdleRingState;
 use crate::settings::ScanSettings;
 use crate::shared::SharedState;
@@ -23,10 +22,6 @@ use method_worker::{QueueSeat, SubmitQueue};
 use page_check::World;
 use read_stream::{Desk, Settings};
 use std::alloc::{AllocError, Global};
-
-/// How many jobs a backend does in one turn at most. Making a thread and waiting for it takes some
-/// 100 microseconds, and a job some 200; the text of each is kept until the turn is over.
-const TURN_JOBS: u32 = 8;
 
 /// The lists of a scan, all empty.
 #[derive(Drop)]
@@ -49,7 +44,6 @@ pub(crate) struct Memory<W: World, D: Disk> {
     // One for each backend with `MethodKind::Ring`.
     pub(crate) rings: Vec<IdleRingState<W>>,
     pub(crate) desks: Vec<Desk<W, ()>>,
-    pub(crate) jobs: Vec<Job>,
     pub(crate) lists: Lists<W, D>,
 }
 
@@ -126,30 +120,6 @@ fn open_rings<W: World>(
     Ok(rings)
 }
 
-// How many jobs there are for two turns of a run: one is listed while the text of the other is
-// written. A backend alone makes no thread for a turn, so longer turns would save it nothing.
-fn job_count(settings: &ScanSettings) -> u32
-    requires { AreValidScanSettings settings.now }
-    ensures { 2 * settings.now.backends ≤ result }
-{
-    if settings.backends == 1 {
-        2
-    } else {
-        2 * TURN_JOBS * settings.backends
-    }
-}
-
-// So many jobs that ask for nothing.
-fn open_jobs(alloc: Global, count: u32) -> Result<Vec<Job>, AllocError>
-    ensures { IfOk result (λ j. length j.items ≡ count) }
-{
-    let mut jobs = Vec::with_capacity(alloc, count as usize)?;
-    for _ in 0..count {
-        jobs.push_reserved(Job::new(alloc));
-    }
-    Ok(jobs)
-}
-
 // The table with its actors, the pool, and the queue with all its seats.
 fn open_shared<W: World>(
     alloc: Global,
@@ -208,7 +178,6 @@ impl<W: World, D: Disk> Memory<W, D> {
             seats,
             rings,
             desks: open_desks(alloc, settings)?,
-            jobs: open_jobs(alloc, job_count(settings))?,
             lists: Lists::open(alloc, settings.backends, settings.worker_count())?,
         })
     }

@@ -136,6 +136,7 @@ impl<W: World, D: Disk> Parts<W, D> {
 
 // A scan in this memory, over these disks. The handles are at generation `start`.
 fn assemble_scan<W: World, D: Disk>(
+    alloc: Global,
     settings: &ScanSettings,
     memory: Memory<W, D>,
     disks: Vec<D>,
@@ -163,7 +164,7 @@ fn assemble_scan<W: World, D: Disk>(
         shared: memory.shared,
         backends,
         workers,
-        jobs: memory.jobs,
+        alloc,
         room: LAST_GENERATION - start,
         unread: 0,
         zero: settings.zero,
@@ -176,8 +177,8 @@ fn assemble_scan<W: World, D: Disk>(
 
 impl<W: World, D: Disk> Scan<W, D> {
     /// A scan with these settings, over a disk for each backend and then for each worker. It takes
-    /// all memory that the scan ever takes, but for the texts of jobs; where there is none, the
-    /// disks come back as they are.
+    /// all memory that its rounds ever take, but for the texts of jobs; where there is none, the
+    /// disks come back as they are. A run takes memory for its shares when it begins.
     pub fn open(alloc: Global, settings: &ScanSettings, disks: Vec<D>) -> Result<Scan<W, D>, Vec<D>>
         requires settings { AreValidScanSettings settings.now }
         requires disks { length disks.items ≡ required_disks settings.now }
@@ -208,7 +209,7 @@ impl<W: World, D: Disk> Scan<W, D> {
         ensures disks_returned { IfErr result (λ d. d ≡ disks) }
     {
         match Memory::open(alloc, settings, start) {
-            Ok(memory) => Ok(assemble_scan(settings, memory, disks, start)),
+            Ok(memory) => Ok(assemble_scan(alloc, settings, memory, disks, start)),
             Err(_) => Err(disks),
         }
     }

@@ -1,5 +1,5 @@
-//! One round of a scan, and all rounds of a run, in their parts.
-ghost use Rattle.std.specs.Prelude.{◌≡◌, ◌≤◌, ◌<◌, ◌+◌, ◌*◌, length, IfSome};
+//! One round of a scan, and a whole run, in their parts.
+ghost use Rattle.std.specs.Prelude.{◌≡◌, ◌≤◌, length, IfSome};
 ghost use Rattle.std.specs.List.{All};
 ghost use Rattle.method_worker.specs.QueueViews.{IsSeatOf};
 ghost use Rattle.scan_rounds.specs.Calls.{ScanRanSource, ScanMadeRound, ScanMayRunSource};
@@ -8,11 +8,12 @@ ghost use Rattle.scan_rounds.specs.Scans.{IsOpenedAgain};
 ghost use Rattle.scan_rounds.specs.BlockFilter.{filter_of_skipping};
 
 use crate::backend::Backend;
-use crate::beside::{round_beside, run_beside};
-use crate::counts::Counts;
+use crate::beside::round_beside;
+use crate::counts::{Counts, least_room};
 use crate::job::Job;
 use crate::job_source::JobSource;
 use crate::map_filter::MapFilter;
+use crate::run_shares::run_backends;
 use crate::scan::Scan;
 use crate::shared::SharedState;
 use aio_disk::Disk;
@@ -67,11 +68,12 @@ impl<W: World + Send + Sync, D: Disk> Scan<W, D> {
         *unread = counts.unread;
     }
 
-    /// All rounds of a job source, until it is over, without the blocks that the map marks, where
-    /// there is one. They are made in turns: the first is one round, and a later one as many as
-    /// eight, of which each backend does neighbouring jobs in a thread of its own. Beside each turn
-    /// the caller's thread has the job source take back the jobs of the one before. The workers
-    /// live from the first turn to the last. It may wait.
+    /// All jobs of a job source, until it is over, without the blocks that the map marks, where
+    /// there is one. Each backend lists its share of them in a thread of its own. The caller's
+    /// thread goes from one share to the next: it gives the backend further jobs, and then has the
+    /// job source take back those that it has listed. Servers and workers live through the run; no
+    /// thread is made for a single block. Where there is no memory for the shares each job ends in
+    /// `NoMemory`. It may wait.
     pub fn run<R: Threads + Wait + Sync, A: JobSource<W>>(
         &mut self,
         rt: &R,
@@ -87,31 +89,25 @@ impl<W: World + Send + Sync, D: Disk> Scan<W, D> {
             shared,
             backends,
             workers,
-            jobs,
+            alloc,
             room,
             unread,
             ..
         } = self;
-        let backends = backends.as_mut_slice();
+        reopen_queue(shared, backends.as_mut_slice());
         let workers = workers.as_mut_slice();
-        let jobs = jobs.as_mut_slice();
-        let mut counts = Counts {
-            room: *room,
-            unread: *unread,
-        };
-        reopen_queue(shared, backends);
-        run_beside(
+        *unread = run_backends(
             rt,
+            *alloc,
             shared,
             by_map,
             workers,
             backends,
-            jobs,
             &mut job_source,
-            &mut counts,
+            *unread,
         );
-        *room = counts.room;
-        *unread = counts.unread;
+        let backends = backends.as_mut_slice();
+        *room = least_room(backends);
         job_source
     }
 }

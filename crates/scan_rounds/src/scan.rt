@@ -2,13 +2,13 @@
 ghost use Rattle.std.specs.Prelude.{◌≡◌, length};
 
 use crate::backend::Backend;
-use crate::job::Job;
 use crate::shared::SharedState;
 use crate::worker::Worker;
 use aio_callback::ReadIo;
 use aio_disk::Disk;
 use aio_handle::Actor;
 use page_check::World;
+use std::alloc::Global;
 use std::snapshot::Snapshot;
 
 /// Backends and workers over one table of handles, one pool and one submission queue.
@@ -18,8 +18,8 @@ pub struct Scan<W: World, D: Disk> {
     // In the order of the actors' numbers.
     pub(crate) backends: Vec<Backend<W, D>>,
     pub(crate) workers: Vec<Worker<W, D>>,
-    // One for each backend at least, for the turns of a run.
-    pub(crate) jobs: Vec<Job>,
+    // Where a run takes the memory of its shares.
+    pub(crate) alloc: Global,
     // The least room of the backends.
     pub(crate) room: u64,
     // How many jobs have ended in Unread.
@@ -54,7 +54,9 @@ impl<W: World, D: Disk> Scan<W, D> {
         self.backends.len()
     }
 
-    /// How many jobs of its rounds so far have ended in Unread. It stays at its last value.
+    /// How many jobs of its rounds and runs so far have ended in Unread. It stays at its last
+    /// value. A run that a fault ends may have listed jobs behind the fault: those that came back
+    /// from their threads count too.
     pub fn unread(&self) -> u64
         ensures { result ≡ self.now.unread }
     {

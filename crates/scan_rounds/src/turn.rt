@@ -17,10 +17,10 @@ use std::sync::Wait;
 use std::thread;
 use std::thread::Threads;
 
-// A backend does these jobs, at most `share`, one after the other. At run time nothing depends on
-// `share`: it is there for the contract, which allows as many lives more as that many jobs take.
+/// A backend does these jobs, at most `share`, one after the other. At run time nothing depends on
+/// `share`: it is there for the contract, which allows as many lives more as that many jobs take.
 #[cycle(jobs)]
-fn do_jobs<W: World, D: Disk, R: Wait>(
+pub(crate) fn do_jobs<W: World, D: Disk, R: Wait>(
     rt: &R,
     shared: &SharedState<W>,
     by_map: Option<MapFilter<'_>>,

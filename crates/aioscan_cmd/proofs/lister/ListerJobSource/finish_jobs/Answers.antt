@@ -1,18 +1,12 @@
 use Rattle.std.proofs.Common.{refl, rules, ◌∙◌}
-use Rattle.aioscan_cmd.proofs.ListerRoundsCompose.{listing_kept, round_written}
-use Rattle.aioscan_cmd.proofs.ListerRoundsCompose.{round_written_before}
+use Rattle.aioscan_cmd.specs.ListerLaws.{listing_kept}
+use Rattle.aioscan_cmd.proofs.ListerRoundsCompose.{cuts_before, round_written}
 use Rattle.aioscan_cmd.proofs.lister.ListerJobSource.finish_jobs.Goals as goal
 
 pub returns-in-Done-clause-follows : goal.returns-in-Done-clause-follows
-returns-in-Done-clause-follows g c = λ was asked gives_jobs answered.
-    round_written g.W.World.told g.O.Sink g.E.Sink was c.args.self.now _ asked c.args.jobs.now
-    gives_jobs answered c.in-Done.is refl refl refl refl refl
-    c.write_jobs-outcome.ensures.lists c.write_jobs-outcome.ensures.writes
-
-pub returns-in-Done-clause-others_out : goal.returns-in-Done-clause-others_out
-returns-in-Done-clause-others_out g c = λ was between asked later first second answered.
-    round_written_before g.W.World.told g.O.Sink g.E.Sink was between c.args.self.now _ asked later
-    c.args.jobs.now first second answered c.in-Done.is refl refl refl refl refl
+returns-in-Done-clause-follows g c = λ was asked later gives answered.
+    round_written g.W.World.told g.O.Sink g.E.Sink was c.args.self.now _ asked later
+    c.args.jobs.now gives answered c.in-Done.is refl refl refl refl refl
     c.write_jobs-outcome.ensures.lists c.write_jobs-outcome.ensures.writes
 
 pub returns-in-Done-clause-in_vain : goal.returns-in-Done-clause-in_vain
@@ -21,17 +15,13 @@ returns-in-Done-clause-in_vain g c = λ stops next later gives.
     (λ done. absurd (search rules))
 
 pub returns-in_default-clause-follows : goal.returns-in_default-clause-follows
-returns-in_default-clause-follows g c = λ was asked gives_jobs answered.
-    listing_kept g.W.World.told g.O.Sink g.E.Sink was c.args.self.now asked gives_jobs
-    (λ done. absurd (c.in_default.not-Done done))
-
-pub returns-in_default-clause-others_out : goal.returns-in_default-clause-others_out
-returns-in_default-clause-others_out g c = λ was between asked later first second answered. (
-  between,
-  listing_kept g.W.World.told g.O.Sink g.E.Sink was between asked first
-      (λ done. absurd (c.in_default.not-Done (second.outcome ∙ done))),
-  second,
-)
+returns-in_default-clause-follows g c = λ was asked later gives answered.
+    (let split = cuts_before was c.args.self.now asked later gives in (
+      split.0,
+      listing_kept g.W.World.told g.O.Sink g.E.Sink was split.0 asked split.1
+          (λ done. absurd (c.in_default.not-Done (split.2.outcome ∙ done))),
+      split.2,
+    ))
 
 pub returns-in_default-clause-in_vain : goal.returns-in_default-clause-in_vain
 returns-in_default-clause-in_vain g c = λ stops next later gives.

@@ -17,8 +17,6 @@ returns g c =
       rings = rings.rings c.in_ok-shared.shared.queue shared.seats.0;
       desks_are = c.in_ok-open_desks.ensures.count;
       desks = c.in_ok-open_desks.ensures.desks;
-      jobs_suffice = (let many = c.in_ok-open_jobs.ensures in
-          let each = c.job_count.ensures in omega arith);
       lists = subst (λ (n : ℕ). HasEmptyLists c.args.settings.now.backends n c.in_ok-open.field-0)
           c.worker_count.ensures c.in_ok-open.ensures;
     }

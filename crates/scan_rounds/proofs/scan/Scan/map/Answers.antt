@@ -51,7 +51,7 @@ returns g c =
             (rw backends ready) (workers_stay _ _ _ _ _ scan.all_workers)
             (rw backends (actors_advanced _ _ _ _ _ _ _ went))
             (rw backends (options_kept _ _ _ _ _ _ _ went _ scan.all_have_options))
-            (rw backends many) refl refl refl refl;
+            (rw backends many) refl refl refl;
         same = record {
           config = refl;
           as_many = rw backends many;

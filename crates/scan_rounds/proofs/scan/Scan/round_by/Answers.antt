@@ -50,7 +50,7 @@ returns g c =
         scan = scan_again _ _ c.args.self.now _ c.reopen_queue.new.backends
             c.as_mut_slice-workers.result.now may.scan r.table same (search rules)
             (rw backends a.ready) (rw workers e.workers_served) (rw backends a.actors_advanced)
-            (rw backends (a.all_have_options _ options)) (rw backends as_many) refl refl refl refl;
+            (rw backends (a.all_have_options _ options)) (rw backends as_many) refl refl refl;
         same = record {
           config = ap (λ (t : TableView). t.config) r.table;
           as_many = rw backends many;

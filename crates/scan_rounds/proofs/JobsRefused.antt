@@ -1,0 +1,100 @@
+-- Jobs that ended for want of memory, without a page.
+use Rattle.std.proofs.Common.{◌≡◌, ℕ, zero, suc, List, [], ◌∷◌, ◌++◌, length, take, refl}
+use Rattle.std.proofs.Common.{◌∙◌, sym, subst, arith, append-nil}
+use Rattle.std.specs.Prelude.{Option, Some, None, slice_index_or, slice_set, ⊤}
+use Rattle.std.specs.List.{All}
+use Rattle.std.proofs.lemmas.List.Elements.{All-nil}
+use Rattle.page_check.specs.declared.world.World.{Ghosts as WorldGhosts}
+use Rattle.page_check.specs.IsAnswer.{IsAnswer, IsGiven}
+use Rattle.page_check.specs.SynchronousAnswer.{Reader, readable_pages, reader_of}
+use Rattle.page_check.specs.Told.{Told}
+use Rattle.heap_tuple.specs.Listing.{text_with}
+use Rattle.scan_rounds.specs.BlockFilter.{BlockFilter}
+use Rattle.scan_rounds.specs.Jobs.{AllJobsAnswered, IsNewJob, JobIsListed, entries_of_job}
+use Rattle.scan_rounds.specs.Jobs.{unread_job_count}
+use Rattle.scan_rounds.specs.ListOptions.{ListOptions}
+use Rattle.scan_rounds.specs.declared.job.Ending.TheVariants as ending
+use Rattle.scan_rounds.specs.declared.job.Job.{Job}
+use Rattle.scan_rounds.specs.declared.job_source.JobSource.{Ghosts as JobSourceGhosts}
+use Rattle.scan_rounds.proofs.OutputOfPages.{no_text}
+use Rattle.scan_rounds.proofs.UnitEntries.{E, G}
+
+-- the same job, for which there is no memory
+abbrev pub refused : Job → Job
+refused j = record j { ending = ending.NoMemory }
+
+-- no page answers any blocks so far
+none_given : (found : Option Reader) (may : E → Type 0) (entries : List E)
+    → IsAnswer found may entries (record { pages = []; endings = [] })
+none_given None may entries = record {
+  first = (All-nil (λ (g : G). IsGiven g), (entries, refl));
+  endings = tt;
+}
+none_given (Some found) may entries = record {
+  first = (readable_pages found entries, refl);
+  endings = tt;
+}
+
+module _ (block_filter : Option BlockFilter) (how : ListOptions) (told : Option Told)
+    (relations : ℕ) where
+  refused_job : (j : Job) → IsNewJob relations j
+      → JobIsListed block_filter how told (λ _. ⊤) j (refused j)
+  refused_job j fresh =
+      let none = no_text (text_with how.tuples) j fresh.no_text fresh.no_warnings fresh.no_tally in
+      record {
+        same = (refl, refl, refl);
+        answer = record {
+          pages = [];
+          text_is = none.text_is;
+          warnings_are = none.warnings_are;
+          sums_are = none.sums_are;
+          answers = none_given (reader_of how.zero told) (λ _. ⊤) (entries_of_job block_filter j);
+        };
+        no_warnings = λ off. fresh.no_warnings;
+      }
+
+  -- one job, which is refused
+  pub refused_jobs : (js : List Job) (d : Job) → length js ≡ 1 → All (IsNewJob relations) js
+      → AllJobsAnswered block_filter how told js (slice_set js 0 (refused (slice_index_or js 0 d)))
+  refused_jobs (j ∷ []) d one fresh = record {
+    as_many = refl;
+    each = elim [
+      | zero ↦ λ e lt. refused_job j (fresh 0 j (omega arith))
+      | suc i ↦ λ e lt. absurd (omega arith)
+    ];
+  }
+  refused_jobs [] d one fresh = absurd (omega arith)
+  refused_jobs (j ∷ k ∷ js) d one fresh = absurd (omega arith)
+
+pub one_taken : (n : ℕ) (js : List Job) → n ≡ 1 → length js ≡ 1 → take n js ≡ js
+one_taken n (j ∷ []) is one = rw is refl
+one_taken n [] is one = absurd (omega arith)
+one_taken n (j ∷ k ∷ js) is one = absurd (omega arith)
+
+pub none_unread_refused : (js : List Job) (d : Job) → length js ≡ 1
+    → unread_job_count (slice_set js 0 (refused (slice_index_or js 0 d))) ≡ 0
+none_unread_refused (j ∷ []) d one = refl
+none_unread_refused [] d one = absurd (omega arith)
+none_unread_refused (j ∷ k ∷ js) d one = absurd (omega arith)
+
+module _ {W A : Type 0} (world : WorldGhosts W) (s : JobSourceGhosts A W)
+    (giving_none_follows : (a b : A) → s.gives_jobs a [] b → s.follows a b)
+    (follows_on : (a b c : A) → s.follows a b → s.follows b c → s.follows a c) where
+  -- what the job source has taken back then, it follows
+  pub refused_follows : (start was old now : A) (n : ℕ) (js : List Job) (d : Job) → n ≡ 1
+      → length js ≡ 1 → All (IsNewJob world.relations) (take n js)
+      → s.gives_jobs was (take n js) old → ((a : A) (asked later : List Job)
+      → s.gives_jobs a (asked ++ later) old
+      → AllJobsAnswered (s.block_filter old) (s.options old) world.told asked
+      (slice_set js 0 (refused (slice_index_or js 0 d)))
+      → (next : A) × s.follows a next × s.gives_jobs next later now) → s.follows start was
+      → s.follows start now
+  refused_follows start was old now n js d is one fresh gives finished before =
+      let all = one_taken n js is one in
+      let given : s.gives_jobs was (js ++ []) old =
+      subst (λ (ks : List Job). s.gives_jobs was ks old) (all ∙ sym (append-nil js)) gives in
+      let new = subst (All (IsNewJob world.relations)) all fresh in
+      let (next, followed, left) = finished was js [] given
+      (refused_jobs (s.block_filter old) (s.options old) world.told world.relations js d one new) in
+      follows_on start next now (follows_on start was next before followed)
+      (giving_none_follows next now left)

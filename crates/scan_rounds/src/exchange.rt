@@ -1,0 +1,268 @@
+//! The caller's thread in a run: it takes shares back and gives them out again.
+ghost use Rattle.std.specs.Prelude.{◌≡◌, ◌≤◌, ◌<◌, ◌≢◌, ℕ, [], ◌∷◌, length, take, List, Some};
+ghost use Rattle.std.specs.Prelude.{None, true};
+ghost use Rattle.std.specs.List.{All};
+ghost use Rattle.handoff.specs.HandoffViews.{IsClientOf, IsSameClient};
+ghost use Rattle.scan_rounds.specs.BlockFilter.{filter_of_skipping};
+ghost use Rattle.scan_rounds.specs.Exchanges.{AreClientsOf, ClientsHold, JobsAsked, JobsTakenBack};
+ghost use Rattle.scan_rounds.specs.Exchanges.{MayExchange};
+ghost use Rattle.scan_rounds.specs.Exchanges.{ShareStands, ShareTakenBack, SharesExchanged};
+ghost use Rattle.scan_rounds.specs.Exchanges.{NothingIsOut, SharesAdvanced, SomeGiven};
+ghost use Rattle.scan_rounds.specs.Jobs.{IsNewJob};
+ghost use Rattle.scan_rounds.specs.Shares.{AreTermsOf, ShareMayBeListed};
+ghost use Rattle.scan_rounds.specs.declared.share.Share.{Share};
+
+use crate::counts::count_unread;
+use crate::job::Job;
+use crate::job_source::JobSource;
+use crate::map_filter::MapFilter;
+use crate::share::{Share, ShareClient, ShareHandoff, list_share};
+use crate::shared::SharedState;
+use aio_disk::Disk;
+use handoff::Completion;
+use page_check::World;
+use std::mem;
+use std::sync::Wait;
+
+/// What the job source is still asked for.
+#[derive(Clone, Copy)]
+pub(crate) enum Phase {
+    /// For further jobs.
+    Asking,
+    /// To take back the jobs that are out. It has no further ones.
+    Finishing,
+    /// For nothing: what is out is listed in vain.
+    Stopped,
+}
+
+impl Phase {
+    // Whether jobs that were listed are taken back.
+    fn takes_back(self) -> bool
+        ensures { self ≢ Phase.Stopped → result ≡ true }
+    {
+        !matches!(self, Phase::Stopped)
+    }
+}
+
+/// How far a run has come.
+#[derive(Clone, Copy)]
+pub(crate) struct RunProgress {
+    pub(crate) phase: Phase,
+    /// How many jobs have ended in Unread.
+    pub(crate) unread: u64,
+}
+
+/// Takes a share back. What no server has taken is listed here, where it is wanted.
+pub(crate) fn take_share<W: World, D: Disk, R: Wait>(
+    rt: &R,
+    shared: &SharedState<W>,
+    by_map: Option<MapFilter<'_>>,
+    handoff: &ShareHandoff<W, D>,
+    client: &mut ShareClient<W, D>,
+    wanted: bool,
+) -> Share<W, D>
+    requires terms { AreTermsOf handoff.now.key shared.now (filter_of_skipping by_map) }
+    requires client { IsClientOf handoff.now client.old }
+    requires holds { client.old.requested ≢ None }
+    requires may { (s : Share W D) → client.old.requested ≡ Some s
+        → ShareMayBeListed D.Disk W.World shared.now.table shared.now.queue s }
+    ensures same { IsSameClient client.old client.new }
+    ensures idle { client.new.requested ≡ None }
+    ensures taken { (s : Share W D) → client.old.requested ≡ Some s
+        → ShareTakenBack D.Disk W.World shared.now.table shared.now.queue
+        (filter_of_skipping by_map.entry) wanted s result }
+{
+    match handoff.complete(rt, client) {
+        Completion::Reply(share) => share,
+        Completion::Request(share) => {
+            if wanted {
+                list_share(rt, shared, by_map, share)
+            } else {
+                share
+            }
+        }
+    }
+}
+
+// Asks the job source for jobs, at most so many, where it may have some.
+fn ask_jobs<W: World, A: JobSource<W>>(
+    job_source: &mut A,
+    places: &mut [Job],
+    many: usize,
+    phase: &mut Phase,
+) -> usize
+    requires places { (1 ≤ many) × (many ≤ length places.old) }
+    ensures places { length places.new ≡ length places.old }
+    ensures asked { JobsAsked W.World A.JobSource job_source.old job_source.new phase.old phase.new
+        places.new result }
+{
+    match *phase {
+        Phase::Asking => {
+            let (asked, _) = places.split_at_mut(many);
+            let count = job_source.next_jobs(asked);
+            if count == 0 {
+                *phase = Phase::Finishing;
+            }
+            count
+        }
+        _ => 0,
+    }
+}
+
+// Has the job source take back the jobs of a share, where there are some and it wants them.
+fn finish_share<W: World, A: JobSource<W>>(job_source: &mut A, jobs: &[Job], phase: &mut Phase)
+    ensures finished { JobsTakenBack W.told A.JobSource job_source.old job_source.new phase.old
+        phase.new jobs.now }
+{
+    match *phase {
+        Phase::Stopped => {}
+        _ => {
+            if !jobs.is_empty() && !job_source.finish_jobs(jobs) {
+                *phase = Phase::Stopped;
+            }
+        }
+    }
+}
+
+// How many blocks the first of so many jobs asks for: 0 where there are none.
+fn first_blocks(jobs: &[Job], count: usize) -> u32
+    requires { (relations : ℕ) × All (IsNewJob relations) (take count jobs.now)
+        × (count ≤ length jobs.now) }
+    ensures none { result ≡ 0 → count ≡ 0 }
+    ensures some { 0 < result → 0 < count }
+{
+    if count == 0 { 0 } else { jobs[0].count }
+}
+
+// Takes a share back, gives it out with the next jobs, at most so many, and then has the job
+// source take back what came. How many blocks the first of the next jobs asks for: 0 where there
+// are none.
+fn exchange_share<W: World, D: Disk, R: Wait, A: JobSource<W>>(
+    rt: &R,
+    shared: &SharedState<W>,
+    by_map: Option<MapFilter<'_>>,
+    handoff: &ShareHandoff<W, D>,
+    client: &mut ShareClient<W, D>,
+    spare: &mut Vec<Job>,
+    many: usize,
+    job_source: &mut A,
+    progress: &mut RunProgress,
+) -> u32
+    requires terms { AreTermsOf handoff.now.key shared.now (filter_of_skipping by_map) }
+    requires filter { A.block_filter job_source.old ≡ filter_of_skipping by_map }
+    requires client { IsClientOf handoff.now client.old }
+    requires holds { client.old.requested ≢ None }
+    requires stands { (s : Share W D) → client.old.requested ≡ Some s
+        → ShareStands D.Disk W.World shared.now.table shared.now.queue (length spare.old.items)
+        (A.blocks_left job_source.old) (A.options job_source.old) s }
+    requires places { (1 ≤ many) × (many ≤ length spare.old.items) }
+    ensures same { IsSameClient client.old client.new }
+    ensures places { length spare.new.items ≡ length spare.old.items }
+    ensures exchanged { (s : Share W D) → client.old.requested ≡ Some s
+        → (r : Share W D) × (client.new.requested ≡ Some r)
+        × SharesExchanged D.Disk W.World shared.now.table shared.now.queue A.JobSource
+        (length spare.old.items) (s ∷ []) (r ∷ []) job_source.old job_source.new progress.old
+        progress.new × SomeGiven A.JobSource job_source.old job_source.new (r ∷ [])
+        progress.new.phase result }
+{
+    let wanted = progress.phase.takes_back();
+    let Share {
+        backend,
+        mut jobs,
+        count: listed,
+    } = take_share(rt, shared, by_map, handoff, client, wanted);
+    mem::swap(&mut jobs, spare);
+    let count = ask_jobs(job_source, jobs.as_mut_slice(), many, &mut progress.phase);
+    let blocks = first_blocks(jobs.as_slice(), count);
+    handoff.put(
+        client,
+        Share {
+            backend,
+            jobs,
+            count,
+        },
+    );
+    let (came, _) = spare.as_slice().split_at(listed);
+    progress.unread = count_unread(progress.unread, came);
+    finish_share(job_source, came, &mut progress.phase);
+    blocks
+}
+
+/// Takes all shares back, in their order, and gives them out again with the next jobs, each with
+/// at most so many. How many blocks the first of these jobs ask for, one in each share: 0 where no
+/// jobs are out.
+#[cycle(shares)]
+pub(crate) fn exchange_all<W: World, D: Disk, R: Wait, A: JobSource<W>>(
+    rt: &R,
+    shared: &SharedState<W>,
+    by_map: Option<MapFilter<'_>>,
+    handoffs: &[ShareHandoff<W, D>],
+    clients: &mut [ShareClient<W, D>],
+    spare: &mut Vec<Job>,
+    many: usize,
+    job_source: &mut A,
+    progress: &mut RunProgress,
+) -> u32
+    requires terms { All (λ h. AreTermsOf h.key shared.now (filter_of_skipping by_map))
+        handoffs.now }
+    requires filter { A.block_filter job_source.old ≡ filter_of_skipping by_map }
+    requires clients { AreClientsOf handoffs.now clients.old }
+    requires stands { (ss : List (Share W D)) × ClientsHold clients.old ss
+        × All (ShareStands D.Disk W.World shared.now.table shared.now.queue
+        (length spare.old.items) (A.blocks_left job_source.old) (A.options job_source.old)) ss }
+    requires places { (1 ≤ many) × (many ≤ length spare.old.items) }
+    ensures clients { AreClientsOf handoffs.now clients.new }
+    ensures places { length spare.new.items ≡ length spare.old.items }
+    ensures exchanged { (ss : List (Share W D)) → ClientsHold clients.old ss
+        → (rs : List (Share W D)) × ClientsHold clients.new rs
+        × SharesExchanged D.Disk W.World shared.now.table shared.now.queue A.JobSource
+        (length spare.old.items) ss rs job_source.old job_source.new progress.old progress.new
+        × SomeGiven A.JobSource job_source.old job_source.new rs progress.new.phase result }
+{
+    let Some((client, later)) = clients.split_first_mut() else {
+        return 0;
+    };
+    let Some((handoff, others)) = handoffs.split_first() else {
+        unreachable!()
+    };
+    let first = exchange_share(
+        rt, shared, by_map, handoff, client, spare, many, job_source, progress,
+    );
+    let given = exchange_all(
+        rt, shared, by_map, others, later, spare, many, job_source, progress,
+    );
+    first.saturating_add(given)
+}
+
+/// Exchanges all shares again and again, with more jobs each time, until none has jobs.
+pub(crate) fn exchange_until_over<W: World, D: Disk, R: Wait, A: JobSource<W>>(
+    rt: &R,
+    shared: &SharedState<W>,
+    by_map: Option<MapFilter<'_>>,
+    handoffs: &[ShareHandoff<W, D>],
+    clients: &mut [ShareClient<W, D>],
+    spare: &mut Vec<Job>,
+    job_source: &mut A,
+    progress: &mut RunProgress,
+)
+    requires may { MayExchange D.Disk W.World A.JobSource shared.now (filter_of_skipping by_map)
+        handoffs.now clients.old spare.old.items job_source.old }
+    ensures clients { AreClientsOf handoffs.now clients.new }
+    ensures exchanged { (ss : List (Share W D)) → ClientsHold clients.old ss
+        → (rs : List (Share W D)) × ClientsHold clients.new rs
+        × SharesAdvanced D.Disk W.World shared.now.table shared.now.queue A.JobSource
+        (length spare.old.items) ss rs job_source.old job_source.new progress.old progress.new
+        × NothingIsOut rs progress.new.phase }
+{
+    let places = spare.len();
+    let mut many = 1;
+    loop {
+        let given = exchange_all(
+            rt, shared, by_map, handoffs, clients, spare, many, job_source, progress,
+        );
+        if given == 0 {
+            return;
+        }
+        many = places.min(many.saturating_mul(2));
+    }
+}
