@@ -88,6 +88,19 @@ fn a_ring_reads_in_its_own_order(rt: HostRuntime) -> Result<(), Fail> {
     Ok(())
 }
 
+// Two backends have shares of 1, 1, 2 and more jobs of 64 blocks each. Reads grow from 1 block to 16
+// in a share: there are 8 for one job, and 12 for two, since one stream reads both.
+#[test]
+fn one_stream_reads_the_jobs_of_a_share(rt: HostRuntime) -> Result<(), Fail> {
+    let rows = [
+        "ten jobs | f:640E | f | 0/0-639 | totals 68 | 0",
+        "the second job of a share ends early | f:330EF309E | f | 0/0-329 | invalid page 0 330 | 1",
+        "a damaged page is given as zeros | f:330EF309E | --zero-damaged f | 0/0-639 | \
+         zeroed page 0 330; totals 68 | 0",
+    ];
+    check_rows(&rt, "--method sync --backends 2 --stats", &rows)
+}
+
 #[test]
 fn an_invalid_page_behind_one_read(rt: HostRuntime) -> Result<(), Fail> {
     let rows = [

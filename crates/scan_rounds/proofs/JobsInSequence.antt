@@ -1,10 +1,11 @@
 -- Jobs that a backend does one after the other.
 use Rattle.std.proofs.Common.{◌≡◌, ℕ, zero, suc, ◌+◌, ◌-◌, ◌*◌, ◌≤◌, List, [], ◌∷◌, length, cond}
-use Rattle.std.proofs.Common.{Bool, true, false, refl, sym, ap, ◌∙◌, subst, arith}
+use Rattle.std.proofs.Common.{refl, sym, ◌∙◌, subst, arith, ◌++◌}
+use Rattle.std.proofs.Common.{length-append}
 use Rattle.std.specs.Prelude.{Option, ⊤}
-use Rattle.std.specs.List.{All}
+use Rattle.std.specs.List.{All, AllZip}
 use Rattle.std.proofs.lemmas.List.Elements.{All-cons, All-nil, All-tail}
-use Rattle.std.proofs.lemmas.List.Sums.{sum_by-cons}
+use Rattle.std.proofs.lemmas.List.Sums.{sum_by-append, sum_by-cons}
 use Rattle.std.proofs.lemmas.Grind.{div_ceil_times}
 use Rattle.std.specs.Int.{div_ceil}
 use native.Mathlib.Nat.{mul-le-mul, add-mul}
@@ -13,7 +14,6 @@ use Rattle.page_check.specs.declared.world.World.{Ghosts as WorldGhosts}
 use native.Mathlib.Decide.{dec_le}
 use Rattle.page_check.specs.SynchronousAnswer.{Entry, reader_of}
 use Rattle.page_check.specs.Told.{Told}
-use Rattle.aio_word.specs.Tokens.{failed_result_count}
 use Rattle.aio_handle.specs.ContractViews.{TableView}
 use Rattle.method_worker.specs.QueueViews.{QueueView}
 use Rattle.aio_disk.specs.declared.disk.Disk.{Ghosts as DiskGhosts}
@@ -22,14 +22,16 @@ use Rattle.scan_rounds.specs.Jobs.{IsNewJob, JobIsListed, entries_of_job, is_unr
 use Rattle.scan_rounds.specs.Jobs.{job_block_count}
 use Rattle.scan_rounds.specs.ListOptions.{ListOptions}
 use Rattle.scan_rounds.specs.BlockFilter.{BlockFilter}
-use Rattle.scan_rounds.specs.Turns.{BackendDidJob, BackendsMayDoJobs, BackendsDidJobs, ListedAlone}
+use Rattle.scan_rounds.specs.Turns.{BackendListedJobs, BackendsMayDoJobs, BackendsDidJobs}
+use Rattle.scan_rounds.specs.Turns.{ListedAlone}
 use Rattle.scan_rounds.specs.declared.backend.Backend.{Backend}
 use Rattle.scan_rounds.specs.declared.job.Job.{Job}
 use Rattle.scan_rounds.proofs.ActorsAdvance.{backend_stays, goes_then}
 use Rattle.scan_rounds.proofs.Blocks.{answer_wider}
 use Rattle.scan_rounds.proofs.LeastRoom.{fewer, left_after}
-use Rattle.read_stream.proofs.UnreadCauses.{results_more}
-use Rattle.scan_rounds.proofs.UnreadLeavesResult.{unread_counted}
+use Rattle.scan_rounds.proofs.ListPairs.{zip-append, zip-length}
+use Rattle.scan_rounds.proofs.SharesInParallel.{all_back}
+use Rattle.read_stream.specs.StreamAnswers.{MayBeUnread}
 
 -- fresh jobs are no more than their blocks
 pub few_jobs : (relations : ℕ) (js : List Job) → All (IsNewJob relations) js
@@ -73,6 +75,35 @@ anyway {block_filter} {how} {told} {may} j k is = record {
   no_warnings = is.no_warnings;
 }
 
+all_anyway : (block_filter : Option BlockFilter) (how : ListOptions) (told : Option Told)
+    (may : Entry (Unit {0}) → Type 0) (js ks : List Job)
+    → AllZip (JobIsListed block_filter how told may) js ks
+    → AllZip (JobIsListed block_filter how told (λ _. ⊤)) js ks
+all_anyway f how told may [] [] is = tt
+all_anyway f how told may [] (k ∷ ks) is = absurd is
+all_anyway f how told may (j ∷ js) [] is = absurd is
+all_anyway f how told may (j ∷ js) (k ∷ ks) is =
+    (anyway j k is.0, all_anyway f how told may js ks is.1)
+
+-- some jobs, and none behind them
+pub alone_then : {W D : Type 0} {told : Option Told} {block_filter : Option BlockFilter}
+    (b c d : Backend W D) (front back ls ks : List Job) → 1 ≤ length front
+    → AllZip (JobIsListed block_filter (backend_options b) told
+    (MayBeUnread b.disk_actor.actor c.disk_actor.actor.known)) front ls
+    → (length back ≡ 0 → d ≡ c) → length ks ≡ length back
+    → ListedAlone told block_filter b d (front ++ back) (ls ++ ks)
+alone_then b c d [] back ls ks some did unmoved same few = absurd (omega arith)
+alone_then b c d (j ∷ k ∷ js) back ls ks some did unmoved same few = absurd (omega arith)
+alone_then b c d (j ∷ []) back [] ks some did unmoved same few = absurd did
+alone_then b c d (j ∷ []) back (l ∷ m ∷ ls) ks some did unmoved same few = absurd did.1
+alone_then b c d (j ∷ []) back (l ∷ []) ks some did unmoved same few = record {
+  jobs_are = omega arith;
+  each = elim [
+    | zero ↦ λ e k lt. rw (unmoved (omega arith)) did.0
+    | suc i ↦ λ e k lt. absurd (omega arith)
+  ];
+}
+
 pub none_listed : {W D : Type 0} {told : Option Told} {block_filter : Option BlockFilter}
     (b : Backend W D) (js : List Job) → length js ≡ 0 → ListedAlone told block_filter b b js js
 none_listed b js none few = record {
@@ -95,55 +126,37 @@ module _ {W D : Type 0} (m : DiskGhosts D) (world : WorldGhosts W) (t : TableVie
     answered = λ how all. tt;
   }
 
-  module _ {block_filter : Option BlockFilter} (b c : Backend W D) (j l : Job)
-      (did : BackendDidJob m world t q block_filter b j c l) where
-    failed_more : (u : Bool) → is_unread l.ending ≡ u
-        → failed_result_count b.disk_actor.actor.known.marks + cond u 1 0
-        ≤ failed_result_count c.disk_actor.actor.known.marks
-    failed_more true is = unread_counted _ world.told _ _ _ _ did.listed is
-    failed_more false is =
-        let went = did.backend.advanced in
-        let more = results_more b.disk_actor.actor.known.marks went.more in
-        let same = ap failed_result_count went.marks in omega arith
-
-    -- a job, and none behind it
-    pub one_alone : (d : Backend W D) (js ls : List Job) → (length js ≡ 0 → d ≡ c)
-        → length ls ≡ length js → ListedAlone world.told block_filter b d (j ∷ js) (l ∷ ls)
-    one_alone d js ls unmoved same few = record {
-      jobs_are = omega arith;
-      each = elim [
-        | zero ↦ λ e k lt. rw (unmoved (omega arith)) did.listed
-        | suc i ↦ λ e k lt. absurd (omega arith)
-      ];
-    }
-
+  module _ {block_filter : Option BlockFilter} (b c : Backend W D) (front ls : List Job)
+      (did : BackendListedJobs m world t q block_filter b front c ls) where
     -- what is left of the backend's room
-    pub may_later : (share : ℕ) (js : List Job) → 1 ≤ share
-        → BackendsMayDoJobs m world t q share (b ∷ []) (j ∷ js)
-        → BackendsMayDoJobs m world t q (share - 1) (c ∷ []) js
-    may_later share js some may =
+    pub may_later : (share : ℕ) (back : List Job) → length front ≤ share
+        → BackendsMayDoJobs m world t q share (b ∷ []) (front ++ back)
+        → BackendsMayDoJobs m world t q (share - length front) (c ∷ []) back
+    may_later share back some may =
         let went = did.backend in
-        let room = left_after 64 (64 * (share - 1)) b.disk_actor.actor c.disk_actor.actor
+        let more : ℕ = share - length front in
+        let room = left_after (64 * length front) (64 * more) b.disk_actor.actor c.disk_actor.actor
         went.advanced.same (may.backends 0 b (omega arith)).backend
-        (fewer (64 + 64 * (share - 1)) (64 * share) b.disk_actor.actor (omega arith)
+        (fewer (64 * length front + 64 * more) (64 * share) b.disk_actor.actor (omega arith)
         (may.room 0 b (omega arith))) went.lives_bound in
         record {
           backends = All-cons (IsBackend m world t q) c [] went.is
               (All-nil (IsBackend m world t q));
-          room = All-cons (λ (x : Backend W D). ActorHasRoom (64 * (share - 1))
-              x.disk_actor.actor) c [] room
-              (All-nil (λ (x : Backend W D). ActorHasRoom (64 * (share - 1)) x.disk_actor.actor));
-          fresh = All-tail (IsNewJob world.relations) j js may.fresh;
+          room = All-cons (λ (x : Backend W D). ActorHasRoom (64 * more) x.disk_actor.actor) c []
+              room (All-nil (λ (x : Backend W D). ActorHasRoom (64 * more) x.disk_actor.actor));
+          fresh = all_back (IsNewJob world.relations) front back may.fresh;
         }
 
-    -- a job, and then the others
-    pub one_then : (less most : ℕ) (d : Backend W D) (js ls : List Job) → less + 64 ≤ most
-        → BackendsDidJobs m world t q block_filter less (c ∷ []) (d ∷ []) js ls
-        → BackendsDidJobs m world t q block_filter most (b ∷ []) (d ∷ []) (j ∷ js)
-        (l ∷ ls)
-    one_then less most d js ls enough is =
+    -- some jobs, and then the others
+    pub some_then : (less most : ℕ) (d : Backend W D) (back ks : List Job)
+        → less + 64 * length front ≤ most
+        → BackendsDidJobs m world t q block_filter less (c ∷ []) (d ∷ []) back ks
+        → BackendsDidJobs m world t q block_filter most (b ∷ []) (d ∷ []) (front ++ back)
+        (ls ++ ks)
+    some_then less most d back ks enough is =
         let went = did.backend in
         let on = is.backends.0 in
+        let many = zip-length _ _ _ did.listed in
         record {
           backends = (
             record {
@@ -155,18 +168,23 @@ module _ {W D : Type 0} (m : DiskGhosts D) (world : WorldGhosts W) (t : TableVie
             },
             tt,
           );
-          jobs_are = omega (arith, is.jobs_are);
+          jobs_are = omega (
+            arith,
+            is.jobs_are,
+            many,
+            length-append front back,
+            length-append ls ks,
+          );
           results_bound = (let w : Job → ℕ = λ k. length (entries_of_job block_filter k) in
-              omega (arith, is.results_bound, did.results_bound, sum_by-cons w j js));
-          unread = (let more = failed_more (is_unread l.ending) refl in
-              let w : Job → ℕ = λ k. cond (is_unread k.ending) 1 0 in
-              omega (arith, is.unread, more, sum_by-cons w l ls));
+              omega (arith, is.results_bound, did.results_bound, sum_by-append w front back));
+          unread = (let w : Job → ℕ = λ k. cond (is_unread k.ending) 1 0 in
+              omega (arith, is.unread, did.unread, sum_by-append w ls ks));
           answered = λ how all.
-              (let same = all 0 b (omega arith) in (
-                subst (λ (n : ListOptions). JobIsListed block_filter n world.told (λ _. ⊤) j l) same
-                    (anyway j l did.listed),
-                is.answered how (All-cons (λ (x : Backend W D). backend_options x ≡ how) c []
-                    (went.options_same ∙ same)
-                    (All-nil (λ (x : Backend W D). backend_options x ≡ how))),
-              ));
+              (let same = all 0 b (omega arith) in
+              zip-append (JobIsListed block_filter how world.told (λ _. ⊤)) front back ls ks
+              (subst (λ (n : ListOptions). AllZip (JobIsListed block_filter n world.told (λ _. ⊤))
+              front ls) same (all_anyway block_filter _ world.told _ front ls did.listed))
+              (is.answered how (All-cons (λ (x : Backend W D). backend_options x ≡ how) c []
+              (went.options_same ∙ same)
+              (All-nil (λ (x : Backend W D). backend_options x ≡ how)))));
         }

@@ -2,9 +2,13 @@ pub mod UnitEntries
 pub mod UnskippedCount
 pub mod Blocks
 mod ConsumerProgress
+mod NeighbouringRanges
+mod StreamsOfJobs
+mod AnswersSplit
 mod OutputOfPages
 mod MapPages
-pub mod JobListed
+mod JobsTakePages
+pub mod JobsListed
 mod JobsRefused
 mod WorkerAtRest
 mod UnreadLeavesResult

@@ -13,7 +13,7 @@ use Rattle.heap_scan.proofs.SumsOverPages.{sums_fit, sums_of-none, sums_of-push}
 use Rattle.heap_scan.specs.Sums.{FitSums, no_sums, sums_of, sums_with_page}
 use Rattle.heap_scan.specs.declared.sums.PageSums.{PageSums}
 use Rattle.scan_rounds.specs.JobOutput.{JobOutput, AnswerAppended, job_output}
-use Rattle.scan_rounds.specs.ConsumedPages.{JobHasOutput, AnswerConsumed}
+use Rattle.scan_rounds.specs.ConsumedPages.{JobHasOutput, AnswerConsumed, PagesPredicate}
 use Rattle.scan_rounds.specs.declared.job.Ending.{Ending}
 use Rattle.scan_rounds.specs.declared.job.Ending.TheVariants as ending
 use Rattle.scan_rounds.specs.declared.job.Job.{Job}
@@ -47,7 +47,7 @@ no_text text_of j empty quiet uncounted = record {
   sums_are = uncounted ∙ sym (sums_of-none (Unit {0}));
 }
 
-abbrev output_of : Job → JobOutput
+abbrev pub output_of : Job → JobOutput
 output_of j = job_output j.text.items j.warnings.items j.tally
 
 same_text : (text_of : TextOf) (j k : Job) → output_of k ≡ output_of j → (pages : List G)
@@ -77,10 +77,14 @@ shows_taken text_of (Page g) j k None shows = λ pages has. record {
 shows_taken text_of (Page g) j k (Some e) shows = (shows.0, same_text text_of j k shows.1)
 shows_taken text_of (Stop end) j k result shows = (shows.0, same_text text_of j k shows.1)
 
--- up to 64 pages and their line pointers can be counted
+-- where a page was answered, fewer than 4096 valid pages were taken
+abbrev pub HasRoom : PagesPredicate → Said (Unit {0}) → Type 0
+HasRoom holds said = IfPage said (λ _. (pages : List G) × holds pages
+    × All (λ g. IsValid g.page) pages × (length pages < 4096))
+
+-- up to 4096 pages and their line pointers can be counted
 pub next_fits : (text_of : TextOf) (j : Job) (said : Said (Unit {0})) → IfPage said IsValid
-    → IfPage said (λ _. (pages : List G) × JobHasOutput text_of j pages
-    × All (λ g. IsValid g.page) pages × (length pages < 64))
+    → HasRoom (JobHasOutput text_of j) said
     → IfPage said (λ page. FitSums (sums_with_page j.tally page))
 next_fits text_of j (Stop end) valid room = tt
 next_fits text_of j (Page g) valid (pages, has, all, few) =

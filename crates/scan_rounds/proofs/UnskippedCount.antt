@@ -16,7 +16,7 @@ use Rattle.scan_rounds.specs.declared.job.Job.{Job}
 filtered_few : {X : Type 0} (p : X → Bool) (xs : List X) → length (filter p xs) ≤ length xs
 filtered_few p xs = (let all = length-filter_both p (λ x. not (p x)) (λ x. refl) xs in omega arith)
 
-range_count : (relation first count : ℕ) → length (job_entries relation first count) ≡ count
+pub range_count : (relation first count : ℕ) → length (job_entries relation first count) ≡ count
 range_count relation first count =
     length-map (range_with_len first count) (block_entry relation)
     ∙ length-range_with_len first count

@@ -1,5 +1,6 @@
 -- What becomes of the pages that a stream gives.
 use Rattle.std.specs.Prelude.{◌≡◌, ℕ, List, ◌∷◌, [], ◌++◌, map, Bool, false, Option, Some, None}
+use Rattle.std.specs.Prelude.{take, drop, length}
 use Rattle.std.specs.List.{All}
 use Rattle.page_check.specs.IsAnswer.{IsAnswer, Next as Said, Page, Stop}
 use Rattle.page_check.specs.SynchronousAnswer.{Entry, Given, Ending as SaidEnding, reader_of}
@@ -47,6 +48,18 @@ pub record JobHasOutput (text_of : TextOf) (j : Job) (pages : List (Given (Unit 
     pub text_is : j.text.items ≡ listing text_of pages
     pub warnings_are : j.warnings.items ≡ warnings_of pages
     pub sums_are : j.tally ≡ sums_of pages
+
+-- jobs have the pages, one job after the other: each as many as it asks for blocks, and the last all
+-- that are left
+abbrev pub JobsHaveOutput : TextOf → List Job → PagesPredicate
+JobsHaveOutput text_of [] pages = pages ≡ []
+JobsHaveOutput text_of (j ∷ []) pages = JobHasOutput text_of j pages
+JobsHaveOutput text_of (j ∷ k ∷ js) pages = JobHasOutput text_of j (take j.count pages)
+    × JobsHaveOutput text_of (k ∷ js) (drop j.count pages)
+
+-- they are so many
+abbrev pub HaveTaken : TextOf → ℕ → List Job → PagesPredicate
+HaveTaken text_of taken js pages = (taken ≡ length pages) × JobsHaveOutput text_of js pages
 
 -- a map has the pages, and these are their warnings
 pub record MapHasPages (m : Map) (warnings : List ℕ) (pages : List (Given (Unit {0}))) : Type 0

@@ -1,10 +1,12 @@
 -- An actor with its disk, between its calls, and what a round makes of it.
 use Rattle.std.specs.Prelude.{◌≡◌, ℕ, ◌+◌, ◌^◌, ◌<◌, ◌≤◌, ◌++◌, Bool, List, Option, Some, None}
-use Rattle.std.specs.Prelude.{IfSome, is_some, length, true}
+use Rattle.std.specs.Prelude.{IfSome, is_some, length, true, ◌*◌, slice_index_or}
+use Rattle.std.specs.List.{All, AllZip}
 use Rattle.page_check.specs.declared.world.World.{Ghosts as WorldGhosts}
 use Rattle.page_check.specs.SynchronousAnswer.{Entry}
 use Rattle.aio_word.specs.declared.Mark.{Mark}
 use Rattle.aio_word.specs.Events.{lives_ended}
+use Rattle.aio_word.specs.Tokens.{failed_result_count}
 use Rattle.aio_handle.specs.EndStates.{HasNoOwnerTokens}
 use Rattle.aio_handle.specs.Execution.{CountersFollowMarks}
 use Rattle.aio_handle.specs.FreeHandles.{IsRoom}
@@ -17,7 +19,8 @@ use Rattle.method_worker.specs.QueueViews.{QueueView, IsSeatOf}
 use Rattle.vis_map.specs.Bits.{Map}
 use Rattle.aio_disk.specs.declared.disk.Disk.{Ghosts as DiskGhosts}
 use Rattle.scan_rounds.specs.ListOptions.{ListOptions, list_options}
-use Rattle.scan_rounds.specs.Jobs.{IsNewJob, JobIsListed, entries_of_job, answered_ending}
+use Rattle.scan_rounds.specs.Jobs.{IsNewJob, JobIsListed, answered_ending, AreWholeButLast}
+use Rattle.scan_rounds.specs.Jobs.{count_unskipped, entries_of_jobs, unread_job_count}
 use Rattle.scan_rounds.specs.BlockFilter.{BlockFilter, unskipped_range, filter_of_skipping}
 use Rattle.scan_rounds.specs.ConsumedPages.{MapHasPages, PagesPredicate, PagesConsumed}
 use Rattle.scan_rounds.specs.declared.job.Ending.{Ending}
@@ -40,6 +43,15 @@ entries_of_blocks b = unskipped_range (filter_of_skipping b.by_map) b.relation b
 abbrev pub map_blocks : ℕ → ℕ → Blocks
 map_blocks relation pages =
     record { relation = relation; first = 0; count = pages; by_map = None }
+
+-- a stream of these blocks gives those that the jobs ask for, but for those that are left out
+pub record IsStreamOfJobs (b : Blocks) (jobs : List Job) : Type 0 where
+  pub some : 1 ≤ length jobs
+  pub relation_is : (j : Job) → (slice_index_or jobs 0 j).relation ≡ b.relation
+  pub entries : entries_of_blocks b ≡ entries_of_jobs (filter_of_skipping b.by_map) jobs
+  pub whole : AreWholeButLast (filter_of_skipping b.by_map) jobs
+  pub few : (b.count ≤ 64 * length jobs) × (b.count ≤ 4096)
+  pub within : b.first + b.count ≤ 2 ^ 32
 
 -- the options with which a backend lists
 abbrev pub backend_options : {W D : Type 0} → Backend W D → ListOptions
@@ -91,26 +103,27 @@ module _ {W D : Type 0} (m : DiskGhosts D) (world : WorldGhosts W)
     pub given : PagesConsumed holds d.settings.zero world.told (MayBeUnread h.actor k.actor.known)
         (entries_of_blocks b) (answered_ending end)
 
-  -- the actor may list the job's blocks at this desk
-  pub record ActorMayList (h : DiskActor W D) (d : Desk W (Unit {0})) (j : Job) : Type 0 where
-    pub disk_actor : IsDiskActor h
-    pub backend : h.actor.known.number < h.actor.known.config.backends
-    pub room : ActorHasRoom 64 h.actor
-    pub desk : IsFreeDesk d
-    pub fresh : IsNewJob world.relations j
+  -- the actor may list these jobs at this desk, by a stream of these blocks
+  pub record ActorMayList (h : DiskActor W D) (d : Desk W (Unit {0})) (b : Blocks) (js : List Job)
+      : Type 0 where
+    pub read : ActorMayRead h d b
+    pub fresh : All (IsNewJob world.relations) js
+    pub stream : IsStreamOfJobs b js
 
-  -- it has listed those that are not left out, with their tuples or without
-  pub record ActorListedJob (block_filter : Option BlockFilter) (tuples : Bool) (h k : DiskActor W
-      D)
-      (d e : Desk W (Unit {0})) (j l : Job) : Type 0 where
+  -- it has listed those blocks that are not left out, with their tuples or without
+  pub record ActorListedJobs (block_filter : Option BlockFilter) (tuples : Bool)
+      (h k : DiskActor W D) (d e : Desk W (Unit {0})) (js ls : List Job) : Type 0 where
     pub disk_actor : IsDiskActor k
     pub advanced : DiskActorAdvanced h k
-    pub lives_bound : (n : ℕ) → lives_ended n k.actor.known.marks ≤ lives_ended n h.actor.known.marks + 64
+    pub lives_bound : (n : ℕ) → lives_ended n k.actor.known.marks
+        ≤ lives_ended n h.actor.known.marks + 64 * length js
     pub results_bound : local_mark_count k.actor.known.marks
-        ≤ local_mark_count h.actor.known.marks + length (entries_of_job block_filter j)
+        ≤ local_mark_count h.actor.known.marks + count_unskipped block_filter js
+    pub unread : failed_result_count h.actor.known.marks + unread_job_count ls
+        ≤ failed_result_count k.actor.known.marks
     pub desk : IsFreeDesk e × (e.settings.zero ≡ d.settings.zero)
-    pub listed : JobIsListed block_filter (list_options d.settings.zero tuples) world.told
-        (MayBeUnread h.actor k.actor.known) j l
+    pub listed : AllZip (JobIsListed block_filter (list_options d.settings.zero tuples) world.told
+        (MayBeUnread h.actor k.actor.known)) js ls
 
   module _ (q : QueueView) where
     pub record IsBackend (b : Backend W D) : Type 0 where

@@ -1,6 +1,7 @@
 -- What a job asks for, and what has become of it.
 use Rattle.std.specs.Prelude.{◌≡◌, ℕ, ◌+◌, ◌^◌, ◌<◌, ◌≤◌, List, [], length, count_by, sum_by}
 use Rattle.std.specs.Prelude.{Option, Some, None, Bool, true, false, slice_index_or, ⊤, cond}
+use Rattle.std.specs.Prelude.{◌++◌, ◌∷◌, ◌-◌, map, nat_le, if◌then◌else◌}
 use Rattle.page_check.specs.Told.{Told}
 use Rattle.page_check.specs.SynchronousAnswer.{Entry, reader_of, Ending as SaidEnding, End}
 use Rattle.page_check.specs.SynchronousAnswer.{Invalid as SaidInvalid, PastEnd as SaidPastEnd}
@@ -61,6 +62,43 @@ pub record IsNewJob (relations : ℕ) (j : Job) : Type 0 where
 -- the blocks that it asks for, but for those that are left out
 abbrev pub entries_of_job : Option BlockFilter → Job → List (Entry (Unit {0}))
 entries_of_job block_filter j = unskipped_range block_filter j.relation j.first j.count
+
+-- the blocks that jobs ask for, one job after the other
+abbrev pub entries_of_jobs : Option BlockFilter → List Job → List (Entry (Unit {0}))
+entries_of_jobs block_filter [] = []
+entries_of_jobs block_filter (j ∷ js) =
+    entries_of_job block_filter j ++ entries_of_jobs block_filter js
+
+-- no block of these jobs is left out, but for the last job's
+abbrev pub AreWholeButLast : Option BlockFilter → List Job → Type 0
+AreWholeButLast block_filter [] = ⊤
+AreWholeButLast block_filter (j ∷ []) = ⊤
+AreWholeButLast block_filter (j ∷ k ∷ js) =
+    (length (entries_of_job block_filter j) ≡ j.count) × AreWholeButLast block_filter (k ∷ js)
+
+-- what a job asks for, and how it has ended
+pub record JobOutline : Type 0 where
+  pub relation : ℕ
+  pub first : ℕ
+  pub count : ℕ
+  pub ending : Ending
+
+abbrev pub job_outline : Job → JobOutline
+job_outline j =
+    record { relation = j.relation; first = j.first; count = j.count; ending = j.ending }
+
+-- the job with this ending
+abbrev pub ended_job : Ending → Job → Job
+ended_job end j = record j { ending = end }
+
+-- jobs that have taken so many pages, and ended so: a job that has the pages of all its blocks has
+-- ended already, unless it is the last; the next one ends so, and nothing is listed behind it
+abbrev pub ended_jobs : List Job → ℕ → Ending → List Job
+ended_jobs [] taken end = []
+ended_jobs (j ∷ []) taken end = ended_job end j ∷ []
+ended_jobs (j ∷ k ∷ js) taken end =
+    if nat_le j.count taken then j ∷ ended_jobs (k ∷ js) (taken - j.count) end
+    else ended_job end j ∷ map (ended_job ending.NoMemory) (k ∷ js)
 
 -- how many blocks of these jobs are not left out
 abbrev pub count_unskipped : Option BlockFilter → List Job → ℕ

@@ -6,11 +6,12 @@ use Rattle.page_check.specs.declared.world.World.{Ghosts as WorldGhosts}
 use Rattle.page_check.specs.Told.{Told}
 use Rattle.aio_handle.specs.ContractViews.{TableView}
 use Rattle.method_worker.specs.QueueViews.{QueueView}
+use Rattle.aio_word.specs.Tokens.{failed_result_count}
 use Rattle.read_stream.specs.StreamAnswers.{MayBeUnread}
 use Rattle.read_stream.specs.ActorProgress.{local_mark_count}
 use Rattle.aio_disk.specs.declared.disk.Disk.{Ghosts as DiskGhosts}
 use Rattle.scan_rounds.specs.DiskActors.{IsBackend, BackendAdvanced, backend_options}
-use Rattle.scan_rounds.specs.Jobs.{IsNewJob, JobIsListed, entries_of_job, count_unskipped}
+use Rattle.scan_rounds.specs.Jobs.{IsNewJob, JobIsListed, count_unskipped}
 use Rattle.scan_rounds.specs.Jobs.{unread_job_count}
 use Rattle.scan_rounds.specs.ListOptions.{ListOptions}
 use Rattle.scan_rounds.specs.Rounds.{AllHaveOptions, AllJobsListed, AllBackendsHaveRoom}
@@ -21,14 +22,16 @@ use Rattle.scan_rounds.specs.declared.job.Job.{Job}
 
 module _ {W D : Type 0} (m : DiskGhosts D) (world : WorldGhosts W) (t : TableView)
     (q : QueueView) where
-  -- a backend that was given this job, and what has become of both
-  pub record BackendDidJob (block_filter : Option BlockFilter) (b : Backend W D) (j : Job)
-      (f : Backend W D) (l : Job) : Type 0 where
-    pub backend : BackendAdvanced m world t q 64 b f
-    pub results_bound : local_mark_count f.disk_actor.actor.known.marks
-        ≤ local_mark_count b.disk_actor.actor.known.marks + length (entries_of_job block_filter j)
-    pub listed : JobIsListed block_filter (backend_options b) world.told
-        (MayBeUnread b.disk_actor.actor f.disk_actor.actor.known) j l
+  -- a backend that was given these jobs, and what has become of all
+  pub record BackendListedJobs (block_filter : Option BlockFilter) (b : Backend W D)
+      (js : List Job) (c : Backend W D) (ls : List Job) : Type 0 where
+    pub backend : BackendAdvanced m world t q (64 * length js) b c
+    pub results_bound : local_mark_count c.disk_actor.actor.known.marks
+        ≤ local_mark_count b.disk_actor.actor.known.marks + count_unskipped block_filter js
+    pub unread : failed_result_count b.disk_actor.actor.known.marks + unread_job_count ls
+        ≤ failed_result_count c.disk_actor.actor.known.marks
+    pub listed : AllZip (JobIsListed block_filter (backend_options b) world.told
+        (MayBeUnread b.disk_actor.actor c.disk_actor.actor.known)) js ls
 
   -- each of these backends may do so many of these jobs
   pub record BackendsMayDoJobs (share : ℕ) (bs : List (Backend W D)) (js : List Job) : Type 0

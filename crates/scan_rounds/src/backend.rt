@@ -1,17 +1,19 @@
 //! A backend: an actor with its disk and its desk.
-ghost use Rattle.std.specs.Prelude.{◌≡◌, ◌<◌, [], IfSome, is_some};
+ghost use Rattle.std.specs.Prelude.{◌≡◌, ◌<◌, ◌*◌, [], IfSome, is_some, length};
+ghost use Rattle.std.specs.List.{All};
 ghost use Rattle.method_worker.specs.QueueViews.{IsSeatOf};
 ghost use Rattle.scan_rounds.specs.DiskActors.{BackendReadMap, ActorHasRoom, IsBackend};
+ghost use Rattle.scan_rounds.specs.DiskActors.{IsStreamOfJobs};
 ghost use Rattle.scan_rounds.specs.BlockFilter.{filter_of_skipping};
 ghost use Rattle.scan_rounds.specs.Jobs.{IsNewJob};
 ghost use Rattle.scan_rounds.specs.Progress.{HasClosed};
-ghost use Rattle.scan_rounds.specs.Turns.{BackendDidJob};
+ghost use Rattle.scan_rounds.specs.Turns.{BackendListedJobs};
 
 use crate::disk_actor::{DiskActor, HasDiskActor};
 use crate::job::{Ending, Job};
-use crate::map_filter::MapFilter;
 use crate::ring::IdleRingState;
 use crate::shared::SharedState;
+use crate::source::Blocks;
 use aio_disk::Disk;
 use method_sync::SyncMethod;
 use method_worker::{QueueSeat, WorkerMethod};
@@ -43,19 +45,20 @@ impl<W: World, D: Disk> HasDiskActor<W, D> for Backend<W, D> {
 }
 
 impl<W: World, D: Disk> Backend<W, D> {
-    /// Lists a job, without the blocks that are left out.
+    /// Lists jobs by one stream, which gives the blocks of all.
     pub(crate) fn list<T: Wait>(
         &mut self,
         rt: &T,
         shared: &SharedState<W>,
-        by_map: Option<MapFilter<'_>>,
-        job: &mut Job,
+        blocks: Blocks<'_>,
+        jobs: &mut [Job],
     )
         requires is { IsBackend D.Disk W.World shared.now.table shared.now.queue self.old }
-        requires room { ActorHasRoom 64 self.old.disk_actor.actor }
-        requires fresh { IsNewJob W.relations job.old }
-        ensures did_job { BackendDidJob D.Disk W.World shared.now.table shared.now.queue
-            (filter_of_skipping by_map.entry) self.old job.old self.new job.new }
+        requires room { ActorHasRoom (64 * length jobs.old) self.old.disk_actor.actor }
+        requires fresh { All (IsNewJob W.relations) jobs.old }
+        requires stream { IsStreamOfJobs blocks jobs.old }
+        ensures listed { BackendListedJobs D.Disk W.World shared.now.table shared.now.queue
+            (filter_of_skipping blocks.entry.by_map) self.old jobs.old self.new jobs.new }
     {
         let Backend {
             disk_actor,
@@ -70,7 +73,7 @@ impl<W: World, D: Disk> Backend<W, D> {
                     queue: &shared.queue,
                     seat: own,
                 };
-                disk_actor.list(rt, shared, desk, ring, &mut method, job, *tuples, by_map);
+                disk_actor.list(rt, shared, desk, ring, &mut method, blocks, jobs, *tuples);
                 *seat = Some(method.seat);
             }
             None => disk_actor.list(
@@ -79,9 +82,9 @@ impl<W: World, D: Disk> Backend<W, D> {
                 desk,
                 ring,
                 &mut SyncMethod,
-                job,
+                blocks,
+                jobs,
                 *tuples,
-                by_map,
             ),
         }
     }

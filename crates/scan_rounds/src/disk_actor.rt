@@ -1,7 +1,7 @@
 //! An actor with its disk.
 ghost use Rattle.std.specs.Prelude.{◌≡◌, ◌≤◌, IfSome, Some, []};
 ghost use Rattle.method_worker.specs.QueueViews.{IsSeatOf};
-ghost use Rattle.scan_rounds.specs.DiskActors.{DiskActorAdvanced, ActorListedJob, ActorReadBlocks};
+ghost use Rattle.scan_rounds.specs.DiskActors.{DiskActorAdvanced, ActorListedJobs, ActorReadBlocks};
 ghost use Rattle.scan_rounds.specs.DiskActors.{IsDiskActor, ActorMayList, ActorMayRead, map_blocks};
 ghost use Rattle.scan_rounds.specs.Rings.{IsRingOf};
 ghost use Rattle.scan_rounds.specs.BlockFilter.{filter_of_skipping};
@@ -11,7 +11,7 @@ ghost use Rattle.scan_rounds.specs.declared.disk_actor.DiskActor.{DiskActor};
 use crate::consumer::Consumer;
 use crate::job::{Ending, Job};
 use crate::lent::{LentRunner, QueueBrand};
-use crate::listing::Listing;
+use crate::listing::{Listing, end_jobs};
 use crate::loan::end_borrow;
 use crate::map_filter::MapFilter;
 use crate::map_pages::MapPages;
@@ -172,7 +172,8 @@ impl<W: World, D: Disk> DiskActor<W, D> {
         }
     }
 
-    /// Lists the blocks of a job that are not left out, by the ring where there is one.
+    /// Lists the blocks of some jobs, by one stream, and by the ring where there is one. The blocks
+    /// are those of the jobs, one job after the other, that are not left out.
     pub(crate) fn list<M: Method<ReadIo, W>, T: Wait>(
         &mut self,
         rt: &T,
@@ -180,28 +181,26 @@ impl<W: World, D: Disk> DiskActor<W, D> {
         desk: &mut Desk<W, ()>,
         ring: &mut Option<IdleRingState<W>>,
         method: &mut M,
-        job: &mut Job,
+        blocks: Blocks<'_>,
+        jobs: &mut [Job],
         tuples: bool,
-        by_map: Option<MapFilter<'_>>,
     )
-        requires may { ActorMayList D.Disk W.World shared.now.table self.old desk.old job.old }
+        requires may { ActorMayList D.Disk W.World shared.now.table self.old desk.old blocks
+            jobs.old }
         requires ring { IfSome ring.old (IsRingOf shared.now.queue) }
-        ensures listed { ActorListedJob D.Disk W.World shared.now.table (filter_of_skipping
-            by_map.entry) tuples self.old self.new desk.old desk.new job.old job.new }
+        ensures listed { ActorListedJobs D.Disk W.World shared.now.table (filter_of_skipping
+            blocks.entry.by_map) tuples self.old self.new desk.old desk.new jobs.old jobs.new }
         ensures ring { IfSome ring.new (IsRingOf shared.now.queue) }
         ensures stands_on { M.stands_on method.new ≡ M.stands_on method.old }
     {
-        let blocks = Blocks {
-            relation: job.relation,
-            first: job.first,
-            count: job.count,
-            by_map,
+        let mut listing = Listing {
+            jobs,
+            taken: 0,
+            tuples,
         };
-        let mut listing = Listing { job, tuples };
         let ending = self.read(rt, shared, desk, ring, method, blocks, &mut listing);
-        let Listing { job, .. } = listing;
-        job.ending = ending;
-        end_borrow(job);
+        let Listing { jobs, taken, .. } = listing;
+        end_jobs(jobs, taken, ending);
     }
 
     /// Reads so many pages of a map, and executes each I/O by itself.

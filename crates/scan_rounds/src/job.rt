@@ -16,7 +16,8 @@ pub enum Ending {
     Unread(u32),
     /// The relation has no such block; the pages before it were listed.
     PastEnd(u32),
-    /// There was no memory for a page's text or its warning; the pages before it were listed.
+    /// There was no memory for a page's text or its warning; the pages before it were listed. In a
+    /// run also: a job before it ended early, so that this one was not read.
     NoMemory,
 }
 

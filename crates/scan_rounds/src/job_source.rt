@@ -53,7 +53,8 @@ pub trait JobSource<W: World>: Drop {
 
     /// Takes back the jobs that it gave first of those that are out, each with its text and its
     /// ending. Those that it gave after them may still be out. Whether it takes back these too:
-    /// where not, what is out is listed in vain.
+    /// where not, what is out is listed in vain. A job behind one that ended early may not have been
+    /// read: it ends in `NoMemory`.
     fn finish_jobs(&mut self, jobs: &[Job]) -> bool
         ensures follows { (was : Self) (asked later : List Job)
             → gives_jobs was (asked ++ later) self.old

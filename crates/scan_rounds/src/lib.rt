@@ -41,6 +41,7 @@ mod loan;
 mod map_filter;
 mod map_pages;
 mod memory;
+mod neighbours;
 mod open;
 mod reading;
 mod ring;

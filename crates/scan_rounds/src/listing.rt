@@ -1,11 +1,16 @@
 //! Lists the pages that a stream gives for a job.
-ghost use Rattle.std.specs.Prelude.{◌≡◌, ◌++◌, None, Some, OnOk, OnErr};
+ghost use Rattle.std.specs.Prelude.{◌≡◌, ◌++◌, ◌≤◌, ◌<◌, None, Some, OnOk, OnErr, List, map};
+ghost use Rattle.std.specs.Prelude.{length};
+ghost use Rattle.std.specs.List.{All};
+ghost use Rattle.page_check.specs.SynchronousAnswer.{Given};
 ghost use Rattle.page_check.specs.Verdict.{IsValid};
 ghost use Rattle.heap_scan.specs.Sums.{FitSums, sums_with_page};
 ghost use Rattle.heap_scan.specs.Warnings.{warning_line};
 ghost use Rattle.heap_tuple.specs.Listing.{text_with};
 ghost use Rattle.read_stream.specs.StreamAnswers.{synchronous_answer};
+ghost use Rattle.scan_rounds.specs.ConsumedPages.{AnswerConsumed, HaveTaken, JobsHaveOutput};
 ghost use Rattle.scan_rounds.specs.JobOutput.{AnswerAppended, job_output};
+ghost use Rattle.scan_rounds.specs.Jobs.{ended_job, ended_jobs, job_outline};
 ghost use Rattle.page_check.specs.IsAnswer.{IfPage};
 
 use crate::consumer::Consumer;
@@ -128,40 +133,97 @@ fn show(
     }
 }
 
-/// A job that takes pages: their text, with their tuples or without, their warnings and their sums.
+/// Jobs that take pages, one job after the other: the text of the pages, with their tuples or
+/// without, their warnings and their sums.
 #[derive(Drop)]
 pub(crate) struct Listing<'j> {
-    pub(crate) job: &'j mut Job,
+    pub(crate) jobs: &'j mut [Job],
+    /// How many pages they have taken.
+    pub(crate) taken: u32,
     pub(crate) tuples: bool,
+    ghost some: { 1 ≤ length jobs.now },
+}
+
+// Appends what was answered behind so many pages to its job: a job takes as many pages as it has
+// blocks, and the last takes all the others.
+fn show_in(
+    tuples: bool,
+    relation: u32,
+    answer: Next<'_, ()>,
+    taken: u32,
+    jobs: &mut [Job],
+) -> Option<Ending>
+    requires some { 1 ≤ length jobs.old }
+    requires valid { IfPage (synchronous_answer relation answer) IsValid }
+    requires room { IfPage (synchronous_answer relation answer) (λ _.
+        (pages : List (Given (Unit {0}))) × HaveTaken (text_with tuples) taken jobs.old pages
+        × All (λ g. IsValid g.page) pages × (length pages < 4096)) }
+    ensures takes { AnswerConsumed (HaveTaken (text_with tuples) taken jobs.old)
+        (JobsHaveOutput (text_with tuples) jobs.new) (synchronous_answer relation answer.entry)
+        result }
+    ensures kept { map job_outline jobs.new ≡ map job_outline jobs.old }
+{
+    let Some((job, later)) = jobs.split_first_mut() else {
+        unreachable!()
+    };
+    if !later.is_empty() && taken >= job.count {
+        return show_in(tuples, relation, answer, taken - job.count, later);
+    }
+    let Job {
+        text,
+        warnings,
+        tally,
+        ..
+    } = job;
+    show(tuples, relation, answer, text, warnings, tally)
+}
+
+// Ends jobs that nobody lists, since one before them ended early.
+fn refuse(jobs: &mut [Job])
+    ensures { jobs.new ≡ map (ended_job Ending.NoMemory) jobs.old }
+{
+    if let Some((job, later)) = jobs.split_first_mut() {
+        job.ending = Ending::NoMemory;
+        refuse(later);
+    }
+}
+
+/// Ends the jobs, which have taken so many pages: those before the last that has taken one have
+/// all their pages, and that one ends so.
+pub(crate) fn end_jobs(jobs: &mut [Job], taken: u32, ending: Ending)
+    ensures { jobs.new ≡ ended_jobs jobs.old taken ending }
+{
+    let Some((job, later)) = jobs.split_first_mut() else {
+        return;
+    };
+    if !later.is_empty() && taken >= job.count {
+        end_jobs(later, taken - job.count, ending);
+        return;
+    }
+    job.ending = ending;
+    refuse(later);
 }
 
 impl Consumer for Listing<'_> {
     ghost use Rattle.heap_tuple.specs.Listing.{text_with};
-    ghost use Rattle.scan_rounds.specs.ConsumedPages.{JobHasOutput};
-    ghost use Rattle.std.specs.Prelude.{Bool, ℕ};
+    ghost use Rattle.scan_rounds.specs.ConsumedPages.{HaveTaken};
+    ghost use Rattle.scan_rounds.specs.Jobs.{job_outline, JobOutline};
+    ghost use Rattle.std.specs.Prelude.{Bool, ℕ, List, map};
 
-    ghost holds = { λ l pages. JobHasOutput (text_with l.tuples) l.job.now pages };
+    ghost holds = { λ l. HaveTaken (text_with l.tuples) l.taken l.jobs.now };
 
-    ghost most = { λ l. 64 };
+    ghost most = { λ l. 4096 };
 
-    // Which job is on loan, and what it asks for.
-    ghost Kept = { ℕ × Bool × ℕ × ℕ × ℕ };
+    // Which jobs are on loan, and what they ask for.
+    ghost Kept = { ℕ × Bool × List JobOutline };
 
-    ghost kept = { λ l. (
-      l.job.ghost_name,
-      l.tuples,
-      (l.job.now).relation,
-      (l.job.now).first,
-      (l.job.now).count,
-    ) };
+    ghost kept = { λ l. (l.jobs.ghost_name, l.tuples, map job_outline l.jobs.now) };
 
     fn take(&mut self, relation: u32, answer: Next<'_, ()>) -> Option<Ending> {
-        let Job {
-            text,
-            warnings,
-            tally,
-            ..
-        } = &mut *self.job;
-        show(self.tuples, relation, answer, text, warnings, tally)
+        let ending = show_in(self.tuples, relation, answer, self.taken, &mut *self.jobs);
+        if ending.is_none() {
+            self.taken += 1;
+        }
+        ending
     }
 }

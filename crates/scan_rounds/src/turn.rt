@@ -10,6 +10,7 @@ use crate::backend::Backend;
 use crate::counts::{Counts, count_unread, least_room};
 use crate::job::Job;
 use crate::map_filter::MapFilter;
+use crate::neighbours::neighbours;
 use crate::shared::SharedState;
 use aio_disk::Disk;
 use page_check::World;
@@ -38,10 +39,13 @@ pub(crate) fn do_jobs<W: World, D: Disk, R: Wait>(
         jobs.old jobs.new }
     ensures backend_same { length jobs.old ≡ 0 → backend.new ≡ backend.old }
 {
-    if let Some((job, later)) = jobs.split_first_mut() {
-        backend.list(rt, shared, by_map, job);
-        do_jobs(rt, shared, by_map, share - 1, backend, later);
+    if jobs.is_empty() {
+        return;
     }
+    let (many, blocks) = neighbours(jobs, by_map);
+    let (first, later) = jobs.split_at_mut(many);
+    backend.list(rt, shared, blocks, first);
+    do_jobs(rt, shared, by_map, share - many, backend, later);
 }
 
 // Each backend does its share of the jobs: neighbouring ones, in a thread of its own, one of them in

@@ -1,8 +1,19 @@
-use Rattle.std.proofs.Common.{refl, sym, arith, ◌*◌, ◌-◌}
+use Rattle.std.proofs.Common.{sym, arith, ◌*◌, ◌-◌, length}
+use Rattle.std.specs.Prelude.{Option}
+use Rattle.std.proofs.Common.{subst}
+use Rattle.scan_rounds.specs.BlockFilter.{filter_of_skipping}
+use Rattle.scan_rounds.specs.Turns.{BackendListedJobs}
+use Rattle.scan_rounds.specs.declared.map_filter.MapFilter.{MapFilter}
 use Rattle.scan_rounds.proofs.LeastRoom.{fewer}
-use Rattle.scan_rounds.proofs.JobsInSequence.{may_later, none_done, none_listed, one_alone}
-use Rattle.scan_rounds.proofs.JobsInSequence.{one_then}
+use Rattle.scan_rounds.proofs.JobsInSequence.{alone_then, may_later, none_done}
+use Rattle.scan_rounds.proofs.JobsInSequence.{some_then}
 use Rattle.scan_rounds.proofs.turn.+jobs.Goals as goal
+
+pub returns-then-is_empty-clause-done : goal.returns-then-is_empty-clause-done
+returns-then-is_empty-clause-done g t c =
+    none_done _ _ _ _ (64 * c.args.share) c.args.backend.now c.args.jobs.now
+    (grind arith)
+    (c.requires.may.backends 0 c.args.backend.now (omega arith))
 
 pub list-requires-clause-is : goal.list-requires-clause-is
 list-requires-clause-is g t c κs within =
@@ -10,34 +21,42 @@ list-requires-clause-is g t c κs within =
 
 pub list-requires-clause-room : goal.list-requires-clause-room
 list-requires-clause-room g t c κs within =
-    fewer 64 (64 * c.args.share) c.args.backend.now.disk_actor.actor
-    (let both = c.in-Some.ensures.cases in omega (arith, both.1, c.requires.few))
+    let cut = c.split_at_mut-first.ensures in
+    fewer (64 * length c.split_at_mut-first.result.0.now) (64 * c.args.share)
+    c.args.backend.now.disk_actor.actor
+    (omega (arith, cut.front_len, c.neighbours-many.ensures.many, c.requires.few))
     (c.requires.may.room 0 c.args.backend.now (omega arith))
 
 pub do_jobs-requires-clause-may : goal.do_jobs-requires-clause-may
 do_jobs-requires-clause-may g t c κs within =
-    let both = c.in-Some.ensures.cases in
-    may_later _ _ _ _ c.args.backend.now c.list.new.self c.in-Some.job.now c.list.new.job
-    c.list.ensures.did_job c.args.share c.in-Some.later.now
-    (omega (arith, both.1, c.requires.few)) (rw (sym both.0) c.requires.may)
+    let cut = c.split_at_mut-first.ensures in
+    rw (sym cut.front_len) (may_later _ _ _ _ c.args.backend.now c.list.new.self
+    c.split_at_mut-first.result.0.now c.list.new.jobs c.list.ensures.listed c.args.share
+    c.split_at_mut-first.result.1.now
+    (omega (arith, cut.front_len, c.neighbours-many.ensures.many, c.requires.few))
+    (rw (sym cut.value) c.requires.may))
 
-pub returns-in-Some : goal.returns-in-Some
-returns-in-Some g t c =
-    let both = c.in-Some.ensures.cases in
-    let own = c.args.backend.now in
-    let did = c.list.ensures.did_job in record {
-      done = rw both.0 (one_then _ _ _ _ own _ _ _ did (64 * (c.args.share - 1))
-          (64 * c.args.share) _ _ _ (omega (arith, both.1, c.requires.few))
-          c.do_jobs.ensures.done);
-      alone = rw both.0 (one_alone _ _ _ _ own _ _ _ did _ _ _ c.do_jobs.ensures.backend_same
-          c.do_jobs.ensures.done.jobs_are);
-      backend_same = λ none. absurd (omega (arith, both.1));
-    }
+pub returns-clause-done : goal.returns-clause-done
+returns-clause-done g t c =
+    let cut = c.split_at_mut-first.ensures in
+    let listed = subst (λ (z : Option MapFilter). BackendListedJobs g.D.Disk g.W.World
+    c.args.shared.now.table c.args.shared.now.queue (filter_of_skipping z) c.args.backend.now
+    c.split_at_mut-first.result.0.now c.list.new.self c.list.new.jobs)
+    c.neighbours-many.ensures.by_map c.list.ensures.listed in
+    rw cut.value (some_then _ _ _ _ c.args.backend.now c.list.new.self
+    c.split_at_mut-first.result.0.now c.list.new.jobs listed
+    (64 * (c.args.share - c.neighbours-many.result.0)) (64 * c.args.share) _ _ _
+    (omega (arith, cut.front_len, c.neighbours-many.ensures.many, c.requires.few))
+    c.do_jobs.ensures.done)
 
-pub returns-in_default : goal.returns-in_default
-returns-in_default g t c = record {
-  done = none_done _ _ _ _ (64 * c.args.share) c.args.backend.now c.args.jobs.now
-      c.in_default.ensures.cases (c.requires.may.backends 0 c.args.backend.now (omega arith));
-  alone = none_listed c.args.backend.now c.args.jobs.now c.in_default.ensures.cases;
-  backend_same = λ none. refl;
-}
+pub returns-clause-alone : goal.returns-clause-alone
+returns-clause-alone g t c =
+    let cut = c.split_at_mut-first.ensures in
+    let listed = subst (λ (z : Option MapFilter). BackendListedJobs g.D.Disk g.W.World
+    c.args.shared.now.table c.args.shared.now.queue (filter_of_skipping z) c.args.backend.now
+    c.split_at_mut-first.result.0.now c.list.new.self c.list.new.jobs)
+    c.neighbours-many.ensures.by_map c.list.ensures.listed in
+    rw cut.value (alone_then c.args.backend.now c.list.new.self c.do_jobs.new.backend
+    c.split_at_mut-first.result.0.now c.split_at_mut-first.result.1.now c.list.new.jobs
+    c.do_jobs.new.jobs (omega (arith, cut.front_len, c.neighbours-many.ensures.many))
+    listed.listed c.do_jobs.ensures.backend_same c.do_jobs.ensures.done.jobs_are)
