@@ -1,5 +1,5 @@
 -- Each step keeps the rule.
-use Rattle.std.proofs.Common.{◌≡◌, ℕ, zero, suc, ◌+◌, ◌*◌, ◌/◌, ◌%◌, ◌⊎◌, List, [], ◌∷◌, ◌++◌}
+use Rattle.std.proofs.Common.{◌≡◌, ℕ, zero, suc, ◌+◌, ◌*◌, ◌/◌, ◌%◌, ◌<◌, ◌⊎◌, List, [], ◌∷◌, ◌++◌}
 use Rattle.std.proofs.Common.{slice_index, set, max, sym, refl, ap, ◌∙◌, subst, ⊎_elim, inl, inr}
 use Rattle.std.proofs.Common.{append_assoc, arith}
 use Rattle.std.proofs.lemmas.Bool.Decides.{eqb_tells, leb_tells}
@@ -47,9 +47,10 @@ word_same : (ws : List ℕ) → slice_index (set ws 0 (slice_index ws 0)) 0 ≡ 
 word_same [] = refl
 word_same (w ∷ ws) = refl
 
-word_other : (ws : List ℕ) (x : ℕ) → slice_index (set ws 1 x) 0 ≡ slice_index ws 0
-word_other [] x = refl
-word_other (w ∷ ws) x = refl
+word_other : (ws : List ℕ) (i x : ℕ) → 0 < i → slice_index (set ws i x) 0 ≡ slice_index ws 0
+word_other [] i x after = refl
+word_other (w ∷ ws) zero x after = absurd (omega (arith, after))
+word_other (w ∷ ws) (suc i) x after = refl
 
 abbrev Odd : ℕ → List Notes → Type 0
 Odd n views = n % 2 ≡ 1 → SomeSeatClosed views (n / 2)
@@ -70,13 +71,14 @@ loads slots id me s kept homes at small =
       (refl, λ odd. (set s.views id w, id, here s.views id me.0 w at, after odd)),
     )
 
-pub rings : {S : Type 0} (slots id : ℕ) (me : Me S Notes) (f : ℕ → ℕ)
-    → Allows ClosingWordIsLawful slots id me 1 f (λ n w. w ≡ me)
-rings slots id me f s kept homes at small = (
+-- a step on another word
+pub others : {S : Type 0} (slots id : ℕ) (me : Me S Notes) (i : ℕ) (f : ℕ → ℕ) → 0 < i
+    → Allows ClosingWordIsLawful slots id me i f (λ n w. w ≡ me)
+others slots id me i f after s kept homes at small = (
   me.0,
   keeps,
   tt,
-  subst (λ k. Odd k (set s.views id me.0)) (sym (word_other s.words _))
+  subst (λ k. Odd k (set s.views id me.0)) (sym (word_other s.words i _ after))
       (λ odd. stays s.views id me.0 me.0 (slice_index s.words 0 / 2) at (λ k. k) (kept odd)),
   refl,
 )

@@ -5,6 +5,10 @@ use lib.ListN.{get_elem?}
 use Rattle.atomic_table.specs.Table.{State}
 use Rattle.method_worker.specs.declared.log.Notes.{Notes}
 
+-- the closing word, the bell, and a latch for each bit of the mask of idle workers
+abbrev pub word_count : ℕ
+word_count = 66
+
 abbrev pub word_notes : List ℕ → List ℕ → Notes
 word_notes closes loads = record { closes = closes; loads = loads }
 

@@ -17,12 +17,12 @@
 //! is woken, is no part of any contract.
 #![tactic(auto)]
 
+mod idle_workers;
 pub mod laws;
 mod log;
 mod method;
 mod queue;
 mod rule;
-mod sleepers;
 mod words;
 mod worker;
 

@@ -56,7 +56,7 @@ impl<'q, W: World> Method<ReadIo, W> for WorkerMethod<'q, W> {
         }
     }
 
-    /// Offers all I/Os to the workers, with one wake, before it executes what did not fit
+    /// Offers all I/Os to the workers, and wakes idle ones, before it executes what did not fit
     /// (`pgaio_worker_submit_internal`).
     fn batch_submitted<E: Execute<ReadIo, W>, T: Wait>(
         &mut self,

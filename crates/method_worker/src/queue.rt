@@ -7,12 +7,12 @@ ghost use Rattle.method_worker.specs.QueueViews.{IsNewSeat, IsSeatOf, IsSameSeat
 ghost use Rattle.method_worker.specs.SeatCalls.{RuleAllows, WasFull, SeatPushes, PopAnswers};
 ghost use Rattle.method_worker.specs.SeatCalls.{SeatCloses};
 
+use crate::idle_workers::{IdleWorkers, MOST_WORKERS, Slept};
 use crate::log::{Log, Notes};
 use crate::rule::{PushStep, QueuePass, RuledQueue, SeatSplit, pop_entry};
-use crate::sleepers::{Sleepers, Slept};
 use crate::words::{
     WordSeat, Words, close_under, heard, load_closing, open_under, open_words, ring,
-    split_word_seat, wake_all, wake_one,
+    split_word_seat,
 };
 use aio_word::WaitRef;
 use page_check::World;
@@ -49,12 +49,13 @@ pub struct SubmitQueue<W: World> {
     entries: RuledQueue<W>,
     words: Words,
     reopened: u64,
-    sleepers: Sleepers,
+    idle_workers: IdleWorkers,
 }
 
 impl<W: World> Model for SubmitQueue<W> {
     ghost use Rattle.std.specs.Prelude.{◌≡◌, ◌<◌, ◌^◌};
     ghost use Rattle.crossbeam_queue.specs.Passes.{ruled_capacity};
+    ghost use Rattle.method_worker.specs.ClosingWord.{word_count};
     ghost use Rattle.method_worker.specs.QueueViews.{QueueView};
 
     ghost Value = { QueueView };
@@ -65,8 +66,8 @@ impl<W: World> Model for SubmitQueue<W> {
       reopened = q.reopened;
     } };
 
-    ghost invariant = { λ q. (ruled_capacity q.entries ≡ 64) × (q.words.shared.table_id.words ≡ 2)
-        × (q.reopened < 2 ^ 63) };
+    ghost invariant = { λ q. (ruled_capacity q.entries ≡ 64)
+        × (q.words.shared.table_id.words ≡ word_count) × (q.reopened < 2 ^ 63) };
 }
 
 /// A seat of a queue: who pushes and pops, one thread at a time. Contracts see what it has pushed
@@ -76,6 +77,8 @@ impl<W: World> Model for SubmitQueue<W> {
 pub struct QueueSeat {
     pass: QueuePass,
     word_seat: WordSeat,
+    // Each seat of a queue has another, so that its worker has a bit and a latch of its own.
+    number: u32,
 }
 
 impl Model for QueueSeat {
@@ -88,7 +91,7 @@ impl Model for QueueSeat {
         s.word_seat.me.0 };
 
     ghost invariant = { λ s. (s.pass.me.1 ≡ []) × (0 < s.pass.me.0.client.parts)
-        × (s.word_seat.me.1 ≡ []) };
+        × (s.word_seat.me.1 ≡ []) × (s.number < 48) };
 }
 
 impl<W: World> SubmitQueue<W> {
@@ -107,21 +110,26 @@ impl<W: World> SubmitQueue<W> {
             entries,
             words,
             reopened: 0,
-            sleepers: Sleepers::new(),
+            idle_workers: IdleWorkers::none(),
         };
-        let mut first = QueueSeat { pass, word_seat };
-        for _ in 1..seats {
-            let seat = queue.seat(&mut first);
+        let mut first = QueueSeat {
+            pass,
+            word_seat,
+            number: 0,
+        };
+        for number in 1..seats {
+            let seat = queue.seat(&mut first, number);
             all.push_reserved(seat);
         }
         all.push_reserved(first);
         Ok((queue, all))
     }
 
-    // A further seat, for one of the parts of this one.
-    fn seat(&self, first: &mut QueueSeat) -> QueueSeat
+    // A further seat with this number, for one of the parts of the first.
+    fn seat(&self, first: &mut QueueSeat, number: u32) -> QueueSeat
         requires queue { IsSeatOf self.now first.old }
         requires parts { 1 < first.old.parts }
+        requires number { number < 48 }
         ensures queue { IsSeatOf self.now first.new }
         ensures parts { first.new.parts + 1 ≡ first.old.parts }
         ensures same { (first.new.pushes ≡ first.old.pushes) × (first.new.pops ≡ first.old.pops)
@@ -131,10 +139,11 @@ impl<W: World> SubmitQueue<W> {
         QueueSeat {
             pass: self.entries.another::<SeatSplit>(&mut first.pass),
             word_seat: split_word_seat(&self.words, &mut first.word_seat),
+            number,
         }
     }
 
-    /// Puts the reference at the back, and wakes one worker, where one sleeps.
+    /// Puts the reference at the back, and wakes one idle worker, where there is one.
     ///
     /// `QueueFull` comes only where at some moment of the call 64 entries stood in the queue; it
     /// gives the reference back, and nothing is changed.
@@ -155,14 +164,14 @@ impl<W: World> SubmitQueue<W> {
     {
         let answer = self.put(rt, seat, reference);
         if answer.is_ok() {
-            self.wake(seat, false);
+            self.wake(seat, 1);
         }
         answer
     }
 
     /// Puts the references at the back in their order, up to the first for which there is no room,
-    /// and then wakes workers that sleep: one for one entry, and else all of them. It makes one
-    /// system call at most. The answer is how many references it has put there.
+    /// and then wakes as many idle workers as it has put entries. It makes at most one system call
+    /// for each. The answer is how many references it has put there.
     pub fn push_all<T: Wait>(&self, rt: &T, seat: &mut QueueSeat, references: &[WaitRef]) -> usize
         requires queue { IsSeatOf self.now seat.old }
         requires range { All (λ t. t.handle < W.handles) references.now }
@@ -173,7 +182,7 @@ impl<W: World> SubmitQueue<W> {
     {
         let pushed = self.put_all(rt, seat, references);
         if pushed > 0 {
-            self.wake(seat, pushed > 1);
+            self.wake(seat, pushed);
         }
         pushed
     }
@@ -221,20 +230,14 @@ impl<W: World> SubmitQueue<W> {
         Ok(())
     }
 
-    // Raises the bell behind new entries, and then wakes one worker or all, where some sleep.
-    fn wake(&self, seat: &mut QueueSeat, all: bool)
+    // Raises the bell, and then wakes idle workers, at most so many.
+    fn wake(&self, seat: &mut QueueSeat, most: usize)
         requires queue { IsSeatOf self.now seat.old }
         ensures seat { seat.new ≡ seat.old }
     {
         let ring = ring(&self.words, &mut seat.word_seat);
-        if self.sleepers.are_none(&ring) {
-            return;
-        }
-        if all {
-            wake_all(&self.words);
-        } else {
-            wake_one(&self.words);
-        }
+        self.idle_workers
+            .wake(&ring, &self.words, &mut seat.word_seat, most);
     }
 
     /// Takes the oldest entry (`pgaio_worker_submission_queue_consume`).
@@ -257,7 +260,7 @@ impl<W: World> SubmitQueue<W> {
         Pop::Empty
     }
 
-    /// Closes the queue, and wakes all workers that sleep. Entries stay and are still popped. A
+    /// Closes the queue, and wakes all idle workers. Entries stay and are still popped. A
     /// queue that is closed stays so.
     pub fn close<T: Wait>(&self, rt: &T, seat: &mut QueueSeat)
         requires queue { IsSeatOf self.now seat.old }
@@ -266,7 +269,7 @@ impl<W: World> SubmitQueue<W> {
     {
         let _ = rt;
         close_under(&self.words, &mut seat.word_seat, self.reopened);
-        self.wake(seat, true);
+        self.wake(seat, MOST_WORKERS);
     }
 
     /// Opens the queue again. Its entries stay. Reopenings are counted up to 2^63 - 1.
@@ -287,8 +290,11 @@ impl<W: World> SubmitQueue<W> {
         heard(&self.words)
     }
 
-    /// Sleeps until a push or a close since this bell was read, or a wake for no reason.
-    pub(crate) fn rest<T: Wait>(&self, rt: &T, bell: u64) -> Slept {
-        self.sleepers.sleep(rt, &self.words, bell)
+    /// Rests as an idle worker, until a push or a close chooses to wake it, or for no reason. It
+    /// does not sleep where a push or a close came since this bell was read.
+    pub(crate) fn rest<T: Wait>(&self, rt: &T, seat: &QueueSeat, bell: u64) -> Slept
+        requires queue { IsSeatOf self.now seat.now }
+    {
+        self.idle_workers.rest(rt, &self.words, seat.number, bell)
     }
 }

@@ -1,6 +1,6 @@
-//! The closing word and the bell.
+//! The closing word, the bell and the latches.
 ghost use Rattle.std.specs.Prelude.{◌≡◌, ◌<◌, ◌^◌, ◌/◌, ◌%◌, ◌++◌, ◌∷◌, [], IfOk};
-ghost use Rattle.method_worker.specs.ClosingWord.{word_notes, ClosingWordHasCloser};
+ghost use Rattle.method_worker.specs.ClosingWord.{word_count, word_notes, ClosingWordHasCloser};
 
 use crate::log::Notes;
 use atomic_table::{Play, Seat, Split, Table, TableRule};
@@ -13,7 +13,11 @@ const CLOSING: usize = 0;
 /// The bell is raised after each push and each close.
 const BELL: usize = 1;
 
-const FIRST: [u64; 2] = [0, 0];
+/// Here the workers' latches begin: 64 of them, as the mask of idle workers has bits. A latch
+/// changes before each wake of its worker.
+const LATCHES: usize = 2;
+
+const FIRST: [u64; 66] = [0; 66];
 
 /// The closing word is odd only where some seat has closed the queue under its number.
 pub(crate) struct ClosingRule;
@@ -49,7 +53,7 @@ impl Play<(), Notes> for CloseStep {
         × (s.first % 2 ≡ 1) };
 }
 
-/// A reopening and a ring of the bell note nothing.
+/// A reopening, a ring of the bell and a change of a latch note nothing.
 struct SilentStep;
 
 impl Play<(), Notes> for SilentStep {
@@ -76,7 +80,7 @@ pub(crate) type WordSeat = Seat<(), Notes>;
 
 pub(crate) fn open_words(alloc: Global) -> Result<(Words, WordSeat), AllocError>
     ensures { IfOk result
-        (λ t. (t.1.table_id ≡ t.0.shared.table_id) × (t.0.shared.table_id.words ≡ 2)
+        (λ t. (t.1.table_id ≡ t.0.shared.table_id) × (t.0.shared.table_id.words ≡ word_count)
         × (t.1.me ≡ (word_notes [] [], []))) }
 {
     Table::of_words(alloc, FIRST.as_slice(), &())
@@ -85,7 +89,7 @@ pub(crate) fn open_words(alloc: Global) -> Result<(Words, WordSeat), AllocError>
 /// A further seat on the words.
 pub(crate) fn split_word_seat(words: &Words, seat: &mut WordSeat) -> WordSeat
     requires same_table { (seat.old.table_id ≡ words.now.shared.table_id)
-        × (words.now.shared.table_id.words ≡ 2) }
+        × (words.now.shared.table_id.words ≡ word_count) }
     ensures same { (seat.new.table_id ≡ seat.old.table_id) × (seat.new.me ≡ seat.old.me) }
     ensures new { (result.table_id ≡ seat.old.table_id) × (result.me ≡ (word_notes [] [], [])) }
 {
@@ -109,7 +113,7 @@ impl ClosingWord {
 /// Reads the closing word.
 pub(crate) fn load_closing(words: &Words, seat: &mut WordSeat) -> ClosingWord
     requires same_table { (seat.old.table_id ≡ words.now.shared.table_id)
-        × (words.now.shared.table_id.words ≡ 2) }
+        × (words.now.shared.table_id.words ≡ word_count) }
     ensures same { seat.new.table_id ≡ seat.old.table_id }
     ensures notes_are { seat.new.me
         ≡ (
@@ -126,7 +130,7 @@ pub(crate) fn load_closing(words: &Words, seat: &mut WordSeat) -> ClosingWord
 /// Closes under this number of reopenings.
 pub(crate) fn close_under(words: &Words, seat: &mut WordSeat, number: u64)
     requires same_table { (seat.old.table_id ≡ words.now.shared.table_id)
-        × (words.now.shared.table_id.words ≡ 2) }
+        × (words.now.shared.table_id.words ≡ word_count) }
     requires few { number < 2 ^ 63 }
     ensures same { seat.new.table_id ≡ seat.old.table_id }
     ensures notes_are { seat.new.me
@@ -141,7 +145,7 @@ pub(crate) fn close_under(words: &Words, seat: &mut WordSeat, number: u64)
 /// pop could open a queue that another has closed.
 pub(crate) fn open_under(words: &mut Words, seat: &mut WordSeat, number: u64)
     requires same_table { (seat.old.table_id ≡ words.old.shared.table_id)
-        × (words.old.shared.table_id.words ≡ 2) }
+        × (words.old.shared.table_id.words ≡ word_count) }
     requires few { number < 2 ^ 63 }
     ensures same { (seat.new.table_id ≡ seat.old.table_id) × (seat.new.me ≡ seat.old.me) }
     ensures words { words.new ≡ words.old }
@@ -156,7 +160,7 @@ pub(crate) struct BellRing(());
 /// Raises the bell, wrapping.
 pub(crate) fn ring(words: &Words, seat: &mut WordSeat) -> BellRing
     requires same_table { (seat.old.table_id ≡ words.now.shared.table_id)
-        × (words.now.shared.table_id.words ≡ 2) }
+        × (words.now.shared.table_id.words ≡ word_count) }
     ensures same { (seat.new.table_id ≡ seat.old.table_id) × (seat.new.me ≡ seat.old.me) }
 {
     words.shared.fetch_add::<SilentStep>(seat, BELL, 1);
@@ -165,26 +169,38 @@ pub(crate) fn ring(words: &Words, seat: &mut WordSeat) -> BellRing
 
 /// The bell.
 pub(crate) fn heard(words: &Words) -> u64
-    requires { words.now.shared.table_id.words ≡ 2 }
+    requires { words.now.shared.table_id.words ≡ word_count }
 {
     words.shared.peek(BELL)
 }
 
-/// Sleeps while the bell's low 32 bits are those of this number, until a wake.
-pub(crate) fn sleep<T: Wait>(rt: &T, words: &Words, bell: u64)
-    requires { words.now.shared.table_id.words ≡ 2 }
+/// What stands in this worker's latch.
+pub(crate) fn latch(words: &Words, worker: u32) -> u64
+    requires words { words.now.shared.table_id.words ≡ word_count }
+    requires worker { worker < 64 }
 {
-    words.shared.park(rt, BELL, (bell % (1 << 32)) as u32);
+    words.shared.peek(LATCHES + worker as usize)
 }
 
-pub(crate) fn wake_one(words: &Words)
-    requires { words.now.shared.table_id.words ≡ 2 }
+/// Sleeps while the low 32 bits of this worker's latch are those of this number, until a wake.
+pub(crate) fn sleep<T: Wait>(rt: &T, words: &Words, worker: u32, latch: u64)
+    requires words { words.now.shared.table_id.words ≡ word_count }
+    requires worker { worker < 64 }
 {
-    words.shared.wake_one(BELL);
+    words
+        .shared
+        .park(rt, LATCHES + worker as usize, (latch % (1 << 32)) as u32);
 }
 
-pub(crate) fn wake_all(words: &Words)
-    requires { words.now.shared.table_id.words ≡ 2 }
+/// Changes this worker's latch, and wakes the worker where it sleeps (`SetLatch`). Where it has
+/// read its latch but does not sleep yet, it does not fall asleep.
+pub(crate) fn set_latch(words: &Words, seat: &mut WordSeat, worker: u32)
+    requires same_table { (seat.old.table_id ≡ words.now.shared.table_id)
+        × (words.now.shared.table_id.words ≡ word_count) }
+    requires worker { worker < 64 }
+    ensures same { (seat.new.table_id ≡ seat.old.table_id) × (seat.new.me ≡ seat.old.me) }
 {
-    words.shared.wake_all(BELL);
+    let word = LATCHES + worker as usize;
+    words.shared.fetch_add::<SilentStep>(seat, word, 1);
+    words.shared.wake_one(word);
 }

@@ -5,8 +5,8 @@ ghost use Rattle.aio_handle.specs.ContractViews.{IsActorOf, IsSameActor};
 ghost use Rattle.method_worker.specs.QueueViews.{IsSeatOf, IsSameSeat};
 ghost use Rattle.method_worker.specs.WorkerSteps.{WorkerStep, WorksUntilClosed, worker_state};
 
+use crate::idle_workers::Slept;
 use crate::queue::{Pop, QueueSeat, SubmitQueue};
-use crate::sleepers::Slept;
 use aio_callback::ReadIo;
 use aio_handle::{Actor, Execute, Table};
 use page_check::World;
@@ -52,7 +52,7 @@ fn turn<W: World, E: Execute<ReadIo, W>, T: Wait>(
             table.try_execute(rt, actor, reference, runner);
             Step::Tried
         }
-        Pop::Empty => Step::Rested(queue.rest(rt, bell)),
+        Pop::Empty => Step::Rested(queue.rest(rt, seat, bell)),
         Pop::Closed => Step::Closed,
     }
 }

@@ -1,4 +1,4 @@
-//! Workers that sleep, and are woken by one batch.
+//! Two workers that sleep, and are both woken: by one batch, by two pushes, and by the close.
 ghost use Rattle.std.specs.Prelude.{◌≡◌, ◌≤◌, ◌<◌, None};
 ghost use Rattle.aio_handle.specs.ContractViews.{IsActorOf};
 ghost use Rattle.method_worker.specs.QueueViews.{IsSeatOf};
@@ -78,14 +78,40 @@ fn work_and_meet<W: World, T: Wait>(
     executor.whole.calls
 }
 
-/// Pushes two I/Os by one call after so many turns, waits until both have ended, and closes the
-/// queue.
-fn push_both<W: World, T: Wait>(
+/// How two I/Os are pushed.
+#[derive(Clone, Copy)]
+enum Pushes {
+    /// By one call.
+    Together,
+    /// The second right after the first.
+    OneByOne,
+}
+
+fn push_two<W: World, T: Wait>(rt: &T, queue: &SubmitQueue<W>, seat: &mut QueueSeat, pushes: Pushes)
+    requires queue { IsSeatOf queue.now seat.old }
+    requires range { 2 ≤ W.handles }
+    ensures { IsSeatOf queue.now seat.new }
+{
+    match pushes {
+        Pushes::Together => {
+            queue.push_all(rt, seat, &[first_life(0), first_life(1)]);
+        }
+        Pushes::OneByOne => {
+            queue.push(rt, seat, first_life(0)).ok();
+            queue.push(rt, seat, first_life(1)).ok();
+        }
+    }
+}
+
+/// Pushes two I/Os after so many turns, waits until both have ended, and closes the queue after as
+/// many turns again.
+fn push_and_close<W: World, T: Wait>(
     rt: &T,
     queue: &SubmitQueue<W>,
     mut seat: QueueSeat,
     table: &Table<ReadIo, W>,
     mut owner: Actor<ReadIo, W>,
+    pushes: Pushes,
     turns: u32,
 )
     requires queue { IsSeatOf queue.now seat }
@@ -93,16 +119,18 @@ fn push_both<W: World, T: Wait>(
     requires range { 2 ≤ W.handles }
 {
     give_up_turns(turns);
-    queue.push_all(rt, &mut seat, &[first_life(0), first_life(1)]);
+    push_two(rt, queue, &mut seat, pushes);
     look_until_done(rt, table, &mut owner, first_life(0));
     look_until_done(rt, table, &mut owner, first_life(1));
+    give_up_turns(turns);
     queue.close(rt, &mut seat);
 }
 
-/// Two workers over two reads that are pushed by one call: how many each has executed.
+/// Two workers over two reads, each of which waits for the other: how many each has executed.
 fn wake_two<W: World + Send + Sync, T: Threads + Wait + Sync>(
     rt: &T,
     alloc: Global,
+    pushes: Pushes,
     turns: u32,
 ) -> Result<Option<(u64, u64)>, AllocError>
     requires handles { W.handles ≡ 2 }
@@ -156,16 +184,26 @@ fn wake_two<W: World + Send + Sync, T: Threads + Wait + Sync>(
         },
         ||
             requires { IsSeatOf queue.now waker × IsActorOf table.now owner × (W.handles ≡ 2) }
-        { push_both(rt, queue, waker, table, owner, turns) },
+        { push_and_close(rt, queue, waker, table, owner, pushes, turns) },
     );
     Ok(Some((one, other)))
 }
 
-// Each of two reads waits for the other, so both workers have to be woken.
+// Two entries of one call wake two workers.
 #[test]
-fn a_batch_wakes_all_sleepers(rt: HostRuntime) -> Result<(), Fail> {
+fn a_batch_of_two_wakes_two_sleepers(rt: HostRuntime) -> Result<(), Fail> {
     for round in 0..50 {
-        let executed = wake_two::<Brand, _>(&rt, rt.alloc(), 20 * round)?;
+        let executed = wake_two::<Brand, _>(&rt, rt.alloc(), Pushes::Together, 20 * round)?;
+        assert_eq!(&rt; executed, Some((1, 1)), "round {round}");
+    }
+    Ok(())
+}
+
+// The second push mostly comes before the worker runs that the first has woken. It wakes the other.
+#[test]
+fn two_pushes_wake_two_sleepers(rt: HostRuntime) -> Result<(), Fail> {
+    for round in 0..50 {
+        let executed = wake_two::<Brand, _>(&rt, rt.alloc(), Pushes::OneByOne, 20 * round)?;
         assert_eq!(&rt; executed, Some((1, 1)), "round {round}");
     }
     Ok(())

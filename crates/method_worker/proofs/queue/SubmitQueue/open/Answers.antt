@@ -33,10 +33,10 @@ first-new q n m s of parts lo hi pushes pops loads closes = record {
   closes = closes;
 }
 
-pub loop-preserved : goal.loop-preserved
-loop-preserved g c =
-    let i = c.loop.invariant in
-    let more = c.loop-test.true in
+pub loop-number-preserved : goal.loop-number-preserved
+loop-number-preserved g c =
+    let i = c.loop-number.invariant in
+    let more = c.loop-number-test.true in
     let ne : c.args.seats ≢ 1 = λ e. omega (arith, i.count) in
     record {
       of = search rules;
@@ -46,14 +46,15 @@ loop-preserved g c =
       loads = search rules;
       closes = search rules;
       count = search rules;
-      all = new-more _ c.args.seats c.loop.all.items _ c.seat-seat.result
+      all = new-more _ c.args.seats c.loop-number.all.items _ c.seat-seat.result
           c.push_reserved.ensures.items
           i.all (of-several _ _ _ ne c.seat-seat.ensures.new);
     }
 
 pub returns-clause-seats : goal.returns-clause-seats
 returns-clause-seats g c =
-    let i = c.loop.invariant in
-    new-more _ c.args.seats c.loop.all.items _ c.loop.first c.push_reserved-2.ensures.items i.all
-    (first-new _ c.args.seats c.loop.counter c.loop.first i.of i.parts (search rules) (search rules)
+    let l = c.loop-number in
+    let i = l.invariant in
+    new-more _ c.args.seats l.all.items _ l.first c.push_reserved-2.ensures.items i.all
+    (first-new _ c.args.seats l.number l.first i.of i.parts (search rules) (search rules)
     i.pushes i.pops i.loads i.closes)
