@@ -29,7 +29,7 @@ use Rattle.read_stream.specs.declared.desk.Desk.{Desk}
 use Rattle.read_stream.proofs.UnreadCauses.{results_more}
 use Rattle.scan_rounds.specs.BlockFilter.{BlockFilter, filter_of_skipping}
 use Rattle.scan_rounds.specs.ConsumedPages.{HaveTaken, JobHasOutput, JobsHaveOutput}
-use Rattle.scan_rounds.specs.DiskActors.{ActorHasRoom, ActorListedJobs, ActorMayList, IsBackend}
+use Rattle.scan_rounds.specs.DiskActors.{ActorListedJobs, ActorMayList, BackendMayList}
 use Rattle.scan_rounds.specs.DiskActors.{ActorReadBlocks, DiskActorAdvanced, IsStreamOfJobs}
 use Rattle.scan_rounds.specs.DiskActors.{entries_of_blocks}
 use Rattle.scan_rounds.specs.Jobs.{AreWholeButLast, JobIsListed, JobOutline, answered_ending}
@@ -324,20 +324,19 @@ module _ {W D : Type 0} (m : DiskGhosts D) (world : WorldGhosts W) (t : TableVie
 -- a backend may list jobs that one stream reads
 pub may_list : {W D : Type 0} (m : DiskGhosts D) (world : WorldGhosts W) (t : TableView)
     (q : QueueView) (b : Backend W D) (blocks : Blocks) (js : List Job)
-    → IsBackend m world t q b → ActorHasRoom (64 * length js) b.disk_actor.actor
-    → All (IsNewJob world.relations) js → IsStreamOfJobs blocks js
+    → BackendMayList m world t q b js → IsStreamOfJobs blocks js
     → ActorMayList m world t b.disk_actor b.desk blocks js
-may_list m world t q b blocks [] is room fresh stream = absurd (omega (arith, stream.some))
-may_list m world t q b blocks (j ∷ js) is room fresh stream = record {
+may_list m world t q b blocks [] may stream = absurd (omega (arith, stream.some))
+may_list m world t q b blocks (j ∷ js) may stream = record {
   read = record {
-    disk_actor = is.disk_actor;
-    backend = is.backend;
-    room = fewer blocks.count (64 * length (j ∷ js)) b.disk_actor.actor stream.few.0 room;
-    desk = is.desk;
+    disk_actor = may.is.disk_actor;
+    backend = may.is.backend;
+    room = fewer blocks.count (64 * length (j ∷ js)) b.disk_actor.actor stream.few.0 may.room;
+    desk = may.is.desk;
     relation_in = subst (λ n. n < world.relations) (stream.relation_is j)
-        (All-head (IsNewJob world.relations) j js fresh).relation_in;
+        (All-head (IsNewJob world.relations) j js may.fresh).relation_in;
     within = stream.within;
   };
-  fresh = fresh;
+  fresh = may.fresh;
   stream = stream;
 }

@@ -22,7 +22,7 @@ mod ScanAfterRounds
 mod SharesListed
 mod SharesExchange
 mod SharesCompose
-mod SharesInParallel
+mod JobsByPlace
 mod SharesOfClients
 mod SharesGathered
 mod JobsInSequence

@@ -123,6 +123,15 @@ zip-itself R [] all = tt
 zip-itself R (x ∷ xs) all =
     (All-head (λ y. R y y) x xs all, zip-itself R xs (All-tail (λ y. R y y) x xs all))
 
+pub all_front : {X : Type 0} (P : X → Type 0) (xs ys : List X) → All P (xs ++ ys) → All P xs
+all_front P [] ys all = All-nil P
+all_front P (x ∷ xs) ys all = All-cons P x xs (All-head P x (xs ++ ys) all)
+    (all_front P xs ys (All-tail P x (xs ++ ys) all))
+
+pub all_back : {X : Type 0} (P : X → Type 0) (xs ys : List X) → All P (xs ++ ys) → All P ys
+all_back P [] ys all = all
+all_back P (x ∷ xs) ys all = all_back P xs ys (All-tail P x (xs ++ ys) all)
+
 -- the first, and those behind
 pub all_split : {A : Type 0} (x : A) (xs us : List A) → us ≡ x ∷ xs → (P : A → Type 0) → All P us
     → P x × All P xs

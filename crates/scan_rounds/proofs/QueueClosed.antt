@@ -8,21 +8,16 @@ use Rattle.std.proofs.lemmas.List.Elements.{All-set}
 use Rattle.page_check.specs.declared.world.World.{Ghosts as WorldGhosts}
 use Rattle.page_check.specs.Told.{Told}
 use Rattle.aio_handle.specs.ContractViews.{TableView}
-use Rattle.aio_word.specs.Tokens.{failed_result_count}
 use Rattle.method_worker.specs.QueueViews.{QueueView, IsSeatOf}
-use Rattle.read_stream.specs.ActorProgress.{local_mark_count}
 use Rattle.read_stream.specs.StreamAnswers.{MayBeUnread}
 use Rattle.aio_disk.specs.declared.disk.Disk.{Ghosts as DiskGhosts}
 use Rattle.scan_rounds.specs.BlockFilter.{BlockFilter}
 use Rattle.scan_rounds.specs.DiskActors.{ActorHasRoom, IsBackend, backend_options}
 use Rattle.scan_rounds.specs.Jobs.{JobIsListed}
 use Rattle.scan_rounds.specs.ListOptions.{ListOptions, list_options}
-use Rattle.scan_rounds.specs.Progress.{BackendsAreReady, TurnTaken}
 use Rattle.scan_rounds.specs.Rounds.{AllHaveOptions, AllJobsListed, IsLeastRoom, backend_disk_actor}
-use Rattle.scan_rounds.specs.Rounds.{failed_results_taken, results_taken_count}
 use Rattle.read_stream.specs.declared.desk.Desk.{Desk}
 use Rattle.scan_rounds.specs.declared.backend.Backend.{Backend}
-use Rattle.scan_rounds.specs.declared.counts.Counts.{Counts}
 use Rattle.scan_rounds.specs.declared.disk_actor.DiskActor.{DiskActor}
 use Rattle.scan_rounds.specs.declared.job.Job.{Job}
 use Rattle.scan_rounds.proofs.Sums.{sum-mapped}
@@ -57,7 +52,7 @@ module _ {W D : Type 0} where
       let inside : i < length cs = omega (arith, many_as cs ds same) in
       subst P (actor_as cs ds same i d inside) (all i d inside)
 
-  least_as : (cs ds : List (Backend W D)) (room : ℕ) → SameActors cs ds → IsLeastRoom cs room
+  pub least_as : (cs ds : List (Backend W D)) (room : ℕ) → SameActors cs ds → IsLeastRoom cs room
       → IsLeastRoom ds room
   least_as cs ds room same least = record {
     all_have_room = all_as (λ (h : DiskActor W D). ActorHasRoom room h.actor) cs ds same least.all_have_room;
@@ -66,7 +61,7 @@ module _ {W D : Type 0} where
   }
 
   -- what may be unread of what they have listed is the same
-  listed_as : (block_filter : Option BlockFilter) (how : ListOptions) (told : Option Told)
+  pub listed_as : (block_filter : Option BlockFilter) (how : ListOptions) (told : Option Told)
       (bs cs ds : List (Backend W D)) (js ks : List Job) → length js ≤ length cs
       → SameActors cs ds → AllJobsListed block_filter how told bs cs js ks
       → AllJobsListed block_filter how told bs ds js ks
@@ -121,38 +116,3 @@ module _ {W D : Type 0} (m : DiskGhosts D) (world : WorldGhosts W) (t : TableVie
         (first_stands b c disk_actor desk ring seat kept
         (subst (IsBackend m world t q) (sym is) (all 0 b some)))
         all
-
-    pub first_closed : (counts : Counts) → BackendsAreReady m world t q bs counts
-        → BackendsAreReady m world t q (slice_set bs 0 c) counts
-    first_closed counts w =
-        let cs = slice_set bs 0 c in
-        let same = first_actor bs b c is disk_actor in
-        let results : failed_results_taken cs ≡ failed_results_taken bs =
-        sum_as (λ (h : DiskActor W D). failed_result_count h.actor.known.marks) bs cs same in record {
-          some = omega (arith, w.some, many_as bs cs same);
-          backends = all_stand;
-          room = least_as bs cs counts.room same w.room;
-          few_unread = omega (arith, w.few_unread, results);
-        }
-
-  -- after a turn
-  module _ (bs cs ds : List (Backend W D)) (js ks : List Job) (before after : Counts)
-      (same : SameActors cs ds) (ready : BackendsAreReady m world t q ds after)
-      (options : (how : ListOptions) → AllHaveOptions how cs → AllHaveOptions how ds) where
-    taken : results_taken_count ds ≡ results_taken_count cs
-    taken = sum_as (λ (h : DiskActor W D). local_mark_count h.actor.known.marks) cs ds same
-
-    pub turn_closed : {block_filter : Option BlockFilter} {share : ℕ} → length js ≤ length cs
-        → TurnTaken m world t q block_filter share bs cs js ks before after
-        → TurnTaken m world t q block_filter share bs ds js ks before after
-    turn_closed few e = record {
-      ready = ready;
-      actors_advanced = rw same e.actors_advanced;
-      all_have_options = λ how all. options how (e.all_have_options how all);
-      answered = e.answered;
-      by_place = λ one how all. listed_as _ how world.told bs cs ds js ks few same
-          (e.by_place one how all);
-      room = e.room;
-      unread = e.unread;
-      results_bound = omega (arith, taken, e.results_bound);
-    }

@@ -1,56 +1,23 @@
 -- A share whose backend has listed its jobs.
-use Rattle.std.proofs.Common.{◌≡◌, ℕ, ◌+◌, ◌*◌, ◌≤◌, List, [], ◌∷◌, refl, ap, arith, cond}
+use Rattle.std.proofs.Common.{◌≡◌, ℕ, ◌*◌, List, [], ◌∷◌, refl, ap, arith, cond}
 use Rattle.std.proofs.Common.{Bool, false, ◌≢◌}
 use Rattle.std.specs.Prelude.{Option, Some, None}
 use Rattle.std.specs.List.{All}
-use Rattle.std.proofs.lemmas.List.Elements.{All-cons, All-nil, All-tail}
+use Rattle.std.proofs.lemmas.List.Elements.{All-tail}
 use Rattle.std.proofs.lemmas.List.Sums.{sum_by-cons}
 use Rattle.page_check.specs.declared.world.World.{Ghosts as WorldGhosts}
-use Rattle.aio_word.specs.Tokens.{failed_result_count}
 use Rattle.aio_handle.specs.ContractViews.{TableView}
 use Rattle.method_worker.specs.QueueViews.{QueueView}
-use Rattle.read_stream.specs.ActorProgress.{local_mark_count}
 use Rattle.aio_disk.specs.declared.disk.Disk.{Ghosts as DiskGhosts}
 use Rattle.scan_rounds.specs.BlockFilter.{BlockFilter}
-use Rattle.scan_rounds.specs.DiskActors.{BackendAdvanced, backend_options}
 use Rattle.scan_rounds.specs.Exchanges.{ShareTakenBack}
-use Rattle.scan_rounds.specs.Jobs.{AllJobsAnswered, IsNewJob, count_unskipped, is_unread}
+use Rattle.scan_rounds.specs.Jobs.{IsNewJob, is_unread}
 use Rattle.scan_rounds.specs.Jobs.{unread_job_count}
 use Rattle.scan_rounds.specs.Shares.{ShareMayBeListed, share_jobs}
-use Rattle.scan_rounds.specs.Turns.{BackendsDidJobs}
-use Rattle.scan_rounds.specs.declared.backend.Backend.{Backend}
 use Rattle.scan_rounds.specs.declared.job.Ending.{Ending}
 use Rattle.scan_rounds.specs.declared.job.Job.{Job}
 use Rattle.scan_rounds.specs.declared.share.Share.{Share}
 use Rattle.scan_rounds.proofs.ActorsAdvance.{backend_stays}
-use Rattle.scan_rounds.proofs.ListPairs.{zip-at, zip-length}
-
-module _ {W D : Type 0} (m : DiskGhosts D) (world : WorldGhosts W) (t : TableView)
-    (q : QueueView) {f : Option BlockFilter} (most : ℕ) (b c : Backend W D) (js ks : List Job)
-    (did : BackendsDidJobs m world t q f most (b ∷ []) (c ∷ []) js ks) where
-  pub one_advanced : BackendAdvanced m world t q most b c
-  one_advanced = did.backends.0
-
-  pub one_results : local_mark_count c.disk_actor.actor.known.marks
-      ≤ local_mark_count b.disk_actor.actor.known.marks + count_unskipped f js
-  one_results =
-      let w : Backend W D → ℕ = λ x. local_mark_count x.disk_actor.actor.known.marks in
-      omega (arith, did.results_bound, sum_by-cons w b [], sum_by-cons w c [])
-
-  pub one_unread : failed_result_count b.disk_actor.actor.known.marks + unread_job_count ks
-      ≤ failed_result_count c.disk_actor.actor.known.marks
-  one_unread =
-      let w : Backend W D → ℕ = λ x. failed_result_count x.disk_actor.actor.known.marks in
-      omega (arith, did.unread, sum_by-cons w b [], sum_by-cons w c [])
-
-  pub one_answered : AllJobsAnswered f (backend_options b) world.told js ks
-  one_answered =
-      let answered = did.answered (backend_options b)
-      (All-cons (λ (x : Backend W D). backend_options x ≡ backend_options b) b [] refl
-      (All-nil (λ (x : Backend W D). backend_options x ≡ backend_options b))) in record {
-        as_many = zip-length _ _ _ answered;
-        each = λ i j lt. zip-at _ _ _ i j j answered lt;
-      }
 
 -- a client has one request
 pub same_request : {Q : Type 0} {o : Option Q} (s r : Q) → o ≡ Some s → o ≡ Some r → s ≡ r

@@ -17,8 +17,7 @@ use Rattle.scan_rounds.specs.Shares.{ShareMayBeListed}
 use Rattle.scan_rounds.specs.declared.backend.Backend.{Backend}
 use Rattle.scan_rounds.specs.declared.share.RunTerms.{RunTerms}
 use Rattle.scan_rounds.specs.declared.share.Share.{Share}
-use Rattle.scan_rounds.proofs.ListPairs.{zip-beside}
-use Rattle.scan_rounds.proofs.SharesInParallel.{all_front, all_back}
+use Rattle.scan_rounds.proofs.ListPairs.{all_back, all_front, zip-beside}
 use Rattle.scan_rounds.proofs.SharesListed.{same_request}
 
 -- the last, and those before it

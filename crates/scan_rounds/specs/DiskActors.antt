@@ -142,6 +142,22 @@ module _ {W D : Type 0} (m : DiskGhosts D) (world : WorldGhosts W)
           ≤ lives_ended h b.disk_actor.actor.known.marks + most
       pub options_same : backend_options c ≡ backend_options b
 
+    -- it may list these jobs
+    pub record BackendMayList (b : Backend W D) (js : List Job) : Type 0 where
+      pub is : IsBackend b
+      pub room : ActorHasRoom (64 * length js) b.disk_actor.actor
+      pub fresh : All (IsNewJob world.relations) js
+
+    -- it has listed them, without the blocks that are left out; these entries may be unread
+    pub record BackendListed (may : Entry (Unit {0}) → Type 0) (block_filter : Option BlockFilter)
+        (b c : Backend W D) (js ls : List Job) : Type 0 where
+      pub backend : BackendAdvanced (64 * length js) b c
+      pub results_bound : local_mark_count c.disk_actor.actor.known.marks
+          ≤ local_mark_count b.disk_actor.actor.known.marks + count_unskipped block_filter js
+      pub unread : failed_result_count b.disk_actor.actor.known.marks + unread_job_count ls
+          ≤ failed_result_count c.disk_actor.actor.known.marks
+      pub listed : AllZip (JobIsListed block_filter (backend_options b) world.told may) js ls
+
     -- it has read so many pages of a map, up to this ending, and keeps all but its actor and its
     -- disk
     pub record BackendReadMap (b c : Backend W D) (relation pages : ℕ) (map : Map)

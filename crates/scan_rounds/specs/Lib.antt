@@ -10,7 +10,6 @@ pub mod Progress
 pub mod OpenedScan
 pub mod Scans
 pub mod Calls
-pub mod Turns
 pub mod Shares
 pub mod Exchanges
 pub mod RunLeads

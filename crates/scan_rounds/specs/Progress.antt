@@ -1,5 +1,5 @@
 -- The backends of a scan between two rounds, and what some rounds have made of them.
-use Rattle.std.specs.Prelude.{◌≡◌, ℕ, ◌+◌, ◌*◌, ◌≤◌, List, [], ◌∷◌, ◌++◌, length, map, Option}
+use Rattle.std.specs.Prelude.{◌≡◌, ℕ, ◌+◌, ◌≤◌, List, [], ◌∷◌, ◌++◌, length, map, Option}
 use Rattle.std.specs.Prelude.{IfSome, slice_index_or}
 use Rattle.std.specs.List.{All, AllZip}
 use Rattle.page_check.specs.declared.world.World.{Ghosts as WorldGhosts}
@@ -9,7 +9,7 @@ use Rattle.method_worker.specs.QueueViews.{QueueView, SeatView}
 use Rattle.aio_disk.specs.declared.disk.Disk.{Ghosts as DiskGhosts}
 use Rattle.scan_rounds.specs.BlockFilter.{BlockFilter}
 use Rattle.scan_rounds.specs.DiskActors.{DiskActorAdvanced, IsBackend}
-use Rattle.scan_rounds.specs.Jobs.{AllJobsAnswered, IsNewJob, count_unskipped, unread_job_count}
+use Rattle.scan_rounds.specs.Jobs.{IsNewJob, count_unskipped, unread_job_count}
 use Rattle.scan_rounds.specs.ListOptions.{ListOptions}
 use Rattle.scan_rounds.specs.Rounds.{AllHaveOptions, AllJobsListed, IsLeastRoom, backend_disk_actor}
 use Rattle.scan_rounds.specs.Rounds.{failed_results_taken, results_taken_count}
@@ -36,26 +36,23 @@ module _ {W D : Type 0} (m : DiskGhosts D) (world : WorldGhosts W)
       -- each job that ended in Unread has left the result of a failed I/O
       pub few_unread : counts.unread ≤ failed_results_taken bs
 
-  -- a turn may be taken, in which each backend does at most so many neighbouring ones of these
-  -- jobs
-  pub record BackendsMayTakeTurn (q : QueueView) (share : ℕ) (bs : List (Backend W D))
-      (js : List Job) (counts : Counts) : Type 0 where
+  -- a round of these jobs may be made, in which each backend lists one at most
+  pub record BackendsMayMakeRound (q : QueueView) (bs : List (Backend W D)) (js : List Job)
+      (counts : Counts) : Type 0 where
     pub ready : BackendsAreReady q bs counts
-    pub fit : length js ≤ share * length bs
+    pub fit : length js ≤ length bs
     pub fresh : All (IsNewJob world.relations) js
-    pub room : 64 * share ≤ counts.room
+    pub room : 64 ≤ counts.room
 
-  -- it was taken, without the blocks that are left out
-  pub record TurnTaken (q : QueueView) (block_filter : Option BlockFilter) (share : ℕ)
+  -- it was made, without the blocks that are left out
+  pub record BackendsMadeRound (q : QueueView) (block_filter : Option BlockFilter)
       (bs cs : List (Backend W D)) (js ks : List Job) (before after : Counts) : Type 0 where
     pub ready : BackendsAreReady q cs after
     pub actors_advanced : AllZip (DiskActorAdvanced m world t)
         (map backend_disk_actor bs) (map backend_disk_actor cs)
     pub all_have_options : (how : ListOptions) → AllHaveOptions how bs → AllHaveOptions how cs
-    pub answered : (how : ListOptions) → AllHaveOptions how bs
-        → AllJobsAnswered block_filter how world.told js ks
-    pub by_place : share ≡ 1 → (how : ListOptions) → AllHaveOptions how bs
+    pub by_place : (how : ListOptions) → AllHaveOptions how bs
         → AllJobsListed block_filter how world.told bs cs js ks
-    pub room : before.room ≤ after.room + 64 * share
+    pub room : before.room ≤ after.room + 64
     pub unread : after.unread ≡ count_plus (unread_job_count ks) before.unread
     pub results_bound : results_taken_count cs ≤ results_taken_count bs + count_unskipped block_filter js

@@ -1,6 +1,7 @@
 -- What a round does to all backends, to all workers and to the jobs.
-use Rattle.std.specs.Prelude.{◌≡◌, ℕ, ◌<◌, ◌≤◌, List, ◌∷◌, length, slice_index_or, sum_by, Option}
-use Rattle.std.specs.List.{All}
+use Rattle.std.specs.Prelude.{◌≡◌, ℕ, ◌+◌, ◌<◌, ◌≤◌, List, ◌∷◌, length, slice_index_or, sum_by}
+use Rattle.std.specs.Prelude.{Option}
+use Rattle.std.specs.List.{All, AllZip}
 use Rattle.page_check.specs.declared.world.World.{Ghosts as WorldGhosts}
 use Rattle.page_check.specs.Told.{Told}
 use Rattle.aio_handle.specs.ContractViews.{TableView}
@@ -11,10 +12,11 @@ use Rattle.read_stream.specs.StreamAnswers.{MayBeUnread}
 use Rattle.aio_word.specs.Tokens.{failed_result_count}
 use Rattle.aio_disk.specs.declared.disk.Disk.{Ghosts as DiskGhosts}
 use Rattle.scan_rounds.specs.DiskActors.{WorkerServed, BackendReadMap, ActorHasRoom}
-use Rattle.scan_rounds.specs.DiskActors.{backend_options}
+use Rattle.scan_rounds.specs.DiskActors.{BackendAdvanced, IsBackend, backend_options}
 use Rattle.read_stream.specs.ActorProgress.{local_mark_count}
 use Rattle.scan_rounds.specs.ListOptions.{ListOptions}
-use Rattle.scan_rounds.specs.Jobs.{JobIsListed, answered_ending}
+use Rattle.scan_rounds.specs.Jobs.{IsNewJob, JobIsListed, answered_ending, count_unskipped}
+use Rattle.scan_rounds.specs.Jobs.{unread_job_count}
 use Rattle.scan_rounds.specs.BlockFilter.{BlockFilter}
 use Rattle.scan_rounds.specs.ConsumedPages.{MapHasPages, PagesConsumed}
 use Rattle.scan_rounds.specs.declared.job.Ending.{Ending}
@@ -80,6 +82,22 @@ module _ {W D : Type 0} (m : DiskGhosts D) (world : WorldGhosts W) (t : TableVie
     pub as_many : length vs ≡ length ws
     pub each : (i : ℕ) (d : Worker W D) → i < length ws
         → WorkerServed m world t q (slice_index_or ws i d) (slice_index_or vs i d)
+
+  -- each of these jobs may be listed by the backend at its place
+  pub record RoundMayBeListed (bs : List (Backend W D)) (js : List Job) : Type 0 where
+    pub fit : length js ≤ length bs
+    pub backends : All (IsBackend m world t q) bs
+    pub room : AllBackendsHaveRoom 64 bs
+    pub fresh : All (IsNewJob world.relations) js
+
+  -- each was, without the blocks that are left out
+  pub record RoundListed (block_filter : Option BlockFilter) (bs cs : List (Backend W D))
+      (js ks : List Job) : Type 0 where
+    pub backends : AllZip (BackendAdvanced m world t q 64) bs cs
+    pub by_place : (how : ListOptions) → AllHaveOptions how bs
+        → AllJobsListed block_filter how world.told bs cs js ks
+    pub unread : failed_results_taken bs + unread_job_count ks ≤ failed_results_taken cs
+    pub results_bound : results_taken_count cs ≤ results_taken_count bs + count_unskipped block_filter js
 
   -- the first backend has read a map, and the others are as they were
   pub record FirstBackendReadMap (bs cs : List (Backend W D)) (relation pages : ℕ) (map : Map)

@@ -1,13 +1,11 @@
 //! A backend: an actor with its disk and its desk.
-ghost use Rattle.std.specs.Prelude.{◌≡◌, ◌<◌, ◌*◌, [], IfSome, is_some, length};
-ghost use Rattle.std.specs.List.{All};
+ghost use Rattle.std.specs.Prelude.{◌≡◌, ◌<◌, ◌*◌, [], IfSome, is_some};
 ghost use Rattle.method_worker.specs.QueueViews.{IsSeatOf};
-ghost use Rattle.scan_rounds.specs.DiskActors.{BackendReadMap, ActorHasRoom, IsBackend};
-ghost use Rattle.scan_rounds.specs.DiskActors.{IsStreamOfJobs};
+ghost use Rattle.read_stream.specs.StreamAnswers.{MayBeUnread};
+ghost use Rattle.scan_rounds.specs.DiskActors.{BackendListed, BackendMayList, BackendReadMap};
+ghost use Rattle.scan_rounds.specs.DiskActors.{ActorHasRoom, IsBackend, IsStreamOfJobs};
 ghost use Rattle.scan_rounds.specs.BlockFilter.{filter_of_skipping};
-ghost use Rattle.scan_rounds.specs.Jobs.{IsNewJob};
 ghost use Rattle.scan_rounds.specs.Progress.{HasClosed};
-ghost use Rattle.scan_rounds.specs.Turns.{BackendListedJobs};
 
 use crate::disk_actor::{DiskActor, HasDiskActor};
 use crate::job::{Ending, Job};
@@ -53,12 +51,12 @@ impl<W: World, D: Disk> Backend<W, D> {
         blocks: Blocks<'_>,
         jobs: &mut [Job],
     )
-        requires is { IsBackend D.Disk W.World shared.now.table shared.now.queue self.old }
-        requires room { ActorHasRoom (64 * length jobs.old) self.old.disk_actor.actor }
-        requires fresh { All (IsNewJob W.relations) jobs.old }
+        requires may { BackendMayList D.Disk W.World shared.now.table shared.now.queue self.old
+            jobs.old }
         requires stream { IsStreamOfJobs blocks jobs.old }
-        ensures listed { BackendListedJobs D.Disk W.World shared.now.table shared.now.queue
-            (filter_of_skipping blocks.entry.by_map) self.old jobs.old self.new jobs.new }
+        ensures listed { BackendListed D.Disk W.World shared.now.table shared.now.queue
+            (MayBeUnread self.old.disk_actor.actor self.new.disk_actor.actor.known)
+            (filter_of_skipping blocks.entry.by_map) self.old self.new jobs.old jobs.new }
     {
         let Backend {
             disk_actor,

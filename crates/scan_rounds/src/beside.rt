@@ -3,7 +3,8 @@ ghost use Rattle.std.specs.Prelude.{◌<◌, vec_capacity};
 ghost use Rattle.std.specs.List.{All};
 ghost use Rattle.std.specs.Thread.{IsSync};
 ghost use Rattle.scan_rounds.specs.DiskActors.{WorkerMayServe, WorkerServed};
-ghost use Rattle.scan_rounds.specs.Progress.{BackendsMayTakeTurn, IsClosedByFirst, TurnTaken};
+ghost use Rattle.scan_rounds.specs.Progress.{BackendsMadeRound, BackendsMayMakeRound};
+ghost use Rattle.scan_rounds.specs.Progress.{IsClosedByFirst};
 ghost use Rattle.scan_rounds.specs.Rounds.{AllWorkersServed};
 ghost use Rattle.scan_rounds.specs.BlockFilter.{filter_of_skipping};
 ghost use Rattle.scan_rounds.specs.RunLeads.{MayLeadRun, RunLed};
@@ -240,12 +241,13 @@ pub(crate) fn round_beside<'a, W: World + Send + Sync, D: Disk, R: Threads + Wai
 )
     requires serve { All (WorkerMayServe D.Disk W.World shared.now.table
         shared.now.queue) workers.old }
-    requires may { BackendsMayTakeTurn D.Disk W.World shared.now.table shared.now.queue 1
+    requires may { BackendsMayMakeRound D.Disk W.World shared.now.table shared.now.queue
         backends.old jobs.old counts.old }
     ensures workers_served { AllWorkersServed D.Disk W.World shared.now.table
         shared.now.queue workers.old workers.new }
-    ensures taken { TurnTaken D.Disk W.World shared.now.table shared.now.queue (filter_of_skipping
-        by_map.entry) 1 backends.old backends.new jobs.old jobs.new counts.old counts.new }
+    ensures made { BackendsMadeRound D.Disk W.World shared.now.table shared.now.queue
+        (filter_of_skipping by_map.entry) backends.old backends.new jobs.old jobs.new counts.old
+        counts.new }
     ensures closed { IsClosedByFirst shared.now.queue backends.new }
 {
     let mut serve = ||
@@ -255,10 +257,10 @@ pub(crate) fn round_beside<'a, W: World + Send + Sync, D: Disk, R: Threads + Wai
             shared.entry.now.queue workers.entry.now workers.exit.now }
     { run_workers(rt, shared, workers, 32) };
     let mut round = ||
-        requires { IsSync R.row × BackendsMayTakeTurn D.Disk W.World shared.now.table
-            shared.now.queue 1 backends.now jobs.now counts.now }
-        ensures { TurnTaken D.Disk W.World shared.entry.now.table
-            shared.entry.now.queue (filter_of_skipping by_map.entry) 1 backends.entry.now
+        requires { IsSync R.row × BackendsMayMakeRound D.Disk W.World shared.now.table
+            shared.now.queue backends.now jobs.now counts.now }
+        ensures { BackendsMadeRound D.Disk W.World shared.entry.now.table
+            shared.entry.now.queue (filter_of_skipping by_map.entry) backends.entry.now
             backends.exit.now jobs.entry.now jobs.exit.now counts.entry.now counts.exit.now
             × IsClosedByFirst shared.entry.now.queue backends.exit.now }
     { make_round(rt, shared, by_map, backends, jobs, counts) };

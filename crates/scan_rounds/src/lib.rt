@@ -55,7 +55,6 @@ mod settings;
 mod share;
 mod shared;
 mod source;
-mod turn;
 mod worker;
 
 pub use job::{Ending, Job};

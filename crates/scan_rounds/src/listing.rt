@@ -166,7 +166,8 @@ fn show_in(
     let Some((job, later)) = jobs.split_first_mut() else {
         unreachable!()
     };
-    if !later.is_empty() && taken >= job.count {
+    let is_whole = taken >= job.count;
+    if !later.is_empty() && is_whole {
         return show_in(tuples, relation, answer, taken - job.count, later);
     }
     let Job {

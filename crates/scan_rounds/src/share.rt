@@ -1,13 +1,14 @@
 //! What a backend is given to list in a thread of its own, and what comes back.
-ghost use Rattle.std.specs.Prelude.{◌≡◌, None};
+ghost use Rattle.std.specs.Prelude.{None, ⊤};
 ghost use Rattle.scan_rounds.specs.BlockFilter.{filter_of_skipping};
+ghost use Rattle.scan_rounds.specs.DiskActors.{BackendListed, BackendMayList};
 ghost use Rattle.scan_rounds.specs.Shares.{AreTermsOf, ShareListed, ShareMayBeListed, terms_filter};
 
 use crate::backend::Backend;
 use crate::job::Job;
 use crate::map_filter::MapFilter;
+use crate::neighbours::neighbours;
 use crate::shared::SharedState;
-use crate::turn::do_jobs;
 use aio_disk::Disk;
 use handoff::{Client, Handoff, Service};
 use page_check::World;
@@ -70,6 +71,29 @@ pub(crate) type ShareHandoff<W, D> = Handoff<
 
 pub(crate) type ShareClient<W, D> = Client<RunTerms<W>, Share<W, D>, Share<W, D>>;
 
+// A backend does these jobs, one after the other.
+#[cycle(jobs)]
+fn do_jobs<W: World, D: Disk, T: Wait>(
+    rt: &T,
+    shared: &SharedState<W>,
+    by_map: Option<MapFilter<'_>>,
+    backend: &mut Backend<W, D>,
+    jobs: &mut [Job],
+)
+    requires may { BackendMayList D.Disk W.World shared.now.table shared.now.queue backend.old
+        jobs.old }
+    ensures done { BackendListed D.Disk W.World shared.now.table shared.now.queue (λ _. ⊤)
+        (filter_of_skipping by_map.entry) backend.old backend.new jobs.old jobs.new }
+{
+    if jobs.is_empty() {
+        return;
+    }
+    let (many, blocks) = neighbours(jobs, by_map);
+    let (first, later) = jobs.split_at_mut(many);
+    backend.list(rt, shared, blocks, first);
+    do_jobs(rt, shared, by_map, backend, later);
+}
+
 /// The backend lists its jobs, without the blocks that are left out.
 pub(crate) fn list_share<W: World, D: Disk, T: Wait>(
     rt: &T,
@@ -87,7 +111,7 @@ pub(crate) fn list_share<W: World, D: Disk, T: Wait>(
         count,
     } = share;
     let (asked, _) = jobs.as_mut_slice().split_at_mut(count);
-    do_jobs(rt, shared, by_map, count, &mut backend, asked);
+    do_jobs(rt, shared, by_map, &mut backend, asked);
     Share {
         backend,
         jobs,

@@ -3,7 +3,7 @@ use Rattle.std.specs.Prelude.{IfSome}
 use Rattle.std.proofs.lemmas.List.{get_or_default, get_or-set_same}
 use Rattle.scan_rounds.specs.Progress.{HasClosed}
 use Rattle.scan_rounds.specs.declared.backend.Backend.{Backend}
-use Rattle.scan_rounds.proofs.QueueClosed.{all_stand, first_closed, first_options}
+use Rattle.scan_rounds.proofs.QueueClosed.{all_stand, first_options}
 use Rattle.scan_rounds.proofs.rounds.close_queue.Goals as goal
 
 pub returns-clause-backends : goal.returns-clause-backends
@@ -12,13 +12,6 @@ returns-clause-backends g c =
     all_stand _ _ _ _ c.args.backends.now _ c.close.new.self c.requires.some c.requires.backends
     (get_or_default _ 0 _ _ c.requires.some) r.0 r.1 r.3 c.close.ensures.seat
     c.close.ensures.seat_kept
-
-pub returns-clause-ready : goal.returns-clause-ready
-returns-clause-ready g c counts ready =
-    let r = c.close.ensures.rest in
-    first_closed _ _ _ _ c.args.backends.now _ c.close.new.self c.requires.some
-    c.requires.backends (get_or_default _ 0 _ _ c.requires.some) r.0 r.1 r.3 c.close.ensures.seat
-    c.close.ensures.seat_kept counts ready
 
 pub returns-clause-options : goal.returns-clause-options
 returns-clause-options g c how all =

@@ -2,7 +2,7 @@ use Rattle.std.proofs.Common.{◌≡◌, refl, ◌∙◌, ◌++◌, ℕ, List, s
 use Rattle.std.proofs.Math.Seq.{take-append_seam}
 use Rattle.std.proofs.lemmas.List.{with_items_is}
 use Rattle.scan_rounds.specs.declared.job.Job.{Job}
-use Rattle.scan_rounds.proofs.SharesListed.{one_advanced, one_answered, one_results, one_unread}
+use Rattle.scan_rounds.proofs.ListPairs.{zip-at, zip-length}
 use Rattle.scan_rounds.proofs.share.list_share.Goals as goal
 
 pub returns : goal.returns
@@ -12,8 +12,8 @@ returns g c =
     let count : ℕ = c.args.share.count in
     let ks : List Job = c.do_jobs.new.jobs in
     let rest : List Job = c.split_at_mut-asked.result.1.now in
-    let answered = one_answered _ _ _ _ _ _ _ _ _ did in
-    let long : length ks ≡ count = answered.as_many ∙ cut.front_len in
+    let as_many = zip-length _ _ _ did.listed in
+    let long : length ks ≡ count = as_many ∙ cut.front_len in
     let places : length (ks ++ rest) ≡ c.args.share.jobs.len =
     omega (
       arith,
@@ -32,9 +32,9 @@ returns g c =
     record {
       listed = record {
         spent = record {
-          backend = one_advanced _ _ _ _ _ _ _ _ _ did;
-          results_bound = rw (sym asked) (one_results _ _ _ _ _ _ _ _ _ did);
-          unread = rw (items, listed) (one_unread _ _ _ _ _ _ _ _ _ did);
+          backend = rw (sym cut.front_len) did.backend;
+          results_bound = rw (sym asked) did.results_bound;
+          unread = rw (items, listed) did.unread;
           count_same = refl;
           places_same = rw items
               (omega (
@@ -47,6 +47,9 @@ returns g c =
                 c.as_mut_slice.ensures.len,
               ));
         };
-        answered = rw (items, listed, sym asked) answered;
+        answered = rw (items, listed, sym asked) (record {
+          as_many = as_many;
+          each = λ i j lt. zip-at _ _ _ i j j did.listed lt;
+        });
       };
     }

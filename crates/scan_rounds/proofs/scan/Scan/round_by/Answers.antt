@@ -33,7 +33,7 @@ returns g c =
     let may = c.requires.may in
     let r = c.reopen_queue.ensures in
     let e = c.round_beside.ensures in
-    let a = e.taken in
+    let a = e.made in
     let own : c.as_mut_slice-backends.result.now ≡ c.args.self.now.backends.items = search rules in
     let same : c.reopen_queue.new.backends ≡ c.args.self.now.backends.items = search rules in
     let as_many = many_actors _ _ _ _ _ a.actors_advanced in
@@ -62,7 +62,7 @@ returns g c =
         closed = rw backends e.closed;
         listed = rw backends (subst (λ bs. AllJobsListed (filter_of_skipping c.args.by_map)
             (scan_options c.args.self.now) g.W.World.told bs c.round_beside.new.backends
-            c.args.jobs.now c.round_beside.new.jobs) same (a.by_place refl _ options));
+            c.args.jobs.now c.round_beside.new.jobs) same (a.by_place _ options));
         room = omega (arith, a.room);
         unread = a.unread;
         results_bound = rw backends (omega (arith, a.results_bound, before));
