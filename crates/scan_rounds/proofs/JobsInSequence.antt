@@ -1,5 +1,5 @@
 -- Jobs that a backend does one after the other.
-use Rattle.std.proofs.Common.{◌≡◌, ℕ, zero, ◌+◌, ◌-◌, ◌*◌, ◌≤◌, List, [], ◌∷◌, length, cond}
+use Rattle.std.proofs.Common.{◌≡◌, ℕ, ◌+◌, ◌*◌, ◌≤◌, List, [], ◌∷◌, length, cond}
 use Rattle.std.proofs.Common.{◌∙◌, subst, arith, ◌++◌}
 use Rattle.std.proofs.Common.{length-append}
 use Rattle.std.specs.Prelude.{Option, ⊤}
