@@ -20,7 +20,7 @@ use Rattle.scan_rounds.specs.ListOptions.{ListOptions}
 use Rattle.scan_rounds.specs.ConsumedPages.{MapHasPages, PagesConsumed}
 use Rattle.scan_rounds.specs.declared.job.Ending.{Ending as JobEnding}
 use Rattle.scan_rounds.proofs.Blocks.{answer_wider}
-use Rattle.scan_rounds.proofs.JobListed.{none_warned}
+use Rattle.scan_rounds.proofs.JobsListed.{none_warned}
 use Rattle.aioscan_cmd.specs.Command.{MapOption}
 use Rattle.aioscan_cmd.specs.ListerState.{outcome_of_ending, unskipped_parts}
 use Rattle.aioscan_cmd.specs.Output.{IsOutput, ListFormat, map_pages_known, format_of_options}
