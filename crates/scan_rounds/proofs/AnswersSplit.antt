@@ -1,10 +1,10 @@
 -- Answers to two lists that are joined, split into those of each list.
-use Rattle.std.proofs.Common.{◌≡◌, ◌≢◌, ◌⊎◌, ℕ, zero, suc, ◌+◌, ◌<◌, ◌≤◌, List, [], ◌∷◌, ◌++◌}
-use Rattle.std.proofs.Common.{length, map, take, drop, refl, sym, ap, subst, ◌∙◌, inl, inr, arith}
+use Rattle.std.proofs.Common.{◌≡◌, ◌≢◌, ◌⊎◌, ℕ, ◌+◌, ◌<◌, ◌≤◌, List, [], ◌∷◌, ◌++◌}
+use Rattle.std.proofs.Common.{length, map, take, drop, sym, ap, subst, ◌∙◌, inl, inr, arith}
 use Rattle.std.proofs.Common.{append-nil, length-append, length-drop}
-use Rattle.std.specs.Prelude.{Option, Some, None, slice_get}
-use Rattle.std.proofs.lemmas.List.{length-map, length-take-le, take_at, drop_at, take-append-le}
-use Rattle.std.proofs.lemmas.List.{drop-append-le, take-append-drop, take-map, drop-map}
+use Rattle.std.specs.Prelude.{Option, Some, None}
+use Rattle.std.proofs.lemmas.List.{length-map, length-take-le}
+use Rattle.std.proofs.lemmas.List.{take-map, drop-map}
 use Rattle.std.proofs.lemmas.List.Elements.{All-take, All-drop}
 use Rattle.std.proofs.lemmas.Option.{slice_get_past}
 use mathlib.Core.Logic.{dite}
@@ -12,49 +12,13 @@ use native.Mathlib.Decide.{dec_le}
 use Rattle.page_check.specs.SynchronousAnswer.{Entry, Given, Ending, End, Invalid, PastEnd, Unread}
 use Rattle.page_check.specs.SynchronousAnswer.{Reader, read_count, readable_pages, stop_ending}
 use Rattle.page_check.specs.SynchronousAnswer.{list_ending}
-use Rattle.page_check.specs.IsAnswer.{IsPrefix, IsGiven, AreFirst, StopsAt, EndsAt, IsEnding}
+use Rattle.page_check.specs.IsAnswer.{IsGiven, AreFirst, StopsAt, EndsAt, IsEnding}
 use Rattle.page_check.specs.IsAnswer.{OneEnding, IsAnswer}
 use Rattle.page_check.proofs.AnswersInOrder.{slice_get_back, no_others}
 use Rattle.page_check.proofs.AnswersOfLists.{IsWhole, whole, IsStopped, stopped}
 use Rattle.page_check.proofs.ListPlaces.{readable_pages-length}
-
--- where a list is split in two ways, the shorter front is taken from the longer one
-front_taken : {X : Type 0} (front back pages rest : List X) → front ++ back ≡ pages ++ rest
-    → length front ≤ length pages → front ≡ take (length front) pages
-front_taken {X} front back pages rest same short =
-    let n = length front in
-    sym (take_at front back n refl) ∙ ap (λ (l : List X). take n l) same
-    ∙ take-append-le n pages rest short
-
--- and what the longer front has beyond it begins the other back
-back_dropped : {X : Type 0} (front back pages rest : List X) → front ++ back ≡ pages ++ rest
-    → length front ≤ length pages → back ≡ drop (length front) pages ++ rest
-back_dropped {X} front back pages rest same short =
-    let n = length front in
-    sym (drop_at front back n refl) ∙ ap (λ (l : List X). drop n l) same
-    ∙ drop-append-le n pages rest short
-
--- what begins a joined list, and is no longer than its front, begins the front
-begins_front : {X : Type 0} (pages front back : List X) → IsPrefix pages (front ++ back)
-    → length pages ≤ length front → IsPrefix pages front
-begins_front {X} pages front back begins short =
-    let n = length pages in
-    let taken = front_taken pages begins.0 front back (sym begins.1) short in (
-      drop n front,
-      sym (take-append-drop n front) ∙ ap (λ (l : List X). l ++ drop n front) (sym taken),
-    )
-
--- an element of the front of a joined list
-slice_get_within : {X : Type 0} (xs ys : List X) (k : ℕ) → k < length xs
-    → slice_get (xs ++ ys) k ≡ slice_get xs k
-slice_get_within [] ys k below = absurd (omega arith)
-slice_get_within (x ∷ xs) ys zero below = refl
-slice_get_within (x ∷ xs) ys (suc k) below = slice_get_within xs ys k (omega arith)
-
--- no more begins a list than it has
-begins_within : {X : Type 0} (front xs : List X) → IsPrefix front xs → length front ≤ length xs
-begins_within front xs begins =
-    omega (arith, ap length begins.1, length-append front begins.0)
+use Rattle.scan_rounds.proofs.JoinedLists.{back_dropped, begins_front, begins_within, front_taken}
+use Rattle.scan_rounds.proofs.JoinedLists.{slice_get_within}
 
 module _ {P : Type 0} where
   -- a list that can be read whole ends behind its last page

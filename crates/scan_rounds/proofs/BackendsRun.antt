@@ -18,7 +18,7 @@ use Rattle.scan_rounds.specs.BlockFilter.{BlockFilter}
 use Rattle.scan_rounds.specs.DiskActors.{ActorHasRoom, DiskActorAdvanced, IsBackend}
 use Rattle.scan_rounds.specs.DiskActors.{backend_options}
 use Rattle.scan_rounds.specs.Exchanges.{AreClientsOf, ClientsHold, MayExchange}
-use Rattle.scan_rounds.specs.Exchanges.{ShareHasRoom, ShareStands, SharesAdvanced, SourceLed}
+use Rattle.scan_rounds.specs.Exchanges.{ShareHasRoom, ShareStandsIn, SharesAdvanced, SourceLed}
 use Rattle.scan_rounds.specs.Exchanges.{failed_results_of_share, jobs_of_shares}
 use Rattle.scan_rounds.specs.Exchanges.{results_of_share}
 use Rattle.scan_rounds.specs.Jobs.{IsNewJob, count_unskipped}
@@ -124,18 +124,22 @@ module _ {W D : Type 0} where
 module _ {W D A : Type 0} (m : DiskGhosts D) (world : WorldGhosts W) (s : JobSourceGhosts A W)
   where
     -- the shares of backends that may run stand when they go out
-    new_shares_stand : (t : TableView) (q : QueueView) (places : ℕ) (f : Option BlockFilter)
-        (ss : List (Share W D)) (bs : List (Backend W D)) (a : A) → All (IsNewShare places) ss
-        → bs ≡ map share_backend ss → BackendsMayRun m world s t q f bs a
-        → All (ShareStands m world t q places (s.blocks_left a) (s.options a)) ss
-    new_shares_stand t q places f ss bs a new out may i d lt =
+    new_shares_stand : (t : TableView) (q : QueueView) (f : Option BlockFilter)
+        (ss : List (Share W D)) (bs : List (Backend W D)) (a : RunProgress A)
+        → All (IsNewShare (length a.spare.items)) ss → bs ≡ map share_backend ss
+        → BackendsMayRun m world s t q f bs a.job_source
+        → All (ShareStandsIn m world t q s a) ss
+    new_shares_stand t q f ss bs a new out may i d lt =
         let x = slice_index_or ss i d in
+        let places = length a.spare.items in
+        let left = s.blocks_left a.job_source in
         let none = new i d lt in record {
           is = all_mapped (IsBackend m world t q) share_backend ss (rw (sym out) may.backends) i d lt;
-          room = room_out places 0 (s.blocks_left a) ss new
-              (rw (sym out) (λ j e below. fewer (0 + 64 * s.blocks_left a) (64 * s.blocks_left a)
-              (slice_index_or bs j e).disk_actor.actor (omega arith) (may.room j e below))) i d lt;
-          options_are = all_mapped (λ (b : Backend W D). backend_options b ≡ s.options a)
+          room = room_out places 0 left ss new (rw (sym out) (λ j e below. fewer (0 + 64 * left)
+              (64 * left) (slice_index_or bs j e).disk_actor.actor (omega arith)
+              (may.room j e below))) i d lt;
+          options_are = all_mapped (λ (b : Backend W D).
+              backend_options b ≡ s.options a.job_source)
               share_backend ss (rw (sym out) may.all_have_options) i d lt;
           places_are = none.1;
           fits = omega (arith, none.0);
@@ -145,21 +149,21 @@ module _ {W D A : Type 0} (m : DiskGhosts D) (world : WorldGhosts W) (s : JobSou
     -- the shares of backends that may run are out, and may be exchanged
     pub may_exchange_first : (shared : SharedState W) (f : Option BlockFilter)
         (handoffs : List (HandoffView (RunTerms W)))
-        (clients : List (ClientView (RunTerms W) (Share W D))) (spare : List Job) (places : ℕ)
-        (ss : List (Share W D)) (bs : List (Backend W D)) (a : A)
-        → BackendsMayRun m world s shared.table shared.queue f bs a
+        (clients : List (ClientView (RunTerms W) (Share W D))) (places : ℕ)
+        (ss : List (Share W D)) (bs : List (Backend W D)) (a : RunProgress A)
+        → BackendsMayRun m world s shared.table shared.queue f bs a.job_source
         → All (λ (h : HandoffView (RunTerms W)). AreTermsOf h.key shared f) handoffs
         → AreClientsOf handoffs clients → ClientsHold clients ss → All (IsNewShare places) ss
-        → bs ≡ map share_backend ss → length spare ≡ places → 1 ≤ places
-        → MayExchange m world s shared f handoffs clients spare a
-    may_exchange_first shared f handoffs clients spare places ss bs a may terms clients_are hold new
-        out same some = record {
+        → bs ≡ map share_backend ss → length a.spare.items ≡ places → 1 ≤ places
+        → MayExchange m world s shared f handoffs clients a
+    may_exchange_first shared f handoffs clients places ss bs a may terms clients_are hold new out
+        same some = record {
           shares = ss;
           terms = terms;
           clients_are = clients_are;
           hold = hold;
-          stand = rw same (new_shares_stand shared.table shared.queue places f ss bs a new
-              out may);
+          stand = new_shares_stand shared.table shared.queue f ss bs a
+              (subst (λ (n : ℕ). All (IsNewShare n) ss) (sym same) new) out may;
           some = (let long = ap length out in omega (
             arith,
             may.some,
@@ -169,6 +173,30 @@ module _ {W D A : Type 0} (m : DiskGhosts D) (world : WorldGhosts W) (s : JobSou
           places = omega arith;
           filter_is = may.filter_is;
         }
+
+    -- after some time the shares that are out may be exchanged again
+    pub may_exchange_on : (shared : SharedState W) (f : Option BlockFilter)
+        (handoffs : List (HandoffView (RunTerms W)))
+        (clients later : List (ClientView (RunTerms W) (Share W D))) (rs : List (Share W D))
+        (a b : RunProgress A) (may : MayExchange m world s shared f handoffs clients a)
+        → SharesAdvanced m world shared.table shared.queue s may.shares rs a b
+        → AreClientsOf handoffs later → ClientsHold later rs
+        → MayExchange m world s shared f handoffs later b
+    may_exchange_on shared f handoffs clients later rs a b may went clients_are hold = record {
+      shares = rs;
+      terms = may.terms;
+      clients_are = clients_are;
+      hold = hold;
+      stand = went.counted.stand;
+      some = omega (
+        arith,
+        may.some,
+        zip-length (λ (x y : Share W D). DiskActorAdvanced m world shared.table
+            x.backend.disk_actor y.backend.disk_actor) may.shares rs went.counted.advanced,
+      );
+      places = omega (arith, may.places, went.counted.places_same);
+      filter_is = went.counted.filter_same ∙ may.filter_is;
+    }
 
 module _ {W D A : Type 0} (m : DiskGhosts D) (world : WorldGhosts W) (s : JobSourceGhosts A W)
     (t : TableView) (q : QueueView) where
@@ -208,16 +236,14 @@ module _ {W D A : Type 0} (m : DiskGhosts D) (world : WorldGhosts W) (s : JobSou
       }
 
   -- the shares went out, went round and came back
-  pub gathered_ran : (places long : ℕ) (ss rs : List (Share W D)) (bs cs : List (Backend W D))
-      (a b c : A) (u v w : RunProgress) → ((x : A) → s.follows x x)
-      → ((x : A) → s.gives_jobs x [] x) → u.phase ≡ phase.Asking → All (IsNewShare places) ss
-      → bs ≡ map share_backend ss
-      → SharesAdvanced m world t q s long ss rs a b u v
-      → SharesGathered m world s t q rs cs b c v w
-      → BackendsRan m world s t q bs cs a c u.unread w.unread
-  gathered_ran places long ss rs bs cs a b c u v w follows_itself giving_none asking new out round
-      home =
+  pub gathered_ran : (places : ℕ) (ss rs : List (Share W D)) (bs cs : List (Backend W D))
+      (a b c : RunProgress A) → ((x : A) → s.follows x x) → ((x : A) → s.gives_jobs x [] x)
+      → a.phase ≡ phase.Asking → All (IsNewShare places) ss → bs ≡ map share_backend ss
+      → SharesAdvanced m world t q s ss rs a b → SharesGathered m world s t q rs cs b c
+      → BackendsRan m world s t q bs cs a.job_source c.job_source a.unread c.unread
+  gathered_ran places ss rs bs cs a b c follows_itself giving_none asking new out round home =
       let one = round.counted in
+      let first = a.job_source in
       let none : jobs_of_shares ss ≡ [] = none_out places ss new in
       let gone : Share W D → Backend W D → Type 0 =
       λ x y. DiskActorAdvanced m world t x.backend.disk_actor y.disk_actor in
@@ -226,21 +252,22 @@ module _ {W D A : Type 0} (m : DiskGhosts D) (world : WorldGhosts W) (s : JobSou
       y.backend.disk_actor) gone gone
       (λ x y z. goes_then m world t x.backend.disk_actor y.backend.disk_actor z.disk_actor)
       ss rs cs one.advanced home.advanced in
-      let started : SourceLed world.told s u.phase a a (jobs_of_shares ss) =
-      rw (asking, none) (a, follows_itself a, giving_none a) in
-      let ended = home.led a (round.led a started) in
+      let started : SourceLed world.told s a.phase first first (jobs_of_shares ss) =
+      rw (asking, none) (first, follows_itself first, giving_none first) in
+      let ended = home.led first (round.led first started) in
       rw out (record {
         backends = home.backends;
         as_many = omega (arith, zip-length gone ss cs advanced, length-map ss share_backend);
         actors_advanced = actors_mapped ss cs advanced;
-        room = λ n all. home.room n (one.room n (room_out places n (s.blocks_left a) ss new all));
-        results_bound = (let taken = results_out places (s.block_filter a) ss new in
+        room = λ n all. home.room n (one.room n (room_out places n (s.blocks_left first) ss new
+            all));
+        results_bound = (let taken = results_out places (s.block_filter first) ss new in
             let same = ap (λ (f : Option BlockFilter). sum_by (results_of_share f) rs)
             one.filter_same in
             omega (arith, taken, same, one.results_bound, home.results_bound));
         more = one.more + home.more;
         unread_raised = home.unread_raised ∙ (ap (count_plus home.more) one.unread_raised
-            ∙ raised_twice one.more home.more u.unread);
+            ∙ raised_twice one.more home.more a.unread);
         failed_more = omega (arith, failed_out places ss, one.failed_more, home.failed_more);
         unread_enough = omega (arith, one.unread_enough, home.unread_enough);
         filter_same = home.filter_same ∙ one.filter_same;

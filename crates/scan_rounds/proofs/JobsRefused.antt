@@ -1,65 +1,34 @@
 -- Jobs that ended for want of memory, without a page.
-use Rattle.std.proofs.Common.{◌≡◌, ℕ, zero, suc, List, [], ◌∷◌, ◌++◌, length, take, refl}
-use Rattle.std.proofs.Common.{◌∙◌, sym, subst, arith, append-nil}
-use Rattle.std.specs.Prelude.{Option, Some, None, slice_index_or, slice_set, ⊤}
+use Rattle.std.proofs.Common.{◌≡◌, ℕ, zero, suc, List, [], ◌∷◌, ◌++◌, length, take, refl, ◌∙◌, sym}
+use Rattle.std.proofs.Common.{subst, arith, append-nil}
+use Rattle.std.specs.Prelude.{Option, slice_index_or, slice_set, ⊤}
 use Rattle.std.specs.List.{All}
-use Rattle.std.proofs.lemmas.List.Elements.{All-nil}
 use Rattle.page_check.specs.declared.world.World.{Ghosts as WorldGhosts}
-use Rattle.page_check.specs.IsAnswer.{IsAnswer, IsGiven}
-use Rattle.page_check.specs.SynchronousAnswer.{Reader, readable_pages, reader_of}
 use Rattle.page_check.specs.Told.{Told}
 use Rattle.heap_tuple.specs.Listing.{text_with}
 use Rattle.scan_rounds.specs.BlockFilter.{BlockFilter}
-use Rattle.scan_rounds.specs.Jobs.{AllJobsAnswered, IsNewJob, JobIsListed, entries_of_job}
-use Rattle.scan_rounds.specs.Jobs.{unread_job_count}
+use Rattle.scan_rounds.specs.Jobs.{AllJobsAnswered, IsNewJob}
+use Rattle.scan_rounds.specs.Jobs.{unread_job_count, ended_job}
 use Rattle.scan_rounds.specs.ListOptions.{ListOptions}
 use Rattle.scan_rounds.specs.declared.job.Ending.TheVariants as ending
 use Rattle.scan_rounds.specs.declared.job.Job.{Job}
 use Rattle.scan_rounds.specs.declared.job_source.JobSource.{Ghosts as JobSourceGhosts}
-use Rattle.scan_rounds.proofs.OutputOfPages.{no_text}
-use Rattle.scan_rounds.proofs.UnitEntries.{E, G}
+use Rattle.scan_rounds.proofs.JobsListed.{new_jobs_have_none, none_listed}
 
 -- the same job, for which there is no memory
 abbrev pub refused : Job → Job
-refused j = record j { ending = ending.NoMemory }
-
--- no page answers any blocks so far
-none_given : (found : Option Reader) (may : E → Type 0) (entries : List E)
-    → IsAnswer found may entries (record { pages = []; endings = [] })
-none_given None may entries = record {
-  first = (All-nil (λ (g : G). IsGiven g), (entries, refl));
-  endings = tt;
-}
-none_given (Some found) may entries = record {
-  first = (readable_pages found entries, refl);
-  endings = tt;
-}
+refused j = ended_job ending.NoMemory j
 
 module _ (block_filter : Option BlockFilter) (how : ListOptions) (told : Option Told)
     (relations : ℕ) where
-  refused_job : (j : Job) → IsNewJob relations j
-      → JobIsListed block_filter how told (λ _. ⊤) j (refused j)
-  refused_job j fresh =
-      let none = no_text (text_with how.tuples) j fresh.no_text fresh.no_warnings fresh.no_tally in
-      record {
-        same = (refl, refl, refl);
-        answer = record {
-          pages = [];
-          text_is = none.text_is;
-          warnings_are = none.warnings_are;
-          sums_are = none.sums_are;
-          answers = none_given (reader_of how.zero told) (λ _. ⊤) (entries_of_job block_filter j);
-        };
-        no_warnings = λ off. fresh.no_warnings;
-      }
-
   -- one job, which is refused
   pub refused_jobs : (js : List Job) (d : Job) → length js ≡ 1 → All (IsNewJob relations) js
       → AllJobsAnswered block_filter how told js (slice_set js 0 (refused (slice_index_or js 0 d)))
   refused_jobs (j ∷ []) d one fresh = record {
     as_many = refl;
     each = elim [
-      | zero ↦ λ e lt. refused_job j (fresh 0 j (omega arith))
+      | zero ↦ λ e lt. (none_listed block_filter how told (λ _. ⊤) (j ∷ []) (j ∷ []) refl
+          (new_jobs_have_none (text_with how.tuples) relations (j ∷ []) fresh)).0
       | suc i ↦ λ e lt. absurd (omega arith)
     ];
   }

@@ -2,15 +2,14 @@ pub mod UnitEntries
 pub mod UnskippedCount
 pub mod Blocks
 mod ConsumerProgress
-mod NeighbouringRanges
+mod JoinedLists
 mod StreamsOfJobs
 mod AnswersSplit
 mod OutputOfPages
-mod MapPages
 mod JobsTakePages
 pub mod JobsListed
+mod ActorsListJobs
 mod JobsRefused
-mod WorkerAtRest
 mod UnreadLeavesResult
 mod LeastRoom
 mod ListPairs
@@ -19,14 +18,13 @@ mod CountRaised
 pub mod Sums
 mod QueueClosed
 mod ScanAfterRounds
-mod SharesListed
+mod SharesOfClients
 mod SharesExchange
 mod SharesCompose
 mod JobsByPlace
-mod SharesOfClients
 mod SharesGathered
 mod JobsInSequence
-pub mod ThreadPremises
+mod WorkersServe
 mod ResultsMatchExecutions
 mod DisksCountForActors
 mod TotalsMatchDisks
@@ -36,6 +34,5 @@ mod SeatsAndRings
 mod AssembledScan
 mod ScanAfterMap
 pub mod ReadMaps
-mod SharesBegun
 mod BackendsRun
 mod ScanAfterRun

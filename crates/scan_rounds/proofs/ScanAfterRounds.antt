@@ -20,7 +20,7 @@ use Rattle.scan_rounds.specs.declared.worker.Worker.{Worker}
 use Rattle.scan_rounds.specs.declared.scan.Scan.{Scan}
 use Rattle.scan_rounds.proofs.ActorsAdvance.{pays_then, some_same}
 use Rattle.scan_rounds.proofs.ListPairs.{zip-append, zip-each, zip-map, zip-then}
-use Rattle.scan_rounds.proofs.ThreadPremises.{may_serve}
+use Rattle.scan_rounds.proofs.WorkersServe.{may_serve}
 
 seat_again : (q r : QueueView) (s : Option SeatView) → r.entries ≡ q.entries → r.words ≡ q.words
     → IfSome s (IsSeatOf q) → IfSome s (IsSeatOf r)

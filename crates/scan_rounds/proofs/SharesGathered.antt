@@ -154,15 +154,16 @@ module _ {W A : Type 0} (world : WorldGhosts W) (s : JobSourceGhosts A W)
   )
   source_over phase.Stopped start b not led = led
 
-  pub gathered : {D : Type 0} (m : DiskGhosts D) (t : TableView) (q : QueueView) (places : ℕ)
-      (ss rs us : List (Share W D)) (cs : List (Backend W D)) (a b : A)
-      (before after : RunProgress) → SharesAdvanced m world t q s places ss rs a b before after
-      → NothingIsOut rs after.phase → AllZip (ShareSpent m world t q (s.block_filter a)) rs us
+  pub gathered : {D : Type 0} (m : DiskGhosts D) (t : TableView) (q : QueueView)
+      (ss rs us : List (Share W D)) (cs : List (Backend W D)) (a b : RunProgress A)
+      → SharesAdvanced m world t q s ss rs a b → NothingIsOut rs b.phase
+      → AllZip (ShareSpent m world t q (s.block_filter a.job_source)) rs us
       → SameActors (map share_backend us) cs → All (IsBackend m world t q) cs
       → ((how : ListOptions) → AllHaveOptions how (map share_backend us) → AllHaveOptions how cs)
-      → IsClosedByFirst q cs → SharesGathered m world s t q ss cs a b before after
-  gathered {D} m t q places ss rs us cs a b before after e nothing spent same are options closed =
-      let f = s.block_filter a in
+      → IsClosedByFirst q cs → SharesGathered m world s t q ss cs a b
+  gathered {D} m t q ss rs us cs a b e nothing spent same are options closed =
+      let f = s.block_filter a.job_source in
+      let left = s.blocks_left b.job_source in
       let ds = map share_backend us in
       let counted = e.counted in
       let results : results_taken_count cs ≡ results_taken_count ds =
@@ -182,9 +183,8 @@ module _ {W A : Type 0} (world : WorldGhosts W) (s : JobSourceGhosts A W)
             (λ (x u : Share W D). Went x u.backend.disk_actor)
             (λ x y u one two. goes_then m world t x.backend.disk_actor y.backend.disk_actor
             u.backend.disk_actor one two.backend.advanced) ss rs us counted.advanced spent))));
-        room = λ n has. all_as (λ (h : DiskActor W D). ActorHasRoom (n + 64 * s.blocks_left b)
-            h.actor) ds cs same
-            (came_room m world t q f rs us spent n (s.blocks_left b)
+        room = λ n has. all_as (λ (h : DiskActor W D). ActorHasRoom (n + 64 * left) h.actor) ds cs
+            same (came_room m world t q f rs us spent n left
             (λ i d lt. (counted.stand i d lt).is) (counted.room n has));
         results_bound = omega (
           arith,
@@ -203,10 +203,10 @@ module _ {W A : Type 0} (world : WorldGhosts W) (s : JobSourceGhosts A W)
         unread_enough = counted.unread_enough;
         filter_same = counted.filter_same;
         options_same = counted.options_same;
-        all_have_options = options (s.options b) (came_options m world t q f rs us spent
-            (s.options b) (λ i d lt. (counted.stand i d lt).options_are));
-        led = λ start led. source_over after.phase start b nothing.1
-            (subst (λ (jobs : List Job). SourceLed world.told s after.phase start b jobs)
+        all_have_options = options (s.options b.job_source) (came_options m world t q f rs us spent
+            (s.options b.job_source) (λ i d lt. (counted.stand i d lt).options_are));
+        led = λ start led. source_over b.phase start b.job_source nothing.1
+            (subst (λ (jobs : List Job). SourceLed world.told s b.phase start b.job_source jobs)
             (none_out rs nothing.0) (e.led start led));
         closed = closed;
       }

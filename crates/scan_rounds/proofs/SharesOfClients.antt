@@ -1,7 +1,7 @@
 -- Clients and the shares that they hold, and the backends of these.
-use Rattle.std.proofs.Common.{◌≡◌, ℕ, ◌*◌, List, [], ◌∷◌, ◌++◌, length, map, ap, sym}
-use Rattle.std.proofs.Common.{◌∙◌, subst, arith, append-nil, append_assoc, take}
-use Rattle.std.specs.Prelude.{Some}
+use Rattle.std.proofs.Common.{◌≡◌, ℕ, ◌*◌, List, [], ◌∷◌, ◌++◌, length, map, ap, sym, ◌∙◌, subst}
+use Rattle.std.proofs.Common.{arith, append-nil, append_assoc, take, refl, ◌≢◌}
+use Rattle.std.specs.Prelude.{Some, Option, None}
 use Rattle.std.specs.List.{All, AllZip}
 use Rattle.std.proofs.lemmas.List.Elements.{All-nil, All-cons, All-head, All-tail}
 use Rattle.page_check.specs.declared.world.World.{Ghosts as WorldGhosts}
@@ -18,7 +18,14 @@ use Rattle.scan_rounds.specs.declared.backend.Backend.{Backend}
 use Rattle.scan_rounds.specs.declared.share.RunTerms.{RunTerms}
 use Rattle.scan_rounds.specs.declared.share.Share.{Share}
 use Rattle.scan_rounds.proofs.ListPairs.{all_back, all_front, zip-beside}
-use Rattle.scan_rounds.proofs.SharesListed.{same_request}
+
+-- a client has one request
+pub same_request : {Q : Type 0} {o : Option Q} (s r : Q) → o ≡ Some s → o ≡ Some r → s ≡ r
+same_request s r one two = cc
+
+pub request_of : {Q : Type 0} (o : Option Q) → o ≢ None → (s : Q) × (o ≡ Some s)
+request_of (Some s) some = (s, refl)
+request_of None some = absurd (some refl)
 
 -- the last, and those before it
 pub all_last : {A : Type 0} (x : A) (xs us : List A) → us ≡ xs ++ x ∷ [] → (P : A → Type 0)
@@ -30,6 +37,32 @@ all_last x xs us is P all =
 module _ {W D : Type 0} where
   abbrev Holds : ClientView (RunTerms W) (Share W D) → Share W D → Type 0
   Holds c s = c.requested ≡ Some s
+
+  -- the first of some clients and the others, with the shares that they hold
+  pub held_first : (c : ClientView (RunTerms W) (Share W D))
+      (cs : List (ClientView (RunTerms W) (Share W D))) (ss : List (Share W D))
+      → ClientsHold (c ∷ cs) ss
+      → (x : Share W D) × (xs : List (Share W D)) × (ss ≡ x ∷ xs) × (c.requested ≡ Some x)
+      × ClientsHold cs xs
+  held_first c cs (x ∷ xs) hold = (x, xs, refl, hold.0, hold.1)
+  held_first c cs [] hold = absurd hold
+
+  pub held_none : (cs : List (ClientView (RunTerms W) (Share W D))) (ss : List (Share W D))
+      → length cs ≡ 0 → ClientsHold cs ss → ss ≡ []
+  held_none [] [] none hold = refl
+  held_none [] (x ∷ xs) none hold = absurd hold
+  held_none (c ∷ cs) ss none hold = absurd (omega (arith, none))
+
+  pub held_same : (cs : List (ClientView (RunTerms W) (Share W D))) (ss rs : List (Share W D))
+      → ClientsHold cs ss → ClientsHold cs rs → ss ≡ rs
+  held_same [] [] [] one two = refl
+  held_same (c ∷ cs) (x ∷ xs) (y ∷ ys) one two =
+      ap (λ (z : Share W D). z ∷ xs) (same_request x y one.0 two.0)
+      ∙ ap (λ (zs : List (Share W D)). y ∷ zs) (held_same cs xs ys one.1 two.1)
+  held_same [] (x ∷ xs) rs one two = absurd one
+  held_same [] [] (y ∷ ys) one two = absurd two
+  held_same (c ∷ cs) [] rs one two = absurd one
+  held_same (c ∷ cs) (x ∷ xs) [] one two = absurd two
 
   -- the share that the first of them holds
   pub first_share : (P : Share W D → Type 0) (c : ClientView (RunTerms W) (Share W D))

@@ -1,19 +1,26 @@
 -- Jobs of neighbouring blocks, which one stream reads.
-use Rattle.std.proofs.Common.{◌≡◌, ℕ, suc, ◌+◌, ◌*◌, ◌≤◌, ◌^◌, List, [], ◌∷◌, ◌++◌, length, refl, sym}
-use Rattle.std.proofs.Common.{ap, ◌∙◌, arith, append-nil, take}
+use Rattle.std.proofs.Common.{◌≡◌, ℕ, suc, ◌+◌, ◌*◌, ◌≤◌, ◌^◌, List, [], ◌∷◌, ◌++◌, length, refl}
+use Rattle.std.proofs.Common.{sym, ap, ◌∙◌, arith, append-nil, take, map}
 use Rattle.std.specs.Prelude.{Option, None, slice_index_or}
-use Rattle.std.proofs.lemmas.List.{length-take-le}
-use Rattle.heap_scan.specs.Job.{job_entries}
+use Rattle.std.proofs.lemmas.List.{length-take-le, map-append}
+use Rattle.heap_scan.specs.Job.{job_entries, block_entry}
 use Rattle.scan_rounds.specs.BlockFilter.{filter_of_skipping, unskipped_range}
 use Rattle.scan_rounds.specs.DiskActors.{IsStreamOfJobs}
-use Rattle.scan_rounds.specs.Jobs.{AreWholeButLast, IsNewJob, entries_of_job}
-use Rattle.scan_rounds.specs.Jobs.{entries_of_jobs}
+use Rattle.scan_rounds.specs.Jobs.{AreWholeButLast, IsNewJob, entries_of_job, entries_of_jobs}
 use Rattle.scan_rounds.specs.declared.job.Job.{Job}
 use Rattle.scan_rounds.specs.declared.map_filter.MapFilter.{MapFilter}
 use Rattle.scan_rounds.specs.declared.source.Blocks.{Blocks}
-use Rattle.scan_rounds.proofs.NeighbouringRanges.{job_entries-append}
+use Rattle.scan_rounds.proofs.JoinedLists.{range_append}
 use Rattle.scan_rounds.proofs.UnitEntries.{E}
 use Rattle.scan_rounds.proofs.UnskippedCount.{range_count}
+use Rattle.std.specs.List.{range_with_len}
+
+-- the blocks of a job are those of two jobs side by side
+job_entries-append : (relation first c d : ℕ) → job_entries relation first (c + d)
+    ≡ job_entries relation first c ++ job_entries relation (first + c) d
+job_entries-append relation first c d =
+    ap (map (block_entry relation)) (range_append first c d)
+    ∙ map-append (block_entry relation) (range_with_len first c) (range_with_len (first + c) d)
 
 -- a job, and then those whose blocks stand behind its own
 pub job_and_following : (relation next blocks many : ℕ) (j : Job) (js : List Job)

@@ -61,7 +61,7 @@ module _ {W D : Type 0} (m : DiskGhosts D) (world : WorldGhosts W) where
     pub results_bound : results_taken_count n.backends.items ≤ results_taken_count s.backends.items
         + count_unskipped block_filter asked
 
-  -- all rounds of a job source may be made, without these blocks
+  -- a run of a job source may be made, without these blocks
   pub record ScanMayRunSource {A : Type 0} (a : JobSourceGhosts A W) (without : Option BlockFilter)
       (s : Scan W D) (job_source : A) : Type 0 where
     pub scan : IsScan m world s
@@ -69,7 +69,7 @@ module _ {W D : Type 0} (m : DiskGhosts D) (world : WorldGhosts W) where
     pub options_are : a.options job_source ≡ scan_options s
     pub filter_is : a.block_filter job_source ≡ without
 
-  -- they were made, and the job source is over
+  -- it was made, and the job source is over
   pub record ScanRanSource {A : Type 0} (a : JobSourceGhosts A W) (s n : Scan W D)
       (job_source end : A) : Type 0 where
     pub scan : IsScan m world n

@@ -1,4 +1,4 @@
--- An actor with its disk, between its calls, and what a round makes of it.
+-- An actor with its disk, between its calls, and what a call makes of it.
 use Rattle.std.specs.Prelude.{◌≡◌, ℕ, ◌+◌, ◌^◌, ◌<◌, ◌≤◌, ◌++◌, Bool, List, Option, Some, None}
 use Rattle.std.specs.Prelude.{IfSome, is_some, length, true, ◌*◌, slice_index_or}
 use Rattle.std.specs.List.{All, AllZip}
@@ -158,8 +158,8 @@ module _ {W D : Type 0} (m : DiskGhosts D) (world : WorldGhosts W)
           ≤ failed_result_count c.disk_actor.actor.known.marks
       pub listed : AllZip (JobIsListed block_filter (backend_options b) world.told may) js ls
 
-    -- it has read so many pages of a map, up to this ending, and keeps all but its actor and its
-    -- disk
+    -- it has read so many pages of a map, at most 65, up to this ending, and lists by the same
+    -- options
     pub record BackendReadMap (b c : Backend W D) (relation pages : ℕ) (map : Map)
         (warnings : List ℕ) (end : Ending) : Type 0 where
       pub is : IsBackend c

@@ -59,8 +59,8 @@ abbrev pub NothingIsOut : {W D : Type 0} → List (Share W D) → Phase → Type
 NothingIsOut rs p = All (λ (x : Share _ _). x.count ≡ 0) rs × (p ≢ phase.Asking)
 
 module _ {W A : Type 0} (told : Option Told) (s : JobSourceGhosts A W) where
-  -- the job source has given these jobs last, and has taken back all that it gave before since it
-  -- was so
+  -- since the first state the job source has taken back all jobs that it gave, but for these, which
+  -- it gave last
   abbrev pub JobsAreOut : A → A → List Job → Type 0
   JobsAreOut start now jobs = (next : A) × s.follows start next × s.gives_jobs next jobs now
 
@@ -70,7 +70,7 @@ module _ {W A : Type 0} (told : Option Told) (s : JobSourceGhosts A W) where
   SourceLed phase.Finishing start now jobs = s.is_over now × JobsAreOut start now jobs
   SourceLed phase.Stopped start now jobs = s.is_over now × s.follows start now
 
-  -- it has not given back more blocks, and keeps its options
+  -- what it has left fell by the blocks of these jobs at least; filter and options are the same
   pub record SourceKept (a b : A) (jobs : List Job) (unread : ℕ) : Type 0 where
     pub left : s.blocks_left b + job_block_count jobs ≤ s.blocks_left a
     pub unskipped : s.unskipped_left b + count_unskipped (s.block_filter a) jobs
@@ -100,11 +100,11 @@ module _ {W A : Type 0} (world : WorldGhosts W) (s : JobSourceGhosts A W) where
     pub not_asking : p ≢ phase.Asking → r ≢ phase.Asking
 
 -- where this is above 0, jobs were given and fewer blocks are left; where it is 0, none was
-pub record SomeGiven {W D A : Type 0} (s : JobSourceGhosts A W) (a b : A) (rs : List (Share W D))
-    (r : Phase) (blocks : ℕ) : Type 0 where
-  pub fewer_left : 0 < blocks → s.blocks_left b < s.blocks_left a
+pub record SomeGiven {W D A : Type 0} (s : JobSourceGhosts A W) (a b : RunProgress A)
+    (rs : List (Share W D)) (blocks : ℕ) : Type 0 where
+  pub fewer_left : 0 < blocks → s.blocks_left b.job_source < s.blocks_left a.job_source
   pub none : blocks ≡ 0 → All (λ (x : Share W D). x.count ≡ 0) rs
-      × (0 < length rs → r ≢ phase.Asking)
+      × (0 < length rs → b.phase ≢ phase.Asking)
 
 module _ {W D : Type 0} (m : DiskGhosts D) (world : WorldGhosts W) (t : TableView)
     (q : QueueView) where
@@ -125,55 +125,59 @@ module _ {W D : Type 0} (m : DiskGhosts D) (world : WorldGhosts W) (t : TableVie
     pub fresh : All (IsNewJob world.relations) (share_jobs s)
 
   module _ {A : Type 0} (s : JobSourceGhosts A W) where
+    -- it is out in a run that has come so far
+    abbrev pub ShareStandsIn : RunProgress A → Share W D → Type 0
+    ShareStandsIn p x = ShareStands (length p.spare.items) (s.blocks_left p.job_source)
+        (s.options p.job_source) x
+
     -- what was used up while these shares came back and went out again
-    pub record SharesCounted (places : ℕ) (ss rs : List (Share W D)) (a b : A)
-        (before after : RunProgress) : Type 0 where
-      pub stand : All (ShareStands places (s.blocks_left b) (s.options b)) rs
+    pub record SharesCounted (ss rs : List (Share W D)) (a b : RunProgress A) : Type 0 where
+      pub stand : All (ShareStandsIn b) rs
+      pub places_same : length b.spare.items ≡ length a.spare.items
       pub advanced : AllZip (λ (x y : Share W D). DiskActorAdvanced m world t
           x.backend.disk_actor y.backend.disk_actor) ss rs
-      pub room : (n : ℕ) → All (ShareHasRoom n (s.blocks_left a)) ss
-          → All (ShareHasRoom n (s.blocks_left b)) rs
-      pub left : s.blocks_left b ≤ s.blocks_left a
-      pub results_bound : sum_by (results_of_share (s.block_filter a)) rs + s.unskipped_left b
-          ≤ sum_by (results_of_share (s.block_filter a)) ss + s.unskipped_left a
+      pub room : (n : ℕ) → All (ShareHasRoom n (s.blocks_left a.job_source)) ss
+          → All (ShareHasRoom n (s.blocks_left b.job_source)) rs
+      pub left : s.blocks_left b.job_source ≤ s.blocks_left a.job_source
+      pub results_bound : sum_by (results_of_share (s.block_filter a.job_source)) rs
+          + s.unskipped_left b.job_source
+          ≤ sum_by (results_of_share (s.block_filter a.job_source)) ss
+          + s.unskipped_left a.job_source
       pub more : ℕ
-      pub unread_raised : after.unread ≡ count_plus more before.unread
+      pub unread_raised : b.unread ≡ count_plus more a.unread
       pub failed_more : sum_by failed_results_of_share ss + more
           ≤ sum_by failed_results_of_share rs
-      pub unread_enough : s.unread b ≤ s.unread a + more
-      pub filter_same : s.block_filter b ≡ s.block_filter a
-      pub options_same : s.options b ≡ s.options a
+      pub unread_enough : s.unread b.job_source ≤ s.unread a.job_source + more
+      pub filter_same : s.block_filter b.job_source ≡ s.block_filter a.job_source
+      pub options_same : s.options b.job_source ≡ s.options a.job_source
 
     -- each came back and went out again: the jobs that were out first are finished, and those that
     -- were given stand last
-    pub record SharesExchanged (places : ℕ) (ss rs : List (Share W D)) (a b : A)
-        (before after : RunProgress) : Type 0 where
-      pub counted : SharesCounted places ss rs a b before after
-      pub not_asking : before.phase ≢ phase.Asking → after.phase ≢ phase.Asking
+    pub record SharesExchanged (ss rs : List (Share W D)) (a b : RunProgress A) : Type 0 where
+      pub counted : SharesCounted ss rs a b
+      pub not_asking : a.phase ≢ phase.Asking → b.phase ≢ phase.Asking
       pub led : (start : A) (later : List Job)
-          → SourceLed world.told s before.phase start a (jobs_of_shares ss ++ later)
-          → SourceLed world.told s after.phase start b (later ++ jobs_of_shares rs)
+          → SourceLed world.told s a.phase start a.job_source (jobs_of_shares ss ++ later)
+          → SourceLed world.told s b.phase start b.job_source (later ++ jobs_of_shares rs)
 
     -- the same over some time: all that was out first is finished
-    pub record SharesAdvanced (places : ℕ) (ss rs : List (Share W D)) (a b : A)
-        (before after : RunProgress) : Type 0 where
-      pub counted : SharesCounted places ss rs a b before after
-      pub led : (start : A) → SourceLed world.told s before.phase start a (jobs_of_shares ss)
-          → SourceLed world.told s after.phase start b (jobs_of_shares rs)
+    pub record SharesAdvanced (ss rs : List (Share W D)) (a b : RunProgress A) : Type 0 where
+      pub counted : SharesCounted ss rs a b
+      pub led : (start : A)
+          → SourceLed world.told s a.phase start a.job_source (jobs_of_shares ss)
+          → SourceLed world.told s b.phase start b.job_source (jobs_of_shares rs)
 
 module _ {W D A : Type 0} (m : DiskGhosts D) (world : WorldGhosts W) (s : JobSourceGhosts A W)
   where
     -- the shares of a run are out, and may be exchanged
     pub record MayExchange (shared : SharedState W) (block_filter : Option BlockFilter)
         (handoffs : List (HandoffView (RunTerms W)))
-        (clients : List (ClientView (RunTerms W) (Share W D))) (spare : List Job) (a : A)
-        : Type 0 where
+        (clients : List (ClientView (RunTerms W) (Share W D))) (a : RunProgress A) : Type 0 where
       pub shares : List (Share W D)
       pub terms : All (λ h. AreTermsOf h.key shared block_filter) handoffs
       pub clients_are : AreClientsOf handoffs clients
       pub hold : ClientsHold clients shares
-      pub stand : All (ShareStands m world shared.table shared.queue (length spare)
-          (s.blocks_left a) (s.options a)) shares
+      pub stand : All (ShareStandsIn m world shared.table shared.queue s a) shares
       pub some : 1 ≤ length shares
-      pub places : 1 ≤ length spare
-      pub filter_is : s.block_filter a ≡ block_filter
+      pub places : 1 ≤ length a.spare.items
+      pub filter_is : s.block_filter a.job_source ≡ block_filter

@@ -18,7 +18,6 @@ use Rattle.scan_rounds.specs.Rounds.{AllBackendsHaveRoom, AllHaveOptions, backen
 use Rattle.scan_rounds.specs.Rounds.{failed_results_taken, results_taken_count}
 use Rattle.scan_rounds.specs.declared.backend.Backend.{Backend}
 use Rattle.scan_rounds.specs.declared.exchange.RunProgress.{RunProgress}
-use Rattle.scan_rounds.specs.declared.job.Job.{Job}
 use Rattle.scan_rounds.specs.declared.job_source.JobSource.{Ghosts as JobSourceGhosts}
 use Rattle.scan_rounds.specs.declared.run_memory.RunMemory.{RunMemory}
 use Rattle.scan_rounds.specs.declared.share.RunTerms.{RunTerms}
@@ -75,7 +74,7 @@ module _ {W D A : Type 0} (m : DiskGhosts D) (world : WorldGhosts W) (s : JobSou
       pub all_have_options : AllHaveOptions (s.options a) bs
       pub filter_is : s.block_filter a ≡ without
 
-    -- they have listed all jobs of the job source, and are at home again
+    -- the job source is over, and the backends are at home again
     pub record BackendsRan (t : TableView) (q : QueueView) (bs cs : List (Backend W D)) (a b : A)
         (before after : ℕ) : Type 0 where
       pub backends : All (IsBackend m world t q) cs
@@ -100,36 +99,38 @@ module _ {W D A : Type 0} (m : DiskGhosts D) (world : WorldGhosts W) (s : JobSou
     -- the backends of a run are out with their shares, and the list that they come back to is empty
     pub record MayLeadRun (shared : SharedState W) (block_filter : Option BlockFilter)
         (handoffs : List (HandoffView (RunTerms W)))
-        (clients : List (ClientView (RunTerms W) (Share W D))) (spare : List Job) (a : A)
-        (home : List (Backend W D)) (capacity : ℕ) : Type 0 where
-      pub exchange : MayExchange m world s shared block_filter handoffs clients spare a
+        (clients : List (ClientView (RunTerms W) (Share W D))) (home : List (Backend W D))
+        (capacity : ℕ) (a : RunProgress A) : Type 0 where
+      pub exchange : MayExchange m world s shared block_filter handoffs clients a
       pub none_home : home ≡ []
       pub fit : length clients ≤ capacity
 
     -- these shares have come back: all jobs that the job source took back are finished, and it is over
     pub record SharesGathered (t : TableView) (q : QueueView) (ss : List (Share W D))
-        (cs : List (Backend W D)) (a b : A) (before after : RunProgress) : Type 0 where
+        (cs : List (Backend W D)) (a b : RunProgress A) : Type 0 where
       pub backends : All (IsBackend m world t q) cs
       pub advanced : AllZip (λ (x : Share W D) (c : Backend W D). DiskActorAdvanced m world t
           x.backend.disk_actor c.disk_actor) ss cs
-      pub room : (n : ℕ) → All (ShareHasRoom n (s.blocks_left a)) ss
-          → AllBackendsHaveRoom (n + 64 * s.blocks_left b) cs
-      pub results_bound : results_taken_count cs + s.unskipped_left b
-          ≤ sum_by (results_of_share (s.block_filter a)) ss + s.unskipped_left a
+      pub room : (n : ℕ) → All (ShareHasRoom n (s.blocks_left a.job_source)) ss
+          → AllBackendsHaveRoom (n + 64 * s.blocks_left b.job_source) cs
+      pub results_bound : results_taken_count cs + s.unskipped_left b.job_source
+          ≤ sum_by (results_of_share (s.block_filter a.job_source)) ss
+          + s.unskipped_left a.job_source
       pub more : ℕ
-      pub unread_raised : after.unread ≡ count_plus more before.unread
+      pub unread_raised : b.unread ≡ count_plus more a.unread
       pub failed_more : sum_by failed_results_of_share ss + more ≤ failed_results_taken cs
-      pub unread_enough : s.unread b ≤ s.unread a + more
-      pub filter_same : s.block_filter b ≡ s.block_filter a
-      pub options_same : s.options b ≡ s.options a
-      pub all_have_options : AllHaveOptions (s.options b) cs
-      pub led : (start : A) → SourceLed world.told s before.phase start a (jobs_of_shares ss)
-          → s.is_over b × s.follows start b
+      pub unread_enough : s.unread b.job_source ≤ s.unread a.job_source + more
+      pub filter_same : s.block_filter b.job_source ≡ s.block_filter a.job_source
+      pub options_same : s.options b.job_source ≡ s.options a.job_source
+      pub all_have_options : AllHaveOptions (s.options b.job_source) cs
+      pub led : (start : A)
+          → SourceLed world.told s a.phase start a.job_source (jobs_of_shares ss)
+          → s.is_over b.job_source × s.follows start b.job_source
       pub closed : IsClosedByFirst q cs
 
     -- whatever shares these clients held, they have come back
     pub record RunLed (t : TableView) (q : QueueView)
-        (clients : List (ClientView (RunTerms W) (Share W D))) (cs : List (Backend W D)) (a b : A)
-        (before after : RunProgress) : Type 0 where
+        (clients : List (ClientView (RunTerms W) (Share W D))) (cs : List (Backend W D))
+        (a b : RunProgress A) : Type 0 where
       pub gathered : (ss : List (Share W D)) → ClientsHold clients ss
-          → SharesGathered t q ss cs a b before after
+          → SharesGathered t q ss cs a b

@@ -28,7 +28,6 @@ use std::sync::Wait;
 use std::thread;
 use std::thread::Threads;
 
-// Lets a worker serve the queue.
 fn serve_one<W: World, D: Disk, R: Wait>(rt: &R, shared: &SharedState<W>, worker: &mut Worker<W, D>)
     requires may { WorkerMayServe D.Disk W.World shared.now.table shared.now.queue worker.old }
     ensures workers_served { WorkerServed D.Disk W.World shared.now.table
@@ -62,135 +61,87 @@ pub(crate) fn run_workers<W: World + Send + Sync, D: Disk, R: Threads + Wait + S
     );
 }
 
-// The run beside the servers of its shares. What the closures hold has one lifetime, since the
-// borrow checker takes no two in closures that name the same `W`.
-fn lead_beside_servers<
-    'a,
-    W: World + Send + Sync,
-    D: Disk,
-    R: Threads + Wait + Sync,
-    A: JobSource<W>,
->(
+// Serves a run: the workers serve the queue, and each backend has a server for its shares. A
+// backend alone has none: the caller's thread lists its shares, since nobody else takes them. The
+// workers have a lifetime of their own, since the borrow checker takes no mutable borrow at that of
+// the filter.
+fn serve_run<'a, 'b, W: World + Send + Sync, D: Disk, R: Threads + Wait + Sync>(
     rt: &'a R,
     shared: &'a SharedState<W>,
     by_map: &'a Option<MapFilter<'a>>,
+    workers: &'b mut [Worker<W, D>],
     handoffs: &'a [ShareHandoff<W, D>],
-    clients: &'a mut [ShareClient<W, D>],
-    spare: &'a mut Vec<Job>,
-    job_source: &'a mut A,
-    progress: &'a mut RunProgress,
-    backends: &'a mut Vec<Backend<W, D>>,
-)
-    requires may { MayLeadRun D.Disk W.World A.JobSource shared.now (filter_of_skipping by_map.now)
-        handoffs.now clients.old spare.old.items job_source.old backends.old.items
-        (vec_capacity backends.old) }
-    ensures led { RunLed D.Disk W.World A.JobSource shared.now.table shared.now.queue clients.old
-        backends.new.items job_source.old job_source.new progress.old progress.new }
-{
-    let mut serve = ||
-        requires { IsSync R.row × All (λ h. AreTermsOf h.key shared.now
-            (filter_of_skipping by_map.now)) handoffs.now }
-    { serve_all(rt, shared, by_map, handoffs) };
-    let mut lead = ||
-        requires { IsSync R.row × MayLeadRun D.Disk W.World A.JobSource shared.now
-            (filter_of_skipping by_map.now) handoffs.now clients.now spare.now.items job_source.now
-            backends.now.items (vec_capacity backends.now) }
-        ensures { RunLed D.Disk W.World A.JobSource shared.entry.now.table
-            shared.entry.now.queue clients.entry.now backends.exit.now.items job_source.entry.now
-            job_source.exit.now progress.entry.now progress.exit.now }
-    {
-        lead_run(
-            rt, shared, *by_map, handoffs, clients, spare, job_source, progress, backends,
-        )
-    };
-    thread::join_mut(rt, &mut serve, &mut lead);
-}
-
-// The run with the servers of its shares. A backend alone has none: the caller's thread lists its
-// shares, since nobody else takes them.
-fn lead_with_servers<W: World + Send + Sync, D: Disk, R: Threads + Wait + Sync, A: JobSource<W>>(
-    rt: &R,
-    shared: &SharedState<W>,
-    by_map: Option<MapFilter<'_>>,
-    handoffs: &[ShareHandoff<W, D>],
-    clients: &mut [ShareClient<W, D>],
-    spare: &mut Vec<Job>,
-    job_source: &mut A,
-    progress: &mut RunProgress,
-    backends: &mut Vec<Backend<W, D>>,
-)
-    requires may { MayLeadRun D.Disk W.World A.JobSource shared.now (filter_of_skipping by_map)
-        handoffs.now clients.old spare.old.items job_source.old backends.old.items
-        (vec_capacity backends.old) }
-    ensures led { RunLed D.Disk W.World A.JobSource shared.now.table shared.now.queue clients.old
-        backends.new.items job_source.old job_source.new progress.old progress.new }
-{
-    if handoffs.len() == 1 {
-        lead_run(
-            rt, shared, by_map, handoffs, clients, spare, job_source, progress, backends,
-        );
-        return;
-    }
-    // The filter is lent again, for as long as the closures are.
-    lead_beside_servers(
-        rt, shared, &by_map, handoffs, clients, spare, job_source, progress, backends,
-    );
-}
-
-// The run beside the workers. Where no thread can be made, `join_mut` calls its first closure
-// last: so the workers stand first, and then find the queue closed, as servers find their handoffs
-// closed. What the closures hold has one lifetime, since the borrow checker takes no two in
-// closures that name the same `W`.
-fn lead_beside_workers<
-    'a,
-    W: World + Send + Sync,
-    D: Disk,
-    R: Threads + Wait + Sync,
-    A: JobSource<W>,
->(
-    rt: &'a R,
-    shared: &'a SharedState<W>,
-    by_map: &'a Option<MapFilter<'a>>,
-    workers: &'a mut [Worker<W, D>],
-    handoffs: &'a [ShareHandoff<W, D>],
-    clients: &'a mut [ShareClient<W, D>],
-    spare: &'a mut Vec<Job>,
-    job_source: &'a mut A,
-    progress: &'a mut RunProgress,
-    backends: &'a mut Vec<Backend<W, D>>,
 )
     requires serve { All (WorkerMayServe D.Disk W.World shared.now.table
         shared.now.queue) workers.old }
-    requires may { MayLeadRun D.Disk W.World A.JobSource shared.now (filter_of_skipping by_map.now)
-        handoffs.now clients.old spare.old.items job_source.old backends.old.items
-        (vec_capacity backends.old) }
+    requires terms { All (λ h. AreTermsOf h.key shared.now (filter_of_skipping by_map.now))
+        handoffs.now }
     ensures workers_served { AllWorkersServed D.Disk W.World shared.now.table
         shared.now.queue workers.old workers.new }
-    ensures led { RunLed D.Disk W.World A.JobSource shared.now.table shared.now.queue clients.old
-        backends.new.items job_source.old job_source.new progress.old progress.new }
 {
-    let mut serve = ||
+    if handoffs.len() == 1 {
+        run_workers(rt, shared, workers, 32);
+        return;
+    }
+    if workers.is_empty() {
+        serve_all(rt, shared, by_map, handoffs);
+        return;
+    }
+    let mut work = ||
         requires { IsSync R.row × All (WorkerMayServe D.Disk W.World shared.now.table
             shared.now.queue) workers.now }
         ensures { AllWorkersServed D.Disk W.World shared.entry.now.table
             shared.entry.now.queue workers.entry.now workers.exit.now }
     { run_workers(rt, shared, workers, 32) };
+    let mut serve = ||
+        requires { IsSync R.row × All (λ h. AreTermsOf h.key shared.now
+            (filter_of_skipping by_map.now)) handoffs.now }
+    { serve_all(rt, shared, by_map, handoffs) };
+    thread::join_mut(rt, &mut work, &mut serve);
+}
+
+// The run beside its servers and workers. Where no thread can be made, `join_mut` calls its first
+// closure last: so these stand first, and then find the queue and the handoffs closed. What the
+// closures hold has one lifetime, but for the workers, since the borrow checker takes no two in
+// closures that name the same `W`.
+fn lead_beside<'a, 'b, W: World + Send + Sync, D: Disk, R: Threads + Wait + Sync, A: JobSource<W>>(
+    rt: &'a R,
+    shared: &'a SharedState<W>,
+    by_map: &'a Option<MapFilter<'a>>,
+    workers: &'b mut [Worker<W, D>],
+    handoffs: &'a [ShareHandoff<W, D>],
+    clients: &'a mut [ShareClient<W, D>],
+    backends: &'a mut Vec<Backend<W, D>>,
+    progress: &'a mut RunProgress<A>,
+)
+    requires serve { All (WorkerMayServe D.Disk W.World shared.now.table
+        shared.now.queue) workers.old }
+    requires may { MayLeadRun D.Disk W.World A.JobSource shared.now (filter_of_skipping by_map.now)
+        handoffs.now clients.old backends.old.items (vec_capacity backends.old) progress.old }
+    ensures workers_served { AllWorkersServed D.Disk W.World shared.now.table
+        shared.now.queue workers.old workers.new }
+    ensures led { RunLed D.Disk W.World A.JobSource shared.now.table shared.now.queue clients.old
+        backends.new.items progress.old progress.new }
+{
+    let mut serve = ||
+        requires { IsSync R.row × All (WorkerMayServe D.Disk W.World shared.now.table
+            shared.now.queue) workers.now × All (λ h. AreTermsOf h.key shared.now
+            (filter_of_skipping by_map.now)) handoffs.now }
+        ensures { AllWorkersServed D.Disk W.World shared.entry.now.table
+            shared.entry.now.queue workers.entry.now workers.exit.now }
+    { serve_run(rt, shared, by_map, workers, handoffs) };
     let mut lead = ||
         requires { IsSync R.row × MayLeadRun D.Disk W.World A.JobSource shared.now
-            (filter_of_skipping by_map.now) handoffs.now clients.now spare.now.items job_source.now
-            backends.now.items (vec_capacity backends.now) }
+            (filter_of_skipping by_map.now) handoffs.now clients.now backends.now.items
+            (vec_capacity backends.now) progress.now }
         ensures { RunLed D.Disk W.World A.JobSource shared.entry.now.table
-            shared.entry.now.queue clients.entry.now backends.exit.now.items job_source.entry.now
-            job_source.exit.now progress.entry.now progress.exit.now }
-    {
-        lead_with_servers(
-            rt, shared, *by_map, handoffs, clients, spare, job_source, progress, backends,
-        )
-    };
+            shared.entry.now.queue clients.entry.now backends.exit.now.items progress.entry.now
+            progress.exit.now }
+    { lead_run(rt, shared, *by_map, handoffs, clients, backends, progress) };
     thread::join_mut(rt, &mut serve, &mut lead);
 }
 
-/// The run beside the workers, where there are some.
+/// The run beside its servers and workers, where it has some.
 pub(crate) fn run_beside<
     W: World + Send + Sync,
     D: Disk,
@@ -203,29 +154,25 @@ pub(crate) fn run_beside<
     workers: &mut [Worker<W, D>],
     handoffs: &[ShareHandoff<W, D>],
     clients: &mut [ShareClient<W, D>],
-    spare: &mut Vec<Job>,
-    job_source: &mut A,
-    progress: &mut RunProgress,
     backends: &mut Vec<Backend<W, D>>,
+    progress: &mut RunProgress<A>,
 )
     requires serve { All (WorkerMayServe D.Disk W.World shared.now.table
         shared.now.queue) workers.old }
     requires may { MayLeadRun D.Disk W.World A.JobSource shared.now (filter_of_skipping by_map)
-        handoffs.now clients.old spare.old.items job_source.old backends.old.items
-        (vec_capacity backends.old) }
+        handoffs.now clients.old backends.old.items (vec_capacity backends.old) progress.old }
     ensures workers_served { AllWorkersServed D.Disk W.World shared.now.table
         shared.now.queue workers.old workers.new }
     ensures led { RunLed D.Disk W.World A.JobSource shared.now.table shared.now.queue clients.old
-        backends.new.items job_source.old job_source.new progress.old progress.new }
+        backends.new.items progress.old progress.new }
 {
-    if workers.is_empty() {
-        lead_with_servers(
-            rt, shared, by_map, handoffs, clients, spare, job_source, progress, backends,
-        );
+    if workers.is_empty() && handoffs.len() == 1 {
+        lead_run(rt, shared, by_map, handoffs, clients, backends, progress);
         return;
     }
-    lead_beside_workers(
-        rt, shared, &by_map, workers, handoffs, clients, spare, job_source, progress, backends,
+    // The filter is lent again, for as long as the closures are.
+    lead_beside(
+        rt, shared, &by_map, workers, handoffs, clients, backends, progress,
     );
 }
 

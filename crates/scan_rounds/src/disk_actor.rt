@@ -33,7 +33,6 @@ use std::marker::{Brand, PhantomData};
 use std::sync::Wait;
 use vis_map::VisMap;
 
-/// An actor with its disk.
 #[derive(Drop)]
 pub(crate) struct DiskActor<W: World, D: Disk> {
     /// None only while a runner has it.

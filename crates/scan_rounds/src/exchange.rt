@@ -5,9 +5,9 @@ ghost use Rattle.std.specs.List.{All};
 ghost use Rattle.handoff.specs.HandoffViews.{IsClientOf, IsSameClient};
 ghost use Rattle.scan_rounds.specs.BlockFilter.{filter_of_skipping};
 ghost use Rattle.scan_rounds.specs.Exchanges.{AreClientsOf, ClientsHold, JobsAsked, JobsTakenBack};
-ghost use Rattle.scan_rounds.specs.Exchanges.{MayExchange};
-ghost use Rattle.scan_rounds.specs.Exchanges.{ShareStands, ShareTakenBack, SharesExchanged};
-ghost use Rattle.scan_rounds.specs.Exchanges.{NothingIsOut, SharesAdvanced, SomeGiven};
+ghost use Rattle.scan_rounds.specs.Exchanges.{MayExchange, NothingIsOut};
+ghost use Rattle.scan_rounds.specs.Exchanges.{ShareStandsIn, ShareTakenBack, SharesAdvanced};
+ghost use Rattle.scan_rounds.specs.Exchanges.{SharesExchanged, SomeGiven};
 ghost use Rattle.scan_rounds.specs.Jobs.{IsNewJob};
 ghost use Rattle.scan_rounds.specs.Shares.{AreTermsOf, ShareMayBeListed};
 ghost use Rattle.scan_rounds.specs.declared.share.Share.{Share};
@@ -45,9 +45,12 @@ impl Phase {
 }
 
 /// How far a run has come.
-#[derive(Clone, Copy)]
-pub(crate) struct RunProgress {
+#[derive(Drop)]
+pub(crate) struct RunProgress<A> {
+    pub(crate) job_source: A,
     pub(crate) phase: Phase,
+    /// The jobs that came back last: the list that the next share takes for its own.
+    pub(crate) spare: Vec<Job>,
     /// How many jobs have ended in Unread.
     pub(crate) unread: u64,
 }
@@ -143,36 +146,39 @@ fn exchange_share<W: World, D: Disk, R: Wait, A: JobSource<W>>(
     by_map: Option<MapFilter<'_>>,
     handoff: &ShareHandoff<W, D>,
     client: &mut ShareClient<W, D>,
-    spare: &mut Vec<Job>,
     many: usize,
-    job_source: &mut A,
-    progress: &mut RunProgress,
+    progress: &mut RunProgress<A>,
 ) -> u32
     requires terms { AreTermsOf handoff.now.key shared.now (filter_of_skipping by_map) }
-    requires filter { A.block_filter job_source.old ≡ filter_of_skipping by_map }
+    requires filter { A.block_filter progress.old.job_source ≡ filter_of_skipping by_map }
     requires client { IsClientOf handoff.now client.old }
     requires holds { client.old.requested ≢ None }
     requires stands { (s : Share W D) → client.old.requested ≡ Some s
-        → ShareStands D.Disk W.World shared.now.table shared.now.queue (length spare.old.items)
-        (A.blocks_left job_source.old) (A.options job_source.old) s }
-    requires places { (1 ≤ many) × (many ≤ length spare.old.items) }
+        → ShareStandsIn D.Disk W.World shared.now.table shared.now.queue A.JobSource
+        progress.old s }
+    requires places { (1 ≤ many) × (many ≤ length progress.old.spare.items) }
     ensures same { IsSameClient client.old client.new }
-    ensures places { length spare.new.items ≡ length spare.old.items }
+    ensures places { length progress.new.spare.items ≡ length progress.old.spare.items }
     ensures exchanged { (s : Share W D) → client.old.requested ≡ Some s
         → (r : Share W D) × (client.new.requested ≡ Some r)
         × SharesExchanged D.Disk W.World shared.now.table shared.now.queue A.JobSource
-        (length spare.old.items) (s ∷ []) (r ∷ []) job_source.old job_source.new progress.old
-        progress.new × SomeGiven A.JobSource job_source.old job_source.new (r ∷ [])
-        progress.new.phase result }
+        (s ∷ []) (r ∷ []) progress.old progress.new
+        × SomeGiven A.JobSource progress.old progress.new (r ∷ []) result }
 {
-    let wanted = progress.phase.takes_back();
+    let RunProgress {
+        job_source,
+        phase,
+        spare,
+        unread,
+    } = progress;
+    let wanted = phase.takes_back();
     let Share {
         backend,
         mut jobs,
         count: listed,
     } = take_share(rt, shared, by_map, handoff, client, wanted);
     mem::swap(&mut jobs, spare);
-    let count = ask_jobs(job_source, jobs.as_mut_slice(), many, &mut progress.phase);
+    let count = ask_jobs(job_source, jobs.as_mut_slice(), many, phase);
     let blocks = first_blocks(jobs.as_slice(), count);
     handoff.put(
         client,
@@ -183,8 +189,8 @@ fn exchange_share<W: World, D: Disk, R: Wait, A: JobSource<W>>(
         },
     );
     let (came, _) = spare.as_slice().split_at(listed);
-    progress.unread = count_unread(progress.unread, came);
-    finish_share(job_source, came, &mut progress.phase);
+    *unread = count_unread(*unread, came);
+    finish_share(job_source, came, phase);
     blocks
 }
 
@@ -198,26 +204,23 @@ pub(crate) fn exchange_all<W: World, D: Disk, R: Wait, A: JobSource<W>>(
     by_map: Option<MapFilter<'_>>,
     handoffs: &[ShareHandoff<W, D>],
     clients: &mut [ShareClient<W, D>],
-    spare: &mut Vec<Job>,
     many: usize,
-    job_source: &mut A,
-    progress: &mut RunProgress,
+    progress: &mut RunProgress<A>,
 ) -> u32
     requires terms { All (λ h. AreTermsOf h.key shared.now (filter_of_skipping by_map))
         handoffs.now }
-    requires filter { A.block_filter job_source.old ≡ filter_of_skipping by_map }
+    requires filter { A.block_filter progress.old.job_source ≡ filter_of_skipping by_map }
     requires clients { AreClientsOf handoffs.now clients.old }
     requires stands { (ss : List (Share W D)) × ClientsHold clients.old ss
-        × All (ShareStands D.Disk W.World shared.now.table shared.now.queue
-        (length spare.old.items) (A.blocks_left job_source.old) (A.options job_source.old)) ss }
-    requires places { (1 ≤ many) × (many ≤ length spare.old.items) }
+        × All (ShareStandsIn D.Disk W.World shared.now.table shared.now.queue A.JobSource
+        progress.old) ss }
+    requires places { (1 ≤ many) × (many ≤ length progress.old.spare.items) }
     ensures clients { AreClientsOf handoffs.now clients.new }
-    ensures places { length spare.new.items ≡ length spare.old.items }
+    ensures places { length progress.new.spare.items ≡ length progress.old.spare.items }
     ensures exchanged { (ss : List (Share W D)) → ClientsHold clients.old ss
         → (rs : List (Share W D)) × ClientsHold clients.new rs
-        × SharesExchanged D.Disk W.World shared.now.table shared.now.queue A.JobSource
-        (length spare.old.items) ss rs job_source.old job_source.new progress.old progress.new
-        × SomeGiven A.JobSource job_source.old job_source.new rs progress.new.phase result }
+        × SharesExchanged D.Disk W.World shared.now.table shared.now.queue A.JobSource ss rs
+        progress.old progress.new × SomeGiven A.JobSource progress.old progress.new rs result }
 {
     let Some((client, later)) = clients.split_first_mut() else {
         return 0;
@@ -225,42 +228,33 @@ pub(crate) fn exchange_all<W: World, D: Disk, R: Wait, A: JobSource<W>>(
     let Some((handoff, others)) = handoffs.split_first() else {
         unreachable!()
     };
-    let first = exchange_share(
-        rt, shared, by_map, handoff, client, spare, many, job_source, progress,
-    );
-    let given = exchange_all(
-        rt, shared, by_map, others, later, spare, many, job_source, progress,
-    );
+    let first = exchange_share(rt, shared, by_map, handoff, client, many, progress);
+    let given = exchange_all(rt, shared, by_map, others, later, many, progress);
     first.saturating_add(given)
 }
 
-/// Exchanges all shares again and again, with more jobs each time, until none has jobs.
+/// Exchanges all shares again and again, with twice as many jobs each time as far as they have
+/// places, until none has jobs.
 pub(crate) fn exchange_until_over<W: World, D: Disk, R: Wait, A: JobSource<W>>(
     rt: &R,
     shared: &SharedState<W>,
     by_map: Option<MapFilter<'_>>,
     handoffs: &[ShareHandoff<W, D>],
     clients: &mut [ShareClient<W, D>],
-    spare: &mut Vec<Job>,
-    job_source: &mut A,
-    progress: &mut RunProgress,
+    progress: &mut RunProgress<A>,
 )
     requires may { MayExchange D.Disk W.World A.JobSource shared.now (filter_of_skipping by_map)
-        handoffs.now clients.old spare.old.items job_source.old }
+        handoffs.now clients.old progress.old }
     ensures clients { AreClientsOf handoffs.now clients.new }
     ensures exchanged { (ss : List (Share W D)) → ClientsHold clients.old ss
         → (rs : List (Share W D)) × ClientsHold clients.new rs
-        × SharesAdvanced D.Disk W.World shared.now.table shared.now.queue A.JobSource
-        (length spare.old.items) ss rs job_source.old job_source.new progress.old progress.new
-        × NothingIsOut rs progress.new.phase }
+        × SharesAdvanced D.Disk W.World shared.now.table shared.now.queue A.JobSource ss rs
+        progress.old progress.new × NothingIsOut rs progress.new.phase }
 {
-    let places = spare.len();
+    let places = progress.spare.len();
     let mut many = 1;
     loop {
-        let given = exchange_all(
-            rt, shared, by_map, handoffs, clients, spare, many, job_source, progress,
-        );
-        if given == 0 {
+        if exchange_all(rt, shared, by_map, handoffs, clients, many, progress) == 0 {
             return;
         }
         many = places.min(many.saturating_mul(2));

@@ -17,7 +17,7 @@ pub enum Ending {
     /// The relation has no such block; the pages before it were listed.
     PastEnd(u32),
     /// There was no memory for a page's text or its warning; the pages before it were listed. In a
-    /// run also: a job before it ended early, so that this one was not read.
+    /// run also: an earlier job of its stream ended early, or there was no memory for the shares.
     NoMemory,
 }
 

@@ -24,7 +24,7 @@ pub trait JobSource<W: World>: Drop {
     /// How many of the jobs that it has taken ended in Unread, as far as it says.
     ghost unread: { Self → ℕ };
 
-    /// In the first state it puts these jobs, and is then in the second.
+    /// In the first state it gives these jobs, and is then in the second.
     ghost gives_jobs: { Self → List Job → Self → Type 0 };
 
     /// Some jobs have led from the first state to the second: they were given and taken back.
@@ -77,10 +77,10 @@ pub trait JobSource<W: World>: Drop {
     ghost giving_more: { (a b c : Self) (asked later : List Job) → gives_jobs a asked b
         → gives_jobs b later c → gives_jobs a (asked ++ later) c };
 
-    /// Where no job was given, none has led on.
+    /// Where no job was given, the second state follows the first.
     ghost giving_none_follows: { (a b : Self) → gives_jobs a [] b → follows a b };
 
-    /// No job leads back to the same state.
+    /// Each state follows itself.
     ghost follows_itself: { (a : Self) → follows a a };
 
     /// Some jobs, and then further ones.

@@ -109,20 +109,15 @@ pub(crate) fn lead_run<W: World, D: Disk, R: Wait, A: JobSource<W>>(
     by_map: Option<MapFilter<'_>>,
     handoffs: &[ShareHandoff<W, D>],
     clients: &mut [ShareClient<W, D>],
-    spare: &mut Vec<Job>,
-    job_source: &mut A,
-    progress: &mut RunProgress,
     backends: &mut Vec<Backend<W, D>>,
+    progress: &mut RunProgress<A>,
 )
     requires may { MayLeadRun D.Disk W.World A.JobSource shared.now (filter_of_skipping by_map)
-        handoffs.now clients.old spare.old.items job_source.old backends.old.items
-        (vec_capacity backends.old) }
+        handoffs.now clients.old backends.old.items (vec_capacity backends.old) progress.old }
     ensures led { RunLed D.Disk W.World A.JobSource shared.now.table shared.now.queue clients.old
-        backends.new.items job_source.old job_source.new progress.old progress.new }
+        backends.new.items progress.old progress.new }
 {
-    exchange_until_over(
-        rt, shared, by_map, handoffs, clients, spare, job_source, progress,
-    );
+    exchange_until_over(rt, shared, by_map, handoffs, clients, progress);
     gather_backends(rt, shared, by_map, handoffs, clients, backends);
     close_queue(rt, shared, backends.as_mut_slice());
 }

@@ -1,4 +1,4 @@
-//! Scans by rounds: several backends list blocks of relations beside I/O workers, all over one
+//! Scans by rounds and runs: several backends list blocks of relations beside I/O workers, all over one
 //! table of handles, one pool of frames and one submission queue.
 //!
 //! A [`Scan`] is opened over a disk for each backend and each worker. Its [`Scan::round`] takes up
@@ -6,8 +6,8 @@
 //! of their pages, with their tuples where the settings say so, and counts them. With
 //! `MethodKind::Sync` each backend executes its own I/Os; with `MethodKind::Worker` the workers do,
 //! and a backend executes what no worker has claimed when it would wait for it. [`Scan::run`] lists
-//! all jobs of a [`JobSource`], by threads that live from the first job to the last. [`Scan::finish`] closes the table, and gives the
-//! disks back.
+//! all jobs of a [`JobSource`] by shares; its servers and workers live through the run.
+//! [`Scan::finish`] closes the table, and gives the disks back.
 //!
 //! With `MethodKind::Ring` it is a [`RingScan`], which has no workers: a backend that would wait
 //! executes its own I/O by a ring, together with what it takes from the queue.

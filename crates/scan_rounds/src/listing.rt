@@ -1,4 +1,4 @@
-//! Lists the pages that a stream gives for a job.
+//! Lists the pages that a stream gives for its jobs.
 ghost use Rattle.std.specs.Prelude.{◌≡◌, ◌++◌, ◌≤◌, ◌<◌, None, Some, OnOk, OnErr, List, map};
 ghost use Rattle.std.specs.Prelude.{length};
 ghost use Rattle.std.specs.List.{All};
@@ -189,8 +189,8 @@ fn refuse(jobs: &mut [Job])
     }
 }
 
-/// Ends the jobs, which have taken so many pages: those before the last that has taken one have
-/// all their pages, and that one ends so.
+/// Ends the jobs, which have taken so many pages: the first that has not all its pages, or the
+/// last, ends so. Those behind it are refused.
 pub(crate) fn end_jobs(jobs: &mut [Job], taken: u32, ending: Ending)
     ensures { jobs.new ≡ ended_jobs jobs.old taken ending }
 {

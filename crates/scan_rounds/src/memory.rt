@@ -1,4 +1,4 @@
-//! All memory of a scan.
+//! The memory that a scan takes when it is opened.
 ghost use Rattle.std.specs.Prelude.{◌≡◌, ◌≤◌, ◌<◌, ◌+◌, ◌*◌, ◌^◌, length, IfOk, OnOk};
 ghost use Rattle.std.specs.List.{All};
 ghost use Rattle.aio_handle.specs.ContractViews.{AreNewActors};
@@ -33,7 +33,7 @@ pub(crate) struct Lists<W: World, D: Disk> {
     pub(crate) disks: Vec<D>,
 }
 
-/// All memory that a scan takes, but for the texts of jobs, before it has the disks.
+/// All memory that a scan takes when it is opened, before it has the disks.
 #[derive(Drop)]
 pub(crate) struct Memory<W: World, D: Disk> {
     pub(crate) shared: SharedState<W>,

@@ -9,7 +9,7 @@ use crate::job::Job;
 use crate::map_filter::MapFilter;
 use crate::source::Blocks;
 
-/// How many blocks a stream reads at most.
+/// How many blocks a stream reads at most. The jobs of a share ask for 512 at most.
 const STREAM_BLOCKS: u32 = 4096;
 
 // How many of these jobs ask for the blocks of the relation from this one on, one job after the

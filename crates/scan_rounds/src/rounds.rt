@@ -1,4 +1,4 @@
-//! A round by itself, and the end of rounds.
+//! One round, and the close of the queue behind rounds and runs.
 ghost use Rattle.std.specs.Prelude.{◌≡◌, ◌≤◌, ◌∷◌, [], length, map};
 ghost use Rattle.std.specs.List.{All};
 ghost use Rattle.std.specs.Thread.{IsSync};

@@ -69,16 +69,17 @@ impl<W: World + Send + Sync, D: Disk> Scan<W, D> {
     }
 
     /// All jobs of a job source, until it is over, without the blocks that the map marks, where
-    /// there is one. Each backend lists its share of them in a thread of its own. The caller's
-    /// thread goes from one share to the next: it gives the backend further jobs, and then has the
-    /// job source take back those that it has listed. Servers and workers live through the run; no
-    /// thread is made for a single block. Where there is no memory for the shares each job ends in
-    /// `NoMemory`. It may wait.
+    /// there is one. Each backend lists its share of them, in the thread of a server where there
+    /// are several. The caller's thread goes from one share to the next: it gives the backend
+    /// further jobs, and then has the job source take back those that came back. What no server has
+    /// taken it lists itself. Servers and workers live through the run; no thread is made for a
+    /// single block. Where there is no memory for the shares each job ends in `NoMemory`. It may
+    /// wait.
     pub fn run<R: Threads + Wait + Sync, A: JobSource<W>>(
         &mut self,
         rt: &R,
         by_map: Option<MapFilter<'_>>,
-        mut job_source: A,
+        job_source: A,
     ) -> A
         requires may { ScanMayRunSource D.Disk W.World A.JobSource
             (filter_of_skipping by_map) self.old job_source }
@@ -96,16 +97,10 @@ impl<W: World + Send + Sync, D: Disk> Scan<W, D> {
         } = self;
         reopen_queue(shared, backends.as_mut_slice());
         let workers = workers.as_mut_slice();
-        *unread = run_backends(
-            rt,
-            *alloc,
-            shared,
-            by_map,
-            workers,
-            backends,
-            &mut job_source,
-            *unread,
+        let (job_source, unread_jobs) = run_backends(
+            rt, *alloc, shared, by_map, workers, backends, job_source, *unread,
         );
+        *unread = unread_jobs;
         let backends = backends.as_mut_slice();
         *room = least_room(backends);
         job_source

@@ -16,6 +16,18 @@ use std::alloc::{AllocError, Global};
 /// is written.
 const SHARE_JOBS: usize = 8;
 
+/// How many jobs are in a share at most, with so many backends and workers. One thread alone waits
+/// for nobody, and one text at a time stays in its cache.
+pub(crate) fn share_jobs(backends: usize, workers: usize) -> usize
+    ensures { 1 ≤ result }
+{
+    if backends == 1 && workers == 0 {
+        1
+    } else {
+        SHARE_JOBS
+    }
+}
+
 /// All memory that a run takes, but for the texts of jobs.
 #[derive(Drop)]
 pub(crate) struct RunMemory<W: World, D: Disk> {
@@ -53,15 +65,17 @@ fn open_lists(alloc: Global, count: usize, places: usize) -> Result<Vec<Vec<Job>
 }
 
 impl<W: World, D: Disk> RunMemory<W, D> {
-    /// The memory of a run of so many backends under these terms.
+    /// The memory of a run of so many backends under these terms, whose shares have at most so many
+    /// jobs.
     pub(crate) fn open(
         alloc: Global,
         terms: &RunTerms<W>,
         count: usize,
+        places: usize,
     ) -> Result<RunMemory<W, D>, AllocError>
+        requires { 1 ≤ places }
         ensures { IfOk result (IsRunMemory terms.now count) }
     {
-        let places = if count == 1 { 1 } else { SHARE_JOBS };
         let mut handoffs = Vec::with_capacity(alloc, count)?;
         let mut clients = Vec::with_capacity(alloc, count)?;
         for _ in 0..count {

@@ -19,7 +19,7 @@ use crate::job_source::JobSource;
 use crate::lead::{give_out_backends, lead_run};
 use crate::map_filter::MapFilter;
 use crate::rounds::close_queue;
-use crate::run_memory::RunMemory;
+use crate::run_memory::{RunMemory, share_jobs};
 use crate::share::{RunTerms, ShareClient, ShareHandoff};
 use crate::shared::SharedState;
 use crate::worker::Worker;
@@ -37,32 +37,26 @@ fn begin_shares<W: World, D: Disk, R: Wait, A: JobSource<W>>(
     by_map: Option<MapFilter<'_>>,
     handoffs: &[ShareHandoff<W, D>],
     clients: &mut [ShareClient<W, D>],
-    spare: &mut Vec<Job>,
-    job_source: &mut A,
-    progress: &mut RunProgress,
+    progress: &mut RunProgress<A>,
 ) -> bool
     requires may { MayExchange D.Disk W.World A.JobSource shared.now (filter_of_skipping by_map)
-        handoffs.now clients.old spare.old.items job_source.old }
+        handoffs.now clients.old progress.old }
     ensures may { MayExchange D.Disk W.World A.JobSource shared.now
-        (filter_of_skipping by_map.entry) handoffs.now clients.new spare.new.items
-        job_source.new }
+        (filter_of_skipping by_map.entry) handoffs.now clients.new progress.new }
     ensures begun { (ss : List (Share W D)) → ClientsHold clients.old ss
         → (rs : List (Share W D)) × ClientsHold clients.new rs
-        × SharesAdvanced D.Disk W.World shared.now.table shared.now.queue A.JobSource
-        (length spare.old.items) ss rs job_source.old job_source.new progress.old progress.new }
+        × SharesAdvanced D.Disk W.World shared.now.table shared.now.queue A.JobSource ss rs
+        progress.old progress.new }
 {
-    let given = exchange_all(
-        rt, shared, by_map, handoffs, clients, spare, 1, job_source, progress,
-    );
+    let given = exchange_all(rt, shared, by_map, handoffs, clients, 1, progress);
     if given != 1 {
         return given > 0;
     }
-    exchange_all(
-        rt, shared, by_map, handoffs, clients, spare, 1, job_source, progress,
-    ) > 0
+    exchange_all(rt, shared, by_map, handoffs, clients, 1, progress) > 0
 }
 
-// All jobs of a job source, by shares. The answer is how many jobs have ended in Unread then.
+// All jobs of a job source, by shares. The answer is the job source, and how many jobs have ended
+// in Unread then.
 fn run_shares<W: World + Send + Sync, D: Disk, R: Threads + Wait + Sync, A: JobSource<W>>(
     rt: &R,
     shared: &SharedState<W>,
@@ -70,45 +64,37 @@ fn run_shares<W: World + Send + Sync, D: Disk, R: Threads + Wait + Sync, A: JobS
     workers: &mut [Worker<W, D>],
     backends: &mut Vec<Backend<W, D>>,
     memory: RunMemory<W, D>,
-    job_source: &mut A,
+    job_source: A,
     unread: u64,
-) -> u64
+) -> (A, u64)
     requires serve { All (WorkerMayServe D.Disk W.World shared.now.table
         shared.now.queue) workers.old }
     requires may { BackendsMayRun D.Disk W.World A.JobSource shared.now.table shared.now.queue
-        (filter_of_skipping by_map) backends.old.items job_source.old }
+        (filter_of_skipping by_map) backends.old.items job_source }
     requires memory { (k : RunTerms W) × IsRunMemory k (length backends.old.items) memory
         × AreTermsOf k shared.now (filter_of_skipping by_map) }
     ensures workers_served { AllWorkersServed D.Disk W.World shared.now.table
         shared.now.queue workers.old workers.new }
     ensures ran { BackendsRan D.Disk W.World A.JobSource shared.now.table shared.now.queue
-        backends.old.items backends.new.items job_source.old job_source.new unread result }
+        backends.old.items backends.new.items job_source result.0 unread result.1 }
 {
     let RunMemory {
         handoffs,
         mut clients,
         mut lists,
-        mut spare,
+        spare,
         places,
     } = memory;
     let handoffs = handoffs.as_slice();
     let clients = clients.as_mut_slice();
     give_out_backends(shared, handoffs, clients, backends, &mut lists, places);
     let mut progress = RunProgress {
+        job_source,
         phase: Phase::Asking,
+        spare,
         unread,
     };
-    let are_out = begin_shares(
-        rt,
-        shared,
-        by_map,
-        handoffs,
-        clients,
-        &mut spare,
-        job_source,
-        &mut progress,
-    );
-    if are_out {
+    if begin_shares(rt, shared, by_map, handoffs, clients, &mut progress) {
         run_beside(
             rt,
             shared,
@@ -116,10 +102,8 @@ fn run_shares<W: World + Send + Sync, D: Disk, R: Threads + Wait + Sync, A: JobS
             workers,
             handoffs,
             clients,
-            &mut spare,
-            job_source,
-            &mut progress,
             backends,
+            &mut progress,
         );
     } else {
         lead_run(
@@ -128,14 +112,12 @@ fn run_shares<W: World + Send + Sync, D: Disk, R: Threads + Wait + Sync, A: JobS
             by_map,
             handoffs,
             clients,
-            &mut spare,
-            job_source,
-            &mut progress,
             backends,
+            &mut progress,
         );
         run_workers(rt, shared, workers, 1);
     }
-    progress.unread
+    (progress.job_source, progress.unread)
 }
 
 // Ends each job for want of memory, until the job source is over.
@@ -178,8 +160,8 @@ fn refuse_run<W: World + Send + Sync, D: Disk, R: Threads + Wait + Sync, A: JobS
     run_workers(rt, shared, workers, 1);
 }
 
-/// All jobs of a job source: by shares, or without memory for them. The answer is how many jobs
-/// have ended in Unread then.
+/// All jobs of a job source: by shares, or without memory for them. The answer is the job source,
+/// and how many jobs have ended in Unread then.
 pub(crate) fn run_backends<
     W: World + Send + Sync,
     D: Disk,
@@ -192,27 +174,28 @@ pub(crate) fn run_backends<
     by_map: Option<MapFilter<'_>>,
     workers: &mut [Worker<W, D>],
     backends: &mut Vec<Backend<W, D>>,
-    job_source: &mut A,
+    mut job_source: A,
     unread: u64,
-) -> u64
+) -> (A, u64)
     requires serve { All (WorkerMayServe D.Disk W.World shared.now.table
         shared.now.queue) workers.old }
     requires may { BackendsMayRun D.Disk W.World A.JobSource shared.now.table shared.now.queue
-        (filter_of_skipping by_map) backends.old.items job_source.old }
+        (filter_of_skipping by_map) backends.old.items job_source }
     ensures workers_served { AllWorkersServed D.Disk W.World shared.now.table
         shared.now.queue workers.old workers.new }
     ensures ran { BackendsRan D.Disk W.World A.JobSource shared.now.table shared.now.queue
-        backends.old.items backends.new.items job_source.old job_source.new unread result }
+        backends.old.items backends.new.items job_source result.0 unread result.1 }
 {
     let terms = RunTerms::of(shared, by_map);
-    match RunMemory::open(alloc, &terms, backends.len()) {
+    let places = share_jobs(backends.len(), workers.len());
+    match RunMemory::open(alloc, &terms, backends.len(), places) {
         Ok(memory) => run_shares(
             rt, shared, by_map, workers, backends, memory, job_source, unread,
         ),
         Err(_) => {
             let backends = backends.as_mut_slice();
-            refuse_run(rt, alloc, shared, workers, backends, job_source);
-            unread
+            refuse_run(rt, alloc, shared, workers, backends, &mut job_source);
+            (job_source, unread)
         }
     }
 }

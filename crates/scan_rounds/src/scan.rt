@@ -54,9 +54,9 @@ impl<W: World, D: Disk> Scan<W, D> {
         self.backends.len()
     }
 
-    /// How many jobs of its rounds and runs so far have ended in Unread. It stays at its last
-    /// value. A run that a fault ends may have listed jobs behind the fault: those that came back
-    /// from their threads count too.
+    /// How many jobs and maps so far have ended in Unread. At 2^64 - 1 the count stays. A run that
+    /// a fault ends may have listed jobs behind the fault: those that came back from their threads
+    /// count too.
     pub fn unread(&self) -> u64
         ensures { result ≡ self.now.unread }
     {

@@ -32,9 +32,9 @@ fn serve_shares<W: World, D: Disk, T: Wait>(
     }
 }
 
-/// A server for each handoff, in threads of their own, one of them in the caller's. What the
-/// closures hold has one lifetime, since the borrow checker takes no two in closures that name the
-/// same `W`.
+/// A server for each handoff: one in the thread that calls this, the others in threads of their
+/// own. What the closures hold has one lifetime, since the borrow checker takes no two in closures
+/// that name the same `W`.
 #[cycle(servers)]
 pub(crate) fn serve_all<'a, W: World + Send + Sync, D: Disk, R: Threads + Wait + Sync>(
     rt: &'a R,

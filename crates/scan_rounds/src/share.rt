@@ -26,8 +26,8 @@ pub(crate) struct Share<W: World, D: Disk> {
     pub(crate) count: usize,
 }
 
-/// What the threads of a run agree on: what they share, and which blocks are left out. It has no
-/// bytes but those of the choice.
+/// What the threads of a run agree on: what they share, and which blocks are left out. Its only
+/// bytes say which of the blocks that a map marks are left out.
 #[derive(Drop)]
 pub(crate) struct RunTerms<W: World> {
     pub(crate) shared: Snapshot<SharedState<W>>,
@@ -71,7 +71,7 @@ pub(crate) type ShareHandoff<W, D> = Handoff<
 
 pub(crate) type ShareClient<W, D> = Client<RunTerms<W>, Share<W, D>, Share<W, D>>;
 
-// A backend does these jobs, one after the other.
+// A backend lists these jobs. One stream reads those that ask for neighbouring blocks.
 #[cycle(jobs)]
 fn do_jobs<W: World, D: Disk, T: Wait>(
     rt: &T,

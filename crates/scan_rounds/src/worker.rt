@@ -8,7 +8,6 @@ use method_worker::QueueSeat;
 use page_check::World;
 use std::sync::Wait;
 
-/// A worker.
 #[derive(Drop)]
 pub(crate) struct Worker<W: World, D: Disk> {
     pub(crate) disk_actor: DiskActor<W, D>,

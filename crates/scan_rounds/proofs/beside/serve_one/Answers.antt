@@ -1,4 +1,4 @@
-use Rattle.scan_rounds.proofs.ThreadPremises.{is_worker}
+use Rattle.scan_rounds.proofs.WorkersServe.{is_worker}
 use Rattle.scan_rounds.proofs.beside.serve_one.Goals as goal
 
 pub run-requires-after_bounds : goal.run-requires-after_bounds

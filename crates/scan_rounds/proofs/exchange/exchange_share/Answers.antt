@@ -6,7 +6,7 @@ use Rattle.scan_rounds.specs.Shares.{share_jobs}
 use Rattle.scan_rounds.specs.declared.job.Job.{Job}
 use Rattle.scan_rounds.specs.declared.share.Share.{Share}
 use Rattle.scan_rounds.proofs.SharesExchange.{may_go_out, one_exchanged, one_given}
-use Rattle.scan_rounds.proofs.SharesListed.{request_of}
+use Rattle.scan_rounds.proofs.SharesOfClients.{request_of}
 use Rattle.scan_rounds.proofs.exchange.exchange_share.Goals as goal
 
 pub first_blocks-blocks-requires : goal.first_blocks-blocks-requires
@@ -30,7 +30,7 @@ put-requires-clause-may g c =
     } in
     let items : r.jobs.items ≡ gave = with_items_is c.swap.new.x gave
     (c.ask_jobs-count.ensures.places ∙ c.as_mut_slice.ensures.len) in
-    rw c.requires.terms.0 (may_go_out _ _ _ _ g.A.JobSource _ s y r _ _ _ _ gave
+    rw c.requires.terms.0 (may_go_out _ _ _ _ g.A.JobSource s y r c.args.progress.now _ _ gave
     c.takes_back-wanted.result (filter_of_skipping c.args.by_map) (c.requires.stands s is)
     (c.take_share-backend.ensures.taken s is) c.ask_jobs-count.ensures.asked refl items)
 
@@ -44,23 +44,24 @@ returns-clause-exchanged g c = λ s is.
       jobs = with_items c.swap.new.x gave;
       count = c.ask_jobs-count.result;
     } in
-    let many : length gave ≡ length c.args.spare.now.items = search rules in
+    let many : length gave ≡ length c.args.progress.now.spare.items = search rules in
     let items : r.jobs.items ≡ gave = with_items_is c.swap.new.x gave
     (c.ask_jobs-count.ensures.places ∙ c.as_mut_slice.ensures.len) in
     let back : came ≡ share_jobs y = search rules in
     let asked = c.ask_jobs-count.ensures.asked in
-    let finished = c.finish_share.ensures.finished in (
+    let finished = c.finish_share.ensures.finished in
+    let more = c.count_unread.ensures in (
       r,
       c.put.ensures.requested,
-      one_exchanged _ _ _ _ g.A.JobSource _ s y r _ _ _ _ gave
+      one_exchanged _ _ _ _ g.A.JobSource s y r c.args.progress.now _ _ gave
           c.takes_back-wanted.result (filter_of_skipping c.args.by_map)
           (c.requires.stands s is) (c.take_share-backend.ensures.taken s is) asked refl items
-          _ _ _ _ came finished many back c.requires.filter c.takes_back-wanted.ensures
-          c.count_unread-progress.ensures,
-      one_given _ _ _ _ g.A.JobSource _ s y r _ _ _ _ gave
+          _ came finished many (search rules) back c.requires.filter c.takes_back-wanted.ensures
+          more,
+      one_given _ _ _ _ g.A.JobSource s y r c.args.progress.now _ _ gave
           c.takes_back-wanted.result (filter_of_skipping c.args.by_map)
           (c.requires.stands s is) (c.take_share-backend.ensures.taken s is) asked refl items
-          _ _ _ _ came finished many back c.requires.filter c.takes_back-wanted.ensures
-          c.count_unread-progress.ensures c.first_blocks-blocks.result
-          c.first_blocks-blocks.ensures.none c.first_blocks-blocks.ensures.some,
+          _ came finished many (search rules) back c.requires.filter c.takes_back-wanted.ensures
+          more c.first_blocks-blocks.result c.first_blocks-blocks.ensures.none
+          c.first_blocks-blocks.ensures.some,
     ))

@@ -61,8 +61,8 @@ returns g c = record {
         let spent = subst (λ f. AllZip (ShareSpent g.D.Disk g.W.World table queue f) out.0 came.0)
         (sym may.exchange.filter_is) came.1 in
         rw items (gathered g.W.World g.A.JobSource g.met.A.JobSource.giving_none_follows
-        g.met.A.JobSource.follows_on g.D.Disk table queue _ ss out.0 came.0
-        c.close_queue.new.backends _ _ _ _ out.2 out.3 spent
+        g.met.A.JobSource.follows_on g.D.Disk table queue ss out.0 came.0
+        c.close_queue.new.backends _ _ out.2 out.3 spent
         (closed.disk_actors
         ∙ ap (λ (l : List (Backend g.row.W.Denot g.row.D.Denot)). map backend_disk_actor l) home)
         closed.backends

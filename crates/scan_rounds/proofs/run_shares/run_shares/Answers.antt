@@ -9,7 +9,7 @@ use Rattle.scan_rounds.proofs.BackendsRun.{may_exchange_first}
 use Rattle.scan_rounds.proofs.LeastRoom.{fewer}
 use Rattle.scan_rounds.proofs.ListPairs.{zip-length}
 use Rattle.scan_rounds.proofs.run_shares.run_shares.Goals as goal
-use Rattle.scan_rounds.proofs.run_shares.run_shares.Goals.{then-are_out, else-are_out}
+use Rattle.scan_rounds.proofs.run_shares.run_shares.Goals.{then-begin_shares, else-begin_shares}
 
 pub give_out_backends-requires-clause-terms : goal.give_out_backends-requires-clause-terms
 give_out_backends-requires-clause-terms g c κs within =
@@ -29,7 +29,7 @@ give_out_backends-requires-clause-backends g c κs within =
       omega (arith, clients, as_many, memory.handoffs_are),
       record {
         backends = may.backends;
-        room = λ i d lt. fewer 0 (64 * g.A.JobSource.blocks_left c.args.job_source.now)
+        room = λ i d lt. fewer 0 (64 * g.A.JobSource.blocks_left c.args.job_source)
             (slice_index_or c.args.backends.now.items i d).disk_actor.actor (omega arith)
             (may.room i d lt);
       },
@@ -45,14 +45,14 @@ give_out_backends-requires-clause-lists g c κs within =
       memory.lists_have_places,
     )
 
-pub begin_shares-are_out-requires-clause-may : goal.begin_shares-are_out-requires-clause-may
-begin_shares-are_out-requires-clause-may g c κs within =
+pub begin_shares-requires-clause-may : goal.begin_shares-requires-clause-may
+begin_shares-requires-clause-may g c κs within =
     let (k, memory, terms) = c.requires.memory in
     let out = c.give_out_backends.ensures in
     let (ss, hold, went, new) = out.out in
     let as_many = ap length c.as_slice-handoffs.ensures.value ∙ memory.handoffs_are in
     let all = all_went_out _ _ ss _ _ as_many out.clients hold went in
-    may_exchange_first _ _ _ c.args.shared.now _ _ _ _ c.args.memory.places ss _ _ c.requires.may
+    may_exchange_first _ _ _ c.args.shared.now _ _ _ c.args.memory.places ss _ _ c.requires.may
     (all_terms k c.args.shared.now (filter_of_skipping c.args.by_map) _ _
     c.as_slice-handoffs.ensures.value memory.keys_are terms) out.clients hold new all.1
     memory.spare_has_places memory.places
@@ -61,7 +61,7 @@ pub run_beside-requires-clause-may : goal.run_beside-requires-clause-may
 run_beside-requires-clause-may g c κs within =
     let (k, memory, terms) = c.requires.memory in
     let out = c.give_out_backends.ensures in
-    let begun = c.begin_shares-are_out.ensures.may in
+    let begun = c.begin_shares.ensures.may in
     let (ss, hold, went, new) = out.out in
     let as_many = ap length c.as_slice-handoffs.ensures.value ∙ memory.handoffs_are in
     let all = all_went_out _ _ ss _ _ as_many out.clients hold went in
@@ -77,7 +77,7 @@ pub lead_run-requires-clause-may : goal.lead_run-requires-clause-may
 lead_run-requires-clause-may g c κs within =
     let (k, memory, terms) = c.requires.memory in
     let out = c.give_out_backends.ensures in
-    let begun = c.begin_shares-are_out.ensures.may in
+    let begun = c.begin_shares.ensures.may in
     let (ss, hold, went, new) = out.out in
     let as_many = ap length c.as_slice-handoffs.ensures.value ∙ memory.handoffs_are in
     let all = all_went_out _ _ ss _ _ as_many out.clients hold went in
@@ -90,9 +90,9 @@ lead_run-requires-clause-may g c κs within =
     }
 
 pub returns-clause-workers_served : goal.returns-clause-workers_served
-returns-clause-workers_served g c = elim c.if-are_out.branch [
-  | then-are_out w ↦ rw w.workers-is w.run_beside.ensures.workers_served
-  | else-are_out w ↦ rw w.workers-is w.run_workers.ensures.workers_served
+returns-clause-workers_served g c = elim c.if-begin_shares.branch [
+  | then-begin_shares w ↦ rw w.workers-is w.run_beside.ensures.workers_served
+  | else-begin_shares w ↦ rw w.workers-is w.run_workers.ensures.workers_served
 ]
 
 pub returns-clause-ran : goal.returns-clause-ran
@@ -103,12 +103,12 @@ returns-clause-ran g c =
     let (ss, hold, went, new) = out.out in
     let as_many = ap length c.as_slice-handoffs.ensures.value ∙ memory.handoffs_are in
     let all = all_went_out _ _ ss _ _ as_many out.clients hold went in
-    let (rs, held, round) = c.begin_shares-are_out.ensures.begun ss hold in
-    elim c.if-are_out.branch [
-      | then-are_out w ↦ rw (w.backends-is, w.job_source-is, w.progress-is)
-          (gathered_ran _ _ _ _ _ _ _ ss rs _ _ _ _ _ _ _ _ met.follows_itself met.giving_none refl
+    let (rs, held, round) = c.begin_shares.ensures.begun ss hold in
+    elim c.if-begin_shares.branch [
+      | then-begin_shares w ↦ rw (w.backends-is, w.progress-is)
+          (gathered_ran _ _ _ _ _ _ ss rs _ _ _ _ _ met.follows_itself met.giving_none refl
           new all.1 round (w.run_beside.ensures.led.gathered rs held))
-      | else-are_out w ↦ rw (w.backends-is, w.job_source-is, w.progress-is)
-          (gathered_ran _ _ _ _ _ _ _ ss rs _ _ _ _ _ _ _ _ met.follows_itself met.giving_none refl
+      | else-begin_shares w ↦ rw (w.backends-is, w.progress-is)
+          (gathered_ran _ _ _ _ _ _ ss rs _ _ _ _ _ met.follows_itself met.giving_none refl
           new all.1 round (w.lead_run.ensures.led.gathered rs held))
     ]

@@ -1,5 +1,5 @@
 use Rattle.std.proofs.Common.{rules, refl}
-use Rattle.scan_rounds.proofs.WorkerAtRest.{rests_worked}
+use Rattle.scan_rounds.proofs.WorkersServe.{rests_worked}
 use Rattle.scan_rounds.proofs.disk_actor.DiskActor.serve.Goals as goal
 
 pub returns-clause-disk_actor : goal.returns-clause-disk_actor

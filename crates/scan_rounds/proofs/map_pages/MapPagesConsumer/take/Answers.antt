@@ -2,7 +2,7 @@ use Rattle.std.proofs.Common.{◌≡◌, ◌++◌, ap, sym, subst, append-nil}
 use Rattle.std.specs.Prelude.{OnOk}
 use Rattle.heap_scan.specs.Warnings.{warning_line}
 use Rattle.vis_map.specs.Bits.{Map}
-use Rattle.scan_rounds.proofs.MapPages.{page_taken}
+use Rattle.scan_rounds.proofs.ReadMaps.{page_taken}
 use Rattle.scan_rounds.proofs.map_pages.MapPagesConsumer.take.Goals as goal
 
 pub returns-in-Page-clause-takes : goal.returns-in-Page-clause-takes

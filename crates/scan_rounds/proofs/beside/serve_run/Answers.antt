@@ -1,5 +1,5 @@
 use denote.Param.Send.{sendable}
-use Rattle.scan_rounds.proofs.beside.lead_beside_workers.Goals as goal
+use Rattle.scan_rounds.proofs.beside.serve_run.Goals as goal
 
 pub join_mut-requires-after_bounds : goal.join_mut-requires-after_bounds
 join_mut-requires-after_bounds g c κs within = let bounds = c.type_bounds in (
@@ -8,7 +8,7 @@ join_mut-requires-after_bounds g c κs within = let bounds = c.type_bounds in (
     (search sendable, search sendable, search sendable, search sendable),
   ),
   (
-    (search sendable, c.requires.may),
+    (search sendable, c.requires.terms),
     (search sendable, search sendable, search sendable, search sendable),
   ),
 )
