@@ -1,4 +1,4 @@
--- Sums that are added up over jobs and rounds.
+-- Sums that are added up over jobs.
 use Rattle.std.proofs.Common.{◌≡◌, ◌≢◌, ℕ, ◌+◌, List, [], ◌++◌, refl, sym, ap, ◌∙◌, subst, arith}
 use Rattle.std.specs.Prelude.{Option, Some, None}
 use Rattle.page_check.specs.Told.{Told}

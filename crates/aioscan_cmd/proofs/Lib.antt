@@ -33,5 +33,5 @@ pub mod RemainingRequestsStep
 pub mod JobTextsAppend
 pub mod DiskCountsAdd
 pub mod JobSumsAdd
-pub mod ListerRoundsCompose
+pub mod ListerJobsCompose
 pub mod ScanCountsAtEnd

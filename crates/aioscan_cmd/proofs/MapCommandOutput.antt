@@ -31,7 +31,7 @@ use Rattle.aioscan_cmd.specs.declared.words.map_option.MapOption.{MapOption as M
 use Rattle.aioscan_cmd.specs.declared.report.Outcome.{Outcome}
 use Rattle.aioscan_cmd.specs.declared.report.Outcome.TheVariants.{Done, Unread}
 use Rattle.aioscan_cmd.proofs.MapPagesThenBlocks.{added_known, map_listed, range_count}
-use Rattle.aioscan_cmd.proofs.MapPagesThenBlocks.{rounds_listed, format_with_map, whole_parts}
+use Rattle.aioscan_cmd.proofs.MapPagesThenBlocks.{jobs_listed, format_with_map, whole_parts}
 use Rattle.aioscan_cmd.proofs.PartsOfRequests.{request_blocks}
 use Rattle.aioscan_cmd.proofs.OutputsAppend.{lists_append, lists_more, lists_same}
 use Rattle.aioscan_cmd.proofs.BlocksOfOneRelation.{AreOf, unskipped_of_relation}
@@ -184,21 +184,21 @@ module _ (a : ResolvedCommand) (by : MapOption) (with_it : (a.command.now).map �
           range_count 1 0 (map_page_count a),
         )
 
-    -- the map was read, and then the rounds
+    -- the map was read, and then the jobs were listed
     pub map_followed : (s n : Option (List ℕ)) (first last : Outcome) (v w : List ℕ)
         → first ≡ Done → AreOf 0 (resolved_requests a)
         → IsOutput (format_with_map m (Some by)) told (pages_read ∷ []) s s first v
         → IsOutput (format_of_options m) told kept_parts s n last w
         → IsOutput (command_format a.command.now) told
         (resolved_request_parts a told given) s n last (v ++ w)
-    map_followed s n first last v w done zero before rounds =
+    map_followed s n first last v w done zero before jobs =
         let front = subst (λ (o : Outcome). IsOutput (format_with_map m (Some by))
         told (pages_read ∷ []) s s o v) done before in
         let skips : Option BlockFilter = Some (record { pages = added; skip = skip }) in
         let Z : List Request → Type 0 = λ l. AreOf 0 l in
-        let back = rounds_listed m told (Some by) kept_parts s n last w
+        let back = jobs_listed m told (Some by) kept_parts s n last w
         (subst Z (sym (resolved_unskipped skips a))
-        (unskipped_of_relation 0 skips (resolved_requests a) zero)) rounds in
+        (unskipped_of_relation 0 skips (resolved_requests a) zero)) jobs in
         as_asked s n last (v ++ w)
         (lists_same (format_with_map m (Some by)) told _ _ s n last (v ++ w) whole_in_parts
         (lists_append (format_with_map m (Some by)) told (pages_read ∷ []) kept_parts s s n last

@@ -77,8 +77,8 @@ module _ (m : ListOptions) (told : Option Told) (by : Option MapOption) (xs : Li
       (pages_are_of 0 (reader_of m.zero told) (blocks_of_parts xs) pages all
       lists.answer.answers.first))
 
-  pub rounds_listed : IsOutput (format_with_map m by) told xs b a o w
-  rounds_listed = record {
+  pub jobs_listed : IsOutput (format_with_map m by) told xs b a o w
+  jobs_listed = record {
     not_refused = lists.not_refused;
     text = lists.text;
     all_warnings = lists.all_warnings;

@@ -52,7 +52,7 @@ module _ {W O E : Type 0} (told : Option Told) (out : SinkGhosts O) (err : SinkG
   abbrev errors : Lister W O E → ErrorStream
   errors l = lister_error_stream told out err l
 
-  -- jobs that were put leave the error stream as it was
+  -- jobs that were given leave the error stream as it was
   pub same_errors : (was : Lister W O E) (asked : List Job) (old : Lister W O E)
       → CutsOffJobs was asked old → errors was ≡ errors old
   same_errors was asked old gives_jobs =
@@ -60,7 +60,7 @@ module _ {W O E : Type 0} (told : Option Told) (out : SinkGhosts O) (err : SinkG
       (sym gives_jobs.line)
       ∙ ap (λ (e : E). error_stream old.line (err.written e) (err.faults e)) (sym gives_jobs.err)
 
-  -- jobs were put, and no block of theirs is to be listed any more
+  -- jobs were given, and no block of theirs is to be listed any more
   pub listing_kept : (s t : Lister W O E) (asked : List Job) → CutsOffJobs s asked t
       → (t.outcome ≡ Done → s.blocks ≡ t.blocks) → Goes s t
   listing_kept s t asked gives same = (
@@ -91,6 +91,6 @@ module _ {W O E : Type 0} (told : Option Told) (out : SinkGhosts O) (err : SinkG
         }),
   )
 
-  -- no job was put
+  -- no job was given
   pub none_put : (s t : Lister W O E) → CutsOffJobs s [] t → Goes s t
   none_put s t gives = listing_kept s t [] gives (λ _. gives.cut)

@@ -1,4 +1,4 @@
--- What the rounds of a run have listed.
+-- What the jobs of a run have listed.
 use Rattle.std.specs.Prelude.{◌≡◌, ◌≢◌, ◌⊎◌, ℕ, ◌++◌, List, [], ◌∷◌, map, Option, None, ⊤}
 use Rattle.std.specs.List.{flat_map}
 use Rattle.page_check.specs.Told.{Told}
@@ -106,7 +106,7 @@ module _ {W O E : Type 0} where
           (o.written l.out.now) l.outcome no_sums l.sums) errors (lister_error_stream l)
       pub writes : WriteFaultsCounted faults_before (o.faults l.out.now) l.outcome
 
-    -- some rounds have led from one state to the other: whatever was listed by the first, with
+    -- some jobs have led from one state to the other: whatever was listed by the first, with
     -- what they have listed it has been by the second
     abbrev pub PreservesListing : Lister W O E → Lister W O E → Type 0
     PreservesListing s t =

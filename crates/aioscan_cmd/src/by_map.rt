@@ -12,7 +12,7 @@ ghost use Rattle.aioscan_cmd.specs.Sums.{HasSums};
 
 use crate::cutter::ResolvedCommand;
 use crate::error_line::write_warnings;
-use crate::in_rounds::list_rounds;
+use crate::list_jobs::list_jobs;
 use crate::lister::outcome_of;
 use crate::{Line, Outcome};
 use aio_disk::{Disk, Sink};
@@ -68,7 +68,7 @@ pub(crate) fn list_asked<
 {
     let option = match asked.command.map() {
         Some(option) => option,
-        None => return list_rounds(rt, scan, asked, None, Line::Whole, out, err),
+        None => return list_jobs(rt, scan, asked, None, Line::Whole, out, err),
     };
     let Ok(mut map) = VisMap::open(alloc, asked.map_pages()) else {
         return (Outcome::NoMemory, Line::Whole, PageSums::default());
@@ -82,7 +82,7 @@ pub(crate) fn list_asked<
                 map: &map,
                 skip: option.skip,
             });
-            list_rounds(rt, scan, asked, by_map, line, out, err)
+            list_jobs(rt, scan, asked, by_map, line, out, err)
         }
         outcome => (outcome, line, PageSums::default()),
     }

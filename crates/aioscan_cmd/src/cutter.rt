@@ -91,8 +91,8 @@ pub(crate) struct JobRange {
     pub(crate) count: u32,
 }
 
-// What is left of the FILE words before one, or, where that is none, the blocks of the next that has
-// some; and the FILE word behind.
+// What is left of the FILE word before this one, or, where that is nothing, the blocks of the next
+// that has some; and the word behind.
 fn next_range(asked: ResolvedCommand<'_, '_>, mut rest: JobRange, file: usize) -> (JobRange, usize)
     requires asked { IsResolved asked }
     requires rest { IsFileRange (length asked.relations.now) rest }

@@ -41,7 +41,7 @@ pub(crate) fn open_others<S: Shelf>(
     Ok(())
 }
 
-/// Takes disks back.
+/// The shelf takes these disks back, with what they have counted.
 pub(crate) fn take_all_back<S: Shelf>(shelf: &mut S, disks: Vec<S::Disk>)
     ensures told { S.told shelf.new ≡ S.told shelf.old }
     ensures open_faults { (S.counts shelf.new).open_faults ≡ (S.counts shelf.old).open_faults }

@@ -50,7 +50,7 @@ fn put_header(out: &mut Vec<u8>, zeros: &Page, items: u16) -> Result<(), AllocEr
     put_zeros(out, zeros, 4)
 }
 
-// The line pointers: normal items of 32 bytes from the end of the page on.
+// The line pointers: normal items of 32 bytes, from the end of the page down.
 fn put_pointers(out: &mut Vec<u8>, items: u16) -> Result<(), AllocError>
     requires { items < 5 }
     ensures { OnOk result (out.new.items ≡ out.old.items ++ generated_pointer_bytes items) }
@@ -85,7 +85,7 @@ fn put_block(out: &mut Vec<u8>, zeros: &Page, block: u32) -> Result<(), AllocErr
     }
 }
 
-/// The bytes of a relation of so many generated pages, by one allocation. A page whose block is 6
+/// The bytes of a relation of so many generated pages, in one allocation. A page whose block is 6
 /// modulo 7 is all zeros; another has as many items as its block modulo 5.
 pub(crate) fn make_file(alloc: Global, pages: u32) -> Result<Vec<u8>, AllocError>
     requires { pages ≤ 4096 }

@@ -1,4 +1,4 @@
-//! Lists by rounds what a command asks for.
+//! The job source of a listing: it cuts jobs, and writes their texts.
 ghost use Rattle.std.specs.Prelude.{◌≡◌, ◌≢◌, ◌≤◌, ◌++◌, ◌∷◌, [], length, take, false, None};
 ghost use Rattle.std.specs.Prelude.{IsErrOf, OnErr};
 ghost use Rattle.std.specs.List.{All};

@@ -106,20 +106,20 @@ fn run<S: Shelf, O: Sink, E: Sink, R: Threads + Wait + Sync>(
 
 /// Lists the pages of relation files, as the words ask, or sums up generated pages.
 ///
-/// The words are options, and 1 to 1024 files between and behind them, without the program's name.
-/// Relations are the distinct files, numbered from 0 in the order of their first appearance, and
-/// with `--map` that of the map behind the one file. One disk is opened for all of them, and their
-/// lengths are taken in order, each tested before the next is taken. Then a disk is opened for each
-/// other backend, and for each I/O worker. Jobs of at most 64 blocks of one file are done in turns:
-/// each backend does one job in the first, and as many as four neighbouring ones in a later one.
-/// After a turn the text of each job goes to `out` by one write, in their order, up to the first
-/// that ended in a fault; jobs behind that one in its turn were read, too. With `--tuples` the text
-/// of a page has the headers of its tuples and its update chains too. With `--map` the first
-/// backend reads the pages of the map before the first turn, their warnings go to `err` by one
-/// write, and blocks that the map marks are not asked for; a fault of the map ends the run. With
-/// `--zero-damaged` an invalid page is listed as a page of zeros, and once the text of its job was
-/// written whole, the job's warnings go to `err` by one write: a line for each such page. At the
-/// end a line on `err` names what ended the run, where that is not the end of the list. With
+/// The words are options, and 1 to 1024 files between and behind them, or no file with `--make`;
+/// the program's name is not among them. Relations are the distinct files, numbered from 0 in the
+/// order of their first appearance, and with `--map` that of the map behind the one file. One disk
+/// is opened for all of them, and their lengths are taken in order, each tested before the next is
+/// taken. Then a disk is opened for each other backend, and for each I/O worker. Jobs of at most 64
+/// blocks of one file go to the backends in shares: of one job at first, and of up to eight later.
+/// Once a share has come back, the text of each of its jobs goes to `out` by one write, in their
+/// order, up to the first that ended in a fault. Jobs behind that one may have been listed by then.
+/// With `--tuples` the text of a page has the headers of its tuples and its update chains too. With
+/// `--map` the first backend reads the pages of the map before any job, their warnings go to `err`
+/// by one write, and blocks that the map marks are not asked for; a fault of the map ends the run.
+/// With `--zero-damaged` an invalid page is listed as a page of zeros, and once the text of its job
+/// was written whole, the job's warnings go to `err` by one write: a line for each such page. At
+/// the end a line on `err` names what ended the run, where that is not the end of the list. With
 /// `--stats` the line of totals follows, unless the run was refused or there was no memory. What
 /// cuts off a text on `err` ends writing there. All disks are taken back in every case. It may
 /// wait.

@@ -87,7 +87,7 @@ const ROWS: [Row; 7] = [
         reads: 9,
         by_workers: 8,
     },
-    // With one backend a share is one job, here of one relation.
+    // One backend lists a job after the other, here each of another relation.
     Row {
         name: "three workers for each of eight jobs",
         line: "--workers 3 --backends 1 --combine 1 a b c d e f g h",
@@ -105,7 +105,7 @@ const ROWS: [Row; 7] = [
         reads: 3,
         by_workers: 12,
     },
-    // With four backends the first round of shares has four jobs, and the second has eight.
+    // With four backends the first two rounds of shares have four jobs each.
     Row {
         name: "four backends",
         line: "--method sync --backends 4 f",

@@ -2,8 +2,8 @@
 use aioscan_fixtures::rows::check_rows;
 use std::test::Fail;
 
-// A job is a file of two pages. With four backends the first round of shares has 4 of them, the
-// second 8 and the third 16. What is listed behind the end is not written.
+// A job is a file of two pages. With four backends the first two rounds of shares have 4 of them
+// each, the next 8 and then 16. What is listed behind the end is not written.
 const ROWS: [&str; 3] = [
     "a page that is invalid | f:2E g:D | f f f f f f f f f g f f f f f f f f f f | \
      0/0-1 0/0-1 0/0-1 0/0-1 0/0-1 0/0-1 0/0-1 0/0-1 0/0-1 | invalid page 1 0 | 1",

@@ -24,10 +24,10 @@ returns-in-None-clause-listed g c =
     let none = sym c.map.ensures.map ∙ ap (λ o. option_map map_option_view o) c.in-None.is in (
       λ _. [],
       warns_also _ _ _ _ (λ w lists. without_map c.args.asked none g.W.World.told (λ _. []) _ _ _ w
-          lists) c.list_rounds.ensures.lists,
+          lists) c.list_jobs.ensures.lists,
       omega (
         arith,
-        c.list_rounds.ensures.results_bound,
+        c.list_jobs.ensures.results_bound,
         as_many c.args.asked none g.W.World.told (λ _. []),
       ),
     )
@@ -86,9 +86,9 @@ returns-in-Done-clause-listed g c =
             warnings_hold = map_part _ _ told bs cs _ _ found c.map-ending.new.warnings.items
                 c.map-ending.result some c.requires.options count read by.map _;
           })
-          c.list_rounds-in-Done.ensures.lists,
+          c.list_jobs-in-Done.ensures.lists,
       (let first = c.map-ending.ensures.map_read.results_bound in
-          let second = c.list_rounds-in-Done.ensures.results_bound in omega arith),
+          let second = c.list_jobs-in-Done.ensures.results_bound in omega arith),
     )
 
 pub returns : goal.returns

@@ -1,11 +1,11 @@
 use Rattle.std.proofs.Common.{refl, rules, ◌∙◌}
 use Rattle.aioscan_cmd.specs.ListerLaws.{listing_kept}
-use Rattle.aioscan_cmd.proofs.ListerRoundsCompose.{cuts_before, round_written}
+use Rattle.aioscan_cmd.proofs.ListerJobsCompose.{cuts_before, jobs_written}
 use Rattle.aioscan_cmd.proofs.lister.ListerJobSource.finish_jobs.Goals as goal
 
 pub returns-in-Done-clause-follows : goal.returns-in-Done-clause-follows
 returns-in-Done-clause-follows g c = λ was asked later gives answered.
-    round_written g.W.World.told g.O.Sink g.E.Sink was c.args.self.now _ asked later
+    jobs_written g.W.World.told g.O.Sink g.E.Sink was c.args.self.now _ asked later
     c.args.jobs.now gives answered c.in-Done.is refl refl refl refl refl
     c.write_jobs-outcome.ensures.lists c.write_jobs-outcome.ensures.writes
 

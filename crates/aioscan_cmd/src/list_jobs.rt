@@ -1,4 +1,4 @@
-//! Lists by rounds what the FILE words ask for.
+//! The listing of what the FILE words ask for.
 ghost use Rattle.std.specs.Prelude.{◌≡◌, ◌<◌, ◌≤◌, ◌+◌, ◌^◌, ℕ, length};
 ghost use Rattle.scan_rounds.specs.Rounds.{results_taken_count};
 ghost use Rattle.scan_rounds.specs.Scans.{IsScan, IsSameScan, scan_options};
@@ -28,8 +28,8 @@ fn end_borrow<O: Sink>(out: &mut O)
     let _ = out;
 }
 
-/// Lists by rounds what the FILE words ask for, without what the map leaves out.
-pub(crate) fn list_rounds<
+/// Lists what the FILE words ask for by jobs, without what the map leaves out.
+pub(crate) fn list_jobs<
     W: World + Send + Sync,
     D: Disk,
     O: Sink,

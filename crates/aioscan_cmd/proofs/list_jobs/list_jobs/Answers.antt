@@ -8,11 +8,11 @@ use Rattle.aioscan_cmd.specs.ErrorLine.{AppendsErrorText, error_stream}
 use Rattle.aioscan_cmd.specs.ListerState.{unskipped_parts}
 use Rattle.aioscan_cmd.specs.Output.{IsOutput, WriteFaultsCounted, format_of_options}
 use Rattle.aioscan_cmd.specs.Sums.{HasSums}
-use Rattle.aioscan_cmd.proofs.ListerRoundsCompose.{all_listed, all_written}
+use Rattle.aioscan_cmd.proofs.ListerJobsCompose.{all_listed, all_written}
 use Rattle.aioscan_cmd.proofs.JobSumsAdd.{summed_told, zero_sums}
 use Rattle.aioscan_cmd.proofs.RemainingRequestsStep.{resolved_blocks}
 use Rattle.aioscan_cmd.proofs.UnskippedBlocksAppend.{resolved_unskipped}
-use Rattle.aioscan_cmd.proofs.in_rounds.list_rounds.Goals as goal
+use Rattle.aioscan_cmd.proofs.list_jobs.list_jobs.Goals as goal
 
 pub returns-clause-lists : goal.returns-clause-lists
 returns-clause-lists g c =

@@ -1,4 +1,4 @@
--- Rounds that have listed what was asked for.
+-- Jobs that have listed what was asked for.
 use Rattle.std.proofs.Common.{◌≡◌, ◌≢◌, ℕ, List, [], ◌++◌, refl, sym, ap, ◌∙◌, subst, arith}
 use Rattle.std.proofs.Common.{append_assoc, append-nil, inl, inr, ◌⊎◌, ⊎_elim}
 use Rattle.std.specs.Prelude.{Option, None}
@@ -81,7 +81,7 @@ module _ {W O E : Type 0} (told : Option Told) (out : SinkGhosts O) (err : SinkG
   errors l = lister_error_stream told out err l
 
   -- the first of the jobs that were put have been written: the others are out still
-  pub round_written : (was old new : Lister W O E) (asked later jobs : List Job)
+  pub jobs_written : (was old new : Lister W O E) (asked later jobs : List Job)
       → CutsOffJobs was (asked ++ later) old
       → AllJobsAnswered (lister_filter old) (lister_options old) told asked jobs
       → old.outcome ≡ Done → new.blocks ≡ old.blocks → lister_options new ≡ lister_options old
@@ -93,7 +93,7 @@ module _ {W O E : Type 0} (told : Option Told) (out : SinkGhosts O) (err : SinkG
       (errors old) (errors new)
       → WriteFaultsCounted (out.faults old.out.now) (out.faults new.out.now) new.outcome
       → (next : Lister W O E) × Goes was next × CutsOffJobs next later new
-  round_written was old new asked later jobs gives answered done blocks options filter loan err_loan
+  jobs_written was old new asked later jobs gives answered done blocks options filter loan err_loan
       lists writes =
       let rest : List Part = unskipped_job_parts None later ++ old.blocks in (
         record new { blocks = rest },
@@ -152,7 +152,7 @@ module _ {W O E : Type 0} (told : Option Told) (out : SinkGhosts O) (err : SinkG
         },
       )
 
-  -- from the first round to the last
+  -- from the first jobs to the last
   ended : (all : List Part) (s t : Lister W O E) → s.outcome ≡ Done
       → unskipped_parts (lister_filter s) s.blocks ≡ all → s.sums ≡ no_sums → Goes s t
       → Listed (lister_filter s) (lister_options s) all (out.written s.out.now)
