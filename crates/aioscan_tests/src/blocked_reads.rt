@@ -70,7 +70,7 @@ struct Row {
 // for which a worker reads makes no read, so only workers are counted where there are some. No run
 // has more than 64 reads for workers: the queue is never full of what a backend has read already.
 // Of the reads of a relation that are under way together its backend makes one at most.
-const ROWS: [Row; 7] = [
+const ROWS: [Row; 8] = [
     Row {
         name: "three workers",
         line: "--workers 3 --backends 1 --combine 1 f",
@@ -119,6 +119,14 @@ const ROWS: [Row; 7] = [
         line: "--method sync --backends 4 f",
         size: (1, 1024),
         from: 256,
+        reads: 4,
+        by_workers: 0,
+    },
+    Row {
+        name: "four backends beside a worker",
+        line: "--workers 1 --backends 4 f",
+        size: (1, 1024),
+        from: 0,
         reads: 4,
         by_workers: 0,
     },

@@ -96,6 +96,25 @@ fn one_stream_reads_the_jobs_of_a_share(rt: HostRuntime) -> Result<(), Fail> {
     check_rows(&rt, "--method sync --backends 2", &rows)
 }
 
+// Beside a worker one backend has shares of 1, 1, 2, 4 and more jobs: 8, 8, 12, 20 and 12 reads.
+// Alone it has shares of one job.
+const LONE: [(&str, u128); 2] = [
+    (
+        "beside a worker | f:640E | --workers 1 f | 0/0-639 | | 0",
+        60,
+    ),
+    ("alone | f:640E | --method sync f | 0/0-639 | | 0", 80),
+];
+
+#[test]
+fn one_backend_has_shares_of_many_jobs_beside_workers(rt: HostRuntime) -> Result<(), Fail> {
+    for (row, reads) in LONE {
+        let done = check_row(&rt, "--backends 1", row)?;
+        assert_eq!(rt; done.report.incarnations, reads, "{row}");
+    }
+    Ok(())
+}
+
 // The page is in the second job of a share: the jobs before it are whole, and none comes behind it.
 #[test]
 fn a_stream_ends_within_a_job_of_a_share(rt: HostRuntime) -> Result<(), Fail> {
