@@ -149,6 +149,7 @@ impl<'d, 'p, W: World, S: BlockSource<P> + Drop, P: Copy> ReadStream<'d, 'p, W, 
         }
         if let Some(run) = self.desk.blocks.plan.take_pending() {
             self.start(rt, context, run);
+            self.submit(rt, context);
         }
     }
 
