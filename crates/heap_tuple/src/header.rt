@@ -33,9 +33,11 @@ pub struct TupleHeader {
     pub hoff: u8,
 }
 
+/// The header of the tuple that begins at an offset of a page's bytes, for a loop that has looked at
+/// the line pointer already.
 #[inline]
 #[tactic(auto, unfolding(crate::specs::Tuples::header_at))]
-fn read_header(bytes: &[u8], offset: usize) -> TupleHeader
+pub fn read_header(bytes: &[u8], offset: usize) -> TupleHeader
     requires { offset + 23 ≤ length bytes.now }
     ensures { result ≡ header_at bytes.now offset }
 {

@@ -12,6 +12,6 @@ mod lines;
 mod steps;
 mod text;
 
-pub use header::{TupleHeader, tuple};
+pub use header::{TupleHeader, read_header, tuple};
 pub use steps::step;
 pub use text::tuples_text;
